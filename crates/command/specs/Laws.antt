@@ -1,0 +1,69 @@
+-- What holds of these definitions, whatever the values.
+use Rattle.std.specs.Prelude.{ℕ, suc, ◌≡◌, ◌≤◌, ◌↔◌, List, ◌++◌, Some, Ok, Err}
+use Rattle.context.specs.Whole.{Whole}
+use Rattle.command.specs.Action.{Kind, template, partial, page_data, route, Action, put_template, put_partial, put_data, put_route, Order}
+use Rattle.command.specs.Rows.{Row, row_of, spelled, HasWords}
+use Rattle.command.specs.Reading.{value_reading}
+use Rattle.command.specs.Faults.{Applies, number}
+use Rattle.command.specs.NotYet.{served_reading}
+use Rattle.command.specs.Effective.{effective}
+use Rattle.command.specs.Site.{standing, IsStanding, template_at, partial_at, data_at, route_at}
+use Rattle.command.specs.Releases.{release_count, through, IsShortest}
+use Rattle.command.specs.declared.fault.CommandFault.{CommandFault}
+
+-- ---- readings
+
+-- a text has a row exactly where it spells it, so one at most
+abbrev pub RowIsSpelled : Type 0
+RowIsSpelled = (text : List ℕ) (row : Row) → (row_of text ≡ Some row) ↔ (HasWords row × (text ≡ spelled row))
+
+-- the fault of a value applies to it, and no other that does is less
+abbrev pub FaultIsLeast : Type 0
+FaultIsLeast = (v : List ℕ) (fault : CommandFault) → value_reading v ≡ Err fault
+    → Applies v fault × ((other : CommandFault) → Applies v other → number fault ≤ number other)
+
+-- no fault applies to a command
+abbrev pub CommandHasNone : Type 0
+CommandHasNone = (v : List ℕ) (order : Order) → value_reading v ≡ Ok order → (fault : CommandFault) → ¬ Applies v fault
+
+-- what is served is a command
+abbrev pub ServedIsCommand : Type 0
+ServedIsCommand = (v : List ℕ) (order : Order) → served_reading v ≡ Ok order → value_reading v ≡ Ok order
+
+-- ---- sites
+
+-- what stands at a kind and name is the put there after which nothing is about them
+abbrev pub StandingIsLast : Type 0
+StandingIsLast = (kind : Kind) (name : List ℕ) (orders : List Order) (action : Action)
+    → (standing kind name orders ≡ Some action) ↔ IsStanding kind name orders action
+
+abbrev pub TemplateIsLast : Type 0
+TemplateIsLast = (name body : List ℕ) (orders : List Order) → (template_at name orders ≡ Some body) ↔ IsStanding template name orders (put_template name body)
+
+abbrev pub PartialIsLast : Type 0
+PartialIsLast = (name body : List ℕ) (orders : List Order) → (partial_at name orders ≡ Some body) ↔ IsStanding partial name orders (put_partial name body)
+
+abbrev pub DataIsLast : Type 0
+DataIsLast = (name : List ℕ) (whole : Whole) (orders : List Order) → (data_at name orders ≡ Some whole) ↔ IsStanding page_data name orders (put_data name whole)
+
+abbrev pub RouteIsLast : Type 0
+RouteIsLast = (path shows fills : List ℕ) (orders : List Order)
+    → (route_at path orders ≡ Some (shows, fills)) ↔ IsStanding route path orders (put_route path shows fills)
+
+-- ---- releases
+
+-- further values only lengthen the effective list
+abbrev pub EffectiveGrows : Type 0
+EffectiveGrows = (values more : List (List ℕ)) → (rest : List Order) × (effective (values ++ more) ≡ effective values ++ rest)
+
+-- a release's list is the shortest beginning with that many releases
+abbrev pub ReleaseIsShortest : Type 0
+ReleaseIsShortest = (orders : List Order) (n : ℕ) → n ≤ release_count orders → IsShortest n orders (through orders n)
+
+-- the list of the next release begins with that of this one
+abbrev pub NextBegins : Type 0
+NextBegins = (orders : List Order) (n : ℕ) → (rest : List Order) × (through orders (suc n) ≡ through orders n ++ rest)
+
+-- a beginning that already has the release has the same list
+abbrev pub ReleaseStays : Type 0
+ReleaseStays = (orders more : List Order) (n : ℕ) → n ≤ release_count orders → through (orders ++ more) n ≡ through orders n

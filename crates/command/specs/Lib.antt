@@ -1,0 +1,12 @@
+pub mod Action
+pub mod Cuts
+pub mod Rows
+pub mod Reading
+pub mod Faults
+pub mod Written
+pub mod NotYet
+pub mod View
+pub mod Effective
+pub mod Site
+pub mod Releases
+pub mod Laws

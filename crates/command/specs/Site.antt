@@ -1,0 +1,85 @@
+-- The site that a list of commands leaves.
+use Rattle.std.specs.Prelude.{ℕ, ◌≡◌, ◌<◌, List, [], ◌∷◌, ◌&&◌, if◌then◌else◌, Bool, true, false, IsTrue, Option, Some, None, option_and_then, slice_get}
+use Rattle.std.specs.Str.{bytes_eq}
+use Rattle.context.specs.Whole.{Whole}
+use Rattle.command.specs.Action.{Kind, template, partial, page_data, route, Action, put_template, put_partial, put_data, put_route, remove, release, Order}
+
+abbrev pub same_kind : Kind → Kind → Bool
+same_kind template template = true
+same_kind partial partial = true
+same_kind page_data page_data = true
+same_kind route route = true
+same_kind _ _ = false
+
+-- the action puts or removes that kind and name
+abbrev pub touches : Kind → List ℕ → Action → Bool
+touches kind name (put_template n body) = same_kind template kind && bytes_eq n name
+touches kind name (put_partial n body) = same_kind partial kind && bytes_eq n name
+touches kind name (put_data n whole) = same_kind page_data kind && bytes_eq n name
+touches kind name (put_route path shows fills) = same_kind route kind && bytes_eq path name
+touches kind name (remove k n) = same_kind k kind && bytes_eq n name
+touches kind name release = false
+
+abbrev pub is_put : Action → Bool
+is_put (remove kind name) = false
+is_put release = false
+is_put _ = true
+
+abbrev pub first_or : Option Action → Option Action → Option Action
+first_or None other = other
+first_or (Some action) other = Some action
+
+-- the last action about that kind and name
+abbrev pub last_about : Kind → List ℕ → List Order → Option Action
+last_about kind name [] = None
+last_about kind name (o ∷ later) = first_or (last_about kind name later) (if touches kind name o.action then Some o.action else None)
+
+abbrev pub if_put : Action → Option Action
+if_put action = if is_put action then Some action else None
+
+-- the put that stands at a kind and name: the last action about them, if it is no remove
+abbrev pub standing : Kind → List ℕ → List Order → Option Action
+standing kind name orders = option_and_then if_put (last_about kind name orders)
+
+-- the action is the put at a place about that kind and name, and no later place is about them
+pub record IsStanding (kind : Kind) (name : List ℕ) (orders : List Order) (action : Action) : Type 0 where
+  pub place : ℕ
+  pub order : Order
+  pub there : slice_get orders place ≡ Some order
+  pub does : order.action ≡ action
+  pub touched : IsTrue (touches kind name action)
+  pub puts : IsTrue (is_put action)
+  pub last : (j : ℕ) (later : Order) → place < j → slice_get orders j ≡ Some later → touches kind name later.action ≡ false
+
+-- ---- what stands at a name, by its kind
+
+abbrev pub if_template : Action → Option (List ℕ)
+if_template (put_template name body) = Some body
+if_template _ = None
+
+abbrev pub if_partial : Action → Option (List ℕ)
+if_partial (put_partial name body) = Some body
+if_partial _ = None
+
+abbrev pub if_data : Action → Option Whole
+if_data (put_data name whole) = Some whole
+if_data _ = None
+
+abbrev pub if_route : Action → Option (List ℕ × List ℕ)
+if_route (put_route path shows fills) = Some (shows, fills)
+if_route _ = None
+
+-- a template's text
+abbrev pub template_at : List ℕ → List Order → Option (List ℕ)
+template_at name orders = option_and_then if_template (standing template name orders)
+
+-- a partial's text
+abbrev pub partial_at : List ℕ → List Order → Option (List ℕ)
+partial_at name orders = option_and_then if_partial (standing partial name orders)
+
+abbrev pub data_at : List ℕ → List Order → Option Whole
+data_at name orders = option_and_then if_data (standing page_data name orders)
+
+-- the names of a route's template and data
+abbrev pub route_at : List ℕ → List Order → Option (List ℕ × List ℕ)
+route_at path orders = option_and_then if_route (standing route path orders)

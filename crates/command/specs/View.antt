@@ -1,0 +1,32 @@
+-- What the code's commands and rows stand for.
+use Rattle.std.specs.Prelude.{◌≡◌, ℕ, List, string_bytes, ⊤}
+use Rattle.std.specs.Borrow.{Bor}
+use Rattle.context.specs.View.{data_view}
+use Rattle.mustache_parse.specs.Template.{IsTemplateOf}
+use Rattle.command.specs.Action.{Action, put_template, put_data, put_route, release, Order}
+use Rattle.command.specs.Rows.{Row, template_row, data_row, route_row, release_row}
+use Rattle.command.specs.declared.commands.Command.{Command}
+use Rattle.command.specs.declared.commands.Action.{Action as CodeAction}
+use Rattle.command.specs.declared.commands.Action.TheVariants.{PutTemplate, PutData, PutRoute, Release}
+use Rattle.command.specs.declared.rows.Row.{Row as CodeRow}
+use Rattle.command.specs.declared.rows.Row.TheVariants as found
+
+abbrev pub StandsAs : CodeAction → Action → Type 0
+StandsAs (PutTemplate name t) (put_template n body) = (string_bytes name ≡ n) × IsTemplateOf t body
+StandsAs (PutData name d) (put_data n whole) = (string_bytes name ≡ n) × (data_view d ≡ whole)
+StandsAs (PutRoute path shows fills) (put_route p s f) = (string_bytes path ≡ p) × (string_bytes shows ≡ s) × (string_bytes fills ≡ f)
+StandsAs Release release = ⊤
+StandsAs _ _ = ⊥
+
+-- the code's command stands for the order
+abbrev pub StandsFor : Command → Order → Type 0
+StandsFor c o = (c.ticket ≡ o.ticket) × StandsAs c.action o.action
+
+abbrev pub row_view : CodeRow → Row
+row_view (found.Template name body) = template_row name.now body.now
+row_view (found.Data name body) = data_row name.now body.now
+row_view (found.Route path shows fills) = route_row path.now shows.now fills.now
+row_view found.Release = release_row
+
+abbrev pub pair_view : Bor (List ℕ) × Bor (List ℕ) → List ℕ × List ℕ
+pair_view p = (p.0.now, p.1.now)

@@ -1,0 +1,9 @@
+pub mod Cutting
+pub mod Names
+pub mod Reading
+pub mod Standalone
+pub mod Slices
+pub mod Faults
+pub mod NotYet
+pub mod View
+pub mod Laws

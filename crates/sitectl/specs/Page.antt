@@ -1,0 +1,66 @@
+-- The page of a site for a path, and the answer of a list of values for a release and a path.
+use Rattle.std.specs.Prelude.{ℕ, Bool, ◌&&◌, nat_lt, nat_le, if◌then◌else◌, codes, List, Option, None, Some, Result, Ok, Err}
+use Rattle.mustache_parse.specs.Tree.{Tree, tree_of}
+use Rattle.mustache_scan.specs.declared.fault.TemplateFault.{TemplateFault}
+use Rattle.context.specs.Whole.{Whole}
+use Rattle.command.specs.Action.{Order}
+use Rattle.command.specs.Effective.{effective}
+use Rattle.command.specs.Site.{template_at, partial_at, data_at, route_at}
+use Rattle.command.specs.Releases.{release_count, through}
+use Rattle.sitectl.specs.Meaning.{rendering}
+
+-- a page: its status and its body
+pub record Page : Type 0 where
+  pub status : ℕ
+  pub body : List ℕ
+
+abbrev pub not_found : Page
+not_found = record { status = 404; body = codes "not found\n" }
+
+abbrev pub no_template : Page
+no_template = record { status = 500; body = codes "template missing\n" }
+
+abbrev pub no_data : Page
+no_data = record { status = 500; body = codes "data missing\n" }
+
+abbrev pub shown : Option (List ℕ) → Page
+shown None = record { status = 500; body = codes "page over limit\n" }
+shown (Some t) = record { status = 200; body = t }
+
+-- a template's text over data, in the site that the commands leave; a text without a tree is never put
+abbrev pub rendered : List Order → Result Tree TemplateFault → Whole → Page
+rendered orders (Ok tree) d = shown (rendering (λ name. partial_at name orders) tree d)
+rendered orders (Err f) d = no_template
+
+abbrev pub with_data : List Order → List ℕ → Option Whole → Page
+with_data orders t None = no_data
+with_data orders t (Some d) = rendered orders (tree_of t) d
+
+abbrev pub with_template : List Order → Option (List ℕ) → Option Whole → Page
+with_template orders None d = no_template
+with_template orders (Some t) d = with_data orders t d
+
+abbrev pub at_route : List Order → Option (List ℕ × List ℕ) → Page
+at_route orders None = not_found
+at_route orders (Some names) = with_template orders (template_at names.0 orders) (data_at names.1 orders)
+
+-- the page that a list of commands leaves for a path: by its route, its template, its data
+abbrev pub page_of : List Order → List ℕ → Page
+page_of orders path = at_route orders (route_at path orders)
+
+-- the page of release n of a list of effective commands, or none where there is no such release
+abbrev pub released : List Order → ℕ → List ℕ → Option Page
+released orders n path = if nat_lt 0 n && nat_le n (release_count orders) then Some (page_of (through orders n) path) else None
+
+-- what a list of values answers for release n and a path
+abbrev pub answer : List (List ℕ) → ℕ → List ℕ → Option Page
+answer values n path = released (effective values) n path
+
+-- the newest release of a list of values; 0 where there is none
+abbrev pub newest : List (List ℕ) → ℕ
+newest values = release_count (effective values)
+
+-- the release that is asked for: the newest where none is named
+abbrev pub asked : List (List ℕ) → Option ℕ → ℕ
+asked values None = newest values
+asked values (Some n) = n
