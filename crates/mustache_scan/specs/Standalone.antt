@@ -1,5 +1,5 @@
 -- Tags that stand alone on their lines, and what is left of the literals round them.
-use Rattle.std.specs.Prelude.{ℕ, ◌+◌, ◌-◌, Bool, true, false, ◌&&◌, ◌==◌, if◌then◌else◌, nat_lt, nat_le, List, [], ◌∷◌, map, Option, None, Some, Result, Ok, Err, length, take, drop}
+use Rattle.std.specs.Prelude.{ℕ, ◌+◌, ◌-◌, Bool, true, false, ◌&&◌, ◌==◌, nat_lt, nat_le, List, [], ◌∷◌, map, Option, None, Some, Result, Ok, Err, length, take, drop}
 use Rattle.std.specs.List.{list_any, list_all, after_last, take_while, filter_map, flat_map}
 use Rattle.mustache_scan.specs.Cutting.{is_blank, is_newline}
 use Rattle.mustache_scan.specs.Names.{braces}
@@ -12,8 +12,8 @@ use Rattle.mustache_scan.specs.declared.fault.TemplateFault.{TemplateFault}
 -- The length of the line's end at the front of a text: nothing at the end of the text, else a newline, or a carriage return and a newline.
 abbrev pub line_end : List ℕ → Option ℕ
 line_end [] = Some 0
-line_end (b ∷ []) = if b == 10 then Some 1 else None
-line_end (b ∷ c ∷ bs) = if b == 10 then Some 1 else if b == 13 && c == 10 then Some 2 else None
+line_end (b ∷ []) = elim (b == 10) [ true ↦ Some 1 | false ↦ None ]
+line_end (b ∷ c ∷ bs) = elim (b == 10) [ true ↦ Some 1 | false ↦ elim (b == 13 && c == 10) [ true ↦ Some 2 | false ↦ None ] ]
 
 -- what stands on the line before the end of a text
 abbrev pub last_line : List ℕ → List ℕ
@@ -29,7 +29,7 @@ abbrev pub lone_lines : List ℕ → ℕ → ℕ → Option (ℕ × ℕ)
 lone_lines t first past =
     let before = last_line (take first t) in
     let blanks = take_while is_blank (drop past t) in
-    if list_all is_blank before then lines_from (first - length before) (past + length blanks) (line_end (drop (past + length blanks) t)) else None
+    elim (list_all is_blank before) [ true ↦ lines_from (first - length before) (past + length blanks) (line_end (drop (past + length blanks) t)) | false ↦ None ]
 
 -- variables never stand alone
 abbrev pub may_stand_alone : TokenKind → Bool
@@ -45,7 +45,7 @@ placed at (p ∷ ps) = (at, p) ∷ placed (at + length p.bytes) ps
 
 -- the lines of a piece, where it is a tag that stands alone
 abbrev pub lone : List ℕ → ℕ × Piece → Option (ℕ × ℕ)
-lone t p = if may_stand_alone p.1.kind then lone_lines t p.0 (p.0 + length p.1.bytes) else None
+lone t p = elim (may_stand_alone p.1.kind) [ true ↦ lone_lines t p.0 (p.0 + length p.1.bytes) | false ↦ None ]
 
 -- all such lines of a text
 abbrev pub lone_lines_of : List ℕ → List (ℕ × Piece) → List (ℕ × ℕ)
@@ -65,7 +65,7 @@ pub record TokenSeen : Type 0 where
 -- the bytes that no such line covers, with their places
 abbrev pub kept : List (ℕ × ℕ) → ℕ → List ℕ → List (ℕ × ℕ)
 kept lines at [] = []
-kept lines at (b ∷ bs) = if is_covered lines at then kept lines (at + 1) bs else (at, b) ∷ kept lines (at + 1) bs
+kept lines at (b ∷ bs) = elim (is_covered lines at) [ true ↦ kept lines (at + 1) bs | false ↦ (at, b) ∷ kept lines (at + 1) bs ]
 
 -- no literal is empty
 abbrev pub literal_of : List (ℕ × ℕ) → List TokenSeen
@@ -90,7 +90,7 @@ abbrev pub tag_token : List ℕ → ℕ × Piece → TokenSeen
 tag_token t p = record { kind = p.1.kind; inside = p.1.inside; place = p.0; text = p.1.bytes; indent = indent_of t p p.1.kind }
 
 abbrev pub tokens_at : List ℕ → List (ℕ × ℕ) → ℕ × Piece → List TokenSeen
-tokens_at t lines p = if is_literal p.1.kind then literal_of (kept lines p.0 p.1.bytes) else tag_token t p ∷ []
+tokens_at t lines p = elim (is_literal p.1.kind) [ true ↦ literal_of (kept lines p.0 p.1.bytes) | false ↦ tag_token t p ∷ [] ]
 
 -- the tokens of a text's pieces: its tags, and what no line of a tag that stands alone covers of its literals
 abbrev pub tokens_of : List ℕ → List (ℕ × Piece) → List TokenSeen

@@ -1,0 +1,10 @@
+pub mod CutLemmas
+pub mod FirstCutLemmas
+pub mod OutcomeLemmas
+pub mod PaddingLemmas
+pub mod ProgressLemmas
+pub mod ReadingLemmas
+pub mod SliceLemmas
+pub mod StepLemmas
+pub mod TagLemmas
+pub mod VariableLemmas

@@ -1,0 +1,25 @@
+/// The kinds of token. A tag of kind `Delimiters` names other delimiters.
+#[derive(Clone, Copy, Debug, PartialEq, Eq)]
+pub enum TokenKind {
+    Literal,
+    Variable,
+    Raw,
+    Section,
+    Inverted,
+    End,
+    Comment,
+    Partial,
+    Delimiters,
+}
+
+/// A token of a source, whose text stands at the byte `place`.
+///
+/// `inside` is a tag's name, and `indent` the blanks before a partial's tag that stands alone; else both are empty.
+#[derive(Clone, Copy, Debug, PartialEq, Eq)]
+pub struct Token<'a> {
+    pub kind: TokenKind,
+    pub inside: &'a str,
+    pub place: usize,
+    pub text: &'a str,
+    pub indent: &'a str,
+}
