@@ -1,0 +1,9 @@
+pub mod LevelLemmas
+pub mod MakesLemmas
+pub mod NestingLemmas
+pub mod FaultLemmas
+pub mod TreeLemmas
+pub mod ServedLemmas
+pub mod TextLemmas
+pub mod NodeLemmas
+pub mod IndentLemmas

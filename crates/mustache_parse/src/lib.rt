@@ -1,0 +1,14 @@
+//! Mustache templates: the nesting of a source's tokens, as a tree.
+#![tactic(auto)]
+
+mod laws;
+mod nesting;
+mod node;
+mod parser;
+mod template;
+
+pub use laws::{faults_are_first, trees_are_made};
+pub use mustache_scan::{FaultKind, TemplateFault};
+pub use node::Node;
+pub use parser::parse;
+pub use template::Template;
