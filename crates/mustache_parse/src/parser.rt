@@ -6,13 +6,8 @@ ghost use Rattle.mustache_parse.specs.Tree.{tree_of};
 
 use crate::nesting::nodes_of;
 use crate::template::Template;
-use mustache_scan::{FaultKind, TemplateFault, scan};
+use mustache_scan::{TemplateFault, scan};
 use std::alloc::Global;
-
-const OUT_OF_MEMORY: TemplateFault = TemplateFault {
-    kind: FaultKind::OutOfMemory,
-    place: 0,
-};
 
 /// Reads a template: its tree, or what is wrong with it.
 pub fn parse(alloc: Global, source: &str) -> Result<Template, TemplateFault>
@@ -20,11 +15,6 @@ pub fn parse(alloc: Global, source: &str) -> Result<Template, TemplateFault>
     ensures fault { IfErr result (λ f. f.kind ≢ OutOfMemory → or_not_yet (not_yet source.now) (tree_of source.now) ≡ Err f) }
 {
     let tokens = scan(alloc, source)?;
-    let Ok(nodes) = nodes_of(alloc, &tokens) else {
-        return Err(OUT_OF_MEMORY);
-    };
-    let Ok(source) = String::from_str(alloc, source) else {
-        return Err(OUT_OF_MEMORY);
-    };
-    Ok(Template::new(source, nodes))
+    let nodes = nodes_of(alloc, &tokens)?;
+    Ok(Template::new(String::from_str(alloc, source)?, nodes))
 }

@@ -18,5 +18,5 @@ nodes_of-requires c = rw c.deref.ensures.value (scanned_well c.args.source.now (
 pub new-requires : goal.new-requires
 new-requires c =
     let well = scanned_well c.args.source.now (tokens_view c.in_ok-tokens.tokens.items) c.in_ok-tokens.ensures.tokens in
-    rw c.in-Ok-from_str.ensures.ok (tree_is c.args.source.now (tokens_view c.in_ok-tokens.tokens.items) (tree_view c.in-Ok.nodes.items) well.tokens
-    (ap (λ ts. nested (tokens_view ts)) (sym c.deref.ensures.value) ∙ c.in-Ok.ensures))
+    rw c.in_ok-from_str.ensures.ok (tree_is c.args.source.now (tokens_view c.in_ok-tokens.tokens.items) (tree_view c.in_ok-nodes.nodes.items) well.tokens
+    (ap (λ ts. nested (tokens_view ts)) (sym c.deref.ensures.value) ∙ c.in_ok-nodes.ensures))
