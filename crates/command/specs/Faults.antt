@@ -1,5 +1,5 @@
 -- Which faults a value has, each by its own words.
-use Rattle.std.specs.Prelude.{◌≡◌, ◌≤◌, ◌<◌, ℕ, List, length, drop, Bool, false, Option, Some, None, Err}
+use Rattle.std.specs.Prelude.{◌≡◌, ◌≤◌, ◌<◌, ℕ, List, length, drop, false, Option, Some, None, Err}
 use Rattle.std.specs.List.{list_all}
 use Rattle.std.specs.Str.{IsUtf8}
 use Rattle.context.specs.Whole.{data_reading}

@@ -1,11 +1,13 @@
 -- What holds of these definitions, whatever the values.
-use Rattle.std.specs.Prelude.{ℕ, suc, ◌≡◌, ◌≤◌, ◌↔◌, List, ◌++◌, Some, Ok, Err}
+use Rattle.std.specs.Prelude.{ℕ, suc, ◌≡◌, ◌<◌, ◌≤◌, ◌^◌, ◌↔◌, List, ◌++◌, drop, Some, Ok, Err}
 use Rattle.context.specs.Whole.{Whole}
+use Rattle.site_ids.specs.declared.Ticket.{Ticket}
 use Rattle.command.specs.Action.{Kind, template, partial, page_data, route, Action, put_template, put_partial, put_data, put_route, Order}
 use Rattle.command.specs.Rows.{Row, row_of, spelled, HasWords}
-use Rattle.command.specs.Reading.{value_reading}
+use Rattle.command.specs.Reading.{ticket_of, value_reading}
 use Rattle.command.specs.Faults.{Applies, number}
 use Rattle.command.specs.NotYet.{served_reading}
+use Rattle.command.specs.Written.{value_of}
 use Rattle.command.specs.Effective.{effective}
 use Rattle.command.specs.Site.{standing, IsStanding, template_at, partial_at, data_at, route_at}
 use Rattle.command.specs.Releases.{release_count, through, IsShortest}
@@ -29,6 +31,11 @@ CommandHasNone = (v : List ℕ) (order : Order) → value_reading v ≡ Ok order
 -- what is served is a command
 abbrev pub ServedIsCommand : Type 0
 ServedIsCommand = (v : List ℕ) (order : Order) → served_reading v ≡ Ok order → value_reading v ≡ Ok order
+
+-- a written value holds its ticket and its text
+abbrev pub WrittenHolds : Type 0
+WrittenHolds = (ticket : Ticket) (text : List ℕ) → ticket.editor < 2 ^ 32 → ticket.number < 2 ^ 64
+    → (ticket_of (value_of ticket text) ≡ ticket) × (drop 12 (value_of ticket text) ≡ text)
 
 -- ---- sites
 

@@ -6,10 +6,9 @@ use Rattle.context.specs.declared.fault.DataFault.{DataFault}
 use Rattle.context.specs.declared.fault.DataFault.TheVariants as data_fault
 use Rattle.mustache_scan.specs.NotYet.{not_yet}
 use Rattle.mustache_scan.specs.declared.fault.FaultKind.TheVariants as kind
-use Rattle.mustache_scan.specs.declared.fault.TemplateFault.{TemplateFault}
-use Rattle.command.specs.Action.{Order}
+use Rattle.command.specs.Action.{Action, Order}
 use Rattle.command.specs.Rows.{Row, template_row, partial_row, data_row, remove_row, row_of}
-use Rattle.command.specs.Reading.{is_name, value_row, value_reading}
+use Rattle.command.specs.Reading.{is_name, row_reading, value_row, value_reading}
 use Rattle.command.specs.declared.fault.CommandFault.{CommandFault}
 use Rattle.command.specs.declared.fault.CommandFault.TheVariants.{Form, Template, Data}
 
@@ -46,6 +45,7 @@ beyond_in (Err fault) = None
 abbrev pub beyond : List ℕ → Option CommandFault
 beyond v = beyond_in (value_row v)
 
+-- the reading, unless there is a fault of what is not served yet
 abbrev pub unless : {A : Type 0} → Option CommandFault → Result A CommandFault → Result A CommandFault
 unless None reading = reading
 unless (Some fault) reading = Err fault
@@ -53,3 +53,12 @@ unless (Some fault) reading = Err fault
 -- the command that a value is, where it is served; else the fault that tells why not
 abbrev pub served_reading : List ℕ → Result Order CommandFault
 served_reading v = unless (beyond v) (value_reading v)
+
+-- ---- the same by a text's row
+
+abbrev pub served_action : Row → Result Action CommandFault
+served_action row = unless (row_beyond row) (row_reading row)
+
+abbrev pub served_text : Option Row → Result Action CommandFault
+served_text None = Err Form
+served_text (Some row) = served_action row

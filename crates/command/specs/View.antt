@@ -1,5 +1,5 @@
 -- What the code's commands and rows stand for.
-use Rattle.std.specs.Prelude.{◌≡◌, ℕ, List, string_bytes, ⊤}
+use Rattle.std.specs.Prelude.{◌≡◌, ℕ, List, Result, Ok, string_bytes, ⊤}
 use Rattle.std.specs.Borrow.{Bor}
 use Rattle.context.specs.View.{data_view}
 use Rattle.mustache_parse.specs.Template.{IsTemplateOf}
@@ -8,6 +8,7 @@ use Rattle.command.specs.Rows.{Row, template_row, data_row, route_row, release_r
 use Rattle.command.specs.declared.commands.Command.{Command}
 use Rattle.command.specs.declared.commands.Action.{Action as CodeAction}
 use Rattle.command.specs.declared.commands.Action.TheVariants.{PutTemplate, PutData, PutRoute, Release}
+use Rattle.command.specs.declared.fault.CommandFault.{CommandFault}
 use Rattle.command.specs.declared.rows.Row.{Row as CodeRow}
 use Rattle.command.specs.declared.rows.Row.TheVariants as found
 
@@ -17,6 +18,10 @@ StandsAs (PutData name d) (put_data n whole) = (string_bytes name ≡ n) × (dat
 StandsAs (PutRoute path shows fills) (put_route p s f) = (string_bytes path ≡ p) × (string_bytes shows ≡ s) × (string_bytes fills ≡ f)
 StandsAs Release release = ⊤
 StandsAs _ _ = ⊥
+
+-- the reading gives an action, and the code's action stands for it
+abbrev pub IsActionOf : CodeAction → Result Action CommandFault → Type 0
+IsActionOf a reading = (o : Action) × (reading ≡ Ok o) × StandsAs a o
 
 -- the code's command stands for the order
 abbrev pub StandsFor : Command → Order → Type 0

@@ -1,6 +1,6 @@
 -- What is served until lists and hashes within hashes are: flat data.
 use Rattle.std.specs.Prelude.{Bool, true, false, ◌&&◌, Result, Ok, Err, if◌then◌else◌}
-use Rattle.context.specs.Whole.{Whole, null, boolean, int, text, list, hash, Members, no_members, member}
+use Rattle.context.specs.Whole.{Whole, list, hash, Members, no_members, member}
 use Rattle.context.specs.declared.fault.DataFault.{DataFault}
 use Rattle.context.specs.declared.fault.DataFault.TheVariants.{NotYet}
 

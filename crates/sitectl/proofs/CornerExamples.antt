@@ -97,7 +97,6 @@ nested_indent : gives (codes " {{>p}}\n") (o []) ((codes "p", codes "a\n {{>q}}\
 unfolding computing
 nested_indent = refl
 
-
 inline_in_indented : gives (codes " {{>p}}\n") (o []) ((codes "p", codes "[{{>q}}]\n") ∷ (codes "q", codes "a\nb") ∷ []) (codes " [a\nb]\n")
 unfolding computing
 inline_in_indented = refl

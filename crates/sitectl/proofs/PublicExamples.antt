@@ -380,4 +380,3 @@ section_standalone_indented = refl
 section_multiline : gives (codes " | {{#boolean}} {{! Important Whitespace }}\n {{/boolean}} | \n") (o ((codes "boolean", boolean true) ∷ [])) [] (codes " |  \n  | \n")
 unfolding computing
 section_multiline = refl
-

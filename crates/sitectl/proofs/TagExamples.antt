@@ -100,4 +100,3 @@ greeting_miss = refl
 empty_template : gives [] (o []) [] []
 unfolding computing
 empty_template = refl
-

@@ -1,3 +1,15 @@
 pub mod Printed
 pub mod Meaning
+pub mod Rendering
 pub mod Page
+pub mod Framed
+pub mod Words
+pub mod Parts
+pub mod Reading
+pub mod Verdict
+pub mod Standing
+pub mod Input
+pub mod Laws
+pub mod Counted
+pub mod Bytes
+pub mod Ends

@@ -48,9 +48,9 @@ meaning_with call (variable name rest) stack = and_then (and_then costs_one (pri
 meaning_with call (raw name rest) stack = and_then (and_then costs_one (prints (printed (look_up name stack)))) (meaning_with call rest stack)
 meaning_with call (partial name indent rest) stack = and_then (and_then costs_one (call name indent stack)) (meaning_with call rest stack)
 meaning_with call (section name block rest) stack =
-  and_then (and_then costs_one (for_each (λ v. meaning_with call block (v ∷ stack)) (items_of (look_up name stack)))) (meaning_with call rest stack)
+    and_then (and_then costs_one (for_each (λ v. meaning_with call block (v ∷ stack)) (items_of (look_up name stack)))) (meaning_with call rest stack)
 meaning_with call (inverted name block rest) stack =
-  and_then (and_then costs_one (where_none (meaning_with call block stack) (items_of (look_up name stack)))) (meaning_with call rest stack)
+    and_then (and_then costs_one (where_none (meaning_with call block stack) (items_of (look_up name stack)))) (meaning_with call rest stack)
 
 -- the meaning of a text's tree; the second case never comes, as a partial's text has a tree and indenting takes none away
 abbrev pub of_tree : (Tree → Meaning) → Result Tree TemplateFault → Meaning

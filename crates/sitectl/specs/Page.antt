@@ -56,11 +56,10 @@ released orders n path = if nat_lt 0 n && nat_le n (release_count orders) then S
 abbrev pub answer : List (List ℕ) → ℕ → List ℕ → Option Page
 answer values n path = released (effective values) n path
 
--- the newest release of a list of values; 0 where there is none
-abbrev pub newest : List (List ℕ) → ℕ
-newest values = release_count (effective values)
+-- the release that is asked for in a list of effective commands: the newest where none is named
+abbrev pub asked_of : List Order → Option ℕ → ℕ
+asked_of orders None = release_count orders
+asked_of orders (Some n) = n
 
--- the release that is asked for: the newest where none is named
 abbrev pub asked : List (List ℕ) → Option ℕ → ℕ
-asked values None = newest values
-asked values (Some n) = n
+asked values release = asked_of (effective values) release

@@ -17,11 +17,11 @@ printed (Some (hash _)) = []
 -- & " < > as entities, every other byte as it is
 abbrev pub escaped_byte : ℕ → List ℕ
 escaped_byte b =
-  if b == 38 then codes "&amp;" else
-  (if b == 34 then codes "&quot;" else
-  (if b == 60 then codes "&lt;" else
-  (if b == 62 then codes "&gt;" else
-  b ∷ [])))
+    if b == 38 then codes "&amp;" else
+    (if b == 34 then codes "&quot;" else
+    (if b == 60 then codes "&lt;" else
+    (if b == 62 then codes "&gt;" else
+    b ∷ [])))
 
 abbrev pub escaped : List ℕ → List ℕ
 escaped t = flat_map escaped_byte t

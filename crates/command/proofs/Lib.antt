@@ -1,0 +1,10 @@
+pub mod CutLemmas
+pub mod WordLemmas
+pub mod RowLemmas
+pub mod ServedLemmas
+pub mod FaultLemmas
+pub mod WrittenLemmas
+pub mod SiteLemmas
+pub mod EffectiveLemmas
+pub mod ReleaseLemmas
+pub mod Examples

@@ -1,0 +1,29 @@
+ghost use Rattle.command.specs.Laws.{RowIsSpelled, FaultIsLeast, CommandHasNone, ServedIsCommand, WrittenHolds};
+ghost use Rattle.command.specs.Laws.{StandingIsLast, TemplateIsLast, PartialIsLast, DataIsLast, RouteIsLast};
+ghost use Rattle.command.specs.Laws.{EffectiveGrows, ReleaseIsShortest, NextBegins, ReleaseStays};
+
+/// The rows of texts, and the least of a value's faults, as the table of commands has them.
+pub fn readings_are_by_the_table()
+    ensures row { RowIsSpelled }
+    ensures least { FaultIsLeast }
+    ensures none { CommandHasNone }
+    ensures served { ServedIsCommand }
+    ensures written { WrittenHolds }
+{}
+
+/// What stands at a kind and name is what the last command about them put.
+pub fn the_last_command_counts()
+    ensures standing { StandingIsLast }
+    ensures template { TemplateIsLast }
+    ensures partial { PartialIsLast }
+    ensures page_data { DataIsLast }
+    ensures route { RouteIsLast }
+{}
+
+/// Effective commands and the lists of releases, as values are added.
+pub fn releases_only_grow()
+    ensures grows { EffectiveGrows }
+    ensures shortest { ReleaseIsShortest }
+    ensures begins { NextBegins }
+    ensures stays { ReleaseStays }
+{}

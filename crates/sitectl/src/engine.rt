@@ -1,0 +1,79 @@
+//! The renderer: framed commands in, one page out.
+ghost use Rattle.std.specs.Prelude.{◌≡◌, ◌==◌, IfOk, if◌then◌else◌};
+ghost use Rattle.sitectl.specs.Bytes.{end_of, IsGiven};
+ghost use Rattle.sitectl.specs.Ends.{HasRun};
+ghost use Rattle.sitectl.specs.Standing.{verdict_view};
+ghost use Rattle.sitectl.specs.Verdict.{IsVerdict};
+
+use crate::counted::Counted;
+use crate::ends::{InputFault, read_all, write_all};
+use crate::input::{Input, commands};
+use crate::site::{Page, answer};
+use std::alloc::{AllocError, Global};
+use std::io::{Read, Write};
+
+/// A page, or a line.
+#[derive(Drop)]
+pub(crate) enum Outcome {
+    Shows(Page),
+    Says(String),
+}
+
+/// What the input is answered with.
+fn outcome_of(
+    alloc: Global,
+    input: &[u8],
+    release: Option<u64>,
+    path: &str,
+) -> Result<Outcome, AllocError>
+    ensures { IfOk result (λ o. IsVerdict input.now release path.now (verdict_view o)) }
+{
+    match commands(alloc, input)? {
+        Input::Fault(line) => Ok(Outcome::Says(line)),
+        Input::Commands(found) => match answer(alloc, found.as_slice(), release, path)? {
+            None => Ok(Outcome::Says(String::from_str(alloc, "no release\n")?)),
+            Some(page) => Ok(Outcome::Shows(page)),
+        },
+    }
+}
+
+/// Writes a line on the other writer, and gives status 1.
+fn say<E: Write>(err: &mut Counted<E>, line: &str) -> u8
+    ensures status { result ≡ 1 }
+    ensures said { IsGiven (end_of E.contents err.old err.new) line.now }
+{
+    let _ = write_all(err, line.as_bytes());
+    1
+}
+
+fn exit_status(page_status: u16) -> u8
+    ensures { result ≡ (if page_status == 200 then 0 else 1) }
+{
+    if page_status == 200 { 0 } else { 1 }
+}
+
+/// Reads commands, and writes the page for a path, or one line on the other writer.
+pub fn siterender<R: Read, W: Write, E: Write>(
+    alloc: Global,
+    reader: &mut Counted<R>,
+    out: &mut Counted<W>,
+    err: &mut Counted<E>,
+    release: Option<u64>,
+    path: &str,
+) -> u8
+    ensures { HasRun (end_of R.remaining reader.old reader.new) (end_of W.contents out.old out.new) (end_of E.contents err.old err.new) release path.now result }
+{
+    let input = match read_all(alloc, reader) {
+        Ok(input) => input,
+        Err(InputFault::Read) => return say(err, "read failed\n"),
+        Err(InputFault::OutOfMemory) => return say(err, "out of memory\n"),
+    };
+    match outcome_of(alloc, &input, release, path) {
+        Err(_) => say(err, "out of memory\n"),
+        Ok(Outcome::Says(line)) => say(err, line.as_str()),
+        Ok(Outcome::Shows(page)) => match write_all(out, page.body.as_bytes()) {
+            Ok(()) => exit_status(page.status),
+            Err(_) => say(err, "write failed\n"),
+        },
+    }
+}

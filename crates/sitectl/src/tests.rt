@@ -1,0 +1,46 @@
+//! The engine over memory, with readers and writers that fail; and each call of the crates below once.
+mod calls;
+mod ends;
+mod faults;
+mod pages;
+
+use crate::{Counted, siterender};
+use std::alloc::{AllocError, Global};
+
+/// Four commands that make a greeting and release it.
+pub(crate) const GREETING: &str =
+    "1 1 35\nput template t\nHello, {{subject}}!\n1 2 30\nput data d\n{\"subject\":\"world\"}1 3 16\nput route / t d\n1 4 8\nrelease\n";
+
+/// What a run printed, and its status.
+#[derive(Drop)]
+pub(crate) struct Printed {
+    pub status: u8,
+    pub out: Vec<u8>,
+    pub err: Vec<u8>,
+}
+
+/// Runs the engine over memory.
+pub(crate) fn run(alloc: Global, input: &[u8], release: Option<u64>, path: &str) -> Printed {
+    let mut reader = Counted::new(input);
+    let mut out = Counted::new(Vec::<u8>::new(alloc));
+    let mut err = Counted::new(Vec::<u8>::new(alloc));
+    let status = siterender(alloc, &mut reader, &mut out, &mut err, release, path);
+    Printed {
+        status,
+        out: out.into_inner(),
+        err: err.into_inner(),
+    }
+}
+
+/// Adds a frame with that ticket number to an input.
+pub(crate) fn push_frame(
+    alloc: Global,
+    input: &mut String,
+    number: u64,
+    text: &str,
+) -> Result<(), AllocError> {
+    let length = text.len();
+    let line = format!(in alloc; "7 {number} {length}\n")?;
+    input.push_str(line.as_str())?;
+    input.push_str(text)
+}

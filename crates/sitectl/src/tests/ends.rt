@@ -1,0 +1,121 @@
+//! Readers and writers that fail in mid-stream.
+ghost use Rattle.std.specs.Prelude.{Some};
+
+use super::GREETING;
+use crate::{Counted, siterender};
+use std::alloc::Global;
+use std::io;
+use std::io::{ErrorKind, Read, Write};
+
+/// Gives its bytes one at a time, and fails once `good` reads were made.
+#[derive(Drop)]
+struct Trickle<'a> {
+    bytes: &'a [u8],
+    good: usize,
+}
+
+impl Read for Trickle<'_> {
+    ghost remaining = { λ t. Some t.bytes.now };
+
+    fn read(&mut self, buf: &mut [u8]) -> io::Result<usize> {
+        if self.good == 0 {
+            return Err(io::Error::from(ErrorKind::TimedOut));
+        }
+        self.good -= 1;
+        let n = buf.len().min(self.bytes.len()).min(1);
+        buf[..n].copy_from_slice(&self.bytes[..n]);
+        self.bytes = &self.bytes[n..];
+        Ok(n)
+    }
+}
+
+/// Takes `room` bytes, and then fails.
+#[derive(Drop)]
+struct Short {
+    taken: Vec<u8>,
+    room: usize,
+}
+
+impl Write for Short {
+    ghost contents = { λ s. Some s.taken.items };
+
+    fn write(&mut self, buf: &[u8]) -> io::Result<usize> {
+        let n = buf.len().min(self.room);
+        if n == 0 && !buf.is_empty() {
+            return Err(io::Error::from(ErrorKind::BrokenPipe));
+        }
+        self.taken.extend_from_slice(&buf[..n])?;
+        self.room -= n;
+        Ok(n)
+    }
+
+    fn flush(&mut self) -> io::Result<()> {
+        Ok(())
+    }
+}
+
+fn with_room(alloc: Global, room: usize) -> Counted<Short> {
+    Counted::new(Short {
+        taken: Vec::new(alloc),
+        room,
+    })
+}
+
+#[test]
+fn a_reader_fails_anywhere(rt: HostRuntime) {
+    let alloc = rt.alloc();
+    let whole = GREETING.as_bytes();
+    for good in 0..whole.len() + 2 {
+        let mut reader = Counted::new(Trickle { bytes: whole, good });
+        let mut out = with_room(alloc, 1000);
+        let mut err = with_room(alloc, 1000);
+        let status = siterender(alloc, &mut reader, &mut out, &mut err, None, "/");
+        let printed = out.into_inner().taken;
+        let line = err.into_inner().taken;
+        if good <= whole.len() {
+            assert_eq!(rt; status, 1);
+            assert_eq!(rt; reader.failures(), 1);
+            assert!(rt; printed.is_empty());
+            assert_eq!(rt; line.as_slice(), b"read failed\n".as_slice());
+        } else {
+            assert_eq!(rt; status, 0);
+            assert_eq!(rt; reader.failures(), 0);
+            assert_eq!(rt; printed.as_slice(), b"Hello, world!\n".as_slice());
+            assert!(rt; line.is_empty());
+        }
+    }
+}
+
+#[test]
+fn a_writer_fails_anywhere(rt: HostRuntime) {
+    let alloc = rt.alloc();
+    let body = b"Hello, world!\n";
+    for room in 0..body.len() {
+        let mut reader = Counted::new(GREETING.as_bytes());
+        let mut out = with_room(alloc, room);
+        let mut err = with_room(alloc, 1000);
+        let status = siterender(alloc, &mut reader, &mut out, &mut err, None, "/");
+        assert_eq!(rt; status, 1);
+        assert_eq!(rt; out.failures(), 1);
+        assert_eq!(rt; out.into_inner().taken.as_slice(), &body[..room]);
+        assert_eq!(rt;
+            err.into_inner().taken.as_slice(),
+            b"write failed\n".as_slice()
+        );
+    }
+}
+
+#[test]
+fn both_writers_fail(rt: HostRuntime) {
+    let alloc = rt.alloc();
+    let line = b"no release\n";
+    for room in 0..line.len() {
+        let mut reader = Counted::new(b"".as_slice());
+        let mut out = with_room(alloc, 0);
+        let mut err = with_room(alloc, room);
+        let status = siterender(alloc, &mut reader, &mut out, &mut err, None, "/");
+        assert_eq!(rt; status, 1);
+        assert_eq!(rt; (out.failures(), err.failures()), (0, 1));
+        assert_eq!(rt; err.into_inner().taken.as_slice(), &line[..room]);
+    }
+}

@@ -1,0 +1,150 @@
+//! Pages from bytes to bytes.
+use super::{GREETING, push_frame, run};
+use std::alloc::{AllocError, Global};
+use std::test::Fail;
+
+/// An input of these command texts, in order.
+fn framed(alloc: Global, texts: &[&str]) -> Result<String, AllocError> {
+    let mut input = String::new(alloc);
+    for (number, text) in texts.iter().enumerate() {
+        push_frame(alloc, &mut input, number as u64, text)?;
+    }
+    Ok(input)
+}
+
+#[test]
+fn a_greeting(rt: HostRuntime) {
+    let printed = run(rt.alloc(), GREETING.as_bytes(), None, "/");
+    assert_eq!(rt; printed.status, 0);
+    assert_eq!(rt; printed.out.as_slice(), b"Hello, world!\n".as_slice());
+    assert!(rt; printed.err.is_empty());
+}
+
+#[test]
+fn pages_of_sites(rt: HostRuntime) -> Result<(), Fail> {
+    let alloc = rt.alloc();
+    let t = "put template t\nHello, {{subject}}!\n";
+    let d = "put data d\n{\"subject\":\"world\"}";
+    let route = "put route / t d\n";
+    let release = "release\n";
+    let values =
+        "put data d\n{\"n\":null,\"b\":true,\"c\":false,\"i\":-12,\"t\":\"<\\\"a\\\" & 'b'>\",\"s\":18446744073709551615}";
+    let all = "put template t\n[{{n}}] {{b}} {{ c }} {{i}} {{\tt\n}} {{s}} {{none}}.";
+    let cases: [(&[&str], u8, &str); 10] = [
+        (&[t, "put data d\n{}", route, release], 0, "Hello, !\n"),
+        (&["put template t\n", d, route, release], 0, ""),
+        (
+            &[all, values, route, release],
+            0,
+            "[] true false -12 &lt;&quot;a&quot; &amp; 'b'&gt; 18446744073709551615 .",
+        ),
+        (&[t, d, "put route /x t d\n", release], 1, "not found\n"),
+        (&[d, route, release], 1, "template missing\n"),
+        (&[t, route, release], 1, "data missing\n"),
+        (
+            &[t, d, route, release, "put template t\nlater"],
+            0,
+            "Hello, world!\n",
+        ),
+        (
+            &[t, d, route, "put template t\nsecond", release],
+            0,
+            "second",
+        ),
+        (
+            &[t, d, route, release, "put template t\nlater", release],
+            0,
+            "later",
+        ),
+        (
+            &[
+                "put data d\n{\"subject\":1,\"subject\":2}",
+                t,
+                route,
+                release,
+            ],
+            0,
+            "Hello, 2!\n",
+        ),
+    ];
+    for (texts, status, body) in cases {
+        let input = framed(alloc, texts)?;
+        let printed = run(alloc, input.as_bytes(), None, "/");
+        assert_eq!(rt; printed.status, status, "{body}");
+        assert_eq!(rt; printed.out.as_slice(), body.as_bytes());
+        assert!(rt; printed.err.is_empty());
+    }
+    Ok(())
+}
+
+#[test]
+fn releases_by_number_and_repeats(rt: HostRuntime) -> Result<(), Fail> {
+    let alloc = rt.alloc();
+    let mut input = String::new(alloc);
+    let commands = [
+        (1, "put template t\nv1\n"),
+        (2, "put data d\n{}"),
+        (3, "put route / t d\n"),
+        (4, "release\n"),
+        (5, "put template t\nv2\n"),
+        (1, "release\n"),
+        (7, "release\n"),
+    ];
+    for (number, text) in commands {
+        push_frame(alloc, &mut input, number, text)?;
+    }
+    let cases: [(Option<u64>, u8, &str, &str); 5] = [
+        (Some(1), 0, "v1\n", ""),
+        (Some(2), 0, "v2\n", ""),
+        (None, 0, "v2\n", ""),
+        (Some(0), 1, "", "no release\n"),
+        (Some(3), 1, "", "no release\n"),
+    ];
+    for (release, status, out, err) in cases {
+        let printed = run(alloc, input.as_bytes(), release, "/");
+        assert_eq!(rt; printed.status, status);
+        assert_eq!(rt; printed.out.as_slice(), out.as_bytes());
+        assert_eq!(rt; printed.err.as_slice(), err.as_bytes());
+    }
+    Ok(())
+}
+
+/// A site whose page is `tags` times a value of 9,999 bytes, and `more` further bytes.
+fn heavy(alloc: Global, tags: u32, more: u32) -> Result<String, AllocError> {
+    let mut template = String::from_str(alloc, "put template t\n")?;
+    for _ in 0..tags {
+        template.push_str("{{x}}")?;
+    }
+    for _ in 0..more {
+        template.push_str("y")?;
+    }
+    let mut page_data = String::from_str(alloc, "put data d\n{\"x\":\"")?;
+    for _ in 0..9_999 {
+        page_data.push_str("x")?;
+    }
+    page_data.push_str("\"}")?;
+    framed(
+        alloc,
+        &[
+            template.as_str(),
+            page_data.as_str(),
+            "put route / t d\n",
+            "release\n",
+        ],
+    )
+}
+
+#[test]
+fn a_page_costs_at_most_a_million(rt: HostRuntime) -> Result<(), Fail> {
+    let alloc = rt.alloc();
+    let at_limit = heavy(alloc, 100, 0)?;
+    let printed = run(alloc, at_limit.as_bytes(), None, "/");
+    assert_eq!(rt; printed.status, 0);
+    assert_eq!(rt; printed.out.len(), 999_900);
+    for past in [heavy(alloc, 100, 1)?, heavy(alloc, 101, 0)?] {
+        let printed = run(alloc, past.as_bytes(), None, "/");
+        assert_eq!(rt; printed.status, 1);
+        assert_eq!(rt; printed.out.as_slice(), b"page over limit\n".as_slice());
+    }
+    Ok(())
+}
