@@ -1,5 +1,5 @@
 -- The page of the release that is asked for.
-use Rattle.std.proofs.Common.{◌≡◌, ℕ, ◌<◌, ◌≤◌, List, Bool, true, ◌&&◌, nat_lt, nat_le, Option, Some, None, unwrap_or, refl, sym, ap, ◌∙◌, arith}
+use Rattle.std.proofs.Common.{◌≡◌, ℕ, ◌<◌, ◌≤◌, List, true, ◌&&◌, nat_lt, nat_le, Option, Some, None, unwrap_or, ap, ◌∙◌, arith}
 use Rattle.std.proofs.lemmas.Bool.Decides.{nat_tests}
 use Rattle.command.specs.Action.{Order}
 use Rattle.command.specs.Releases.{release_count, through}

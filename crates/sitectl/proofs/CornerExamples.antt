@@ -1,9 +1,9 @@
 -- Choices of the profile, and corners, computed from the definitions.
-use Rattle.std.proofs.Common.{◌≡◌, Bool, true, false, List, [], ◌∷◌, ◌++◌, refl}
-use Rattle.std.specs.Prelude.{codes, pos, negsuc}
-use Rattle.mustache_scan.specs.declared.fault.FaultKind.TheVariants.{UnclosedTag, EmptyName, BadName, BadDelimiters, NoSection, WrongEnd, UnclosedSection, TooDeep}
-use Rattle.context.specs.Whole.{Whole, null, boolean, int}
-use Rattle.sitectl.proofs.Examples.{str, o, a, shown_for, gives, faulty, OverLimit, computing}
+use Rattle.std.proofs.Common.{true, false, [], ◌∷◌, refl}
+use Rattle.std.specs.Prelude.{codes, pos}
+use Rattle.mustache_scan.specs.declared.fault.FaultKind.TheVariants.{UnclosedTag, BadName, BadDelimiters, NoSection, WrongEnd, UnclosedSection}
+use Rattle.context.specs.Whole.{boolean, int}
+use Rattle.sitectl.proofs.Examples.{str, o, a, gives, faulty, computing}
 
 apostrophe : gives (codes "{{a}}") (o ((codes "a", str (codes "it's")) ∷ [])) [] (codes "it's")
 unfolding computing

@@ -1,8 +1,8 @@
 -- A page at the limit of its cost, and one byte past it, computed from the definitions.
-use Rattle.std.proofs.Common.{◌≡◌, ℕ, Bool, true, false, List, [], ◌∷◌, ◌++◌, refl}
+use Rattle.std.proofs.Common.{◌≡◌, [], ◌∷◌, ◌++◌, refl}
 use Rattle.std.specs.Prelude.{codes, pos, replicate}
-use Rattle.context.specs.Whole.{Whole, null, boolean, int}
-use Rattle.sitectl.proofs.Examples.{str, o, a, shown_for, gives, faulty, OverLimit, costs, computing}
+use Rattle.context.specs.Whole.{Whole, null, int}
+use Rattle.sitectl.proofs.Examples.{str, o, a, shown_for, gives, OverLimit, costs, computing}
 
 zeros : Whole
 zeros = a (replicate 99 (int (pos 0)))

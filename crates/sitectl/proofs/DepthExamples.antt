@@ -1,9 +1,8 @@
 -- Worked computing that nest deep, computed from the definitions.
-use Rattle.std.proofs.Common.{◌≡◌, Bool, true, false, List, [], ◌∷◌, ◌++◌, refl}
-use Rattle.std.specs.Prelude.{codes, pos, negsuc}
-use Rattle.mustache_scan.specs.declared.fault.FaultKind.TheVariants.{UnclosedTag, EmptyName, BadName, BadDelimiters, NoSection, WrongEnd, UnclosedSection, TooDeep}
-use Rattle.context.specs.Whole.{Whole, null, boolean, int}
-use Rattle.sitectl.proofs.Examples.{str, o, a, shown_for, gives, faulty, OverLimit, computing}
+use Rattle.std.proofs.Common.{◌≡◌, [], ◌∷◌, refl}
+use Rattle.std.specs.Prelude.{codes}
+use Rattle.mustache_scan.specs.declared.fault.FaultKind.TheVariants.{UnclosedSection, TooDeep}
+use Rattle.sitectl.proofs.Examples.{o, shown_for, gives, faulty, OverLimit, computing}
 
 partial_of_itself : shown_for (codes "{{>p}}") (o []) ((codes "p", codes "{{>p}}") ∷ []) ≡ OverLimit
 unfolding computing

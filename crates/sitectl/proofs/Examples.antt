@@ -1,6 +1,6 @@
 -- The terms that examples are stated in.
-use Rattle.std.proofs.Common.{◌≡◌, ℕ, zero, suc, Bool, true, false, List, [], ◌∷◌, ◌++◌, Option, None, Some, Result, Ok, Err, refl, length}
-use Rattle.std.specs.Prelude.{codes, ℤ, pos, negsuc, replicate}
+use Rattle.std.proofs.Common.{◌≡◌, ℕ, true, false, List, [], ◌∷◌, Option, None, Some, Result, Ok, Err}
+use Rattle.std.specs.Prelude.{pos}
 use Rattle.std.specs.Str.{bytes_eq}
 use Rattle.mustache_scan.specs.Cutting.{cut}
 use Rattle.mustache_scan.specs.Reading.{reading_within}
@@ -9,11 +9,10 @@ use Rattle.mustache_parse.specs.Tree.{Tree, tree_of}
 use Rattle.mustache_scan.specs.declared.fault.FaultKind.{FaultKind}
 use Rattle.mustache_scan.specs.declared.fault.TemplateFault.{TemplateFault}
 use Rattle.mustache_parse.specs.Indent.{indented}
-use Rattle.context.specs.Whole.{Whole, null, boolean, int, text, list, hash, Items, no_items, item, Members, no_members, member}
+use Rattle.context.specs.Whole.{Whole, null, int, text, list, hash, Items, no_items, item, Members, no_members, member}
 use Rattle.context.specs.LookUp.{look_up}
 use Rattle.sitectl.specs.Meaning.{Partials, Meaning, Over, Costs, meaning_with, meaning_to, rendering}
 use Rattle.std.specs.Fmt.{digits}
-use mathlib.Core.List.{map}
 
 -- data, as JSON would write it
 abbrev pub str : List ℕ → Whole

@@ -1,9 +1,8 @@
 -- Cases after the public mustache/spec suite (core modules, selected), computed from the definitions.
-use Rattle.std.proofs.Common.{◌≡◌, Bool, true, false, List, [], ◌∷◌, ◌++◌, refl}
-use Rattle.std.specs.Prelude.{codes, pos, negsuc}
-use Rattle.mustache_scan.specs.declared.fault.FaultKind.TheVariants.{UnclosedTag, EmptyName, BadName, BadDelimiters, NoSection, WrongEnd, UnclosedSection, TooDeep}
-use Rattle.context.specs.Whole.{Whole, null, boolean, int}
-use Rattle.sitectl.proofs.Examples.{str, o, a, shown_for, gives, faulty, OverLimit, computing}
+use Rattle.std.proofs.Common.{true, false, [], ◌∷◌, refl}
+use Rattle.std.specs.Prelude.{codes, pos}
+use Rattle.context.specs.Whole.{null, boolean, int}
+use Rattle.sitectl.proofs.Examples.{str, o, a, gives, computing}
 
 comment_inline : gives (codes "12345{{! Comment Block! }}67890") (o []) [] (codes "1234567890")
 unfolding computing

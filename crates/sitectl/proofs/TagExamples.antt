@@ -1,9 +1,9 @@
 -- Worked computing, computed from the definitions.
-use Rattle.std.proofs.Common.{◌≡◌, Bool, true, false, List, [], ◌∷◌, ◌++◌, refl}
+use Rattle.std.proofs.Common.{true, [], ◌∷◌, refl}
 use Rattle.std.specs.Prelude.{codes, pos, negsuc}
-use Rattle.mustache_scan.specs.declared.fault.FaultKind.TheVariants.{UnclosedTag, EmptyName, BadName, BadDelimiters, NoSection, WrongEnd, UnclosedSection, TooDeep}
-use Rattle.context.specs.Whole.{Whole, null, boolean, int}
-use Rattle.sitectl.proofs.Examples.{str, o, a, shown_for, gives, faulty, OverLimit, computing}
+use Rattle.mustache_scan.specs.declared.fault.FaultKind.TheVariants.{UnclosedTag, EmptyName, BadName, BadDelimiters, WrongEnd, UnclosedSection}
+use Rattle.context.specs.Whole.{boolean, int}
+use Rattle.sitectl.proofs.Examples.{str, o, a, gives, faulty, computing}
 
 escapes : gives (codes "{{f}}|{{{f}}}|{{&f}}") (o ((codes "f", str (codes "& \" < >")) ∷ [])) [] (codes "&amp; &quot; &lt; &gt;|& \" < >|& \" < >")
 unfolding computing

@@ -1,9 +1,8 @@
 -- The verdict of an input from the commands read.
-use Rattle.std.proofs.Common.{◌≡◌, ℕ, List, [], ◌∷◌, map, Option, Some, None, Ok, refl, sym, ap, ap₂, ◌∙◌, inr}
-use Rattle.std.specs.List.{AllZip, filter_map}
+use Rattle.std.proofs.Common.{◌≡◌, ℕ, List, [], ◌∷◌, map, Option, Ok, refl, sym, ap, ◌∙◌, inr}
+use Rattle.std.specs.List.{AllZip}
 use Rattle.command.specs.Action.{Order}
-use Rattle.command.specs.Effective.{if_command, commands_of, firsts}
-use Rattle.command.specs.NotYet.{served_reading}
+use Rattle.command.specs.Effective.{commands_of, firsts}
 use Rattle.command.specs.Reading.{value_reading}
 use Rattle.command.specs.View.{StandsFor}
 use Rattle.command.specs.declared.commands.Command.{Command}

@@ -1,5 +1,5 @@
 -- The page of a site for a path, and the answer of a list of values for a release and a path.
-use Rattle.std.specs.Prelude.{ℕ, Bool, ◌&&◌, nat_lt, nat_le, if◌then◌else◌, codes, List, Option, None, Some, Result, Ok, Err}
+use Rattle.std.specs.Prelude.{ℕ, ◌&&◌, nat_lt, nat_le, if◌then◌else◌, codes, List, Option, None, Some, Result, Ok, Err}
 use Rattle.mustache_parse.specs.Tree.{Tree, tree_of}
 use Rattle.mustache_scan.specs.declared.fault.TemplateFault.{TemplateFault}
 use Rattle.context.specs.Whole.{Whole}

@@ -1,5 +1,5 @@
 -- The code's commands and pages, and what they stand for.
-use Rattle.std.specs.Prelude.{ℕ, List, map, string_bytes}
+use Rattle.std.specs.Prelude.{List, map, string_bytes}
 use Rattle.std.specs.Borrow.{Bor}
 use Rattle.std.specs.List.{AllZip}
 use Rattle.command.specs.Action.{Kind, Order, template, page_data, route}

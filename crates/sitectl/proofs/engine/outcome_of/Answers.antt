@@ -1,4 +1,4 @@
-use Rattle.std.proofs.Common.{◌≡◌, List, ◌∙◌, sym, ap, Option, Some, None, subst, option_map}
+use Rattle.std.proofs.Common.{◌≡◌, List, ◌∙◌, sym, ap, Some, None, subst, option_map}
 use Rattle.command.specs.Action.{Order}
 use Rattle.command.specs.Effective.{firsts}
 use Rattle.sitectl.specs.Input.{IsInput}

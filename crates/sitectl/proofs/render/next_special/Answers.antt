@@ -1,6 +1,6 @@
-use Rattle.std.proofs.Common.{◌≡◌, ◌-◌, ◌+◌, ◌<◌, ◌++◌, length, take, drop, get_or, sym, ap, ◌∙◌, subst, arith}
+use Rattle.std.proofs.Common.{◌≡◌, ◌-◌, ◌<◌, get_or, subst, arith}
 use Rattle.std.proofs.lemmas.Str.{IsCharBoundary-after_ascii}
-use Rattle.sitectl.specs.Printed.{escaped, escaped_byte}
+use Rattle.sitectl.specs.Printed.{escaped_byte}
 use Rattle.sitectl.proofs.Escapes.{escaped_at}
 use Rattle.sitectl.proofs.render.next_special.Goals as goal
 

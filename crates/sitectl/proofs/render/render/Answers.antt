@@ -1,10 +1,9 @@
-use Rattle.std.proofs.Common.{◌≡◌, List, ◌∷◌, [], Err, Ok, sym, ap, ◌∙◌, subst, refl}
-use Rattle.context.specs.Whole.{Whole}
+use Rattle.std.proofs.Common.{◌≡◌, ◌∷◌, [], Err, sym, ap, ◌∙◌, subst, refl}
 use Rattle.context.specs.View.{data_view}
 use Rattle.mustache_parse.specs.Template.{template_tree}
 use Rattle.mustache_parse.specs.View.{tree_view}
 use Rattle.sitectl.specs.Meaning.{meaning_with, within_limit}
-use Rattle.sitectl.specs.Rendering.{Adds, IsPaid, Exceeds}
+use Rattle.sitectl.specs.Rendering.{Adds, IsPaid}
 use Rattle.sitectl.specs.declared.render.Output.{Output}
 use Rattle.sitectl.specs.declared.render.RenderFault.TheVariants.{OverLimit}
 use Rattle.sitectl.proofs.Rendered.{call_of, rendering-is, exceeds_page, paid_page, stack_of-one}

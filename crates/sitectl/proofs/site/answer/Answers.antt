@@ -1,10 +1,9 @@
-use Rattle.std.proofs.Common.{◌≡◌, ◌≤◌, ◌<◌, List, ◌∙◌, sym, ap, subst, take, map, arith, Bor}
-use Rattle.command.specs.Action.{Order}
+use Rattle.std.proofs.Common.{◌≡◌, ◌∙◌, sym, ap, subst, take, arith, Bor}
 use Rattle.command.specs.Effective.{firsts}
 use Rattle.command.specs.Releases.{release_count, through}
 use Rattle.command.specs.View.{StandsFor}
 use Rattle.command.specs.declared.commands.Command.{Command}
-use Rattle.sitectl.specs.Page.{page_of, released, asked_of}
+use Rattle.sitectl.specs.Page.{page_of, released}
 use Rattle.sitectl.specs.Standing.{StandForAll, lent, page_view}
 use Rattle.std.proofs.lemmas.List.{take-map}
 use Rattle.sitectl.proofs.Zips.{AllZip-take}

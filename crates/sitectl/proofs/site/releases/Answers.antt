@@ -1,4 +1,4 @@
-use Rattle.std.proofs.Common.{◌≡◌, ℕ, ◌+◌, ◌++◌, ◌∷◌, [], ◌∙◌, sym, ap, take, arith, cond, true, false, add-one}
+use Rattle.std.proofs.Common.{◌≡◌, ℕ, ◌+◌, ◌∙◌, sym, ap, take, arith, cond, true, false, add-one}
 use Rattle.command.specs.Releases.{release_count, is_release}
 use Rattle.sitectl.specs.Standing.{lent}
 use Rattle.sitectl.proofs.Commands.{lent_partner, lent_length, all_taken}

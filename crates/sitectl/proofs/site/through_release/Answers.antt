@@ -1,4 +1,4 @@
-use Rattle.std.proofs.Common.{◌≡◌, ℕ, zero, suc, ◌+◌, ◌-◌, ◌++◌, ◌∷◌, [], ◌∙◌, sym, ap, take, drop, length, arith, Bool, cond, true, false, add-one, append-nil, append_assoc}
+use Rattle.std.proofs.Common.{◌≡◌, ℕ, suc, ◌+◌, ◌-◌, ◌++◌, ◌∷◌, [], ◌∙◌, sym, ap, take, drop, length, arith, Bool, cond, true, false, add-one, append-nil, append_assoc}
 use Rattle.command.specs.Releases.{through, is_release}
 use Rattle.sitectl.specs.Standing.{lent}
 use Rattle.sitectl.proofs.Commands.{lent_partner, lent_length, all_taken, none_left}

@@ -1,4 +1,4 @@
-use Rattle.std.proofs.Common.{◌≡◌, List, ℕ, length, Result}
+use Rattle.std.proofs.Common.{length, Result}
 use denote.Text.{Utf8}
 use denote.Shadow.{shadow}
 use Rattle.sitectl.specs.Meaning.{prints}
