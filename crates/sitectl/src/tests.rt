@@ -3,6 +3,7 @@ mod calls;
 mod ends;
 mod faults;
 mod pages;
+mod refusals;
 
 use crate::{Counted, siterender};
 use std::alloc::{AllocError, Global};
