@@ -8,13 +8,11 @@ use Rattle.context.specs.declared.fault.DataFault.TheVariants as data_fault
 use Rattle.mustache_scan.specs.Cutting.{cut}
 use Rattle.mustache_scan.specs.Reading.{reading_within}
 use Rattle.mustache_scan.specs.Standalone.{scanned}
-use Rattle.mustache_scan.specs.NotYet.{not_yet}
 use Rattle.mustache_scan.specs.declared.fault.FaultKind.TheVariants as kind
 use Rattle.mustache_parse.specs.Tree.{tree_of}
 use Rattle.command.specs.Action.{template, partial, page_data, route, Action, put_template, put_data, put_route, remove, release, Order}
 use Rattle.command.specs.Rows.{template_row, partial_row, data_row, route_row, remove_row, row_of}
 use Rattle.command.specs.Reading.{row_reading, value_reading}
-use Rattle.command.specs.NotYet.{row_beyond, data_beyond, served_reading}
 use Rattle.command.specs.Written.{value_of, line_of}
 use Rattle.command.specs.Effective.{effective, firsts}
 use Rattle.command.specs.Site.{template_at, partial_at, data_at, route_at}
@@ -112,22 +110,14 @@ empty_value = refl
 too_long : value_reading (replicate 32769 0) ≡ Err TooLong
 too_long = refl
 
--- ---- what is not served yet
+-- ---- removes
 
-a_section : row_beyond (template_row (codes "t") (codes "a {{#b}}")) ≡ Some (Template (record { kind = kind.NotYet; place = 2 }))
-unfolding not_yet cut reading_within
-a_section = refl
-
-a_variable : row_beyond (template_row (codes "t") (codes "a {{b}}")) ≡ None
-unfolding not_yet cut reading_within
-a_variable = refl
-
-a_list : data_beyond (Ok (hash (member (codes "l") (list no_items) no_members))) ≡ Some (Data data_fault.NotYet)
-a_list = refl
-
-a_remove : served_reading (value_of ticket (codes "remove data d\n")) ≡ Err Form
+a_remove : value_reading (value_of ticket (codes "remove data d\n")) ≡ Ok (ordered (remove page_data (codes "d")))
 unfolding is_utf8 chars encode
 a_remove = refl
+
+a_removed_path : row_reading (remove_row route (codes "/_x")) ≡ Err Path
+a_removed_path = refl
 
 -- ---- lines
 

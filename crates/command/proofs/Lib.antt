@@ -1,7 +1,7 @@
 pub mod CutLemmas
 pub mod WordLemmas
 pub mod RowLemmas
-pub mod ServedLemmas
+pub mod ReadingLemmas
 pub mod FaultLemmas
 pub mod WrittenLemmas
 pub mod SiteLemmas

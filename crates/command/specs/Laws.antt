@@ -6,7 +6,6 @@ use Rattle.command.specs.Action.{Kind, template, partial, page_data, route, Acti
 use Rattle.command.specs.Rows.{Row, row_of, spelled, HasWords}
 use Rattle.command.specs.Reading.{ticket_of, value_reading}
 use Rattle.command.specs.Faults.{Applies, number}
-use Rattle.command.specs.NotYet.{served_reading}
 use Rattle.command.specs.Written.{value_of}
 use Rattle.command.specs.Effective.{effective}
 use Rattle.command.specs.Site.{standing, IsStanding, template_at, partial_at, data_at, route_at}
@@ -27,10 +26,6 @@ FaultIsLeast = (v : List ℕ) (fault : CommandFault) → value_reading v ≡ Err
 -- no fault applies to a command
 abbrev pub CommandHasNone : Type 0
 CommandHasNone = (v : List ℕ) (order : Order) → value_reading v ≡ Ok order → (fault : CommandFault) → ¬ Applies v fault
-
--- what is served is a command
-abbrev pub ServedIsCommand : Type 0
-ServedIsCommand = (v : List ℕ) (order : Order) → served_reading v ≡ Ok order → value_reading v ≡ Ok order
 
 -- a written value holds its ticket and its text
 abbrev pub WrittenHolds : Type 0

@@ -4,7 +4,6 @@ pub mod Rows
 pub mod Reading
 pub mod Faults
 pub mod Written
-pub mod NotYet
 pub mod View
 pub mod Effective
 pub mod Site

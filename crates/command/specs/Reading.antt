@@ -8,7 +8,7 @@ use Rattle.context.specs.Whole.{Whole, data_reading}
 use Rattle.context.specs.declared.fault.DataFault.{DataFault}
 use Rattle.mustache_scan.specs.declared.fault.TemplateFault.{TemplateFault}
 use Rattle.mustache_parse.specs.Tree.{Tree, tree_of}
-use Rattle.command.specs.Action.{route, Action, put_template, put_partial, put_data, put_route, remove, release, Order}
+use Rattle.command.specs.Action.{Kind, template, partial, page_data, route, Action, put_template, put_partial, put_data, put_route, remove, release, Order}
 use Rattle.command.specs.Rows.{Row, template_row, partial_row, data_row, route_row, remove_row, release_row, row_of}
 use Rattle.command.specs.declared.fault.CommandFault.{CommandFault}
 use Rattle.command.specs.declared.fault.CommandFault.TheVariants.{TooLong, Form, Name, Path, Template, Data}
@@ -85,6 +85,19 @@ abbrev pub row_reading : Row → Result Action CommandFault
 row_reading row =
     if list_all is_name (names_in row) then (if list_all is_path (paths_in row) then row_action row else Err Path) else Err Name
 
+-- what a remove names: a path for a route, else a name
+abbrev pub is_removable : Kind → List ℕ → Bool
+is_removable template name = is_name name
+is_removable partial name = is_name name
+is_removable page_data name = is_name name
+is_removable route path = is_path path
+
+abbrev pub wrong_remove : Kind → CommandFault
+wrong_remove template = Name
+wrong_remove partial = Name
+wrong_remove page_data = Name
+wrong_remove route = Path
+
 -- ---- values
 
 -- the row of a value's text, which follows the 12 bytes of its ticket
@@ -97,6 +110,10 @@ value_row v = if nat_le (length v) 32768 then ok_or (text_row v) Form else Err T
 abbrev pub read_row : Result Row CommandFault → Result Action CommandFault
 read_row (Ok row) = row_reading row
 read_row (Err fault) = Err fault
+
+-- the same by the row that a text has, if any
+abbrev pub text_reading : Option Row → Result Action CommandFault
+text_reading row = read_row (ok_or row Form)
 
 -- the editor's number and the command's, the highest byte first
 abbrev pub ticket_of : List ℕ → Ticket

@@ -86,6 +86,15 @@ first_of [] = None
 first_of (Some row ∷ later) = Some row
 first_of (None ∷ later) = first_of later
 
+-- the row of a remove of any kind
+abbrev pub removes_of : List ℕ → Option Row
+removes_of text = first_of (
+    remove_of template text
+    ∷ remove_of partial text
+    ∷ remove_of page_data text
+    ∷ remove_of route text
+    ∷ [])
+
 -- the row that a text spells
 abbrev pub row_of : List ℕ → Option Row
 row_of text = first_of (

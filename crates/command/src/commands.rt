@@ -2,12 +2,23 @@ use context::Data;
 use mustache_parse::Template;
 use site_ids::Ticket;
 
-/// What a command does. A template and data go by their name; a route by its path, with the names of its template and data.
+/// What a name is of.
+#[derive(Clone, Copy, Debug, PartialEq, Eq)]
+pub enum Kind {
+    Template,
+    Partial,
+    Data,
+    Route,
+}
+
+/// What a command does. A template, a partial and data go by their name; a route by its path, with the names of its template and data.
 #[derive(Drop)]
 pub enum Action {
     PutTemplate(String, Template),
+    PutPartial(String, Template),
     PutData(String, Data),
     PutRoute(String, String, String),
+    Remove(Kind, String),
     Release,
 }
 

@@ -1,4 +1,4 @@
-ghost use Rattle.command.specs.Laws.{RowIsSpelled, FaultIsLeast, CommandHasNone, ServedIsCommand, WrittenHolds};
+ghost use Rattle.command.specs.Laws.{RowIsSpelled, FaultIsLeast, CommandHasNone, WrittenHolds};
 ghost use Rattle.command.specs.Laws.{StandingIsLast, TemplateIsLast, PartialIsLast, DataIsLast, RouteIsLast};
 ghost use Rattle.command.specs.Laws.{EffectiveGrows, ReleaseIsShortest, NextBegins, ReleaseStays};
 
@@ -7,7 +7,6 @@ pub fn readings_are_by_the_table()
     ensures row { RowIsSpelled }
     ensures least { FaultIsLeast }
     ensures none { CommandHasNone }
-    ensures served { ServedIsCommand }
     ensures written { WrittenHolds }
 {}
 

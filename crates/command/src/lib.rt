@@ -9,7 +9,7 @@ mod reading;
 mod rows;
 mod writing;
 
-pub use commands::{Action, Command};
+pub use commands::{Action, Command, Kind};
 pub use fault::{CommandFault, fault_line};
 pub use laws::{readings_are_by_the_table, releases_only_grow, the_last_command_counts};
 pub use reading::read;

@@ -1,25 +1,27 @@
-ghost use Rattle.std.specs.Prelude.{◌≡◌, ◌≢◌, ◌≤◌, length, Ok, Err, IfOk, IfErr};
+ghost use Rattle.std.specs.Prelude.{◌≡◌, ◌≢◌, ◌≤◌, length, Ok, Err, IfOk, IfErr, if◌then◌else◌};
+ghost use Rattle.mustache_parse.specs.Template.{IsTemplateOf};
+ghost use Rattle.mustache_parse.specs.Tree.{tree_of};
+ghost use Rattle.mustache_scan.specs.declared.fault.TemplateFault.{TemplateFault};
 ghost use Rattle.command.specs.Action.{Order};
-ghost use Rattle.command.specs.Reading.{ticket_of};
-ghost use Rattle.command.specs.Rows.{template_row, data_row, route_row};
-ghost use Rattle.command.specs.NotYet.{served_reading, served_action, served_text, served_row};
-ghost use Rattle.command.specs.View.{StandsFor, IsActionOf};
+ghost use Rattle.command.specs.Reading.{is_name, is_path, is_removable, wrong_remove, row_reading, text_reading, ticket_of, value_reading};
+ghost use Rattle.command.specs.Rows.{template_row, partial_row, data_row, route_row, remove_row, row_of};
+ghost use Rattle.command.specs.View.{kind_view, StandsFor, IsActionOf};
 ghost use Rattle.command.specs.Written.{HasLine};
 
-use crate::commands::{Action, Command};
+use crate::commands::{Action, Command, Kind};
 use crate::fault::CommandFault;
 use crate::names::{name, path};
 use crate::rows::{Row, row_in};
 use byteorder::{BigEndian, ByteOrder};
 use context::{Data, DataFault};
-use mustache_parse::{FaultKind, parse};
+use mustache_parse::{FaultKind, Template, parse};
 use site_ids::{MAX_VALUE, TICKET_BYTES, Ticket};
 use std::alloc::Global;
 
 /// Reads a value: its command, or the least of its faults.
 pub fn read(alloc: Global, value: &[u8]) -> Result<Command, CommandFault>
-    ensures ok { IfOk result (λ c. (o : Order) × (served_reading value.now ≡ Ok o) × StandsFor c o) }
-    ensures err { IfErr result (λ e. e ≢ CommandFault.OutOfMemory → served_reading value.now ≡ Err e) }
+    ensures ok { IfOk result (λ c. (o : Order) × (value_reading value.now ≡ Ok o) × StandsFor c o) }
+    ensures err { IfErr result (λ e. e ≢ CommandFault.OutOfMemory → value_reading value.now ≡ Err e) }
     ensures line { IfErr result (λ e. e ≢ CommandFault.OutOfMemory → HasLine e) }
 {
     if value.len() > MAX_VALUE {
@@ -49,29 +51,29 @@ fn ticket(value: &[u8]) -> Ticket
 }
 
 fn action_of(alloc: Global, text: &str) -> Result<Action, CommandFault>
-    ensures ok { IfOk result (λ a. IsActionOf a (served_text (served_row text.now))) }
-    ensures err { IfErr result (λ e. e ≢ CommandFault.OutOfMemory → served_text (served_row text.now) ≡ Err e) }
+    ensures ok { IfOk result (λ a. IsActionOf a (text_reading (row_of text.now))) }
+    ensures err { IfErr result (λ e. e ≢ CommandFault.OutOfMemory → text_reading (row_of text.now) ≡ Err e) }
     ensures line { IfErr result (λ e. e ≢ CommandFault.OutOfMemory → HasLine e) }
 {
     match row_in(text) {
         None => Err(CommandFault::Form),
         Some(Row::Template(name, body)) => template_put(alloc, name, body),
+        Some(Row::Partial(name, body)) => partial_put(alloc, name, body),
         Some(Row::Data(name, body)) => data_put(alloc, name, body),
         Some(Row::Route(path, template, data)) => route_put(alloc, path, template, data),
+        Some(Row::Remove(kind, name)) => removal(alloc, kind, name),
         Some(Row::Release) => Ok(Action::Release),
     }
 }
 
-fn template_put(alloc: Global, of: &str, body: &str) -> Result<Action, CommandFault>
-    ensures ok { IfOk result (λ a. IsActionOf a (served_action (template_row of.now body.now))) }
-    ensures err { IfErr result (λ e. e ≢ CommandFault.OutOfMemory → served_action (template_row of.now body.now) ≡ Err e) }
+/// The template of a text that is put.
+fn parsed(alloc: Global, body: &str) -> Result<Template, CommandFault>
+    ensures ok { IfOk result (λ t. IsTemplateOf t body.now) }
+    ensures err { IfErr result (λ e. e ≢ CommandFault.OutOfMemory → (f : TemplateFault) × (tree_of body.now ≡ Err f) × (e ≡ CommandFault.Template f)) }
     ensures line { IfErr result (λ e. e ≢ CommandFault.OutOfMemory → HasLine e) }
 {
-    if !name(of) {
-        return Err(CommandFault::Name);
-    }
     match parse(alloc, body) {
-        Ok(template) => Ok(Action::PutTemplate(String::from_str(alloc, of)?, template)),
+        Ok(template) => Ok(template),
         Err(fault) => match fault.kind {
             FaultKind::OutOfMemory => Err(CommandFault::OutOfMemory),
             _ => Err(CommandFault::Template(fault)),
@@ -79,9 +81,37 @@ fn template_put(alloc: Global, of: &str, body: &str) -> Result<Action, CommandFa
     }
 }
 
+fn template_put(alloc: Global, of: &str, body: &str) -> Result<Action, CommandFault>
+    ensures ok { IfOk result (λ a. IsActionOf a (row_reading (template_row of.now body.now))) }
+    ensures err { IfErr result (λ e. e ≢ CommandFault.OutOfMemory → row_reading (template_row of.now body.now) ≡ Err e) }
+    ensures line { IfErr result (λ e. e ≢ CommandFault.OutOfMemory → HasLine e) }
+{
+    if !name(of) {
+        return Err(CommandFault::Name);
+    }
+    match parsed(alloc, body) {
+        Ok(template) => Ok(Action::PutTemplate(String::from_str(alloc, of)?, template)),
+        Err(fault) => Err(fault),
+    }
+}
+
+fn partial_put(alloc: Global, of: &str, body: &str) -> Result<Action, CommandFault>
+    ensures ok { IfOk result (λ a. IsActionOf a (row_reading (partial_row of.now body.now))) }
+    ensures err { IfErr result (λ e. e ≢ CommandFault.OutOfMemory → row_reading (partial_row of.now body.now) ≡ Err e) }
+    ensures line { IfErr result (λ e. e ≢ CommandFault.OutOfMemory → HasLine e) }
+{
+    if !name(of) {
+        return Err(CommandFault::Name);
+    }
+    match parsed(alloc, body) {
+        Ok(template) => Ok(Action::PutPartial(String::from_str(alloc, of)?, template)),
+        Err(fault) => Err(fault),
+    }
+}
+
 fn data_put(alloc: Global, of: &str, body: &str) -> Result<Action, CommandFault>
-    ensures ok { IfOk result (λ a. IsActionOf a (served_action (data_row of.now body.now))) }
-    ensures err { IfErr result (λ e. e ≢ CommandFault.OutOfMemory → served_action (data_row of.now body.now) ≡ Err e) }
+    ensures ok { IfOk result (λ a. IsActionOf a (row_reading (data_row of.now body.now))) }
+    ensures err { IfErr result (λ e. e ≢ CommandFault.OutOfMemory → row_reading (data_row of.now body.now) ≡ Err e) }
     ensures line { IfErr result (λ e. e ≢ CommandFault.OutOfMemory → HasLine e) }
 {
     if !name(of) {
@@ -100,8 +130,8 @@ fn route_put(
     template: &str,
     page_data: &str,
 ) -> Result<Action, CommandFault>
-    ensures ok { IfOk result (λ a. IsActionOf a (served_action (route_row at.now template.now page_data.now))) }
-    ensures err { IfErr result (λ e. e ≢ CommandFault.OutOfMemory → served_action (route_row at.now template.now page_data.now) ≡ Err e) }
+    ensures ok { IfOk result (λ a. IsActionOf a (row_reading (route_row at.now template.now page_data.now))) }
+    ensures err { IfErr result (λ e. e ≢ CommandFault.OutOfMemory → row_reading (route_row at.now template.now page_data.now) ≡ Err e) }
     ensures line { IfErr result (λ e. e ≢ CommandFault.OutOfMemory → HasLine e) }
 {
     if !(name(template) && name(page_data)) {
@@ -115,4 +145,47 @@ fn route_put(
         String::from_str(alloc, template)?,
         String::from_str(alloc, page_data)?,
     ))
+}
+
+fn good_name(of: &str) -> Result<(), CommandFault>
+    ensures { result ≡ (if is_name of.now then Ok tt else Err CommandFault.Name) }
+{
+    if name(of) {
+        Ok(())
+    } else {
+        Err(CommandFault::Name)
+    }
+}
+
+fn good_path(at: &str) -> Result<(), CommandFault>
+    ensures { result ≡ (if is_path at.now then Ok tt else Err CommandFault.Path) }
+{
+    if path(at) {
+        Ok(())
+    } else {
+        Err(CommandFault::Path)
+    }
+}
+
+/// What is wrong with what a remove names: a name, or the path of a route.
+fn removable(kind: Kind, of: &str) -> Result<(), CommandFault>
+    ensures { result ≡ (if is_removable (kind_view kind) of.now then Ok tt else Err (wrong_remove (kind_view kind))) }
+{
+    match kind {
+        Kind::Template => good_name(of),
+        Kind::Partial => good_name(of),
+        Kind::Data => good_name(of),
+        Kind::Route => good_path(of),
+    }
+}
+
+fn removal(alloc: Global, kind: Kind, of: &str) -> Result<Action, CommandFault>
+    ensures ok { IfOk result (λ a. IsActionOf a (row_reading (remove_row (kind_view kind) of.now))) }
+    ensures err { IfErr result (λ e. e ≢ CommandFault.OutOfMemory → row_reading (remove_row (kind_view kind) of.now) ≡ Err e) }
+    ensures line { IfErr result (λ e. e ≢ CommandFault.OutOfMemory → HasLine e) }
+{
+    match removable(kind, of) {
+        Ok(()) => Ok(Action::Remove(kind, String::from_str(alloc, of)?)),
+        Err(fault) => Err(fault),
+    }
 }

@@ -1,15 +1,18 @@
-ghost use Rattle.std.specs.Prelude.{◌≡◌, ◌<◌, option_map, codes, Some, None};
+ghost use Rattle.std.specs.Prelude.{◌≡◌, ◌<◌, ◌++◌, ◌∷◌, [], option_map, codes, Some, None};
 ghost use Rattle.command.specs.Cuts.{after_front, cut_at};
-ghost use Rattle.command.specs.Rows.{is_word, named, route_of, release_of};
-ghost use Rattle.command.specs.NotYet.{served_row};
-ghost use Rattle.command.specs.View.{row_view, pair_view};
+ghost use Rattle.command.specs.Rows.{is_word, named, kind_word, remove_of, removes_of, route_of, release_of, row_of};
+ghost use Rattle.command.specs.View.{kind_view, row_view, pair_view};
+
+use crate::commands::Kind;
 
 /// A command text by its row of the table: the words of its head that vary, and what follows the head.
 #[derive(Clone, Copy)]
 pub(crate) enum Row<'a> {
     Template(&'a str, &'a str),
+    Partial(&'a str, &'a str),
     Data(&'a str, &'a str),
     Route(&'a str, &'a str, &'a str),
+    Remove(Kind, &'a str),
     Release,
 }
 
@@ -65,9 +68,32 @@ fn release(text: &str) -> Option<Row<'_>>
     }
 }
 
-/// The row of a text, among those that are served.
+/// What stands before the name in a remove of that kind.
+fn remove_front(kind: Kind) -> &'static str
+    ensures { result.now ≡ codes "remove " ++ (kind_word (kind_view kind) ++ (32 ∷ [])) }
+{
+    match kind {
+        Kind::Template => "remove template ",
+        Kind::Partial => "remove partial ",
+        Kind::Data => "remove data ",
+        Kind::Route => "remove route ",
+    }
+}
+
+fn remove(text: &str, kind: Kind) -> Option<Row<'_>>
+    ensures { option_map row_view result ≡ remove_of (kind_view kind) text.now }
+{
+    let (name, after) = named(text, remove_front(kind))?;
+    if after.is_empty() {
+        Some(Row::Remove(kind, name))
+    } else {
+        None
+    }
+}
+
+/// The row that a text spells.
 pub(crate) fn row_in(text: &str) -> Option<Row<'_>>
-    ensures { option_map row_view result ≡ served_row text.now }
+    ensures { option_map row_view result ≡ row_of text.now }
 {
     if let Some((name, body)) = named(text, "put template ") {
         return Some(Row::Template(name, body));
@@ -78,5 +104,27 @@ pub(crate) fn row_in(text: &str) -> Option<Row<'_>>
     if let Some(row) = route(text) {
         return Some(row);
     }
-    release(text)
+    if let Some(row) = release(text) {
+        return Some(row);
+    }
+    if let Some((name, body)) = named(text, "put partial ") {
+        return Some(Row::Partial(name, body));
+    }
+    removed(text)
+}
+
+/// The row of a remove of any kind.
+fn removed(text: &str) -> Option<Row<'_>>
+    ensures { option_map row_view result ≡ removes_of text.now }
+{
+    if let Some(row) = remove(text, Kind::Template) {
+        return Some(row);
+    }
+    if let Some(row) = remove(text, Kind::Partial) {
+        return Some(row);
+    }
+    if let Some(row) = remove(text, Kind::Data) {
+        return Some(row);
+    }
+    remove(text, Kind::Route)
 }

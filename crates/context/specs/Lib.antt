@@ -1,6 +1,5 @@
 pub mod Whole
 pub mod View
 pub mod Faults
-pub mod NotYet
 pub mod LookUp
 pub mod Stack

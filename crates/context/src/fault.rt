@@ -11,8 +11,6 @@ pub enum DataFault {
     NotJson,
     #[error("a number is not whole")]
     NotWhole,
-    #[error("data of this form is not served yet")]
-    NotYet,
     #[error("out of memory")]
     OutOfMemory,
 }
@@ -25,7 +23,6 @@ impl DataFault {
         match self {
             DataFault::NotJson => "1 NotJson",
             DataFault::NotWhole => "2 NotWhole",
-            DataFault::NotYet => "4 NotYet",
             DataFault::OutOfMemory => "OutOfMemory",
         }
     }

@@ -1,11 +1,9 @@
 ghost use Rattle.std.specs.Prelude.{◌≡◌, ◌≢◌, ◌⊎◌, Some, None, IfOk, IsErrOf, IfErr};
 ghost use Rattle.serde_json.specs.View.{view, items_view as json_items, members_view as json_members};
 ghost use Rattle.context.specs.Whole.{whole, whole_items, whole_members, data_reading};
-ghost use Rattle.context.specs.NotYet.{or_not_yet};
 ghost use Rattle.context.specs.View.{data_view, items_view, members_view};
 
 use crate::fault::DataFault;
-use crate::flat::flat;
 use crate::tree::Data;
 use serde_json::Value;
 use std::alloc::Global;
@@ -14,29 +12,17 @@ use std::collections::BTreeMap;
 impl Data {
     /// Reads whole data from the bytes of a JSON text (RFC 8259). Of equal keys the last counts.
     pub fn from_json(alloc: Global, bytes: &[u8]) -> Result<Data, DataFault>
-        ensures ok { IfOk result (λ d. or_not_yet (data_reading bytes.now) ≡ Ok (data_view d)) }
-        ensures err { IfErr result (λ e. e ≢ DataFault.OutOfMemory → or_not_yet (data_reading bytes.now) ≡ Err e) }
+        ensures ok { IfOk result (λ d. data_reading bytes.now ≡ Ok (data_view d)) }
+        ensures err { IfErr result (λ e. e ≢ DataFault.OutOfMemory → data_reading bytes.now ≡ Err e) }
     {
-        let data = any_data(alloc, bytes)?;
-        if flat(&data) {
-            Ok(data)
-        } else {
-            Err(DataFault::NotYet)
+        match Value::from_slice(alloc, bytes) {
+            Ok(value) => data_of(alloc, &value),
+            Err(e) => if e.is_memory() {
+                Err(DataFault::OutOfMemory)
+            } else {
+                Err(DataFault::NotJson)
+            },
         }
-    }
-}
-
-fn any_data(alloc: Global, bytes: &[u8]) -> Result<Data, DataFault>
-    ensures ok { IfOk result (λ d. data_reading bytes.now ≡ Ok (data_view d)) }
-    ensures err { IfErr result (λ e. e ≢ DataFault.OutOfMemory → data_reading bytes.now ≡ Err e) }
-{
-    match Value::from_slice(alloc, bytes) {
-        Ok(value) => data_of(alloc, &value),
-        Err(e) => if e.is_memory() {
-            Err(DataFault::OutOfMemory)
-        } else {
-            Err(DataFault::NotJson)
-        },
     }
 }
 

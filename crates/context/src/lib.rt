@@ -2,11 +2,10 @@
 #![tactic(auto)]
 
 mod fault;
-mod flat;
 mod json;
 mod look_up;
 mod tree;
 
 pub use fault::DataFault;
 pub use look_up::{Frame, resolve};
-pub use tree::Data;
+pub use tree::{Data, items, truthy};

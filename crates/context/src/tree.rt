@@ -1,9 +1,10 @@
-ghost use Rattle.std.specs.Prelude.{◌≡◌, option_map};
-ghost use Rattle.context.specs.Whole.{hash};
-ghost use Rattle.context.specs.View.{data_view, members_view};
-ghost use Rattle.context.specs.LookUp.{member_of};
+ghost use Rattle.std.specs.Prelude.{◌≡◌, option_map, map};
+ghost use Rattle.context.specs.Whole.{list, hash};
+ghost use Rattle.context.specs.View.{data_view, items_view, members_view};
+ghost use Rattle.context.specs.LookUp.{member_of, is_truthy, items};
 
 use std::collections::BTreeMap;
+use std::slice;
 
 /// A value of a page's data.
 #[derive(Drop)]
@@ -32,4 +33,39 @@ fn member_among<'a>(members: &'a BTreeMap<String, Data>, key: &str) -> Option<&'
     ensures { option_map (λ v. data_view v.now) result ≡ member_of key.now (hash (members_view members.now.entries)) }
 {
     members.get(key)
+}
+
+/// Falsey are null, false and the empty list.
+pub fn truthy(value: &Data) -> bool
+    ensures { result ≡ is_truthy (data_view value.now) }
+{
+    match value {
+        Data::Null => false,
+        Data::Bool(b) => *b,
+        Data::List(list) => has_items(list),
+        _ => true,
+    }
+}
+
+fn has_items(elements: &[Data]) -> bool
+    ensures { result ≡ is_truthy (list (items_view elements.now)) }
+{
+    !elements.is_empty()
+}
+
+/// A list's elements, another truthy value itself, and nothing of a falsey one.
+pub fn items(value: &Data) -> &[Data]
+    ensures { map data_view result.now ≡ items (data_view value.now) }
+{
+    match value {
+        Data::List(list) => elements_of(list),
+        Data::Null | Data::Bool(false) => &[],
+        _ => slice::from_ref(value),
+    }
+}
+
+fn elements_of(elements: &[Data]) -> &[Data]
+    ensures { map data_view result.now ≡ items (list (items_view elements.now)) }
+{
+    elements
 }

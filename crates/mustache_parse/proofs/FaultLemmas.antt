@@ -133,7 +133,7 @@ wrong_name t o above other = rw (differs t.inside o.name other, ending)
 no_room : (name : List ℕ) (place : ℕ) (above : List Open) → length above ≡ 64 → opening name place above ≡ Err (record { kind = TooDeep; place = place })
 no_room name place above full = let e : nat_lt (length above) 64 ≡ false = grind (arith, nat_tests) in rw (e, opening)
 
-outermost_left : (within : List Open) (o : Open) → left_open (within ++ o ∷ []) ≡ Some (record { kind = UnclosedSection; place = o.place })
+pub outermost_left : (within : List Open) (o : Open) → left_open (within ++ o ∷ []) ≡ Some (record { kind = UnclosedSection; place = o.place })
 outermost_left [] o = refl
 outermost_left (p ∷ []) o = refl
 outermost_left (p ∷ q ∷ within) o = outermost_left (q ∷ within) o

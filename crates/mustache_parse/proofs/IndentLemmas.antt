@@ -2,21 +2,11 @@
 use Rattle.std.proofs.Common.{◌≡◌, ℕ, zero, suc, Bool, true, false, ◌&&◌, List, [], ◌∷◌, ◌++◌, length, drop, nat_eq, Option, Some, None, refl, sym, ap, subst, ◌∙◌, arith, append_assoc, ⊎_elim}
 use Rattle.std.specs.List.{starts_with, flat_map, onto_first}
 use Rattle.mustache_parse.specs.Indent.{lines, indented}
+use Rattle.mustache_parse.specs.Indenting.{spread, after_each}
 use Rattle.std.proofs.lemmas.Bool.{cases_Bool, false≢true}
 use Rattle.std.proofs.lemmas.Bool.Decides.{nat_tests}
 use Rattle.mustache_scan.specs.Cutting.{cut, behind, is_padding, is_blank}
 use Rattle.mustache_scan.proofs.CutLemmas.{cut_here, cut_past, cut_nil}
-
--- `w` after each newline that doesn't end the text
-abbrev pub spread : List ℕ → List ℕ → List ℕ
-spread w [] = []
-spread w (b ∷ []) = b ∷ []
-spread w (b ∷ c ∷ bs) = elim (nat_eq b 10) [ true ↦ b ∷ (w ++ spread w (c ∷ bs)) | false ↦ b ∷ spread w (c ∷ bs) ]
-
--- `w` after each newline
-abbrev pub after_each : List ℕ → List ℕ → List ℕ
-after_each w [] = []
-after_each w (b ∷ bs) = elim (nat_eq b 10) [ true ↦ b ∷ (w ++ after_each w bs) | false ↦ b ∷ after_each w bs ]
 
 abbrev pub moved : List ℕ → Option (List ℕ × List ℕ) → Option (List ℕ × List ℕ)
 moved w None = None
@@ -36,10 +26,10 @@ abbrev pub behind_all : List ℕ → Option (List ℕ × List ℕ) → Option (L
 behind_all [] r = r
 behind_all (b ∷ bs) r = behind b (behind_all bs r)
 
-blank_padding : (b : ℕ) → is_blank b ≡ true → is_padding b ≡ true
+pub blank_padding : (b : ℕ) → is_blank b ≡ true → is_padding b ≡ true
 blank_padding b h = grind (arith, nat_tests)
 
-newline_padding : (b : ℕ) → nat_eq b 10 ≡ true → is_padding b ≡ true
+pub newline_padding : (b : ℕ) → nat_eq b 10 ≡ true → is_padding b ≡ true
 newline_padding b h = grind (arith, nat_tests)
 
 head_differs : (p b : ℕ) → is_padding p ≡ false → is_padding b ≡ true → nat_eq p b ≡ false
@@ -50,27 +40,27 @@ misses : (p : ℕ) (ps : List ℕ) (b : ℕ) (t : List ℕ) → is_padding p ≡
 misses p ps b t x y = rw (head_differs p b x y) refl
 
 -- padding before a text moves a cut on
-past_blanks : (p : ℕ) (ps w t : List ℕ) → is_padding p ≡ false → AllAre is_blank w → cut (p ∷ ps) (w ++ t) ≡ behind_all w (cut (p ∷ ps) t)
+pub past_blanks : (p : ℕ) (ps w t : List ℕ) → is_padding p ≡ false → AllAre is_blank w → cut (p ∷ ps) (w ++ t) ≡ behind_all w (cut (p ∷ ps) t)
 past_blanks p ps [] t x h = refl
 past_blanks p ps (b ∷ w) t x h = cut_past (p ∷ ps) b (w ++ t) (misses p ps b (w ++ t) x (blank_padding b h.0)) ∙ ap (behind b) (past_blanks p ps w t x h.1)
 
-spread_newline : (w : List ℕ) (b c : ℕ) (bs : List ℕ) → nat_eq b 10 ≡ true → spread w (b ∷ c ∷ bs) ≡ b ∷ (w ++ spread w (c ∷ bs))
+pub spread_newline : (w : List ℕ) (b c : ℕ) (bs : List ℕ) → nat_eq b 10 ≡ true → spread w (b ∷ c ∷ bs) ≡ b ∷ (w ++ spread w (c ∷ bs))
 spread_newline w b c bs h = rw (h, spread)
 
-spread_other : (w : List ℕ) (b c : ℕ) (bs : List ℕ) → nat_eq b 10 ≡ false → spread w (b ∷ c ∷ bs) ≡ b ∷ spread w (c ∷ bs)
+pub spread_other : (w : List ℕ) (b c : ℕ) (bs : List ℕ) → nat_eq b 10 ≡ false → spread w (b ∷ c ∷ bs) ≡ b ∷ spread w (c ∷ bs)
 spread_other w b c bs h = rw (h, spread)
 
-after_each_newline : (w : List ℕ) (b : ℕ) (bs : List ℕ) → nat_eq b 10 ≡ true → after_each w (b ∷ bs) ≡ b ∷ (w ++ after_each w bs)
+pub after_each_newline : (w : List ℕ) (b : ℕ) (bs : List ℕ) → nat_eq b 10 ≡ true → after_each w (b ∷ bs) ≡ b ∷ (w ++ after_each w bs)
 after_each_newline w b bs h = rw (h, after_each)
 
-after_each_other : (w : List ℕ) (b : ℕ) (bs : List ℕ) → nat_eq b 10 ≡ false → after_each w (b ∷ bs) ≡ b ∷ after_each w bs
+pub after_each_other : (w : List ℕ) (b : ℕ) (bs : List ℕ) → nat_eq b 10 ≡ false → after_each w (b ∷ bs) ≡ b ∷ after_each w bs
 after_each_other w b bs h = rw (h, after_each)
 
-behind_all-none : (w : List ℕ) → behind_all w None ≡ None
+pub behind_all-none : (w : List ℕ) → behind_all w None ≡ None
 behind_all-none [] = refl
 behind_all-none (b ∷ w) = ap (behind b) (behind_all-none w)
 
-behind_all-some : (w x y : List ℕ) → behind_all w (Some (x, y)) ≡ Some (w ++ x, y)
+pub behind_all-some : (w x y : List ℕ) → behind_all w (Some (x, y)) ≡ Some (w ++ x, y)
 behind_all-some [] x y = refl
 behind_all-some (b ∷ w) x y = ap (behind b) (behind_all-some w x y)
 
@@ -96,7 +86,7 @@ drop_none : (n : ℕ) → drop {A = ℕ} n [] ≡ []
 drop_none zero = refl
 drop_none (suc n) = refl
 
-both : (a b : Bool) → (a && b) ≡ true → (a ≡ true) × (b ≡ true)
+pub both : (a b : Bool) → (a && b) ≡ true → (a ≡ true) × (b ≡ true)
 both true b h = (refl, h)
 both false b h = absurd (false≢true h)
 

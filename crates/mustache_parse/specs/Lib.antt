@@ -3,6 +3,8 @@ pub mod Makes
 pub mod Nesting
 pub mod Indent
 pub mod View
+pub mod Stack
 pub mod Template
-pub mod Served
 pub mod Laws
+pub mod Indenting
+pub mod BlankIndents

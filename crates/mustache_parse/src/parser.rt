@@ -1,5 +1,4 @@
-ghost use Rattle.std.specs.Prelude.{◌≡◌, ◌≢◌, IfOk, IfErr, None, Err};
-ghost use Rattle.mustache_scan.specs.NotYet.{not_yet, or_not_yet};
+ghost use Rattle.std.specs.Prelude.{◌≡◌, ◌≢◌, IfOk, IfErr, Err};
 ghost use Rattle.mustache_scan.specs.declared.fault.FaultKind.TheVariants.{OutOfMemory};
 ghost use Rattle.mustache_parse.specs.Template.{IsTemplateOf};
 ghost use Rattle.mustache_parse.specs.Tree.{tree_of};
@@ -11,8 +10,8 @@ use std::alloc::Global;
 
 /// Reads a template: its tree, or what is wrong with it.
 pub fn parse(alloc: Global, source: &str) -> Result<Template, TemplateFault>
-    ensures ok { IfOk result (λ t. IsTemplateOf t source.now × (not_yet source.now ≡ None)) }
-    ensures fault { IfErr result (λ f. f.kind ≢ OutOfMemory → or_not_yet (not_yet source.now) (tree_of source.now) ≡ Err f) }
+    ensures ok { IfOk result (λ t. IsTemplateOf t source.now) }
+    ensures fault { IfErr result (λ f. f.kind ≢ OutOfMemory → tree_of source.now ≡ Err f) }
 {
     let tokens = scan(alloc, source)?;
     let nodes = nodes_of(alloc, &tokens)?;

@@ -2,6 +2,8 @@ ghost use Rattle.std.specs.Prelude.{◌≡◌, Ok, string_bytes};
 ghost use Rattle.mustache_parse.specs.Tree.{tree_of};
 ghost use Rattle.mustache_parse.specs.View.{tree_view};
 ghost use Rattle.mustache_parse.specs.Template.{TemplateSeen, IsTemplateOf};
+ghost use Rattle.mustache_parse.specs.contracts.node.Node as node_type;
+ghost use Rattle.std.specs.Coded.{codes};
 
 use crate::node::Node;
 use std::marker::Model;
@@ -15,6 +17,8 @@ pub struct Template {
 
 impl Model for Template {
     ghost Value = { TemplateSeen };
+
+    ghost coded = { Prim.hlevel (codes, node_type.the_row.coded) };
 
     ghost view = { λ t. record { source = string_bytes t.source; nodes = t.nodes.items } };
 

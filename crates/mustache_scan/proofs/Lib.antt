@@ -1,10 +1,13 @@
 pub mod CutLemmas
 pub mod FirstCutLemmas
+pub mod KeptLemmas
+pub mod LineLemmas
+pub mod LoneLemmas
 pub mod OutcomeLemmas
 pub mod PaddingLemmas
 pub mod ProgressLemmas
 pub mod ReadingLemmas
-pub mod SliceLemmas
+pub mod SignLemmas
 pub mod StepLemmas
 pub mod TagLemmas
-pub mod VariableLemmas
+pub mod TakenLemmas

@@ -1,136 +1,160 @@
--- What a text read so far is scanned as: its tokens at the end, or the fault of the next tag; and where a tag is not served yet.
-use Rattle.std.proofs.Common.{◌≡◌, ℕ, ◌+◌, ◌-◌, Bool, true, false, not, ◌&&◌, ◌||◌, if◌then◌else◌, cond, List, [], ◌∷◌, ◌++◌, length, drop, Option, Some, None, Ok, Err, refl, sym, ap, subst, ◌∙◌, append-nil}
+-- What a text read so far is scanned as: the fault of the next tag, its tokens at the end, or what the rest gives.
+use Rattle.std.proofs.Common.{◌≡◌, ℕ, ◌+◌, ◌-◌, ◌<◌, ◌≤◌, true, ◌||◌, List, [], ◌∷◌, ◌++◌, length, drop, max, nat_lt, Option, Some, None, Ok, Err, refl, sym, ap, subst, ◌∙◌, arith, append-nil, length-append, slice_range}
 use Rattle.std.proofs.Math.Seq.{drop-append_seam}
-use Rattle.std.proofs.lemmas.Bool.{false≢true}
-use Rattle.std.proofs.lemmas.List.Sums.{take_while-cons}
-use Rattle.std.specs.List.{list_all, take_while, flat_map}
-use Rattle.std.specs.Prelude.{is_some}
-use Rattle.mustache_scan.specs.Cutting.{cut, stripped, unpadded}
-use Rattle.mustache_scan.specs.Names.{braces}
-use Rattle.mustache_scan.specs.Reading.{Opened, opened_as, signed, tag_in, tag_after, kind_of_sign, partner, wrong_inside, name_of, Piece, Pieces, with_pieces, after_tag, after_opening, reading, text_of, ends_here}
-use Rattle.mustache_scan.specs.Standalone.{TokenSeen, placed, tokens_at, lone, lone_lines_of, tokens_of, outcome, scanned, may_stand_alone}
-use Rattle.mustache_scan.specs.NotYet.{is_plain, is_plain_tag, has_dot, has_sign, has_end_and_dot, is_tag_beyond, is_beyond, not_yet, or_not_yet}
-use Rattle.mustache_scan.specs.Progress.{pieces_of, IsReadTo, wrong_tag, tag_fault}
-use Rattle.mustache_scan.specs.declared.token.TokenKind.{TokenKind}
-use Rattle.mustache_scan.specs.declared.token.TokenKind.TheVariants.{Literal, Variable, Raw, Section, Inverted, End, Comment, Partial, Delimiters}
+use Rattle.std.proofs.lemmas.Grind.{flat_map-append}
+use Rattle.std.proofs.lemmas.List.Elements.{filter_map-append}
+use Rattle.std.proofs.lemmas.Str.{IsCharBoundary-start, IsCharBoundary-from_rest}
+use Rattle.std.specs.List.{flat_map}
+use Rattle.std.specs.Str.{IsUtf8, IsCharBoundary}
+use Rattle.mustache_scan.specs.Cutting.{cut, stripped}
+use Rattle.mustache_scan.specs.Names.{Pair, braces, is_sequence}
+use Rattle.mustache_scan.specs.Progress.{taken, literal_at, tag_at, or_wrong, checked}
+use Rattle.mustache_scan.specs.Reading.{Opened, tag_after, wrong_inside, delimiters_after, Pieces, with_pieces, literal, ends_here, after_tag, after_opening, reading, text_of}
+use Rattle.mustache_scan.specs.Slices.{AreSlices}
+use Rattle.mustache_scan.specs.Standalone.{TokenSeen, placed, lone, lone_lines_of, is_covered, tokens_at, tokens_of, outcome, scanned}
 use Rattle.mustache_scan.specs.declared.fault.FaultKind.{FaultKind}
-use Rattle.mustache_scan.specs.declared.fault.FaultKind.TheVariants.{NotYet}
-use Rattle.mustache_scan.proofs.ProgressLemmas.{reading_nil, place_is}
-use Rattle.mustache_scan.proofs.TagLemmas.{at_tag}
-
-both : (a b : Bool) → (a && b) ≡ true → (a ≡ true) × (b ≡ true)
-both true b h = (refl, h)
-both false b h = absurd (false≢true h)
-
--- plain tags never stand alone
-plain_stays : (kind : TokenKind) (inside : List ℕ) → is_plain_tag kind inside ≡ true → may_stand_alone kind ≡ false
-plain_stays Literal inside h = refl
-plain_stays Variable inside h = refl
-plain_stays _ inside h = absurd (false≢true h)
-
-no_lone : (t : List ℕ) (at : ℕ) (ps : List Piece) → list_all is_plain ps ≡ true → lone_lines_of t (placed at ps) ≡ []
-no_lone t at [] h = refl
-no_lone t at (p ∷ ps) h =
-    let parts = both (is_plain p) (list_all is_plain ps) h in
-    rw (plain_stays p.kind p.inside parts.0, lone) (no_lone t (at + length p.bytes) ps parts.1)
-
--- the plain pieces at the front
-plain_front : (ps qs : List Piece) → list_all is_plain ps ≡ true → take_while is_plain qs ≡ [] → take_while is_plain (ps ++ qs) ≡ ps
-plain_front [] qs h stop = stop
-plain_front (p ∷ ps) qs h stop =
-    let parts = both (is_plain p) (list_all is_plain ps) h in
-    take_while-cons is_plain p (ps ++ qs) ∙ ap (λ c. cond c (p ∷ take_while is_plain (ps ++ qs)) []) parts.0 ∙ ap (λ l. p ∷ l) (plain_front ps qs parts.1 stop)
-
-not_yet_is : (t : List ℕ) → not_yet t ≡ (let front = text_of (take_while is_plain (reading braces t).pieces) in if is_beyond (drop (length front) t) then Some (length front) else None)
-unfolding not_yet
-not_yet_is t = refl
+use Rattle.mustache_scan.specs.declared.fault.FaultKind.TheVariants.{UnclosedTag}
+use Rattle.mustache_scan.proofs.KeptLemmas.{TakesEnds, lt_false, le_false}
+use Rattle.mustache_scan.proofs.ProgressLemmas.{IsReadTo, covered-append, placed_from, text-append, literal_text, literal_lines, literal_between, slices-append, literal_sliced}
+use Rattle.mustache_scan.proofs.StepLemmas.{place, reads_on, order, seam_after, goes_on}
+use Rattle.mustache_scan.proofs.TagLemmas.{at_cut}
+use Rattle.mustache_scan.proofs.TakenLemmas.{sequence_opens}
 
 scanned_is : (t : List ℕ) → scanned t ≡ outcome t (reading braces t) (reading braces t).wrong
 unfolding scanned
 scanned_is t = refl
 
-module _ (t rest : List ℕ) (xs : List TokenSeen) (so_far : IsReadTo t rest xs) where
-  -- a tag that is not served yet comes next, or none at all
-  not_yet_here : take_while is_plain (reading braces rest).pieces ≡ [] → not_yet t ≡ (if is_beyond rest then Some (length (text_of (pieces_of xs))) else None)
-  not_yet_here stop =
-      let ps = pieces_of xs in
-      let front : take_while is_plain (reading braces t).pieces ≡ ps = ap (λ (r : Pieces). take_while is_plain r.pieces) (sym so_far.read) ∙ plain_front ps (reading braces rest).pieces so_far.plain stop in
-      let left : drop (length (text_of ps)) t ≡ rest = ap (drop (length (text_of ps))) (sym so_far.text) ∙ drop-append_seam (text_of ps) rest in
-      not_yet_is t ∙ ap (λ ps. if is_beyond (drop (length (text_of ps)) t) then Some (length (text_of ps)) else None) front
-      ∙ ap (λ l. if is_beyond l then Some (length (text_of ps)) else None) left
+-- nothing is read at first
+pub begins : (t : List ℕ) → IsUtf8 t → IsReadTo t t braces 0 []
+begins t u = record {
+  pieces = [];
+  text = refl;
+  read = refl;
+  covers = λ k le. sym (lt_false k 0 (omega arith));
+  settled = λ ls later. refl;
+  past = omega arith;
+  seam = IsCharBoundary-start t u;
+  slices = tt;
+  ended = omega arith;
+}
 
-  scanned_here : (r : Pieces) → reading braces rest ≡ r → scanned t ≡ outcome t (with_pieces (pieces_of xs) r) r.wrong
-  scanned_here r is = scanned_is t ∙ ap (λ (r : Pieces). outcome t r r.wrong) (sym so_far.read ∙ ap (with_pieces (pieces_of xs)) is)
+-- a tag that is right, without the padding round its inside
+record IsRight (r : Option Opened) (v : Opened) : Type 0 where
+  pub tag : Opened
+  pub opened : r ≡ Some tag
+  pub right : wrong_inside tag.kind (stripped tag.inside) ≡ None
+  pub same : record { kind = tag.kind; inside = stripped tag.inside; rest = tag.rest } ≡ v
 
--- at the end the tokens are the text's
-pub ends_well : (t : List ℕ) (xs : List TokenSeen) → IsReadTo t [] xs → or_not_yet (not_yet t) (scanned t) ≡ Ok xs
-ends_well t xs h =
-    let ps = pieces_of xs in
-    let served : not_yet t ≡ None = not_yet_here t [] xs h (ap (λ (r : Pieces). take_while is_plain r.pieces) reading_nil) in
-    let tokens : tokens_of t (placed 0 (ps ++ [])) ≡ xs =
-    ap (λ ps. tokens_of t (placed 0 ps)) (append-nil ps) ∙ ap (λ lines. flat_map (tokens_at t lines) (placed 0 ps)) (no_lone t 0 ps h.plain) ∙ h.tokens in
-    ap (λ o. or_not_yet o (scanned t)) served ∙ scanned_here t [] xs h (ends_here None) reading_nil ∙ ap (λ l. Ok l) tokens
+right_by : (o v : Opened) (w : Option FaultKind) → wrong_inside o.kind (stripped o.inside) ≡ w → or_wrong (record { kind = o.kind; inside = stripped o.inside; rest = o.rest }) w ≡ Ok v → IsRight (Some o) v
+right_by o v None is h = record { tag = o; opened = refl; right = is; same = cc }
+right_by o v (Some w) is h = absurd (cc)
 
--- a kind that a sign stands for is never plain
-module _ (kind : TokenKind) (inside : List ℕ) where
-  chosen : (c : Bool) (k : TokenKind) (others : Option TokenKind) → is_plain_tag k inside ≡ false → (others ≡ Some kind → is_plain_tag kind inside ≡ false) → (if c then Some k else others) ≡ Some kind → is_plain_tag kind inside ≡ false
-  chosen true k others here there h = let e : k ≡ kind = cc in subst (λ k. is_plain_tag k inside ≡ false) e here
-  chosen false k others here there h = there h
+is_right : (r : Option Opened) (v : Opened) → checked r ≡ Ok v → IsRight r v
+is_right None v h = absurd (cc)
+is_right (Some o) v h = right_by o v (wrong_inside o.kind (stripped o.inside)) refl h
 
-  none : None ≡ Some kind → is_plain_tag kind inside ≡ false
-  none h = absurd (cc)
+-- a tag that is wrong ends the reading
+wrong_by : (d : Pair) (after : List ℕ) (o : Opened) (kind : FaultKind) (w : Option FaultKind) → or_wrong (record { kind = o.kind; inside = stripped o.inside; rest = o.rest }) w ≡ Err kind
+    → after_tag reading d after o w ≡ ends_here (Some kind)
+wrong_by d after o kind None h = absurd (cc)
+wrong_by d after o kind (Some w) h = let e : w ≡ kind = cc in ap (λ k. ends_here (Some k)) e
 
-  sign_not_plain : (b : ℕ) → kind_of_sign b ≡ Some kind → is_plain_tag kind inside ≡ false
-  sign_not_plain b = chosen _ Raw _ refl (chosen _ Section _ refl (chosen _ Inverted _ refl (chosen _ End _ refl (chosen _ Comment _ refl (chosen _ Partial _ refl (chosen _ Delimiters _ refl none))))))
+is_wrong : (d : Pair) (after : List ℕ) (r : Option Opened) (kind : FaultKind) → checked r ≡ Err kind → after_opening reading d after r ≡ ends_here (Some kind)
+is_wrong d after None kind h = ap ends_here (let e : Some UnclosedTag ≡ Some kind = cc in e)
+is_wrong d after (Some o) kind h = wrong_by d after o kind (wrong_inside o.kind (stripped o.inside)) h
 
-opened_kind : (kind : TokenKind) (r : Option (List ℕ × List ℕ)) (o : Opened) → opened_as kind r ≡ Some o → kind ≡ o.kind
-opened_kind kind None o h = absurd (cc)
-opened_kind kind (Some (inside, rest)) o h = let e : record { kind = kind; inside = inside; rest = rest } ≡ o = cc in ap (λ (o : Opened). o.kind) e
+module _ (t rest : List ℕ) (d : Pair) (from : ℕ) (xs : List TokenSeen) (so_far : IsReadTo t rest d from xs) (opens : is_sequence d.opening ≡ true) where
+  lengths : length t ≡ length (text_of so_far.pieces) + length rest
+  lengths = sym (ap length so_far.text) ∙ length-append (text_of so_far.pieces) rest
 
--- a tag that is not served yet is no plain piece
-signed_beyond : (b : ℕ) (bs : List ℕ) (k : Option TokenKind) (o : Opened) → kind_of_sign b ≡ k → (is_some k || has_end_and_dot (signed braces.closing b bs k)) ≡ true → signed braces.closing b bs k ≡ Some o → is_plain_tag o.kind (name_of o.kind (stripped o.inside)) ≡ false
-signed_beyond b bs (Some kind) o is beyond h =
-    let e = opened_kind kind (cut (partner b ++ braces.closing) bs) o h in
-    sign_not_plain o.kind (name_of o.kind (stripped o.inside)) b (is ∙ ap (λ k. Some k) e)
-signed_beyond b bs None o is beyond h =
-    let e : Variable ≡ o.kind = opened_kind Variable (cut braces.closing (b ∷ bs)) o h in
-    let dot : has_dot (stripped o.inside) ≡ true = ap has_end_and_dot (sym h) ∙ beyond in
-    subst (λ k. is_plain_tag k (name_of k (stripped o.inside)) ≡ false) e (ap not dot)
+  scanned_here : (r : Pieces) → reading d rest ≡ r → scanned t ≡ outcome t (with_pieces so_far.pieces r) r.wrong
+  scanned_here r is = scanned_is t ∙ ap (λ (r : Pieces). outcome t r r.wrong) (sym so_far.read ∙ ap (with_pieces so_far.pieces) is)
 
-in_beyond : (u : List ℕ) (o : Opened) → (has_sign u || has_end_and_dot (tag_in braces.closing u)) ≡ true → tag_in braces.closing u ≡ Some o → is_plain_tag o.kind (name_of o.kind (stripped o.inside)) ≡ false
-in_beyond [] o beyond h = absurd (cc)
-in_beyond (b ∷ bs) o beyond h = signed_beyond b bs (kind_of_sign b) o refl beyond h
+  -- no tag follows
+  module _ (is : cut d.opening rest ≡ None) where
+    whole : t ≡ text_of so_far.pieces ++ (rest ++ [])
+    whole = sym so_far.text ∙ ap (λ l. text_of so_far.pieces ++ l) (sym (append-nil rest))
 
-module _ (after : List ℕ) where
-  stops_read : (o : Opened) (w : Option FaultKind) → is_plain_tag o.kind (name_of o.kind (stripped o.inside)) ≡ false → take_while is_plain (after_tag reading braces after o w).pieces ≡ []
-  stops_read o (Some w) beyond = refl
-  stops_read o None beyond = rw beyond
+    lines_all : lone_lines_of t (placed 0 (so_far.pieces ++ (literal rest ++ []))) ≡ lone_lines_of t (placed 0 so_far.pieces) ++ []
+    lines_all =
+        ap (λ ps. lone_lines_of t (placed 0 (so_far.pieces ++ ps))) (append-nil (literal rest)) ∙ ap (lone_lines_of t) (placed_from so_far.pieces (literal rest))
+        ∙ filter_map-append (lone t) (placed 0 so_far.pieces) (placed (length (text_of so_far.pieces)) (literal rest))
+        ∙ ap (λ l. lone_lines_of t (placed 0 so_far.pieces) ++ l) (literal_lines t (length (text_of so_far.pieces)) rest)
 
-  stops_beyond : (r : Option Opened) → tag_after braces.closing after ≡ r → is_tag_beyond after ≡ true → take_while is_plain (after_opening reading braces after r).pieces ≡ []
-  stops_beyond None is beyond = refl
-  stops_beyond (Some o) is beyond = stops_read o (wrong_inside o.kind (stripped o.inside)) (in_beyond (unpadded after) o beyond is)
+    takes : TakesEnds (lone_lines_of t (placed 0 so_far.pieces) ++ []) (length (text_of so_far.pieces)) (length (text_of so_far.pieces) + length rest) from (length t)
+    takes k low high =
+        covered-append (lone_lines_of t (placed 0 so_far.pieces)) [] k ∙ ap (λ c. c || is_covered [] k) (so_far.covers k low)
+        ∙ ap (λ c. nat_lt k from || c) (sym (le_false (length t) k (omega (arith, lengths))))
 
-  reads_fault : (r : Option Opened) (kind : FaultKind) → wrong_tag r ≡ Some kind → after_opening reading braces after r ≡ ends_here (Some kind)
-  reads_fault None kind h = ap ends_here h
-  reads_fault (Some o) kind h = ap (after_tag reading braces after o) h
+    tokens_all : tokens_of t (placed 0 (so_far.pieces ++ (literal rest ++ []))) ≡ xs ++ literal_at from (slice_range t from (length t))
+    tokens_all =
+        let lines = lone_lines_of t (placed 0 so_far.pieces) ++ [] in
+        ap (λ l. flat_map (tokens_at t l) (placed 0 (so_far.pieces ++ (literal rest ++ [])))) lines_all
+        ∙ ap (λ ps. flat_map (tokens_at t lines) (placed 0 (so_far.pieces ++ ps))) (append-nil (literal rest))
+        ∙ ap (flat_map (tokens_at t lines)) (placed_from so_far.pieces (literal rest))
+        ∙ flat_map-append (tokens_at t lines) (placed 0 so_far.pieces) (placed (length (text_of so_far.pieces)) (literal rest))
+        ∙ ap (λ l. l ++ flat_map (tokens_at t lines) (placed (length (text_of so_far.pieces)) (literal rest))) (so_far.settled [] (λ w k lt other le. refl))
+        ∙ ap (λ l. xs ++ l) (literal_between t lines (text_of so_far.pieces) rest [] from (length t) whole so_far.past (omega (arith, lengths)) takes)
 
-  module _ (t : List ℕ) (xs : List TokenSeen) (so_far : IsReadTo t (braces.opening ++ after) xs) (kind : FaultKind) where
-    -- a fault is at the place of its tag
-    at_place : or_not_yet (not_yet t) (scanned t) ≡ Err (record { kind = kind; place = length (text_of (pieces_of xs)) }) → or_not_yet (not_yet t) (scanned t) ≡ Err (record { kind = kind; place = length t - length (braces.opening ++ after) })
-    at_place h = h ∙ ap (λ n. Err (record { kind = kind; place = n })) (sym (place_is t (braces.opening ++ after) xs so_far))
+    pub ends_well : scanned t ≡ Ok (xs ++ literal_at from (slice_range t from (length t)))
+    ends_well = scanned_here (with_pieces (literal rest) (ends_here None)) (at_cut d rest None (sequence_opens d.opening opens) is) ∙ ap (λ l. Ok l) tokens_all
 
-    beyond_fault : (b : Bool) → is_tag_beyond after ≡ b → (if b then Some NotYet else wrong_tag (tag_after braces.closing after)) ≡ Some kind → or_not_yet (not_yet t) (scanned t) ≡ Err (record { kind = kind; place = length (text_of (pieces_of xs)) })
-    beyond_fault true is h =
-        let e : NotYet ≡ kind = cc in
-        let stop = ap (λ (r : Pieces). take_while is_plain r.pieces) (at_tag after) ∙ stops_beyond (tag_after braces.closing after) refl is in
-        ap (λ o. or_not_yet o (scanned t)) (not_yet_here t (braces.opening ++ after) xs so_far stop ∙ ap (λ b. if b then Some (length (text_of (pieces_of xs))) else None) is)
-        ∙ ap (λ k. Err (record { kind = k; place = length (text_of (pieces_of xs)) })) e
-    beyond_fault false is h =
-        let reads : reading braces (braces.opening ++ after) ≡ ends_here (Some kind) = at_tag after ∙ reads_fault (tag_after braces.closing after) kind h in
-        let stop = ap (λ (r : Pieces). take_while is_plain r.pieces) reads in
-        ap (λ o. or_not_yet o (scanned t)) (not_yet_here t (braces.opening ++ after) xs so_far stop ∙ ap (λ b. if b then Some (length (text_of (pieces_of xs))) else None) is)
-        ∙ scanned_here t (braces.opening ++ after) xs so_far (ends_here (Some kind)) reads
-        ∙ ap (λ ps. Err (record { kind = kind; place = length (text_of ps) })) (append-nil (pieces_of xs))
+    pub ends_sliced : AreSlices t 0 (xs ++ literal_at from (slice_range t from (length t)))
+    ends_sliced =
+        let ys : List TokenSeen = literal_at from (slice_range t from (length t)) in
+        slices-append t 0 (length (text_of so_far.pieces)) xs ys so_far.slices so_far.ended
+        (λ f le. subst (AreSlices t f) (append-nil ys) (literal_sliced t from (length t) (length t) [] f (omega arith) (omega (arith, so_far.past)) (omega (arith, lengths)) (omega arith) (λ g le'. tt)))
 
-    pub ends_in_fault : tag_fault after ≡ Some kind → or_not_yet (not_yet t) (scanned t) ≡ Err (record { kind = kind; place = length t - length (braces.opening ++ after) })
-    ends_in_fault h = at_place (beyond_fault (is_tag_beyond after) refl h)
+  -- a tag follows
+  module _ (before after : List ℕ) (is : cut d.opening rest ≡ Some (before, after)) where
+    at : place t rest d from xs so_far before after is opens ≡ length t - length rest + length before
+    at = omega (arith, lengths)
+
+    pub stops : (kind : FaultKind) → checked (tag_after d.closing after) ≡ Err kind → scanned t ≡ Err (record { kind = kind; place = length t - length rest + length before })
+    stops kind h =
+        scanned_here (with_pieces (literal before) (ends_here (Some kind))) (reads_on t rest d from xs so_far before after is opens ∙ ap (with_pieces (literal before)) (is_wrong d after (tag_after d.closing after) kind h))
+        ∙ ap (λ n. Err (record { kind = kind; place = n }))
+        (ap length (text-append so_far.pieces (literal before ++ []) ∙ ap (λ l. text_of so_far.pieces ++ text_of l) (append-nil (literal before)) ∙ ap (λ l. text_of so_far.pieces ++ l) (literal_text before))
+        ∙ length-append (text_of so_far.pieces) before ∙ at)
+
+    pub place_boundary : IsCharBoundary rest (length before) → IsCharBoundary t (length t - length rest + length before)
+    place_boundary h =
+        let n : ℕ = length (text_of so_far.pieces) in
+        let there : drop n t ≡ rest = ap (drop n) (sym so_far.text) ∙ drop-append_seam (text_of so_far.pieces) rest in
+        subst (λ n. IsCharBoundary t n) at (IsCharBoundary-from_rest t n (length before) (omega (arith, lengths)) (subst (λ l. IsCharBoundary l (length before)) (sym there) h))
+
+    module _ (v : Opened) (ok : checked (tag_after d.closing after) ≡ Ok v) where
+      tag_right : IsRight (tag_after d.closing after) v
+      tag_right = is_right (tag_after d.closing after) v ok
+
+      rest_same : tag_right.tag.rest ≡ v.rest
+      rest_same = ap (λ (o : Opened). o.rest) tag_right.same
+
+      tag_order : place t rest d from xs so_far before after is opens < length t - length tag_right.tag.rest
+      tag_order = order t rest d from xs so_far before after is opens tag_right.tag tag_right.opened
+
+      pub rest_fits : length v.rest ≤ length t
+      rest_fits = omega (arith, ap length rest_same, tag_order, length-append (text_of so_far.pieces) rest)
+
+      pub past_order : length t - length rest + length before ≤ length t - length v.rest
+      past_order = omega (arith, ap length rest_same, tag_order, at)
+
+      pub shorter : length v.rest < length rest
+      shorter = omega (arith, ap length rest_same, tag_order, lengths)
+
+      pub past_boundary : IsUtf8 v.rest → IsCharBoundary t (length t - length v.rest)
+      past_boundary u =
+          subst (λ l. IsCharBoundary t (length t - length l)) rest_same
+          (seam_after t rest d from xs so_far before after is opens tag_right.tag tag_right.opened (subst IsUtf8 (sym rest_same) u))
+
+      -- what is read once the tag is
+      abbrev Next : ℕ → Opened → Type 0
+      Next at o = IsReadTo t o.rest (delimiters_after d o.kind o.inside) (max from (taken t o.kind at (length t - length o.rest)).1)
+          (xs ++ (literal_at from (slice_range t from (taken t o.kind at (length t - length o.rest)).0) ++ tag_at t o.kind o.inside at (length t - length o.rest) ∷ []))
+
+      pub continues : IsUtf8 t → IsUtf8 v.rest → Next (length t - length rest + length before) v
+      continues u w =
+          subst (Next (length t - length rest + length before)) tag_right.same
+          (subst (λ n. Next n (record { kind = tag_right.tag.kind; inside = stripped tag_right.tag.inside; rest = tag_right.tag.rest })) at
+          (goes_on t rest d from xs so_far before after is opens tag_right.tag tag_right.opened tag_right.right u
+          (seam_after t rest d from xs so_far before after is opens tag_right.tag tag_right.opened (subst IsUtf8 (sym rest_same) w))))

@@ -1,10 +1,11 @@
 -- Where padding stops a text may be cut.
-use Rattle.std.proofs.Common.{◌≡◌, ℕ, zero, suc, ◌+◌, ◌-◌, ◌<◌, ◌≤◌, true, List, length, get_or, reverse, refl, ap, subst, ◌∙◌, arith}
+use Rattle.std.proofs.Common.{◌≡◌, ℕ, zero, suc, ◌+◌, ◌-◌, ◌<◌, ◌≤◌, true, not, List, length, get_or, reverse, refl, ap, subst, ◌∙◌, arith, ⊎_elim}
+use Rattle.std.proofs.lemmas.Bool.{cases_lt}
 use Rattle.std.proofs.lemmas.Bool.Decides.{nat_tests}
 use Rattle.std.proofs.lemmas.List.{get_or-reverse}
-use Rattle.std.proofs.lemmas.List.Sums.{prefix_len_passes, prefix_len-le-length, suffix_len-le-length}
+use Rattle.std.proofs.lemmas.List.Sums.{prefix_len_passes, prefix_len-le-length, suffix_len-le-length, passes_at_first}
 use Rattle.std.proofs.lemmas.Str.{IsCharBoundary-start, IsCharBoundary-end, IsCharBoundary-after_ascii, IsCharBoundary-before_ascii}
-use Rattle.std.specs.List.{prefix_len, suffix_len}
+use Rattle.std.specs.List.{prefix_len, suffix_len, position_or_len}
 use Rattle.std.specs.Str.{IsUtf8, IsCharBoundary}
 use Rattle.mustache_scan.specs.Cutting.{is_padding}
 
@@ -31,3 +32,12 @@ at_end t (suc k) is =
 
 pub end_boundary : (t : List ℕ) → IsCharBoundary t (length t - suffix_len is_padding t)
 end_boundary t = at_end t (suffix_len is_padding t) refl
+
+-- the first padding
+pub word_boundary : (t : List ℕ) → IsCharBoundary t (position_or_len is_padding t)
+word_boundary t =
+    let le : position_or_len is_padding t ≤ length t = prefix_len-le-length (λ b. not (is_padding b)) t in
+    ⊎_elim
+    (λ lt. IsCharBoundary-before_ascii t (position_or_len is_padding t) lt (padding_ascii _ (passes_at_first is_padding t 0 lt)))
+    (λ ge. let e : length t ≡ position_or_len is_padding t = omega arith in subst (λ n. IsCharBoundary t n) e (IsCharBoundary-end t))
+    (cases_lt (position_or_len is_padding t) (length t))

@@ -1,7 +1,7 @@
 -- The words for each fault, as fault lines print them.
 use Rattle.std.specs.Prelude.{ℕ, List, codes}
 use Rattle.mustache_scan.specs.declared.fault.FaultKind.{FaultKind}
-use Rattle.mustache_scan.specs.declared.fault.FaultKind.TheVariants.{UnclosedTag, EmptyName, BadName, BadDelimiters, NoSection, WrongEnd, UnclosedSection, TooDeep, NotYet, OutOfMemory}
+use Rattle.mustache_scan.specs.declared.fault.FaultKind.TheVariants.{UnclosedTag, EmptyName, BadName, BadDelimiters, NoSection, WrongEnd, UnclosedSection, TooDeep, OutOfMemory}
 
 -- a fault's number and name; want of memory has no number
 abbrev pub label : FaultKind → List ℕ
@@ -13,5 +13,4 @@ label NoSection = codes "5 NoSection"
 label WrongEnd = codes "6 WrongEnd"
 label UnclosedSection = codes "7 UnclosedSection"
 label TooDeep = codes "8 TooDeep"
-label NotYet = codes "9 NotYet"
 label OutOfMemory = codes "OutOfMemory"

@@ -4,7 +4,6 @@ pub mod Reading
 pub mod Standalone
 pub mod Slices
 pub mod Faults
-pub mod NotYet
 pub mod Progress
 pub mod View
 pub mod Laws

@@ -24,8 +24,6 @@ pub enum FaultKind {
     UnclosedSection,
     #[error("sections nested too deep")]
     TooDeep,
-    #[error("a tag that is not served yet")]
-    NotYet,
     #[error("out of memory")]
     OutOfMemory,
 }
@@ -44,7 +42,6 @@ impl FaultKind {
             FaultKind::WrongEnd => "6 WrongEnd",
             FaultKind::UnclosedSection => "7 UnclosedSection",
             FaultKind::TooDeep => "8 TooDeep",
-            FaultKind::NotYet => "9 NotYet",
             FaultKind::OutOfMemory => "OutOfMemory",
         }
     }

@@ -2,8 +2,10 @@
 #![tactic(auto)]
 
 mod cuts;
+mod delimiters;
 mod fault;
 mod laws;
+mod lone;
 mod names;
 mod padding;
 mod push;

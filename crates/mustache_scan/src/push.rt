@@ -1,48 +1,69 @@
-ghost use Rattle.std.specs.Prelude.{◌≡◌, ◌++◌, OnOk, IfErr, [], ◌∷◌};
-ghost use Rattle.mustache_scan.specs.Progress.{literal_at, variable_at};
+ghost use Rattle.std.specs.Prelude.{◌≡◌, ◌++◌, ◌-◌, ◌≤◌, OnOk, IfOk, IfErr, [], ◌∷◌, length, max, slice_range};
+ghost use Rattle.std.specs.Str.{IsCharBoundary};
+ghost use Rattle.mustache_scan.specs.Progress.{literal_at, tag_at, taken};
 ghost use Rattle.mustache_scan.specs.View.{tokens_view};
 ghost use Rattle.mustache_scan.specs.declared.fault.FaultKind.TheVariants.{OutOfMemory};
 
+use crate::lone::taken;
+use crate::tag::{Tag, name_of};
 use crate::{TemplateFault, Token, TokenKind};
 
-/// Adds a literal, unless it is empty.
+/// Adds what stands from place to place as a literal, unless it is empty.
 pub(crate) fn push_literal<'a>(
     tokens: &mut Vec<Token<'a>>,
-    place: usize,
-    text: &'a str,
+    source: &'a str,
+    from: usize,
+    to: usize,
 ) -> Result<(), TemplateFault>
-    ensures ok { OnOk result (tokens_view tokens.new.items ≡ tokens_view tokens.old.items ++ literal_at place text.now) }
+    requires from { IsCharBoundary source.now from }
+    requires to { IsCharBoundary source.now to }
+    ensures ok { OnOk result (tokens_view tokens.new.items ≡ tokens_view tokens.old.items ++ literal_at from (slice_range source.now from to)) }
     ensures err { IfErr result (λ f. f.kind ≡ OutOfMemory) }
 {
-    if text.is_empty() {
-        return Ok(());
+    if from < to {
+        tokens.push(Token {
+            kind: TokenKind::Literal,
+            inside: "",
+            place: from,
+            text: &source[from..to],
+            indent: "",
+        })?;
     }
-    tokens.push(Token {
-        kind: TokenKind::Literal,
-        inside: "",
-        place,
-        text,
-        indent: "",
-    })?;
     Ok(())
 }
 
-/// Adds a variable.
-pub(crate) fn push_variable<'a>(
+/// Adds a tag, and before it the literal that begins at `from`. Gives the place from which a literal after the tag counts.
+pub(crate) fn push_tag<'a>(
     tokens: &mut Vec<Token<'a>>,
+    source: &'a str,
+    from: usize,
     place: usize,
-    text: &'a str,
-    name: &'a str,
-) -> Result<(), TemplateFault>
-    ensures ok { OnOk result (tokens_view tokens.new.items ≡ tokens_view tokens.old.items ++ variable_at place text.now name.now ∷ []) }
+    tag: Tag<'a>,
+) -> Result<usize, TemplateFault>
+    requires from { IsCharBoundary source.now from }
+    requires place { IsCharBoundary source.now place }
+    requires past { IsCharBoundary source.now (length source.now - length tag.rest.now) }
+    requires order { place ≤ length source.now - length tag.rest.now }
+    requires rest { length tag.rest.now ≤ length source.now }
+    ensures ok { let past = length source.now - length tag.entry.rest.now in
+        let part = taken source.now tag.entry.kind place past in
+        IfOk result (λ next. (next ≡ max from part.1)
+        × (tokens_view tokens.new.items ≡ tokens_view tokens.old.items ++ (literal_at from (slice_range source.now from part.0) ++ tag_at source.now tag.entry.kind tag.entry.inside.now place past ∷ []))) }
     ensures err { IfErr result (λ f. f.kind ≡ OutOfMemory) }
 {
+    let past = source.len() - tag.rest.len();
+    let (start, end) = taken(source.as_bytes(), tag.kind, place, past);
+    push_literal(tokens, source, from, start)?;
+    let indent = match tag.kind {
+        TokenKind::Partial => &source[start..place],
+        _ => "",
+    };
     tokens.push(Token {
-        kind: TokenKind::Variable,
-        inside: name,
+        kind: tag.kind,
+        inside: name_of(tag.kind, tag.inside),
         place,
-        text,
-        indent: "",
+        text: &source[place..past],
+        indent,
     })?;
-    Ok(())
+    Ok(from.max(end))
 }

@@ -1,5 +1,3 @@
-pub mod Escapes
-pub mod Rendered
 pub mod Zips
 pub mod OneMore
 pub mod Commands
@@ -12,9 +10,3 @@ pub mod OneReading
 pub mod SomeReading
 pub mod OneVerdict
 pub mod Verdicts
-pub mod Examples
-pub mod TagExamples
-pub mod PublicExamples
-pub mod CornerExamples
-pub mod DepthExamples
-pub mod CostExamples

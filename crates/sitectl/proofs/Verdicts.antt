@@ -6,7 +6,6 @@ use Rattle.command.specs.Effective.{commands_of, firsts}
 use Rattle.command.specs.Reading.{value_reading}
 use Rattle.command.specs.View.{StandsFor}
 use Rattle.command.specs.declared.commands.Command.{Command}
-use Rattle.command.proofs.ServedLemmas.{served_is_command}
 use Rattle.sitectl.specs.Framed.{Entry}
 use Rattle.sitectl.specs.Page.{Page, released, asked_of}
 use Rattle.sitectl.specs.Reading.{HasOrder, HasReading}
@@ -19,7 +18,7 @@ values-orders [] [] h = refl
 values-orders [] (o ∷ os) h = absurd h
 values-orders (e ∷ es) [] h = absurd h
 values-orders (e ∷ es) (o ∷ os) h =
-    let is : value_reading (entry_value e) ≡ Ok o = served_is_command (entry_value e) o h.0 in
+    let is : value_reading (entry_value e) ≡ Ok o = h.0 in
     let later = values-orders es os h.1 in
     rw (is, later)
 

@@ -1,6 +1,3 @@
-pub mod Printed
-pub mod Meaning
-pub mod Rendering
 pub mod Page
 pub mod Framed
 pub mod Words

@@ -7,7 +7,7 @@ use Rattle.command.specs.Action.{Order}
 use Rattle.command.specs.Effective.{effective}
 use Rattle.command.specs.Site.{template_at, partial_at, data_at, route_at}
 use Rattle.command.specs.Releases.{release_count, through}
-use Rattle.sitectl.specs.Meaning.{rendering}
+use Rattle.render.specs.Meaning.{rendering}
 
 -- a page: its status and its body
 pub record Page : Type 0 where

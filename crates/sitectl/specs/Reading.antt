@@ -2,13 +2,13 @@
 use Rattle.std.specs.Prelude.{ℕ, ◌≡◌, ◌<◌, ◌≤◌, ◌⊎◌, ◌+◌, List, [], ◌++◌, length, codes, decimal, Result, Ok, Err}
 use Rattle.std.specs.List.{flat_map, AllByRecursion, AllZip}
 use Rattle.command.specs.Action.{Order}
-use Rattle.command.specs.NotYet.{served_reading}
+use Rattle.command.specs.Reading.{value_reading}
 use Rattle.command.specs.Written.{value_of, line_of}
 use Rattle.command.specs.declared.fault.CommandFault.{CommandFault}
 use Rattle.sitectl.specs.Framed.{Entry, frame, IsEntry, HasNoFrame}
 
 abbrev pub entry_reading : Entry → Result Order CommandFault
-entry_reading e = served_reading (value_of e.ticket e.text)
+entry_reading e = value_reading (value_of e.ticket e.text)
 
 -- the entry's text is a command, with this order
 abbrev pub HasOrder : Entry → Order → Type 0

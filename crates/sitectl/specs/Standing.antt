@@ -2,13 +2,11 @@
 use Rattle.std.specs.Prelude.{List, map, string_bytes}
 use Rattle.std.specs.Borrow.{Bor}
 use Rattle.std.specs.List.{AllZip}
-use Rattle.command.specs.Action.{Kind, Order, template, page_data, route}
+use Rattle.command.specs.Action.{Order}
 use Rattle.command.specs.View.{StandsFor}
 use Rattle.command.specs.declared.commands.Command.{Command}
 use Rattle.sitectl.specs.Page.{Page}
 use Rattle.sitectl.specs.declared.site.Page.{Page as CodePage}
-use Rattle.sitectl.specs.declared.site.Kind.{Kind as CodeKind}
-use Rattle.sitectl.specs.declared.site.Kind.TheVariants.{Template, Data, Route}
 use Rattle.sitectl.specs.declared.engine.Outcome.{Outcome}
 use Rattle.sitectl.specs.declared.engine.Outcome.TheVariants.{Shows, Says}
 use Rattle.sitectl.specs.Verdict.{Verdict, shows, says}
@@ -19,11 +17,6 @@ StandForAll commands orders = AllZip StandsFor commands orders
 
 abbrev pub lent : List (Bor Command) → List Command
 lent commands = map (λ c. c.now) commands
-
-abbrev pub kind_view : CodeKind → Kind
-kind_view Template = template
-kind_view Data = page_data
-kind_view Route = route
 
 abbrev pub page_view : CodePage → Page
 page_view p = record { status = p.status; body = string_bytes p.body }

@@ -7,7 +7,6 @@ mod engine;
 mod framed;
 mod input;
 mod laws;
-mod render;
 mod site;
 
 pub use counted::Counted;

@@ -4,27 +4,19 @@ ghost use Rattle.std.specs.List.{list_any};
 ghost use Rattle.command.specs.Action.{Order};
 ghost use Rattle.command.specs.Effective.{same_ticket, firsts};
 ghost use Rattle.command.specs.Releases.{is_release as is_release_of, release_count, through};
-ghost use Rattle.command.specs.Site.{touches, last_about, template_at, data_at, route_at};
-ghost use Rattle.command.specs.View.{StandsFor, pair_view};
+ghost use Rattle.command.specs.Site.{touches, last_about, template_at, partial_at, data_at, route_at};
+ghost use Rattle.command.specs.View.{kind_view, StandsFor, pair_view};
 ghost use Rattle.context.specs.View.{data_view};
 ghost use Rattle.mustache_parse.specs.Template.{IsTemplateOf};
 ghost use Rattle.sitectl.specs.Page.{page_of, released, asked_of};
-ghost use Rattle.sitectl.specs.Standing.{StandForAll, lent, kind_view, page_view};
+ghost use Rattle.sitectl.specs.Standing.{StandForAll, lent, page_view};
 
-use crate::render::{RenderFault, render};
-use command::{Action, Command};
+use command::{Action, Command, Kind};
 use context::Data;
 use mustache_parse::Template;
+use render::{Partials, RenderFault, render};
 use site_ids::Ticket;
 use std::alloc::{AllocError, Global};
-
-/// What stands under a name.
-#[derive(Clone, Copy, PartialEq, Eq)]
-enum Kind {
-    Template,
-    Data,
-    Route,
-}
 
 /// A page's status and body.
 #[derive(Drop)]
@@ -64,8 +56,10 @@ fn touched(command: &Command, kind: Kind, name: &str) -> bool
 {
     match &command.action {
         Action::PutTemplate(n, _) => kind == Kind::Template && n.as_str() == name,
+        Action::PutPartial(n, _) => kind == Kind::Partial && n.as_str() == name,
         Action::PutData(n, _) => kind == Kind::Data && n.as_str() == name,
         Action::PutRoute(path, _, _) => kind == Kind::Route && path.as_str() == name,
+        Action::Remove(k, n) => *k == kind && n.as_str() == name,
         Action::Release => false,
     }
 }
@@ -136,6 +130,37 @@ fn template_at<'a>(commands: &[&'a Command], name: &str) -> Option<&'a Template>
     }
 }
 
+/// The partials of a site.
+#[derive(Clone, Copy)]
+struct SitePartials<'a> {
+    commands: &'a [&'a Command],
+}
+
+impl Partials for SitePartials<'_> {
+    ghost use Rattle.std.specs.Prelude.{◌≡◌, ℕ, List};
+    ghost use Rattle.command.specs.Action.{Order};
+    ghost use Rattle.command.specs.Site.{partial_at};
+    ghost use Rattle.sitectl.specs.Standing.{StandForAll, lent};
+
+    ghost stands = { λ site texts. (orders : List Order) × StandForAll (lent site.commands.now) orders × ((name : List ℕ) → texts name ≡ partial_at name orders) };
+
+    fn find(&self, name: &str) -> Option<&Template> {
+        partial_at(self.commands, name)
+    }
+}
+
+fn partial_at<'a>(commands: &[&'a Command], name: &str) -> Option<&'a Template>
+    ensures { (orders : List Order) → StandForAll (lent commands.now) orders
+        → MatchOption result (partial_at name.now orders ≡ None)
+        (λ t. (text : List ℕ) × (partial_at name.now orders ≡ Some text) × IsTemplateOf t.now text) }
+{
+    let command = last(commands, Kind::Partial, name)?;
+    match &command.action {
+        Action::PutPartial(_, template) => Some(template),
+        _ => None,
+    }
+}
+
 fn data_at<'a>(commands: &[&'a Command], name: &str) -> Option<&'a Data>
     ensures { (orders : List Order) → StandForAll (lent commands.now) orders → option_map (λ d. data_view d.now) result ≡ data_at name.now orders }
 {
@@ -167,7 +192,7 @@ fn page_at(alloc: Global, commands: &[&Command], path: &str) -> Result<Page, All
     let Some(page_data) = data_at(commands, of) else {
         return made(alloc, 500, "data missing\n");
     };
-    match render(alloc, template, page_data) {
+    match render(alloc, template, page_data, &SitePartials { commands }) {
         Ok(body) => Ok(Page { status: 200, body }),
         Err(RenderFault::OverLimit) => made(alloc, 500, "page over limit\n"),
         Err(RenderFault::OutOfMemory) => Err(AllocError),

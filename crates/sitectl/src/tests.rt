@@ -4,6 +4,7 @@ mod ends;
 mod faults;
 mod pages;
 mod refusals;
+mod spec;
 
 use crate::{Counted, siterender};
 use std::alloc::{AllocError, Global};

@@ -119,3 +119,40 @@ fn both_writers_fail(rt: HostRuntime) {
         assert_eq!(rt; err.into_inner().taken.as_slice(), &line[..room]);
     }
 }
+
+/// Holds what it was given until it is flushed.
+#[derive(Drop)]
+struct Held {
+    held: Vec<u8>,
+    shown: Vec<u8>,
+}
+
+impl Write for Held {
+    fn write(&mut self, buf: &[u8]) -> io::Result<usize> {
+        self.held.extend_from_slice(buf)?;
+        Ok(buf.len())
+    }
+
+    fn flush(&mut self) -> io::Result<()> {
+        self.shown.extend_from_slice(self.held.as_slice())?;
+        self.held.clear();
+        Ok(())
+    }
+}
+
+#[test]
+fn what_is_written_is_flushed(rt: HostRuntime) {
+    let alloc = rt.alloc();
+    let mut reader = Counted::new(GREETING.as_bytes());
+    let mut out = Counted::new(Held {
+        held: Vec::new(alloc),
+        shown: Vec::new(alloc),
+    });
+    let mut err = with_room(alloc, 1000);
+    let status = siterender(alloc, &mut reader, &mut out, &mut err, None, "/");
+    assert_eq!(rt; status, 0);
+    assert_eq!(rt;
+        out.into_inner().shown.as_slice(),
+        b"Hello, world!\n".as_slice()
+    );
+}

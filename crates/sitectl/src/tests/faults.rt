@@ -8,11 +8,17 @@ fn lines_of_commands(rt: HostRuntime) -> Result<(), Fail> {
     let cases = [
         ("put template t", "2 Form"),
         ("put template a b\n", "2 Form"),
-        ("put template t\n\u{e9}{{#x}}", "5 Template 9 NotYet at 2"),
+        (
+            "put template t\n\u{e9}{{#x}}",
+            "5 Template 7 UnclosedSection at 2",
+        ),
         ("put template  t\n", "2 Form"),
         ("put route / t d\nx", "2 Form"),
-        ("put partial p\n", "2 Form"),
-        ("remove template t\n", "2 Form"),
+        ("put partial p\nx{{/y}}", "5 Template 5 NoSection at 1"),
+        ("remove template t\nx", "2 Form"),
+        ("remove site t\n", "2 Form"),
+        ("remove data !\n", "3 Name"),
+        ("remove route x\n", "4 Path"),
         ("release\n\n", "2 Form"),
         ("put template \n", "3 Name"),
         ("put template a,b\n", "3 Name"),
@@ -24,17 +30,19 @@ fn lines_of_commands(rt: HostRuntime) -> Result<(), Fail> {
         ("put template t\n{{}}", "5 Template 2 EmptyName at 0"),
         ("put template t\n{{a b}}{{#x}}", "5 Template 3 BadName at 0"),
         (
-            "put template t\n{{a}}\n{{#a}}{{/a}}",
-            "5 Template 9 NotYet at 6",
+            "put template t\n{{a}}\n{{#a}}{{/b}}",
+            "5 Template 6 WrongEnd at 12",
         ),
-        ("put template t\n{{a.b}}", "5 Template 9 NotYet at 0"),
+        ("put template t\n{{a..b}}", "5 Template 3 BadName at 0"),
         ("put template t\n{{a.b", "5 Template 1 UnclosedTag at 0"),
-        ("put template t\n{{! ", "5 Template 9 NotYet at 0"),
+        ("put template t\n{{! ", "5 Template 1 UnclosedTag at 0"),
+        ("put template t\n{{=@=}}", "5 Template 4 BadDelimiters at 0"),
+        ("put template t\n{{/a}}{{b", "5 Template 1 UnclosedTag at 6"),
         ("put data d\n{", "6 Data 1 NotJson"),
         ("put data d\n{\"n\":1.5}", "6 Data 2 NotWhole"),
         ("put data d\n{\"n\":-0}", "6 Data 2 NotWhole"),
-        ("put data d\n{\"n\":[]}", "6 Data 4 NotYet"),
-        ("put data d\n[]", "6 Data 4 NotYet"),
+        ("put data d\n[[{\"n\":1e2}]]", "6 Data 2 NotWhole"),
+        ("put data d\n[1,]", "6 Data 1 NotJson"),
     ];
     for (text, fault) in cases {
         let mut input = String::from_str(alloc, "1 1 8\nrelease\n")?;
@@ -109,5 +117,30 @@ fn a_value_has_at_most_32768_bytes(rt: HostRuntime) -> Result<(), Fail> {
     push_frame(alloc, &mut input, 2, text.as_str())?;
     let printed = run(alloc, input.as_bytes(), None, "/");
     assert_eq!(rt; printed.err.as_slice(), b"input 2: 1 TooLong\n".as_slice());
+    Ok(())
+}
+
+#[test]
+fn sections_nest_64_deep(rt: HostRuntime) -> Result<(), Fail> {
+    let alloc = rt.alloc();
+    let mut text = String::from_str(alloc, "put template t\n")?;
+    for _ in 0..64 {
+        text.push_str("{{#a}}")?;
+    }
+    let mut input = String::new(alloc);
+    push_frame(alloc, &mut input, 1, text.as_str())?;
+    let printed = run(alloc, input.as_bytes(), None, "/");
+    assert_eq!(rt;
+        printed.err.as_slice(),
+        b"input 1: 5 Template 7 UnclosedSection at 0\n".as_slice()
+    );
+    text.push_str("{{#a}}")?;
+    let mut input = String::new(alloc);
+    push_frame(alloc, &mut input, 1, text.as_str())?;
+    let printed = run(alloc, input.as_bytes(), None, "/");
+    assert_eq!(rt;
+        printed.err.as_slice(),
+        b"input 1: 5 Template 8 TooDeep at 384\n".as_slice()
+    );
     Ok(())
 }

@@ -148,3 +148,120 @@ fn a_page_costs_at_most_a_million(rt: HostRuntime) -> Result<(), Fail> {
     }
     Ok(())
 }
+
+#[test]
+fn items_cost_one_each(rt: HostRuntime) -> Result<(), Fail> {
+    let alloc = rt.alloc();
+    let mut page_data = String::from_str(alloc, "put data d\n{\"l\":[0")?;
+    for _ in 1..99 {
+        page_data.push_str(",0")?;
+    }
+    page_data.push_str("]}")?;
+    let mut template = String::from_str(
+        alloc,
+        "put template t\n{{#l}}{{#l}}{{#l}}{{/l}}{{/l}}{{/l}}",
+    )?;
+    for _ in 0..9_900 {
+        template.push_str("x")?;
+    }
+    let input = framed(
+        alloc,
+        &[
+            template.as_str(),
+            page_data.as_str(),
+            "put route / t d\n",
+            "release\n",
+        ],
+    )?;
+    let printed = run(alloc, input.as_bytes(), None, "/");
+    assert_eq!(rt; (printed.status, printed.out.len()), (0, 9_900));
+    template.push_str("x")?;
+    let input = framed(
+        alloc,
+        &[
+            template.as_str(),
+            page_data.as_str(),
+            "put route / t d\n",
+            "release\n",
+        ],
+    )?;
+    let printed = run(alloc, input.as_bytes(), None, "/");
+    assert_eq!(rt; printed.out.as_slice(), b"page over limit\n".as_slice());
+    Ok(())
+}
+
+/// Partials p1 to p33, each of which calls the next; the last is a text.
+fn nested(alloc: Global, last: u64) -> Result<String, AllocError> {
+    let mut input = String::new(alloc);
+    for k in 1..last {
+        let next = k + 1;
+        let text = format!(in alloc; "put partial p{k}\n{{{{>p{next}}}}}")?;
+        push_frame(alloc, &mut input, k, text.as_str())?;
+    }
+    let text = format!(in alloc; "put partial p{last}\nx")?;
+    push_frame(alloc, &mut input, last, text.as_str())?;
+    push_frame(alloc, &mut input, 101, "put template t\n{{>p1}}")?;
+    push_frame(alloc, &mut input, 102, "put data d\n{}")?;
+    push_frame(alloc, &mut input, 103, "put route / t d\n")?;
+    push_frame(alloc, &mut input, 104, "release\n")?;
+    Ok(input)
+}
+
+#[test]
+fn partials_nest_32_deep(rt: HostRuntime) -> Result<(), Fail> {
+    let alloc = rt.alloc();
+    let input = nested(alloc, 32)?;
+    let printed = run(alloc, input.as_bytes(), None, "/");
+    assert_eq!(rt; printed.out.as_slice(), b"x".as_slice());
+    let input = nested(alloc, 33)?;
+    let printed = run(alloc, input.as_bytes(), None, "/");
+    assert_eq!(rt; printed.status, 1);
+    assert_eq!(rt; printed.out.as_slice(), b"page over limit\n".as_slice());
+    Ok(())
+}
+
+#[test]
+fn removes_take_away(rt: HostRuntime) -> Result<(), Fail> {
+    let alloc = rt.alloc();
+    let (t, d, route, release) = (
+        "put template t\n[{{>p}}]",
+        "put data d\n{}",
+        "put route / t d\n",
+        "release\n",
+    );
+    let p = "put partial p\nin";
+    let cases: [(&[&str], &str); 6] = [
+        (&[t, p, d, route, release], "[in]"),
+        (&[t, p, d, route, "remove partial p\n", release], "[]"),
+        (
+            &[t, p, d, route, "remove template t\n", release],
+            "template missing\n",
+        ),
+        (
+            &[t, p, d, route, "remove data d\n", release],
+            "data missing\n",
+        ),
+        (
+            &[t, p, d, route, "remove route /\n", release],
+            "not found\n",
+        ),
+        (
+            &[
+                t,
+                p,
+                d,
+                route,
+                "remove template p\n",
+                "remove partial t\n",
+                release,
+            ],
+            "[in]",
+        ),
+    ];
+    for (texts, body) in cases {
+        let input = framed(alloc, texts)?;
+        let printed = run(alloc, input.as_bytes(), None, "/");
+        assert_eq!(rt; printed.out.as_slice(), body.as_bytes());
+    }
+    Ok(())
+}

@@ -1,6 +1,5 @@
 use Rattle.command.proofs.RowLemmas.{row_is_spelled}
 use Rattle.command.proofs.FaultLemmas.{fault_is_least, command_has_none}
-use Rattle.command.proofs.ServedLemmas.{served_is_command}
 use Rattle.command.proofs.WrittenLemmas.{written_holds}
 use Rattle.command.proofs.laws.readings_are_by_the_table.Goals as goal
 
@@ -12,9 +11,6 @@ returns-clause-least c = fault_is_least
 
 pub returns-clause-none : goal.returns-clause-none
 returns-clause-none c = command_has_none
-
-pub returns-clause-served : goal.returns-clause-served
-returns-clause-served c = served_is_command
 
 pub returns-clause-written : goal.returns-clause-written
 returns-clause-written c = written_holds

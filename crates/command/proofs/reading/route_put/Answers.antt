@@ -1,7 +1,7 @@
 use Rattle.std.proofs.Common.{◌≡◌, true, arith}
 use Rattle.command.specs.Action.{put_route}
 use Rattle.command.specs.Reading.{is_name, is_path}
-use Rattle.command.proofs.ServedLemmas.{served_route}
+use Rattle.command.proofs.ReadingLemmas.{route_reads}
 use Rattle.command.proofs.reading.route_put.Goals as goal
 use Rattle.command.proofs.reading.route_put.Goals.{then-name, else-name}
 
@@ -13,6 +13,6 @@ returns-clause-ok c =
     let good : is_path c.args.at.now ≡ true = grind arith in
     let names = good_names c in (
       put_route c.args.at.now c.args.template.now c.args.page_data.now,
-      served_route c.args.at.now c.args.template.now c.args.page_data.now good names.0 names.1,
+      route_reads c.args.at.now c.args.template.now c.args.page_data.now good names.0 names.1,
       (c.in_ok-from_str.ensures.ok, c.in_ok-from_str-2.ensures.ok, c.in_ok-from_str-3.ensures.ok),
     )

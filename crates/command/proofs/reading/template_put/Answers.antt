@@ -2,7 +2,7 @@ use Rattle.std.proofs.Common.{◌≡◌, true, arith}
 use Rattle.command.specs.Action.{put_template}
 use Rattle.command.specs.Reading.{is_name}
 use Rattle.mustache_parse.specs.Template.{template_tree}
-use Rattle.command.proofs.ServedLemmas.{served_template}
+use Rattle.command.proofs.ReadingLemmas.{template_reads}
 use Rattle.command.proofs.reading.template_put.Goals as goal
 
 pub returns-in_ok-from_str-in-Ok-clause-ok : goal.returns-in_ok-from_str-in-Ok-clause-ok
@@ -10,6 +10,6 @@ returns-in_ok-from_str-in-Ok-clause-ok c =
     let named : is_name c.args.of.now ≡ true = grind arith in
     let parsed = c.in-Ok.ensures.ok in (
       put_template c.args.of.now c.args.body.now,
-      served_template c.args.of.now c.args.body.now (template_tree c.in-Ok.template) named parsed.1 parsed.0.holds,
-      (c.in_ok-from_str-in-Ok.ensures.ok, parsed.0),
+      template_reads c.args.of.now c.args.body.now (template_tree c.in-Ok.template) named parsed.holds,
+      (c.in_ok-from_str-in-Ok.ensures.ok, parsed),
     )

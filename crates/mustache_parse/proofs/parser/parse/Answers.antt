@@ -1,9 +1,8 @@
-use Rattle.std.proofs.Common.{sym, ap, ◌∙◌}
+use Rattle.std.proofs.Common.{Ok, Err, sym, ap, ◌∙◌}
 use Rattle.std.proofs.lemmas.Result.{err_from_is_err_and}
 use Rattle.mustache_scan.specs.View.{tokens_view}
 use Rattle.mustache_parse.specs.Tree.{nested}
 use Rattle.mustache_parse.specs.View.{tree_view}
-use Rattle.mustache_parse.proofs.ServedLemmas.{scanned_well}
 use Rattle.mustache_parse.proofs.TextLemmas.{tree_is, scan_fault}
 use Rattle.mustache_parse.proofs.parser.parse.Goals as goal
 
@@ -12,11 +11,14 @@ returns-in_err-tokens-clause-fault c =
     let p = err_from_is_err_and c.from_residual.result c.from_residual.ensures.1 in
     rw (p.1, p.2) (λ memory. scan_fault c.args.source.now c.in_err-tokens.field-0.0 (c.in_err-tokens.ensures.fault memory))
 
-pub nodes_of-requires : goal.nodes_of-requires
-nodes_of-requires c = rw c.deref.ensures.value (scanned_well c.args.source.now (tokens_view c.in_ok-tokens.tokens.items) c.in_ok-tokens.ensures.tokens).plain
+pub returns-in_err-nodes-clause-fault : goal.returns-in_err-nodes-clause-fault
+returns-in_err-nodes-clause-fault c =
+    let p = err_from_is_err_and c.from_residual-in_err-nodes.result c.from_residual-in_err-nodes.ensures.1 in
+    rw (p.1, p.2)
+    (λ memory. tree_is c.args.source.now (tokens_view c.in_ok-tokens.tokens.items) (Err c.in_err-nodes.field-0.0) c.in_ok-tokens.ensures.tokens
+    (ap (λ ts. nested (tokens_view ts)) (sym c.deref.ensures.value) ∙ c.in_err-nodes.ensures.fault memory))
 
 pub new-requires : goal.new-requires
 new-requires c =
-    let well = scanned_well c.args.source.now (tokens_view c.in_ok-tokens.tokens.items) c.in_ok-tokens.ensures.tokens in
-    rw c.in_ok-from_str.ensures.ok (tree_is c.args.source.now (tokens_view c.in_ok-tokens.tokens.items) (tree_view c.in_ok-nodes.nodes.items) well.tokens
-    (ap (λ ts. nested (tokens_view ts)) (sym c.deref.ensures.value) ∙ c.in_ok-nodes.ensures))
+    rw c.in_ok-from_str.ensures.ok (tree_is c.args.source.now (tokens_view c.in_ok-tokens.tokens.items) (Ok (tree_view c.in_ok-nodes.nodes.items)) c.in_ok-tokens.ensures.tokens
+    (ap (λ ts. nested (tokens_view ts)) (sym c.deref.ensures.value) ∙ c.in_ok-nodes.ensures.ok))

@@ -1,62 +1,64 @@
-use Rattle.std.proofs.Common.{◌≡◌, [], Some, None, sym, rules}
-use Rattle.mustache_scan.specs.Cutting.{cut}
-use Rattle.mustache_scan.specs.Names.{braces}
-use Rattle.mustache_scan.specs.Progress.{IsReadTo}
-use Rattle.mustache_scan.specs.View.{tokens_view}
-use Rattle.mustache_scan.proofs.StepLemmas.{front, back, apart, shorter, stops, goes_on, finishes}
-use Rattle.mustache_scan.proofs.OutcomeLemmas.{ends_well}
-use Rattle.mustache_scan.proofs.SliceLemmas.{are_slices}
+use Rattle.std.proofs.Common.{◌≡◌, ℕ, [], List, Ok, sym, ap, subst, ◌∙◌}
+use Rattle.mustache_scan.specs.Names.{Pair, braces}
+use Rattle.mustache_scan.specs.Slices.{AreSlices}
+use Rattle.mustache_scan.specs.View.{pair_view, tag_view, tokens_view}
+use Rattle.mustache_scan.proofs.OutcomeLemmas.{begins, ends_well, ends_sliced, stops, place_boundary, rest_fits, past_order, shorter, past_boundary, continues}
+use Rattle.mustache_scan.proofs.ProgressLemmas.{IsReadTo, carried}
 use Rattle.mustache_scan.proofs.scanner.scan.Goals as goal
+
+pub loop-before-init : goal.loop-before-init
+loop-before-init c =
+    let t = c.args.source.now in
+    let d = c.in_ok-delimiters.delimiters in
+    let pair : braces ≡ pair_view d =
+    ap (λ (l : List ℕ). record { opening = l; closing = braces.closing }) (sym c.in_ok-delimiters.ensures.opening) ∙ ap (λ (l : List ℕ). record { opening = d.opening.now; closing = l }) (sym c.in_ok-delimiters.ensures.closing) in
+    let none : [] ≡ tokens_view c.new-tokens.result.items = ap tokens_view (sym c.new-tokens.ensures.items) in
+    (c.utf8.source, subst (IsReadTo t t (pair_view d) 0) none (subst (λ (p : Pair). IsReadTo t t p 0 []) pair (begins t c.utf8.source)))
 
 pub returns-in-Err-clause-fault : goal.returns-in-Err-clause-fault
 returns-in-Err-clause-fault c has_memory =
-    let rest = c.loop-before.rest.now in
-    let is : cut braces.opening rest ≡ Some (c.in-Some.before.now, c.in-Some.after.now) = sym (rw c.in-Some.is at c.cut.ensures) in
-    stops rest c.in-Some.before.now c.in-Some.after.now is c.args.source.now (tokens_view c.loop-before.tokens.items) (tokens_view c.push_literal.new.tokens.items)
-    c.loop-before.invariant.1 c.in_ok-push_literal.ensures.ok c.in-Err.kind c.in-Err.ensures.err
+    let b = c.loop-before in
+    stops c.args.source.now b.rest.now (pair_view b.delimiters) b.from (tokens_view b.tokens.items) b.invariant.1 b.delimiters.opens c.in-Some.before.now c.in-Some.after.now (sym c.in-Some.ensures.value) c.in-Err.kind c.in-Err.ensures.err
 
-pub between-requires-clause-front : goal.between-requires-clause-front
-between-requires-clause-front c =
-    let rest = c.loop-before.rest.now in
-    let is : cut braces.opening rest ≡ Some (c.in-Some.before.now, c.in-Some.after.now) = sym (rw c.in-Some.is at c.cut.ensures) in
-    front rest c.in-Some.before.now c.in-Some.after.now is
+pub push_tag-requires-clause-place : goal.push_tag-requires-clause-place
+push_tag-requires-clause-place c =
+    let b = c.loop-before in
+    place_boundary c.args.source.now b.rest.now (pair_view b.delimiters) b.from (tokens_view b.tokens.items) b.invariant.1 b.delimiters.opens c.in-Some.before.now c.in-Some.after.now (sym c.in-Some.ensures.value) c.in-Some.ensures.seam
 
-pub between-requires-clause-back : goal.between-requires-clause-back
-between-requires-clause-back c =
-    let rest = c.loop-before.rest.now in
-    let is : cut braces.opening rest ≡ Some (c.in-Some.before.now, c.in-Some.after.now) = sym (rw c.in-Some.is at c.cut.ensures) in
-    back rest c.in-Some.before.now c.in-Some.after.now is c.in-Ok.found.0.now c.in-Ok.found.1.now c.in-Ok.ensures.ok
+pub push_tag-requires-clause-past : goal.push_tag-requires-clause-past
+push_tag-requires-clause-past c =
+    let b = c.loop-before in
+    past_boundary c.args.source.now b.rest.now (pair_view b.delimiters) b.from (tokens_view b.tokens.items) b.invariant.1 b.delimiters.opens c.in-Some.before.now c.in-Some.after.now (sym c.in-Some.ensures.value) (tag_view c.in-Ok.tag) c.in-Ok.ensures.ok c.in-Ok.ensures.rest
 
-pub between-requires-clause-apart : goal.between-requires-clause-apart
-between-requires-clause-apart c =
-    let rest = c.loop-before.rest.now in
-    let is : cut braces.opening rest ≡ Some (c.in-Some.before.now, c.in-Some.after.now) = sym (rw c.in-Some.is at c.cut.ensures) in
-    apart rest c.in-Some.before.now c.in-Some.after.now is c.in-Ok.found.0.now c.in-Ok.found.1.now c.in-Ok.ensures.ok
+pub push_tag-requires-clause-order : goal.push_tag-requires-clause-order
+push_tag-requires-clause-order c =
+    let b = c.loop-before in
+    past_order c.args.source.now b.rest.now (pair_view b.delimiters) b.from (tokens_view b.tokens.items) b.invariant.1 b.delimiters.opens c.in-Some.before.now c.in-Some.after.now (sym c.in-Some.ensures.value) (tag_view c.in-Ok.tag) c.in-Ok.ensures.ok
+
+pub push_tag-requires-clause-rest : goal.push_tag-requires-clause-rest
+push_tag-requires-clause-rest c =
+    let b = c.loop-before in
+    rest_fits c.args.source.now b.rest.now (pair_view b.delimiters) b.from (tokens_view b.tokens.items) b.invariant.1 b.delimiters.opens c.in-Some.before.now c.in-Some.after.now (sym c.in-Some.ensures.value) (tag_view c.in-Ok.tag) c.in-Ok.ensures.ok
 
 pub loop-before-smaller : goal.loop-before-smaller
 loop-before-smaller c =
-    let rest = c.loop-before.rest.now in
-    let is : cut braces.opening rest ≡ Some (c.in-Some.before.now, c.in-Some.after.now) = sym (rw c.in-Some.is at c.cut.ensures) in
-    shorter rest c.in-Some.before.now c.in-Some.after.now is c.in-Ok.found.0.now c.in-Ok.found.1.now c.in-Ok.ensures.ok
+    let b = c.loop-before in
+    shorter c.args.source.now b.rest.now (pair_view b.delimiters) b.from (tokens_view b.tokens.items) b.invariant.1 b.delimiters.opens c.in-Some.before.now c.in-Some.after.now (sym c.in-Some.ensures.value) (tag_view c.in-Ok.tag) c.in-Ok.ensures.ok
 
 pub loop-before-preserved : goal.loop-before-preserved
 loop-before-preserved c =
-    let rest = c.loop-before.rest.now in
-    let is : cut braces.opening rest ≡ Some (c.in-Some.before.now, c.in-Some.after.now) = sym (rw c.in-Some.is at c.cut.ensures) in
-    let read : IsReadTo c.args.source.now c.in-Ok.found.1.now (tokens_view c.push_variable.new.tokens.items) =
-    goes_on rest c.in-Some.before.now c.in-Some.after.now is c.args.source.now (tokens_view c.loop-before.tokens.items) (tokens_view c.push_literal.new.tokens.items)
-    c.loop-before.invariant.1 c.in_ok-push_literal.ensures.ok (tokens_view c.push_variable.new.tokens.items) c.in-Ok.found.0.now c.in-Ok.found.1.now c.between.result.now
-    c.in-Ok.ensures.ok c.between.ensures c.in_ok-push_variable.ensures.ok in
-    (search rules, read)
+    let b = c.loop-before in
+    let read = continues c.args.source.now b.rest.now (pair_view b.delimiters) b.from (tokens_view b.tokens.items) b.invariant.1 b.delimiters.opens c.in-Some.before.now c.in-Some.after.now (sym c.in-Some.ensures.value) (tag_view c.in-Ok.tag) c.in-Ok.ensures.ok
+    c.utf8.source c.in-Ok.ensures.rest in
+    (c.in-Ok.ensures.rest, carried (pair_view c.in_ok-delimiters-2.delimiters) c.in_ok-from.from (tokens_view c.push_tag.new.tokens.items) read c.in_ok-delimiters-2.ensures c.in_ok-from.ensures.ok.0 c.in_ok-from.ensures.ok.1)
 
 pub returns-clause-tokens : goal.returns-clause-tokens
 returns-clause-tokens c =
-    let is : cut braces.opening c.loop-before.rest.now ≡ None = sym (rw c.in_default.is at c.cut.ensures) in
-    ends_well c.args.source.now (tokens_view c.push_literal-2.new.tokens.items)
-    (finishes c.args.source.now c.loop-before.rest.now (tokens_view c.loop-before.tokens.items) (tokens_view c.push_literal-2.new.tokens.items) c.loop-before.invariant.1 is c.in_ok-push_literal-2.ensures.ok)
+    let b = c.loop-before in
+    ends_well c.args.source.now b.rest.now (pair_view b.delimiters) b.from (tokens_view b.tokens.items) b.invariant.1 b.delimiters.opens (sym (rw c.in_default.is at c.cut.ensures.value)) ∙ ap (λ l. Ok l) (sym c.in_ok-push_literal.ensures.ok)
 
 pub returns-clause-slices : goal.returns-clause-slices
 returns-clause-slices c =
-    let is : cut braces.opening c.loop-before.rest.now ≡ None = sym (rw c.in_default.is at c.cut.ensures) in
-    are_slices c.args.source.now [] (tokens_view c.push_literal-2.new.tokens.items)
-    (finishes c.args.source.now c.loop-before.rest.now (tokens_view c.loop-before.tokens.items) (tokens_view c.push_literal-2.new.tokens.items) c.loop-before.invariant.1 is c.in_ok-push_literal-2.ensures.ok)
+    let b = c.loop-before in
+    subst (AreSlices c.args.source.now 0) (sym c.in_ok-push_literal.ensures.ok)
+    (ends_sliced c.args.source.now b.rest.now (pair_view b.delimiters) b.from (tokens_view b.tokens.items) b.invariant.1 b.delimiters.opens (sym (rw c.in_default.is at c.cut.ensures.value)))

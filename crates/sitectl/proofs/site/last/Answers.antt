@@ -1,8 +1,8 @@
 use Rattle.std.proofs.Common.{◌≡◌, ◌+◌, List, ◌∙◌, Some, None, MatchOption, sym, ap, take, subst, cond, true, false, add-one}
 use Rattle.command.specs.Action.{Order}
 use Rattle.command.specs.Site.{touches, last_about}
-use Rattle.command.specs.View.{StandsFor}
-use Rattle.sitectl.specs.Standing.{lent, kind_view}
+use Rattle.command.specs.View.{StandsFor, kind_view}
+use Rattle.sitectl.specs.Standing.{lent}
 use Rattle.sitectl.proofs.Commands.{lent_partner, lent_length, all_taken}
 use Rattle.sitectl.proofs.OneMore.{last_more}
 use Rattle.sitectl.proofs.site.last.Goals as goal

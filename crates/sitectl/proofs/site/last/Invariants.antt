@@ -1,8 +1,8 @@
 use Rattle.std.proofs.Common.{◌≡◌, List, take, Some, None, MatchOption}
 use Rattle.command.specs.Action.{Order}
 use Rattle.command.specs.Site.{last_about}
-use Rattle.command.specs.View.{StandsFor}
-use Rattle.sitectl.specs.Standing.{StandForAll, lent, kind_view}
+use Rattle.command.specs.View.{StandsFor, kind_view}
+use Rattle.sitectl.specs.Standing.{StandForAll, lent}
 use Rattle.sitectl.proofs.site.last.Given as goal
 
 -- the one found is the last so far

@@ -1,0 +1,14 @@
+ghost use Rattle.mustache_parse.specs.BlankIndents.{IndentsAreBlank};
+ghost use Rattle.mustache_parse.specs.Indenting.{IndentsPieces, KeepsTrees, NothingToIndent};
+
+/// Blanks before the lines of a text neither give it a tree nor take one away: they come beside its tags, or beside padding within them.
+pub fn indenting_keeps_trees()
+    ensures pieces { IndentsPieces }
+    ensures trees { KeepsTrees }
+    ensures nothing { NothingToIndent }
+{}
+
+/// A partial in a tree is indented by blanks alone, so its text has a tree indented, too.
+pub fn indents_are_blank()
+    ensures { IndentsAreBlank }
+{}

@@ -1,0 +1,10 @@
+pub mod Lines
+pub mod Escapes
+pub mod Rendered
+pub mod NodeMeanings
+pub mod Examples
+pub mod TagExamples
+pub mod PublicExamples
+pub mod CornerExamples
+pub mod DepthExamples
+pub mod CostExamples

@@ -1,7 +1,0 @@
-use Rattle.std.proofs.Common.{◌≡◌, take}
-use Rattle.sitectl.specs.Printed.{escaped}
-use Rattle.sitectl.proofs.render.next_special.Given as goal
-
--- the bytes passed stand for themselves
-abbrev pub invariant-loop-at : goal.invariant-loop-at
-invariant-loop-at l = escaped (take l.at l.text) ≡ take l.at l.text
