@@ -60,7 +60,7 @@ wrong_by d after o kind None h = absurd (cc)
 wrong_by d after o kind (Some w) h = let e : w ≡ kind = cc in ap (λ k. ends_here (Some k)) e
 
 is_wrong : (d : Pair) (after : List ℕ) (r : Option Opened) (kind : FaultKind) → checked r ≡ Err kind → after_opening reading d after r ≡ ends_here (Some kind)
-is_wrong d after None kind h = ap ends_here (let e : Some UnclosedTag ≡ Some kind = cc in e)
+is_wrong d after None kind h = let e : Some UnclosedTag ≡ Some kind = cc in ap ends_here e
 is_wrong d after (Some o) kind h = wrong_by d after o kind (wrong_inside o.kind (stripped o.inside)) h
 
 module _ (t rest : List ℕ) (d : Pair) (from : ℕ) (xs : List TokenSeen) (so_far : IsReadTo t rest d from xs) (opens : is_sequence d.opening ≡ true) where

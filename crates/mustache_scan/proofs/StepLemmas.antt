@@ -193,7 +193,7 @@ module _ (t rest : List ℕ) (d : Pair) (from : ℕ) (xs : List TokenSeen) (so_f
         (λ g le'. (le', ap (slice_range t place) text_self, tt)))
 
     ended_is : end_of 0 (xs ++ added) ≤ length (text_of ps)
-    ended_is = omega (arith, ap (λ n. n) (end-append 0 xs added), end-append (end_of 0 xs) (literal_at from (slice_range t from part.0)) (tag_at t o.kind (stripped o.inside) place past ∷ []), text_self, ps_length)
+    ended_is = omega (arith, end-append 0 xs added, end-append (end_of 0 xs) (literal_at from (slice_range t from part.0)) (tag_at t o.kind (stripped o.inside) place past ∷ []), text_self, ps_length)
 
     pub goes_on : wrong_inside o.kind (stripped o.inside) ≡ None → IsUtf8 t → IsCharBoundary t past → IsReadTo t o.rest (delimiters_after d o.kind (stripped o.inside)) (max from part.1) (xs ++ added)
     goes_on right u boundary = record {
