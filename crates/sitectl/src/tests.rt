@@ -2,6 +2,7 @@
 mod calls;
 mod ends;
 mod faults;
+mod messages;
 mod pages;
 mod refusals;
 mod spec;

@@ -5,14 +5,17 @@ use command::{CommandFault, fault_line, read, write};
 use context::{Data, DataFault};
 use mustache_parse::parse;
 use mustache_scan::{FaultKind, scan};
-use site_ids::Ticket;
+use site_ids::{Cluster, Ticket};
 use std::alloc::Global;
 use std::test::Fail;
+use wire::{WireFault, decode, encode};
 
-fn is_greeting(printed: &Printed) -> bool {
-    printed.status == 0
-        && printed.out.as_slice() == b"Hello, world!\n".as_slice()
-        && printed.err.is_empty()
+/// Two rows, each by a partial.
+const ROWS: &str =
+    "1 1 46\nput template t\n{{#rows}}\n  {{>row}}\n{{/rows}}\n1 2 38\nput partial row\n- {{name}} {{{name}}}\n1 3 49\nput data d\n{\"rows\":[{\"name\":\"a&b\"},{\"name\":\"c\"}]}1 4 16\nput route / t d\n1 5 8\nrelease\n";
+
+fn is_page(printed: &Printed, body: &str) -> bool {
+    printed.status == 0 && printed.out.as_slice() == body.as_bytes() && printed.err.is_empty()
 }
 
 /// One line alone: the engine's memory was refused, or that of the writer over memory.
@@ -26,16 +29,21 @@ fn is_refusal(printed: &Printed) -> bool {
 #[test]
 fn the_engine(rt: HostRuntime) {
     let alloc = rt.alloc();
-    let first = run(alloc, GREETING.as_bytes(), None, "/");
-    let second = run(alloc, GREETING.as_bytes(), None, "/");
-    assert!(rt; is_greeting(&first) || is_refusal(&first));
-    assert!(rt; is_greeting(&second) || is_greeting(&first) && is_refusal(&second));
+    for (input, body) in [
+        (GREETING, "Hello, world!\n"),
+        (ROWS, "  - a&amp;b a&b\n  - c c\n"),
+    ] {
+        let first = run(alloc, input.as_bytes(), None, "/");
+        let second = run(alloc, input.as_bytes(), None, "/");
+        assert!(rt; is_page(&first, body) || is_refusal(&first));
+        assert!(rt; is_page(&second, body) || is_page(&first, body) && is_refusal(&second));
+    }
 }
 
 #[test]
 fn templates_and_data(rt: HostRuntime) -> Result<(), Fail> {
     let alloc = rt.alloc();
-    let text = "Hello, {{ subject }}!\n";
+    let text = "{{#a}}\n- {{b.c}}\n{{/a}}{{^a}}{{{b}}}{{/a}}\n  {{>p}}\n{{=<% %>=}}<%! c %>";
     let tokens = match scan(alloc, text) {
         Ok(tokens) => tokens,
         Err(fault) => {
@@ -43,7 +51,7 @@ fn templates_and_data(rt: HostRuntime) -> Result<(), Fail> {
             scan(alloc, text)?
         }
     };
-    assert_eq!(rt; tokens.len(), 3);
+    assert!(rt; !tokens.is_empty());
     let template = match parse(alloc, text) {
         Ok(template) => template,
         Err(fault) => {
@@ -52,7 +60,7 @@ fn templates_and_data(rt: HostRuntime) -> Result<(), Fail> {
         }
     };
     assert_eq!(rt; template.source(), text);
-    let json = b"{\"a\":\"x\",\"b\":7,\"c\":null}";
+    let json = b"{\"a\":[\"x\",7,{}],\"b\":{\"c\":true},\"d\":null}";
     let found = match Data::from_json(alloc, json) {
         Ok(found) => found,
         Err(fault) => {
@@ -100,5 +108,30 @@ fn values_and_lines(rt: HostRuntime) -> Result<(), Fail> {
         Err(_) => fault_line(alloc, &fault)?,
     };
     assert_eq!(rt; line.as_str(), "6 Data 1 NotJson");
+    Ok(())
+}
+
+#[test]
+fn messages(rt: HostRuntime) -> Result<(), Fail> {
+    let alloc = rt.alloc();
+    let cluster = Cluster::new(3).ok_or("no cluster")?;
+    // A promise with a prior vote for the value of one byte.
+    let bytes = [
+        1, 2, 2, 0, 0, 0, 1, 0, 0, 0, 3, 1, 1, 0, 0, 0, 1, 2, 0, 0, 0, 1, 7,
+    ];
+    let message = match decode(alloc, &bytes, cluster) {
+        Ok(message) => message,
+        Err(fault) => {
+            assert_eq!(rt; fault, WireFault::OutOfMemory);
+            decode(alloc, &bytes, cluster)?
+        }
+    };
+    assert!(rt; message.fits());
+    let mut out = Vec::new(alloc);
+    if encode(&message, &mut out).is_err() {
+        assert!(rt; out.is_empty());
+        encode(&message, &mut out)?;
+    }
+    assert_eq!(rt; out.as_slice(), bytes.as_slice());
     Ok(())
 }

@@ -1,0 +1,3 @@
+pub mod Judging
+pub mod Steps
+pub mod Laws

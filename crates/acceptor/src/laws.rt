@@ -1,0 +1,21 @@
+ghost use Rattle.acceptor.specs.Laws.{PrepareSteps, ProposalSteps, OnePrepareVerdict, OneProposalVerdict, OneStep, PromiseRises, VoteRises};
+
+/// What the verdicts stand for is the acceptor's step.
+pub fn verdicts_are_steps()
+    ensures prepare { PrepareSteps }
+    ensures proposal { ProposalSteps }
+{}
+
+/// A request at a slot has one verdict, so one new slot and one answer. (That it has a verdict is the judges' own
+/// contract.)
+pub fn requests_have_one_verdict()
+    ensures prepare { OnePrepareVerdict }
+    ensures proposal { OneProposalVerdict }
+    ensures one { OneStep }
+{}
+
+/// No step takes a promise back, and a new vote is at no lower ballot than the promise.
+pub fn promises_only_rise()
+    ensures promise { PromiseRises }
+    ensures vote { VoteRises }
+{}

@@ -1,0 +1,3 @@
+pub mod MajorityLemmas
+pub mod BallotLemmas
+pub mod Examples

@@ -1,0 +1,96 @@
+ghost use Rattle.std.specs.Prelude.{◌≡◌, ◌↔◌, IsTrue};
+ghost use Rattle.wire.specs.Messages.{sender_of, instance_of, kind_of, Fits};
+
+use site_ids::{Ballot, Instance, MAX_VALUE, NodeId, Value, Vote};
+
+/// What one node tells others about one instance.
+#[derive(Debug, Drop)]
+pub enum Message {
+    Prepare {
+        from: NodeId,
+        instance: Instance,
+        ballot: Ballot,
+    },
+    Promise {
+        from: NodeId,
+        instance: Instance,
+        ballot: Ballot,
+        /// The vote that the sender had, if any.
+        prior: Option<Vote>,
+    },
+    Propose {
+        from: NodeId,
+        instance: Instance,
+        ballot: Ballot,
+        value: Value,
+    },
+    Accepted {
+        from: NodeId,
+        instance: Instance,
+        ballot: Ballot,
+        value: Value,
+    },
+    Nack {
+        from: NodeId,
+        instance: Instance,
+        asked: Ballot,
+        promised: Ballot,
+    },
+}
+
+impl Message {
+    pub fn from(&self) -> NodeId
+        ensures { result ≡ sender_of self.now }
+    {
+        match self {
+            Message::Prepare { from, .. }
+            | Message::Promise { from, .. }
+            | Message::Propose { from, .. }
+            | Message::Accepted { from, .. }
+            | Message::Nack { from, .. } => *from,
+        }
+    }
+
+    pub fn instance(&self) -> Instance
+        ensures { result ≡ instance_of self.now }
+    {
+        match self {
+            Message::Prepare { instance, .. }
+            | Message::Promise { instance, .. }
+            | Message::Propose { instance, .. }
+            | Message::Accepted { instance, .. }
+            | Message::Nack { instance, .. } => *instance,
+        }
+    }
+
+    /// The number of its kind in a datagram.
+    pub(crate) fn kind(&self) -> u8
+        ensures { result ≡ kind_of self.now }
+    {
+        match self {
+            Message::Prepare { .. } => 1,
+            Message::Promise { .. } => 2,
+            Message::Propose { .. } => 3,
+            Message::Accepted { .. } => 4,
+            Message::Nack { .. } => 5,
+        }
+    }
+
+    /// Whether its value, if it has one, is within the limit.
+    pub fn fits(&self) -> bool
+        ensures { IsTrue result ↔ Fits self.now }
+    {
+        match self {
+            Message::Prepare { .. } | Message::Nack { .. } => true,
+            Message::Promise { prior: None, .. } => true,
+            Message::Promise {
+                prior: Some(vote),
+                ..
+            } => vote.value.as_bytes().len() <= MAX_VALUE,
+            Message::Propose { value, .. } | Message::Accepted { value, .. } => value
+                .as_bytes()
+                .len()
+                <= MAX_VALUE,
+        }
+    }
+}
