@@ -1,6 +1,10 @@
 //! `siterender PATH`: the page for a path, from framed commands on standard input.
 #![tactic(auto)]
 
+ghost use Rattle.std.specs.Prelude.{◌≡◌};
+ghost use Rattle.std.specs.Vec.Iter.{into_iter_items};
+ghost use Rattle.siterender.specs.Words.{only_word};
+
 use sitectl::{Counted, siterender};
 use std::env::Args;
 use std::io::ErrorKind;
@@ -8,7 +12,9 @@ use std::process::ExitCode;
 use std::{env, io};
 
 /// The one word after the program's name.
-fn only_word(mut words: Args) -> Option<String> {
+fn only_word(mut words: Args) -> Option<String>
+    ensures { result ≡ only_word (into_iter_items words) }
+{
     let _program = words.next();
     let path = words.next()?;
     match words.next() {
