@@ -3,7 +3,7 @@ use Rattle.std.proofs.Common.{◌≡◌, ℕ, List, [], ◌∷◌, length, codes
 use Rattle.std.specs.Str.{is_utf8, chars}
 use Rattle.std.specs.Fmt.{digits}
 use Rattle.site_ids.specs.declared.Ticket.{Ticket}
-use Rattle.context.specs.Whole.{int, list, hash, no_items, no_members, member}
+use Rattle.context.specs.Whole.{int}
 use Rattle.context.specs.declared.fault.DataFault.TheVariants as data_fault
 use Rattle.mustache_scan.specs.Cutting.{cut}
 use Rattle.mustache_scan.specs.Reading.{reading_within}

@@ -6,5 +6,6 @@ pub mod FaultLemmas
 pub mod WrittenLemmas
 pub mod SiteLemmas
 pub mod EffectiveLemmas
+pub mod OneMoreLemmas
 pub mod ReleaseLemmas
 pub mod Examples

@@ -1,12 +1,12 @@
 -- What a row and a value read as.
-use Rattle.std.proofs.Common.{◌≡◌, ℕ, List, ◌≤◌, ◌-◌, length, drop, take, Bool, true, false, Option, Some, None, Result, Ok, Err, ok_or, refl, ap, ◌∙◌}
+use Rattle.std.proofs.Common.{◌≡◌, ℕ, List, ◌≤◌, ◌-◌, length, drop, take, Bool, true, false, Option, None, Ok, Err, refl, ap, ◌∙◌}
 use Rattle.std.proofs.lemmas.Bool.{le-leb}
 use Rattle.std.proofs.lemmas.List.{take_rest}
 use Rattle.std.proofs.lemmas.Str.{is_utf8-from_IsUtf8, IsUtf8-from_is_utf8}
 use Rattle.std.specs.Str.{IsUtf8, is_utf8}
 use Rattle.context.specs.Whole.{Whole, data_reading}
 use Rattle.mustache_parse.specs.Tree.{Tree, tree_of}
-use Rattle.command.specs.Action.{Kind, template, partial, page_data, route, put_template, put_partial, put_data, put_route, remove, Order}
+use Rattle.command.specs.Action.{Kind, template, partial, page_data, route, put_template, put_partial, put_data, put_route, remove}
 use Rattle.command.specs.Rows.{Row, template_row, partial_row, data_row, route_row, remove_row, row_of}
 use Rattle.command.specs.Reading.{is_name, is_path, is_removable, wrong_remove, row_reading, text_row, text_reading, ticket_of, with_ticket, value_reading}
 use Rattle.command.specs.declared.fault.CommandFault.TheVariants.{Form}

@@ -102,7 +102,7 @@ pub members_view-insert_entry : (es : List Entry) (k : String Global) (v : Data)
 members_view-insert_entry [] k v = refl
 members_view-insert_entry (e ∷ es) k v = members_view-match_ordering (string_cmp k e.0) _ _ _ ∙ rw (members_view-insert_entry es k v)
 
-below_middle : (first : JsonEntry) (es : List JsonEntry) (e : JsonEntry) (more : List JsonEntry) → AllByRecursion (λ y. string_cmp first.0 y ≡ Less) (keys_of (es ++ e ∷ more)) → string_cmp first.0 e.0 ≡ Less
+pub below_middle : {V : Type 0} (first : String Global × V) (es : List (String Global × V)) (e : String Global × V) (more : List (String Global × V)) → AllByRecursion (λ y. string_cmp first.0 y ≡ Less) (keys_of (es ++ e ∷ more)) → string_cmp first.0 e.0 ≡ Less
 below_middle first [] e more h = h.0
 below_middle first (x ∷ es) e more h = below_middle first es e more h.1
 
@@ -122,3 +122,13 @@ put_last (first ∷ done) e more ms w h so_far =
     nat_list_cmp_total.antisymm (string_bytes e.0) (string_bytes first.0) ∙ ap ordering_reverse (below_middle first done e more h.0) in
     let parts = first_and_rest (string_bytes first.0) (whole (view first.1)) (whole_members (json_members done)) ms so_far in
     rw (parts.3, above) (ap (member (string_bytes first.0) parts.0) (put_last done e more parts.1 w h.1 parts.2))
+
+-- the same of data that is copied
+pub copied_last : (done : List Entry) (e : Entry) (more : List Entry) → IsStrictlySortedBy string_cmp (keys_of (done ++ e ∷ more))
+    → put (string_bytes e.0) (data_view e.1) (members_view done) ≡ members_view (done ++ e ∷ [])
+unfolding IsStrictlySortedBy
+copied_last [] e more h = refl
+copied_last (first ∷ done) e more h =
+    let above : slice_cmp nat_cmp (string_bytes e.0) (string_bytes first.0) ≡ Greater =
+    nat_list_cmp_total.antisymm (string_bytes e.0) (string_bytes first.0) ∙ ap ordering_reverse (below_middle first done e more h.0) in
+    rw above (ap (member (string_bytes first.0) (data_view first.1)) (copied_last done e more h.1))

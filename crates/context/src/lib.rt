@@ -1,6 +1,7 @@
 //! The data of a page: JSON whose numbers are whole, and names looked up in it.
 #![tactic(auto)]
 
+mod copying;
 mod fault;
 mod json;
 mod look_up;

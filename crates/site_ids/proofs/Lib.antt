@@ -1,3 +1,5 @@
 pub mod MajorityLemmas
+pub mod MemberLemmas
+pub mod MapLemmas
 pub mod BallotLemmas
 pub mod Examples

@@ -1,3 +1,4 @@
 pub mod Ids
 pub mod Majorities
+pub mod Maps
 pub mod Laws

@@ -1,7 +1,3 @@
-pub mod Zips
-pub mod OneMore
-pub mod Commands
-pub mod Answering
 pub mod Cutting
 pub mod Frames
 pub mod Splitting
@@ -9,4 +5,7 @@ pub mod Inputs
 pub mod OneReading
 pub mod SomeReading
 pub mod OneVerdict
-pub mod Verdicts
+pub mod OptionValues
+pub mod TwoArguments
+pub mod OptionLemmas
+pub mod Feeding

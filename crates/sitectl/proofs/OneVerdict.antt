@@ -1,7 +1,7 @@
 -- An input is answered in one way.
 use Rattle.std.proofs.Common.{◌≡◌, ℕ, List, map, Option, Result, Ok, Err, refl, sym, ap, ◌∙◌, inl, inr}
 use Rattle.command.specs.Action.{Order}
-use Rattle.sitectl.specs.Page.{answer, asked}
+use Rattle.release.specs.Page.{answer, asked}
 use Rattle.sitectl.specs.Reading.{HasReading}
 use Rattle.sitectl.specs.Verdict.{Verdict, says, or_no_release, entry_value, HasValues, IsVerdict}
 use Rattle.sitectl.proofs.OneReading.{one_reading, same_entries}

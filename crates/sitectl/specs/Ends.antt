@@ -1,7 +1,7 @@
 -- How a run of the renderer ends.
 use Rattle.std.specs.Prelude.{ℕ, ◌≡◌, ◌⊎◌, ◌==◌, List, codes, Option, if◌then◌else◌}
 use Rattle.sitectl.specs.Bytes.{End, HasFailed, IsRead, IsSilent, IsWritten, IsBroken, IsGiven}
-use Rattle.sitectl.specs.Page.{Page}
+use Rattle.release.specs.Page.{Page}
 use Rattle.sitectl.specs.Verdict.{IsVerdict, shows, says}
 
 -- the whole body, and nothing else

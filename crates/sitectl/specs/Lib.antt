@@ -1,4 +1,3 @@
-pub mod Page
 pub mod Framed
 pub mod Words
 pub mod Parts
@@ -10,3 +9,4 @@ pub mod Laws
 pub mod Counted
 pub mod Bytes
 pub mod Ends
+pub mod Options

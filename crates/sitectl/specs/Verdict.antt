@@ -3,7 +3,7 @@ use Rattle.std.specs.Prelude.{ℕ, ◌≡◌, ◌⊎◌, List, map, codes, Optio
 use Rattle.command.specs.Action.{Order}
 use Rattle.command.specs.Written.{value_of}
 use Rattle.sitectl.specs.Framed.{Entry}
-use Rattle.sitectl.specs.Page.{Page, answer, asked}
+use Rattle.release.specs.Page.{Page, answer, asked}
 use Rattle.sitectl.specs.Reading.{IsWhole, HasReading}
 
 -- a page, or a line that says why there is none

@@ -7,15 +7,15 @@ ghost use Rattle.sitectl.specs.Verdict.{IsVerdict};
 
 use crate::counted::Counted;
 use crate::ends::{InputFault, read_all, write_all};
-use crate::input::{Input, commands};
-use crate::site::{Page, answer};
+use crate::input::{Input, fed};
+use release::{Answer, AnswerFault};
 use std::alloc::{AllocError, Global};
 use std::io::{Read, Write};
 
 /// A page, or a line.
 #[derive(Drop)]
 pub(crate) enum Outcome {
-    Shows(Page),
+    Shows(Answer),
     Says(String),
 }
 
@@ -28,12 +28,18 @@ fn outcome_of(
 ) -> Result<Outcome, AllocError>
     ensures { IfOk result (λ o. IsVerdict input.now release path.now (verdict_view o)) }
 {
-    match commands(alloc, input)? {
+    match fed(alloc, input)? {
         Input::Fault(line) => Ok(Outcome::Says(line)),
-        Input::Commands(found) => match answer(alloc, found.as_slice(), release, path)? {
-            None => Ok(Outcome::Says(String::from_str(alloc, "no release\n")?)),
-            Some(page) => Ok(Outcome::Shows(page)),
-        },
+        Input::Fed(releases) => {
+            let n = release.unwrap_or(releases.newest());
+            match releases.answer(alloc, n, path) {
+                Ok(answer) => Ok(Outcome::Shows(answer)),
+                Err(AnswerFault::NoSuchRelease) => {
+                    Ok(Outcome::Says(String::from_str(alloc, "no release\n")?))
+                }
+                Err(AnswerFault::OutOfMemory) => Err(AllocError),
+            }
+        }
     }
 }
 

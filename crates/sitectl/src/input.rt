@@ -1,56 +1,58 @@
-//! The commands of an input.
-ghost use Rattle.std.specs.Prelude.{◌≡◌, ◌≢◌, IfOk, IfErr, Err, string_bytes};
+//! The values of an input.
+ghost use Rattle.std.specs.Prelude.{◌≡◌, ◌≢◌, ℕ, IfOk, IfErr, Ok, Err, string_bytes};
 ghost use Rattle.command.specs.Action.{Order};
-ghost use Rattle.command.specs.View.{StandsFor};
+ghost use Rattle.command.specs.Reading.{value_reading};
 ghost use Rattle.command.specs.Written.{line_of, HasLine};
+ghost use Rattle.command.specs.declared.fault.CommandFault.{CommandFault as Fault};
 ghost use Rattle.sitectl.specs.Input.{IsInput};
-ghost use Rattle.sitectl.specs.Parts.{entry_of};
-ghost use Rattle.sitectl.specs.Reading.{entry_reading, fault_at, HasOrder};
+ghost use Rattle.sitectl.specs.Reading.{fault_at};
 
-use crate::framed::{Framed, next};
-use command::{Command, CommandFault, fault_line, read, write};
+use crate::framed::next;
+use command::{CommandFault, fault_line, read, write};
+use content::Applied;
+use release::Releases;
 use std::alloc::{AllocError, Global};
 
 /// The most commands of an input.
 const MAX_COMMANDS: usize = 1_000_000;
 
-/// The commands, or the line of the first fault.
+/// The releases of the values, or the line of the first fault.
 #[derive(Drop)]
 pub(crate) enum Input {
-    Commands(Vec<Command>),
+    Fed(Releases),
     Fault(String),
 }
 
-/// Reads framed commands. A fault is told by the command's place, counted from 1.
-pub(crate) fn commands(alloc: Global, input: &[u8]) -> Result<Input, AllocError>
+/// Feeds the values of framed commands. A fault is told by the command's place, counted from 1.
+pub(crate) fn fed(alloc: Global, input: &[u8]) -> Result<Input, AllocError>
     ensures { IfOk result (λ found. IsInput input.now found) }
 {
-    let mut found = Vec::new(alloc);
+    let mut releases = Releases::new(alloc);
     let mut rest = input;
     while !rest.is_empty() {
+        let place = releases.len() + 1;
         let framed = match next(rest) {
-            Some(framed) if found.len() < MAX_COMMANDS => framed,
-            _ => return Ok(Input::Fault(line_at(alloc, found.len() + 1, "framing")?)),
+            Some(framed) if place <= MAX_COMMANDS => framed,
+            _ => return Ok(Input::Fault(line_at(alloc, place, "framing")?)),
         };
-        match command_of(alloc, &framed) {
-            Ok(command) => found.push(command)?,
-            Err(fault) => {
-                let line = fault_input(alloc, found.len() + 1, &fault)?;
-                return Ok(Input::Fault(line));
-            }
+        let value = write(alloc, framed.ticket, framed.text)?;
+        if matches!(releases.feed(alloc, &value)?, Applied::NotACommand) {
+            return Ok(Input::Fault(fault_at(alloc, place, &value)?));
         }
         rest = framed.rest;
     }
-    Ok(Input::Commands(found))
+    Ok(Input::Fed(releases))
 }
 
-fn command_of(alloc: Global, framed: &Framed<'_>) -> Result<Command, CommandFault>
-    ensures ok { IfOk result (λ c. (order : Order) × HasOrder (entry_of framed.now) order × StandsFor c order) }
-    ensures err { IfErr result (λ e. e ≢ CommandFault.OutOfMemory → entry_reading (entry_of framed.now) ≡ Err e) }
-    ensures line { IfErr result (λ e. e ≢ CommandFault.OutOfMemory → HasLine e) }
+/// The line of a value that is no command, which is read once more for its fault.
+fn fault_at(alloc: Global, place: usize, value: &[u8]) -> Result<String, AllocError>
+    requires { (order : Order) → value_reading value.now ≢ Ok order }
+    ensures { IfOk result (λ line. (fault : Fault) × (value_reading value.now ≡ Err fault) × (string_bytes line ≡ fault_at place (line_of fault))) }
 {
-    let value = write(alloc, framed.ticket, framed.text)?;
-    read(alloc, &value)
+    match read(alloc, value) {
+        Ok(_) => unreachable!(),
+        Err(fault) => fault_input(alloc, place, &fault),
+    }
 }
 
 fn fault_input(alloc: Global, k: usize, fault: &CommandFault) -> Result<String, AllocError>

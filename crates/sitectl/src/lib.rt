@@ -7,11 +7,12 @@ mod engine;
 mod framed;
 mod input;
 mod laws;
-mod site;
+mod options;
 
 pub use counted::Counted;
 pub use engine::siterender;
 pub use laws::an_input_has_one_verdict;
+pub use options::{RenderOptions, render_options};
 
 #[cfg(test)]
 mod tests;

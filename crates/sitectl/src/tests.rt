@@ -1,11 +1,9 @@
-//! The engine over memory, with readers and writers that fail; and each call of the crates below once.
-mod calls;
+//! The engine over memory, with readers and writers that fail; command lines.
 mod ends;
 mod faults;
-mod messages;
+mod options;
 mod pages;
 mod refusals;
-mod spec;
 
 use crate::{Counted, siterender};
 use std::alloc::{AllocError, Global};

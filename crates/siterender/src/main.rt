@@ -1,50 +1,52 @@
-//! `siterender PATH`: the page for a path, from framed commands on standard input.
+//! `siterender [--release N] PATH`: the page for a path, from framed commands on standard input.
 #![tactic(auto)]
 
-ghost use Rattle.std.specs.Prelude.{◌≡◌};
-ghost use Rattle.std.specs.Vec.Iter.{into_iter_items};
-ghost use Rattle.siterender.specs.Words.{only_word};
-
-use sitectl::{Counted, siterender};
-use std::env::Args;
-use std::io::ErrorKind;
+use clap::error::ErrorKind;
+use sitectl::{Counted, RenderOptions, render_options, siterender};
 use std::process::ExitCode;
 use std::{env, io};
 
-/// The one word after the program's name.
-fn only_word(mut words: Args) -> Option<String>
-    ensures { result ≡ only_word (into_iter_items words) }
-{
-    let _program = words.next();
-    let path = words.next()?;
-    match words.next() {
-        None => Some(path),
-        Some(_) => None,
-    }
-}
-
 /// The page, or one line, and the exit status.
-fn shown(rt: HostRuntime, path: &str) -> ExitCode {
+fn shown(rt: HostRuntime, options: RenderOptions<'_>) -> ExitCode {
     let mut reader = Counted::new(rt.stdin());
     let mut out = Counted::new(rt.stdout());
     let mut err = Counted::new(rt.stderr());
-    let status = siterender(rt.alloc(), &mut reader, &mut out, &mut err, None, path);
+    let status = siterender(
+        rt.alloc(),
+        &mut reader,
+        &mut out,
+        &mut err,
+        options.release,
+        options.path,
+    );
     ExitCode::from(status)
 }
 
+/// Says that memory was refused, and gives status 1.
+fn out_of_memory(rt: HostRuntime) -> io::Result<ExitCode> {
+    eprintln!(rt; "out of memory")?;
+    Ok(ExitCode::from(1))
+}
+
 fn main(rt: HostRuntime) -> io::Result<ExitCode> {
+    let alloc = rt.alloc();
     let words = match env::args(&rt) {
-        Ok(words) => only_word(words),
-        Err(e) if e.kind() == ErrorKind::OutOfMemory => {
-            eprintln!(rt; "out of memory")?;
-            return Ok(ExitCode::from(1));
+        Ok(words) => words,
+        Err(e) if e.kind() == io::ErrorKind::OutOfMemory => return out_of_memory(rt),
+        Err(_) => {
+            eprintln!(rt; "error: invalid UTF-8 was detected in one or more arguments")?;
+            return Ok(ExitCode::from(2));
         }
-        Err(_) => None,
     };
-    match words {
-        Some(path) => Ok(shown(rt, path.as_str())),
-        None => {
-            eprintln!(rt; "usage: siterender PATH")?;
+    let words: Vec<String> = match words.collect(alloc) {
+        Ok(words) => words,
+        Err(_) => return out_of_memory(rt),
+    };
+    match render_options(alloc, words.as_slice()) {
+        Ok(options) => Ok(shown(rt, options)),
+        Err(e) if e.kind() == ErrorKind::OutOfMemory => out_of_memory(rt),
+        Err(e) => {
+            eprint!(rt; "{e}")?;
             Ok(ExitCode::from(2))
         }
     }

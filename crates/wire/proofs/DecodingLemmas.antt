@@ -6,7 +6,7 @@ use Rattle.site_ids.specs.declared.value.Vote.{Vote}
 use Rattle.wire.specs.declared.fault.WireFault.{WireFault}
 use Rattle.wire.specs.declared.fault.WireFault.TheVariants.{OutOfMemory}
 use Rattle.wire.specs.declared.message.Message.{Message}
-use Rattle.wire.specs.declared.message.Message.TheVariants.{Promise, Propose, Accepted}
+use Rattle.wire.specs.declared.message.Message.TheVariants.{Promise, Propose, Accepted, Chosen}
 use Rattle.wire.specs.Spelling.{ballot_bytes, value_bytes, front}
 use Rattle.wire.specs.Decoding.{Spells, Decodes}
 
@@ -30,6 +30,10 @@ pub accepted_spells : (n q i : ℕ) (b : BallotOf) (v fields : List ℕ) → IsN
     → IsBallot n b × (length v ≤ 32768) × (fields ≡ ballot_bytes b ++ value_bytes v) → Spells n (front 4 q i ++ fields) (Accepted q i b v)
 accepted_spells n q i b v fields head found =
     (record { sender = head.0; instance = head.1; ballots = found.0; fits = found.1 }, ap (λ (xs : List ℕ). front 4 q i ++ xs) found.2)
+
+pub chosen_spells : (n q i : ℕ) (v fields : List ℕ) → IsNode n q × IsInstance i → (length v ≤ 32768) × (fields ≡ value_bytes v) → Spells n (front 7 q i ++ fields) (Chosen q i v)
+chosen_spells n q i v fields head found =
+    (record { sender = head.0; instance = head.1; ballots = tt; fits = found.0 }, ap (λ (xs : List ℕ). front 7 q i ++ xs) found.1)
 
 -- want of memory for a message that is spelled
 pub wanted : (n : ℕ) (bytes : List ℕ) (m : Message) (r : Result Message WireFault) → Spells n bytes m → IsErrAnd r (λ e. e ≡ OutOfMemory) → Decodes n bytes r

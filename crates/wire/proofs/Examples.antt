@@ -2,7 +2,7 @@
 use Rattle.std.proofs.Common.{◌≡◌, ℕ, List, [], ◌∷◌, ◌++◌, length, replicate, slice_index, Some, None, refl, ap, arith}
 use Rattle.site_ids.specs.Ids.{BallotOf}
 use Rattle.wire.specs.declared.message.Message.{Message}
-use Rattle.wire.specs.declared.message.Message.TheVariants.{Prepare, Promise, Propose, Accepted, Nack}
+use Rattle.wire.specs.declared.message.Message.TheVariants.{Prepare, Promise, Propose, Accepted, Nack, Ask, Chosen}
 use Rattle.wire.specs.Spelling.{spelled}
 use Rattle.wire.specs.Decoding.{Spells}
 use Rattle.wire.proofs.ReadingLemmas.{not_spelled}
@@ -40,6 +40,12 @@ accepted = refl
 nack : spelled (Nack 3 1 (at 1 1) (at 2 2)) ≡ 1 ∷ 5 ∷ 3 ∷ 0 ∷ 0 ∷ 0 ∷ 1 ∷ 0 ∷ 0 ∷ 0 ∷ 1 ∷ 1 ∷ 0 ∷ 0 ∷ 0 ∷ 2 ∷ 2 ∷ []
 nack = refl
 
+ask : spelled (Ask 3 2) ≡ 1 ∷ 6 ∷ 3 ∷ 0 ∷ 0 ∷ 0 ∷ 2 ∷ []
+ask = refl
+
+chosen_no_op : spelled (Chosen 1 2 []) ≡ 1 ∷ 7 ∷ 1 ∷ 0 ∷ 0 ∷ 0 ∷ 2 ∷ 0 ∷ 0 ∷ 0 ∷ 0 ∷ []
+chosen_no_op = refl
+
 longest_promise : length (spelled (Promise 1 1 (at 1 1) (Some (record { ballot = at 1 1; value = replicate 32768 0 })))) ≡ 32790
 longest_promise = refl
 
@@ -60,5 +66,8 @@ ballot_of_a_fourth = not_spelled 3 (1 ∷ 1 ∷ 2 ∷ 0 ∷ 0 ∷ 0 ∷ 1 ∷ 0 
 instance_zero : (m : Message) → ¬ Spells 3 (1 ∷ 1 ∷ 2 ∷ 0 ∷ 0 ∷ 0 ∷ 0 ∷ 0 ∷ 0 ∷ 0 ∷ 1 ∷ 2 ∷ []) m
 instance_zero = not_spelled 3 (1 ∷ 1 ∷ 2 ∷ 0 ∷ 0 ∷ 0 ∷ 0 ∷ 0 ∷ 0 ∷ 0 ∷ 1 ∷ 2 ∷ []) (λ s. omega (arith, s.0.instance.0))
 
-sixth_kind : (m : Message) → ¬ Spells 3 (1 ∷ 6 ∷ 1 ∷ 0 ∷ 0 ∷ 0 ∷ 2 ∷ []) m
-sixth_kind = not_spelled 3 (1 ∷ 6 ∷ 1 ∷ 0 ∷ 0 ∷ 0 ∷ 2 ∷ []) (λ s. let e : ◌≡◌ {A = ℕ} 6 5 = ap (λ xs. slice_index xs 1) s.1 in omega arith)
+eighth_kind : (m : Message) → ¬ Spells 3 (1 ∷ 8 ∷ 1 ∷ 0 ∷ 0 ∷ 0 ∷ 2 ∷ 0 ∷ 0 ∷ 0 ∷ 0 ∷ []) m
+eighth_kind = not_spelled 3 (1 ∷ 8 ∷ 1 ∷ 0 ∷ 0 ∷ 0 ∷ 2 ∷ 0 ∷ 0 ∷ 0 ∷ 0 ∷ []) (λ s. let e : ◌≡◌ {A = ℕ} 8 7 = ap (λ xs. slice_index xs 1) s.1 in omega arith)
+
+byte_after_an_ask : (m : Message) → ¬ Spells 3 (1 ∷ 6 ∷ 3 ∷ 0 ∷ 0 ∷ 0 ∷ 2 ∷ 0 ∷ []) m
+byte_after_an_ask = not_spelled 3 (1 ∷ 6 ∷ 3 ∷ 0 ∷ 0 ∷ 0 ∷ 2 ∷ 0 ∷ []) (λ s. let e : ◌≡◌ {A = ℕ} 8 7 = ap length s.1 in omega arith)

@@ -4,7 +4,7 @@ use Rattle.byteorder.specs.Endian.{big_bytes, big_number}
 use Rattle.site_ids.specs.Ids.{BallotOf, IsInstance, IsBallot}
 use Rattle.site_ids.specs.declared.value.Vote.{Vote}
 use Rattle.wire.specs.declared.message.Message.{Message}
-use Rattle.wire.specs.declared.message.Message.TheVariants.{Prepare, Promise, Propose, Accepted, Nack}
+use Rattle.wire.specs.declared.message.Message.TheVariants.{Prepare, Promise, Propose, Accepted, Nack, Ask, Chosen}
 use Rattle.wire.specs.Messages.{IsMessage}
 use Rattle.wire.specs.Spelling.{ballot_bytes, value_bytes, prior_bytes, spelled}
 use Rattle.wire.specs.Decoding.{Spells}
@@ -25,7 +25,9 @@ of_kind (suc zero) q i xs = Prepare q i (ballot_of xs)
 of_kind (suc (suc zero)) q i xs = Promise q i (ballot_of xs) (prior_of (drop 5 xs))
 of_kind (suc (suc (suc zero))) q i xs = Propose q i (ballot_of xs) (drop 9 xs)
 of_kind (suc (suc (suc (suc zero)))) q i xs = Accepted q i (ballot_of xs) (drop 9 xs)
-of_kind (suc (suc (suc (suc (suc k))))) q i xs = Nack q i (ballot_of xs) (ballot_of (drop 5 xs))
+of_kind (suc (suc (suc (suc (suc zero))))) q i xs = Nack q i (ballot_of xs) (ballot_of (drop 5 xs))
+of_kind (suc (suc (suc (suc (suc (suc zero)))))) q i xs = Ask q i
+of_kind (suc (suc (suc (suc (suc (suc (suc k))))))) q i xs = Chosen q i (drop 4 xs)
 
 abbrev pub message_in : List ℕ → Message
 message_in xs = of_kind (slice_index xs 1) (slice_index xs 2) (big_number 4 (drop 3 xs)) (drop 7 xs)
@@ -47,6 +49,8 @@ reads_back n (Promise q i b prior) is = λ j. Promise q (instance_back i (ballot
 reads_back n (Propose q i b v) is = λ j. Propose q (instance_back i (ballot_bytes b ++ value_bytes v) is.instance j) (ballot_back n b (value_bytes v) is.ballots j) v
 reads_back n (Accepted q i b v) is = λ j. Accepted q (instance_back i (ballot_bytes b ++ value_bytes v) is.instance j) (ballot_back n b (value_bytes v) is.ballots j) v
 reads_back n (Nack q i b c) is = λ j. Nack q (instance_back i (ballot_bytes b ++ ballot_bytes c) is.instance j) (ballot_back n b (ballot_bytes c) is.ballots.0 j) (ballot_back n c [] is.ballots.1 j)
+reads_back n (Ask q i) is = λ j. Ask q (instance_back i [] is.instance j)
+reads_back n (Chosen q i v) is = λ j. Chosen q (instance_back i (value_bytes v) is.instance j) v
 
 pub one_message : OneMessage
 one_message n k bytes a b x y = sym (reads_back n a x.0) ∙ ap message_in (sym x.1 ∙ y.1) ∙ reads_back k b y.0

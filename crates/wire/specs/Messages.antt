@@ -3,7 +3,7 @@ use Rattle.std.specs.Prelude.{ℕ, ◌≤◌, length, ⊤}
 use Rattle.std.specs.Option.{IfSome}
 use Rattle.site_ids.specs.Ids.{IsNode, IsInstance, IsBallot}
 use Rattle.wire.specs.declared.message.Message.{Message}
-use Rattle.wire.specs.declared.message.Message.TheVariants.{Prepare, Promise, Propose, Accepted, Nack}
+use Rattle.wire.specs.declared.message.Message.TheVariants.{Prepare, Promise, Propose, Accepted, Nack, Ask, Chosen}
 
 abbrev pub sender_of : Message → ℕ
 sender_of (Prepare q i b) = q
@@ -11,6 +11,8 @@ sender_of (Promise q i b prior) = q
 sender_of (Propose q i b v) = q
 sender_of (Accepted q i b v) = q
 sender_of (Nack q i b c) = q
+sender_of (Ask q i) = q
+sender_of (Chosen q i v) = q
 
 abbrev pub instance_of : Message → ℕ
 instance_of (Prepare q i b) = i
@@ -18,6 +20,8 @@ instance_of (Promise q i b prior) = i
 instance_of (Propose q i b v) = i
 instance_of (Accepted q i b v) = i
 instance_of (Nack q i b c) = i
+instance_of (Ask q i) = i
+instance_of (Chosen q i v) = i
 
 -- kinds are numbered in this order
 abbrev pub kind_of : Message → ℕ
@@ -26,6 +30,8 @@ kind_of (Promise q i b prior) = 2
 kind_of (Propose q i b v) = 3
 kind_of (Accepted q i b v) = 4
 kind_of (Nack q i b c) = 5
+kind_of (Ask q i) = 6
+kind_of (Chosen q i v) = 7
 
 -- each value has at most 32,768 bytes
 abbrev pub Fits : Message → Type 0
@@ -34,6 +40,8 @@ Fits (Promise q i b prior) = IfSome prior (λ vote. length vote.value ≤ 32768)
 Fits (Propose q i b v) = length v ≤ 32768
 Fits (Accepted q i b v) = length v ≤ 32768
 Fits (Nack q i b c) = ⊤
+Fits (Ask q i) = ⊤
+Fits (Chosen q i v) = length v ≤ 32768
 
 -- each ballot has its round in range, and one of the n nodes
 abbrev pub HasBallots : ℕ → Message → Type 0
@@ -42,6 +50,8 @@ HasBallots n (Promise q i b prior) = IsBallot n b × IfSome prior (λ vote. IsBa
 HasBallots n (Propose q i b v) = IsBallot n b
 HasBallots n (Accepted q i b v) = IsBallot n b
 HasBallots n (Nack q i b c) = IsBallot n b × IsBallot n c
+HasBallots n (Ask q i) = ⊤
+HasBallots n (Chosen q i v) = ⊤
 
 -- all fields of a message are in their ranges, in a cluster of n nodes
 pub record IsMessage (n : ℕ) (m : Message) : Type 0 where

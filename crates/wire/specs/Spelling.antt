@@ -4,7 +4,7 @@ use Rattle.byteorder.specs.Endian.{big_bytes}
 use Rattle.site_ids.specs.Ids.{BallotOf}
 use Rattle.site_ids.specs.declared.value.Vote.{Vote}
 use Rattle.wire.specs.declared.message.Message.{Message}
-use Rattle.wire.specs.declared.message.Message.TheVariants.{Prepare, Promise, Propose, Accepted, Nack}
+use Rattle.wire.specs.declared.message.Message.TheVariants.{Prepare, Promise, Propose, Accepted, Nack, Ask, Chosen}
 use Rattle.wire.specs.Messages.{sender_of, instance_of, kind_of}
 
 -- the round, and the node
@@ -30,6 +30,8 @@ fields_of (Promise q i b prior) = ballot_bytes b ++ prior_bytes prior
 fields_of (Propose q i b v) = ballot_bytes b ++ value_bytes v
 fields_of (Accepted q i b v) = ballot_bytes b ++ value_bytes v
 fields_of (Nack q i b c) = ballot_bytes b ++ ballot_bytes c
+fields_of (Ask q i) = []
+fields_of (Chosen q i v) = value_bytes v
 
 -- the version, the kind, the sender and the instance
 abbrev pub front : ℕ → ℕ → ℕ → List ℕ

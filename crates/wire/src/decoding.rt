@@ -5,7 +5,7 @@ ghost use Rattle.wire.specs.declared.message.Message.{Message};
 ghost use Rattle.wire.specs.Spelling.{ballot_bytes};
 ghost use Rattle.wire.specs.Decoding.{Spells, Decodes, IsHead, datagram};
 
-use crate::fields::{ballot_at, ballot_in, instance_at, vote_in};
+use crate::fields::{ballot_at, ballot_in, instance_at, value_in, vote_in};
 use crate::{Message, WireFault};
 use site_ids::{Ballot, Cluster, Instance, NodeId, Value, Vote};
 use std::alloc::Global;
@@ -30,6 +30,8 @@ pub fn decode(alloc: Global, bytes: &[u8], cluster: Cluster) -> Result<Message, 
         3 => propose(alloc, cluster, head, fields),
         4 => accepted(alloc, cluster, head, fields),
         5 => nack(cluster, head, fields),
+        6 => ask(cluster, head, fields),
+        7 => chosen(alloc, cluster, head, fields),
         _ => Err(WireFault::Malformed),
     }
 }
@@ -168,4 +170,32 @@ fn nack(cluster: Cluster, head: Head, fields: &[u8]) -> Result<Message, WireFaul
         }),
         None => Err(WireFault::Malformed),
     }
+}
+
+fn ask(cluster: Cluster, head: Head, fields: &[u8]) -> Result<Message, WireFault>
+    requires { IsHead cluster head }
+    ensures { Decodes cluster (datagram 6 head fields.now) result }
+{
+    let Head { from, instance } = head;
+    if fields.is_empty() {
+        Ok(Message::Ask { from, instance })
+    } else {
+        Err(WireFault::Malformed)
+    }
+}
+
+fn chosen(alloc: Global, cluster: Cluster, head: Head, fields: &[u8]) -> Result<Message, WireFault>
+    requires { IsHead cluster head }
+    ensures { Decodes cluster (datagram 7 head fields.now) result }
+{
+    let Head { from, instance } = head;
+    let Some(value) = value_in(fields) else {
+        return Err(WireFault::Malformed);
+    };
+    let value = Value::copied_from(alloc, value)?;
+    Ok(Message::Chosen {
+        from,
+        instance,
+        value,
+    })
 }

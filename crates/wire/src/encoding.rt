@@ -26,6 +26,8 @@ pub fn encode(message: &Message, out: &mut Vec<u8>) -> Result<(), AllocError>
             promised,
             ..
         } => append(out, &front, &two_ballots(*asked, *promised), &[]),
+        Message::Ask { .. } => append(out, &front, &[], &[]),
+        Message::Chosen { value, .. } => append(out, &front, &length_of(value), value.as_bytes()),
     }
 }
 

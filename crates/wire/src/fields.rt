@@ -49,7 +49,8 @@ pub(crate) fn ballot_in(cluster: Cluster, bytes: &[u8]) -> Option<Ballot>
     }
 }
 
-fn value_in(bytes: &[u8]) -> Option<&[u8]>
+/// A value, not copied yet.
+pub(crate) fn value_in(bytes: &[u8]) -> Option<&[u8]>
     ensures found { IfSome result (λ v. (length v.now ≤ 32768) × (bytes.now ≡ value_bytes v.now)) }
     ensures none { IfNone result ((v : List ℕ) → length v ≤ 32768 → bytes.now ≡ value_bytes v → ⊥) }
 {

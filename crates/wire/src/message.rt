@@ -36,6 +36,17 @@ pub enum Message {
         asked: Ballot,
         promised: Ballot,
     },
+    /// Asks for the value of an instance.
+    Ask {
+        from: NodeId,
+        instance: Instance,
+    },
+    /// The value of an instance, which the sender knows.
+    Chosen {
+        from: NodeId,
+        instance: Instance,
+        value: Value,
+    },
 }
 
 impl Message {
@@ -47,7 +58,9 @@ impl Message {
             | Message::Promise { from, .. }
             | Message::Propose { from, .. }
             | Message::Accepted { from, .. }
-            | Message::Nack { from, .. } => *from,
+            | Message::Nack { from, .. }
+            | Message::Ask { from, .. }
+            | Message::Chosen { from, .. } => *from,
         }
     }
 
@@ -59,7 +72,9 @@ impl Message {
             | Message::Promise { instance, .. }
             | Message::Propose { instance, .. }
             | Message::Accepted { instance, .. }
-            | Message::Nack { instance, .. } => *instance,
+            | Message::Nack { instance, .. }
+            | Message::Ask { instance, .. }
+            | Message::Chosen { instance, .. } => *instance,
         }
     }
 
@@ -73,6 +88,8 @@ impl Message {
             Message::Propose { .. } => 3,
             Message::Accepted { .. } => 4,
             Message::Nack { .. } => 5,
+            Message::Ask { .. } => 6,
+            Message::Chosen { .. } => 7,
         }
     }
 
@@ -81,16 +98,15 @@ impl Message {
         ensures { IsTrue result ↔ Fits self.now }
     {
         match self {
-            Message::Prepare { .. } | Message::Nack { .. } => true,
+            Message::Prepare { .. } | Message::Nack { .. } | Message::Ask { .. } => true,
             Message::Promise { prior: None, .. } => true,
             Message::Promise {
                 prior: Some(vote),
                 ..
             } => vote.value.as_bytes().len() <= MAX_VALUE,
-            Message::Propose { value, .. } | Message::Accepted { value, .. } => value
-                .as_bytes()
-                .len()
-                <= MAX_VALUE,
+            Message::Propose { value, .. }
+            | Message::Accepted { value, .. }
+            | Message::Chosen { value, .. } => value.as_bytes().len() <= MAX_VALUE,
         }
     }
 }

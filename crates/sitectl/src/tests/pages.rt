@@ -88,6 +88,7 @@ fn releases_by_number_and_repeats(rt: HostRuntime) -> Result<(), Fail> {
         (4, "release\n"),
         (5, "put template t\nv2\n"),
         (1, "release\n"),
+        (6, "remove template t\n"),
         (7, "release\n"),
     ];
     for (number, text) in commands {
@@ -95,8 +96,8 @@ fn releases_by_number_and_repeats(rt: HostRuntime) -> Result<(), Fail> {
     }
     let cases: [(Option<u64>, u8, &str, &str); 5] = [
         (Some(1), 0, "v1\n", ""),
-        (Some(2), 0, "v2\n", ""),
-        (None, 0, "v2\n", ""),
+        (Some(2), 1, "template missing\n", ""),
+        (None, 1, "template missing\n", ""),
         (Some(0), 1, "", "no release\n"),
         (Some(3), 1, "", "no release\n"),
     ];

@@ -1,7 +1,8 @@
 use Rattle.std.proofs.Common.{sym, inl, inr, refl, subst}
 use Rattle.std.proofs.KnownBytes.{Keeps-refl}
 use Rattle.sitectl.specs.Bytes.{end_of, IsWritten, IsBroken}
-use Rattle.sitectl.specs.Standing.{page_view, verdict_view}
+use Rattle.release.specs.Standing.{answer_view}
+use Rattle.sitectl.specs.Standing.{verdict_view}
 use Rattle.sitectl.specs.Verdict.{IsVerdict, shows, says}
 use Rattle.sitectl.proofs.engine.siterender.Goals as goal
 
@@ -51,11 +52,11 @@ returns-in-Ok-write_all g c =
     let rel = c.args.release in
     let path = c.args.path.now in
     let p = c.in-Ok-Shows.page in
-    let v = subst (λ xs. IsVerdict xs rel path (shows (page_view p))) c.deref.ensures.value (subst (λ o. IsVerdict c.deref.result.now rel path (verdict_view o)) c.in-Ok-Shows.field-0-is c.in-Ok-Shows.ensures) in
+    let v = subst (λ xs. IsVerdict xs rel path (shows (answer_view p))) c.deref.ensures.value (subst (λ o. IsVerdict c.deref.result.now rel path (verdict_view o)) c.in-Ok-Shows.field-0-is c.in-Ok-Shows.ensures) in
     inl (record {
       input = c.in-Ok.input.items;
       read = c.in-Ok.ensures.ok;
-      page = page_view p;
+      page = answer_view p;
       is = v;
       written = subst (IsWritten (end_of g.W.Write.contents c.args.out.now c.write_all.new.out)) c.as_bytes.ensures.value c.in-Ok-write_all.ensures.ok;
       silent = record { kept = Keeps-refl _; sound = refl };
@@ -67,11 +68,11 @@ returns g c =
     let rel = c.args.release in
     let path = c.args.path.now in
     let p = c.in-Ok-Shows.page in
-    let v = subst (λ xs. IsVerdict xs rel path (shows (page_view p))) c.deref.ensures.value (subst (λ o. IsVerdict c.deref.result.now rel path (verdict_view o)) c.in-Ok-Shows.field-0-is c.in-Ok-Shows.ensures) in
+    let v = subst (λ xs. IsVerdict xs rel path (shows (answer_view p))) c.deref.ensures.value (subst (λ o. IsVerdict c.deref.result.now rel path (verdict_view o)) c.in-Ok-Shows.field-0-is c.in-Ok-Shows.ensures) in
     inr (inl (record {
       input = c.in-Ok.input.items;
       read = c.in-Ok.ensures.ok;
-      page = page_view p;
+      page = answer_view p;
       is = v;
       broken = subst (IsBroken (end_of g.W.Write.contents c.args.out.now c.write_all.new.out)) c.as_bytes.ensures.value c.in-Err-write_all.ensures.err;
       said = c.say-in-Err-write_all.ensures.said;

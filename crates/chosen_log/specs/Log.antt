@@ -1,0 +1,20 @@
+-- The chosen values of a log, and what learning one more does.
+use Rattle.std.specs.Prelude.{◌≡◌, ◌≢◌, ℕ, List, Option, Some, None, Result, Ok, Err}
+use Rattle.site_ids.specs.Maps.{put_at}
+use Rattle.chosen_log.specs.Places.{Places, in_either}
+use Rattle.chosen_log.specs.declared.fault.LearnFault.{LearnFault}
+use Rattle.chosen_log.specs.declared.fault.LearnFault.TheVariants.{OutOfMemory, Conflict}
+use Rattle.chosen_log.specs.declared.log.Learned.{Learned}
+use Rattle.chosen_log.specs.declared.log.Learned.TheVariants.{New, Known}
+
+-- the value known at an instance
+abbrev pub value_at : Places → ℕ → Option (List ℕ)
+value_at log i = in_either log.prefix log.beyond i
+
+-- A value is new where none is known, and known where it is the one. Where another is known it is handed back, as where
+-- memory is wanted for a new one. Only a new value changes the log, at its instance alone
+abbrev pub Learns : Places → ℕ → List ℕ → Result Learned LearnFault → Places → Type 0
+Learns old i v (Ok New) new = (value_at old i ≡ None) × ((j : ℕ) → value_at new j ≡ put_at (value_at old) i (Some v) j)
+Learns old i v (Ok Known) new = (value_at old i ≡ Some v) × (new ≡ old)
+Learns old i v (Err (OutOfMemory back)) new = (value_at old i ≡ None) × (back ≡ v) × (new ≡ old)
+Learns old i v (Err (Conflict back)) new = ((u : List ℕ) × (value_at old i ≡ Some u) × (u ≢ v)) × (back ≡ v) × (new ≡ old)

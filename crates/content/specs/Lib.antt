@@ -1,0 +1,4 @@
+pub mod Seen
+pub mod Standing
+pub mod Answered
+pub mod Copied

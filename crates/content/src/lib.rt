@@ -1,0 +1,11 @@
+//! The site that a list of values leaves, kept by name.
+#![tactic(auto)]
+
+mod applied;
+mod copying;
+mod maps;
+mod site;
+mod target;
+
+pub use applied::Applied;
+pub use site::Site;

@@ -1,0 +1,188 @@
+ghost use Rattle.std.specs.Prelude.{◌≡◌, ◌≢◌, ℕ, List, [], ◌∷◌, ◌++◌, Some, None, Ok, IfOk, OnErr, MatchOption, option_map};
+ghost use Rattle.command.specs.Action.{Order, remove};
+ghost use Rattle.command.specs.Effective.{effective};
+ghost use Rattle.command.specs.Reading.{value_reading};
+ghost use Rattle.command.specs.Site.{template_at, partial_at, data_at, route_at};
+ghost use Rattle.command.specs.View.{kind_view, StandsAs, StandsFor, pair_view};
+ghost use Rattle.context.specs.View.{data_view};
+ghost use Rattle.mustache_parse.specs.Template.{IsTemplateOf};
+ghost use Rattle.content.specs.Standing.{HasContents, IsSiteOf};
+ghost use Rattle.content.specs.Answered.{answered, applied};
+
+use crate::applied::Applied;
+use crate::copying::copy_of;
+use crate::maps::{put, take_away};
+use crate::target::Target;
+use command::{Action, Command, CommandFault, Kind, read};
+use context::Data;
+use mustache_parse::Template;
+use site_ids::Ticket;
+use std::alloc::{AllocError, Global};
+use std::collections::{BTreeMap, BTreeSet};
+use std::marker::Model;
+
+/// What a list of values leaves: the contents by name, and the tickets of its commands.
+#[derive(Drop)]
+pub struct Site {
+    tickets: BTreeSet<Ticket>,
+    templates: BTreeMap<String, Template>,
+    partials: BTreeMap<String, Template>,
+    page_data: BTreeMap<String, Data>,
+    routes: BTreeMap<String, Target>,
+}
+
+impl Model for Site {
+    ghost use Rattle.std.specs.Coded.{codes};
+    ghost use Rattle.context.specs.contracts.tree.Data as data_type;
+    ghost use Rattle.mustache_parse.specs.contracts.node.Node as node_type;
+    ghost use Rattle.content.specs.Seen.{SiteSeen};
+
+    ghost Value = { SiteSeen };
+
+    ghost coded = { Prim.hlevel (codes, node_type.the_row.coded, data_type.the_row.coded) };
+
+    ghost view = { λ s. record {
+      tickets = s.tickets.keys;
+      templates = s.templates.entries;
+      partials = s.partials.entries;
+      page_data = s.page_data.entries;
+      routes = s.routes.entries;
+    } };
+}
+
+/// What a value that is no command is answered with.
+fn no_command(fault: CommandFault) -> Result<Applied, AllocError>
+    ensures { IfOk result (λ a. (a ≡ Applied.NotACommand) × (fault ≢ CommandFault.OutOfMemory)) }
+{
+    match fault {
+        CommandFault::OutOfMemory => Err(AllocError),
+        _ => Ok(Applied::NotACommand),
+    }
+}
+
+impl Site {
+    /// The site of no values.
+    pub fn new(alloc: Global) -> Site
+        ensures { IsSiteOf result [] }
+    {
+        Site {
+            tickets: BTreeSet::new(alloc),
+            templates: BTreeMap::new(alloc),
+            partials: BTreeMap::new(alloc),
+            page_data: BTreeMap::new(alloc),
+            routes: BTreeMap::new(alloc),
+        }
+    }
+
+    /// Takes the next value of the list. Where memory is short the site stays as it is.
+    pub fn apply(&mut self, alloc: Global, value: &[u8]) -> Result<Applied, AllocError>
+        ensures ok { IfOk result (λ a. (values : List (List ℕ)) → IsSiteOf self.old values
+            → IsSiteOf self.new (values ++ (value.now ∷ [])) × (a ≡ applied values value.now)) }
+        ensures err { OnErr result (self.new ≡ self.old) }
+    {
+        match read(alloc, value) {
+            Ok(command) => self.take(command),
+            Err(fault) => no_command(fault),
+        }
+    }
+
+    /// Takes a command, unless its ticket stands in an earlier one. A ticket is taken out again where the command couldn't be taken.
+    fn take(&mut self, command: Command) -> Result<Applied, AllocError>
+        ensures ok { IfOk result (λ a. (values : List (List ℕ)) (v : List ℕ) (order : Order) → value_reading v ≡ Ok order → StandsFor command order
+            → IsSiteOf self.old values → IsSiteOf self.new (values ++ (v ∷ [])) × (a ≡ applied values v)) }
+        ensures err { OnErr result (self.new ≡ self.old) }
+    {
+        let Command { ticket, action } = command;
+        if !self.tickets.insert(ticket)? {
+            return Ok(Applied::Repeat);
+        }
+        let done = self.act(action);
+        if done.is_err() {
+            self.tickets.remove(&ticket);
+        }
+        done
+    }
+
+    /// Puts or removes what the command says.
+    fn act(&mut self, action: Action) -> Result<Applied, AllocError>
+        ensures ok { IfOk result (λ a. (orders : List Order) (order : Order) → StandsAs action order.action
+            → HasContents self.old orders → HasContents self.new (orders ++ (order ∷ [])) × (a ≡ answered order.action)) }
+        ensures tickets { self.new.tickets ≡ self.old.tickets }
+        ensures err { OnErr result (self.new ≡ self.old) }
+    {
+        match action {
+            Action::PutTemplate(name, template) => put(&mut self.templates, name, template)?,
+            Action::PutPartial(name, template) => put(&mut self.partials, name, template)?,
+            Action::PutData(name, page_data) => put(&mut self.page_data, name, page_data)?,
+            Action::PutRoute(path, template, page_data) => {
+                let target = Target {
+                    template,
+                    page_data,
+                };
+                put(&mut self.routes, path, target)?
+            }
+            Action::Remove(kind, name) => self.remove(kind, &name),
+            Action::Release => return Ok(Applied::Released),
+        }
+        Ok(Applied::Changed)
+    }
+
+    fn remove(&mut self, kind: Kind, name: &str)
+        ensures removed { (orders : List Order) (order : Order) → order.action ≡ remove (kind_view kind) name.now
+            → HasContents self.old orders → HasContents self.new (orders ++ (order ∷ [])) }
+        ensures tickets { self.new.tickets ≡ self.old.tickets }
+    {
+        match kind {
+            Kind::Template => take_away(&mut self.templates, name),
+            Kind::Partial => take_away(&mut self.partials, name),
+            Kind::Data => take_away(&mut self.page_data, name),
+            Kind::Route => take_away(&mut self.routes, name),
+        }
+    }
+
+    /// A copy, which changes by itself.
+    pub fn copy(&self, alloc: Global) -> Result<Site, AllocError>
+        ensures { IfOk result (λ s. (values : List (List ℕ)) → IsSiteOf self.now values → IsSiteOf s values) }
+    {
+        Ok(Site {
+            tickets: self.tickets.clone()?,
+            templates: copy_of(alloc, &self.templates)?,
+            partials: copy_of(alloc, &self.partials)?,
+            page_data: copy_of(alloc, &self.page_data)?,
+            routes: copy_of(alloc, &self.routes)?,
+        })
+    }
+
+    /// The template of that name.
+    pub fn template(&self, name: &str) -> Option<&Template>
+        ensures { (values : List (List ℕ)) → IsSiteOf self.now values
+            → MatchOption result (template_at name.now (effective values) ≡ None)
+            (λ t. (text : List ℕ) × (template_at name.now (effective values) ≡ Some text) × IsTemplateOf t.now text) }
+    {
+        self.templates.get(name)
+    }
+
+    /// The partial of that name.
+    pub fn partial(&self, name: &str) -> Option<&Template>
+        ensures { (values : List (List ℕ)) → IsSiteOf self.now values
+            → MatchOption result (partial_at name.now (effective values) ≡ None)
+            (λ t. (text : List ℕ) × (partial_at name.now (effective values) ≡ Some text) × IsTemplateOf t.now text) }
+    {
+        self.partials.get(name)
+    }
+
+    /// The data of that name.
+    pub fn data(&self, name: &str) -> Option<&Data>
+        ensures { (values : List (List ℕ)) → IsSiteOf self.now values → option_map (λ d. data_view d.now) result ≡ data_at name.now (effective values) }
+    {
+        self.page_data.get(name)
+    }
+
+    /// The names of the template and the data of the route at that path.
+    pub fn route(&self, path: &str) -> Option<(&str, &str)>
+        ensures { (values : List (List ℕ)) → IsSiteOf self.now values → option_map pair_view result ≡ route_at path.now (effective values) }
+    {
+        let target = self.routes.get(path)?;
+        Some((target.template.as_str(), target.page_data.as_str()))
+    }
+}

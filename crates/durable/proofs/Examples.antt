@@ -1,0 +1,42 @@
+-- Records of files, computed from the definitions.
+use Rattle.std.proofs.Common.{◌≡◌, ℕ, List, [], ◌∷◌, ◌++◌, Some, None, refl, arith, codes}
+use Rattle.site_ids.specs.Ids.{BallotOf}
+use Rattle.durable.specs.Entries.{Entry, Round, Promised, Voted, last_round, last_vote}
+use Rattle.durable.specs.Histories.{IsHistory}
+use Rattle.durable.specs.Spelling.{head, blocks}
+use Rattle.durable.specs.Standing.{StandsFor}
+use Rattle.durable.proofs.Push.{history-none, history-push}
+
+abbrev at : ℕ → ℕ → BallotOf
+at round node = record { round = round; node = node }
+
+-- node 2 of 3 has promised ballot (1, 1) at instance 1
+abbrev promise_record : ℕ → List ℕ
+promise_record gate = 83 ∷ 73 ∷ 84 ∷ 69 ∷ 82 ∷ 69 ∷ 67 ∷ 49 ∷ 2 ∷ 3 ∷ gate ∷ 0 ∷ 0 ∷ 0 ∷ 10 ∷ 2 ∷ 0 ∷ 0 ∷ 0 ∷ 1 ∷ 0 ∷ 0 ∷ 0 ∷ 1 ∷ 1 ∷ 0 ∷ []
+
+promised : IsHistory 3 (Promised 1 (at 1 1) ∷ [])
+promised = history-push 3 [] (Promised 1 (at 1 1)) (history-none 3) (record { in_range = ((omega arith, omega arith), (omega arith, omega arith, (omega arith, omega arith))); advances = λ e c here raises. absurd here })
+
+promise_stands : StandsFor 2 3 (promise_record 1) (Promised 1 (at 1 1) ∷ [])
+promise_stands = record { history = promised; gate = 0; rest = []; closed = λ one. omega (arith, one); layout = refl }
+
+-- a gate that isn't open ends the list
+closed_stands : StandsFor 2 3 (promise_record 7) []
+closed_stands = record { history = history-none 3; gate = 7; rest = 0 ∷ 0 ∷ 0 ∷ 10 ∷ 2 ∷ 0 ∷ 0 ∷ 0 ∷ 1 ∷ 0 ∷ 0 ∷ 0 ∷ 1 ∷ 1 ∷ 0 ∷ []; closed = λ one. omega (arith, one); layout = refl }
+
+-- a round behind the head takes eleven bytes, the next gate among them
+round_record : head 2 3 ++ blocks (Round 1 ∷ []) ++ 0 ∷ [] ≡ codes "SITEREC1" ++ 2 ∷ 3 ∷ 1 ∷ 0 ∷ 0 ∷ 0 ∷ 5 ∷ 1 ∷ 0 ∷ 0 ∷ 0 ∷ 1 ∷ 0 ∷ []
+round_record = refl
+
+-- a vote promises its ballot, and the last one counts
+abbrev entries : List Entry
+entries = Round 4 ∷ Promised 1 (at 1 1) ∷ Voted 1 (at 1 3) (7 ∷ []) ∷ Voted 2 (at 1 1) [] ∷ Voted 1 (at 2 1) (8 ∷ []) ∷ Round 5 ∷ []
+
+its_round : last_round entries ≡ 5
+its_round = refl
+
+its_vote : last_vote 1 entries ≡ Some (record { ballot = at 2 1; value = 8 ∷ [] })
+its_vote = refl
+
+no_vote : last_vote 3 entries ≡ None
+no_vote = refl

@@ -1,0 +1,16 @@
+pub mod Moments
+pub mod Results
+pub mod Torn
+pub mod Through
+pub mod Gate
+pub mod Push
+pub mod Blocks
+pub mod Prefix
+pub mod Stand
+pub mod Kept
+pub mod Advances
+pub mod Piece
+pub mod Ready
+pub mod Keeping
+pub mod Opening
+pub mod Examples

@@ -1,0 +1,55 @@
+-- What an opening answers.
+use Rattle.std.proofs.Common.{◌≡◌, ◌≢◌, ◌⊎◌, inl, inr, ⊎_elim, ℕ, ◌≤◌, ◌<◌, List, length, get_or, take, drop, codes, Result, Ok, Err, OnErr, IfErr, refl, sym, ◌∙◌, ap, subst, arith}
+use Rattle.std.specs.Result.{IsErrOf}
+use Rattle.std.proofs.lemmas.List.{get_or-take, take-take}
+use Rattle.durable.specs.Entries.{Entry}
+use Rattle.durable.specs.Histories.{IsHistory}
+use Rattle.durable.specs.Reading.{AreSpelled}
+use Rattle.durable.specs.Standing.{StandsFor, IsNoRecord, IsOfAnother, IsDamaged, IsRefusal}
+use Rattle.durable.specs.declared.fault.RecordFault.{RecordFault}
+use Rattle.durable.specs.declared.fault.RecordFault.TheVariants.{Device, OutOfMemory, NotARecord, WrongNode, Full, Damaged, Stopped}
+use Rattle.durable.proofs.Results.{same_error}
+
+abbrev Bytes : Type 0
+Bytes = List ℕ
+
+-- a refusal for which no byte is a reason
+pub by_device_or_memory : (fault : RecordFault) (node cluster : ℕ) (file : Bytes) → IsRefusal fault node cluster file → (¬ IsNoRecord file) × (¬ IsOfAnother node cluster file) × (¬ IsDamaged node cluster file)
+    → (fault ≡ Device) ⊎ (fault ≡ OutOfMemory)
+by_device_or_memory Device node cluster file h none = inl refl
+by_device_or_memory OutOfMemory node cluster file h none = inr refl
+by_device_or_memory NotARecord node cluster file h none = absurd (none.0 h)
+by_device_or_memory WrongNode node cluster file h none = absurd (none.1 h.1)
+by_device_or_memory Full node cluster file h none = absurd h
+by_device_or_memory Damaged node cluster file h none = absurd (none.2 h.2)
+by_device_or_memory Stopped node cluster file h none = absurd h
+
+-- the entries behind the head of a file
+pub behind_head : (node cluster : ℕ) (file : Bytes) (entries : List Entry) → StandsFor node cluster file entries → AreSpelled (drop 10 file) entries
+behind_head node cluster file entries s = record { gate = s.gate; rest = s.rest; closed = s.closed; layout = ap (λ (l : Bytes). drop 10 l) s.layout }
+
+-- the refusal of a file whose head is right
+pub refusal_of_entries : (fault : RecordFault) (node cluster : ℕ) (file : Bytes) → (fault ≡ Device) ⊎ ((fault ≡ OutOfMemory) ⊎ (fault ≡ Damaged)) → ¬ IsNoRecord file → ¬ IsOfAnother node cluster file
+    → (fault ≡ Damaged → (entries : List Entry) → IsHistory cluster entries → ¬ AreSpelled (drop 10 file) entries) → IsRefusal fault node cluster file
+refusal_of_entries fault node cluster file why record_is own damaged =
+    let P : RecordFault → Type 0 = λ f. IsRefusal f node cluster file in
+    ⊎_elim (λ (is : fault ≡ Device). subst P (sym is) tt)
+    (λ other. ⊎_elim (λ (is : fault ≡ OutOfMemory). subst P (sym is) (record_is, own))
+    (λ (is : fault ≡ Damaged). subst P (sym is) (record_is, own, λ entries s. damaged is entries s.history (behind_head node cluster file entries s))) other) why
+
+-- what the entries of a file whose head is right are refused for
+pub refused_entries : {T : Type 0} (r : Result T RecordFault) (P : RecordFault → Type 0) → OnErr r (IsErrOf r Device ⊎ (IsErrOf r OutOfMemory ⊎ IsErrOf r Damaged))
+    → ((fault : RecordFault) → r ≡ Err fault → (fault ≡ Device) ⊎ ((fault ≡ OutOfMemory) ⊎ (fault ≡ Damaged)) → P fault) → IfErr r P
+refused_entries (Ok x) P why each = tt
+refused_entries (Err fault) P why each = each fault refl
+    (⊎_elim (λ is. inl (same_error (Err fault) fault Device refl is)) (λ other. inr (⊎_elim (λ is. inl (same_error (Err fault) fault OutOfMemory refl is)) (λ is. inr (same_error (Err fault) fault Damaged refl is)) other)) why)
+
+-- the head of a file, of which the front was read
+module _ (node cluster : ℕ) (file front : Bytes) (is : front ≡ take 10 file) (long : 11 ≤ length file) (mark : take 8 front ≡ codes "SITEREC1") (at8 : get_or front 8 0 ≡ node) (at9 : get_or front 9 0 ≡ cluster) where
+  pub is_record : ¬ IsNoRecord file
+  is_record none = ⊎_elim (λ (short : length file < 11). omega (arith, long, short)) (λ (x : take 8 file ≢ codes "SITEREC1"). x (sym (take-take 8 10 file (omega arith)) ∙ ap (λ (l : Bytes). take 8 l) (sym is) ∙ mark)) none
+
+  pub is_own : ¬ IsOfAnother node cluster file
+  is_own other = ⊎_elim
+      (λ (x : get_or file 8 0 ≢ node). x (sym (get_or-take 10 file 8 0 (omega arith)) ∙ ap (λ (l : Bytes). get_or l 8 0) (sym is) ∙ at8))
+      (λ (x : get_or file 9 0 ≢ cluster). x (sym (get_or-take 10 file 9 0 (omega arith)) ∙ ap (λ (l : Bytes). get_or l 9 0) (sym is) ∙ at9)) other

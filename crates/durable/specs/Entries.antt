@@ -1,0 +1,54 @@
+-- Entries, and what a list of them records, the oldest first.
+use Rattle.std.specs.Prelude.{◌≡◌, ℕ, List, [], ◌∷◌, ◌++◌, Option, Some, None, nat_eq, if◌then◌else◌}
+use Rattle.site_ids.specs.Ids.{BallotOf, NotAbove}
+use Rattle.site_ids.specs.Majorities.{In}
+use Rattle.site_ids.specs.declared.value.Vote.{Vote}
+use Rattle.acceptor.specs.declared.slot.Slot.{Slot}
+
+pub data Entry : Type 0 where
+  Round : (round : ℕ) → Entry
+  Promised : (instance : ℕ) (ballot : BallotOf) → Entry
+  Voted : (instance : ℕ) (ballot : BallotOf) (value : List ℕ) → Entry
+
+-- the last round of the entries, or else r
+abbrev pub round_after : ℕ → List Entry → ℕ
+round_after r [] = r
+round_after r (Round s ∷ es) = round_after s es
+round_after r (Promised i b ∷ es) = round_after r es
+round_after r (Voted i b v ∷ es) = round_after r es
+
+-- the last round, 0 where there is none
+abbrev pub last_round : List Entry → ℕ
+last_round es = round_after 0 es
+
+-- the last vote of the entries at instance i, or else the given one
+abbrev pub vote_after : ℕ → Option Vote → List Entry → Option Vote
+vote_after i last [] = last
+vote_after i last (Round s ∷ es) = vote_after i last es
+vote_after i last (Promised j b ∷ es) = vote_after i last es
+vote_after i last (Voted j b v ∷ es) = vote_after i (if nat_eq j i then Some (record { ballot = b; value = v }) else last) es
+
+-- the last vote at the instance, none where there is none
+abbrev pub last_vote : ℕ → List Entry → Option Vote
+last_vote i es = vote_after i None es
+
+-- the entry promises this ballot at the instance
+abbrev pub Raises : Entry → ℕ → BallotOf → Type 0
+Raises (Round r) i b = ⊥
+Raises (Promised j c) i b = (j ≡ i) × (c ≡ b)
+Raises (Voted j c v) i b = (j ≡ i) × (c ≡ b)
+
+-- the greatest ballot among the promises and votes at the instance
+abbrev pub IsPromise : List Entry → ℕ → Option BallotOf → Type 0
+IsPromise es i None = (e : Entry) (b : BallotOf) → In es e → Raises e i b → ⊥
+IsPromise es i (Some b) = ((e : Entry) × In es e × Raises e i b) × ((e : Entry) (c : BallotOf) → In es e → Raises e i c → NotAbove c b)
+
+-- the slot of an instance by the entries
+pub record IsSlot (es : List Entry) (i : ℕ) (s : Slot) : Type 0 where
+  pub promise : IsPromise es i s.promised
+  pub vote : s.vote ≡ last_vote i es
+
+-- the entries with one more, where there is one
+abbrev pub with_entry : List Entry → Option Entry → List Entry
+with_entry es None = es
+with_entry es (Some e) = es ++ e ∷ []

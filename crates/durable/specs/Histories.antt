@@ -1,0 +1,28 @@
+-- Which entries may follow one another.
+use Rattle.std.specs.Prelude.{◌≡◌, ◌≢◌, ℕ, ◌<◌, ◌≤◌, ◌^◌, List, ◌∷◌, ◌++◌, length, Some}
+use Rattle.site_ids.specs.Ids.{BallotOf, IsInstance, IsBallot, Below, NotAbove}
+use Rattle.site_ids.specs.Majorities.{In}
+use Rattle.site_ids.specs.declared.value.Vote.{Vote}
+use Rattle.durable.specs.Entries.{Entry, Round, Promised, Voted, Raises, last_round, last_vote}
+
+-- its numbers are in their ranges, in a cluster of n nodes
+abbrev pub IsInRange : ℕ → Entry → Type 0
+IsInRange n (Round r) = (0 < r) × (r < 2 ^ 32)
+IsInRange n (Promised i b) = IsInstance i × IsBallot n b
+IsInRange n (Voted i b v) = IsInstance i × IsBallot n b × (length v ≤ 32768)
+
+-- A round is above the last one, a promise above each ballot raised at its instance. A vote is below none of them, and not at the ballot of
+-- the last vote there.
+abbrev pub Advances : List Entry → Entry → Type 0
+Advances earlier (Round r) = last_round earlier < r
+Advances earlier (Promised i b) = (e : Entry) (c : BallotOf) → In earlier e → Raises e i c → Below c b
+Advances earlier (Voted i b v) = ((e : Entry) (c : BallotOf) → In earlier e → Raises e i c → NotAbove c b) × ((vote : Vote) → last_vote i earlier ≡ Some vote → vote.ballot ≢ b)
+
+-- an entry may follow these
+pub record MayFollow (n : ℕ) (earlier : List Entry) (entry : Entry) : Type 0 where
+  pub in_range : IsInRange n entry
+  pub advances : Advances earlier entry
+
+-- each entry may follow those before it
+abbrev pub IsHistory : ℕ → List Entry → Type 0
+IsHistory n entries = (earlier : List Entry) (entry : Entry) (later : List Entry) → entries ≡ earlier ++ entry ∷ later → MayFollow n earlier entry

@@ -1,0 +1,35 @@
+-- What holds of files and disks that keep a record.
+use Rattle.std.specs.Prelude.{◌≡◌, ℕ, Option, None, List}
+use Rattle.site_disk.specs.Model.{DiskState, Moment, MayLeave, LeavesOnly, moment, at_rest, after_sync}
+use Rattle.durable.specs.Append.{IsSettled}
+use Rattle.durable.specs.Entries.{Entry}
+use Rattle.durable.specs.Standing.{StandsFor, IsNoRecord, IsOfAnother, IsDamaged}
+use Rattle.durable.specs.Keeping.{Settles, IsFound, Keeps}
+
+-- a file stands for one list of entries at most
+abbrev pub OneList : Type 0
+OneList = (node cluster : ℕ) (file : List ℕ) (a b : List Entry) → StandsFor node cluster file a → StandsFor node cluster file b → a ≡ b
+
+-- a disk at rest keeps the entries for which it reads, and no other
+abbrev pub SettledKeeps : Type 0
+SettledKeeps = (node cluster : ℕ) (entries : List Entry) (d : DiskState) → IsSettled d → StandsFor node cluster d.seen entries → Keeps node cluster entries None d
+
+-- after a crash it is settled whether the entry in flight stands
+abbrev pub CrashSettles : Type 0
+CrashSettles = (node cluster : ℕ) (entries : List Entry) (in_flight : Option Entry) (d : DiskState) (left : List ℕ) → Keeps node cluster entries in_flight d → MayLeave (moment d) left
+    → (found : List Entry) × Settles entries in_flight found × ((past : List Moment) → Keeps node cluster found None (at_rest left past))
+
+-- and so it is for what an opening without a crash reads
+abbrev pub OpeningSettles : Type 0
+OpeningSettles = (node cluster : ℕ) (entries : List Entry) (in_flight : Option Entry) (d : DiskState) (found : List Entry) → Keeps node cluster entries in_flight d → StandsFor node cluster d.seen found
+    → Settles entries in_flight found
+
+-- an opening that is refused keeps what the disk kept, and leaves it at any moment
+abbrev pub SyncKeeps : Type 0
+SyncKeeps = (node cluster : ℕ) (entries : List Entry) (in_flight : Option Entry) (d : DiskState) → Keeps node cluster entries in_flight d
+    → Keeps node cluster entries in_flight (after_sync d) × LeavesOnly d (after_sync d) (IsFound node cluster entries in_flight)
+
+-- nothing in the bytes of a disk that keeps a record is a reason to refuse it
+abbrev pub NeverRefused : Type 0
+NeverRefused = (node cluster : ℕ) (entries : List Entry) (in_flight : Option Entry) (d : DiskState) → Keeps node cluster entries in_flight d
+    → (¬ IsNoRecord d.seen) × (¬ IsOfAnother node cluster d.seen) × (¬ IsDamaged node cluster d.seen)

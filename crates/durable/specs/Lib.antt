@@ -1,0 +1,10 @@
+pub mod Entries
+pub mod Spelling
+pub mod Histories
+pub mod Standing
+pub mod Keeping
+pub mod Slots
+pub mod Append
+pub mod Reading
+pub mod Ready
+pub mod Laws

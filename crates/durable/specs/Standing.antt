@@ -1,0 +1,35 @@
+-- What a file of a record stands for, and why one is refused.
+use Rattle.std.specs.Prelude.{◌≡◌, ◌≢◌, ◌⊎◌, ℕ, ◌<◌, List, ◌∷◌, ◌++◌, length, take, slice_index, codes}
+use Rattle.durable.specs.Entries.{Entry}
+use Rattle.durable.specs.Histories.{IsHistory}
+use Rattle.durable.specs.Spelling.{head, blocks}
+use Rattle.durable.specs.declared.fault.RecordFault.{RecordFault}
+use Rattle.durable.specs.declared.fault.RecordFault.TheVariants.{Device, OutOfMemory, NotARecord, WrongNode, Full, Damaged, Stopped}
+
+-- the file is the head, the entries behind open gates, a gate that isn't open, and whatever follows it
+pub record StandsFor (node cluster : ℕ) (file : List ℕ) (entries : List Entry) : Type 0 where
+  pub history : IsHistory cluster entries
+  pub gate : ℕ
+  pub rest : List ℕ
+  pub closed : gate ≢ 1
+  pub layout : file ≡ head node cluster ++ blocks entries ++ gate ∷ rest
+
+-- too short, or without the mark
+abbrev pub IsNoRecord : List ℕ → Type 0
+IsNoRecord file = (length file < 11) ⊎ (take 8 file ≢ codes "SITEREC1")
+
+abbrev pub IsOfAnother : ℕ → ℕ → List ℕ → Type 0
+IsOfAnother node cluster file = (slice_index file 8 ≢ node) ⊎ (slice_index file 9 ≢ cluster)
+
+abbrev pub IsDamaged : ℕ → ℕ → List ℕ → Type 0
+IsDamaged node cluster file = (entries : List Entry) → ¬ StandsFor node cluster file entries
+
+-- the first refusal that applies to the file. The device and memory may fail at any file; full and stopped are none of an opening's
+abbrev pub IsRefusal : RecordFault → ℕ → ℕ → List ℕ → Type 0
+IsRefusal NotARecord node cluster file = IsNoRecord file
+IsRefusal WrongNode node cluster file = (¬ IsNoRecord file) × IsOfAnother node cluster file
+IsRefusal Damaged node cluster file = (¬ IsNoRecord file) × (¬ IsOfAnother node cluster file) × IsDamaged node cluster file
+IsRefusal Device node cluster file = Unit {0}
+IsRefusal OutOfMemory node cluster file = (¬ IsNoRecord file) × (¬ IsOfAnother node cluster file)
+IsRefusal Full node cluster file = ⊥
+IsRefusal Stopped node cluster file = ⊥

@@ -1,0 +1,20 @@
+ghost use Rattle.durable.specs.Laws.{OneList, SettledKeeps, CrashSettles, OpeningSettles, SyncKeeps, NeverRefused};
+
+/// A file stands for one list of entries at most.
+pub fn files_stand_for_one_list()
+    ensures { OneList }
+{}
+
+/// A disk at rest keeps what it reads as. A crash, and an opening without one, settle whether the entry in flight
+/// stands.
+pub fn in_flight_settles()
+    ensures rest { SettledKeeps }
+    ensures crash { CrashSettles }
+    ensures opening { OpeningSettles }
+    ensures sync { SyncKeeps }
+{}
+
+/// No disk that keeps a record is refused for its bytes.
+pub fn kept_records_open()
+    ensures { NeverRefused }
+{}

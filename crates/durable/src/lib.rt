@@ -1,0 +1,20 @@
+//! A node's record: its rounds, promises and votes, each on the disk before it is acknowledged.
+#![tactic(auto)]
+
+mod append;
+mod fault;
+mod laws;
+mod parsing;
+mod puts;
+mod reading;
+mod record;
+mod recorded;
+mod slots;
+mod spelling;
+
+pub use fault::RecordFault;
+pub use laws::{files_stand_for_one_list, in_flight_settles, kept_records_open};
+pub use record::Record;
+
+#[cfg(test)]
+mod tests;

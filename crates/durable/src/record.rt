@@ -1,0 +1,159 @@
+//! The record of a node over a disk.
+
+ghost use Rattle.std.specs.Prelude.{◌≡◌, ◌↔◌, ◌⊎◌, ◌+◌, ◌-◌, ◌≤◌, ◌<◌, ◌^◌, ◌∷◌, ◌++◌, [], ℕ, List, Option, IsTrue, IsErrOf, OnOk, OnErr, IfOk, IfErr, length, false, true};
+ghost use Rattle.site_disk.specs.Model.{DiskState, after_sync};
+ghost use Rattle.durable.specs.Append.{IsSettled};
+ghost use Rattle.durable.specs.Entries.{Entry};
+ghost use Rattle.durable.specs.Spelling.{head};
+ghost use Rattle.durable.specs.Standing.{StandsFor, IsRefusal};
+ghost use Rattle.durable.specs.Keeping.{Keeps};
+ghost use Rattle.durable.specs.Reading.{AreRead};
+
+use crate::RecordFault;
+use crate::reading::read_entries;
+use crate::recorded::Recorded;
+use acceptor::Slot;
+use site_disk::{Armed, Disk};
+use site_ids::{Cluster, Instance, MAX_RECORD, NodeId};
+use std::alloc::Global;
+
+const MARK: [u8; 8] = *b"SITEREC1";
+
+/// The record of one node: what its file records is kept in memory too.
+#[derive(Drop)]
+pub struct Record<D> {
+    pub(crate) alloc: Global,
+    pub(crate) disk: D,
+    pub(crate) node: NodeId,
+    pub(crate) cluster: Cluster,
+    pub(crate) recorded: Recorded,
+    // from a failure of the device on
+    pub(crate) stopped: bool,
+}
+
+// Syncs, and then reads the head and the entries.
+fn read<D: Disk>(
+    alloc: Global,
+    cluster: Cluster,
+    node: NodeId,
+    disk: &mut D,
+) -> Result<Recorded, RecordFault>
+    ensures read { IfOk result (λ recorded. (d : DiskState) → D.stands_for disk.old d → D.stands_for disk.new (after_sync d) × ((entries : List Entry) × AreRead cluster entries recorded × StandsFor node cluster d.seen entries)) }
+    ensures refused { IfErr result (λ fault. (d : DiskState) → D.stands_for disk.old d → (D.stands_for disk.new (after_sync d) ⊎ (D.stands_for disk.new d × (fault ≡ RecordFault.Device))) × IsRefusal fault node cluster d.seen) }
+    ensures cause { IsErrOf result RecordFault.Device → (D.failed disk.old < D.failed disk.new) ⊎ (D.failed disk.old ≡ 2 ^ 64 - 1) }
+{
+    disk.sync()?;
+    let len = disk.len()?;
+    if len < 11 {
+        return Err(RecordFault::NotARecord);
+    }
+    let mut head = [0; 10];
+    disk.read_at(0, &mut head)?;
+    if !head.starts_with(&MARK) {
+        return Err(RecordFault::NotARecord);
+    }
+    if head[8] != node.number() || head[9] != cluster.size() {
+        return Err(RecordFault::WrongNode);
+    }
+    read_entries(alloc, disk, cluster, len)
+}
+
+impl<D: Disk> Record<D> {
+    ghost use Rattle.durable.specs.Ready.{IsReady};
+    ghost use Rattle.durable.specs.Slots.{slot_at};
+
+    /// Makes an empty record of a node of a cluster on an empty disk. A crash within it may leave a file that is no
+    /// record.
+    pub fn format(cluster: Cluster, node: NodeId, disk: &mut D) -> Result<(), RecordFault>
+        ensures formatted { OnOk result ((d : DiskState) → D.stands_for disk.old d → (d.seen ≡ []) × (e : DiskState) × D.stands_for disk.new e × IsSettled e × (e.seen ≡ head node cluster ++ 0 ∷ []) × StandsFor node cluster e.seen []) }
+        ensures untouched { OnErr result ((d : DiskState) → D.stands_for disk.old d → 0 < length d.seen → D.stands_for disk.new d) }
+        ensures not_empty { IsErrOf result RecordFault.NotARecord → (d : DiskState) → D.stands_for disk.old d → D.stands_for disk.new d × (0 < length d.seen) }
+        ensures cause { IsErrOf result RecordFault.Device → (D.failed disk.old < D.failed disk.new) ⊎ (D.failed disk.old ≡ 2 ^ 64 - 1) }
+        ensures others { OnErr result (IsErrOf result RecordFault.NotARecord ⊎ IsErrOf result RecordFault.Device) }
+    {
+        if disk.len()? != 0 {
+            return Err(RecordFault::NotARecord);
+        }
+        let [a, b, c, d, e, f, g, h] = MARK;
+        disk.write_at(
+            0,
+            &[a, b, c, d, e, f, g, h, node.number(), cluster.size(), 0],
+        )?;
+        Ok(disk.sync()?)
+    }
+
+    /// Reads a record, after a sync. A refusal gives the disk back.
+    pub fn open(
+        alloc: Global,
+        cluster: Cluster,
+        node: NodeId,
+        disk: D,
+    ) -> Result<Record<D>, (RecordFault, D)>
+        ensures opened { IfOk result (λ store. (d : DiskState) → D.stands_for disk d → (entries : List Entry) × IsReady D.stands_for store (after_sync d) entries) }
+        ensures whose { IfOk result (λ store. (store.node ≡ node) × (store.cluster ≡ cluster)) }
+        ensures refused { IfErr result (λ p. (d : DiskState) → D.stands_for disk d → (D.stands_for p.1 (after_sync d) ⊎ (D.stands_for p.1 d × (p.0 ≡ RecordFault.Device))) × IsRefusal p.0 node cluster d.seen) }
+        ensures never { IfErr result (λ p. (d : DiskState) (entries : List Entry) (in_flight : Option Entry) → D.stands_for disk d → Keeps node cluster entries in_flight d → (p.0 ≡ RecordFault.Device) ⊎ (p.0 ≡ RecordFault.OutOfMemory)) }
+        ensures cause { IfErr result (λ p. p.0 ≡ RecordFault.Device → (D.failed disk < D.failed p.1) ⊎ (D.failed disk ≡ 2 ^ 64 - 1)) }
+    {
+        let mut disk = disk;
+        match read(alloc, cluster, node, &mut disk) {
+            Ok(recorded) => Ok(Record {
+                alloc,
+                disk,
+                node,
+                cluster,
+                recorded,
+                stopped: false,
+            }),
+            Err(fault) => Err((fault, disk)),
+        }
+    }
+
+    /// The last round, 0 where there is none.
+    pub fn round(&self) -> u32
+        ensures { result ≡ self.now.recorded.round }
+    {
+        self.recorded.round
+    }
+
+    /// The slot of an instance, an empty one where none stands.
+    pub fn slot(&self, instance: Instance) -> &Slot
+        ensures { result.now ≡ slot_at self.now.recorded.slots instance }
+    {
+        self.recorded.slots.get(instance)
+    }
+
+    /// No put of so long a payload would be refused as full.
+    pub fn has_room(&self, payload: usize) -> bool
+        ensures { IsTrue result ↔ (self.now.recorded.gate + 6 + payload ≤ 4294967295) }
+    {
+        let payload = payload as u64;
+        payload <= MAX_RECORD - 6 && self.recorded.gate <= MAX_RECORD - 6 - payload
+    }
+
+    /// Gives the disk back.
+    pub fn close(self) -> D
+        ensures { result ≡ self.disk }
+    {
+        let Record {
+            alloc: _,
+            disk,
+            node: _,
+            cluster: _,
+            recorded: _recorded,
+            stopped: _,
+        } = self;
+        disk
+    }
+}
+
+impl<D: Armed> Record<D> {
+    /// Hands the arming on to the disk.
+    pub fn arm(&mut self, calls: u32)
+        ensures disk { (d : DiskState) → D.Disk.stands_for self.old.disk d → D.Disk.stands_for self.new.disk d }
+        ensures failed { D.Disk.failed self.new.disk ≡ D.Disk.failed self.old.disk }
+        ensures same { self.new ≡ record self.old { disk = self.new.disk } }
+    {
+        self.disk.arm(calls);
+    }
+}

@@ -1,0 +1,86 @@
+//! What a node has promised and voted at each instance.
+
+ghost use Rattle.std.specs.Prelude.{◌≡◌, ◌≢◌, ℕ, None, Some, OnOk};
+
+use acceptor::Slot;
+use site_ids::{Ballot, Instance, Vote};
+use std::alloc::{AllocError, Global};
+use std::collections::BTreeMap;
+
+/// The slots that aren't empty, and perhaps empty ones.
+#[derive(Drop)]
+pub(crate) struct Slots {
+    map: BTreeMap<u32, Slot>,
+    empty: Slot,
+    ghost none_promised: { empty.promised ≡ None },
+    ghost none_voted: { empty.vote ≡ None },
+}
+
+fn empty_slot() -> Slot
+    ensures { result ≡ record { promised = None; vote = None } }
+{
+    Slot {
+        promised: None,
+        vote: None,
+    }
+}
+
+impl Slots {
+    ghost use Rattle.acceptor.specs.Steps.{with_promise, with_vote};
+    ghost use Rattle.durable.specs.Slots.{slot_at, no_slot, IsThere};
+
+    pub(crate) fn new(alloc: Global) -> Slots
+        ensures { (at : ℕ) → slot_at result at ≡ no_slot }
+    {
+        Slots {
+            map: BTreeMap::new(alloc),
+            empty: empty_slot(),
+        }
+    }
+
+    /// The slot, an empty one where none stands.
+    pub(crate) fn get(&self, at: Instance) -> &Slot
+        ensures { result.now ≡ slot_at self.now at }
+    {
+        match self.map.get(&at.number()) {
+            Some(slot) => slot,
+            None => &self.empty,
+        }
+    }
+
+    /// Makes room for a slot, which changes none of them.
+    pub(crate) fn make_room(&mut self, at: Instance) -> Result<(), AllocError>
+        ensures same { (other : ℕ) → slot_at self.new other ≡ slot_at self.old other }
+        ensures room { OnOk result (IsThere self.new at) }
+    {
+        if self.map.get(&at.number()).is_some() {
+            return Ok(());
+        }
+        self.map.insert(at.number(), empty_slot())?;
+        Ok(())
+    }
+
+    /// Raises a promise where there is room for the slot.
+    pub(crate) fn promise(&mut self, at: Instance, ballot: Ballot)
+        requires { IsThere self.old at }
+        ensures promised { slot_at self.new at ≡ with_promise (slot_at self.old at) ballot }
+        ensures others { (other : ℕ) → other ≢ at → slot_at self.new other ≡ slot_at self.old other }
+    {
+        if let Some(slot) = self.map.get_mut(&at.number()) {
+            slot.promised = Some(ballot);
+        }
+    }
+
+    /// Puts a vote, whose ballot is promised too, where there is room for the slot.
+    pub(crate) fn vote(&mut self, at: Instance, vote: Vote)
+        requires { IsThere self.old at }
+        ensures voted { slot_at self.new at ≡ with_vote vote.ballot vote.value }
+        ensures others { (other : ℕ) → other ≢ at → slot_at self.new other ≡ slot_at self.old other }
+    {
+        let slot = Slot {
+            promised: Some(vote.ballot),
+            vote: Some(vote),
+        };
+        let _ = self.map.insert(at.number(), slot);
+    }
+}

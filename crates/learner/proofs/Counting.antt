@@ -1,0 +1,68 @@
+-- The nodes that pass a test, counted one after the other.
+use Rattle.std.proofs.Common.{◌≡◌, ◌⊎◌, inl, inr, ℕ, ◌+◌, ◌/◌, ◌≤◌, List, [], ◌∷◌, length, refl, sym, subst, ⊎_elim, arith}
+use Rattle.std.specs.Prelude.{◌↔◌, IsTrue, nat_le}
+use Rattle.std.proofs.lemmas.Bool.Decides.{nat_tests}
+use Rattle.site_ids.specs.Ids.{IsNode, BallotOf}
+use Rattle.site_ids.specs.Majorities.{In, Distinct}
+use Rattle.site_ids.proofs.MemberLemmas.{distinct_within}
+use Rattle.learner.specs.Tallies.{Tally, tally, HasMajority}
+
+-- c of the nodes 1 to k pass
+pub record Counted (P : ℕ → Type 0) (k c : ℕ) : Type 0 where
+  pub nodes : List ℕ
+  pub distinct : Distinct nodes
+  pub each : (p : ℕ) → In nodes p → IsNode k p × P p
+  pub all : (p : ℕ) → IsNode k p → P p → In nodes p
+  pub number : length nodes ≡ c
+
+pub counted_none : (P : ℕ → Type 0) → Counted P 0 0
+counted_none P = record { nodes = []; distinct = tt; each = λ p h. absurd h; all = λ p is pass. absurd (omega (arith, is.0, is.1)); number = refl }
+
+last_or_before : (k p : ℕ) → IsNode (k + 1) p → (k + 1 ≡ p) ⊎ IsNode k p
+last_or_before k p is = grind arith
+
+pub counted_more : (P : ℕ → Type 0) (k c : ℕ) → P (k + 1) → Counted P k c → Counted P (k + 1) (c + 1)
+counted_more P k c pass h = record {
+  nodes = (k + 1) ∷ h.nodes;
+  distinct = (λ i. (let is : IsNode k (k + 1) = (h.each (k + 1) i).0 in omega (arith, is.1)), h.distinct);
+  each = λ p i. ⊎_elim (λ (e : k + 1 ≡ p). ((omega arith, omega arith), subst P e pass)) (λ j. let r = h.each p j in ((r.0.0, omega (arith, r.0.1)), r.1)) i;
+  all = λ p is q. ⊎_elim (λ e. inl e) (λ b. inr (h.all p b q)) (last_or_before k p is);
+  number = omega (arith, h.number);
+}
+
+pub counted_same : (P : ℕ → Type 0) (k c : ℕ) → ¬ P (k + 1) → Counted P k c → Counted P (k + 1) c
+counted_same P k c fails h = record {
+  nodes = h.nodes;
+  distinct = h.distinct;
+  each = λ p i. let r = h.each p i in ((r.0.0, omega (arith, r.0.1)), r.1);
+  all = λ p is q. ⊎_elim (λ e. absurd (fails (subst P (sym e) q))) (λ b. h.all p b q) (last_or_before k p is);
+  number = h.number;
+}
+
+-- enough voters are a majority
+pub enough_counted : (n c : ℕ) (IsVote : Tally → Type 0) (i : ℕ) (b : BallotOf) (v : List ℕ) → Counted (λ p. IsVote (tally p i b v)) n c → n / 2 + 1 ≤ c → HasMajority n IsVote i b v
+enough_counted n c IsVote i b v h enough =
+    (h.nodes, record { distinct = h.distinct; nodes = λ p k. (h.each p k).0; enough = omega (arith, h.number) }, λ p k. (h.each p k).1)
+
+-- and a majority of them is enough
+pub majority_counted : (n c : ℕ) (IsVote : Tally → Type 0) (i : ℕ) (b : BallotOf) (v : List ℕ) → Counted (λ p. IsVote (tally p i b v)) n c → HasMajority n IsVote i b v → n / 2 + 1 ≤ c
+majority_counted n c IsVote i b v h m =
+    let all_counted = distinct_within m.0 h.nodes m.1.distinct (λ p k. h.all p (m.1.nodes p k) (m.2 p k)) in
+    omega (arith, m.1.enough, all_counted, h.number)
+
+-- the nodes counted up to the last one reach the quorum where there is a majority, and only there
+pub quorum_reached : (n k quorum c : ℕ) (IsVote : Tally → Type 0) (i : ℕ) (b : BallotOf) (v : List ℕ) → k ≡ n → quorum ≡ n / 2 + 1
+    → Counted (λ p. IsVote (tally p i b v)) k c → IsTrue (nat_le quorum c) ↔ HasMajority n IsVote i b v
+quorum_reached n k quorum c IsVote i b v last is h =
+    let all : Counted (λ p. IsVote (tally p i b v)) n c = subst (λ (m : ℕ). Counted (λ p. IsVote (tally p i b v)) m c) last h in
+    (λ t. enough_counted n c IsVote i b v all (subst (λ (q : ℕ). q ≤ c) is (reached quorum c t)), λ m. reaches quorum c (subst (λ (q : ℕ). q ≤ c) (sym is) (majority_counted n c IsVote i b v all m)))
+  where
+    reached : (q c : ℕ) → IsTrue (nat_le q c) → q ≤ c
+    reached q c t = grind (arith, nat_tests)
+
+    reaches : (q c : ℕ) → q ≤ c → IsTrue (nat_le q c)
+    reaches q c le = grind (arith, nat_tests)
+
+-- of two sets with the same votes both have a majority or none
+pub same_majority : (n : ℕ) (IsVote IsOther : Tally → Type 0) (i : ℕ) (b : BallotOf) (v : List ℕ) → ((t : Tally) → IsVote t → IsOther t) → HasMajority n IsVote i b v → HasMajority n IsOther i b v
+same_majority n IsVote IsOther i b v same m = (m.0, m.1, λ p k. same (tally p i b v) (m.2 p k))

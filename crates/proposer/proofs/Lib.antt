@@ -1,0 +1,4 @@
+pub mod BestLemmas
+pub mod Answering
+pub mod Taking
+pub mod Examples

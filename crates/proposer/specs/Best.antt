@@ -1,0 +1,23 @@
+-- The highest vote told.
+use Rattle.std.specs.Prelude.{◌≡◌, ℕ, List, Option, Some, None, ⊤}
+use Rattle.site_ids.specs.Ids.{Below, NotAbove}
+use Rattle.site_ids.specs.Majorities.{In}
+use Rattle.site_ids.specs.declared.value.Vote.{Vote}
+use Rattle.proposer.specs.Attempts.{Answer, ToldNone}
+
+-- it is one that was told and that none told exceeds, or none was told
+abbrev pub IsBest : List Answer → Option Vote → Type 0
+IsBest answers None = ToldNone answers
+IsBest answers (Some best) =
+    ((x : Answer) × In answers x × (x.prior ≡ Some best)) × ((y : Answer) (w : Vote) → In answers y → y.prior ≡ Some w → NotAbove w.ballot best.ballot)
+
+-- a vote told takes the place of the best one
+abbrev pub Exceeds : Option Vote → Option Vote → Type 0
+Exceeds None best = ⊥
+Exceeds (Some vote) None = ⊤
+Exceeds (Some vote) (Some best) = Below best.ballot vote.ballot
+
+-- the value of the best vote, or one's own
+abbrev pub value_by : List ℕ → Option Vote → List ℕ
+value_by own None = own
+value_by own (Some best) = best.value

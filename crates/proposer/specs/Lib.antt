@@ -1,0 +1,4 @@
+pub mod Attempts
+pub mod Best
+pub mod Standing
+pub mod Laws

@@ -1,0 +1,53 @@
+-- Which attempts a proposer stands for: it keeps of the answers their senders and the best vote told.
+use Rattle.std.specs.Prelude.{◌≡◌, ◌⊎◌, ℕ, List, Option, Some, None, Result, Ok, Err, ⊤, if◌then◌else◌}
+use Rattle.std.specs.BTreeMap.{get}
+use Rattle.std.specs.Ordering.{nat_cmp}
+use Rattle.std.specs.declared.alloc.AllocError.{AllocError}
+use Rattle.site_ids.specs.Ids.{IsNode, BallotOf}
+use Rattle.site_ids.specs.Majorities.{In, Distinct, Majority}
+use Rattle.site_ids.specs.declared.value.Vote.{Vote}
+use Rattle.proposer.specs.declared.attempt.OpenAttempt.{OpenAttempt}
+use Rattle.proposer.specs.declared.fault.ProposerFault.{ProposerFault}
+use Rattle.proposer.specs.declared.fault.ProposerFault.TheVariants.{OutOfMemory, RoundsUsedUp}
+use Rattle.proposer.specs.declared.proposing.Proposal.{Proposal}
+use Rattle.proposer.specs.declared.proposing.Proposer.{Proposer}
+use Rattle.proposer.specs.Attempts.{Attempt, senders, Chooses, Counts, with_answer, waiting, proposing, TakesPromise}
+use Rattle.proposer.specs.Best.{IsBest, value_by}
+
+-- what is kept of an attempt, in a cluster of n nodes
+pub record StandsFor (n : ℕ) (kept : OpenAttempt) (a : Attempt) : Type 0 where
+  pub ballot : kept.ballot ≡ a.ballot
+  pub own : kept.own ≡ a.own
+  pub promised : kept.promised.items ≡ senders a.answers
+  pub distinct : Distinct (senders a.answers)
+  pub nodes : (p : ℕ) → In (senders a.answers) p → IsNode n p
+  pub best : IsBest a.answers kept.best
+  pub proposal : a.proposal ≡ (if kept.proposed then Some (value_by kept.own kept.best) else None)
+
+-- both are there, and the one stands for the other, or neither is
+abbrev pub StandsForAny : ℕ → Option OpenAttempt → Option Attempt → Type 0
+StandsForAny n None None = ⊤
+StandsForAny n None (Some a) = ⊥
+StandsForAny n (Some kept) None = ⊥
+StandsForAny n (Some kept) (Some a) = StandsFor n kept a
+
+-- the proposer's attempts, by instance
+abbrev pub Attempting : Proposer → (ℕ → Option Attempt) → Type 0
+Attempting proposer attempts = (i : ℕ) → StandsForAny proposer.cluster (get nat_cmp proposer.attempts i) (attempts i)
+
+-- what an attempt's answer to a promise is: none where it doesn't count or leaves it waiting, the value that it proposes by it,
+-- or want of memory, which changes nothing
+abbrev pub Answered : ℕ → Attempt → ℕ → BallotOf → Option Vote → Result (Option (List ℕ)) AllocError → OpenAttempt → Type 0
+Answered n a q b prior (Ok None) kept =
+    (¬ Counts a q b × StandsFor n kept a) ⊎ (Counts a q b × ¬ Majority n (senders (with_answer a q prior)) × StandsFor n kept (waiting a q prior))
+Answered n a q b prior (Ok (Some v)) kept =
+    Counts a q b × Majority n (senders (with_answer a q prior)) × Chooses a.own (with_answer a q prior) v × StandsFor n kept (proposing a q prior v)
+Answered n a q b prior (Err e) kept = StandsFor n kept a
+
+-- a promise is taken as the step has it, and what is proposed is handed out, or memory is wanted and the attempts stay
+abbrev pub Promised : ℕ → (ℕ → Option Attempt) → ℕ → ℕ → BallotOf → Option Vote → Result (Option Proposal) ProposerFault → Proposer → Type 0
+Promised n attempts q i b prior (Ok None) new = (after : ℕ → Option Attempt) × TakesPromise n attempts q i b prior after None × Attempting new after
+Promised n attempts q i b prior (Ok (Some proposal)) new =
+    (proposal.instance ≡ i) × (proposal.ballot ≡ b) × ((after : ℕ → Option Attempt) × TakesPromise n attempts q i b prior after (Some proposal.value) × Attempting new after)
+Promised n attempts q i b prior (Err OutOfMemory) new = Attempting new attempts
+Promised n attempts q i b prior (Err RoundsUsedUp) new = ⊥

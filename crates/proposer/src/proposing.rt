@@ -1,0 +1,153 @@
+ghost use Rattle.std.specs.Prelude.{◌≡◌, ◌+◌, ◌<◌, ℕ, max, None, Some, Option, OnOk, OnErr, IfOk, MatchResult};
+ghost use Rattle.std.specs.Option.{option_map};
+ghost use Rattle.site_ids.specs.Ids.{IsNode};
+ghost use Rattle.site_ids.specs.Maps.{put_at};
+ghost use Rattle.proposer.specs.declared.fault.ProposerFault.TheVariants.{RoundsUsedUp};
+ghost use Rattle.proposer.specs.Attempts.{Attempt, opened, latest};
+ghost use Rattle.proposer.specs.Standing.{Attempting, Promised};
+
+use crate::ProposerFault;
+use crate::attempt::{OpenAttempt, proposed_value};
+use site_ids::{Ballot, Cluster, Instance, MAX_ROUND, NodeId, Value, Vote};
+use std::alloc::{AllocError, Global};
+use std::collections::BTreeMap;
+use wire::Message;
+
+/// A value to propose, at an attempt's instance and ballot.
+#[derive(Debug, Drop)]
+pub struct Proposal {
+    pub instance: Instance,
+    pub ballot: Ballot,
+    pub value: Value,
+}
+
+/// The open attempts of a node.
+#[derive(Debug, Drop)]
+pub struct Proposer {
+    cluster: Cluster,
+    me: NodeId,
+    /// The greatest round that a nack told, or 0.
+    heard: u32,
+    /// By instance.
+    attempts: BTreeMap<u32, OpenAttempt>,
+}
+
+impl Proposer {
+    pub fn new(alloc: Global, cluster: Cluster, me: NodeId) -> Proposer
+        ensures cluster { result.cluster ≡ cluster }
+        ensures me { result.me ≡ me }
+        ensures heard { result.heard ≡ 0 }
+        ensures none { Attempting result (λ i. None) }
+    {
+        Proposer {
+            cluster,
+            me,
+            heard: 0,
+            attempts: BTreeMap::new(alloc),
+        }
+    }
+
+    /// A ballot above the last round on record and above each round that a nack told.
+    pub fn next_ballot(&self, recorded: u32) -> Result<Ballot, ProposerFault>
+        ensures { MatchResult result (λ b. (b ≡ record { round = max recorded self.now.heard + 1; node = self.now.me }) × (max recorded self.now.heard < 4294967295)) (λ fault. (fault ≡ RoundsUsedUp) × (max recorded self.now.heard ≡ 4294967295)) }
+    {
+        let last = recorded.max(self.heard);
+        if last == MAX_ROUND {
+            return Err(ProposerFault::RoundsUsedUp);
+        }
+        match Ballot::new(last + 1, self.me) {
+            Some(ballot) => Ok(ballot),
+            None => Err(ProposerFault::RoundsUsedUp),
+        }
+    }
+
+    /// Opens an attempt, in place of one at that instance. The ballot is the node's own, of a round above those of all
+    /// earlier attempts.
+    pub fn start(
+        &mut self,
+        alloc: Global,
+        instance: Instance,
+        ballot: Ballot,
+        own: &[u8],
+    ) -> Result<(), AllocError>
+        ensures same { (self.new.cluster ≡ self.old.cluster) × (self.new.me ≡ self.old.me) × (self.new.heard ≡ self.old.heard) }
+        ensures ok { OnOk result ((attempts : ℕ → Option Attempt) → Attempting self.old attempts → Attempting self.new (put_at attempts instance (Some (opened ballot own.now)))) }
+        ensures err { OnErr result ((attempts : ℕ → Option Attempt) → Attempting self.old attempts → Attempting self.new attempts) }
+    {
+        let attempt = OpenAttempt {
+            ballot,
+            own: Value::copied_from(alloc, own)?,
+            promised: Vec::new(alloc),
+            best: None,
+            proposed: false,
+        };
+        self.attempts.insert(instance.number(), attempt)?;
+        Ok(())
+    }
+
+    /// Takes a promise of one of the cluster's nodes, and gives the proposal where it makes a majority of an open
+    /// attempt's ballot.
+    pub fn on_promise(
+        &mut self,
+        alloc: Global,
+        from: NodeId,
+        instance: Instance,
+        ballot: Ballot,
+        prior: Option<Vote>,
+    ) -> Result<Option<Proposal>, ProposerFault>
+        requires { IsNode self.old.cluster from }
+        ensures same { (self.new.cluster ≡ self.old.cluster) × (self.new.me ≡ self.old.me) × (self.new.heard ≡ self.old.heard) }
+        ensures step { (attempts : ℕ → Option Attempt) → Attempting self.old attempts → Promised self.old.cluster attempts from instance ballot prior result self.new }
+    {
+        let cluster = self.cluster;
+        let Some(attempt) = self.attempts.get_mut(&instance.number()) else {
+            return Ok(None);
+        };
+        match attempt.on_promise(alloc, cluster, from, ballot, prior)? {
+            Some(value) => Ok(Some(Proposal {
+                instance,
+                ballot,
+                value,
+            })),
+            None => Ok(None),
+        }
+    }
+
+    /// Remembers the round of a promise that a nack told.
+    pub fn on_nack(&mut self, promised: Ballot)
+        ensures { self.new ≡ record self.old { heard = max self.old.heard promised.round } }
+    {
+        self.heard = self.heard.max(promised.round());
+    }
+
+    /// The latest message of the attempt at an instance, if one is open.
+    pub fn resend(&self, alloc: Global, instance: Instance) -> Result<Option<Message>, AllocError>
+        ensures { (attempts : ℕ → Option Attempt) → Attempting self.now attempts → IfOk result (λ message. message ≡ option_map (λ a. latest self.now.me instance a.ballot a.proposal) (attempts instance)) }
+    {
+        let Some(attempt) = self.attempts.get(&instance.number()) else {
+            return Ok(None);
+        };
+        if !attempt.proposed {
+            return Ok(Some(Message::Prepare {
+                from: self.me,
+                instance,
+                ballot: attempt.ballot,
+            }));
+        }
+        let value = proposed_value(&attempt.own, &attempt.best).try_clone(alloc)?;
+        Ok(Some(Message::Propose {
+            from: self.me,
+            instance,
+            ballot: attempt.ballot,
+            value,
+        }))
+    }
+
+    /// Closes the attempt at an instance, if one is open.
+    pub fn abandon(&mut self, instance: Instance)
+        ensures same { (self.new.cluster ≡ self.old.cluster) × (self.new.me ≡ self.old.me) × (self.new.heard ≡ self.old.heard) }
+        ensures closed { (attempts : ℕ → Option Attempt) → Attempting self.old attempts → Attempting self.new (put_at attempts instance None) }
+    {
+        self.attempts.remove(&instance.number());
+    }
+}

@@ -1,0 +1,4 @@
+pub mod Page
+pub mod Receipts
+pub mod Standing
+pub mod Laws

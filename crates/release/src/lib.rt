@@ -1,0 +1,14 @@
+//! Releases of a site: the values fed in their order, and the pages of each release.
+#![tactic(auto)]
+
+mod answer;
+mod fault;
+mod laws;
+mod page;
+mod released;
+mod releases;
+
+pub use answer::Answer;
+pub use fault::AnswerFault;
+pub use laws::{answers_stay, receipts_are_first};
+pub use releases::Releases;

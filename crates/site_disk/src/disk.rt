@@ -1,0 +1,56 @@
+//! What a disk promises to the layers above it.
+
+ghost use Rattle.std.specs.Prelude.{◌≡◌, ◌⊎◌, ◌+◌, ◌≤◌, ◌∷◌, List, ℕ, length, take, drop, IfOk, OnOk, OnErr};
+ghost use Rattle.site_disk.specs.Model.{DiskState, after_write, after_sync, overwritten, IsTorn, CountsFailure};
+
+/// The device failed.
+#[derive(Clone, Copy, Debug, PartialEq, Eq)]
+pub struct DiskFailed;
+
+/// One file. Its clauses speak of each state of the model that the disk stands for; what a range beyond the file's end
+/// gives is left open.
+pub trait Disk {
+    /// The disk stands for this state of the model.
+    ghost stands_for: { Self → DiskState → Type 0 };
+
+    /// How many calls have failed.
+    ghost failed: { Self → ℕ };
+
+    /// How many calls have failed. At its last value the count stays.
+    fn failures(&self) -> u64
+        ensures { result ≡ failed self.now };
+
+    /// The file's length as it reads, in bytes.
+    fn len(&mut self) -> Result<u64, DiskFailed>
+        ensures state { (d : DiskState) → stands_for self.old d → stands_for self.new d }
+        ensures len { IfOk result (λ n. (d : DiskState) → stands_for self.old d → n ≡ length d.seen) }
+        ensures cause { CountsFailure result (failed self.old) (failed self.new) };
+
+    /// Fills the slice or fails.
+    fn read_at(&mut self, at: u64, buf: &mut [u8]) -> Result<(), DiskFailed>
+        ensures state { (d : DiskState) → stands_for self.old d → stands_for self.new d }
+        ensures read { OnOk result ((d : DiskState) → stands_for self.old d → at + length buf.old ≤ length d.seen → buf.new ≡ take (length buf.old) (drop at d.seen)) }
+        ensures cause { CountsFailure result (failed self.old) (failed self.new) };
+
+    /// Writes all of the bytes from a place on, or fails and may have written some. They are not synced yet.
+    fn write_at(&mut self, at: u64, bytes: &[u8]) -> Result<(), DiskFailed>
+        ensures written { OnOk result ((d : DiskState) → stands_for self.old d → at ≤ length d.seen
+            → stands_for self.new (after_write d at (length bytes.now) (overwritten d.seen at bytes.now))) }
+        ensures torn { OnErr result ((d : DiskState) → stands_for self.old d → at ≤ length d.seen
+            → stands_for self.new d ⊎ ((seen : List ℕ) × IsTorn at (length bytes.now) d.seen seen × stands_for self.new (after_write d at (length bytes.now) seen))) }
+        ensures cause { CountsFailure result (failed self.old) (failed self.new) };
+
+    /// Has what was written stand on the disk. One that fails counts as none.
+    fn sync(&mut self) -> Result<(), DiskFailed>
+        ensures synced { OnOk result ((d : DiskState) → stands_for self.old d → stands_for self.new (after_sync d)) }
+        ensures kept { OnErr result ((d : DiskState) → stands_for self.old d → stands_for self.new d) }
+        ensures cause { CountsFailure result (failed self.old) (failed self.new) };
+}
+
+/// A disk that can be told to fail.
+pub trait Armed: Disk {
+    /// Lets so many further calls pass before it fails.
+    fn arm(&mut self, calls: u32)
+        ensures state { (d : DiskState) → Self.Disk.stands_for self.old d → Self.Disk.stands_for self.new d }
+        ensures failed { Self.Disk.failed self.new ≡ Self.Disk.failed self.old };
+}

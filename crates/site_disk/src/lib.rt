@@ -1,0 +1,12 @@
+//! The disk file under a node's record: what it promises, one in memory that can fail and crash, and a real one.
+#![tactic(auto)]
+
+mod count;
+mod crash;
+mod disk;
+mod file;
+mod memory;
+
+pub use disk::{Armed, Disk, DiskFailed};
+pub use file::FileDisk;
+pub use memory::{Call, MemDisk};

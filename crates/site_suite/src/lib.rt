@@ -1,0 +1,12 @@
+//! Rows of sites: each call of the crates from the scanner to the releases once with ample memory, a site by its values, releases by number; and
+//! each call with one growth refused.
+#![tactic(auto)]
+
+#[cfg(test)]
+mod calls;
+#[cfg(test)]
+mod refusals;
+#[cfg(test)]
+mod releases;
+#[cfg(test)]
+mod sites;

@@ -1,0 +1,78 @@
+//! Releases by number: what each value is answered with, the newest, pages and receipts.
+use command::write;
+use content::Applied;
+use release::{AnswerFault, Releases};
+use site_ids::Ticket;
+use std::alloc::{AllocError, Global};
+use std::test::Fail;
+
+/// Commands by ticket number, and what each is answered with: the sixth repeats the first one's ticket.
+pub(crate) const COMMANDS: [(u64, &str, Applied); 8] = [
+    (1, "put template t\nv1\n", Applied::Changed),
+    (2, "put data d\n{}", Applied::Changed),
+    (3, "put route / t d\n", Applied::Changed),
+    (4, "release\n", Applied::Released),
+    (5, "put template t\nv2\n", Applied::Changed),
+    (1, "release\n", Applied::Repeat),
+    (6, "remove template t\n", Applied::Changed),
+    (7, "release\n", Applied::Released),
+];
+
+pub(crate) fn ticket(number: u64) -> Ticket {
+    Ticket { editor: 1, number }
+}
+
+pub(crate) fn value_of(alloc: Global, number: u64, text: &str) -> Result<Vec<u8>, AllocError> {
+    write(alloc, ticket(number), text.as_bytes())
+}
+
+fn receipt(releases: &Releases, number: u64) -> Option<u32> {
+    let instance = releases.receipt(ticket(number))?;
+    Some(instance.number())
+}
+
+#[test]
+fn eight_commands(rt: HostRuntime) -> Result<(), Fail> {
+    let alloc = rt.alloc();
+    let mut releases = Releases::new(alloc);
+    assert_eq!(rt; releases.newest(), 0);
+    for (number, text, applied) in COMMANDS {
+        let value = value_of(alloc, number, text)?;
+        assert_eq!(rt; releases.feed(alloc, &value)?, applied, "{text}");
+    }
+    assert_eq!(rt; releases.newest(), 2);
+    let pages = [
+        (1, "/", 200, "v1\n"),
+        (2, "/", 500, "template missing\n"),
+        (1, "/x", 404, "not found\n"),
+    ];
+    for (n, path, status, body) in pages {
+        let answer = releases.answer(alloc, n, path)?;
+        assert_eq!(rt; answer.status, status);
+        assert_eq!(rt; answer.body.as_str(), body);
+    }
+    for n in [0, 3, u64::MAX] {
+        let refused = releases.answer(alloc, n, "/");
+        assert!(rt; matches!(refused, Err(AnswerFault::NoSuchRelease)), "{n}");
+    }
+    assert_eq!(rt; receipt(&releases, 1), Some(1));
+    assert_eq!(rt; receipt(&releases, 7), Some(8));
+    assert_eq!(rt; receipt(&releases, 8), None);
+    Ok(())
+}
+
+#[test]
+fn values_that_are_no_commands(rt: HostRuntime) -> Result<(), Fail> {
+    let alloc = rt.alloc();
+    let mut releases = Releases::new(alloc);
+    assert_eq!(rt; releases.feed(alloc, b"")?, Applied::NotACommand);
+    let unread = value_of(alloc, 1, "put template t\n{{")?;
+    assert_eq!(rt; releases.feed(alloc, &unread)?, Applied::NotACommand);
+    assert_eq!(rt; receipt(&releases, 1), None);
+    let release = value_of(alloc, 1, "release\n")?;
+    assert_eq!(rt; releases.feed(alloc, &release)?, Applied::Released);
+    assert_eq!(rt; releases.feed(alloc, &release)?, Applied::Repeat);
+    assert_eq!(rt; releases.newest(), 1);
+    assert_eq!(rt; receipt(&releases, 1), Some(3));
+    Ok(())
+}
