@@ -28,6 +28,7 @@ impl<D: Disk> Record<D> {
         ensures was_stopped { IsErrOf result RecordFault.Stopped ↔ (self.old.stopped ≡ true) }
         ensures full { IsErrOf result RecordFault.Full ↔ ((self.old.stopped ≡ false) × (4294967295 < self.old.recorded.gate + 11)) }
         ensures others { OnErr result (IsErrOf result RecordFault.Device ⊎ ((IsErrOf result RecordFault.Stopped ⊎ IsErrOf result RecordFault.Full) × (self.new ≡ self.old))) }
+        ensures kept { OnErr result ((self.new.recorded.round ≡ self.old.recorded.round) × ((i : ℕ) → slot_at self.new.recorded.slots i ≡ slot_at self.old.recorded.slots i)) }
         ensures whose { (self.new.node ≡ self.old.node) × (self.new.cluster ≡ self.old.cluster) }
     {
         if self.stopped {
@@ -55,6 +56,7 @@ impl<D: Disk> Record<D> {
         ensures was_stopped { IsErrOf result RecordFault.Stopped ↔ (self.old.stopped ≡ true) }
         ensures full { IsErrOf result RecordFault.Full ↔ ((self.old.stopped ≡ false) × (4294967295 < self.old.recorded.gate + 16)) }
         ensures others { OnErr result (IsErrOf result RecordFault.Device ⊎ ((IsErrOf result RecordFault.Stopped ⊎ (IsErrOf result RecordFault.Full ⊎ IsErrOf result RecordFault.OutOfMemory)) × IsUnchanged self.old self.new)) }
+        ensures kept { OnErr result ((self.new.recorded.round ≡ self.old.recorded.round) × ((i : ℕ) → slot_at self.new.recorded.slots i ≡ slot_at self.old.recorded.slots i)) }
         ensures whose { (self.new.node ≡ self.old.node) × (self.new.cluster ≡ self.old.cluster) }
     {
         if self.stopped {
@@ -92,6 +94,7 @@ impl<D: Disk> Record<D> {
         ensures was_stopped { IsErrOf result RecordFault.Stopped ↔ (self.old.stopped ≡ true) }
         ensures full { IsErrOf result RecordFault.Full ↔ ((self.old.stopped ≡ false) × (4294967295 < self.old.recorded.gate + 16 + length value.now)) }
         ensures others { OnErr result (IsErrOf result RecordFault.Device ⊎ ((IsErrOf result RecordFault.Stopped ⊎ (IsErrOf result RecordFault.Full ⊎ IsErrOf result RecordFault.OutOfMemory)) × IsUnchanged self.old self.new)) }
+        ensures kept { OnErr result ((self.new.recorded.round ≡ self.old.recorded.round) × ((i : ℕ) → slot_at self.new.recorded.slots i ≡ slot_at self.old.recorded.slots i)) }
         ensures whose { (self.new.node ≡ self.old.node) × (self.new.cluster ≡ self.old.cluster) }
     {
         if self.stopped {

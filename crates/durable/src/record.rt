@@ -152,6 +152,7 @@ impl<D: Armed> Record<D> {
     pub fn arm(&mut self, calls: u32)
         ensures disk { (d : DiskState) → D.Disk.stands_for self.old.disk d → D.Disk.stands_for self.new.disk d }
         ensures failed { D.Disk.failed self.new.disk ≡ D.Disk.failed self.old.disk }
+        ensures armed { D.armed self.new.disk calls }
         ensures same { self.new ≡ record self.old { disk = self.new.disk } }
     {
         self.disk.arm(calls);

@@ -12,9 +12,6 @@ use Rattle.learner.specs.declared.learning.Learner.{Learner}
 use Rattle.learner.specs.Tallies.{Tally, tally}
 use Rattle.learner.specs.Votes.{told, votes_at, IsTold, IsToldWith}
 
-vote_of : Tally → Told
-vote_of t = told t.voter t.ballot t.value
-
 same_tally : (t : Tally) (p i : ℕ) (b : BallotOf) (v : List ℕ) → t.instance ≡ i → told p b v ≡ told t.voter t.ballot t.value → t ≡ tally p i b v
 same_tally t p i b v at e = λ j. record { voter = sym (ap (λ (x : Told). x.voter) e) j; instance = at j; ballot = sym (ap (λ (x : Told). x.ballot) e) j; value = sym (ap (λ (x : Told). x.value) e) j }
 
@@ -59,15 +56,12 @@ pushed old new p at i b v copy (Ok u) is same here others =
     (subst (λ (k : ℕ). votes_at new k ≡ votes_at old k ++ told p b v ∷ []) is (here ∙ ap (λ (x : List ℕ). votes_at old at ++ told p b x ∷ []) same))
     (λ j apart. others j (λ e. apart (e ∙ is)))
 
--- a vote that is there already adds nothing
-pub vote_there : (old : Learner) (p i : ℕ) (b : BallotOf) (v : List ℕ) → In (votes_at old i) (told p b v) → (t : Tally) → IsTold old t ↔ IsToldWith old (tally p i b v) t
-vote_there old p i b v there t = (λ h. inl h, λ h. ⊎_elim (λ k. k) (λ e. subst (IsTold old) (sym e) there) h)
-
 -- the votes up to the next one
 pub not_yet : (xs : List Told) (k : ℕ) (x y : Told) → k < length xs → x ≡ get_or xs k x → x ≢ y → ¬ In (take k xs) y → ¬ In (take (k + 1) xs) y
 not_yet xs k x y low is apart before h =
     ⊎_elim before (λ (e : get_or xs k x ≡ y). apart (is ∙ e)) (in_push (take k xs) (get_or xs k x) y (subst (λ (zs : List Told). In zs y) (take_more xs k x low) h))
 
+-- an element that is the one sought
 pub found : (xs : List Told) (k : ℕ) (x y : Told) → k < length xs → x ≡ get_or xs k x → x ≡ y → In xs y
 found xs k x y low is same = subst (In xs) (sym is ∙ same) (in_get xs k (get_or xs k x) (slice_get-get_or xs k x low))
 

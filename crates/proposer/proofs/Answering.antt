@@ -17,7 +17,7 @@ use Rattle.proposer.specs.Standing.{StandsFor}
 use Rattle.proposer.proofs.BestLemmas.{best_chooses, exceeds_or_not, best_kept, best_taken}
 
 -- a promise is counted: its node and the better of two votes are kept
-pub record Counts_in (old new : OpenAttempt) (q : ℕ) (prior : Option Vote) : Type 0 where
+pub record KeepsPromise (old new : OpenAttempt) (q : ℕ) (prior : Option Vote) : Type 0 where
   pub ballot : new.ballot ≡ old.ballot
   pub own : new.own ≡ old.own
   pub promised : new.promised.items ≡ old.promised.items ++ q ∷ []
@@ -30,7 +30,7 @@ senders_with a q prior = map-append (λ (x : Answer). x.sender) a.answers (recor
 senders_length : (n : ℕ) (old : OpenAttempt) (a : Attempt) (q : ℕ) (prior : Option Vote) → StandsFor n old a → length (senders (with_answer a q prior)) ≡ length old.promised.items + 1
 senders_length n old a q prior h = ap length (senders_with a q prior) ∙ length_push (senders a.answers) q ∙ ap (λ (xs : List ℕ). length xs + 1) (sym h.promised)
 
-best_after : (old new : OpenAttempt) (a : Attempt) (q : ℕ) (prior : Option Vote) → Counts_in old new q prior → IsBest a.answers old.best → IsBest (with_answer a q prior) new.best
+best_after : (old new : OpenAttempt) (a : Attempt) (q : ℕ) (prior : Option Vote) → KeepsPromise old new q prior → IsBest a.answers old.best → IsBest (with_answer a q prior) new.best
 best_after old new a q prior c h =
     ⊎_elim
     (λ above. subst (IsBest (with_answer a q prior)) (sym (c.higher above)) (best_taken a.answers q prior old.best above h))
@@ -38,7 +38,7 @@ best_after old new a q prior c h =
     (exceeds_or_not prior old.best)
 
 stands_after : (n : ℕ) (old new : OpenAttempt) (a : Attempt) (q : ℕ) (prior : Option Vote) (proposal : Option (List ℕ)) → StandsFor n old a → IsNode n q → ¬ In (senders a.answers) q
-    → Counts_in old new q prior → proposal ≡ (if new.proposed then Some (value_by new.own new.best) else None) → StandsFor n new (record a { answers = with_answer a q prior; proposal = proposal })
+    → KeepsPromise old new q prior → proposal ≡ (if new.proposed then Some (value_by new.own new.best) else None) → StandsFor n new (record a { answers = with_answer a q prior; proposal = proposal })
 stands_after n old new a q prior proposal h is first c made = record {
   ballot = c.ballot ∙ h.ballot;
   own = c.own ∙ h.own;
@@ -62,14 +62,14 @@ counts n old a q b h at open_yet first = (
 pub no_majority : (n : ℕ) (old : OpenAttempt) (a : Attempt) (q : ℕ) (prior : Option Vote) → StandsFor n old a → length old.promised.items + 1 < n / 2 + 1 → ¬ Majority n (senders (with_answer a q prior))
 no_majority n old a q prior h few m = omega (arith, m.enough, senders_length n old a q prior h)
 
-pub waits : (n : ℕ) (old new : OpenAttempt) (a : Attempt) (q : ℕ) (prior : Option Vote) → StandsFor n old a → IsNode n q → ¬ In (senders a.answers) q → Counts_in old new q prior
+pub waits : (n : ℕ) (old new : OpenAttempt) (a : Attempt) (q : ℕ) (prior : Option Vote) → StandsFor n old a → IsNode n q → ¬ In (senders a.answers) q → KeepsPromise old new q prior
     → old.proposed ≡ false → new.proposed ≡ old.proposed → StandsFor n new (waiting a q prior)
 waits n old new a q prior h is first c open_yet same =
     stands_after n old new a q prior a.proposal h is first c
     (h.proposal ∙ ap (λ (t : Bool). if t then Some (value_by old.own old.best) else None) open_yet ∙ sym (ap (λ (t : Bool). if t then Some (value_by new.own new.best) else None) (same ∙ open_yet)))
 
 -- the value chosen, by the better of the two votes
-chosen_is : (old new : OpenAttempt) (q : ℕ) (prior : Option Vote) (v : List ℕ) → Counts_in old new q prior → (Exceeds prior old.best → v ≡ value_by old.own prior)
+chosen_is : (old new : OpenAttempt) (q : ℕ) (prior : Option Vote) (v : List ℕ) → KeepsPromise old new q prior → (Exceeds prior old.best → v ≡ value_by old.own prior)
     → (¬ Exceeds prior old.best → v ≡ value_by old.own old.best) → v ≡ value_by new.own new.best
 chosen_is old new q prior v c higher lower =
     ⊎_elim
@@ -77,7 +77,7 @@ chosen_is old new q prior v c higher lower =
     (λ below. lower below ∙ sym (ap (λ (o : List ℕ). value_by o new.best) c.own ∙ ap (value_by old.own) (c.lower below)))
     (exceeds_or_not prior old.best)
 
-pub proposes : (n : ℕ) (old new : OpenAttempt) (a : Attempt) (q : ℕ) (prior : Option Vote) (v : List ℕ) → StandsFor n old a → IsNode n q → ¬ In (senders a.answers) q → Counts_in old new q prior
+pub proposes : (n : ℕ) (old new : OpenAttempt) (a : Attempt) (q : ℕ) (prior : Option Vote) (v : List ℕ) → StandsFor n old a → IsNode n q → ¬ In (senders a.answers) q → KeepsPromise old new q prior
     → n / 2 + 1 ≤ length old.promised.items + 1 → (Exceeds prior old.best → v ≡ value_by old.own prior) → (¬ Exceeds prior old.best → v ≡ value_by old.own old.best) → new.proposed ≡ true
     → Majority n (senders (with_answer a q prior)) × Chooses a.own (with_answer a q prior) v × StandsFor n new (proposing a q prior v)
 proposes n old new a q prior v h is first c enough higher lower made =

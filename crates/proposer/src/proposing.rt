@@ -61,8 +61,8 @@ impl Proposer {
         }
     }
 
-    /// Opens an attempt, in place of one at that instance. The ballot is the node's own, of a round above those of all
-    /// earlier attempts.
+    /// Opens an attempt, in place of one at that instance. A node gives a ballot of its own, of a round above those of
+    /// all its earlier attempts, and keeps at most `MAX_ATTEMPTS` open; nothing here rests on either.
     pub fn start(
         &mut self,
         alloc: Global,

@@ -1,10 +1,13 @@
 //! Each call with one growth refused, as `tools/refuse-growths` runs this: it answers as ever, or that memory was refused, and then the next try
 //! answers as ever.
-use crate::samples::{ballot, copied, instance, is_prepare, is_proposal, is_propose, voted};
+use crate::samples::{
+    ballot, cluster_of, copied, instance, is_proposal, is_propose, node_of, voted,
+};
 use chosen_log::{ChosenLog, LearnFault, Learned};
 use learner::Learner;
-use proposer::{Proposer, ProposerFault};
-use site_ids::Cluster;
+use proposer::{Proposal, Proposer, ProposerFault};
+use site_ids::{Ballot, Cluster};
+use std::alloc::Global;
 use std::test::Fail;
 use wire::{WireFault, decode, encode};
 
@@ -33,72 +36,75 @@ fn messages(rt: HostRuntime) -> Result<(), Fail> {
     Ok(())
 }
 
+/// A call whose growth was refused changes nothing, so the next try answers as ever.
+fn tried_again(
+    alloc: Global,
+    proposer: &mut Proposer,
+    cluster: Cluster,
+    number: u8,
+    own: Ballot,
+    prior: &[u8],
+) -> Result<Option<Proposal>, Fail>
+    requires { proposer.old.cluster ≡ cluster }
+    ensures { proposer.new.cluster ≡ proposer.old.cluster }
+{
+    let from = node_of(cluster, number)?;
+    let vote = voted(alloc, ballot(1, 3)?, prior)?;
+    match proposer.on_promise(alloc, from, instance(7)?, own, vote) {
+        Ok(proposal) => Ok(proposal),
+        Err(ProposerFault::RoundsUsedUp) => Err(Fail::from("another fault")),
+        Err(ProposerFault::OutOfMemory) => {
+            let vote = voted(alloc, ballot(1, 3)?, prior)?;
+            Ok(proposer.on_promise(alloc, from, instance(7)?, own, vote)?)
+        }
+    }
+}
+
 #[test]
 fn proposals(rt: HostRuntime) -> Result<(), Fail> {
     let alloc = rt.alloc();
-    let three = Cluster::new(3).ok_or("no cluster")?;
-    let one = three.node(1).ok_or("no node")?;
-    let two = three.node(2).ok_or("no node")?;
-    let first = instance(1)?;
+    let three = cluster_of(3)?;
     let own = ballot(2, 1)?;
-    let mut proposer = Proposer::new(alloc, three, one);
-    if proposer.start(alloc, first, own, b"own").is_err() {
-        assert!(rt; proposer.resend(alloc, first)?.is_none());
-        proposer.start(alloc, first, own, b"own")?;
+    let mut proposer = Proposer::new(alloc, three, node_of(three, 1)?);
+    if proposer.start(alloc, instance(7)?, own, b"own").is_err() {
+        assert!(rt; proposer.resend(alloc, instance(7)?)?.is_none());
+        proposer.start(alloc, instance(7)?, own, b"own")?;
     }
-    let mine = match proposer.on_promise(alloc, one, first, own, None) {
-        Ok(proposal) => proposal,
-        Err(fault) => {
-            assert_eq!(rt; fault, ProposerFault::OutOfMemory);
-            proposer.on_promise(alloc, one, first, own, None)?
-        }
-    };
-    assert!(rt; mine.is_none());
-    let prior = voted(alloc, ballot(1, 3)?, b"prior")?;
-    let proposal = match proposer.on_promise(alloc, two, first, own, prior) {
-        Ok(proposal) => proposal,
-        Err(fault) => {
-            assert_eq!(rt; fault, ProposerFault::OutOfMemory);
-            // The refused promise left no prior behind.
-            assert!(rt; is_prepare(&proposer.resend(alloc, first)?, own));
-            let prior = voted(alloc, ballot(1, 3)?, b"prior")?;
-            proposer.on_promise(alloc, two, first, own, prior)?
-        }
-    };
-    assert!(rt; is_proposal(&proposal, first, own, b"prior"));
-    let message = match proposer.resend(alloc, first) {
+    assert!(rt; tried_again(alloc, &mut proposer, three, 1, own, b"prior")?.is_none());
+    let proposal = tried_again(alloc, &mut proposer, three, 2, own, b"prior")?;
+    assert!(rt; is_proposal(&proposal, instance(7)?, own, b"prior"));
+    let message = match proposer.resend(alloc, instance(7)?) {
         Ok(message) => message,
-        Err(_) => proposer.resend(alloc, first)?,
+        Err(_) => proposer.resend(alloc, instance(7)?)?,
     };
     assert!(rt; is_propose(&message, own, b"prior"));
     Ok(())
 }
 
 #[test]
-fn votes_and_values(rt: HostRuntime) -> Result<(), Fail> {
+fn votes(rt: HostRuntime) -> Result<(), Fail> {
     let alloc = rt.alloc();
-    let three = Cluster::new(3).ok_or("no cluster")?;
-    let one = three.node(1).ok_or("no node")?;
-    let two = three.node(2).ok_or("no node")?;
+    let three = cluster_of(3)?;
     let first = instance(1)?;
     let low = ballot(1, 1)?;
     let mut learner = Learner::new(alloc, three);
-    let vote = match learner.on_accepted(alloc, one, first, low, b"v") {
-        Ok(known) => known,
-        Err(_) => {
-            assert!(rt; !learner.completes(two, first, low, b"v"));
-            learner.on_accepted(alloc, one, first, low, b"v")?
-        }
-    };
-    assert!(rt; vote.is_none());
-    let known = match learner.on_accepted(alloc, two, first, low, b"v") {
-        Ok(known) => known,
-        Err(_) => {
-            assert!(rt; learner.completes(two, first, low, b"v"));
-            learner.on_accepted(alloc, two, first, low, b"v")?
-        }
-    };
-    assert!(rt; known.is_some());
+    for (voter, completes) in [(1, false), (2, true)] {
+        let voter = node_of(three, voter)?;
+        let known = match learner.on_accepted(alloc, voter, first, low, b"v") {
+            Ok(known) => known,
+            Err(_) => {
+                assert_eq!(rt; learner.completes(voter, first, low, b"v"), completes);
+                learner.on_accepted(alloc, voter, first, low, b"v")?
+            }
+        };
+        assert_eq!(rt; known.is_some(), completes);
+    }
+    Ok(())
+}
+
+#[test]
+fn values(rt: HostRuntime) -> Result<(), Fail> {
+    let alloc = rt.alloc();
     let mut log = ChosenLog::new(alloc);
     for number in [3, 1, 2] {
         let at = instance(number)?;

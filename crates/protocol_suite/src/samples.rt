@@ -1,6 +1,9 @@
 //! What the rows are made of.
-use proposer::Proposal;
-use site_ids::{Ballot, Cluster, Instance, Value, Vote};
+ghost use Rattle.std.specs.Prelude.{◌≡◌, IfOk};
+ghost use Rattle.site_ids.specs.Ids.{IsNode};
+
+use proposer::{Proposal, Proposer};
+use site_ids::{Ballot, Cluster, Instance, NodeId, Value, Vote};
 use std::alloc::Global;
 use std::test::Fail;
 use wire::Message;
@@ -9,9 +12,21 @@ pub(crate) fn instance(number: u32) -> Result<Instance, Fail> {
     Ok(Instance::new(number).ok_or("no instance")?)
 }
 
+pub(crate) fn cluster_of(size: u8) -> Result<Cluster, Fail> {
+    Ok(Cluster::new(size).ok_or("no cluster")?)
+}
+
+pub(crate) fn node_of(cluster: Cluster, number: u8) -> Result<NodeId, Fail>
+    ensures { IfOk result (λ p. IsNode cluster p) }
+{
+    match cluster.node(number) {
+        Some(node) => Ok(node),
+        None => Err(Fail::from("no node")),
+    }
+}
+
 pub(crate) fn ballot(round: u32, number: u8) -> Result<Ballot, Fail> {
-    let nine = Cluster::new(9).ok_or("no cluster")?;
-    let node = nine.node(number).ok_or("no node")?;
+    let node = node_of(cluster_of(9)?, number)?;
     Ok(Ballot::new(round, node).ok_or("no ballot")?)
 }
 
@@ -25,6 +40,22 @@ pub(crate) fn copied(alloc: Global, bytes: &[u8]) -> Result<Value, Fail> {
 pub(crate) fn voted(alloc: Global, ballot: Ballot, bytes: &[u8]) -> Result<Option<Vote>, Fail> {
     let value = copied(alloc, bytes)?;
     Ok(Some(Vote { ballot, value }))
+}
+
+/// The answer to a promise of the node with that number.
+pub(crate) fn promised(
+    alloc: Global,
+    proposer: &mut Proposer,
+    cluster: Cluster,
+    number: u8,
+    own: Ballot,
+    prior: Option<Vote>,
+) -> Result<Option<Proposal>, Fail>
+    requires { proposer.old.cluster ≡ cluster }
+    ensures { proposer.new.cluster ≡ proposer.old.cluster }
+{
+    let from = node_of(cluster, number)?;
+    Ok(proposer.on_promise(alloc, from, instance(7)?, own, prior)?)
 }
 
 pub(crate) fn is_proposal(

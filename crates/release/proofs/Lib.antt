@@ -1,6 +1,6 @@
 mod MoreValues
-mod Places
-mod Receipts
+pub mod Places
+pub mod Receipts
 pub mod Answering
 mod Keeping
 mod Examples

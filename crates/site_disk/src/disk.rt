@@ -49,8 +49,12 @@ pub trait Disk {
 
 /// A disk that can be told to fail.
 pub trait Armed: Disk {
+    /// It was told to let so many further calls pass.
+    ghost armed: { Self → ℕ → Type 0 };
+
     /// Lets so many further calls pass before it fails.
     fn arm(&mut self, calls: u32)
         ensures state { (d : DiskState) → Self.Disk.stands_for self.old d → Self.Disk.stands_for self.new d }
-        ensures failed { Self.Disk.failed self.new ≡ Self.Disk.failed self.old };
+        ensures failed { Self.Disk.failed self.new ≡ Self.Disk.failed self.old }
+        ensures armed { armed self.new calls };
 }

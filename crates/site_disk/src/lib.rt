@@ -6,6 +6,7 @@ mod crash;
 mod disk;
 mod file;
 mod memory;
+mod sync;
 
 pub use disk::{Armed, Disk, DiskFailed};
 pub use file::FileDisk;

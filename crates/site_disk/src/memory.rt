@@ -5,6 +5,7 @@ ghost use Rattle.site_disk.specs.Model.{DiskState, after_write, after_sync, over
 
 use crate::count::count;
 use crate::crash::fill_unsynced;
+use crate::sync::catch_up;
 use crate::{Armed, Disk, DiskFailed};
 use std::alloc::{AllocError, Global};
 
@@ -191,7 +192,9 @@ impl MemDisk {
         ensures failed { self.new.failures ≡ self.old.failures }
     {
         self.take_note(Call::Sync)?;
-        replace(&mut self.kept, &self.bytes);
+        if let Some((_, earlier)) = self.calls.split_last() {
+            catch_up(earlier, &self.bytes, &mut self.kept);
+        }
         Ok(())
     }
 }
@@ -245,13 +248,9 @@ impl Disk for MemDisk {
 }
 
 impl Armed for MemDisk {
-    ghost use Rattle.site_disk.specs.Memory.{MemoryStandsFor};
+    ghost armed = { λ m calls. m.left ≡ Some calls };
 
-    fn arm(&mut self, calls: u32)
-        ensures state { (d : DiskState) → MemoryStandsFor self.old d → MemoryStandsFor self.new d }
-        ensures failed { self.new.failures ≡ self.old.failures }
-        ensures armed { self.new.left ≡ Some calls }
-    {
+    fn arm(&mut self, calls: u32) {
         self.left = Some(calls);
     }
 }

@@ -1,16 +1,11 @@
-use Rattle.std.proofs.Common.{◌≡◌, ◌⊎◌, ◌+◌, ◌<◌, ◌≤◌, ℕ, ◌++◌, ◌∷◌, [], List, length, ◌∙◌, ap, subst, arith, inl, inr, ⊎_elim}
-use Rattle.site_disk.specs.Model.{Range, IsWithin}
+use Rattle.std.proofs.Common.{◌≡◌, ◌++◌, ◌∷◌, [], List, length, ◌∙◌, ap, subst, arith, inl, inr, ⊎_elim}
+use Rattle.site_disk.specs.Model.{IsWithin}
 use Rattle.site_disk.specs.Memory.{after_calls}
 use Rattle.site_disk.specs.declared.memory.Call.{Call}
 use Rattle.site_disk.specs.declared.memory.Call.TheVariants.{Len, Read, Write, Sync}
+use Rattle.site_disk.proofs.Ranges.{is_outside_or_not, none_within}
 use Rattle.site_disk.proofs.Replay.{outside_before, within_before}
 use Rattle.site_disk.proofs.crash.fill_unsynced.Goals as goal
-
-is_outside_or_not : (at size place : ℕ) → ((place < at) ⊎ (at + size ≤ place)) ⊎ ((at ≤ place) × (place < at + size))
-is_outside_or_not at size place = search arith
-
-none_within : (written : List Range) (place : ℕ) → written ≡ [] → IsWithin place written → ⊥
-none_within written place none within = let P : List Range → Type 0 = λ w. IsWithin place w in subst P none within
 
 pub returns-in-Sync-clause-outside : goal.returns-in-Sync-clause-outside
 returns-in-Sync-clause-outside c = λ d place out. (c.loop-last.invariant.outside d place out).1

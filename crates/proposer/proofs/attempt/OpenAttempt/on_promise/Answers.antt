@@ -1,13 +1,13 @@
 use Rattle.std.proofs.Common.{inr, rules, refl, ℕ, List, ap, ◌++◌, [], ◌∷◌, ◌∙◌}
 use Rattle.std.proofs.Common.{true}
 use Rattle.proposer.specs.declared.attempt.OpenAttempt.{OpenAttempt}
-use Rattle.proposer.proofs.Answering.{Counts_in, counts, no_majority, waits, proposes}
+use Rattle.proposer.proofs.Answering.{KeepsPromise, counts, no_majority, waits, proposes}
 use Rattle.proposer.proofs.attempt.OpenAttempt.on_promise.Goals as goal
 
 pub returns-then-len-quorum : goal.returns-then-len-quorum
 returns-then-len-quorum c a h =
     let counted = counts c.args.cluster c.args.self.now a c.args.from c.args.ballot h (search rules) c.if-self.false (λ k. search (rules, c.has_promise_of.ensures.1 k)) in
-    let kept : Counts_in c.args.self.now c.count.new.self c.args.from c.args.prior = record {
+    let kept : KeepsPromise c.args.self.now c.count.new.self c.args.from c.args.prior = record {
       ballot = c.count.ensures.ballot;
       own = c.count.ensures.own;
       promised = c.count.ensures.promised ∙ ap (λ (xs : List ℕ). xs ++ c.args.from ∷ []) c.reserve.ensures.items;
@@ -24,7 +24,7 @@ pub returns : goal.returns
 returns c a h =
     let counted = counts c.args.cluster c.args.self.now a c.args.from c.args.ballot h (search rules) c.if-self.false (λ k. search (rules, c.has_promise_of.ensures.1 k)) in
     let new : OpenAttempt = record (c.count-2.new.self) { proposed = true } in
-    let kept : Counts_in c.args.self.now new c.args.from c.args.prior = record {
+    let kept : KeepsPromise c.args.self.now new c.args.from c.args.prior = record {
       ballot = c.count-2.ensures.ballot;
       own = c.count-2.ensures.own;
       promised = c.count-2.ensures.promised ∙ ap (λ (xs : List ℕ). xs ++ c.args.from ∷ []) c.reserve.ensures.items;

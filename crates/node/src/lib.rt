@@ -1,0 +1,10 @@
+//! A node of the replicated log: what it keeps, what each call does to it, and how a call may end.
+#![tactic(auto)]
+
+mod fault;
+mod laws;
+mod to;
+
+pub use fault::NodeFault;
+pub use laws::calls_forget_nothing;
+pub use to::To;

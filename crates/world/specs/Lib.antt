@@ -1,0 +1,4 @@
+pub mod Worlds
+pub mod Taking
+pub mod Decided
+pub mod Agreement
