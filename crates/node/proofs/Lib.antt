@@ -1,1 +1,4 @@
 pub mod Knowing
+pub mod Sharing
+pub mod Tidying
+pub mod Examples

@@ -5,3 +5,4 @@ pub mod Deliveries
 pub mod Calls
 pub mod Endings
 pub mod Laws
+pub mod Tidy

@@ -3,8 +3,10 @@
 
 mod fault;
 mod laws;
+mod submitted;
 mod to;
 
 pub use fault::NodeFault;
-pub use laws::calls_forget_nothing;
+pub use laws::{calls_forget_nothing, nodes_stay_tidy};
+pub use submitted::Submitted;
 pub use to::To;

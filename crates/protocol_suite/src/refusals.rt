@@ -1,5 +1,7 @@
 //! Each call with one growth refused, as `tools/refuse-growths` runs this: it answers as ever, or that memory was refused, and then the next try
 //! answers as ever.
+ghost use Rattle.std.specs.Prelude.{◌≡◌};
+
 use crate::samples::{
     ballot, cluster_of, copied, instance, is_proposal, is_propose, node_of, voted,
 };

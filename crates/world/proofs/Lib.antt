@@ -20,3 +20,4 @@ pub mod Published
 pub mod Taken
 pub mod OfThree
 pub mod Example
+pub mod Publishing

@@ -1,0 +1,47 @@
+-- What stands in a node beside its record, whatever calls it has taken since it opened.
+use Rattle.std.specs.Prelude.{◌≡◌, ℕ, ◌≤◌, true, false, Option, Some, None, List, [], ◌∷◌, length, ⊤}
+use Rattle.site_ids.specs.Majorities.{In}
+use Rattle.wire.specs.declared.message.Message.{Message}
+use Rattle.durable.specs.Entries.{Entry}
+use Rattle.learner.specs.Tallies.{Tally}
+use Rattle.proposer.specs.Attempts.{Attempt}
+use Rattle.node.specs.declared.to.To.{To}
+use Rattle.node.specs.Nodes.{Value, Mode, Node, opened, IsFirstUnknown}
+use Rattle.node.specs.Tickets.{IsCommand, shares_ticket}
+use Rattle.node.specs.Calls.{Call}
+use Rattle.node.specs.Endings.{Ending, Ends}
+
+-- no two of the values share a ticket
+abbrev pub AreApart : List Value → Type 0
+AreApart [] = ⊤
+AreApart (v ∷ vs) = ((u : Value) → In vs u → shares_ticket u v ≡ false) × AreApart vs
+
+-- Attempts stand at the first unknown instance alone, so there is one at most, and votes at unknown instances. What is pending are commands, 64 at
+-- most, each of a ticket of its own that no known value has
+pub record AreTidy (votes : List Tally) (known : ℕ → Option Value) (attempts : ℕ → Option Attempt) (pending : List Value) : Type 0 where
+  pub attempted : (i : ℕ) (a : Attempt) → attempts i ≡ Some a → IsFirstUnknown known i
+  pub voted : (t : Tally) → In votes t → known t.instance ≡ None
+  pub commands : (v : Value) → In pending v → IsCommand v
+  pub few : length pending ≤ 64
+  pub apart : AreApart pending
+  pub unknown : (v : Value) (i : ℕ) (u : Value) → In pending v → known i ≡ Some u → shares_ticket v u ≡ false
+
+abbrev pub IsTidy : Node → Type 0
+IsTidy s = AreTidy s.votes s.known s.attempts s.pending
+
+-- ---- laws
+
+-- a node is tidy as it opens
+abbrev pub OpensTidy : Type 0
+OpensTidy = (mode : Mode) (entries : List Entry) (in_flight : Option Entry) → IsTidy (opened mode entries in_flight)
+
+-- and each call keeps it so
+abbrev pub StaysTidy : Type 0
+StaysTidy = (n p : ℕ) (s new : Node) (call : Call) (ending : Ending) (out : List (To × Message)) → Ends n p s call ending out new → IsTidy s → IsTidy new
+
+-- of two values both share the other's ticket, or neither does; a command shares its own
+abbrev pub SharingIsMutual : Type 0
+SharingIsMutual = (u v : Value) → shares_ticket u v ≡ shares_ticket v u
+
+abbrev pub CommandsShareTheirOwn : Type 0
+CommandsShareTheirOwn = (v : Value) → IsCommand v → shares_ticket v v ≡ true
