@@ -1,6 +1,6 @@
 //! Each call with one growth refused, as `tools/refuse-growths` runs this: it answers as ever, or that memory was refused, and then the next try
 //! answers as ever.
-use crate::releases::{COMMANDS, ticket};
+use crate::releases::{COMMANDS, feed, ticket};
 use command::{CommandFault, fault_line, read, write};
 use content::Site;
 use context::{Data, DataFault};
@@ -114,11 +114,11 @@ fn releases(rt: HostRuntime) -> Result<(), Fail> {
         let value = written(alloc, ticket(number), text.as_bytes())?;
         let newest = releases.newest();
         let fed = releases.len();
-        match releases.feed(alloc, &value) {
+        match feed(alloc, &mut releases, &value) {
             Ok(answer) => assert_eq!(rt; answer, applied),
             Err(_) => {
                 assert!(rt; releases.newest() == newest && releases.len() == fed);
-                assert_eq!(rt; releases.feed(alloc, &value)?, applied);
+                assert_eq!(rt; feed(alloc, &mut releases, &value)?, applied);
             }
         }
     }

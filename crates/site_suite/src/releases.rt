@@ -2,7 +2,7 @@
 use command::write;
 use content::Applied;
 use release::{AnswerFault, Releases};
-use site_ids::Ticket;
+use site_ids::{MAX_INSTANCE, Ticket};
 use std::alloc::{AllocError, Global};
 use std::test::Fail;
 
@@ -26,6 +26,18 @@ pub(crate) fn value_of(alloc: Global, number: u64, text: &str) -> Result<Vec<u8>
     write(alloc, ticket(number), text.as_bytes())
 }
 
+/// Feeds a value, where there is an instance left for it.
+pub(crate) fn feed(
+    alloc: Global,
+    releases: &mut Releases,
+    value: &[u8],
+) -> Result<Applied, AllocError> {
+    if releases.len() >= MAX_INSTANCE as usize {
+        return Err(AllocError);
+    }
+    releases.feed(alloc, value)
+}
+
 fn receipt(releases: &Releases, number: u64) -> Option<u32> {
     let instance = releases.receipt(ticket(number))?;
     Some(instance.number())
@@ -38,7 +50,7 @@ fn eight_commands(rt: HostRuntime) -> Result<(), Fail> {
     assert_eq!(rt; releases.newest(), 0);
     for (number, text, applied) in COMMANDS {
         let value = value_of(alloc, number, text)?;
-        assert_eq!(rt; releases.feed(alloc, &value)?, applied, "{text}");
+        assert_eq!(rt; feed(alloc, &mut releases, &value)?, applied, "{text}");
     }
     assert_eq!(rt; releases.newest(), 2);
     let pages = [
@@ -65,13 +77,13 @@ fn eight_commands(rt: HostRuntime) -> Result<(), Fail> {
 fn values_that_are_no_commands(rt: HostRuntime) -> Result<(), Fail> {
     let alloc = rt.alloc();
     let mut releases = Releases::new(alloc);
-    assert_eq!(rt; releases.feed(alloc, b"")?, Applied::NotACommand);
+    assert_eq!(rt; feed(alloc, &mut releases, b"")?, Applied::NotACommand);
     let unread = value_of(alloc, 1, "put template t\n{{")?;
-    assert_eq!(rt; releases.feed(alloc, &unread)?, Applied::NotACommand);
+    assert_eq!(rt; feed(alloc, &mut releases, &unread)?, Applied::NotACommand);
     assert_eq!(rt; receipt(&releases, 1), None);
     let release = value_of(alloc, 1, "release\n")?;
-    assert_eq!(rt; releases.feed(alloc, &release)?, Applied::Released);
-    assert_eq!(rt; releases.feed(alloc, &release)?, Applied::Repeat);
+    assert_eq!(rt; feed(alloc, &mut releases, &release)?, Applied::Released);
+    assert_eq!(rt; feed(alloc, &mut releases, &release)?, Applied::Repeat);
     assert_eq!(rt; releases.newest(), 1);
     assert_eq!(rt; receipt(&releases, 1), Some(3));
     Ok(())
