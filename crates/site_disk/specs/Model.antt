@@ -1,5 +1,5 @@
 -- What a disk file holds, and what a crash may make of it.
-use Rattle.std.specs.Prelude.{◌≡◌, ◌⊎◌, ℕ, ◌+◌, ◌-◌, ◌≤◌, ◌<◌, ◌^◌, max, List, [], ◌∷◌, ◌++◌, length, take, drop, slice_index, Result, IsErr}
+use Rattle.std.specs.Prelude.{◌≡◌, ◌⊎◌, ℕ, ◌+◌, ◌-◌, ◌≤◌, ◌<◌, ◌^◌, max, List, [], ◌∷◌, ◌++◌, length, take, drop, slice_index, Result, IsErr, OnOk}
 
 -- so many bytes from a place on
 pub record Range : Type 0 where
@@ -62,10 +62,11 @@ pub record IsTorn (at size : ℕ) (old new : List ℕ) : Type 0 where
   pub no_shorter : length old ≤ length new
   pub no_longer : length new ≤ max (length old) (at + size)
 
--- A failure is counted. The count stays at the last value of its type, and there a failure needs no rise.
+-- A failure is counted, and nothing else. The count stays at the last value of its type, and there a failure needs no rise.
 pub record CountsFailure {T E : Type 0} (result : Result T E) (before now : ℕ) : Type 0 where
   pub no_fewer : before ≤ now
   pub counted : IsErr result → (before < now) ⊎ (before ≡ 2 ^ 64 - 1)
+  pub none : OnOk result (now ≡ before)
 
 -- each of these moments leaves only bytes that have P
 abbrev pub EachLeaves : (List ℕ → Type 0) → List Moment → Type 0

@@ -1,11 +1,23 @@
 //! Counts of failures.
 
-ghost use Rattle.std.specs.Prelude.{◌≡◌, ◌⊎◌, ◌-◌, ◌≤◌, ◌<◌, ◌^◌};
+ghost use Rattle.std.specs.Prelude.{◌≡◌, IsErr, MatchResult};
+ghost use Rattle.site_disk.specs.Model.{CountsFailure};
 
-/// One failure more. At its last value the count stays.
-pub(crate) fn count(failures: &mut u64)
-    ensures no_fewer { failures.old ≤ failures.new }
-    ensures counted { (failures.old < failures.new) ⊎ (failures.old ≡ 2 ^ 64 - 1) }
+use crate::DiskFailed;
+
+/// What a device call answered, with its failure counted. At its last value the count stays.
+pub(crate) fn counted<T: Drop, E: Drop>(
+    answer: Result<T, E>,
+    failures: &mut u64,
+) -> Result<T, DiskFailed>
+    ensures same { MatchResult answer (λ x. result ≡ Ok x) (λ _. IsErr result) }
+    ensures cause { CountsFailure result failures.old failures.new }
 {
-    *failures = failures.saturating_add(1);
+    match answer {
+        Ok(x) => Ok(x),
+        Err(_) => {
+            *failures = failures.saturating_add(1);
+            Err(DiskFailed)
+        }
+    }
 }

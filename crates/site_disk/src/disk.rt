@@ -3,9 +3,22 @@
 ghost use Rattle.std.specs.Prelude.{◌≡◌, ◌⊎◌, ◌+◌, ◌≤◌, ◌∷◌, List, ℕ, length, take, drop, IfOk, OnOk, OnErr};
 ghost use Rattle.site_disk.specs.Model.{DiskState, after_write, after_sync, overwritten, IsTorn, CountsFailure};
 
+use std::alloc::AllocError;
+
 /// The device failed.
 #[derive(Clone, Copy, Debug, PartialEq, Eq)]
 pub struct DiskFailed;
+
+/// Want of memory inside a disk is a failure of the device.
+impl From<AllocError> for DiskFailed {
+    ghost use Rattle.std.specs.Prelude.{⊤};
+
+    ghost from_gives = { λ _ e. ⊤ };
+
+    fn from(_refused: AllocError) -> DiskFailed {
+        DiskFailed
+    }
+}
 
 /// One file. Its clauses speak of each state of the model that the disk stands for; what a range beyond the file's end
 /// gives is left open.

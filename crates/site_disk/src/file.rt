@@ -3,7 +3,7 @@
 ghost use Rattle.std.specs.Prelude.{◌≡◌};
 ghost use Rattle.site_disk.specs.Model.{DiskState};
 
-use crate::count::count;
+use crate::count::counted;
 use crate::{Disk, DiskFailed};
 use std::fs::File;
 use std::os::unix::fs::FileExt;
@@ -34,42 +34,19 @@ impl Disk for FileDisk {
     }
 
     fn len(&mut self) -> Result<u64, DiskFailed> {
-        match self.file.metadata() {
-            Ok(data) => Ok(data.len()),
-            Err(_) => {
-                count(&mut self.failures);
-                Err(DiskFailed)
-            }
-        }
+        let data = counted(self.file.metadata(), &mut self.failures)?;
+        Ok(data.len())
     }
 
     fn read_at(&mut self, at: u64, buf: &mut [u8]) -> Result<(), DiskFailed> {
-        match self.file.read_exact_at(buf, at) {
-            Ok(()) => Ok(()),
-            Err(_) => {
-                count(&mut self.failures);
-                Err(DiskFailed)
-            }
-        }
+        counted(self.file.read_exact_at(buf, at), &mut self.failures)
     }
 
     fn write_at(&mut self, at: u64, bytes: &[u8]) -> Result<(), DiskFailed> {
-        match self.file.write_all_at(bytes, at) {
-            Ok(()) => Ok(()),
-            Err(_) => {
-                count(&mut self.failures);
-                Err(DiskFailed)
-            }
-        }
+        counted(self.file.write_all_at(bytes, at), &mut self.failures)
     }
 
     fn sync(&mut self) -> Result<(), DiskFailed> {
-        match self.file.sync_all() {
-            Ok(()) => Ok(()),
-            Err(_) => {
-                count(&mut self.failures);
-                Err(DiskFailed)
-            }
-        }
+        counted(self.file.sync_all(), &mut self.failures)
     }
 }

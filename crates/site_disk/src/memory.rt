@@ -1,9 +1,10 @@
 //! A disk in memory, which can be made to fail and to crash.
 
-ghost use Rattle.std.specs.Prelude.{◌≡◌, ◌⊎◌, ◌+◌, ◌-◌, ◌≤◌, ◌<◌, ◌^◌, ◌∷◌, ◌++◌, [], List, ℕ, length, take, drop, max, None, Some, OnOk, OnErr, IfOk, vec_capacity, slice_index};
+ghost use Rattle.std.specs.Prelude.{◌≡◌, ◌≢◌, ◌↔◌, ◌⊎◌, ◌+◌, ◌-◌, ◌≤◌, ◌<◌, ◌^◌, ◌∷◌, ◌++◌, [], List, ℕ, length, take, drop, max, None, Some, OnOk, OnErr, IfOk, vec_capacity, slice_index, IsTrue};
+ghost use Rattle.site_disk.specs.Memory.{after_one};
 ghost use Rattle.site_disk.specs.Model.{DiskState, after_write, after_sync, overwritten, at_rest, moment, MayLeave};
 
-use crate::count::count;
+use crate::count::counted;
 use crate::crash::fill_unsynced;
 use crate::sync::catch_up;
 use crate::{Armed, Disk, DiskFailed};
@@ -32,8 +33,11 @@ pub struct MemDisk {
     failures: u64,
 }
 
-// Tells whether an armed disk lets a call pass, and counts it.
-fn lets_pass(left: &mut Option<u32>) -> bool {
+// Tells whether a disk that is perhaps armed lets a call pass, and counts it.
+fn lets_pass(left: &mut Option<u32>) -> bool
+    ensures passes { IsTrue result ↔ (left.old ≢ Some 0) }
+    ensures counts { left.new ≡ after_one left.old }
+{
     match *left {
         None => true,
         Some(0) => false,
@@ -106,7 +110,7 @@ impl MemDisk {
         }
     }
 
-    /// The calls that it let pass since the last crash, the first of them first.
+    /// The calls that it let pass since the last crash, the first of them first. One that failed isn't among them.
     pub fn calls(&self) -> &[Call]
         ensures { result.now ≡ self.now.calls.items }
     {
@@ -143,39 +147,52 @@ impl MemDisk {
     }
 
     // Lets a call pass and notes it, or refuses it.
-    fn take_note(&mut self, call: Call) -> Result<(), AllocError>
+    fn take_note(&mut self, call: Call) -> Result<(), DiskFailed>
+        ensures passes { OnOk result (self.old.left ≢ Some 0) }
+        ensures counts { self.new.left ≡ after_one self.old.left }
         ensures ok { OnOk result (self.new.calls.items ≡ self.old.calls.items ++ call ∷ []) }
         ensures err { OnErr result (self.new.calls.items ≡ self.old.calls.items) }
         ensures same { (self.new.first ≡ self.old.first) × (self.new.kept ≡ self.old.kept) × (self.new.bytes ≡ self.old.bytes) × (self.new.failures ≡ self.old.failures) }
     {
         if !lets_pass(&mut self.left) {
-            return Err(AllocError);
+            return Err(DiskFailed);
         }
-        self.calls.push(call)?;
-        Ok(())
+        match self.calls.push(call) {
+            Ok(()) => Ok(()),
+            Err(_) => Err(DiskFailed),
+        }
     }
 
-    fn read(&mut self, at: usize, buf: &mut [u8]) -> Result<(), AllocError>
+    fn size(&mut self) -> Result<u64, DiskFailed>
+        ensures state { (d : DiskState) → MemoryStandsFor self.old d → MemoryStandsFor self.new d }
+        ensures size { IfOk result (λ n. n ≡ length self.old.bytes.items) }
+        ensures failed { self.new.failures ≡ self.old.failures }
+    {
+        self.take_note(Call::Len)?;
+        Ok(self.bytes.len() as u64)
+    }
+
+    fn read(&mut self, at: usize, buf: &mut [u8]) -> Result<(), DiskFailed>
         ensures state { (d : DiskState) → MemoryStandsFor self.old d → MemoryStandsFor self.new d }
         ensures read { OnOk result (buf.new ≡ take (length buf.old) (drop at self.old.bytes.items)) }
         ensures failed { self.new.failures ≡ self.old.failures }
     {
         if at > self.bytes.len() || buf.len() > self.bytes.len() - at {
-            return Err(AllocError);
+            return Err(DiskFailed);
         }
         self.take_note(Call::Read)?;
         buf.copy_from_slice(&self.bytes[at..at + buf.len()]);
         Ok(())
     }
 
-    fn write(&mut self, at: usize, bytes: &[u8]) -> Result<(), AllocError>
+    fn write(&mut self, at: usize, bytes: &[u8]) -> Result<(), DiskFailed>
         ensures written { OnOk result ((d : DiskState) → MemoryStandsFor self.old d → MemoryStandsFor self.new (after_write d at (length bytes.now) (overwritten d.seen at bytes.now))) }
         ensures refused { OnErr result ((d : DiskState) → MemoryStandsFor self.old d → MemoryStandsFor self.new d) }
         ensures failed { self.new.failures ≡ self.old.failures }
     {
         let size = at.saturating_add(bytes.len()).max(self.bytes.len());
         if at > self.bytes.len() || size - at < bytes.len() {
-            return Err(AllocError);
+            return Err(DiskFailed);
         }
         reserve_to(&mut self.first, size)?;
         reserve_to(&mut self.kept, size)?;
@@ -186,7 +203,7 @@ impl MemDisk {
         Ok(())
     }
 
-    fn sync_all(&mut self) -> Result<(), AllocError>
+    fn sync_all(&mut self) -> Result<(), DiskFailed>
         ensures synced { OnOk result ((d : DiskState) → MemoryStandsFor self.old d → MemoryStandsFor self.new (after_sync d)) }
         ensures refused { OnErr result ((d : DiskState) → MemoryStandsFor self.old d → MemoryStandsFor self.new d) }
         ensures failed { self.new.failures ≡ self.old.failures }
@@ -211,39 +228,19 @@ impl Disk for MemDisk {
     }
 
     fn len(&mut self) -> Result<u64, DiskFailed> {
-        match self.take_note(Call::Len) {
-            Ok(()) => Ok(self.bytes.len() as u64),
-            Err(_) => {
-                count(&mut self.failures);
-                Err(DiskFailed)
-            }
-        }
+        counted(self.size(), &mut self.failures)
     }
 
     fn read_at(&mut self, at: u64, buf: &mut [u8]) -> Result<(), DiskFailed> {
-        match self.read(at as usize, buf) {
-            Ok(()) => Ok(()),
-            Err(_) => {
-                count(&mut self.failures);
-                Err(DiskFailed)
-            }
-        }
+        counted(self.read(at as usize, buf), &mut self.failures)
     }
 
     fn write_at(&mut self, at: u64, bytes: &[u8]) -> Result<(), DiskFailed> {
-        if self.write(at as usize, bytes).is_err() {
-            count(&mut self.failures);
-            return Err(DiskFailed);
-        }
-        Ok(())
+        counted(self.write(at as usize, bytes), &mut self.failures)
     }
 
     fn sync(&mut self) -> Result<(), DiskFailed> {
-        if self.sync_all().is_err() {
-            count(&mut self.failures);
-            return Err(DiskFailed);
-        }
-        Ok(())
+        counted(self.sync_all(), &mut self.failures)
     }
 }
 
