@@ -4,9 +4,9 @@ use Rattle.site_ids.specs.Ids.{BallotOf, Below, NotAbove}
 use Rattle.site_ids.specs.declared.value.Vote.{Vote}
 use Rattle.acceptor.specs.declared.slot.Slot.{Slot}
 use Rattle.acceptor.specs.declared.judging.PrepareVerdict.{PrepareVerdict}
-use Rattle.acceptor.specs.declared.judging.PrepareVerdict.TheVariants.{Promise, Again as PromiseAgain, Nack as NackPrepare, Silent as PassPrepare}
+use Rattle.acceptor.specs.declared.judging.PrepareVerdict.TheVariants.{Promise, Again as PromiseAgain, Nack as NackPrepare, Silent as SilentPrepare}
 use Rattle.acceptor.specs.declared.judging.ProposeVerdict.{ProposeVerdict}
-use Rattle.acceptor.specs.declared.judging.ProposeVerdict.TheVariants.{Vote as VoteFor, Again as AcceptAgain, Nack as NackProposal, Silent as PassProposal}
+use Rattle.acceptor.specs.declared.judging.ProposeVerdict.TheVariants.{Vote as VoteFor, Again as AcceptAgain, Nack as NackProposal, Silent as SilentProposal}
 
 -- no promise, or one that is below the ballot
 abbrev pub IsFreeBelow : Option BallotOf → BallotOf → Type 0
@@ -32,12 +32,12 @@ IsVotedFor (Some vote) b v = (vote.ballot ≡ b) × (vote.value ≡ v)
 abbrev pub JudgesPrepare : Slot → BallotOf → PrepareVerdict → Type 0
 JudgesPrepare s b Promise = IsFreeBelow s.promised b
 JudgesPrepare s b PromiseAgain = (s.promised ≡ Some b) × ¬ (IsVotedAt s.vote b)
-JudgesPrepare s b PassPrepare = (s.promised ≡ Some b) × IsVotedAt s.vote b
+JudgesPrepare s b SilentPrepare = (s.promised ≡ Some b) × IsVotedAt s.vote b
 JudgesPrepare s b (NackPrepare c) = (s.promised ≡ Some c) × Below b c
 
 -- a proposal below the promise is refused. One at the last vote's ballot is accepted again if it is that vote, and is else passed over
 abbrev pub JudgesProposal : Slot → BallotOf → List ℕ → ProposeVerdict → Type 0
 JudgesProposal s b v VoteFor = IsFreeAt s.promised b × ¬ (IsVotedAt s.vote b)
 JudgesProposal s b v AcceptAgain = IsFreeAt s.promised b × IsVotedFor s.vote b v
-JudgesProposal s b v PassProposal = IsFreeAt s.promised b × IsVotedAt s.vote b × ¬ (IsVotedFor s.vote b v)
+JudgesProposal s b v SilentProposal = IsFreeAt s.promised b × IsVotedAt s.vote b × ¬ (IsVotedFor s.vote b v)
 JudgesProposal s b v (NackProposal c) = (s.promised ≡ Some c) × Below b c

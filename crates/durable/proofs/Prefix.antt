@@ -6,7 +6,8 @@ use Rattle.byteorder.specs.Numbers.{big_from-bytes}
 use Rattle.site_ids.specs.Ids.{BallotOf}
 use Rattle.durable.specs.Entries.{Entry, Round, Promised, Voted}
 use Rattle.durable.specs.Histories.{IsInRange, IsHistory}
-use Rattle.durable.specs.Spelling.{head, block, blocks, payload, ballot_bytes}
+use Rattle.site_ids.specs.Spelling.{ballot_bytes}
+use Rattle.durable.specs.Spelling.{head, block, blocks, payload}
 use Rattle.durable.specs.Standing.{StandsFor}
 
 abbrev Bytes : Type 0

@@ -1,16 +1,12 @@
 -- The spelling of entries. Numbers have their highest byte first.
 use Rattle.std.specs.Prelude.{ℕ, List, [], ◌∷◌, ◌++◌, length, codes}
 use Rattle.byteorder.specs.Endian.{big_bytes}
-use Rattle.site_ids.specs.Ids.{BallotOf}
+use Rattle.site_ids.specs.Spelling.{ballot_bytes}
 use Rattle.durable.specs.Entries.{Entry, Round, Promised, Voted}
 
 -- the file's mark, the node, and the number of nodes
 abbrev pub head : ℕ → ℕ → List ℕ
 head node cluster = codes "SITEREC1" ++ node ∷ cluster ∷ []
-
--- the round, and the node
-abbrev pub ballot_bytes : BallotOf → List ℕ
-ballot_bytes b = big_bytes 4 b.round ++ b.node ∷ []
 
 abbrev pub payload : Entry → List ℕ
 payload (Round r) = 1 ∷ big_bytes 4 r

@@ -238,7 +238,7 @@ fn clusters_and_their_majorities(rt: HostRuntime) -> Result<(), Fail> {
     assert!(rt; Instance::new(0).is_none() && Instance::new(1_000_001).is_none());
     assert!(rt; Ballot::new(0, node(1)?).is_none());
     assert!(rt; ballot(1, 9)? < ballot(2, 1)? && ballot(2, 1)? < ballot(2, 2)?);
-    assert!(rt; ballot(1, 9)?.is_below(ballot(2, 1)?));
+    assert!(rt; ballot(1, 9)? < ballot(2, 1)?);
     Ok(())
 }
 

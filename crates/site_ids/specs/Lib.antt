@@ -1,4 +1,5 @@
 pub mod Ids
 pub mod Majorities
 pub mod Maps
+pub mod Spelling
 pub mod Laws

@@ -1,7 +1,7 @@
 //! Ballots in their order.
 
-ghost use Rattle.std.specs.Prelude.{◌≡◌, ◌≤◌, ◌↔◌, IsTrue, MatchOption};
-ghost use Rattle.site_ids.specs.Ids.{IsNode, Below};
+ghost use Rattle.std.specs.Prelude.{◌≡◌, ◌≤◌, MatchOption};
+ghost use Rattle.site_ids.specs.Ids.{IsNode};
 
 use crate::NodeId;
 use std::marker::Model;
@@ -51,11 +51,5 @@ impl Ballot {
         ensures range { IsNode 9 result }
     {
         self.node
-    }
-
-    pub fn is_below(self, other: Ballot) -> bool
-        ensures { IsTrue result ↔ Below self other }
-    {
-        self < other
     }
 }

@@ -7,7 +7,8 @@ use Rattle.wire.specs.declared.fault.WireFault.{WireFault}
 use Rattle.wire.specs.declared.fault.WireFault.TheVariants.{OutOfMemory}
 use Rattle.wire.specs.declared.message.Message.{Message}
 use Rattle.wire.specs.declared.message.Message.TheVariants.{Promise, Propose, Accepted, Chosen}
-use Rattle.wire.specs.Spelling.{ballot_bytes, value_bytes, front}
+use Rattle.site_ids.specs.Spelling.{ballot_bytes}
+use Rattle.wire.specs.Spelling.{value_bytes, front}
 use Rattle.wire.specs.Decoding.{Spells, Decodes}
 
 abbrev pub vote_of : BallotOf → List ℕ → Vote

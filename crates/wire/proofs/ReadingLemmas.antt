@@ -6,7 +6,8 @@ use Rattle.site_ids.specs.declared.value.Vote.{Vote}
 use Rattle.wire.specs.declared.message.Message.{Message}
 use Rattle.wire.specs.declared.message.Message.TheVariants.{Prepare, Promise, Propose, Accepted, Nack, Ask, Chosen}
 use Rattle.wire.specs.Messages.{IsMessage}
-use Rattle.wire.specs.Spelling.{ballot_bytes, value_bytes, prior_bytes, spelled}
+use Rattle.site_ids.specs.Spelling.{ballot_bytes}
+use Rattle.wire.specs.Spelling.{value_bytes, prior_bytes, spelled}
 use Rattle.wire.specs.Decoding.{Spells}
 use Rattle.wire.specs.Laws.{OneMessage}
 use Rattle.wire.proofs.NumberLemmas.{number_back}

@@ -1,15 +1,11 @@
 -- The spelling of a message: a datagram of version 1. Numbers have their highest byte first.
 use Rattle.std.specs.Prelude.{ℕ, List, [], ◌∷◌, ◌++◌, length, Option, Some, None}
 use Rattle.byteorder.specs.Endian.{big_bytes}
-use Rattle.site_ids.specs.Ids.{BallotOf}
+use Rattle.site_ids.specs.Spelling.{ballot_bytes}
 use Rattle.site_ids.specs.declared.value.Vote.{Vote}
 use Rattle.wire.specs.declared.message.Message.{Message}
 use Rattle.wire.specs.declared.message.Message.TheVariants.{Prepare, Promise, Propose, Accepted, Nack, Ask, Chosen}
 use Rattle.wire.specs.Messages.{sender_of, instance_of, kind_of}
-
--- the round, and the node
-abbrev pub ballot_bytes : BallotOf → List ℕ
-ballot_bytes b = big_bytes 4 b.round ++ b.node ∷ []
 
 abbrev pub length_bytes : List ℕ → List ℕ
 length_bytes v = big_bytes 4 (length v)

@@ -2,7 +2,7 @@ ghost use Rattle.std.specs.Prelude.{◌≡◌, ◌++◌, ◌∷◌};
 ghost use Rattle.std.specs.Option.{IfSome, IfNone};
 ghost use Rattle.site_ids.specs.Ids.{IsBallot};
 ghost use Rattle.wire.specs.declared.message.Message.{Message};
-ghost use Rattle.wire.specs.Spelling.{ballot_bytes};
+ghost use Rattle.site_ids.specs.Spelling.{ballot_bytes};
 ghost use Rattle.wire.specs.Decoding.{Spells, Decodes, IsHead, datagram};
 
 use crate::fields::{ballot_at, ballot_in, instance_at, value_in, vote_in};

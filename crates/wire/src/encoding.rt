@@ -1,6 +1,7 @@
 ghost use Rattle.std.specs.Prelude.{◌≡◌, ◌≤◌, ◌<◌, ◌+◌, ◌++◌, [], ◌∷◌, length, OnOk, OnErr, IfSome, vec_len, vec_capacity};
 ghost use Rattle.wire.specs.Messages.{kind_of, sender_of, instance_of, Fits};
-ghost use Rattle.wire.specs.Spelling.{front, ballot_bytes, length_bytes, prior_bytes, spelled};
+ghost use Rattle.site_ids.specs.Spelling.{ballot_bytes};
+ghost use Rattle.wire.specs.Spelling.{front, length_bytes, prior_bytes, spelled};
 
 use crate::Message;
 use byteorder::{BigEndian, ByteOrder};

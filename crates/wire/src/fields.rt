@@ -4,7 +4,8 @@ ghost use Rattle.std.specs.Prelude.{◌≡◌, ◌<◌, ◌≤◌, ◌++◌, ℕ
 ghost use Rattle.std.specs.Option.{IfSome, IfNone};
 ghost use Rattle.byteorder.specs.Endian.{big_bytes};
 ghost use Rattle.site_ids.specs.Ids.{BallotOf, IsInstance, IsBallot};
-ghost use Rattle.wire.specs.Spelling.{ballot_bytes, value_bytes};
+ghost use Rattle.site_ids.specs.Spelling.{ballot_bytes};
+ghost use Rattle.wire.specs.Spelling.{value_bytes};
 
 use byteorder::{BigEndian, ByteOrder};
 use site_ids::{Ballot, Cluster, Instance, MAX_VALUE};
