@@ -1,38 +1,40 @@
 -- What is kept in memory, with one entry more.
-use Rattle.std.proofs.Common.{◌≡◌, ◌≢◌, ⊎_elim, ℕ, List, [], ◌∷◌, ◌++◌, Some, None, Bool, true, false, if◌then◌else◌, nat_eq, refl, sym, ◌∙◌, ap, subst, arith}
+use Rattle.std.proofs.Common.{◌≡◌, ◌≢◌, ⊎_elim, ℕ, List, [], ◌∷◌, ◌++◌, Some, None, Bool, true, false, if◌then◌else◌, nat_eq, max, refl, sym, ◌∙◌, ap, subst, arith}
 use Rattle.std.proofs.lemmas.Bool.{cases_eq}
 use Rattle.std.proofs.lemmas.Bool.Decides.{nat_tests}
 use Rattle.site_ids.specs.Ids.{BallotOf, Below, NotAbove}
 use Rattle.acceptor.specs.declared.slot.Slot.{Slot}
 use Rattle.acceptor.specs.Steps.{with_promise, with_vote}
-use Rattle.durable.specs.Entries.{Entry, Round, Promised, Voted, Raises, IsSlot, last_vote}
+use Rattle.durable.specs.Entries.{Entry, Round, Promised, Voted, Raises, IsSlot, last_vote, round_after, round_in}
 use Rattle.durable.specs.Histories.{Advances}
 use Rattle.durable.specs.Reading.{IsKept}
+use Rattle.durable.specs.Puts.{AreSlotsKept, AreSlotsAfter, Remembers, IsMemoryKept}
 use Rattle.durable.specs.Slots.{no_slot, slot_at}
 use Rattle.durable.specs.declared.recorded.Recorded.{Recorded}
 use Rattle.durable.specs.declared.slots.Slots.{Slots}
-use Rattle.durable.proofs.Push.{promise_kept, promise_raised, round_after-push, vote_after-push}
+use Rattle.durable.proofs.Push.{promise_kept, promise_raised, round_after-push, greatest_round-push, vote_after-push}
 
-pub kept_none : (new : Recorded) → new.round ≡ 0 → ((i : ℕ) → slot_at new.slots i ≡ no_slot) → IsKept [] new
-kept_none new round slots = record {
+pub kept_none : (new : Recorded) → new.round ≡ 0 → new.greatest ≡ 0 → ((i : ℕ) → slot_at new.slots i ≡ no_slot) → IsKept [] new
+kept_none new round greatest slots = record {
   round = round;
+  greatest = greatest;
   slots = λ i. subst (λ (s : Slot). IsSlot [] i s) (sym (slots i)) (record { promise = λ e b here raises. here; vote = refl });
 }
 
--- room for a slot changes none of it
-pub kept_same : (es : List Entry) (old new : Recorded) → IsKept es old → new.round ≡ old.round → ((i : ℕ) → slot_at new.slots i ≡ slot_at old.slots i) → IsKept es new
-kept_same es old new kept round slots = record { round = round ∙ kept.round; slots = λ i. subst (λ (s : Slot). IsSlot es i s) (sym (slots i)) (kept.slots i) }
+-- what is kept as before is kept for the same entries
+pub kept_same : (es : List Entry) (old new : Recorded) → IsMemoryKept old new → IsKept es old → IsKept es new
+kept_same es old new same kept = record {
+  round = same.round ∙ kept.round;
+  greatest = same.greatest ∙ kept.greatest;
+  slots = λ i. subst (λ (s : Slot). IsSlot es i s) (sym (same.slots i)) (kept.slots i);
+}
 
 -- an entry that raises nothing at the instance, and is no vote there, leaves its slot
 slot_kept : (es : List Entry) (e : Entry) (i : ℕ) (s : Slot) → ((c : BallotOf) → ¬ Raises e i c) → last_vote i (es ++ e ∷ []) ≡ last_vote i es → IsSlot es i s → IsSlot (es ++ e ∷ []) i s
 slot_kept es e i s none same is = record { promise = promise_kept es e i s.promised none is.promise; vote = is.vote ∙ sym same }
 
-pub kept_round : (es : List Entry) (r : ℕ) (old new : Recorded) → IsKept es old → new.round ≡ r → new.slots ≡ old.slots → IsKept (es ++ Round r ∷ []) new
-kept_round es r old new kept round slots = record {
-  round = round ∙ sym (round_after-push 0 es (Round r ∷ []));
-  slots = λ i. subst (λ (s : Slots). IsSlot (es ++ Round r ∷ []) i (slot_at s i)) (sym slots)
-      (slot_kept es (Round r) i (slot_at old.slots i) (λ c raises. raises) (vote_after-push i None es (Round r ∷ [])) (kept.slots i));
-}
+slot_unchanged : (es : List Entry) (r : ℕ) (i : ℕ) (s : Slot) → IsSlot es i s → IsSlot (es ++ Round r ∷ []) i s
+slot_unchanged es r i s is = slot_kept es (Round r) i s (λ c raises. raises) (vote_after-push i None es (Round r ∷ [])) is
 
 not_above_below : (a b : BallotOf) → Below a b → NotAbove a b
 not_above_below a b = grind arith
@@ -41,18 +43,6 @@ slot_promised : (es : List Entry) (i : ℕ) (b : BallotOf) (s : Slot) → Advanc
 slot_promised es i b s advances is = record {
   promise = promise_raised es (Promised i b) i b (refl, refl) (λ c raises. sym raises.1) (λ e c here raises. not_above_below c b (advances e c here raises));
   vote = is.vote ∙ sym (vote_after-push i None es (Promised i b ∷ []));
-}
-
-pub kept_promised : (es : List Entry) (i : ℕ) (b : BallotOf) (old new : Recorded) → Advances es (Promised i b) → IsKept es old → new.round ≡ old.round → slot_at new.slots i ≡ with_promise (slot_at old.slots i) b
-    → ((k : ℕ) → k ≢ i → slot_at new.slots k ≡ slot_at old.slots k) → IsKept (es ++ Promised i b ∷ []) new
-kept_promised es i b old new advances kept round here others = record {
-  round = round ∙ kept.round ∙ sym (round_after-push 0 es (Promised i b ∷ []));
-  slots = λ k. ⊎_elim
-      (λ (same : k ≡ i). subst (λ (j : ℕ). IsSlot (es ++ Promised i b ∷ []) j (slot_at new.slots j)) (sym same)
-      (subst (λ (s : Slot). IsSlot (es ++ Promised i b ∷ []) i s) (sym here) (slot_promised es i b (slot_at old.slots i) advances (kept.slots i))))
-      (λ (other : k ≢ i). subst (λ (s : Slot). IsSlot (es ++ Promised i b ∷ []) k s) (sym (others k other))
-      (slot_kept es (Promised i b) k (slot_at old.slots k) (λ c raises. other (sym raises.0)) (vote_after-push k None es (Promised i b ∷ [])) (kept.slots k)))
-      (cases_eq k i);
 }
 
 number_itself : (n : ℕ) → nat_eq n n ≡ true
@@ -67,15 +57,47 @@ slot_voted es i b v advances = record {
   vote = sym (vote_after-push i None es (Voted i b v ∷ []) ∙ ap (λ (x : Bool). if x then Some (record { ballot = b; value = v }) else last_vote i es) (number_itself i));
 }
 
-pub kept_voted : (es : List Entry) (i : ℕ) (b : BallotOf) (v : List ℕ) (old new : Recorded) → Advances es (Voted i b v) → IsKept es old → new.round ≡ old.round → slot_at new.slots i ≡ with_vote b v
-    → ((k : ℕ) → k ≢ i → slot_at new.slots k ≡ slot_at old.slots k) → IsKept (es ++ Voted i b v ∷ []) new
-kept_voted es i b v old new advances kept round here others = record {
-  round = round ∙ kept.round ∙ sym (round_after-push 0 es (Voted i b v ∷ []));
-  slots = λ k. ⊎_elim
-      (λ (same : k ≡ i). subst (λ (j : ℕ). IsSlot (es ++ Voted i b v ∷ []) j (slot_at new.slots j)) (sym same)
-      (subst (λ (s : Slot). IsSlot (es ++ Voted i b v ∷ []) i s) (sym here) (slot_voted es i b v advances)))
-      (λ (other : k ≢ i). subst (λ (s : Slot). IsSlot (es ++ Voted i b v ∷ []) k s) (sym (others k other))
-      (slot_kept es (Voted i b v) k (slot_at old.slots k) (λ c raises. other (sym raises.0))
-      (vote_after-push k None es (Voted i b v ∷ []) ∙ ap (λ (x : Bool). if x then Some (record { ballot = b; value = v }) else last_vote k es) (not_number i k (λ e. other (sym e)))) (kept.slots k)))
-      (cases_eq k i);
+-- the slots after one entry more are those of the entries with it
+slots_after : (es : List Entry) (e : Entry) (old new : Slots) → Advances es e → ((i : ℕ) → IsSlot es i (slot_at old i)) → AreSlotsAfter e old new → (k : ℕ) → IsSlot (es ++ e ∷ []) k (slot_at new k)
+slots_after es (Round r) old new advances kept after k = subst (λ (s : Slot). IsSlot (es ++ Round r ∷ []) k s) (sym (after k)) (slot_unchanged es r k (slot_at old k) (kept k))
+slots_after es (Promised i b) old new advances kept after k =
+    let S : ℕ → Slot → Type 0 = λ j s. IsSlot (es ++ Promised i b ∷ []) j s in
+    ⊎_elim
+    (λ (same : k ≡ i). subst (λ (j : ℕ). S j (slot_at new j)) (sym same) (subst (λ (s : Slot). S i s) (sym after.0) (slot_promised es i b (slot_at old i) advances (kept i))))
+    (λ (other : k ≢ i). subst (λ (s : Slot). S k s) (sym (after.1 k other))
+    (slot_kept es (Promised i b) k (slot_at old k) (λ c raises. other (sym raises.0)) (vote_after-push k None es (Promised i b ∷ [])) (kept k)))
+    (cases_eq k i)
+slots_after es (Voted i b v) old new advances kept after k =
+    let S : ℕ → Slot → Type 0 = λ j s. IsSlot (es ++ Voted i b v ∷ []) j s in
+    let test : k ≢ i → last_vote k (es ++ Voted i b v ∷ []) ≡ last_vote k es = λ other. vote_after-push k None es (Voted i b v ∷ [])
+        ∙ ap (λ (x : Bool). if x then Some (record { ballot = b; value = v }) else last_vote k es) (not_number i k (λ e. other (sym e))) in
+    ⊎_elim
+    (λ (same : k ≡ i). subst (λ (j : ℕ). S j (slot_at new j)) (sym same) (subst (λ (s : Slot). S i s) (sym after.0) (slot_voted es i b v advances)))
+    (λ (other : k ≢ i). subst (λ (s : Slot). S k s) (sym (after.1 k other)) (slot_kept es (Voted i b v) k (slot_at old k) (λ c raises. other (sym raises.0)) (test other) (kept k)))
+    (cases_eq k i)
+
+-- what is kept after one entry more is what the entries record with it
+pub kept_more : (es : List Entry) (e : Entry) (old new : Recorded) → Advances es e → Remembers old new e → IsKept es old → IsKept (es ++ e ∷ []) new
+kept_more es e old new advances remembers kept = record {
+  round = remembers.round ∙ ap (λ (r : ℕ). round_after r (e ∷ [])) kept.round ∙ sym (round_after-push 0 es (e ∷ []));
+  greatest = remembers.greatest ∙ ap (λ (r : ℕ). max r (round_in e)) kept.greatest ∙ sym (greatest_round-push es e);
+  slots = slots_after es e old.slots new.slots advances kept.slots remembers.slots;
 }
+
+-- the same where room was made for a slot before
+pub kept_through : (es : List Entry) (e : Entry) (old mid new : Recorded) → Advances es e → mid.round ≡ old.round → mid.greatest ≡ old.greatest → AreSlotsKept old.slots mid.slots → Remembers mid new e → IsKept es old
+    → IsKept (es ++ e ∷ []) new
+kept_through es e old mid new advances round greatest slots remembers kept = kept_more es e mid new advances remembers (kept_same es old mid (record { round = round; greatest = greatest; slots = slots }) kept)
+
+-- what is remembered of an entry where room was made for a slot before
+pub remembers_through : (e : Entry) (old mid new : Recorded) → IsMemoryKept old mid → Remembers mid new e → Remembers old new e
+remembers_through e old mid new same remembers = record {
+  round = remembers.round ∙ ap (λ (r : ℕ). round_after r (e ∷ [])) same.round;
+  greatest = remembers.greatest ∙ ap (λ (r : ℕ). max r (round_in e)) same.greatest;
+  slots = slots_through e old.slots mid.slots new.slots same.slots remembers.slots;
+}
+  where
+    slots_through : (e : Entry) (old mid new : Slots) → AreSlotsKept old mid → AreSlotsAfter e mid new → AreSlotsAfter e old new
+    slots_through (Round r) old mid new same after = λ i. after i ∙ same i
+    slots_through (Promised j b) old mid new same after = (after.0 ∙ ap (λ (s : Slot). with_promise s b) (same j), λ i other. after.1 i other ∙ same i)
+    slots_through (Voted j b v) old mid new same after = (after.0, λ i other. after.1 i other ∙ same i)

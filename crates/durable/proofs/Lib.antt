@@ -11,6 +11,7 @@ pub mod Kept
 pub mod Advances
 pub mod Piece
 pub mod Ready
+pub mod Endings
 pub mod Keeping
 pub mod Opening
 pub mod Examples

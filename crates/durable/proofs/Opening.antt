@@ -1,10 +1,11 @@
 -- What an opening answers.
-use Rattle.std.proofs.Common.{◌≡◌, ◌≢◌, ◌⊎◌, inl, inr, ⊎_elim, ℕ, ◌≤◌, ◌<◌, List, length, get_or, take, drop, codes, Result, Ok, Err, OnErr, IfErr, refl, sym, ◌∙◌, ap, subst, arith}
+use Rattle.std.proofs.Common.{◌≡◌, ◌≢◌, ◌⊎◌, inl, inr, ⊎_elim, ℕ, ◌≤◌, ◌<◌, List, [], ◌∷◌, ◌++◌, length, get_or, take, drop, codes, Result, Ok, Err, OnErr, IfErr, refl, sym, ◌∙◌, ap, subst, arith, append_assoc, take-append-drop, length-drop}
 use Rattle.std.specs.Result.{IsErrOf}
-use Rattle.std.proofs.lemmas.List.{get_or-take, take-take}
+use Rattle.std.proofs.lemmas.List.{get_or-take, take-take, drop_more, length-take}
 use Rattle.durable.specs.Entries.{Entry}
 use Rattle.durable.specs.Histories.{IsHistory}
 use Rattle.durable.specs.Reading.{AreSpelled}
+use Rattle.durable.specs.Spelling.{head, blocks}
 use Rattle.durable.specs.Standing.{StandsFor, IsNoRecord, IsOfAnother, IsDamaged, IsRefusal}
 use Rattle.durable.specs.declared.fault.RecordFault.{RecordFault}
 use Rattle.durable.specs.declared.fault.RecordFault.TheVariants.{Device, OutOfMemory, NotARecord, WrongNode, Full, Damaged, Stopped}
@@ -12,6 +13,10 @@ use Rattle.durable.proofs.Results.{same_error}
 
 abbrev Bytes : Type 0
 Bytes = List ℕ
+
+empty_of : (xs : Bytes) → length xs ≡ 0 → xs ≡ []
+empty_of [] is = refl
+empty_of (x ∷ xs) is = absurd (omega (arith, is))
 
 -- a refusal for which no byte is a reason
 pub by_device_or_memory : (fault : RecordFault) (node cluster : ℕ) (file : Bytes) → IsRefusal fault node cluster file → (¬ IsNoRecord file) × (¬ IsOfAnother node cluster file) × (¬ IsDamaged node cluster file)
@@ -53,3 +58,25 @@ module _ (node cluster : ℕ) (file front : Bytes) (is : front ≡ take 10 file)
   is_own other = ⊎_elim
       (λ (x : get_or file 8 0 ≢ node). x (sym (get_or-take 10 file 8 0 (omega arith)) ∙ ap (λ (l : Bytes). get_or l 8 0) (sym is) ∙ at8))
       (λ (x : get_or file 9 0 ≢ cluster). x (sym (get_or-take 10 file 9 0 (omega arith)) ∙ ap (λ (l : Bytes). get_or l 9 0) (sym is) ∙ at9)) other
+
+  front_size : length front ≡ 10
+  front_size = omega (arith, ap length is, length-take 10 file, long)
+
+  front_is : front ≡ head node cluster
+  front_is =
+      let last : drop 10 front ≡ [] = empty_of (drop 10 front) (omega (arith, length-drop 10 front, front_size)) in
+      let split : drop 8 front ≡ get_or front 8 0 ∷ get_or front 9 0 ∷ [] = drop_more front 8 0 (omega (arith, front_size))
+      ∙ ap (λ (l : Bytes). get_or front 8 0 ∷ l) (drop_more front 9 0 (omega (arith, front_size)) ∙ ap (λ (l : Bytes). get_or front 9 0 ∷ l) last) in
+      sym (take-append-drop 8 front) ∙ ap (λ (l : Bytes). l ++ drop 8 front) mark ∙ ap (λ (l : Bytes). codes "SITEREC1" ++ l) split
+      ∙ (λ i. codes "SITEREC1" ++ at8 i ∷ at9 i ∷ [])
+
+  -- the entries behind the head are those for which the file stands
+  pub stands_whole : (entries : List Entry) → IsHistory cluster entries → AreSpelled (drop 10 file) entries → StandsFor node cluster file entries
+  stands_whole entries history s = record {
+    history = history;
+    gate = s.gate;
+    rest = s.rest;
+    closed = s.closed;
+    layout = sym (take-append-drop 10 file) ∙ ap (λ (l : Bytes). l ++ drop 10 file) (sym is ∙ front_is) ∙ ap (λ (l : Bytes). head node cluster ++ l) s.layout
+        ∙ sym (append_assoc (head node cluster) (blocks entries) (s.gate ∷ s.rest));
+  }

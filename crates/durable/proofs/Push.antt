@@ -1,10 +1,10 @@
 -- One entry more: the history, and what it records.
-use Rattle.std.proofs.Common.{◌≡◌, ◌⊎◌, inl, inr, ⊎_elim, ℕ, List, [], ◌∷◌, ◌++◌, length, get_or, drop, refl, sym, ap, subst, arith, length-append, if◌then◌else◌, Option, Some, None}
+use Rattle.std.proofs.Common.{◌≡◌, ◌⊎◌, inl, inr, ⊎_elim, ℕ, List, [], ◌∷◌, ◌++◌, length, get_or, drop, refl, sym, ◌∙◌, ap, subst, arith, length-append, max, if◌then◌else◌, Option, Some, None}
 use Rattle.std.specs.Prelude.{nat_eq}
 use Rattle.site_ids.specs.Ids.{BallotOf, NotAbove}
 use Rattle.site_ids.specs.Majorities.{In}
 use Rattle.site_ids.specs.declared.value.Vote.{Vote}
-use Rattle.durable.specs.Entries.{Entry, Round, Promised, Voted, round_after, vote_after, Raises, IsPromise}
+use Rattle.durable.specs.Entries.{Entry, Round, Promised, Voted, round_after, round_in, greatest_round, vote_after, Raises, IsPromise}
 use Rattle.durable.specs.Histories.{MayFollow, IsHistory}
 
 -- where one splits a list with one more at its end
@@ -43,6 +43,10 @@ round_after-push r [] fs = refl
 round_after-push r (Round s ∷ es) fs = round_after-push s es fs
 round_after-push r (Promised i b ∷ es) fs = round_after-push r es fs
 round_after-push r (Voted i b v ∷ es) fs = round_after-push r es fs
+
+pub greatest_round-push : (es : List Entry) (e : Entry) → greatest_round (es ++ e ∷ []) ≡ max (greatest_round es) (round_in e)
+greatest_round-push [] e = omega arith
+greatest_round-push (f ∷ es) e = ap (λ (r : ℕ). max (round_in f) r) (greatest_round-push es e) ∙ (omega arith)
 
 pub vote_after-push : (i : ℕ) (last : Option Vote) (es fs : List Entry) → vote_after i last (es ++ fs) ≡ vote_after i (vote_after i last es) fs
 vote_after-push i last [] fs = refl

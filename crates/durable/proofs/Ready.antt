@@ -26,7 +26,7 @@ pub still_ready : {D : Type 0} (stands_for : D → DiskState → Type 0) (old ne
 still_ready stands_for old new d entries unchanged ready =
     let recorded : Recorded = record old.recorded { slots = new.recorded.slots } in
     subst (λ r. IsReady stands_for r d entries) (sym unchanged.same)
-    (record { stored = stored_with stands_for old recorded d entries refl ready.stored; kept = kept_same entries old.recorded recorded ready.kept refl unchanged.slots })
+    (record { stored = stored_with stands_for old recorded d entries refl ready.stored; kept = kept_same entries old.recorded recorded (record { round = refl; greatest = refl; slots = unchanged.slots }) ready.kept })
 
 module _ {D : Type 0} (stands_for : D → DiskState → Type 0) (old : Record D) (d : DiskState) (entries : List Entry) (stored : IsStored stands_for old d entries) (entry : Entry) (follows : MayFollow old.cluster entries entry) where
   abbrev gate : ℕ

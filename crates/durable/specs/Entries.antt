@@ -1,5 +1,5 @@
 -- Entries, and what a list of them records, the oldest first.
-use Rattle.std.specs.Prelude.{◌≡◌, ℕ, List, [], ◌∷◌, ◌++◌, Option, Some, None, nat_eq, if◌then◌else◌}
+use Rattle.std.specs.Prelude.{◌≡◌, ℕ, List, [], ◌∷◌, ◌++◌, Option, Some, None, max, nat_eq, if◌then◌else◌}
 use Rattle.site_ids.specs.Ids.{BallotOf, NotAbove}
 use Rattle.site_ids.specs.Majorities.{In}
 use Rattle.site_ids.specs.declared.value.Vote.{Vote}
@@ -31,6 +31,17 @@ vote_after i last (Voted j b v ∷ es) = vote_after i (if nat_eq j i then Some (
 -- the last vote at the instance, none where there is none
 abbrev pub last_vote : ℕ → List Entry → Option Vote
 last_vote i es = vote_after i None es
+
+-- the round that an entry records or promises
+abbrev pub round_in : Entry → ℕ
+round_in (Round r) = r
+round_in (Promised i b) = b.round
+round_in (Voted i b v) = b.round
+
+-- the greatest round that the entries record or promise, 0 where there are none
+abbrev pub greatest_round : List Entry → ℕ
+greatest_round [] = 0
+greatest_round (e ∷ es) = max (round_in e) (greatest_round es)
 
 -- the entry promises this ballot at the instance
 abbrev pub Raises : Entry → ℕ → BallotOf → Type 0

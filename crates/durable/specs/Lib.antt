@@ -7,4 +7,5 @@ pub mod Slots
 pub mod Append
 pub mod Reading
 pub mod Ready
+pub mod Puts
 pub mod Laws

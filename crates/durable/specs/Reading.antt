@@ -1,6 +1,6 @@
 -- What is read at a gate, and up to one.
 use Rattle.std.specs.Prelude.{◌≡◌, ◌≢◌, ℕ, ◌+◌, ◌<◌, List, [], ◌∷◌, ◌++◌, length, take, slice_index, Bool, true, Result, Ok, Err}
-use Rattle.durable.specs.Entries.{Entry, Round, Promised, Voted, IsSlot, last_round}
+use Rattle.durable.specs.Entries.{Entry, Round, Promised, Voted, IsSlot, last_round, greatest_round}
 use Rattle.durable.specs.Histories.{IsInRange, Advances, IsHistory}
 use Rattle.durable.specs.Spelling.{block, blocks}
 use Rattle.durable.specs.Slots.{slot_at}
@@ -34,6 +34,7 @@ pub record AreSpelled (bytes : List ℕ) (entries : List Entry) : Type 0 where
 -- what is kept in memory is what the entries record
 pub record IsKept (entries : List Entry) (recorded : Recorded) : Type 0 where
   pub round : recorded.round ≡ last_round entries
+  pub greatest : recorded.greatest ≡ greatest_round entries
   pub slots : (i : ℕ) → IsSlot entries i (slot_at recorded.slots i)
 
 -- the entries were read, up to the gate behind them

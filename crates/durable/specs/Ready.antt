@@ -1,11 +1,11 @@
--- When a record is in order, for which entries, and what a put makes of it.
-use Rattle.std.specs.Prelude.{◌≡◌, ℕ, ◌+◌, List, [], ◌∷◌, ◌++◌, length, false, Some}
-use Rattle.site_disk.specs.Model.{DiskState, LeavesOnly}
+-- When a record is in order, and for which entries.
+use Rattle.std.specs.Prelude.{◌≡◌, ℕ, ◌+◌, List, length, false}
+use Rattle.site_disk.specs.Model.{DiskState, after_sync}
 use Rattle.durable.specs.Append.{IsSettled}
 use Rattle.durable.specs.Entries.{Entry}
+use Rattle.durable.specs.Histories.{IsHistory}
 use Rattle.durable.specs.Spelling.{blocks}
 use Rattle.durable.specs.Standing.{StandsFor}
-use Rattle.durable.specs.Keeping.{IsFound, Keeps}
 use Rattle.durable.specs.Reading.{IsKept}
 use Rattle.durable.specs.Slots.{slot_at}
 use Rattle.durable.specs.declared.record.Record.{Record}
@@ -28,14 +28,9 @@ pub record IsUnchanged {D : Type 0} (old new : Record D) : Type 0 where
   pub same : new ≡ record old { recorded = record old.recorded { slots = new.recorded.slots } }
   pub slots : (i : ℕ) → slot_at new.recorded.slots i ≡ slot_at old.recorded.slots i
 
--- A put of the entry has succeeded: the record is ready with one entry more, after two writes and two syncs. A crash at any moment since then
--- leaves the entries, with the new one or without it.
-abbrev pub Acknowledges : {D : Type 0} → (D → DiskState → Type 0) → Record D → Record D → Entry → Type 0
-Acknowledges stands_for old new entry = (d : DiskState) (entries : List Entry) → IsReady stands_for old d entries
-    → (e : DiskState) × IsReady stands_for new e (entries ++ entry ∷ []) × LeavesOnly d e (IsFound old.node old.cluster entries (Some entry)) × (length e.past ≡ 4 + length d.past)
-
--- A put of the entry has failed by the device: the entry is in flight. A crash at any moment since then leaves the entries with it or without it,
--- and so does none.
-abbrev pub LeavesInFlight : {D : Type 0} → (D → DiskState → Type 0) → Record D → Record D → Entry → Type 0
-LeavesInFlight stands_for old new entry = (d : DiskState) (entries : List Entry) → IsReady stands_for old d entries
-    → (e : DiskState) × stands_for new.disk e × LeavesOnly d e (IsFound old.node old.cluster entries (Some entry)) × Keeps old.node old.cluster entries (Some entry) e
+-- what a record that was opened keeps in memory is what these entries record, over any disk; and of each state that the disk stood for, they are the entries of its file
+pub record IsOpened {D : Type 0} (stands_for : D → DiskState → Type 0) (disk : D) (store : Record D) (entries : List Entry) : Type 0 where
+  pub history : IsHistory store.cluster entries
+  pub kept : IsKept entries store.recorded
+  pub running : store.stopped ≡ false
+  pub ready : (d : DiskState) → stands_for disk d → IsReady stands_for store (after_sync d) entries

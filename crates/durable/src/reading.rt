@@ -13,8 +13,8 @@ use site_disk::Disk;
 use site_ids::Cluster;
 use std::alloc::Global;
 
-// How much of the file is read at once.
-const PIECE: u64 = 65_536;
+// How much of the file is read at once, many times the longest block: what is cut off at a piece's end is read twice.
+const PIECE: u64 = 1_048_576;
 
 // The longest block of an entry, and the next gate.
 const MAX_BLOCK: usize = 32_784;
@@ -28,9 +28,10 @@ pub(crate) fn read_entries<D: Disk>(
 ) -> Result<Recorded, RecordFault>
     requires { 11 ≤ len }
     ensures state { (d : DiskState) → D.stands_for disk.old d → D.stands_for disk.new d }
-    ensures read { IfOk result (λ recorded. (d : DiskState) → D.stands_for disk.old d → len ≡ length d.seen → (entries : List Entry) × AreRead cluster entries recorded × AreSpelled (drop 10 d.seen) entries) }
+    ensures read { IfOk result (λ recorded. (entries : List Entry) × AreRead cluster entries recorded × ((d : DiskState) → D.stands_for disk.old d → len ≡ length d.seen → AreSpelled (drop 10 d.seen) entries)) }
     ensures damaged { IsErrOf result RecordFault.Damaged → (d : DiskState) (entries : List Entry) → D.stands_for disk.old d → len ≡ length d.seen → IsHistory cluster entries → ¬ AreSpelled (drop 10 d.seen) entries }
     ensures others { OnErr result (IsErrOf result RecordFault.Device ⊎ (IsErrOf result RecordFault.OutOfMemory ⊎ IsErrOf result RecordFault.Damaged)) }
+    ensures none_failed { OnOk result (D.failed disk.new ≡ D.failed disk.old) }
     ensures no_fewer { D.failed disk.old ≤ D.failed disk.new }
     ensures cause { IsErrOf result RecordFault.Device → (D.failed disk.old < D.failed disk.new) ⊎ (D.failed disk.old ≡ 2 ^ 64 - 1) }
 {

@@ -31,6 +31,17 @@ pub struct Record<D> {
     pub(crate) stopped: bool,
 }
 
+// The head of a record, and its gate.
+fn empty_record(cluster: Cluster, node: NodeId) -> [u8; 11]
+    ensures { result ≡ head node cluster ++ 0 ∷ [] }
+{
+    let mut bytes = [0; 11];
+    bytes[..8].copy_from_slice(&MARK);
+    bytes[8] = node.number();
+    bytes[9] = cluster.size();
+    bytes
+}
+
 // Syncs, and then reads the head and the entries.
 fn read<D: Disk>(
     alloc: Global,
@@ -38,9 +49,10 @@ fn read<D: Disk>(
     node: NodeId,
     disk: &mut D,
 ) -> Result<Recorded, RecordFault>
-    ensures read { IfOk result (λ recorded. (d : DiskState) → D.stands_for disk.old d → D.stands_for disk.new (after_sync d) × ((entries : List Entry) × AreRead cluster entries recorded × StandsFor node cluster d.seen entries)) }
+    ensures read { IfOk result (λ recorded. (entries : List Entry) × AreRead cluster entries recorded × ((d : DiskState) → D.stands_for disk.old d → D.stands_for disk.new (after_sync d) × StandsFor node cluster d.seen entries)) }
     ensures refused { IfErr result (λ fault. (d : DiskState) → D.stands_for disk.old d → (D.stands_for disk.new (after_sync d) ⊎ (D.stands_for disk.new d × (fault ≡ RecordFault.Device))) × IsRefusal fault node cluster d.seen) }
     ensures cause { IsErrOf result RecordFault.Device → (D.failed disk.old < D.failed disk.new) ⊎ (D.failed disk.old ≡ 2 ^ 64 - 1) }
+    ensures none_failed { OnOk result (D.failed disk.new ≡ D.failed disk.old) }
 {
     disk.sync()?;
     let len = disk.len()?;
@@ -59,7 +71,7 @@ fn read<D: Disk>(
 }
 
 impl<D: Disk> Record<D> {
-    ghost use Rattle.durable.specs.Ready.{IsReady};
+    ghost use Rattle.durable.specs.Ready.{IsOpened};
     ghost use Rattle.durable.specs.Slots.{slot_at};
 
     /// Makes an empty record of a node of a cluster on an empty disk. A crash within it may leave a file that is no
@@ -69,16 +81,13 @@ impl<D: Disk> Record<D> {
         ensures untouched { OnErr result ((d : DiskState) → D.stands_for disk.old d → 0 < length d.seen → D.stands_for disk.new d) }
         ensures not_empty { IsErrOf result RecordFault.NotARecord → (d : DiskState) → D.stands_for disk.old d → D.stands_for disk.new d × (0 < length d.seen) }
         ensures cause { IsErrOf result RecordFault.Device → (D.failed disk.old < D.failed disk.new) ⊎ (D.failed disk.old ≡ 2 ^ 64 - 1) }
+        ensures none_failed { OnOk result (D.failed disk.new ≡ D.failed disk.old) }
         ensures others { OnErr result (IsErrOf result RecordFault.NotARecord ⊎ IsErrOf result RecordFault.Device) }
     {
         if disk.len()? != 0 {
             return Err(RecordFault::NotARecord);
         }
-        let [a, b, c, d, e, f, g, h] = MARK;
-        disk.write_at(
-            0,
-            &[a, b, c, d, e, f, g, h, node.number(), cluster.size(), 0],
-        )?;
+        disk.write_at(0, &empty_record(cluster, node))?;
         Ok(disk.sync()?)
     }
 
@@ -89,7 +98,8 @@ impl<D: Disk> Record<D> {
         node: NodeId,
         disk: D,
     ) -> Result<Record<D>, (RecordFault, D)>
-        ensures opened { IfOk result (λ store. (d : DiskState) → D.stands_for disk d → (entries : List Entry) × IsReady D.stands_for store (after_sync d) entries) }
+        ensures opened { IfOk result (λ store. (entries : List Entry) × IsOpened D.stands_for disk store entries) }
+        ensures none_failed { IfOk result (λ store. D.failed store.disk ≡ D.failed disk) }
         ensures whose { IfOk result (λ store. (store.node ≡ node) × (store.cluster ≡ cluster)) }
         ensures refused { IfErr result (λ p. (d : DiskState) → D.stands_for disk d → (D.stands_for p.1 (after_sync d) ⊎ (D.stands_for p.1 d × (p.0 ≡ RecordFault.Device))) × IsRefusal p.0 node cluster d.seen) }
         ensures never { IfErr result (λ p. (d : DiskState) (entries : List Entry) (in_flight : Option Entry) → D.stands_for disk d → Keeps node cluster entries in_flight d → (p.0 ≡ RecordFault.Device) ⊎ (p.0 ≡ RecordFault.OutOfMemory)) }
@@ -116,6 +126,20 @@ impl<D: Disk> Record<D> {
         self.recorded.round
     }
 
+    /// The greatest round that was recorded or promised, 0 where there is none.
+    pub fn greatest_round(&self) -> u32
+        ensures { result ≡ self.now.recorded.greatest }
+    {
+        self.recorded.greatest
+    }
+
+    /// Whether the device failed in a put since the record was opened.
+    pub fn is_stopped(&self) -> bool
+        ensures { result ≡ self.now.stopped }
+    {
+        self.stopped
+    }
+
     /// The slot of an instance, an empty one where none stands.
     pub fn slot(&self, instance: Instance) -> &Slot
         ensures { result.now ≡ slot_at self.now.recorded.slots instance }
@@ -125,7 +149,7 @@ impl<D: Disk> Record<D> {
 
     /// No put of so long a payload would be refused as full.
     pub fn has_room(&self, payload: usize) -> bool
-        ensures { IsTrue result ↔ (self.now.recorded.gate + 6 + payload ≤ 4294967295) }
+        ensures { IsTrue result ↔ (self.now.recorded.gate + 6 + payload ≤ MAX_RECORD) }
     {
         let payload = payload as u64;
         payload <= MAX_RECORD - 6 && self.recorded.gate <= MAX_RECORD - 6 - payload

@@ -1,29 +1,29 @@
 //! What the entries of a file record.
 
-ghost use Rattle.std.specs.Prelude.{◌≡◌, ◌≤◌, ◌<◌, ◌^◌, ℕ, [], length, IfOk, OnOk};
-ghost use Rattle.site_ids.specs.Ids.{IsInstance};
+ghost use Rattle.std.specs.Prelude.{◌≡◌, []};
 ghost use Rattle.durable.specs.Entries.{Round, Promised, Voted};
-ghost use Rattle.durable.specs.Spelling.{behind_gate};
 
 use crate::RecordFault;
 use crate::parsing::EntryRef;
 use crate::slots::Slots;
-use crate::spelling::vote_behind;
 use acceptor::{PrepareVerdict, ProposeVerdict, judge_prepare, judge_propose};
 use site_ids::{Ballot, Instance, Value, Vote};
-use std::alloc::{AllocError, Global};
+use std::alloc::Global;
 
 /// What the entries up to a gate record.
 #[derive(Drop)]
 pub(crate) struct Recorded {
     pub(crate) gate: u64,
     pub(crate) round: u32,
+    /// The greatest round that was recorded or promised.
+    pub(crate) greatest: u32,
     pub(crate) slots: Slots,
 }
 
 impl Recorded {
+    ghost use Rattle.durable.specs.Puts.{Remembers};
     ghost use Rattle.durable.specs.Reading.{IsKept, Takes, meaning};
-    ghost use Rattle.durable.specs.Slots.{slot_at, IsThere};
+    ghost use Rattle.durable.specs.Slots.{IsThere};
 
     /// Of no entries.
     pub(crate) fn new(alloc: Global) -> Recorded
@@ -33,8 +33,38 @@ impl Recorded {
         Recorded {
             gate: 10,
             round: 0,
+            greatest: 0,
             slots: Slots::new(alloc),
         }
+    }
+
+    /// Keeps a round.
+    pub(crate) fn keep_round(&mut self, round: u32)
+        ensures remembers { Remembers self.old self.new (Round round) }
+        ensures gate { self.new.gate ≡ self.old.gate }
+    {
+        self.round = round;
+        self.greatest = self.greatest.max(round);
+    }
+
+    /// Keeps a promise where there is room for the slot.
+    pub(crate) fn keep_promise(&mut self, instance: Instance, ballot: Ballot)
+        requires { IsThere self.old.slots instance }
+        ensures remembers { Remembers self.old self.new (Promised instance ballot) }
+        ensures gate { self.new.gate ≡ self.old.gate }
+    {
+        self.slots.promise(instance, ballot);
+        self.greatest = self.greatest.max(ballot.round());
+    }
+
+    /// Keeps a vote where there is room for the slot.
+    pub(crate) fn keep_vote(&mut self, instance: Instance, vote: Vote)
+        requires { IsThere self.old.slots instance }
+        ensures remembers { Remembers self.old self.new (Voted instance vote.ballot vote.value) }
+        ensures gate { self.new.gate ≡ self.old.gate }
+    {
+        self.greatest = self.greatest.max(vote.ballot.round());
+        self.slots.vote(instance, vote);
     }
 
     /// Takes one entry more, if it advances those before it.
@@ -56,7 +86,7 @@ impl Recorded {
         if round <= self.round {
             return Err(RecordFault::Damaged);
         }
-        self.round = round;
+        self.keep_round(round);
         Ok(())
     }
 
@@ -67,7 +97,7 @@ impl Recorded {
             return Err(RecordFault::Damaged);
         };
         self.slots.make_room(instance)?;
-        self.slots.promise(instance, ballot);
+        self.keep_promise(instance, ballot);
         Ok(())
     }
 
@@ -85,29 +115,7 @@ impl Recorded {
         };
         let value = Value::copied_from(alloc, value)?;
         self.slots.make_room(instance)?;
-        self.slots.vote(instance, Vote { ballot, value });
+        self.keep_vote(instance, Vote { ballot, value });
         Ok(())
-    }
-
-    /// All the memory that a vote wants: its bytes behind the gate, the vote, and room for its slot.
-    pub(crate) fn room_for_vote(
-        &mut self,
-        alloc: Global,
-        instance: Instance,
-        ballot: Ballot,
-        value: &[u8],
-    ) -> Result<(Vec<u8>, Vote), AllocError>
-        requires { length value.now ≤ 32768 }
-        ensures bytes { IfOk result (λ p. p.0.items ≡ behind_gate (Voted instance ballot value.now)) }
-        ensures vote { IfOk result (λ p. p.1 ≡ record { ballot = ballot; value = value.now }) }
-        ensures in_range { IsInstance instance × (1 ≤ ballot.round) × (ballot.round < 2 ^ 32) }
-        ensures room { OnOk result (IsThere self.new.slots instance) }
-        ensures slots { (at : ℕ) → slot_at self.new.slots at ≡ slot_at self.old.slots at }
-        ensures same { (self.new.gate ≡ self.old.gate) × (self.new.round ≡ self.old.round) }
-    {
-        let bytes = vote_behind(alloc, instance, ballot, value)?;
-        let value = Value::copied_from(alloc, value)?;
-        self.slots.make_room(instance)?;
-        Ok((bytes, Vote { ballot, value }))
     }
 }

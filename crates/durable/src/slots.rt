@@ -1,9 +1,13 @@
 //! What a node has promised and voted at each instance.
 
-ghost use Rattle.std.specs.Prelude.{◌≡◌, ◌≢◌, ℕ, None, Some, OnOk};
+ghost use Rattle.std.specs.Prelude.{◌≡◌, ◌≢◌, ◌≤◌, ◌<◌, ◌^◌, ℕ, None, Some, OnOk, IfOk, length};
+ghost use Rattle.site_ids.specs.Ids.{IsInstance};
+ghost use Rattle.durable.specs.Entries.{Voted};
+ghost use Rattle.durable.specs.Spelling.{behind_gate};
 
+use crate::spelling::vote_behind;
 use acceptor::Slot;
-use site_ids::{Ballot, Instance, Vote};
+use site_ids::{Ballot, Instance, Value, Vote};
 use std::alloc::{AllocError, Global};
 use std::collections::BTreeMap;
 
@@ -82,5 +86,26 @@ impl Slots {
             vote: Some(vote),
         };
         let _ = self.map.insert(at.number(), slot);
+    }
+
+    /// All the memory that a vote wants: its bytes behind the gate, the vote, and room for its slot.
+    pub(crate) fn room_for_vote(
+        &mut self,
+        alloc: Global,
+        instance: Instance,
+        ballot: Ballot,
+        value: &[u8],
+    ) -> Result<(Vec<u8>, Vote), AllocError>
+        requires { length value.now ≤ 32768 }
+        ensures bytes { IfOk result (λ p. p.0.items ≡ behind_gate (Voted instance ballot value.now)) }
+        ensures vote { IfOk result (λ p. p.1 ≡ record { ballot = ballot; value = value.now }) }
+        ensures in_range { IsInstance instance × (1 ≤ ballot.round) × (ballot.round < 2 ^ 32) }
+        ensures room { OnOk result (IsThere self.new instance) }
+        ensures slots { (at : ℕ) → slot_at self.new at ≡ slot_at self.old at }
+    {
+        let bytes = vote_behind(alloc, instance, ballot, value)?;
+        let value = Value::copied_from(alloc, value)?;
+        self.make_room(instance)?;
+        Ok((bytes, Vote { ballot, value }))
     }
 }

@@ -1,4 +1,4 @@
-use Rattle.std.proofs.Common.{◌≡◌, ◌-◌, ◌++◌, ◌∷◌, [], ℕ, List, Err, length, drop, take, min, refl, ap, arith, length-drop}
+use Rattle.std.proofs.Common.{◌≡◌, ◌-◌, ◌++◌, ◌∷◌, [], ℕ, List, Err, length, drop, take, min, refl, ◌∙◌, ap, arith, length-drop}
 use Rattle.std.proofs.lemmas.Grind.{common_steps}
 use Rattle.std.proofs.lemmas.Bool.{leb-true}
 use Rattle.durable.specs.declared.fault.RecordFault.TheVariants.{Damaged}
@@ -16,38 +16,46 @@ returns-in_err-take_piece-clause-damaged g c = λ is d entries stands size histo
     let gate = c.loop-buffer.recorded.gate in
     let inside = c.loop-buffer.invariant in
     let n = length (take c.min-in-loop-buffer.result c.deref_mut.result.now) in
-    let n_is : n ≡ min (c.args.len - gate) 65536 = grind (arith, common_steps, inside.room, c.deref_mut.ensures.len, c.min-in-loop-buffer.ensures) in
+    let n_is : n ≡ min (c.args.len - gate) 1048576 = grind (arith, common_steps, inside.room, c.deref_mut.ensures.len, c.min-in-loop-buffer.ensures) in
     let piece = c.in_ok-read_at.ensures.read d (inside.state d stands) (omega (arith, n_is, size, inside.within)) in
-    let before = inside.read d stands size in
-    in_piece c.args.cluster d.seen c.read_at.new.buf gate n before.0 before.2 piece c.loop-buffer.recorded entries before.1 history spelled
+    let before = inside.read in
+    in_piece c.args.cluster d.seen c.read_at.new.buf gate n before.0 (before.2 d stands size) piece c.loop-buffer.recorded entries before.1 history spelled
     (λ more goes_on on. c.in_err-take_piece.ensures.damaged (ap Err (passed_on _ fault Damaged c.from_residual-in_err-take_piece.ensures.1 is)) before.0 more _ before.1
     (λ last. empty_of _ (omega (arith, length-drop n (drop gate d.seen), length-drop gate d.seen, n_is, size, leb-true _ _ last))) goes_on on)
 
 pub returns-then-branch-clause-read : goal.returns-then-branch-clause-read
-returns-then-branch-clause-read g c = λ d stands size.
+returns-then-branch-clause-read g c =
     let gate = c.loop-buffer.recorded.gate in
     let inside = c.loop-buffer.invariant in
     let n = length (take c.min-in-loop-buffer.result c.deref_mut.result.now) in
-    let n_is : n ≡ min (c.args.len - gate) 65536 = grind (arith, common_steps, inside.room, c.deref_mut.ensures.len, c.min-in-loop-buffer.ensures) in
-    let piece = c.in_ok-read_at.ensures.read d (inside.state d stands) (omega (arith, n_is, size, inside.within)) in
-    let before = inside.read d stands size in
-    let t = c.in_ok-take_piece.ensures.taken before.0 before.1 in
-    (before.0 ++ t.0, t.2, ended c.args.cluster d.seen c.read_at.new.buf gate n before.0 before.2 piece t.0 t.1 t.3 t.4 (t.5 c.if-branch.true))
+    let n_is : n ≡ min (c.args.len - gate) 1048576 = grind (arith, common_steps, inside.room, c.deref_mut.ensures.len, c.min-in-loop-buffer.ensures) in
+    let before = inside.read in
+    let t = c.in_ok-take_piece.ensures.taken before.0 before.1 in (
+      before.0 ++ t.0,
+      t.2,
+      λ d stands size.
+          let piece = c.in_ok-read_at.ensures.read d (inside.state d stands) (omega (arith, n_is, size, inside.within)) in
+          ended c.args.cluster d.seen c.read_at.new.buf gate n before.0 (before.2 d stands size) piece t.0 t.1 t.3 t.4 (t.5 c.if-branch.true),
+    )
 
 pub loop-buffer-preserved : goal.loop-buffer-preserved
 loop-buffer-preserved g c =
     let gate = c.loop-buffer.recorded.gate in
     let inside = c.loop-buffer.invariant in
     let n = length (take c.min-in-loop-buffer.result c.deref_mut.result.now) in
-    let n_is : n ≡ min (c.args.len - gate) 65536 = grind (arith, common_steps, inside.room, c.deref_mut.ensures.len, c.min-in-loop-buffer.ensures) in
+    let n_is : n ≡ min (c.args.len - gate) 1048576 = grind (arith, common_steps, inside.room, c.deref_mut.ensures.len, c.min-in-loop-buffer.ensures) in
     record {
       within = grind (arith, c.in_ok-take_piece.ensures.within, n_is, inside.within);
       room = grind (arith, common_steps, inside.room);
-      no_fewer = omega (arith, inside.no_fewer, c.read_at.ensures.cause.no_fewer);
+      none_failed = c.in_ok-read_at.ensures.cause.none ∙ inside.none_failed;
       state = λ d stands. c.read_at.ensures.state d (inside.state d stands);
-      read = λ d stands size.
-          let piece = c.in_ok-read_at.ensures.read d (inside.state d stands) (omega (arith, n_is, size, inside.within)) in
-          let before = inside.read d stands size in
-          let t = c.in_ok-take_piece.ensures.taken before.0 before.1 in
-          (before.0 ++ t.0, t.2, next_piece c.args.cluster d.seen c.read_at.new.buf gate n before.0 before.2 piece t.0 t.1 _ t.3 t.2.gate);
+      read =
+          let before = inside.read in
+          let t = c.in_ok-take_piece.ensures.taken before.0 before.1 in (
+            before.0 ++ t.0,
+            t.2,
+            λ d stands size.
+                let piece = c.in_ok-read_at.ensures.read d (inside.state d stands) (omega (arith, n_is, size, inside.within)) in
+                next_piece c.args.cluster d.seen c.read_at.new.buf gate n before.0 (before.2 d stands size) piece t.0 t.1 _ t.3 t.2.gate,
+          );
     }

@@ -44,7 +44,7 @@ loop-rest-preserved c =
     let entry = meaning c.in-Found.entry in
     let taken = c.in_ok-take-in-Found.ensures in
     let whole = all_behind size rest in
-    let new : Recorded = record { gate = c.take.new.self.gate + size; round = c.take.new.self.round; slots = c.take.new.self.slots } in
+    let new : Recorded = record { gate = c.take.new.self.gate + size; round = c.take.new.self.round; greatest = c.take.new.self.greatest; slots = c.take.new.self.slots } in
     record {
       place = omega (arith, ap length whole, length-drop size rest, c.loop-rest.invariant.place, taken.0, found.2);
       some = omega (arith, ap length whole, length-drop size rest, found.2);
@@ -52,7 +52,7 @@ loop-rest-preserved c =
           let t = c.loop-rest.invariant.taken before read in
           let one = taken.1 (before ++ t.0) t.1.kept in
           let more : AreRead c.args.cluster ((before ++ t.0) ++ entry ∷ []) new
-          = read_more c.args.cluster (before ++ t.0) entry c.loop-rest.recorded new t.1 found.0 one.0 (record { round = one.1.round; slots = one.1.slots }) (omega (arith, taken.0, found.1)) in (
+          = read_more c.args.cluster (before ++ t.0) entry c.loop-rest.recorded new t.1 found.0 one.0 (record { round = one.1.round; greatest = one.1.greatest; slots = one.1.slots }) (omega (arith, taken.0, found.1)) in (
             t.0 ++ entry ∷ [],
             subst (λ (l : List Entry). AreRead c.args.cluster l new) (append_assoc before t.0 (entry ∷ [])) more,
             split_more c.args.piece.now rest t.0 entry size t.2 found.3 ∙ ap (λ (l : List ℕ). blocks (t.0 ++ entry ∷ []) ++ l) (sym whole),

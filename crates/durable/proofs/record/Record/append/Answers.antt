@@ -27,4 +27,5 @@ returns-clause-done g c = λ d entries entry stored follows is.
       stored_after S old d entries stored entry follows _ after.0 after.1 after.3 (subst Open is after.4) refl refl (omega (arith, ap length is)) refl,
       leaves S old d entries stored entry follows after.0 (subst Only is after.2),
       after.5,
+      subst Open is after.4,
     )

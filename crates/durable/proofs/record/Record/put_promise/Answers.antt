@@ -1,42 +1,34 @@
-use Rattle.std.proofs.Common.{◌≡◌, ℕ, refl, ◌∙◌, ap}
-use Rattle.acceptor.specs.declared.slot.Slot.{Slot}
-use Rattle.acceptor.specs.Steps.{with_promise}
-use Rattle.durable.specs.Entries.{Promised}
+use Rattle.std.proofs.Common.{List, refl, arith}
+use Rattle.durable.specs.Entries.{Entry, Promised}
 use Rattle.durable.specs.Histories.{MayFollow}
-use Rattle.durable.specs.Slots.{slot_at}
-use Rattle.durable.specs.declared.slots.Slots.{Slots}
+use Rattle.durable.specs.Puts.{IsFullFor}
+use Rattle.durable.specs.Reading.{IsKept}
 use Rattle.durable.proofs.Advances.{promise_advances}
-use Rattle.durable.proofs.Kept.{kept_promised}
-use Rattle.durable.proofs.Ready.{stored_with}
+use Rattle.durable.proofs.Endings.{appended, broken_off}
 use Rattle.durable.proofs.record.Record.put_promise.Goals as goal
 
-pub returns-in-Ok-clause-acknowledged : goal.returns-in-Ok-clause-acknowledged
-returns-in-Ok-clause-acknowledged g c = λ d entries ready.
+pub returns-in-Ok : goal.returns-in-Ok
+returns-in-Ok g c =
     let old = c.args.self.now in
-    let instance = c.args.instance in
-    let ballot = c.args.ballot in
+    let entry = Promised c.args.instance c.args.ballot in
     let range = c.promise_behind.ensures.in_range in
-    let advances = promise_advances entries instance ballot _ (ready.kept.slots instance) c.requires.above in
-    let follows : MayFollow old.cluster entries (Promised instance ballot) = record { in_range = (range.0, (range.1, range.2, c.requires.of_cluster)); advances = advances } in
-    let after = c.in-Ok.ensures.done d entries (Promised instance ballot) (stored_with g.D.Disk.stands_for old _ d entries refl ready.stored) follows c.promise_behind.ensures.bytes in
-    let slots : (i : ℕ) → slot_at c.append.new.self.recorded.slots i ≡ slot_at old.recorded.slots i = λ i. ap (λ (s : Slots). slot_at s i) c.append.ensures.kept.1 ∙ c.make_room.ensures.same i in (
-      after.0,
-      record {
-        stored = stored_with g.D.Disk.stands_for _ _ after.0 _ refl after.1;
-        kept = kept_promised entries instance ballot old.recorded _ advances ready.kept c.append.ensures.kept.0
-            (c.promise.ensures.promised ∙ ap (λ (s : Slot). with_promise s ballot) (slots instance)) (λ k other. c.promise.ensures.others k other ∙ slots k);
-      },
-      after.2,
-      after.3,
-    )
+    let follows : (entries : List Entry) → IsKept entries old.recorded → MayFollow old.cluster entries entry
+    = λ entries kept. record { in_range = (range.0, (range.1, range.2, c.requires.of_cluster)); advances = promise_advances entries c.args.instance c.args.ballot _ (kept.slots c.args.instance) c.requires.above } in
+    let room : ¬ IsFullFor old entry = λ full. omega (arith, full, c.if-not-has_room.ensures) in
+    let done = c.in-Ok.ensures in
+    let kept = c.append.ensures.kept in
+    appended g.D.Disk.stands_for g.D.Disk.failed old entry c.make_room.new.self c.make_room.ensures.same c.promise_behind.result c.promise_behind.ensures.bytes follows c.if-self.false room
+    c.append.new.self c.append.ensures.whose kept.0 kept.1 kept.2 c.keep_promise.new.self done.done done.gate done.runs done.cause.none c.keep_promise.ensures.remembers c.keep_promise.ensures.gate
 
-pub returns-in-Err-clause-device : goal.returns-in-Err-clause-device
-returns-in-Err-clause-device g c = λ is_device.
+pub returns-in-Err : goal.returns-in-Err
+returns-in-Err g c =
     let old = c.args.self.now in
-    let instance = c.args.instance in
-    let ballot = c.args.ballot in
-    let range = c.promise_behind.ensures.in_range in (
-      c.in-Err.ensures.stops,
-      λ d entries ready. c.in-Err.ensures.failed d entries (Promised instance ballot) (stored_with g.D.Disk.stands_for old _ d entries refl ready.stored)
-          (record { in_range = (range.0, (range.1, range.2, c.requires.of_cluster)); advances = promise_advances entries instance ballot _ (ready.kept.slots instance) c.requires.above }) c.promise_behind.ensures.bytes,
-    )
+    let entry = Promised c.args.instance c.args.ballot in
+    let range = c.promise_behind.ensures.in_range in
+    let follows : (entries : List Entry) → IsKept entries old.recorded → MayFollow old.cluster entries entry
+    = λ entries kept. record { in_range = (range.0, (range.1, range.2, c.requires.of_cluster)); advances = promise_advances entries c.args.instance c.args.ballot _ (kept.slots c.args.instance) c.requires.above } in
+    let room : ¬ IsFullFor old entry = λ full. omega (arith, full, c.if-not-has_room.ensures) in
+    let failed = c.in-Err.ensures in
+    let kept = c.append.ensures.kept in
+    broken_off g.D.Disk.stands_for g.D.Disk.failed old entry c.make_room.new.self c.make_room.ensures.same c.promise_behind.result c.promise_behind.ensures.bytes follows c.if-self.false room
+    c.append.new.self c.append.ensures.whose kept.0 kept.1 kept.2 failed.failed failed.stops (failed.cause.counted refl)

@@ -1,46 +1,46 @@
-use Rattle.std.proofs.Common.{◌≡◌, ℕ, refl, ◌∙◌, ap}
-use Rattle.site_ids.specs.declared.value.Vote.{Vote}
-use Rattle.acceptor.specs.Steps.{with_vote}
-use Rattle.durable.specs.Entries.{Voted}
+use Rattle.std.proofs.Common.{List, [], ◌∷◌, refl, ◌∙◌, arith, length-append, subst}
+use Rattle.durable.specs.Entries.{Entry, Voted}
 use Rattle.durable.specs.Histories.{MayFollow}
-use Rattle.durable.specs.Slots.{slot_at}
-use Rattle.durable.specs.declared.slots.Slots.{Slots}
+use Rattle.durable.specs.Puts.{IsFullFor, Remembers}
+use Rattle.durable.specs.Reading.{IsKept}
 use Rattle.durable.proofs.Advances.{vote_advances}
-use Rattle.durable.proofs.Kept.{kept_voted}
-use Rattle.durable.proofs.Ready.{stored_with}
+use Rattle.durable.proofs.Endings.{appended, broken_off}
+use Rattle.site_ids.specs.declared.value.Vote.{Vote}
 use Rattle.durable.proofs.record.Record.put_vote.Goals as goal
 
-pub returns-in-Ok-append-clause-acknowledged : goal.returns-in-Ok-append-clause-acknowledged
-returns-in-Ok-append-clause-acknowledged g c = λ d entries ready.
+pub returns-in-Ok-append : goal.returns-in-Ok-append
+returns-in-Ok-append g c =
     let old = c.args.self.now in
-    let instance = c.args.instance in
-    let ballot = c.args.ballot in
     let value = c.args.value.now in
-    let room = c.room_for_vote-room.ensures in
-    let range = room.in_range in
-    let advances = vote_advances entries instance ballot value _ (ready.kept.slots instance) c.requires.free c.requires.new in
-    let follows : MayFollow old.cluster entries (Voted instance ballot value) = record { in_range = (range.0, (range.1, range.2, c.requires.of_cluster), c.requires.fits); advances = advances } in
-    let after = c.in-Ok-append.ensures.done d entries (Voted instance ballot value) (stored_with g.D.Disk.stands_for old _ d entries room.same.0 ready.stored) follows (c.deref.ensures.value ∙ c.in-Ok.ensures.bytes) in
-    let slots : (i : ℕ) → slot_at c.append.new.self.recorded.slots i ≡ slot_at old.recorded.slots i = λ i. ap (λ (s : Slots). slot_at s i) c.append.ensures.kept.1 ∙ room.slots i in (
-      after.0,
-      record {
-        stored = stored_with g.D.Disk.stands_for _ _ after.0 _ refl after.1;
-        kept = kept_voted entries instance ballot value old.recorded _ advances ready.kept (c.append.ensures.kept.0 ∙ room.same.1)
-            (c.vote.ensures.voted ∙ ap (λ (v : Vote). with_vote v.ballot v.value) c.in-Ok.ensures.vote) (λ k other. c.vote.ensures.others k other ∙ slots k);
-      },
-      after.2,
-      after.3,
-    )
+    let entry = Voted c.args.instance c.args.ballot value in
+    let made = c.room_for_vote-room.ensures in
+    let range = made.in_range in
+    let follows : (entries : List Entry) → IsKept entries old.recorded → MayFollow old.cluster entries entry
+    = λ entries kept. record {
+      in_range = (range.0, (range.1, range.2, c.requires.of_cluster), c.requires.fits);
+      advances = vote_advances entries c.args.instance c.args.ballot value _ (kept.slots c.args.instance) c.requires.free c.requires.new;
+    } in
+    let room : ¬ IsFullFor old entry = λ full. omega (arith, full, c.if-not-has_room.ensures, length-append value (0 ∷ [])) in
+    let done = c.in-Ok-append.ensures in
+    let kept = c.append.ensures.kept in
+    let remembers = subst (λ (v : Vote). Remembers c.append.new.self.recorded c.keep_vote.new.self (Voted c.args.instance v.ballot v.value)) c.in-Ok.ensures.vote c.keep_vote.ensures.remembers in
+    appended g.D.Disk.stands_for g.D.Disk.failed old entry c.room_for_vote-room.new.self made.slots c.deref.result.now (c.deref.ensures.value ∙ c.in-Ok.ensures.bytes) follows c.if-self.false room
+    c.append.new.self c.append.ensures.whose kept.0 kept.1 kept.2 c.keep_vote.new.self done.done done.gate done.runs done.cause.none remembers c.keep_vote.ensures.gate
 
-pub returns-clause-device : goal.returns-clause-device
-returns-clause-device g c = λ is_device.
+pub returns : goal.returns
+returns g c =
     let old = c.args.self.now in
-    let instance = c.args.instance in
-    let ballot = c.args.ballot in
     let value = c.args.value.now in
-    let room = c.room_for_vote-room.ensures in
-    let range = room.in_range in (
-      c.in-Err.ensures.stops,
-      λ d entries ready. c.in-Err.ensures.failed d entries (Voted instance ballot value) (stored_with g.D.Disk.stands_for old _ d entries room.same.0 ready.stored)
-          (record { in_range = (range.0, (range.1, range.2, c.requires.of_cluster), c.requires.fits); advances = vote_advances entries instance ballot value _ (ready.kept.slots instance) c.requires.free c.requires.new }) (c.deref.ensures.value ∙ c.in-Ok.ensures.bytes),
-    )
+    let entry = Voted c.args.instance c.args.ballot value in
+    let made = c.room_for_vote-room.ensures in
+    let range = made.in_range in
+    let follows : (entries : List Entry) → IsKept entries old.recorded → MayFollow old.cluster entries entry
+    = λ entries kept. record {
+      in_range = (range.0, (range.1, range.2, c.requires.of_cluster), c.requires.fits);
+      advances = vote_advances entries c.args.instance c.args.ballot value _ (kept.slots c.args.instance) c.requires.free c.requires.new;
+    } in
+    let room : ¬ IsFullFor old entry = λ full. omega (arith, full, c.if-not-has_room.ensures, length-append value (0 ∷ [])) in
+    let failed = c.in-Err.ensures in
+    let kept = c.append.ensures.kept in
+    broken_off g.D.Disk.stands_for g.D.Disk.failed old entry c.room_for_vote-room.new.self made.slots c.deref.result.now (c.deref.ensures.value ∙ c.in-Ok.ensures.bytes) follows c.if-self.false room
+    c.append.new.self c.append.ensures.whose kept.0 kept.1 kept.2 failed.failed failed.stops (failed.cause.counted refl)

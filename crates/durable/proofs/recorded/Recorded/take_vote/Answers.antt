@@ -1,20 +1,22 @@
 use Rattle.std.proofs.Common.{List, ℕ, refl, ◌∙◌, ap, subst}
 use Rattle.acceptor.specs.declared.slot.Slot.{Slot}
 use Rattle.acceptor.specs.Judging.{IsFreeAt, IsVotedAt}
-use Rattle.acceptor.specs.Steps.{with_vote}
+use Rattle.durable.specs.Entries.{Voted}
+use Rattle.durable.specs.Puts.{Remembers}
+use Rattle.durable.specs.declared.recorded.Recorded.{Recorded}
 use Rattle.durable.proofs.Advances.{vote_advances}
-use Rattle.durable.proofs.Kept.{kept_voted}
+use Rattle.durable.proofs.Kept.{kept_through}
 use Rattle.durable.proofs.recorded.Recorded.take_vote.Goals as goal
 
 pub returns : goal.returns
 returns c = (
-  refl,
+  c.keep_vote.ensures.gate,
   λ entries kept.
+      let entry = Voted c.args.instance c.args.ballot c.args.value.now in
       let free = subst (λ (s : Slot). IsFreeAt s.promised c.args.ballot × (¬ IsVotedAt s.vote c.args.ballot)) c.get.ensures c.in-Vote.ensures in
-      let advances = vote_advances entries c.args.instance c.args.ballot c.args.value.now _ (kept.slots c.args.instance) free.0 free.1 in (
-        advances,
-        kept_voted entries c.args.instance c.args.ballot c.args.value.now c.args.self.now _ advances kept refl
-            (c.vote.ensures.voted ∙ ap (λ (v : List ℕ). with_vote c.args.ballot v) c.in_ok-value.ensures)
-            (λ k other. c.vote.ensures.others k other ∙ c.make_room.ensures.same k),
-      ),
+      let advances = vote_advances entries c.args.instance c.args.ballot c.args.value.now _ (kept.slots c.args.instance) free.0 free.1 in
+      let mid : Recorded = record c.args.self.now { slots = c.make_room.new.self } in
+      let Kept : List ℕ → Type 0 = λ v. Remembers mid c.keep_vote.new.self (Voted c.args.instance c.args.ballot v) in
+      let remembers = subst Kept c.in_ok-value.ensures c.keep_vote.ensures.remembers in
+      (advances, kept_through entries entry c.args.self.now mid c.keep_vote.new.self advances refl refl c.make_room.ensures.same remembers kept),
 )

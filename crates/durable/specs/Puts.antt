@@ -1,0 +1,100 @@
+-- What a put of one entry answers, and what stands after it.
+use Rattle.std.specs.Prelude.{◌≡◌, ◌≢◌, ◌⊎◌, ◌↔◌, ℕ, ◌+◌, ◌-◌, ◌<◌, ◌^◌, max, List, [], ◌∷◌, ◌++◌, length, false, true, Some, Result, OnOk, OnErr, IsErrOf}
+use Rattle.site_ids.specs.declared.TheConstants.{MAX_RECORD}
+use Rattle.site_disk.specs.Model.{DiskState, LeavesOnly}
+use Rattle.acceptor.specs.Steps.{with_promise, with_vote}
+use Rattle.durable.specs.Append.{IsOpenAt}
+use Rattle.durable.specs.Entries.{Entry, Round, Promised, Voted, round_after, round_in}
+use Rattle.durable.specs.Histories.{MayFollow}
+use Rattle.durable.specs.Spelling.{block, behind_gate}
+use Rattle.durable.specs.Keeping.{IsFound, Keeps}
+use Rattle.durable.specs.Reading.{IsKept}
+use Rattle.durable.specs.Ready.{IsStored, IsReady, IsUnchanged}
+use Rattle.durable.specs.Slots.{slot_at}
+use Rattle.durable.specs.declared.fault.RecordFault.{RecordFault}
+use Rattle.durable.specs.declared.fault.RecordFault.TheVariants.{Device, OutOfMemory, Full, Stopped}
+use Rattle.durable.specs.declared.record.Record.{Record}
+use Rattle.durable.specs.declared.recorded.Recorded.{Recorded}
+use Rattle.durable.specs.declared.slots.Slots.{Slots}
+
+-- every slot is as before
+abbrev pub AreSlotsKept : Slots → Slots → Type 0
+AreSlotsKept old new = (i : ℕ) → slot_at new i ≡ slot_at old i
+
+-- every other slot is
+abbrev pub AreOthersKept : ℕ → Slots → Slots → Type 0
+AreOthersKept j old new = (i : ℕ) → i ≢ j → slot_at new i ≡ slot_at old i
+
+-- the slots after one entry more
+abbrev pub AreSlotsAfter : Entry → Slots → Slots → Type 0
+AreSlotsAfter (Round r) old new = AreSlotsKept old new
+AreSlotsAfter (Promised j b) old new = (slot_at new j ≡ with_promise (slot_at old j) b) × AreOthersKept j old new
+AreSlotsAfter (Voted j b v) old new = (slot_at new j ≡ with_vote b v) × AreOthersKept j old new
+
+-- what is kept in memory after one entry more
+pub record Remembers (old new : Recorded) (entry : Entry) : Type 0 where
+  pub round : new.round ≡ round_after old.round (entry ∷ [])
+  pub greatest : new.greatest ≡ max old.greatest (round_in entry)
+  pub slots : AreSlotsAfter entry old.slots new.slots
+
+-- what is kept in memory is as before
+pub record IsMemoryKept (old new : Recorded) : Type 0 where
+  pub round : new.round ≡ old.round
+  pub greatest : new.greatest ≡ old.greatest
+  pub slots : AreSlotsKept old.slots new.slots
+
+-- The bytes were appended behind the gate. Where they are an entry's, the file stands for it too, after two writes and two syncs, and a crash at
+-- any moment since then leaves the entries, with it or without it.
+abbrev pub Appends : {D : Type 0} → (D → DiskState → Type 0) → Record D → Record D → List ℕ → Type 0
+Appends stands_for old new bytes = (d : DiskState) (entries : List Entry) (entry : Entry) → IsStored stands_for old d entries → MayFollow old.cluster entries entry → bytes ≡ behind_gate entry
+    → (e : DiskState) × IsStored stands_for new e (entries ++ entry ∷ []) × LeavesOnly d e (IsFound old.node old.cluster entries (Some entry))
+    × (length e.past ≡ 4 + length d.past) × IsOpenAt old.recorded.gate d.seen (behind_gate entry) e.seen
+
+-- An append of the bytes was cut short. Where they are an entry's, it is in flight.
+abbrev pub BreaksOff : {D : Type 0} → (D → DiskState → Type 0) → Record D → Record D → List ℕ → Type 0
+BreaksOff stands_for old new bytes = (d : DiskState) (entries : List Entry) (entry : Entry) → IsStored stands_for old d entries → MayFollow old.cluster entries entry → bytes ≡ behind_gate entry
+    → (e : DiskState) × stands_for new.disk e × LeavesOnly d e (IsFound old.node old.cluster entries (Some entry)) × Keeps old.node old.cluster entries (Some entry) e
+
+-- A put of the entry has succeeded, over any disk: the record runs and keeps the entry in memory, and no call of the disk has failed.
+pub record IsPut {D : Type 0} (failed : D → ℕ) (old new : Record D) (entry : Entry) : Type 0 where
+  pub follows : (entries : List Entry) → IsKept entries old.recorded → MayFollow old.cluster entries entry
+  pub remembers : Remembers old.recorded new.recorded entry
+  pub kept : (entries : List Entry) → IsKept entries old.recorded → IsKept (entries ++ entry ∷ []) new.recorded
+  pub gate : new.recorded.gate ≡ old.recorded.gate + length (block entry)
+  pub running : new.stopped ≡ false
+  pub none_failed : failed new.disk ≡ failed old.disk
+
+-- A put of the entry has succeeded: the record is ready with one entry more, after two writes and two syncs; at the gate stand the entry and the
+-- next closed gate. A crash at any moment since then leaves the entries, with the new one or without it.
+abbrev pub Acknowledges : {D : Type 0} → (D → DiskState → Type 0) → Record D → Record D → Entry → Type 0
+Acknowledges stands_for old new entry = (d : DiskState) (entries : List Entry) → IsReady stands_for old d entries
+    → (e : DiskState) × IsReady stands_for new e (entries ++ entry ∷ []) × LeavesOnly d e (IsFound old.node old.cluster entries (Some entry))
+    × (length e.past ≡ 4 + length d.past) × IsOpenAt old.recorded.gate d.seen (behind_gate entry) e.seen
+
+-- A put of the entry has failed by the device: the entry is in flight. A crash at any moment since then leaves the entries with it or without it,
+-- and so does none.
+abbrev pub LeavesInFlight : {D : Type 0} → (D → DiskState → Type 0) → Record D → Record D → Entry → Type 0
+LeavesInFlight stands_for old new entry = (d : DiskState) (entries : List Entry) → IsReady stands_for old d entries
+    → (e : DiskState) × stands_for new.disk e × LeavesOnly d e (IsFound old.node old.cluster entries (Some entry)) × Keeps old.node old.cluster entries (Some entry) e
+
+-- A put of the entry was cut short by the device, whose failure is counted: the record stops, and the entry is in flight.
+pub record IsCutShort {D : Type 0} (stands_for : D → DiskState → Type 0) (failed : D → ℕ) (old new : Record D) (entry : Entry) : Type 0 where
+  pub follows : (entries : List Entry) → IsKept entries old.recorded → MayFollow old.cluster entries entry
+  pub stops : new.stopped ≡ true
+  pub counted : (failed old.disk < failed new.disk) ⊎ (failed old.disk ≡ 2 ^ 64 - 1)
+  pub in_flight : LeavesInFlight stands_for old new entry
+
+-- the file would pass its limit with the entry
+abbrev pub IsFullFor : {D : Type 0} → Record D → Entry → Type 0
+IsFullFor store entry = MAX_RECORD < store.recorded.gate + 1 + length (behind_gate entry)
+
+-- A put of the entry. Stopped comes before Full, Full before want of memory, and that before any write.
+pub record Puts {D : Type 0} (stands_for : D → DiskState → Type 0) (failed : D → ℕ) (old new : Record D) (entry : Entry) (result : Result (Unit {0}) RecordFault) : Type 0 where
+  pub put : OnOk result (IsPut failed old new entry)
+  pub acknowledged : OnOk result (Acknowledges stands_for old new entry)
+  pub cut_short : IsErrOf result Device → IsCutShort stands_for failed old new entry
+  pub was_stopped : IsErrOf result Stopped ↔ (old.stopped ≡ true)
+  pub full : IsErrOf result Full ↔ ((old.stopped ≡ false) × IsFullFor old entry)
+  pub others : OnErr result (IsErrOf result Device ⊎ ((IsErrOf result Stopped ⊎ (IsErrOf result Full ⊎ IsErrOf result OutOfMemory)) × IsUnchanged old new))
+  pub kept : OnErr result (IsMemoryKept old.recorded new.recorded)
+  pub whose : (new.node ≡ old.node) × (new.cluster ≡ old.cluster)
