@@ -15,6 +15,3 @@ mod spelling;
 pub use fault::RecordFault;
 pub use laws::{files_stand_for_one_list, in_flight_settles, kept_records_open};
 pub use record::Record;
-
-#[cfg(test)]
-mod tests;

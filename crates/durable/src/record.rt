@@ -119,6 +119,13 @@ impl<D: Disk> Record<D> {
         }
     }
 
+    /// The cluster whose ballots it takes.
+    pub fn cluster(&self) -> Cluster
+        ensures { result ≡ self.now.cluster }
+    {
+        self.cluster
+    }
+
     /// The last round, 0 where there is none.
     pub fn round(&self) -> u32
         ensures { result ≡ self.now.recorded.round }
