@@ -18,6 +18,7 @@ struct Told {
 /// A set of votes.
 #[derive(Debug, Drop)]
 pub struct Learner {
+    alloc: Global,
     cluster: Cluster,
     /// By instance, each vote once.
     votes: BTreeMap<u32, Vec<Told>>,
@@ -29,6 +30,7 @@ impl Learner {
         ensures none { (t : Tally) → ¬ IsTold result t }
     {
         Learner {
+            alloc,
             cluster,
             votes: BTreeMap::new(alloc),
         }
@@ -37,7 +39,6 @@ impl Learner {
     /// Adds a vote, and gives its value where the votes for it at that ballot are then a majority's.
     pub fn on_accepted(
         &mut self,
-        alloc: Global,
         from: NodeId,
         instance: Instance,
         ballot: Ballot,
@@ -49,11 +50,11 @@ impl Learner {
         ensures refused { OnErr result ((t : Tally) → IsTold self.new t ↔ IsTold self.old t) }
     {
         let chosen = if self.completes(from, instance, ballot, value) {
-            Some(Value::copied_from(alloc, value)?)
+            Some(Value::copied_from(self.alloc, value)?)
         } else {
             None
         };
-        self.add(alloc, from, instance, ballot, value)?;
+        self.add(from, instance, ballot, value)?;
         Ok(chosen)
     }
 
@@ -92,7 +93,6 @@ impl Learner {
     // A vote that is there is not added again.
     fn add(
         &mut self,
-        alloc: Global,
         from: NodeId,
         instance: Instance,
         ballot: Ballot,
@@ -108,9 +108,9 @@ impl Learner {
         let vote = Told {
             voter: from,
             ballot,
-            value: Value::copied_from(alloc, value)?,
+            value: Value::copied_from(self.alloc, value)?,
         };
-        push_at(alloc, &mut self.votes, instance.number(), vote)
+        push_at(self.alloc, &mut self.votes, instance.number(), vote)
     }
 }
 

@@ -93,7 +93,7 @@ fn votes_at_one_ballot_make_a_value_known(rt: HostRuntime) -> Result<(), Fail> {
         let voter = node_of(five, voter)?;
         let at = ballot(round, node)?;
         assert_eq!(rt; learner.completes(voter, first, at, bytes), known);
-        match learner.on_accepted(alloc, voter, first, at, bytes)? {
+        match learner.on_accepted(voter, first, at, bytes)? {
             Some(value) => assert!(rt; known && value.as_bytes() == bytes.as_slice()),
             None => assert!(rt; !known),
         }

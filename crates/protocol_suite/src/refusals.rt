@@ -92,11 +92,11 @@ fn votes(rt: HostRuntime) -> Result<(), Fail> {
     let mut learner = Learner::new(alloc, three);
     for (voter, completes) in [(1, false), (2, true)] {
         let voter = node_of(three, voter)?;
-        let known = match learner.on_accepted(alloc, voter, first, low, b"v") {
+        let known = match learner.on_accepted(voter, first, low, b"v") {
             Ok(known) => known,
             Err(_) => {
                 assert_eq!(rt; learner.completes(voter, first, low, b"v"), completes);
-                learner.on_accepted(alloc, voter, first, low, b"v")?
+                learner.on_accepted(voter, first, low, b"v")?
             }
         };
         assert_eq!(rt; known.is_some(), completes);
