@@ -12,7 +12,7 @@ use Rattle.site_ids.specs.declared.value.Vote.{Vote}
 use Rattle.site_ids.proofs.MemberLemmas.{in_push, distinct_push}
 use Rattle.proposer.specs.declared.attempt.OpenAttempt.{OpenAttempt}
 use Rattle.proposer.specs.Attempts.{Attempt, Answer, senders, Chooses, Counts, with_answer, waiting, proposing}
-use Rattle.proposer.specs.Best.{IsBest, Exceeds, value_by}
+use Rattle.proposer.specs.Best.{IsBest, Exceeds, value_by, replacing}
 use Rattle.proposer.specs.Standing.{StandsFor}
 use Rattle.proposer.proofs.BestLemmas.{best_chooses, exceeds_or_not, best_kept, best_taken}
 
@@ -23,6 +23,21 @@ pub record KeepsPromise (old new : OpenAttempt) (q : ℕ) (prior : Option Vote) 
   pub promised : new.promised.items ≡ old.promised.items ++ q ∷ []
   pub higher : Exceeds prior old.best → new.best ≡ prior
   pub lower : ¬ Exceeds prior old.best → new.best ≡ old.best
+
+-- it is so where the vote takes the place of the best one just where it exceeds it
+pub keeps_better : (old new : OpenAttempt) (q : ℕ) (prior better : Option Vote) → new.ballot ≡ old.ballot → new.own ≡ old.own → new.promised.items ≡ old.promised.items ++ q ∷ []
+    → (Exceeds prior old.best → better ≡ prior) → (¬ Exceeds prior old.best → better ≡ None) → new.best ≡ replacing better old.best → KeepsPromise old new q prior
+keeps_better old new q prior better ballot own promised higher lower best = record {
+  ballot = ballot;
+  own = own;
+  promised = promised;
+  higher = λ above. best ∙ ap (λ (v : Option Vote). replacing v old.best) (higher above) ∙ there prior old.best above;
+  lower = λ below. best ∙ ap (λ (v : Option Vote). replacing v old.best) (lower below);
+}
+  where
+    there : (prior best : Option Vote) → Exceeds prior best → replacing prior best ≡ prior
+    there None best above = absurd above
+    there (Some vote) best above = refl
 
 senders_with : (a : Attempt) (q : ℕ) (prior : Option Vote) → senders (with_answer a q prior) ≡ senders a.answers ++ q ∷ []
 senders_with a q prior = map-append (λ (x : Answer). x.sender) a.answers (record { sender = q; prior = prior } ∷ [])
@@ -68,20 +83,10 @@ waits n old new a q prior h is first c open_yet same =
     stands_after n old new a q prior a.proposal h is first c
     (h.proposal ∙ ap (λ (t : Bool). if t then Some (value_by old.own old.best) else None) open_yet ∙ sym (ap (λ (t : Bool). if t then Some (value_by new.own new.best) else None) (same ∙ open_yet)))
 
--- the value chosen, by the better of the two votes
-chosen_is : (old new : OpenAttempt) (q : ℕ) (prior : Option Vote) (v : List ℕ) → KeepsPromise old new q prior → (Exceeds prior old.best → v ≡ value_by old.own prior)
-    → (¬ Exceeds prior old.best → v ≡ value_by old.own old.best) → v ≡ value_by new.own new.best
-chosen_is old new q prior v c higher lower =
-    ⊎_elim
-    (λ above. higher above ∙ sym (ap (λ (o : List ℕ). value_by o new.best) c.own ∙ ap (value_by old.own) (c.higher above)))
-    (λ below. lower below ∙ sym (ap (λ (o : List ℕ). value_by o new.best) c.own ∙ ap (value_by old.own) (c.lower below)))
-    (exceeds_or_not prior old.best)
-
 pub proposes : (n : ℕ) (old new : OpenAttempt) (a : Attempt) (q : ℕ) (prior : Option Vote) (v : List ℕ) → StandsFor n old a → IsNode n q → ¬ In (senders a.answers) q → KeepsPromise old new q prior
-    → n / 2 + 1 ≤ length old.promised.items + 1 → (Exceeds prior old.best → v ≡ value_by old.own prior) → (¬ Exceeds prior old.best → v ≡ value_by old.own old.best) → new.proposed ≡ true
+    → n / 2 + 1 ≤ length old.promised.items + 1 → v ≡ value_by new.own new.best → new.proposed ≡ true
     → Majority n (senders (with_answer a q prior)) × Chooses a.own (with_answer a q prior) v × StandsFor n new (proposing a q prior v)
-proposes n old new a q prior v h is first c enough higher lower made =
-    let chosen = chosen_is old new q prior v c higher lower in
+proposes n old new a q prior v h is first c enough chosen made =
     let after = stands_after n old new a q prior (Some v) h is first c (ap Some chosen ∙ sym (ap (λ (t : Bool). if t then Some (value_by new.own new.best) else None) made)) in (
       record { distinct = after.distinct; nodes = after.nodes; enough = omega (arith, senders_length n old a q prior h) },
       subst (λ (w : List ℕ). Chooses a.own (with_answer a q prior) w) (ap (λ (o : List ℕ). value_by o new.best) (sym after.own) ∙ sym chosen) (best_chooses a.own (with_answer a q prior) new.best after.best),

@@ -1,5 +1,7 @@
 -- The highest vote told.
 use Rattle.std.specs.Prelude.{◌≡◌, ℕ, List, Option, Some, None, ⊤}
+use Rattle.std.proofs.Common.{Bor}
+use Rattle.std.specs.Option.{option_map}
 use Rattle.site_ids.specs.Ids.{Below, NotAbove}
 use Rattle.site_ids.specs.Majorities.{In}
 use Rattle.site_ids.specs.declared.value.Vote.{Vote}
@@ -21,3 +23,12 @@ Exceeds (Some vote) (Some best) = Below best.ballot vote.ballot
 abbrev pub value_by : List ℕ → Option Vote → List ℕ
 value_by own None = own
 value_by own (Some best) = best.value
+
+-- a vote in the place of another, where there is one
+abbrev pub replacing : Option Vote → Option Vote → Option Vote
+replacing None best = best
+replacing (Some vote) best = Some vote
+
+-- the vote that a promise told
+abbrev pub vote_told : Option (Bor Vote) → Option Vote
+vote_told prior = option_map (λ vote. vote.now) prior

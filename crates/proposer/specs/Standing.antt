@@ -1,6 +1,6 @@
 -- Which attempts a proposer stands for: it keeps of the answers their senders and the best vote told.
-use Rattle.std.specs.Prelude.{◌≡◌, ◌⊎◌, ℕ, List, Option, Some, None, Result, Ok, Err, ⊤, if◌then◌else◌}
-use Rattle.std.specs.BTreeMap.{get}
+use Rattle.std.specs.Prelude.{◌≡◌, ◌⊎◌, ℕ, List, Option, Some, None, Result, Ok, Err, ⊤, IsSome, unwrap_or, if◌then◌else◌}
+use Rattle.std.specs.BTreeMap.{BTreeMap, get}
 use Rattle.std.specs.Ordering.{nat_cmp}
 use Rattle.std.specs.declared.alloc.AllocError.{AllocError}
 use Rattle.site_ids.specs.Ids.{IsNode, BallotOf}
@@ -31,9 +31,17 @@ StandsForAny n None (Some a) = ⊥
 StandsForAny n (Some kept) None = ⊥
 StandsForAny n (Some kept) (Some a) = StandsFor n kept a
 
+-- what is kept of the attempt at an instance
+abbrev pub attempt_at : BTreeMap ℕ (Option OpenAttempt) → ℕ → Option OpenAttempt
+attempt_at attempts i = unwrap_or (get nat_cmp attempts i) None
+
+-- there is room for an attempt at an instance
+abbrev pub HasRoom : Proposer → ℕ → Type 0
+HasRoom proposer i = IsSome (get nat_cmp proposer.attempts i)
+
 -- the proposer's attempts, by instance
 abbrev pub Attempting : Proposer → (ℕ → Option Attempt) → Type 0
-Attempting proposer attempts = (i : ℕ) → StandsForAny proposer.cluster (get nat_cmp proposer.attempts i) (attempts i)
+Attempting proposer attempts = (i : ℕ) → StandsForAny proposer.cluster (attempt_at proposer.attempts i) (attempts i)
 
 -- what an attempt's answer to a promise is: none where it doesn't count or leaves it waiting, the value that it proposes by it,
 -- or want of memory, which changes nothing

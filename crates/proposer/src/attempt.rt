@@ -1,10 +1,10 @@
 //! One attempt, and the promises of its ballot.
 
-ghost use Rattle.std.specs.Prelude.{◌≡◌, ◌↔◌, ◌<◌, ◌++◌, [], ◌∷◌, IfOk, IsTrue, vec_len, vec_capacity};
+ghost use Rattle.std.specs.Prelude.{◌≡◌, ◌↔◌, ◌<◌, ◌++◌, [], ◌∷◌, IfOk, IsTrue, None, Some, vec_len, vec_capacity};
 ghost use Rattle.site_ids.specs.Ids.{IsNode};
 ghost use Rattle.site_ids.specs.Majorities.{In};
 ghost use Rattle.proposer.specs.Attempts.{Attempt};
-ghost use Rattle.proposer.specs.Best.{Exceeds, value_by};
+ghost use Rattle.proposer.specs.Best.{Exceeds, value_by, replacing, vote_told};
 ghost use Rattle.proposer.specs.Standing.{StandsFor, Answered};
 
 use site_ids::{Ballot, Cluster, NodeId, Value, Vote};
@@ -31,34 +31,44 @@ impl OpenAttempt {
         cluster: Cluster,
         from: NodeId,
         ballot: Ballot,
-        prior: Option<Vote>,
+        prior: Option<&Vote>,
     ) -> Result<Option<Value>, AllocError>
         requires { IsNode cluster from }
-        ensures { (a : Attempt) → StandsFor cluster self.old a → Answered cluster a from ballot prior result self.new }
+        ensures { (a : Attempt) → StandsFor cluster self.old a → Answered cluster a from ballot (vote_told prior.entry) result self.new }
     {
         if ballot != self.ballot || self.proposed || self.has_promise_of(from) {
             return Ok(None);
         }
         self.promised.reserve(1)?;
+        let better = self.better(alloc, prior)?;
         if self.promised.len() + 1 < cluster.quorum() as usize {
-            self.count(from, prior);
+            self.count(from, better);
             return Ok(None);
         }
-        let value = self.choice(alloc, &prior)?;
-        self.count(from, prior);
+        let value = self.choice(alloc, &better)?;
+        self.count(from, better);
         self.proposed = true;
         Ok(Some(value))
     }
 
-    /// The value to propose with another vote told, or none.
-    fn choice(&self, alloc: Global, prior: &Option<Vote>) -> Result<Value, AllocError>
-        ensures higher { IfOk result (λ v. Exceeds prior.now self.now.best → v ≡ value_by self.now.own prior.now) }
-        ensures lower { IfOk result (λ v. ¬ Exceeds prior.now self.now.best → v ≡ value_by self.now.own self.now.best) }
+    /// A copy of the vote told, where its ballot is higher than those of all told before.
+    fn better(&self, alloc: Global, prior: Option<&Vote>) -> Result<Option<Vote>, AllocError>
+        ensures higher { IfOk result (λ better. Exceeds (vote_told prior.entry) self.now.best → better ≡ vote_told prior.entry) }
+        ensures lower { IfOk result (λ better. ¬ Exceeds (vote_told prior.entry) self.now.best → better ≡ None) }
     {
-        if exceeds(prior, &self.best) {
-            proposed_value(&self.own, prior).try_clone(alloc)
-        } else {
-            proposed_value(&self.own, &self.best).try_clone(alloc)
+        match prior {
+            Some(vote) if exceeds(vote, &self.best) => Ok(Some(vote.try_clone(alloc)?)),
+            _ => Ok(None),
+        }
+    }
+
+    /// The value to propose with this vote in the place of the best one, or with the best one where there is none.
+    fn choice(&self, alloc: Global, better: &Option<Vote>) -> Result<Value, AllocError>
+        ensures { IfOk result (λ v. v ≡ value_by self.now.own (replacing better.now self.now.best)) }
+    {
+        match better {
+            Some(vote) => vote.value.try_clone(alloc),
+            None => proposed_value(&self.own, &self.best).try_clone(alloc),
         }
     }
 
@@ -68,19 +78,18 @@ impl OpenAttempt {
         self.promised.contains(&from)
     }
 
-    /// Keeps a promise for which there is room.
-    fn count(&mut self, from: NodeId, prior: Option<Vote>)
+    /// Keeps a promise for which there is room, and a vote in the place of the best one.
+    fn count(&mut self, from: NodeId, better: Option<Vote>)
         requires { vec_len self.old.promised < vec_capacity self.old.promised }
         ensures ballot { self.new.ballot ≡ self.old.ballot }
         ensures own { self.new.own ≡ self.old.own }
         ensures proposed { self.new.proposed ≡ self.old.proposed }
         ensures promised { self.new.promised.items ≡ self.old.promised.items ++ from ∷ [] }
-        ensures higher { Exceeds prior self.old.best → self.new.best ≡ prior }
-        ensures lower { ¬ Exceeds prior self.old.best → self.new.best ≡ self.old.best }
+        ensures best { self.new.best ≡ replacing better self.old.best }
     {
         self.promised.push_reserved(from);
-        if exceeds(&prior, &self.best) {
-            self.best = prior;
+        if better.is_some() {
+            self.best = better;
         }
     }
 }
@@ -95,12 +104,11 @@ pub(crate) fn proposed_value<'a>(own: &'a Value, best: &'a Option<Vote>) -> &'a 
     }
 }
 
-fn exceeds(prior: &Option<Vote>, best: &Option<Vote>) -> bool
-    ensures { IsTrue result ↔ Exceeds prior.now best.now }
+fn exceeds(vote: &Vote, best: &Option<Vote>) -> bool
+    ensures { IsTrue result ↔ Exceeds (Some vote.now) best.now }
 {
-    match (prior, best) {
-        (None, _) => false,
-        (Some(_), None) => true,
-        (Some(vote), Some(best)) => best.ballot < vote.ballot,
+    match best {
+        None => true,
+        Some(best) => best.ballot < vote.ballot,
     }
 }

@@ -4,7 +4,8 @@ ghost use Rattle.site_ids.specs.Ids.{IsNode};
 ghost use Rattle.site_ids.specs.Maps.{put_at};
 ghost use Rattle.proposer.specs.declared.fault.ProposerFault.TheVariants.{RoundsUsedUp};
 ghost use Rattle.proposer.specs.Attempts.{Attempt, opened, latest};
-ghost use Rattle.proposer.specs.Standing.{Attempting, Promised};
+ghost use Rattle.proposer.specs.Standing.{Attempting, HasRoom, Promised};
+ghost use Rattle.proposer.specs.Best.{vote_told};
 
 use crate::ProposerFault;
 use crate::attempt::{OpenAttempt, proposed_value};
@@ -24,12 +25,13 @@ pub struct Proposal {
 /// The open attempts of a node.
 #[derive(Debug, Drop)]
 pub struct Proposer {
+    alloc: Global,
     cluster: Cluster,
     me: NodeId,
     /// The greatest round that a nack told, or 0.
     heard: u32,
-    /// By instance.
-    attempts: BTreeMap<u32, OpenAttempt>,
+    /// By instance. None where room was made for one.
+    attempts: BTreeMap<u32, Option<OpenAttempt>>,
 }
 
 impl Proposer {
@@ -40,6 +42,7 @@ impl Proposer {
         ensures none { Attempting result (λ i. None) }
     {
         Proposer {
+            alloc,
             cluster,
             me,
             heard: 0,
@@ -61,11 +64,39 @@ impl Proposer {
         }
     }
 
-    /// Opens an attempt, in place of one at that instance. A node gives a ballot of its own, of a round above those of
-    /// all its earlier attempts, and keeps at most `MAX_ATTEMPTS` open; nothing here rests on either.
+    /// Makes room for an attempt at an instance, which changes none of them.
+    pub fn make_room(&mut self, instance: Instance) -> Result<(), AllocError>
+        ensures same { (self.new.cluster ≡ self.old.cluster) × (self.new.me ≡ self.old.me) × (self.new.heard ≡ self.old.heard) }
+        ensures stays { (attempts : ℕ → Option Attempt) → Attempting self.old attempts → Attempting self.new attempts }
+        ensures room { OnOk result (HasRoom self.new instance) }
+    {
+        if self.attempts.get(&instance.number()).is_none() {
+            self.attempts.insert(instance.number(), None)?;
+        }
+        Ok(())
+    }
+
+    /// Opens an attempt where room was made, in place of one at that instance. It takes no memory. A node gives a ballot
+    /// of its own, of a round above those of all its earlier attempts, and keeps at most `MAX_ATTEMPTS` open; nothing
+    /// here rests on either.
+    pub fn open(&mut self, instance: Instance, ballot: Ballot, own: Value)
+        requires { HasRoom self.old instance }
+        ensures same { (self.new.cluster ≡ self.old.cluster) × (self.new.me ≡ self.old.me) × (self.new.heard ≡ self.old.heard) }
+        ensures opened { (attempts : ℕ → Option Attempt) → Attempting self.old attempts → Attempting self.new (put_at attempts instance (Some (opened ballot own))) }
+    {
+        let attempt = OpenAttempt {
+            ballot,
+            own,
+            promised: Vec::new(self.alloc),
+            best: None,
+            proposed: false,
+        };
+        let _ = self.attempts.insert(instance.number(), Some(attempt));
+    }
+
+    /// Makes room for an attempt of a copy of the value, and opens it.
     pub fn start(
         &mut self,
-        alloc: Global,
         instance: Instance,
         ballot: Ballot,
         own: &[u8],
@@ -74,33 +105,30 @@ impl Proposer {
         ensures ok { OnOk result ((attempts : ℕ → Option Attempt) → Attempting self.old attempts → Attempting self.new (put_at attempts instance (Some (opened ballot own.now)))) }
         ensures err { OnErr result ((attempts : ℕ → Option Attempt) → Attempting self.old attempts → Attempting self.new attempts) }
     {
-        let attempt = OpenAttempt {
-            ballot,
-            own: Value::copied_from(alloc, own)?,
-            promised: Vec::new(alloc),
-            best: None,
-            proposed: false,
-        };
-        self.attempts.insert(instance.number(), attempt)?;
+        let own = Value::copied_from(self.alloc, own)?;
+        self.make_room(instance)?;
+        self.open(instance, ballot, own);
         Ok(())
     }
 
-    /// Takes a promise of one of the cluster's nodes, and gives the proposal where it makes a majority of an open
-    /// attempt's ballot.
+    /// Takes a promise of one of the cluster's nodes, with the vote that it told, and gives the proposal where it makes
+    /// a majority of an open attempt's ballot.
     pub fn on_promise(
         &mut self,
-        alloc: Global,
         from: NodeId,
         instance: Instance,
         ballot: Ballot,
-        prior: Option<Vote>,
+        prior: Option<&Vote>,
     ) -> Result<Option<Proposal>, ProposerFault>
         requires { IsNode self.old.cluster from }
         ensures same { (self.new.cluster ≡ self.old.cluster) × (self.new.me ≡ self.old.me) × (self.new.heard ≡ self.old.heard) }
-        ensures step { (attempts : ℕ → Option Attempt) → Attempting self.old attempts → Promised self.old.cluster attempts from instance ballot prior result self.new }
+        ensures step { (attempts : ℕ → Option Attempt) → Attempting self.old attempts → Promised self.old.cluster attempts from instance ballot (vote_told prior.entry) result self.new }
     {
-        let cluster = self.cluster;
-        let Some(attempt) = self.attempts.get_mut(&instance.number()) else {
+        let (alloc, cluster) = (self.alloc, self.cluster);
+        let Some(place) = self.attempts.get_mut(&instance.number()) else {
+            return Ok(None);
+        };
+        let Some(attempt) = place else {
             return Ok(None);
         };
         match attempt.on_promise(alloc, cluster, from, ballot, prior)? {
@@ -121,10 +149,10 @@ impl Proposer {
     }
 
     /// The latest message of the attempt at an instance, if one is open.
-    pub fn resend(&self, alloc: Global, instance: Instance) -> Result<Option<Message>, AllocError>
+    pub fn resend(&self, instance: Instance) -> Result<Option<Message>, AllocError>
         ensures { (attempts : ℕ → Option Attempt) → Attempting self.now attempts → IfOk result (λ message. message ≡ option_map (λ a. latest self.now.me instance a.ballot a.proposal) (attempts instance)) }
     {
-        let Some(attempt) = self.attempts.get(&instance.number()) else {
+        let Some(Some(attempt)) = self.attempts.get(&instance.number()) else {
             return Ok(None);
         };
         if !attempt.proposed {
@@ -134,13 +162,23 @@ impl Proposer {
                 ballot: attempt.ballot,
             }));
         }
-        let value = proposed_value(&attempt.own, &attempt.best).try_clone(alloc)?;
+        let value = proposed_value(&attempt.own, &attempt.best).try_clone(self.alloc)?;
         Ok(Some(Message::Propose {
             from: self.me,
             instance,
             ballot: attempt.ballot,
             value,
         }))
+    }
+
+    /// The own value of the attempt at an instance, if one is open.
+    pub fn own_value(&self, instance: Instance) -> Option<&Value>
+        ensures { (attempts : ℕ → Option Attempt) → Attempting self.now attempts → option_map (λ v. v.now) result ≡ option_map (λ a. a.own) (attempts instance) }
+    {
+        match self.attempts.get(&instance.number()) {
+            Some(Some(attempt)) => Some(&attempt.own),
+            _ => None,
+        }
     }
 
     /// Closes the attempt at an instance, if one is open.

@@ -17,14 +17,14 @@ fn the_highest_prior_is_proposed_once(rt: HostRuntime) -> Result<(), Fail> {
     let high = voted(alloc, ballot(2, 3)?, b"Q")?;
     let second = voted(alloc, ballot(2, 5)?, b"R")?;
     let mut proposer = Proposer::new(alloc, five, node_of(five, 1)?);
-    proposer.start(alloc, instance(7)?, own, b"X")?;
-    assert!(rt; promised(alloc, &mut proposer, five, 2, own, low)?.is_none());
-    assert!(rt; promised(alloc, &mut proposer, five, 4, own, high)?.is_none());
-    assert!(rt; promised(alloc, &mut proposer, five, 2, own, second)?.is_none());
-    let third = promised(alloc, &mut proposer, five, 1, own, None)?;
+    proposer.start(instance(7)?, own, b"X")?;
+    assert!(rt; promised(&mut proposer, five, 2, own, low.as_ref())?.is_none());
+    assert!(rt; promised(&mut proposer, five, 4, own, high.as_ref())?.is_none());
+    assert!(rt; promised(&mut proposer, five, 2, own, second.as_ref())?.is_none());
+    let third = promised(&mut proposer, five, 1, own, None)?;
     assert!(rt; is_proposal(&third, instance(7)?, own, b"Q"));
-    assert!(rt; promised(alloc, &mut proposer, five, 5, own, None)?.is_none());
-    assert!(rt; is_propose(&proposer.resend(alloc, instance(7)?)?, own, b"Q"));
+    assert!(rt; promised(&mut proposer, five, 5, own, None)?.is_none());
+    assert!(rt; is_propose(&proposer.resend(instance(7)?)?, own, b"Q"));
     Ok(())
 }
 
@@ -34,13 +34,15 @@ fn promises_of_another_ballot_count_for_nothing(rt: HostRuntime) -> Result<(), F
     let three = cluster_of(3)?;
     let own = ballot(3, 1)?;
     let mut proposer = Proposer::new(alloc, three, node_of(three, 1)?);
-    assert!(rt; proposer.resend(alloc, instance(7)?)?.is_none());
-    proposer.start(alloc, instance(7)?, own, b"X")?;
-    assert!(rt; promised(alloc, &mut proposer, three, 1, own, None)?.is_none());
-    assert!(rt; promised(alloc, &mut proposer, three, 2, ballot(2, 1)?, None)?.is_none());
-    assert!(rt; is_prepare(&proposer.resend(alloc, instance(7)?)?, own));
+    assert!(rt; proposer.resend(instance(7)?)?.is_none());
+    proposer.start(instance(7)?, own, b"X")?;
+    assert!(rt; promised(&mut proposer, three, 1, own, None)?.is_none());
+    assert!(rt; promised(&mut proposer, three, 2, ballot(2, 1)?, None)?.is_none());
+    assert!(rt; is_prepare(&proposer.resend(instance(7)?)?, own));
+    assert!(rt; proposer.own_value(instance(7)?).is_some_and(|own| own.as_bytes() == b"X"));
     proposer.abandon(instance(7)?);
-    assert!(rt; proposer.resend(alloc, instance(7)?)?.is_none());
+    assert!(rt; proposer.own_value(instance(7)?).is_none());
+    assert!(rt; proposer.resend(instance(7)?)?.is_none());
     Ok(())
 }
 
@@ -50,12 +52,12 @@ fn the_own_value_where_no_prior_is_told(rt: HostRuntime) -> Result<(), Fail> {
     let three = cluster_of(3)?;
     let mut proposer = Proposer::new(alloc, three, node_of(three, 2)?);
     let own = ballot(11, 2)?;
-    proposer.start(alloc, instance(7)?, ballot(10, 2)?, b"before")?;
-    assert!(rt; promised(alloc, &mut proposer, three, 1, ballot(10, 2)?, None)?.is_none());
+    proposer.start(instance(7)?, ballot(10, 2)?, b"before")?;
+    assert!(rt; promised(&mut proposer, three, 1, ballot(10, 2)?, None)?.is_none());
     // A later attempt stands in its place, and begins anew.
-    proposer.start(alloc, instance(7)?, own, b"own")?;
-    assert!(rt; promised(alloc, &mut proposer, three, 2, own, None)?.is_none());
-    let second = promised(alloc, &mut proposer, three, 1, own, None)?;
+    proposer.start(instance(7)?, own, b"own")?;
+    assert!(rt; promised(&mut proposer, three, 2, own, None)?.is_none());
+    let second = promised(&mut proposer, three, 1, own, None)?;
     assert!(rt; is_proposal(&second, instance(7)?, own, b"own"));
     Ok(())
 }

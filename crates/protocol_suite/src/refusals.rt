@@ -52,12 +52,11 @@ fn tried_again(
 {
     let from = node_of(cluster, number)?;
     let vote = voted(alloc, ballot(1, 3)?, prior)?;
-    match proposer.on_promise(alloc, from, instance(7)?, own, vote) {
+    match proposer.on_promise(from, instance(7)?, own, vote.as_ref()) {
         Ok(proposal) => Ok(proposal),
         Err(ProposerFault::RoundsUsedUp) => Err(Fail::from("another fault")),
         Err(ProposerFault::OutOfMemory) => {
-            let vote = voted(alloc, ballot(1, 3)?, prior)?;
-            Ok(proposer.on_promise(alloc, from, instance(7)?, own, vote)?)
+            Ok(proposer.on_promise(from, instance(7)?, own, vote.as_ref())?)
         }
     }
 }
@@ -68,16 +67,16 @@ fn proposals(rt: HostRuntime) -> Result<(), Fail> {
     let three = cluster_of(3)?;
     let own = ballot(2, 1)?;
     let mut proposer = Proposer::new(alloc, three, node_of(three, 1)?);
-    if proposer.start(alloc, instance(7)?, own, b"own").is_err() {
-        assert!(rt; proposer.resend(alloc, instance(7)?)?.is_none());
-        proposer.start(alloc, instance(7)?, own, b"own")?;
+    if proposer.start(instance(7)?, own, b"own").is_err() {
+        assert!(rt; proposer.resend(instance(7)?)?.is_none());
+        proposer.start(instance(7)?, own, b"own")?;
     }
     assert!(rt; tried_again(alloc, &mut proposer, three, 1, own, b"prior")?.is_none());
     let proposal = tried_again(alloc, &mut proposer, three, 2, own, b"prior")?;
     assert!(rt; is_proposal(&proposal, instance(7)?, own, b"prior"));
-    let message = match proposer.resend(alloc, instance(7)?) {
+    let message = match proposer.resend(instance(7)?) {
         Ok(message) => message,
-        Err(_) => proposer.resend(alloc, instance(7)?)?,
+        Err(_) => proposer.resend(instance(7)?)?,
     };
     assert!(rt; is_propose(&message, own, b"prior"));
     Ok(())

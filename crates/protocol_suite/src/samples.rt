@@ -44,18 +44,17 @@ pub(crate) fn voted(alloc: Global, ballot: Ballot, bytes: &[u8]) -> Result<Optio
 
 /// The answer to a promise of the node with that number.
 pub(crate) fn promised(
-    alloc: Global,
     proposer: &mut Proposer,
     cluster: Cluster,
     number: u8,
     own: Ballot,
-    prior: Option<Vote>,
+    prior: Option<&Vote>,
 ) -> Result<Option<Proposal>, Fail>
     requires { proposer.old.cluster ≡ cluster }
     ensures { proposer.new.cluster ≡ proposer.old.cluster }
 {
     let from = node_of(cluster, number)?;
-    Ok(proposer.on_promise(alloc, from, instance(7)?, own, prior)?)
+    Ok(proposer.on_promise(from, instance(7)?, own, prior)?)
 }
 
 pub(crate) fn is_proposal(
