@@ -88,6 +88,7 @@ impl ChosenLog {
     pub fn prefix(&self) -> &[Value]
         ensures each { (k : ℕ) → k < length result.now → slice_get result.now k ≡ value_at self.now (k + 1) }
         ensures gap { value_at self.now (length result.now + 1) ≡ None }
+        ensures few { length result.now ≤ 1000000 }
     {
         &self.prefix
     }
