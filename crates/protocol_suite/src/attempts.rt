@@ -39,7 +39,11 @@ fn promises_of_another_ballot_count_for_nothing(rt: HostRuntime) -> Result<(), F
     assert!(rt; promised(&mut proposer, three, 1, own, None)?.is_none());
     assert!(rt; promised(&mut proposer, three, 2, ballot(2, 1)?, None)?.is_none());
     assert!(rt; is_prepare(&proposer.resend(instance(7)?)?, own));
-    assert!(rt; proposer.own_value(instance(7)?).is_some_and(|own| own.as_bytes() == b"X"));
+    assert!(rt;
+        proposer
+            .own_value(instance(7)?)
+            .is_some_and(|own| own.as_bytes() == b"X")
+    );
     proposer.abandon(instance(7)?);
     assert!(rt; proposer.own_value(instance(7)?).is_none());
     assert!(rt; proposer.resend(instance(7)?)?.is_none());
