@@ -3,12 +3,13 @@ use Rattle.std.proofs.Common.{◌≡◌, ℕ, List, ◌≤◌, ◌-◌, length, 
 use Rattle.std.proofs.lemmas.Bool.{le-leb}
 use Rattle.std.proofs.lemmas.List.{take_rest}
 use Rattle.std.proofs.lemmas.Str.{is_utf8-from_IsUtf8, IsUtf8-from_is_utf8}
+use Rattle.std.specs.Option.{ok_or}
 use Rattle.std.specs.Str.{IsUtf8, is_utf8}
 use Rattle.context.specs.Whole.{Whole, data_reading}
 use Rattle.mustache_parse.specs.Tree.{Tree, tree_of}
 use Rattle.command.specs.Action.{Kind, template, partial, page_data, route, put_template, put_partial, put_data, put_route, remove}
 use Rattle.command.specs.Rows.{Row, template_row, partial_row, data_row, route_row, remove_row, row_of}
-use Rattle.command.specs.Reading.{is_name, is_path, is_removable, wrong_remove, row_reading, text_row, text_reading, ticket_of, with_ticket, value_reading}
+use Rattle.command.specs.Reading.{is_name, is_path, is_removable, wrong_remove, row_reading, text_row, text_reading, ticket_of, value_row, with_ticket, value_reading}
 use Rattle.command.specs.declared.fault.CommandFault.TheVariants.{Form}
 
 pub template_reads : (n x : List ℕ) (tree : Tree) → is_name n ≡ true → tree_of x ≡ Ok tree → row_reading (template_row n x) ≡ Ok (put_template n x)
@@ -45,6 +46,12 @@ value_of_text v short long text =
     let ticketed = le-leb 12 (length v) long in
     let there : text_row v ≡ row_of (drop 12 v) = rw (ticketed, is_utf8-from_IsUtf8 (drop 12 v) text) in
     short_value v short ∙ ap (λ (o : Option Row). with_ticket (ticket_of v) (text_reading o)) there
+
+pub row_of_text : (v : List ℕ) → length v ≤ 32768 → 12 ≤ length v → IsUtf8 (drop 12 v) → value_row v ≡ ok_or (row_of (drop 12 v)) Form
+row_of_text v short long text =
+    let fits = le-leb (length v) 32768 short in
+    let ticketed = le-leb 12 (length v) long in
+    rw (fits, ticketed, is_utf8-from_IsUtf8 (drop 12 v) text)
 
 not_text : (b : Bool) (v : List ℕ) → is_utf8 (drop 12 v) ≡ b → ¬ IsUtf8 (drop 12 v) → is_utf8 (drop 12 v) ≡ false
 not_text true v e never = absurd (never (IsUtf8-from_is_utf8 (drop 12 v) e))

@@ -1,5 +1,5 @@
 -- Which values are commands, and the fault of every other.
-use Rattle.std.specs.Prelude.{ℕ, List, [], ◌∷◌, length, drop, codes, nat_eq, nat_le, ◌==◌, ◌&&◌, ◌||◌, not, if◌then◌else◌, Bool, Option, None, Result, Ok, Err, ok_or}
+use Rattle.std.specs.Prelude.{◌≡◌, ◌≢◌, ℕ, List, [], ◌∷◌, length, drop, codes, nat_eq, nat_le, ◌==◌, ◌&&◌, ◌||◌, not, if◌then◌else◌, Bool, Option, None, Result, Ok, Err, ok_or}
 use Rattle.std.specs.List.{list_all, starts_with}
 use Rattle.std.specs.Str.{is_utf8}
 use Rattle.byteorder.specs.Endian.{big_number}
@@ -126,3 +126,7 @@ with_ticket ticket (Err fault) = Err fault
 -- the command that a value is, or its fault
 abbrev pub value_reading : List ℕ → Result Order CommandFault
 value_reading v = with_ticket (ticket_of v) (read_row (value_row v))
+
+-- reading the value may take memory: its text has a row of the table, and is no release. Other faults are told without
+abbrev pub TakesMemory : List ℕ → Type 0
+TakesMemory v = (row : Row) × (value_row v ≡ Ok row) × (row ≢ release_row)

@@ -1,10 +1,10 @@
-ghost use Rattle.std.specs.Prelude.{◌≡◌, ◌≢◌, ◌≤◌, length, Ok, Err, IfOk, IfErr, if◌then◌else◌};
+ghost use Rattle.std.specs.Prelude.{◌≡◌, ◌≢◌, ◌≤◌, length, Some, Ok, Err, IfOk, IfErr, if◌then◌else◌};
 ghost use Rattle.mustache_parse.specs.Template.{IsTemplateOf};
 ghost use Rattle.mustache_parse.specs.Tree.{tree_of};
 ghost use Rattle.mustache_scan.specs.declared.fault.TemplateFault.{TemplateFault};
 ghost use Rattle.command.specs.Action.{Order};
-ghost use Rattle.command.specs.Reading.{is_name, is_path, is_removable, wrong_remove, row_reading, text_reading, ticket_of, value_reading};
-ghost use Rattle.command.specs.Rows.{template_row, partial_row, data_row, route_row, remove_row, row_of};
+ghost use Rattle.command.specs.Reading.{is_name, is_path, is_removable, wrong_remove, row_reading, text_reading, ticket_of, value_reading, TakesMemory};
+ghost use Rattle.command.specs.Rows.{Row as TextRow, release_row, template_row, partial_row, data_row, route_row, remove_row, row_of};
 ghost use Rattle.command.specs.View.{kind_view, StandsFor, IsActionOf};
 ghost use Rattle.command.specs.Written.{HasLine};
 
@@ -23,6 +23,7 @@ pub fn read(alloc: Global, value: &[u8]) -> Result<Command, CommandFault>
     ensures ok { IfOk result (λ c. (o : Order) × (value_reading value.now ≡ Ok o) × StandsFor c o) }
     ensures err { IfErr result (λ e. e ≢ CommandFault.OutOfMemory → value_reading value.now ≡ Err e) }
     ensures line { IfErr result (λ e. e ≢ CommandFault.OutOfMemory → HasLine e) }
+    ensures memory { IfErr result (λ e. e ≡ CommandFault.OutOfMemory → TakesMemory value.now) }
 {
     if value.len() > MAX_VALUE {
         return Err(CommandFault::TooLong);
@@ -54,6 +55,7 @@ fn action_of(alloc: Global, text: &str) -> Result<Action, CommandFault>
     ensures ok { IfOk result (λ a. IsActionOf a (text_reading (row_of text.now))) }
     ensures err { IfErr result (λ e. e ≢ CommandFault.OutOfMemory → text_reading (row_of text.now) ≡ Err e) }
     ensures line { IfErr result (λ e. e ≢ CommandFault.OutOfMemory → HasLine e) }
+    ensures memory { IfErr result (λ e. e ≡ CommandFault.OutOfMemory → (row : TextRow) × (row_of text.now ≡ Some row) × (row ≢ release_row)) }
 {
     match row_in(text) {
         None => Err(CommandFault::Form),

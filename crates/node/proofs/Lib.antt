@@ -2,3 +2,9 @@ pub mod Knowing
 pub mod Sharing
 pub mod Tidying
 pub mod Examples
+pub mod Gaps
+pub mod Saying
+pub mod Ranging
+pub mod Verdicts
+pub mod FreshAttempts
+pub mod Moving

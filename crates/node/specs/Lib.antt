@@ -6,3 +6,5 @@ pub mod Calls
 pub mod Endings
 pub mod Laws
 pub mod Tidy
+pub mod Ranges
+pub mod Stuck

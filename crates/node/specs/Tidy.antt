@@ -16,8 +16,8 @@ abbrev pub AreApart : List Value → Type 0
 AreApart [] = ⊤
 AreApart (v ∷ vs) = ((u : Value) → In vs u → shares_ticket u v ≡ false) × AreApart vs
 
--- Attempts stand at the first unknown instance alone, so there is one at most, and votes at unknown instances. What is pending are commands, 64 at
--- most, each of a ticket of its own that no known value has
+-- Votes stand at unknown instances. What is pending are commands, 64 at most, each of a ticket of its own that no known value has. While a node has one
+-- attempt, it stands at the first unknown instance
 pub record AreTidy (votes : List Tally) (known : ℕ → Option Value) (attempts : ℕ → Option Attempt) (pending : List Value) : Type 0 where
   pub attempted : (i : ℕ) (a : Attempt) → attempts i ≡ Some a → IsFirstUnknown known i
   pub voted : (t : Tally) → In votes t → known t.instance ≡ None
@@ -38,6 +38,10 @@ OpensTidy = (mode : Mode) (entries : List Entry) (in_flight : Option Entry) → 
 -- and each call keeps it so
 abbrev pub StaysTidy : Type 0
 StaysTidy = (n p : ℕ) (s new : Node) (call : Call) (ending : Ending) (out : List (To × Message)) → Ends n p s call ending out new → IsTidy s → IsTidy new
+
+-- a call of a tidy node hands out 64 messages at most
+abbrev pub SaysFew : Type 0
+SaysFew = (n p : ℕ) (s new : Node) (call : Call) (ending : Ending) (out : List (To × Message)) → Ends n p s call ending out new → IsTidy s → length out ≤ 64
 
 -- of two values both share the other's ticket, or neither does; a command shares its own
 abbrev pub SharingIsMutual : Type 0

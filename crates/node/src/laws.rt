@@ -1,5 +1,7 @@
 ghost use Rattle.node.specs.Laws.{BeginningStays, KnownStays, OneEntry};
-ghost use Rattle.node.specs.Tidy.{CommandsShareTheirOwn, OpensTidy, SharingIsMutual, StaysTidy};
+ghost use Rattle.node.specs.Ranges.{OpensInRange, SaysMessages, StaysInRange};
+ghost use Rattle.node.specs.Stuck.{NeverStuck};
+ghost use Rattle.node.specs.Tidy.{CommandsShareTheirOwn, OpensTidy, SaysFew, SharingIsMutual, StaysTidy};
 
 /// A call loses nothing that is known, and puts at most one entry on record.
 pub fn calls_forget_nothing()
@@ -8,10 +10,24 @@ pub fn calls_forget_nothing()
     ensures entry { OneEntry }
 {}
 
-/// An attempt stands at the first unknown instance alone, votes stand at unknown ones, and what is pending has tickets of its own.
+/// An attempt stands at the first unknown instance alone, votes stand at unknown ones, and what is pending has tickets of its own. So a call hands out few
+/// messages.
 pub fn nodes_stay_tidy()
     ensures opens { OpensTidy }
     ensures stays { StaysTidy }
     ensures mutual { SharingIsMutual }
     ensures own { CommandsShareTheirOwn }
+    ensures few { SaysFew }
+{}
+
+/// What a node knows, attempts and keeps waiting stays in its ranges, and what it hands out are messages of its cluster.
+pub fn nodes_stay_in_range()
+    ensures opens { OpensInRange }
+    ensures stays { StaysInRange }
+    ensures messages { SaysMessages }
+{}
+
+/// At a node that runs each call has an effect, or a cause to refuse it other than want of memory.
+pub fn no_call_is_stuck()
+    ensures { NeverStuck }
 {}

@@ -7,6 +7,6 @@ mod submitted;
 mod to;
 
 pub use fault::NodeFault;
-pub use laws::{calls_forget_nothing, nodes_stay_tidy};
+pub use laws::{calls_forget_nothing, no_call_is_stuck, nodes_stay_in_range, nodes_stay_tidy};
 pub use submitted::Submitted;
 pub use to::To;

@@ -1,0 +1,30 @@
+use Rattle.std.proofs.Common.{◌≡◌, ◌≢◌, Option, Some, Result, Ok, Err, sym, ap, ◌∙◌}
+use Rattle.std.specs.Option.{option_map}
+use Rattle.std.specs.Result.{IfErr}
+use Rattle.command.specs.Rows.{Row, release_row}
+use Rattle.command.specs.View.{row_view}
+use Rattle.command.specs.declared.fault.CommandFault.{CommandFault}
+use Rattle.command.specs.declared.fault.CommandFault.TheVariants.{OutOfMemory}
+use Rattle.command.specs.declared.rows.Row.{Row as Found}
+use Rattle.command.proofs.reading.action_of.Goals as goal
+
+-- the text has this row, which is no release's
+has_row : {T : Type 0} (r : Result T CommandFault) (text : Option Row) (o : Option Found) (x y : Found) → option_map row_view o ≡ text → o ≡ Some x → x ≡ y → row_view y ≢ release_row
+    → IfErr r (λ e. e ≡ OutOfMemory → (row : Row) × (text ≡ Some row) × (row ≢ release_row))
+has_row (Ok found) text o x y told is same other = tt
+has_row (Err e) text o x y told is same other = λ wanted. (row_view y, sym told ∙ ap (option_map row_view) (is ∙ ap Some same), other)
+
+pub returns-in-Some-Template-clause-memory : goal.returns-in-Some-Template-clause-memory
+returns-in-Some-Template-clause-memory c = let s = c.in-Some-Template in has_row _ _ _ _ _ c.row_in.ensures s.is s.field-0-is (λ e. cc)
+
+pub returns-in-Some-Partial-clause-memory : goal.returns-in-Some-Partial-clause-memory
+returns-in-Some-Partial-clause-memory c = let s = c.in-Some-Partial in has_row _ _ _ _ _ c.row_in.ensures s.is s.field-0-is (λ e. cc)
+
+pub returns-in-Some-Data-clause-memory : goal.returns-in-Some-Data-clause-memory
+returns-in-Some-Data-clause-memory c = let s = c.in-Some-Data in has_row _ _ _ _ _ c.row_in.ensures s.is s.field-0-is (λ e. cc)
+
+pub returns-in-Some-Route-clause-memory : goal.returns-in-Some-Route-clause-memory
+returns-in-Some-Route-clause-memory c = let s = c.in-Some-Route in has_row _ _ _ _ _ c.row_in.ensures s.is s.field-0-is (λ e. cc)
+
+pub returns-in-Some-Remove-clause-memory : goal.returns-in-Some-Remove-clause-memory
+returns-in-Some-Remove-clause-memory c = let s = c.in-Some-Remove in has_row _ _ _ _ _ c.row_in.ensures s.is s.field-0-is (λ e. cc)

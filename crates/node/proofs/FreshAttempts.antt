@@ -1,0 +1,29 @@
+-- A tick of a node with no attempt elsewhere.
+use Rattle.std.proofs.Common.{◌≡◌, ℕ, Some, [], ◌∷◌, refl}
+use Rattle.site_ids.specs.Maps.{put_at}
+use Rattle.wire.specs.declared.message.Message.TheVariants.{Prepare}
+use Rattle.durable.specs.Entries.{Round}
+use Rattle.proposer.specs.Attempts.{Attempt, opened}
+use Rattle.node.specs.declared.to.To.TheVariants.{All}
+use Rattle.node.specs.Nodes.{Node, IsFirstUnknown}
+use Rattle.node.specs.Calls.{fresh_ballot, HasRound, oldest, AreOpenElsewhere, Ticks}
+use Rattle.node.specs.Effects.{Effect}
+use Rattle.node.proofs.Gaps.{one_first}
+
+-- no attempt stands at another instance
+none_elsewhere : (s : Node) (i : ℕ) → ((j : ℕ) (a : Attempt) → s.attempts j ≡ Some a → IsFirstUnknown s.known j) → IsFirstUnknown s.known i → AreOpenElsewhere s i []
+none_elsewhere s i attempted first = record {
+  rising = tt;
+  each = λ x h. absurd h;
+  whole = λ j a apart is. absurd (apart (one_first s.known i j first (attempted j a is)));
+}
+
+abbrev pub tick_effect : ℕ → Node → ℕ → Effect
+tick_effect p s i = record {
+  entry = Some (Round (fresh_ballot p s).round);
+  after = record s { attempts = put_at s.attempts i (Some (opened (fresh_ballot p s) (oldest s.pending))) };
+  out = (All, Prepare p i (fresh_ballot p s)) ∷ [];
+}
+
+pub ticks : (p : ℕ) (s : Node) (i : ℕ) → ((j : ℕ) (a : Attempt) → s.attempts j ≡ Some a → IsFirstUnknown s.known j) → IsFirstUnknown s.known i → HasRound s → Ticks p s (tick_effect p s i)
+ticks p s i attempted first round = record { instance = i; elsewhere = []; first = first; round = round; open_elsewhere = none_elsewhere s i attempted first; is = refl }

@@ -1,0 +1,260 @@
+-- At a node that runs no call is stuck.
+use Rattle.std.proofs.Common.{◌≡◌, ◌≢◌, ◌⊎◌, inl, inr, ⊎_elim, ℕ, zero, suc, ◌<◌, ◌≤◌, max, Option, Some, None, Result, Ok, Err, List, [], ◌∷◌, length, refl, sym, ap, subst, ◌∙◌, arith}
+use Rattle.site_ids.specs.Ids.{BallotOf, Below, NotAbove, IsInstance}
+use Rattle.site_ids.specs.Majorities.{In, Majority}
+use Rattle.site_ids.specs.declared.value.Vote.{Vote}
+use Rattle.site_ids.proofs.BallotLemmas.{one_of_three}
+use Rattle.wire.specs.declared.message.Message.{Message}
+use Rattle.wire.specs.declared.message.Message.TheVariants.{Prepare, Promise, Propose, Accepted, Nack, Ask, Chosen}
+use Rattle.acceptor.specs.declared.slot.Slot.{Slot}
+use Rattle.acceptor.specs.declared.judging.PrepareVerdict.{PrepareVerdict}
+use Rattle.acceptor.specs.declared.judging.PrepareVerdict.TheVariants as to_prepare
+use Rattle.acceptor.specs.declared.judging.ProposeVerdict.{ProposeVerdict}
+use Rattle.acceptor.specs.declared.judging.ProposeVerdict.TheVariants as to_proposal
+use Rattle.acceptor.specs.Judging.{IsFreeAt, IsVotedAt, IsVotedFor, JudgesPrepare, JudgesProposal}
+use Rattle.durable.specs.Entries.{Entry, Round, Promised, Voted, Raises, IsPromise, IsSlot, last_vote}
+use Rattle.command.specs.Action.{Order}
+use Rattle.command.specs.Reading.{value_reading}
+use Rattle.command.specs.declared.fault.CommandFault.{CommandFault}
+use Rattle.learner.specs.Tallies.{tally, HasMajority}
+use Rattle.proposer.specs.Attempts.{Answer, Attempt, senders, Counts, with_answer}
+use Rattle.proposer.specs.Best.{IsBest, value_by}
+use Rattle.proposer.proofs.BestLemmas.{best_chooses}
+use Rattle.node.specs.declared.fault.NodeFault.TheVariants as fault
+use Rattle.node.specs.Nodes.{Value, Node, IsKnown, IsFirstUnknown, AllKnown}
+use Rattle.node.specs.Tickets.{IsHeld}
+use Rattle.node.specs.Effects.{quiet, learned}
+use Rattle.node.specs.Deliveries.{reached_by, with_vote}
+use Rattle.node.specs.Calls.{submit, tick, ask, deliver, HasRound, queued}
+use Rattle.node.specs.Tidy.{IsTidy}
+use Rattle.node.specs.Stuck.{IsStuck, NeverStuck}
+use Rattle.node.proofs.Gaps.{not_all_known}
+use Rattle.node.proofs.FreshAttempts.{ticks, tick_effect}
+use Rattle.node.proofs.Verdicts.{prepares, proposes}
+
+-- against a contradiction anything holds or does not
+cases : {P : Type 0} → ((P ⊎ (¬ P)) → ⊥) → ⊥
+cases h = h (inr (λ p. h (inl p)))
+
+given : (o : Option Value) → ((v : Value) × (o ≡ Some v)) ⊎ (o ≡ None)
+given None = inr (λ _. None)
+given (Some v) = inl (v, λ _. Some v)
+
+below_or_not : (a b : BallotOf) → Below a b ⊎ NotAbove b a
+below_or_not a b = grind arith
+
+under : (a b c : BallotOf) → NotAbove a b → Below b c → NotAbove a c
+under a b c = grind arith
+
+itself : (a b : BallotOf) → a ≡ b → NotAbove a b
+itself a b e = subst (NotAbove a) e (same a)
+  where
+    same : (a : BallotOf) → NotAbove a a
+    same a = grind arith
+
+-- ---- slots
+
+-- the ballot that an entry promises at an instance, if any
+abbrev RaisesOne : Entry → ℕ → Type 0
+RaisesOne e i = ((b : BallotOf) × Raises e i b × ((c : BallotOf) → Raises e i c → b ≡ c)) ⊎ ((c : BallotOf) → ¬ Raises e i c)
+
+equal : (j i : ℕ) → (j ≡ i) ⊎ (j ≢ i)
+equal j i = grind arith
+
+raised_at : (e : Entry) (j i : ℕ) (b : BallotOf) → ((c : BallotOf) → Raises e i c → (j ≡ i) × (b ≡ c)) → (j ≡ i → Raises e i b) → RaisesOne e i
+raised_at e j i b only at = ⊎_elim (λ is. inl (b, at is, λ c r. (only c r).1)) (λ apart. inr (λ c r. apart (only c r).0)) (equal j i)
+
+raised : (e : Entry) (i : ℕ) → RaisesOne e i
+raised (Round r) i = inr (λ c k. k)
+raised (Promised j b) i = raised_at (Promised j b) j i b (λ c r. r) (λ is. (is, refl))
+raised (Voted j b v) i = raised_at (Voted j b v) j i b (λ c r. r) (λ is. (is, refl))
+
+abbrev Promises : List Entry → ℕ → Type 0
+Promises es i = (p : Option BallotOf) × IsPromise es i p
+
+-- with one entry more in front
+with_more : (e : Entry) (es : List Entry) (i : ℕ) → RaisesOne e i → (p : Option BallotOf) → IsPromise es i p → Promises (e ∷ es) i
+with_more e es i one None none =
+    ⊎_elim
+    (λ (r : (b : BallotOf) × Raises e i b × ((c : BallotOf) → Raises e i c → b ≡ c)).
+    (Some r.0, ((e, inl refl, r.1), λ d c k raises. ⊎_elim (λ (is : e ≡ d). itself c r.0 (sym (r.2 c (subst (λ (x : Entry). Raises x i c) (sym is) raises)))) (λ m. absurd (none d c m raises)) k)))
+    (λ (never : (c : BallotOf) → ¬ Raises e i c). (None, λ d c k raises. ⊎_elim (λ (is : e ≡ d). never c (subst (λ (x : Entry). Raises x i c) (sym is) raises)) (λ m. none d c m raises) k))
+    one
+with_more e es i one (Some p) is =
+    ⊎_elim
+    (λ (r : (b : BallotOf) × Raises e i b × ((c : BallotOf) → Raises e i c → b ≡ c)).
+    let mine : (d : Entry) (c : BallotOf) → e ≡ d → Raises d i c → r.0 ≡ c = λ d c same raises. r.2 c (subst (λ (x : Entry). Raises x i c) (sym same) raises) in
+    ⊎_elim
+    (λ (low : Below p r.0). (Some r.0, ((e, inl refl, r.1), λ d c k raises. ⊎_elim (λ same. itself c r.0 (sym (mine d c same raises))) (λ m. under c p r.0 (is.1 d c m raises) low) k)))
+    (λ (high : NotAbove r.0 p).
+    (Some p, ((is.0.0, inr is.0.1, is.0.2), λ d c k raises. ⊎_elim (λ same. subst (λ (x : BallotOf). NotAbove x p) (mine d c same raises) high) (λ m. is.1 d c m raises) k)))
+    (below_or_not p r.0))
+    (λ (never : (c : BallotOf) → ¬ Raises e i c).
+    (Some p, ((is.0.0, inr is.0.1, is.0.2), λ d c k raises. ⊎_elim (λ (same : e ≡ d). absurd (never c (subst (λ (x : Entry). Raises x i c) (sym same) raises))) (λ m. is.1 d c m raises) k)))
+    one
+
+promised : (es : List Entry) (i : ℕ) → Promises es i
+promised [] i = (None, λ e b k raises. k)
+promised (e ∷ es) i = let rest = promised es i in with_more e es i (raised e i) rest.0 rest.1
+
+slot : (es : List Entry) (i : ℕ) → (s : Slot) × IsSlot es i s
+slot es i = let p = promised es i in (record { promised = p.0; vote = last_vote i es }, record { promise = p.1; vote = refl })
+
+-- ---- verdicts
+
+on_prepare : (s : Slot) (b : BallotOf) → ((verdict : PrepareVerdict) → ¬ JudgesPrepare s b verdict) → (p : Option BallotOf) → s.promised ≡ p → ⊥
+on_prepare s b none None is = none to_prepare.Promise (rw is tt)
+on_prepare s b none (Some c) is =
+    ⊎_elim (λ (low : Below c b). none to_prepare.Promise (rw is low))
+    (λ (more : (c ≡ b) ⊎ Below b c).
+    ⊎_elim
+    (λ (same : c ≡ b).
+    let at : s.promised ≡ Some b = is ∙ ap Some same in
+    cases (λ (voted : IsVotedAt s.vote b ⊎ (¬ IsVotedAt s.vote b)). ⊎_elim (λ yes. none to_prepare.Silent (at, yes)) (λ no. none to_prepare.Again (at, no)) voted))
+    (λ (high : Below b c). none (to_prepare.Nack c) (is, high))
+    more)
+    (one_of_three c b).0
+
+free_proposal : (s : Slot) (b : BallotOf) (v : Value) → ((verdict : ProposeVerdict) → ¬ JudgesProposal s b v verdict) → IsFreeAt s.promised b → ⊥
+free_proposal s b v none free =
+    cases (λ (voted : IsVotedAt s.vote b ⊎ (¬ IsVotedAt s.vote b)).
+    ⊎_elim
+    (λ yes. cases (λ (same : IsVotedFor s.vote b v ⊎ (¬ IsVotedFor s.vote b v)). ⊎_elim (λ again. none to_proposal.Again (free, again)) (λ other. none to_proposal.Silent (free, yes, other)) same))
+    (λ no. none to_proposal.Vote (free, no))
+    voted)
+
+on_proposal : (s : Slot) (b : BallotOf) (v : Value) → ((verdict : ProposeVerdict) → ¬ JudgesProposal s b v verdict) → (p : Option BallotOf) → s.promised ≡ p → ⊥
+on_proposal s b v none None is = free_proposal s b v none (rw is tt)
+on_proposal s b v none (Some c) is = ⊎_elim (λ (low : Below b c). none (to_proposal.Nack c) (is, low)) (λ (high : NotAbove c b). free_proposal s b v none (rw is high)) (below_or_not b c)
+
+-- ---- the highest vote told
+
+best : (answers : List Answer) → (prior : Option Vote) × IsBest answers prior
+best [] = (None, λ x k. absurd k)
+best (x ∷ xs) = let rest = best xs in ahead x xs x.prior refl rest.0 rest.1
+  where
+    no_vote : (w : Vote) → ◌≡◌ {A = Option Vote} None (Some w) → ⊥
+    no_vote w e = cc
+
+    same_vote : (u w : Vote) → Some u ≡ Some w → u ≡ w
+    same_vote u w e = cc
+
+    not_above_itself : (a : BallotOf) → NotAbove a a
+    not_above_itself a = grind arith
+
+    ahead : (x : Answer) (xs : List Answer) (prior : Option Vote) → x.prior ≡ prior → (top : Option Vote) → IsBest xs top → (p : Option Vote) × IsBest (x ∷ xs) p
+    ahead x xs None is None none = (None, λ y k. ⊎_elim (λ (e : x ≡ y). ap (λ (z : Answer). z.prior) (sym e) ∙ is) (λ m. none y m) k)
+    ahead x xs None is (Some top) told = (
+      Some top,
+      (
+        (told.0.0, inr told.0.1, told.0.2),
+        λ y w k e. ⊎_elim (λ (f : x ≡ y). absurd (no_vote w (sym is ∙ ap (λ (z : Answer). z.prior) f ∙ e))) (λ m. told.1 y w m e) k,
+      ),
+    )
+    ahead x xs (Some u) is None none = (
+      Some u,
+      (
+        (x, inl refl, is),
+        λ y w k e. ⊎_elim (λ (f : x ≡ y). let same = same_vote u w (sym is ∙ ap (λ (z : Answer). z.prior) f ∙ e) in subst (λ (z : Vote). NotAbove z.ballot u.ballot) same (not_above_itself u.ballot))
+            (λ m. absurd (no_vote w (sym (none y m) ∙ e))) k,
+      ),
+    )
+    ahead x xs (Some u) is (Some top) told =
+        let mine : (y : Answer) (w : Vote) → x ≡ y → y.prior ≡ Some w → u ≡ w = λ y w f e. same_vote u w (sym is ∙ ap (λ (z : Answer). z.prior) f ∙ e) in
+        ⊎_elim
+        (λ (low : Below top.ballot u.ballot). (
+          Some u,
+          (
+            (x, inl refl, is),
+            λ y w k e. ⊎_elim (λ f. subst (λ (z : Vote). NotAbove z.ballot u.ballot) (mine y w f e) (not_above_itself u.ballot)) (λ m. under w.ballot top.ballot u.ballot (told.1 y w m e) low) k,
+          ),
+        ))
+        (λ (high : NotAbove u.ballot top.ballot). (
+          Some top,
+          (
+            (told.0.0, inr told.0.1, told.0.2),
+            λ y w k e. ⊎_elim (λ f. subst (λ (z : Vote). NotAbove z.ballot top.ballot) (mine y w f e) high) (λ m. told.1 y w m e) k,
+          ),
+        ))
+        (below_or_not top.ballot u.ballot)
+
+-- ---- the first unknown instance
+
+known_up_to : (s : Node) → ((i : ℕ) → ¬ IsFirstUnknown s.known i) → (k j : ℕ) → IsInstance j → j ≤ k → IsKnown s j
+known_up_to s none zero j instance low = absurd (omega arith)
+known_up_to s none (suc k) j instance low =
+    let before : (j : ℕ) → IsInstance j → j ≤ k → IsKnown s j = known_up_to s none k in
+    ⊎_elim (λ is. is) (λ (unknown : s.known j ≡ None). absurd (none j (record { instance = instance; unknown = unknown; before = λ i at less. before i at (omega arith) }))) (given (s.known j))
+
+all_known : (s : Node) → ((i : ℕ) → ¬ IsFirstUnknown s.known i) → AllKnown s
+all_known s none i instance = known_up_to s none i i instance (omega arith)
+
+-- ---- calls
+
+on_value : (n p : ℕ) (s : Node) (v : Value) → IsTidy s → IsStuck n p s (submit v) → (r : Result Order CommandFault) → value_reading v ≡ r → ⊥
+on_value n p s v tidy stuck (Err why) is = stuck.no_cause (fault.NotACommand why) (λ e. cc) is
+on_value n p s v tidy stuck (Ok order) is =
+    cases (λ (held : IsHeld s v ⊎ (¬ IsHeld s v)).
+    ⊎_elim (λ yes. stuck.no_effect (quiet s) (inl ((order, is), yes, refl)))
+    (λ no. ⊎_elim (λ room. stuck.no_effect (quiet (queued s v)) (inr ((order, is), no, room, refl))) (λ full. stuck.no_cause fault.QueueFull (λ e. cc) ((order, is), no, full)) (room (length s.pending) tidy.few)) held)
+  where
+    room : (k : ℕ) → k ≤ 64 → (k < 64) ⊎ (k ≡ 64)
+    room k few = grind arith
+
+at_gap : (s : Node) → (AllKnown s → ⊥) → ((i : ℕ) → IsFirstUnknown s.known i → ⊥) → ⊥
+at_gap s full gap = full (all_known s gap)
+
+on_promise : (n p : ℕ) (s : Node) (q i : ℕ) (b : BallotOf) (prior : Option Vote) → IsStuck n p s (deliver (Promise q i b prior)) → ⊥
+on_promise n p s q i b prior stuck =
+    let t : Node = record s { reached = reached_by s.reached (Promise q i b prior) } in
+    cases (λ (counts : ((a : Attempt) × (s.attempts i ≡ Some a) × Counts a q b) ⊎ (¬ ((a : Attempt) × (s.attempts i ≡ Some a) × Counts a q b))).
+    ⊎_elim
+    (λ (x : (a : Attempt) × (s.attempts i ≡ Some a) × Counts a q b).
+    let answers = with_answer x.0 q prior in
+    cases (λ (enough : Majority n (senders answers) ⊎ (¬ Majority n (senders answers))).
+    ⊎_elim
+    (λ yes. let top = best answers in stuck.no_effect _ (record { attempts = _; proposed = Some (value_by x.0.own top.0); step = (x.0, x.1, x.2, yes, best_chooses x.0.own answers top.0 top.1, refl); is = refl }))
+    (λ no. stuck.no_effect _ (record { attempts = _; proposed = None; step = inr (x.0, x.1, x.2, no, refl); is = refl }))
+    enough))
+    (λ none. stuck.no_effect _ (record { attempts = s.attempts; proposed = None; step = inl (λ a at counts. none (a, at, counts), refl); is = refl }))
+    counts)
+
+on_accepted : (n p : ℕ) (s : Node) (q i : ℕ) (b : BallotOf) (v : Value) → IsStuck n p s (deliver (Accepted q i b v)) → ⊥
+on_accepted n p s q i b v stuck =
+    let t : Node = record s { reached = reached_by s.reached (Accepted q i b v) } in
+    let u : Node = with_vote t (tally q i b v) in
+    ⊎_elim (λ known. stuck.no_effect (quiet t) (inr (known, refl)))
+    (λ unknown. cases (λ (enough : HasMajority n (In u.votes) i b v ⊎ (¬ HasMajority n (In u.votes) i b v)).
+    ⊎_elim (λ yes. stuck.no_effect (quiet (learned u i v)) (inl (unknown, inr (yes, refl)))) (λ no. stuck.no_effect (quiet u) (inl (unknown, inl (no, refl)))) enough))
+    (given (s.known i))
+
+on_chosen : (n p : ℕ) (s : Node) (q i : ℕ) (v : Value) → IsStuck n p s (deliver (Chosen q i v)) → ⊥
+on_chosen n p s q i v stuck =
+    let t : Node = record s { reached = reached_by s.reached (Chosen q i v) } in
+    ⊎_elim
+    (λ (known : (u : Value) × (s.known i ≡ Some u)).
+    cases (λ (same : (known.0 ≡ v) ⊎ (known.0 ≢ v)). ⊎_elim (λ is. stuck.no_effect (quiet t) (inr (known.1 ∙ ap Some is, refl))) (λ other. stuck.no_cause fault.Conflict (λ e. cc) (known.0, known.1, other)) same))
+    (λ unknown. stuck.no_effect (quiet (learned t i v)) (inl (unknown, refl)))
+    (given (s.known i))
+
+on_message : (n p : ℕ) (s : Node) (m : Message) → IsStuck n p s (deliver m) → ⊥
+on_message n p s (Prepare q i b) stuck =
+    let at = slot s.entries i in
+    on_prepare at.0 b (λ verdict judged. stuck.no_effect _ (prepares p (record s { reached = reached_by s.reached (Prepare q i b) }) i b at.0 verdict at.1 judged)) at.0.promised refl
+on_message n p s (Propose q i b v) stuck =
+    let at = slot s.entries i in
+    on_proposal at.0 b v (λ verdict judged. stuck.no_effect _ (proposes p (record s { reached = reached_by s.reached (Propose q i b v) }) i b v at.0 verdict at.1 judged)) at.0.promised refl
+on_message n p s (Promise q i b prior) stuck = on_promise n p s q i b prior stuck
+on_message n p s (Accepted q i b v) stuck = on_accepted n p s q i b v stuck
+on_message n p s (Nack q i b c) stuck = stuck.no_effect (quiet (record s { heard = max s.heard c.round })) refl
+on_message n p s (Ask q i) stuck = ⊎_elim (λ (known : (v : Value) × (s.known i ≡ Some v)). stuck.no_effect _ (inl (known.0, known.1, refl))) (λ unknown. stuck.no_effect _ (inr (unknown, refl))) (given (s.known i))
+on_message n p s (Chosen q i v) stuck = on_chosen n p s q i v stuck
+
+pub never_stuck : NeverStuck
+never_stuck n p s (submit v) runs tidy stuck = on_value n p s v tidy stuck (value_reading v) refl
+never_stuck n p s tick runs tidy stuck =
+    at_gap s (λ full. stuck.no_cause fault.InstancesUsedUp (λ e. cc) full)
+    (λ i first. cases (λ (round : HasRound s ⊎ (¬ HasRound s)).
+    ⊎_elim (λ yes. stuck.no_effect (tick_effect p s i) (ticks p s i tidy.attempted first yes)) (λ no. stuck.no_cause fault.RoundsUsedUp (λ e. cc) (not_all_known s i first, no)) round))
+never_stuck n p s ask runs tidy stuck = at_gap s (λ full. stuck.no_cause fault.InstancesUsedUp (λ e. cc) full) (λ i first. stuck.no_effect _ (record { instance = i; first = first; is = refl }))
+never_stuck n p s (deliver m) runs tidy stuck = on_message n p s m stuck

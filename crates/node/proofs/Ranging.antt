@@ -1,0 +1,339 @@
+-- What a node hands out is in its ranges.
+use Rattle.std.proofs.Common.{◌≡◌, ◌⊎◌, ⊎_elim, inl, inr, ℕ, ◌<◌, ◌≤◌, max, Bool, true, false, cond, not, leb, Option, Some, None, Result, Ok, Err, List, [], ◌∷◌, ◌++◌, length, map, refl, sym, ap, subst, ◌∙◌, arith}
+use Rattle.std.specs.Prelude.{nat_eq, filter, IfSome}
+use Rattle.std.proofs.lemmas.Bool.Decides.{nat_tests}
+use Rattle.std.proofs.lemmas.Bool.{cases_eq}
+use Rattle.site_ids.specs.Ids.{BallotOf, IsNode, IsInstance, IsBallot}
+use Rattle.site_ids.specs.Majorities.{In, Majority}
+use Rattle.site_ids.specs.Maps.{put_at}
+use Rattle.site_ids.specs.declared.value.Vote.{Vote}
+use Rattle.site_ids.proofs.MapLemmas.{put_here, put_other}
+use Rattle.site_ids.proofs.MemberLemmas.{in_push}
+use Rattle.wire.specs.declared.message.Message.{Message}
+use Rattle.wire.specs.declared.message.Message.TheVariants.{Prepare, Promise, Propose, Accepted, Nack, Ask, Chosen}
+use Rattle.wire.specs.Messages.{IsMessage}
+use Rattle.acceptor.specs.declared.slot.Slot.{Slot}
+use Rattle.acceptor.specs.Steps.{Answer as Reply, promise, accepted, nack, no_answer, prepare, proposal, Steps}
+use Rattle.durable.specs.Entries.{Entry, Round, Promised, Voted, Raises, IsPromise, IsSlot, vote_after}
+use Rattle.durable.specs.Histories.{IsInRange, IsHistory}
+use Rattle.learner.specs.Tallies.{tally, HasMajority}
+use Rattle.std.specs.Option.{ok_or}
+use Rattle.site_ids.specs.declared.Ticket.{Ticket}
+use Rattle.command.specs.Rows.{Row}
+use Rattle.command.specs.declared.fault.CommandFault.{CommandFault}
+use Rattle.command.specs.declared.fault.CommandFault.TheVariants.{TooLong, Form}
+use Rattle.command.specs.Action.{Order}
+use Rattle.command.specs.Reading.{read_row, with_ticket, ticket_of, text_row}
+use Rattle.proposer.specs.Attempts.{Answer, Attempt, opened, senders, Chooses, Counts, with_answer, waiting, proposing, TakesPromise}
+use Rattle.node.specs.declared.to.To.{To}
+use Rattle.node.specs.declared.to.To.TheVariants.{One, All}
+use Rattle.node.specs.Nodes.{Value, Node, IsKnown, IsUnknown}
+use Rattle.node.specs.Tickets.{IsCommand, IsHeld, shares_ticket}
+use Rattle.node.specs.Effects.{Effect, quiet, says, learned}
+use Rattle.node.specs.Deliveries.{prepare_out, propose_out, promise_out, with_vote, Counted, ByKind}
+use Rattle.node.specs.Calls.{Call, submit, tick, ask, deliver, queued, oldest, fresh_ballot, resent, Does}
+use Rattle.node.specs.Endings.{Whole, Refused, Failed}
+use Rattle.node.specs.Tidy.{IsTidy}
+use Rattle.node.specs.Ranges.{IsAttemptInRange, HasRanges, IsCallInRange, OpensInRange, StaysInRange, SaysMessages}
+use Rattle.node.proofs.Saying.{none_sent_again}
+
+same_some : {X : Type 0} (x y : X) → Some x ≡ Some y → x ≡ y
+same_some x y e = cc
+
+no_attempt : (a : Attempt) → ◌≡◌ {A = Option Attempt} None (Some a) → ⊥
+no_attempt a e = cc
+
+no_value : (v : Value) → ◌≡◌ {A = Option Value} None (Some v) → ⊥
+no_value v e = cc
+
+-- ---- values
+
+is_short : (b : Bool) (t : Ticket) (row : Result Row CommandFault) (o : Order) → with_ticket t (read_row (cond b row (Err TooLong))) ≡ Ok o → b ≡ true
+is_short true t row o e = refl
+is_short false t row o e = absurd (clash o e)
+  where
+    clash : (o : Order) → ◌≡◌ {A = Result Order CommandFault} (Err TooLong) (Ok o) → ⊥
+    clash o e = cc
+
+low : (n : ℕ) → leb n 32768 ≡ true → n ≤ 32768
+low n is = grind (arith, nat_tests)
+
+short : (v : Value) → IsCommand v → length v ≤ 32768
+short v command = low (length v) (is_short (leb (length v) 32768) (ticket_of v) (ok_or (text_row v) Form) command.0 command.1)
+
+kept_in : (f : Value → Bool) (xs : List Value) (x : Value) → In (filter f xs) x → In xs x
+kept_in f [] x h = h
+kept_in f (y ∷ xs) x h =
+    let rest : In (filter f xs) x → In xs x = kept_in f xs x in
+    elim (f y) as (λ b. In (cond b (y ∷ filter f xs) (filter f xs)) x → In (y ∷ xs) x) [
+      | true ↦ λ h. ⊎_elim (λ e. inl e) (λ k. inr (rest k)) h
+      | false ↦ λ h. inr (rest h)
+    ] h
+
+oldest_short : (vs : List Value) → ((v : Value) → In vs v → length v ≤ 32768) → length (oldest vs) ≤ 32768
+oldest_short [] h = omega arith
+oldest_short (v ∷ vs) h = h v (inl refl)
+
+-- ---- ranges are kept
+
+put_attempt : (attempts : ℕ → Option Attempt) (i : ℕ) (a : Attempt) → ((j : ℕ) (b : Attempt) → attempts j ≡ Some b → IsAttemptInRange b) → IsAttemptInRange a
+    → (j : ℕ) (b : Attempt) → put_at attempts i (Some a) j ≡ Some b → IsAttemptInRange b
+put_attempt attempts i a h is j b e =
+    ⊎_elim (λ (at : j ≡ i). subst IsAttemptInRange (same_some a b (sym (put_here attempts i (Some a) j at) ∙ e)) is)
+    (λ apart. h j b (sym (put_other attempts i (Some a) j apart) ∙ e)) (cases_eq j i)
+
+prior_short : (prior : Option Vote) (w : Vote) → IfSome prior (λ vote. length vote.value ≤ 32768) → prior ≡ Some w → length w.value ≤ 32768
+prior_short None w h e = cc
+prior_short (Some x) w h e = subst (λ (y : Vote). length y.value ≤ 32768) (same_some x w e) h
+
+with_one : (a : Attempt) (q : ℕ) (prior : Option Vote) → IsAttemptInRange a → IfSome prior (λ vote. length vote.value ≤ 32768)
+    → (x : Answer) (w : Vote) → In (with_answer a q prior) x → x.prior ≡ Some w → length w.value ≤ 32768
+with_one a q prior h fits x w k e =
+    ⊎_elim (λ m. h.told x w m e) (λ (is : record { sender = q; prior = prior } ≡ x). prior_short prior w fits (ap (λ (y : Answer). y.prior) is ∙ e))
+    (in_push a.answers (record { sender = q; prior = prior }) x k)
+
+taken_ranges : (n : ℕ) (attempts : ℕ → Option Attempt) (q i : ℕ) (b : BallotOf) (prior : Option Vote) (after : ℕ → Option Attempt) (proposed : Option Value) → TakesPromise n attempts q i b prior after proposed
+    → IfSome prior (λ vote. length vote.value ≤ 32768) → ((j : ℕ) (a : Attempt) → attempts j ≡ Some a → IsAttemptInRange a) → (j : ℕ) (a : Attempt) → after j ≡ Some a → IsAttemptInRange a
+taken_ranges n attempts q i b prior after None step fits h =
+    ⊎_elim
+    (λ (x : ((a : Attempt) → attempts i ≡ Some a → ¬ Counts a q b) × (after ≡ attempts)). λ j a e. h j a (ap (λ (f : ℕ → Option Attempt). f j) (sym x.1) ∙ e))
+    (λ (x : (a : Attempt) × (attempts i ≡ Some a) × Counts a q b × (¬ Majority n (senders (with_answer a q prior))) × (after ≡ put_at attempts i (Some (waiting a q prior)))).
+    λ j a e. put_attempt attempts i (waiting x.0 q prior) h (record { own = (h i x.0 x.1).own; told = with_one x.0 q prior (h i x.0 x.1) fits }) j a (ap (λ (f : ℕ → Option Attempt). f j) (sym x.4) ∙ e))
+    step
+taken_ranges n attempts q i b prior after (Some v) step fits h = λ j a e.
+    put_attempt attempts i (proposing step.0 q prior v) h (record { own = (h i step.0 step.1).own; told = with_one step.0 q prior (h i step.0 step.1) fits }) j a (ap (λ (f : ℕ → Option Attempt). f j) (sym step.5) ∙ e)
+
+learned_ranges : (s : Node) (i : ℕ) (v : Value) → HasRanges s → IsInstance i → length v ≤ 32768 → HasRanges (learned s i v)
+learned_ranges s i v h instance fits = record {
+  known = λ j u e. ⊎_elim (λ (at : j ≡ i). (subst IsInstance (sym at) instance, subst (λ (x : Value). length x ≤ 32768) (same_some v u (sym (put_here s.known i (Some v) j at) ∙ e)) fits))
+      (λ apart. h.known j u (sym (put_other s.known i (Some v) j apart) ∙ e)) (cases_eq j i);
+  pending = λ u k. h.pending u (kept_in (λ u. not (shares_ticket u v)) s.pending u k);
+  attempts = λ j a e. ⊎_elim (λ (at : j ≡ i). absurd (no_attempt a (sym (put_here s.attempts i None j at) ∙ e)))
+      (λ apart. h.attempts j a (sym (put_other s.attempts i None j apart) ∙ e)) (cases_eq j i);
+}
+
+same_ranges : (s t : Node) → HasRanges s → t.known ≡ s.known → t.pending ≡ s.pending → t.attempts ≡ s.attempts → HasRanges t
+same_ranges s t h known pending attempts = record {
+  known = λ i v e. h.known i v (ap (λ (f : ℕ → Option Value). f i) (sym known) ∙ e);
+  pending = λ v k. h.pending v (subst (λ (vs : List Value). In vs v) pending k);
+  attempts = λ i a e. h.attempts i a (ap (λ (f : ℕ → Option Attempt). f i) (sym attempts) ∙ e);
+}
+
+by_effect : (effect e : Effect) → effect ≡ e → HasRanges e.after → HasRanges effect.after
+by_effect effect e is h = subst (λ (x : Effect). HasRanges x.after) (sym is) h
+
+delivery_ranges : (n p : ℕ) (s : Node) (m : Message) (effect : Effect) → HasRanges s → IsMessage n m → ByKind n p s m effect → HasRanges effect.after
+delivery_ranges n p s (Prepare q i b) effect h m how = by_effect effect (record { entry = how.entry; after = s; out = _ }) how.is h
+delivery_ranges n p s (Propose q i b v) effect h m how = by_effect effect (record { entry = how.entry; after = s; out = _ }) how.is h
+delivery_ranges n p s (Promise q i b prior) effect h m how =
+    by_effect effect (record { entry = None; after = record s { attempts = how.attempts }; out = _ }) how.is
+    (record { known = h.known; pending = h.pending; attempts = taken_ranges n s.attempts q i b prior how.attempts how.proposed how.step m.fits h.attempts })
+delivery_ranges n p s (Accepted q i b v) effect h m how =
+    let told : HasRanges (with_vote s (tally q i b v)) = same_ranges s (with_vote s (tally q i b v)) h refl refl refl in
+    ⊎_elim
+    (λ (x : IsUnknown s i × Counted n (with_vote s (tally q i b v)) i b v effect).
+    ⊎_elim
+    (λ (few : (¬ HasMajority n (In (with_vote s (tally q i b v)).votes) i b v) × (effect ≡ quiet (with_vote s (tally q i b v)))). by_effect effect (quiet (with_vote s (tally q i b v))) few.1 told)
+    (λ (enough : HasMajority n (In (with_vote s (tally q i b v)).votes) i b v × (effect ≡ quiet (learned (with_vote s (tally q i b v)) i v))).
+    by_effect effect (quiet (learned (with_vote s (tally q i b v)) i v)) enough.1 (learned_ranges (with_vote s (tally q i b v)) i v told m.instance m.fits))
+    x.1)
+    (λ (x : IsKnown s i × (effect ≡ quiet s)). by_effect effect (quiet s) x.1 h)
+    how
+delivery_ranges n p s (Nack q i b c) effect h m how = by_effect effect (quiet (record s { heard = max s.heard c.round })) how (same_ranges s (record s { heard = max s.heard c.round }) h refl refl refl)
+delivery_ranges n p s (Ask q i) effect h m how =
+    ⊎_elim
+    (λ (x : (v : Value) × (s.known i ≡ Some v) × (effect ≡ says s (One q) (Chosen p i v))). by_effect effect (says s (One q) (Chosen p i x.0)) x.2 h)
+    (λ (x : IsUnknown s i × (effect ≡ quiet s)). by_effect effect (quiet s) x.1 h)
+    how
+delivery_ranges n p s (Chosen q i v) effect h m how =
+    ⊎_elim
+    (λ (x : IsUnknown s i × (effect ≡ quiet (learned s i v))). by_effect effect (quiet (learned s i v)) x.1 (learned_ranges s i v h m.instance m.fits))
+    (λ (x : (s.known i ≡ Some v) × (effect ≡ quiet s)). by_effect effect (quiet s) x.1 h)
+    how
+
+call_ranges : (n p : ℕ) (s : Node) (call : Call) (effect : Effect) → HasRanges s → IsCallInRange n call → Does n p s call effect → HasRanges effect.after
+call_ranges n p s (submit v) effect h m how =
+    ⊎_elim
+    (λ (x : IsCommand v × IsHeld s v × (effect ≡ quiet s)). by_effect effect (quiet s) x.2 h)
+    (λ (x : IsCommand v × (¬ IsHeld s v) × (length s.pending < 64) × (effect ≡ quiet (queued s v))). by_effect effect (quiet (queued s v)) x.3 (record {
+      known = h.known;
+      pending = λ u k. ⊎_elim (λ m. h.pending u m) (λ (e : v ≡ u). subst (λ (x : Value). length x ≤ 32768) e (short v x.0)) (in_push s.pending v u k);
+      attempts = h.attempts;
+    }))
+    how
+call_ranges n p s tick effect h m how =
+    let a : Attempt = opened (fresh_ballot p s) (oldest s.pending) in
+    by_effect effect (record { entry = _; after = record s { attempts = put_at s.attempts how.instance (Some a) }; out = _ }) how.is
+    (record { known = h.known; pending = h.pending; attempts = put_attempt s.attempts how.instance a h.attempts (record { own = oldest_short s.pending h.pending; told = λ x w k e. absurd k }) })
+call_ranges n p s ask effect h m how = by_effect effect (says s _ _) how.is h
+call_ranges n p s (deliver m) effect h is how = delivery_ranges n p (record s { reached = _ }) m effect (same_ranges s (record s { reached = _ }) h refl refl refl) is how
+
+pub opens_in_range : OpensInRange
+opens_in_range mode entries in_flight = record { known = λ i v e. absurd (no_value v e); pending = λ v k. absurd k; attempts = λ i a e. absurd (no_attempt a e) }
+
+pub stays_in_range : StaysInRange
+stays_in_range n p s new call Whole out h m how = let after = call_ranges n p s call how.effect h m how.does in subst HasRanges (sym how.node) (record { known = after.known; pending = after.pending; attempts = after.attempts })
+stays_in_range n p s new call (Refused cause) out h m how = subst HasRanges (sym how.node) h
+stays_in_range n p s new call Failed out h m how = subst HasRanges (sym how.node) (record { known = h.known; pending = h.pending; attempts = h.attempts })
+
+-- ---- what is on record is in its ranges
+
+at_member : {X : Type 0} (xs : List X) (x : X) → In xs x → (before : List X) × (after : List X) × (xs ≡ before ++ x ∷ after)
+at_member [] x h = absurd h
+at_member {X = X} (y ∷ xs) x h =
+    let rest : In xs x → (before : List X) × (after : List X) × (xs ≡ before ++ x ∷ after) = at_member xs x in
+    ⊎_elim (λ (e : y ≡ x). ([], xs, ap (λ z. z ∷ xs) e)) (λ k. let r = rest k in (y ∷ r.0, r.1, ap (λ zs. y ∷ zs) r.2)) h
+
+entry_in_range : (n : ℕ) (es : List Entry) (e : Entry) → IsHistory n es → In es e → IsInRange n e
+entry_in_range n es e history here = let at = at_member es e here in (history at.0 e at.1 at.2).in_range
+
+raised_in_range : (n : ℕ) (e : Entry) (i : ℕ) (b : BallotOf) → IsInRange n e → Raises e i b → IsBallot n b
+raised_in_range n (Round r) i b range raises = absurd raises
+raised_in_range n (Promised j c) i b range raises = subst (IsBallot n) raises.1 range.1
+raised_in_range n (Voted j c v) i b range raises = subst (IsBallot n) raises.1 range.1
+
+promise_in_range : (n : ℕ) (es : List Entry) (i : ℕ) (slot : Slot) (c : BallotOf) → IsHistory n es → IsSlot es i slot → slot.promised ≡ Some c → IsBallot n c
+promise_in_range n es i slot c history is e =
+    let raised = subst (λ (p : Option BallotOf). IsPromise es i p) e is.promise in
+    raised_in_range n raised.0.0 i c (entry_in_range n es raised.0.0 history raised.0.1) raised.0.2
+
+vote_stands : (i : ℕ) (last : Option Vote) (es : List Entry) (w : Vote) → vote_after i last es ≡ Some w → ((j : ℕ) × In es (Voted j w.ballot w.value)) ⊎ (last ≡ Some w)
+vote_stands i last [] w e = inr e
+vote_stands i last (Round s ∷ es) w e = ⊎_elim (λ (h : (j : ℕ) × In es (Voted j w.ballot w.value)). inl (h.0, inr h.1)) (λ h. inr h) (vote_stands i last es w e)
+vote_stands i last (Promised j b ∷ es) w e = ⊎_elim (λ (h : (j : ℕ) × In es (Voted j w.ballot w.value)). inl (h.0, inr h.1)) (λ h. inr h) (vote_stands i last es w e)
+vote_stands i last (Voted j b v ∷ es) w e =
+    ⊎_elim (λ (h : (j : ℕ) × In es (Voted j w.ballot w.value)). inl (h.0, inr h.1)) (λ h. go (nat_eq j i) h) (vote_stands i (cond (nat_eq j i) (Some (record { ballot = b; value = v })) last) es w e)
+  where
+    go : (t : Bool) → cond t (Some (record { ballot = b; value = v })) last ≡ Some w → ((k : ℕ) × In (Voted j b v ∷ es) (Voted k w.ballot w.value)) ⊎ (last ≡ Some w)
+    go true h =
+        let same : ◌≡◌ {A = Vote} (record { ballot = b; value = v }) w = cc in
+        inl (j, inl (λ k. Voted j (same k).ballot (same k).value))
+    go false h = inr h
+
+vote_in_range : (n : ℕ) (es : List Entry) (i : ℕ) (slot : Slot) (w : Vote) → IsHistory n es → IsSlot es i slot → slot.vote ≡ Some w → IsBallot n w.ballot × (length w.value ≤ 32768)
+vote_in_range n es i slot w history is e =
+    ⊎_elim
+    (λ (h : (j : ℕ) × In es (Voted j w.ballot w.value)). let range = entry_in_range n es (Voted h.0 w.ballot w.value) history h.1 in (range.1, range.2))
+    (λ (h : ◌≡◌ {A = Option Vote} None (Some w)). absurd (clash w h))
+    (vote_stands i None es w (sym is.vote ∙ e))
+  where
+    clash : (w : Vote) → ◌≡◌ {A = Option Vote} None (Some w) → ⊥
+    clash w h = cc
+
+-- ---- messages
+
+if_some : (o : Option Vote) (P : Vote → Type 0) → ((w : Vote) → o ≡ Some w → P w) → IfSome o P
+if_some None P h = tt
+if_some (Some w) P h = h w (λ _. Some w)
+
+abbrev Says : ℕ → List (To × Message) → Type 0
+Says n out = (x : To × Message) → In out x → IsMessage n x.1
+
+one_message : (n : ℕ) (to : To) (m : Message) → IsMessage n m → Says n ((to, m) ∷ [])
+one_message n to m is x k = ⊎_elim (λ (e : (to, m) ≡ x). subst (λ (y : To × Message). IsMessage n y.1) e is) (λ none. absurd none) k
+
+no_message : (n : ℕ) → Says n []
+no_message n x k = absurd k
+
+prepare_says : (n p i : ℕ) (b : BallotOf) (es : List Entry) (slot after : Slot) (reply : Reply) → IsNode n p → IsInstance i → IsBallot n b → IsHistory n es → IsSlot es i slot → Steps slot (prepare b) after reply → Says n (prepare_out p i b reply)
+prepare_says n p i b es slot after (promise prior) node instance ballot history is step =
+    let ranges = λ (w : Vote) (e : prior ≡ Some w). vote_in_range n es i slot w history is (sym step.0 ∙ e) in
+    one_message n (One b.node) (Promise p i b prior) (record {
+      sender = node;
+      instance = instance;
+      ballots = (ballot, if_some prior (λ vote. IsBallot n vote.ballot) (λ w e. (ranges w e).0));
+      fits = if_some prior (λ vote. length vote.value ≤ 32768) (λ w e. (ranges w e).1);
+    })
+prepare_says n p i b es slot after (nack c) node instance ballot history is step =
+    one_message n (One b.node) (Nack p i b c) (record { sender = node; instance = instance; ballots = (ballot, promise_in_range n es i slot c history is step.0.0); fits = tt })
+prepare_says n p i b es slot after accepted node instance ballot history is step = no_message n
+prepare_says n p i b es slot after no_answer node instance ballot history is step = no_message n
+
+propose_says : (n p i : ℕ) (b : BallotOf) (v : Value) (es : List Entry) (slot after : Slot) (reply : Reply) → IsNode n p → IsInstance i → IsBallot n b → length v ≤ 32768 → IsHistory n es → IsSlot es i slot
+    → Steps slot (proposal b v) after reply → Says n (propose_out p i b v reply)
+propose_says n p i b v es slot after accepted node instance ballot fits history is step = one_message n All (Accepted p i b v) (record { sender = node; instance = instance; ballots = ballot; fits = fits })
+propose_says n p i b v es slot after (nack c) node instance ballot fits history is step =
+    one_message n (One b.node) (Nack p i b c) (record { sender = node; instance = instance; ballots = (ballot, promise_in_range n es i slot c history is step.0.0); fits = tt })
+propose_says n p i b v es slot after (promise prior) node instance ballot fits history is step = no_message n
+propose_says n p i b v es slot after no_answer node instance ballot fits history is step = no_message n
+
+chosen_short : (own : Value) (answers : List Answer) (v : Value) → length own ≤ 32768 → ((x : Answer) (w : Vote) → In answers x → x.prior ≡ Some w → length w.value ≤ 32768) → Chooses own answers v → length v ≤ 32768
+chosen_short own answers v fits told chooses =
+    ⊎_elim
+    (λ none. subst (λ (x : Value). length x ≤ 32768) (sym none.1) fits)
+    (λ (h : (x : Answer) × (c : BallotOf) × In answers x × (x.prior ≡ Some (record { ballot = c; value = v })) × _). told h.0 (record { ballot = h.1; value = v }) h.2 h.3)
+    chooses
+
+by_out : (n : ℕ) (effect e : Effect) → effect ≡ e → Says n e.out → Says n effect.out
+by_out n effect e is h = subst (λ (x : Effect). Says n x.out) (sym is) h
+
+promise_says : (n p : ℕ) (s : Node) (q i : ℕ) (b : BallotOf) (prior : Option Vote) (after : ℕ → Option Attempt) (proposed : Option Value) → IsNode n p → IsInstance i → IsBallot n b
+    → IfSome prior (λ vote. length vote.value ≤ 32768) → HasRanges s → TakesPromise n s.attempts q i b prior after proposed → Says n (promise_out p i b proposed)
+promise_says n p s q i b prior after None node instance ballot fits h step = no_message n
+promise_says n p s q i b prior after (Some v) node instance ballot fits h step =
+    let a = h.attempts i step.0 step.1 in
+    one_message n All (Propose p i b v) (record { sender = node; instance = instance; ballots = ballot; fits = chosen_short step.0.own (with_answer step.0 q prior) v a.own (with_one step.0 q prior a fits) step.4 })
+
+delivery_says : (n p : ℕ) (s : Node) (m : Message) (effect : Effect) → IsNode n p → IsHistory n s.entries → HasRanges s → IsMessage n m → ByKind n p s m effect → Says n effect.out
+delivery_says n p s (Prepare q i b) effect node history h m how =
+    by_out n effect (record { entry = how.entry; after = s; out = prepare_out p i b how.answer }) how.is (prepare_says n p i b s.entries how.slot how.after how.answer node m.instance m.ballots history how.on_record how.step)
+delivery_says n p s (Propose q i b v) effect node history h m how =
+    by_out n effect (record { entry = how.entry; after = s; out = propose_out p i b v how.answer }) how.is (propose_says n p i b v s.entries how.slot how.after how.answer node m.instance m.ballots m.fits history how.on_record how.step)
+delivery_says n p s (Promise q i b prior) effect node history h m how =
+    by_out n effect (record { entry = None; after = record s { attempts = how.attempts }; out = promise_out p i b how.proposed }) how.is
+    (promise_says n p s q i b prior how.attempts how.proposed node m.instance m.ballots.0 m.fits h how.step)
+delivery_says n p s (Accepted q i b v) effect node history h m how =
+    ⊎_elim
+    (λ (x : IsUnknown s i × Counted n (with_vote s (tally q i b v)) i b v effect).
+    ⊎_elim
+    (λ (few : (¬ HasMajority n (In (with_vote s (tally q i b v)).votes) i b v) × (effect ≡ quiet (with_vote s (tally q i b v)))). by_out n effect (quiet (with_vote s (tally q i b v))) few.1 (no_message n))
+    (λ (enough : HasMajority n (In (with_vote s (tally q i b v)).votes) i b v × (effect ≡ quiet (learned (with_vote s (tally q i b v)) i v))).
+    by_out n effect (quiet (learned (with_vote s (tally q i b v)) i v)) enough.1 (no_message n))
+    x.1)
+    (λ (x : IsKnown s i × (effect ≡ quiet s)). by_out n effect (quiet s) x.1 (no_message n))
+    how
+delivery_says n p s (Nack q i b c) effect node history h m how = by_out n effect (quiet (record s { heard = max s.heard c.round })) how (no_message n)
+delivery_says n p s (Ask q i) effect node history h m how =
+    ⊎_elim
+    (λ (x : (v : Value) × (s.known i ≡ Some v) × (effect ≡ says s (One q) (Chosen p i v))).
+    by_out n effect (says s (One q) (Chosen p i x.0)) x.2 (one_message n (One q) (Chosen p i x.0) (record { sender = node; instance = m.instance; ballots = tt; fits = (h.known i x.0 x.1).1 })))
+    (λ (x : IsUnknown s i × (effect ≡ quiet s)). by_out n effect (quiet s) x.1 (no_message n))
+    how
+delivery_says n p s (Chosen q i v) effect node history h m how =
+    ⊎_elim
+    (λ (x : IsUnknown s i × (effect ≡ quiet (learned s i v))). by_out n effect (quiet (learned s i v)) x.1 (no_message n))
+    (λ (x : (s.known i ≡ Some v) × (effect ≡ quiet s)). by_out n effect (quiet s) x.1 (no_message n))
+    how
+
+none_in : (p : ℕ) (s : Node) (i : ℕ) (elsewhere : List (ℕ × Attempt)) → length (map (resent p) elsewhere) ≡ 0 → (x : To × Message) → In (map (resent p) elsewhere) x → ⊥
+none_in p s i [] none x k = k
+none_in p s i (y ∷ ys) none x k = omega (arith, none)
+
+call_says : (n p : ℕ) (s : Node) (call : Call) (effect : Effect) → IsNode n p → IsHistory n s.entries → IsTidy s → HasRanges s → IsCallInRange n call → Does n p s call effect → Says n effect.out
+call_says n p s (submit v) effect node history tidy h m how =
+    ⊎_elim
+    (λ (x : IsCommand v × IsHeld s v × (effect ≡ quiet s)). by_out n effect (quiet s) x.2 (no_message n))
+    (λ (x : IsCommand v × (¬ IsHeld s v) × (length s.pending < 64) × (effect ≡ quiet (queued s v))). by_out n effect (quiet (queued s v)) x.3 (no_message n))
+    how
+call_says n p s tick effect node history tidy h m how =
+    let i = how.instance in
+    let b = fresh_ballot p s in
+    let none = none_sent_again p s i how.elsewhere tidy how.first how.open_elsewhere in
+    let first : IsMessage n (Prepare p i b) = record { sender = node; instance = how.first.instance; ballots = (omega arith, how.round, node); fits = tt } in
+    by_out n effect (record { entry = _; after = record s { attempts = _ }; out = (All, Prepare p i b) ∷ map (resent p) how.elsewhere }) how.is
+    (λ x k. ⊎_elim (λ (e : (All, Prepare p i b) ≡ x). subst (λ (y : To × Message). IsMessage n y.1) e first) (λ again. absurd (none_in p s i how.elsewhere none x again)) k)
+call_says n p s ask effect node history tidy h m how =
+    by_out n effect (says s All (Ask p how.instance)) how.is (one_message n All (Ask p how.instance) (record { sender = node; instance = how.first.instance; ballots = tt; fits = tt }))
+call_says n p s (deliver m) effect node history tidy h is how = delivery_says n p (record s { reached = _ }) m effect node history (same_ranges s (record s { reached = _ }) h refl refl refl) is how
+
+pub says_messages : SaysMessages
+says_messages n p s new call Whole out node history tidy h m how x k =
+    call_says n p s call how.effect node history tidy h m how.does x (subst (λ (l : List (To × Message)). In l x) how.handed_out k)
+says_messages n p s new call (Refused cause) out node history tidy h m how x k = absurd (no_message' x (subst (λ (l : List (To × Message)). In l x) how.nothing k))
+  where
+    no_message' : (x : To × Message) → In [] x → ⊥
+    no_message' x k = k
+says_messages n p s new call Failed out node history tidy h m how x k = absurd (no_message' x (subst (λ (l : List (To × Message)). In l x) how.nothing k))
+  where
+    no_message' : (x : To × Message) → In [] x → ⊥
+    no_message' x k = k
