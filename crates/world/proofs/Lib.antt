@@ -1,4 +1,5 @@
 pub mod Lists
+pub mod Told
 pub mod Order
 pub mod Core
 pub mod Entries
@@ -18,6 +19,8 @@ pub mod Agreed
 pub mod Deciding
 pub mod Published
 pub mod Taken
-pub mod OfThree
-pub mod Example
-pub mod Publishing
+pub mod Tables
+pub mod DoingVotes
+pub mod Doing
+pub mod Computing
+pub mod Schedules

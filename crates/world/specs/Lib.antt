@@ -2,3 +2,4 @@ pub mod Worlds
 pub mod Taking
 pub mod Decided
 pub mod Agreement
+pub mod Worked

@@ -5,4 +5,4 @@ mod event;
 mod laws;
 
 pub use event::Event;
-pub use laws::{every_schedule_agrees, runs_are_schedules};
+pub use laws::{every_schedule_agrees, runs_are_schedules, worked_schedules_are_taken};

@@ -1,0 +1,312 @@
+-- What each call does at a node by tables, computed, and that it does so.
+use Rattle.std.proofs.Common.{◌≡◌, ◌≢◌, ◌⊎◌, inl, inr, ℕ, zero, suc, ◌<◌, ◌^◌, max, true, false, not, Option, Some, None, Result, Ok, Err, List, [], ◌∷◌, ◌++◌, filter, length, refl, sym, ap, subst, ⊎_elim, arith, ◌∙◌}
+use Rattle.std.specs.Prelude.{nat_eq}
+use Rattle.site_ids.specs.Ids.{BallotOf, Below, NotAbove, IsInstance}
+use Rattle.site_ids.specs.Majorities.{In}
+use Rattle.site_ids.specs.Maps.{put_at}
+use Rattle.site_ids.specs.declared.value.Vote.{Vote}
+use Rattle.wire.specs.declared.message.Message.{Message}
+use Rattle.wire.specs.declared.message.Message.TheVariants.{Prepare, Promise, Propose, Accepted, Nack, Ask, Chosen}
+use Rattle.durable.specs.Entries.{Round, last_round}
+use Rattle.proposer.specs.Attempts.{Answer, Attempt, opened as opened_attempt, waiting, proposing, senders, with_answer, Counts, ToldNone, Highest, Chooses}
+use Rattle.learner.specs.Tallies.{Tally, tally}
+use Rattle.command.specs.Action.{Order}
+use Rattle.command.specs.Reading.{value_reading}
+use Rattle.command.specs.declared.fault.CommandFault.{CommandFault}
+use Rattle.node.specs.declared.to.To.TheVariants.{One, All}
+use Rattle.node.specs.Nodes.{Value, IsFirstUnknown}
+use Rattle.node.specs.Tickets.{IsHeld, shares_ticket}
+use Rattle.node.specs.Deliveries.{reached_by, OnPromise, OnAccepted, OnAsk, OnChosen, ByKind}
+use Rattle.node.specs.Calls.{Call, submit, tick, ask, deliver, oldest, Does}
+use Rattle.world.proofs.Lists.{put_at_cases}
+use Rattle.world.proofs.Order.{not_above_itself, not_above_trans, below_is_not_above}
+use Rattle.world.proofs.Told.{Told, both, otherwise, numbers, no_more, ballots, ballot_order, values, among, majority, are_many}
+use Rattle.world.proofs.Tables.{Table, map_of, keys, is_key, NodeBy, node_by}
+use Rattle.world.proofs.DoingVotes.{Done, no_such, nothing_there, inside, on_prepare, on_propose}
+
+-- ---- the proposer's step
+
+abbrev pub Chosen_of : List ℕ → List Answer → Type 0
+Chosen_of own answers = (v : Value) × Chooses own answers v
+
+abbrev pub Best : List Answer → Type 0
+Best answers = ToldNone answers ⊎ ((v : Value) × Highest answers v)
+
+pub none_first : (x : Answer) (answers : List Answer) → x.prior ≡ None → ToldNone answers → ToldNone (x ∷ answers)
+none_first x answers is none y k = ⊎_elim (λ (e : x ≡ y). subst (λ (z : Answer). z.prior ≡ None) e is) (λ k. none y k) k
+
+pub highest_later : (x : Answer) (answers : List Answer) (v : Value) → x.prior ≡ None → Highest answers v → Highest (x ∷ answers) v
+highest_later x answers v is h = (
+  h.0,
+  h.1,
+  inr h.2,
+  h.3,
+  λ y w k told. ⊎_elim (λ (e : x ≡ y). absurd (no_such w (sym is ∙ ap (λ (z : Answer). z.prior) e ∙ told))) (λ k. h.4 y w k told) k,
+)
+
+pub told_first : (x y : Answer) (w u : Vote) → x.prior ≡ Some w → x ≡ y → y.prior ≡ Some u → u.ballot ≡ w.ballot
+told_first x y w u is e told = ap (λ (z : Vote). z.ballot) (inside u w (sym told ∙ sym (ap (λ (z : Answer). z.prior) e) ∙ is))
+
+pub highest_first : (x : Answer) (answers : List Answer) (w : Vote) → x.prior ≡ Some w → ((y : Answer) (u : Vote) → In answers y → y.prior ≡ Some u → NotAbove u.ballot w.ballot) → Highest (x ∷ answers) w.value
+highest_first x answers w is most = (
+  x,
+  w.ballot,
+  inl refl,
+  is,
+  λ y u k told. ⊎_elim (λ (e : x ≡ y). subst (λ (c : BallotOf). NotAbove c w.ballot) (sym (told_first x y w u is e told)) (not_above_itself w.ballot)) (λ k. most y u k told) k,
+)
+
+pub highest_kept : (x : Answer) (answers : List Answer) (w : Vote) (v : Value) (h : Highest answers v) → x.prior ≡ Some w → NotAbove w.ballot h.1 → Highest (x ∷ answers) v
+highest_kept x answers w v h is low = (
+  h.0,
+  h.1,
+  inr h.2,
+  h.3,
+  λ y u k told. ⊎_elim (λ (e : x ≡ y). subst (λ (c : BallotOf). NotAbove c h.1) (sym (told_first x y w u is e told)) low) (λ k. h.4 y u k told) k,
+)
+
+pub none_over : (answers : List Answer) (w : Vote) → ToldNone answers → (y : Answer) (u : Vote) → In answers y → y.prior ≡ Some u → NotAbove u.ballot w.ballot
+none_over answers w none y u k told = absurd (no_such u (sym (none y k) ∙ told))
+
+pub all_under : (answers : List Answer) (w : Vote) (v : Value) (h : Highest answers v) → Below h.1 w.ballot → (y : Answer) (u : Vote) → In answers y → y.prior ≡ Some u → NotAbove u.ballot w.ballot
+all_under answers w v h over y u k told = not_above_trans u.ballot h.1 w.ballot (h.4 y u k told) (below_is_not_above h.1 w.ballot over)
+
+abbrev pub with_best : (x : Answer) (answers : List Answer) (prior : Option Vote) → x.prior ≡ prior → Best answers → Best (x ∷ answers)
+with_best x answers None is (inl none) = inl (none_first x answers is none)
+with_best x answers None is (inr h) = inr (h.0, highest_later x answers h.0 is h.1)
+with_best x answers (Some w) is (inl none) = inr (w.value, highest_first x answers w is (none_over answers w none))
+with_best x answers (Some w) is (inr h) = elim (ballot_order w.ballot h.1.1) [
+  | inl low ↦ inr (h.0, highest_kept x answers w h.0 h.1 is low)
+  | inr over ↦ inr (w.value, highest_first x answers w is (all_under answers w h.0 h.1 over))
+]
+
+abbrev pub best : (answers : List Answer) → Best answers
+best [] = inl (λ x k. absurd k)
+best (x ∷ answers) = with_best x answers x.prior refl (best answers)
+
+abbrev pub chosen_of : (own : List ℕ) (answers : List Answer) → Chosen_of own answers
+chosen_of own answers = elim (best answers) [ inl none ↦ (own, inl (none, refl)) | inr h ↦ (h.0, inr h.1) ]
+
+abbrev pub unproposed : (o : Option Value) → Told (o ≡ None)
+unproposed None = inl refl
+unproposed (Some v) = inr (λ e. nothing_there v e)
+
+abbrev pub counts : (a : Attempt) (q : ℕ) (b : BallotOf) → Told (Counts a q b)
+counts a q b = elim (both (ballots a.ballot b) (both (unproposed a.proposal) (otherwise (among numbers (senders a.answers) q)))) [
+  | inl x ↦ inl (x.0, x.1.0, x.1.1)
+  | inr not_so ↦ inr (λ c. not_so (c.0, (c.1, c.2)))
+]
+
+pub none_open : (t : NodeBy) (q i : ℕ) (b : BallotOf) → map_of t.attempts i ≡ None → (a : Attempt) → map_of t.attempts i ≡ Some a → ¬ Counts a q b
+none_open t q i b is a there = absurd (no_such a (sym is ∙ there))
+
+pub counts_not : (t : NodeBy) (q i : ℕ) (b : BallotOf) (a : Attempt) → map_of t.attempts i ≡ Some a → ¬ Counts a q b → (c : Attempt) → map_of t.attempts i ≡ Some c → ¬ Counts c q b
+counts_not t q i b a is none c there = subst (λ x. ¬ Counts x q b) (inside a c (sym is ∙ there)) none
+
+abbrev pub on_promise : (n p : ℕ) (t : NodeBy) (q i : ℕ) (b : BallotOf) (prior : Option Vote) → Done (OnPromise n p (node_by t) q i b prior)
+on_promise n p t q i b prior = elim (map_of t.attempts i) as (λ o. map_of t.attempts i ≡ o → Done (OnPromise n p (node_by t) q i b prior)) [
+  | None ↦ λ is. record {
+    entry = None;
+    after = t;
+    out = [];
+    does = record { attempts = map_of t.attempts; proposed = None; step = inl (none_open t q i b is, refl); is = refl };
+  }
+  | Some a ↦ λ is. elim (counts a q b) [
+    | inr none ↦ record {
+      entry = None;
+      after = t;
+      out = [];
+      does = record { attempts = map_of t.attempts; proposed = None; step = inl (counts_not t q i b a is none, refl); is = refl };
+    }
+    | inl count ↦ elim (majority n (senders (with_answer a q prior))) [
+      | inr few ↦ record {
+        entry = None;
+        after = record t { attempts = (i, Some (waiting a q prior)) ∷ t.attempts };
+        out = [];
+        does = record { attempts = put_at (map_of t.attempts) i (Some (waiting a q prior)); proposed = None; step = inr (a, is, count, few, refl); is = refl };
+      }
+      | inl many ↦
+          let v = chosen_of a.own (with_answer a q prior) in
+          record {
+            entry = None;
+            after = record t { attempts = (i, Some (proposing a q prior v.0)) ∷ t.attempts };
+            out = (All, Propose p i b v.0) ∷ [];
+            does = record { attempts = put_at (map_of t.attempts) i (Some (proposing a q prior v.0)); proposed = Some v.0; step = (a, is, count, many, v.1, refl); is = refl };
+          }
+    ]
+  ]
+] refl
+
+-- ---- the learner
+
+pub same_tally : (x y : Tally) → x.voter ≡ y.voter → x.instance ≡ y.instance → x.ballot ≡ y.ballot → x.value ≡ y.value → x ≡ y
+same_tally x y a b c d = λ k. record { voter = a k; instance = b k; ballot = c k; value = d k }
+
+abbrev pub tallies : (x y : Tally) → Told (x ≡ y)
+tallies x y = elim (both (both (numbers x.voter y.voter) (numbers x.instance y.instance)) (both (ballots x.ballot y.ballot) (values x.value y.value))) [
+  | inl e ↦ inl (same_tally x y e.0.0 e.0.1 e.1.0 e.1.1)
+  | inr apart ↦ inr (λ e. apart ((ap (λ (z : Tally). z.voter) e, ap (λ (z : Tally). z.instance) e), (ap (λ (z : Tally). z.ballot) e, ap (λ (z : Tally). z.value) e)))
+]
+
+-- the value is known, and what has served is dropped
+abbrev pub learned_by : NodeBy → ℕ → Value → NodeBy
+learned_by t i v = record t {
+  votes = filter (λ x. not (nat_eq x.instance i)) t.votes;
+  known = (i, Some v) ∷ t.known;
+  attempts = (i, None) ∷ t.attempts;
+  pending = filter (λ u. not (shares_ticket u v)) t.pending;
+}
+
+abbrev pub on_accepted : (n : ℕ) (t : NodeBy) (q i : ℕ) (b : BallotOf) (v : Value) → Done (OnAccepted n (node_by t) q i b v)
+on_accepted n t q i b v = elim (map_of t.known i) as (λ o. map_of t.known i ≡ o → Done (OnAccepted n (node_by t) q i b v)) [
+  | Some u ↦ λ is. record { entry = None; after = t; out = []; does = inr ((u, is), refl) }
+  | None ↦ λ is.
+      let votes : List Tally = tally q i b v ∷ t.votes in
+      elim (are_many (λ p. In votes (tally p i b v)) (λ p. among tallies votes (tally p i b v)) n) [
+        | inr few ↦ record { entry = None; after = record t { votes = votes }; out = []; does = inl (is, inl (few, refl)) }
+        | inl many ↦ record { entry = None; after = learned_by (record t { votes = votes }) i v; out = []; does = inl (is, inr (many, refl)) }
+      ]
+] refl
+
+abbrev pub on_ask : (p : ℕ) (t : NodeBy) (q i : ℕ) → Done (OnAsk p (node_by t) q i)
+on_ask p t q i = elim (map_of t.known i) as (λ o. map_of t.known i ≡ o → Done (OnAsk p (node_by t) q i)) [
+  | None ↦ λ is. record { entry = None; after = t; out = []; does = inr (is, refl) }
+  | Some v ↦ λ is. record { entry = None; after = t; out = (One q, Chosen p i v) ∷ []; does = inl (v, is, refl) }
+] refl
+
+abbrev pub on_chosen : (t : NodeBy) (i : ℕ) (v : Value) → Option (Done (OnChosen (node_by t) i v))
+on_chosen t i v = elim (map_of t.known i) as (λ o. map_of t.known i ≡ o → Option (Done (OnChosen (node_by t) i v))) [
+  | None ↦ λ is. Some (record { entry = None; after = learned_by t i v; out = []; does = inl (is, refl) })
+  | Some u ↦ λ is. elim (values u v) [ inl e ↦ Some (record { entry = None; after = t; out = []; does = inr (is ∙ ap (λ x. Some x) e, refl) }) | inr other ↦ None ]
+] refl
+
+-- ---- a delivery
+
+abbrev pub by_kind : (n p : ℕ) (t : NodeBy) (m : Message) → Option (Done (ByKind n p (node_by t) m))
+by_kind n p t (Prepare q i b) = Some (on_prepare p t i b)
+by_kind n p t (Promise q i b prior) = Some (on_promise n p t q i b prior)
+by_kind n p t (Propose q i b v) = Some (on_propose p t i b v)
+by_kind n p t (Accepted q i b v) = Some (on_accepted n t q i b v)
+by_kind n p t (Nack q i b c) = Some (record { entry = None; after = record t { heard = max t.heard c.round }; out = []; does = refl })
+by_kind n p t (Ask q i) = Some (on_ask p t q i)
+by_kind n p t (Chosen q i v) = on_chosen t i v
+
+-- ---- a submission
+
+pub never : false ≡ true → ⊥
+never e = cc
+
+-- none of the values shares the ticket
+abbrev pub apart_from : (v : Value) (us : List Value) → Option ((u : Value) → In us u → ¬ (shares_ticket u v ≡ true))
+apart_from v [] = Some (λ u k. absurd k)
+apart_from v (u ∷ us) = elim (shares_ticket u v) as (λ b. shares_ticket u v ≡ b → Option ((x : Value) → In (u ∷ us) x → ¬ (shares_ticket x v ≡ true))) [
+  | true ↦ λ is. None
+  | false ↦ λ is. elim (apart_from v us) [ None ↦ None | Some later ↦ Some (λ x k. ⊎_elim (λ (e : u ≡ x). subst (λ y. ¬ (shares_ticket y v ≡ true)) e (λ shares. never (sym is ∙ shares))) (λ k. later x k) k) ]
+] refl
+
+-- nor does a known one
+abbrev pub unknown_to : (v : Value) (xs : Table Value) → Option ((i : ℕ) (u : Value) → map_of xs i ≡ Some u → ¬ (shares_ticket u v ≡ true))
+unknown_to v [] = Some (λ i u is. absurd (no_such u is))
+unknown_to v (x ∷ xs) = elim (unknown_to v xs) [
+  | None ↦ None
+  | Some later ↦ elim (x.1) as (λ o. x.1 ≡ o → Option ((i : ℕ) (u : Value) → map_of (x ∷ xs) i ≡ Some u → ¬ (shares_ticket u v ≡ true))) [
+    | None ↦ λ is. Some (λ i u there. ⊎_elim (λ (e : (i ≡ x.0) × (x.1 ≡ Some u)). absurd (no_such u (sym is ∙ e.1))) (λ k. later i u k) (put_at_cases (map_of xs) x.0 x.1 i u there))
+    | Some w ↦ λ is. elim (apart_from v (w ∷ [])) [
+      | None ↦ None
+      | Some apart ↦ Some (λ i u there. ⊎_elim (λ (e : (i ≡ x.0) × (x.1 ≡ Some u)). apart u (inl (inside w u (sym is ∙ e.1)))) (λ k. later i u k) (put_at_cases (map_of xs) x.0 x.1 i u there))
+    ]
+  ] refl
+]
+
+pub unheld : (t : NodeBy) (v : Value) → ((u : Value) → In t.pending u → ¬ (shares_ticket u v ≡ true)) → ((i : ℕ) (u : Value) → map_of t.known i ≡ Some u → ¬ (shares_ticket u v ≡ true)) → ¬ IsHeld (node_by t) v
+unheld t v apart unknown held = ⊎_elim
+    (λ (x : (u : Value) × In t.pending u × (shares_ticket u v ≡ true)). apart x.0 x.1 x.2)
+    (λ (x : (i : ℕ) × (u : Value) × (map_of t.known i ≡ Some u) × (shares_ticket u v ≡ true)). unknown x.0 x.1 x.2 x.3)
+    held
+
+abbrev pub submitted : (n p : ℕ) (t : NodeBy) (v : Value) (r : Result Order CommandFault) → value_reading v ≡ r → Option (Done (Does n p (node_by t) (submit v)))
+submitted n p t v (Err fault) is = None
+submitted n p t v (Ok order_) is = elim (apart_from v t.pending) [
+  | None ↦ None
+  | Some apart ↦ elim (unknown_to v t.known) [
+    | None ↦ None
+    | Some unknown ↦ elim (no_more (suc (length t.pending)) 64) [
+      | inr full ↦ None
+      | inl few ↦ Some (record { entry = None; after = record t { pending = t.pending ++ v ∷ [] }; out = []; does = inr ((order_, is), unheld t v apart unknown, few, refl) })
+    ]
+  ]
+]
+
+-- ---- a tick and a question
+
+pub one_further : (known : ℕ → Option Value) (i : ℕ) (v : Value) → known i ≡ Some v → ((j : ℕ) → IsInstance j → j < i → (u : Value) × (known j ≡ Some u)) → (j : ℕ) → IsInstance j → j < suc i → (u : Value) × (known j ≡ Some u)
+one_further known i v is before j at_ low = ⊎_elim (λ (e : j ≡ i). (v, subst (λ k. known k ≡ Some v) (sym e) is)) (λ apart. before j at_ (omega (arith, low, apart))) (numbers j i)
+
+pub none_before : (known : ℕ → Option Value) (j : ℕ) → IsInstance j → j < 1 → (u : Value) × (known j ≡ Some u)
+none_before known j at_ low = absurd (omega (arith, at_.0, low))
+
+abbrev pub first_from : (known : ℕ → Option Value) (fuel i : ℕ) → ((j : ℕ) → IsInstance j → j < i → (u : Value) × (known j ≡ Some u)) → Option ((k : ℕ) × IsFirstUnknown known k)
+first_from known zero i before = None
+first_from known (suc fuel) i before = elim (known i) as (λ o. known i ≡ o → Option ((k : ℕ) × IsFirstUnknown known k)) [
+  | None ↦ λ is. elim (both (no_more 1 i) (no_more i 1000000)) [ inl h ↦ Some (i, record { instance = h; unknown = is; before = before }) | inr past ↦ None ]
+  | Some v ↦ λ is. first_from known fuel (suc i) (one_further known i v is before)
+] refl
+
+abbrev pub first_unknown : (t : NodeBy) → Option ((k : ℕ) × IsFirstUnknown (map_of t.known) k)
+first_unknown t = first_from (map_of t.known) (suc (length t.known)) 1 (none_before (map_of t.known))
+
+-- each of the keys is i, or nothing is there
+abbrev pub only_at : (xs : Table Attempt) (i : ℕ) (ks : List ℕ) → Option ((j : ℕ) (a : Attempt) → In ks j → j ≢ i → map_of xs j ≡ Some a → ⊥)
+only_at xs i [] = Some (λ j a k. absurd k)
+only_at xs i (k ∷ ks) = elim (only_at xs i ks) [
+  | None ↦ None
+  | Some later ↦ elim (numbers k i) [
+    | inl e ↦ Some (λ j a there apart is. ⊎_elim (λ (s : k ≡ j). apart (sym s ∙ e)) (λ h. later j a h apart is) there)
+    | inr other ↦ elim (map_of xs k) as (λ o. map_of xs k ≡ o → Option ((j : ℕ) (a : Attempt) → In (k ∷ ks) j → j ≢ i → map_of xs j ≡ Some a → ⊥)) [
+      | Some a ↦ λ is. None
+      | None ↦ λ none. Some (λ j a there apart is. ⊎_elim (λ (s : k ≡ j). no_such a (sym none ∙ subst (λ x. map_of xs x ≡ Some a) (sym s) is)) (λ h. later j a h apart is) there)
+    ] refl
+  ]
+]
+
+abbrev pub fresh_of : ℕ → NodeBy → BallotOf
+fresh_of p t = record { round = suc (max (last_round t.entries) t.heard); node = p }
+
+abbrev pub ticked : (n p : ℕ) (t : NodeBy) → Option (Done (Does n p (node_by t) tick))
+ticked n p t = elim (first_unknown t) [
+  | None ↦ None
+  | Some first ↦ elim (no_more (suc (suc (max (last_round t.entries) t.heard))) (2 ^ 32)) [
+    | inr used ↦ None
+    | inl round ↦ elim (only_at t.attempts first.0 (keys t.attempts)) [
+      | None ↦ None
+      | Some alone ↦ Some (record {
+        entry = Some (Round (fresh_of p t).round);
+        after = record t { attempts = (first.0, Some (opened_attempt (fresh_of p t) (oldest t.pending))) ∷ t.attempts };
+        out = (All, Prepare p first.0 (fresh_of p t)) ∷ [];
+        does = record {
+          instance = first.0;
+          elsewhere = [];
+          first = first.1;
+          round = round;
+          open_elsewhere = record { rising = tt; each = λ x k. absurd k; whole = λ j a apart is. absurd (alone j a (is_key t.attempts j a is) apart is) };
+          is = refl;
+        };
+      })
+    ]
+  ]
+]
+
+abbrev pub asked : (n p : ℕ) (t : NodeBy) → Option (Done (Does n p (node_by t) ask))
+asked n p t = elim (first_unknown t) [
+  | None ↦ None
+  | Some first ↦ Some (record { entry = None; after = t; out = (All, Ask p first.0) ∷ []; does = record { instance = first.0; first = first.1; is = refl } })
+]
+
+-- ---- all calls
+
+-- what the call does, if it is one that is computed here: a ticket that is held, or what has a cause of refusal, isn't
+abbrev pub done : (n p : ℕ) (t : NodeBy) (call : Call) → Option (Done (Does n p (node_by t) call))
+done n p t (submit v) = submitted n p t v (value_reading v) refl
+done n p t tick = ticked n p t
+done n p t ask = asked n p t
+done n p t (deliver m) = by_kind n p (record t { reached = reached_by t.reached m }) m

@@ -1,0 +1,151 @@
+-- Worked schedules of three nodes, each event of which is taken, with the messages that they lead to.
+use Rattle.std.specs.Prelude.{◌≡◌, ◌≢◌, ℕ, ◌+◌, Some, None, List, [], ◌∷◌, ◌++◌}
+use Rattle.site_ids.specs.Ids.{BallotOf}
+use Rattle.site_ids.specs.declared.value.Vote.{Vote}
+use Rattle.wire.specs.declared.message.Message.{Message}
+use Rattle.wire.specs.declared.message.Message.TheVariants as say
+use Rattle.node.specs.Nodes.{Value}
+use Rattle.world.specs.declared.event.Event.{Event}
+use Rattle.world.specs.declared.event.Event.TheVariants.{Submit, Tick, Ask, Deliver, Arm, Crash, Restart}
+use Rattle.world.specs.Worlds.{World, start}
+use Rattle.world.specs.Taking.{TakesAll}
+use Rattle.world.specs.Decided.{Decides, Publishes}
+
+abbrev pub at : ℕ → ℕ → BallotOf
+at round node = record { round = round; node = node }
+
+abbrev pub vote : BallotOf → Value → Vote
+vote b v = record { ballot = b; value = v }
+
+-- ---- a duel
+
+-- Nodes 1 and 2 both begin at instance 1. Node 2's ballot is the higher one, so nodes 2 and 3 refuse node 1's proposal and vote for that of node 2. Node 1
+-- hears of it, and begins anew at instance 2, a round higher
+abbrev pub duel : Value → Value → List Event
+duel a b =
+    Submit 1 a ∷ Submit 2 b ∷ Tick 1 ∷ Tick 2 ∷ Deliver 1 0 ∷ Deliver 2 0 ∷ Deliver 2 1 ∷ Deliver 3 1 ∷ Deliver 1 2 ∷ Deliver 1 3 ∷ Deliver 1 6 ∷ Deliver 2 6 ∷ Deliver 3 6 ∷ Deliver 2 4
+    ∷ Deliver 2 5 ∷ Deliver 2 10 ∷ Deliver 3 10 ∷ Deliver 1 11 ∷ Deliver 1 12 ∷ Deliver 2 11 ∷ Deliver 2 12 ∷ Deliver 1 8 ∷ Tick 1 ∷ []
+
+abbrev pub said_in_duel : Value → Value → List Message
+said_in_duel a b =
+    say.Prepare 1 1 (at 1 1)
+    ∷ say.Prepare 2 1 (at 1 2)
+    ∷ say.Promise 1 1 (at 1 1) None
+    ∷ say.Promise 2 1 (at 1 1) None
+    ∷ say.Promise 2 1 (at 1 2) None
+    ∷ say.Promise 3 1 (at 1 2) None
+    ∷ say.Propose 1 1 (at 1 1) a
+    ∷ say.Accepted 1 1 (at 1 1) a
+    ∷ say.Nack 2 1 (at 1 1) (at 1 2)
+    ∷ say.Nack 3 1 (at 1 1) (at 1 2)
+    ∷ say.Propose 2 1 (at 1 2) b
+    ∷ say.Accepted 2 1 (at 1 2) b
+    ∷ say.Accepted 3 1 (at 1 2) b
+    ∷ say.Prepare 1 2 (at 2 1)
+    ∷ []
+
+pub record DuelIsTaken : Type 0 where
+  pub a : Value
+  pub b : Value
+  pub apart : a ≢ b
+  pub w : World
+  pub takes : TakesAll 3 start (duel a b) w
+  pub said : w.sent ≡ said_in_duel a b
+  pub decided : Decides 3 w.sent 1 b
+  pub known_by_1 : (w.node 1).known 1 ≡ Some b
+  pub known_by_2 : (w.node 2).known 1 ≡ Some b
+  pub waits : (w.node 1).pending ≡ a ∷ []
+
+-- ---- a vote lost, or not
+
+-- Node 2's device fails as it votes for node 1's proposal, which nobody else has. Node 2 crashes, and node 3 goes on with it
+abbrev pub vote_in_flight : Value → ℕ → List Event
+vote_in_flight a choice =
+    Submit 1 a ∷ Tick 1 ∷ Deliver 1 0 ∷ Deliver 2 0 ∷ Deliver 1 1 ∷ Deliver 1 2 ∷ Arm 2 3 ∷ Deliver 2 3 ∷ Crash 2 choice ∷ Restart 2 ∷ Tick 3 ∷ Deliver 2 4 ∷ Deliver 3 4 ∷ Deliver 3 5
+    ∷ Deliver 3 6 ∷ []
+
+abbrev pub said_before_crash : Value → List Message
+said_before_crash a = say.Prepare 1 1 (at 1 1) ∷ say.Promise 1 1 (at 1 1) None ∷ say.Promise 2 1 (at 1 1) None ∷ say.Propose 1 1 (at 1 1) a ∷ []
+
+-- the crash leaves the vote: node 2 tells it, and node 3 proposes its value
+pub record VoteIsKept : Type 0 where
+  pub a : Value
+  pub some : a ≢ []
+  pub w : World
+  pub takes : TakesAll 3 start (vote_in_flight a 1) w
+  pub said : w.sent
+      ≡ said_before_crash a ++ (say.Prepare 3 1 (at 1 3) ∷ say.Promise 2 1 (at 1 3) (Some (vote (at 1 1) a)) ∷ say.Promise 3 1 (at 1 3) None ∷ say.Propose 3 1 (at 1 3) a ∷ [])
+
+-- it leaves none: nobody voted, and node 3 proposes the no-op
+pub record VoteIsLost : Type 0 where
+  pub a : Value
+  pub some : a ≢ []
+  pub w : World
+  pub takes : TakesAll 3 start (vote_in_flight a 7) w
+  pub said : w.sent ≡ said_before_crash a ++ (say.Prepare 3 1 (at 1 3) ∷ say.Promise 2 1 (at 1 3) None ∷ say.Promise 3 1 (at 1 3) None ∷ say.Propose 3 1 (at 1 3) [] ∷ [])
+
+-- ---- a release over a gap
+
+-- Node 1 brings its oldest pending value through at the first instance that it doesn't know, with node 2's help. So many messages were handed out before
+abbrev pub bring_through : ℕ → List Event
+bring_through k = Tick 1 ∷ Deliver 1 k ∷ Deliver 2 k ∷ Deliver 1 (k + 1) ∷ Deliver 1 (k + 2) ∷ Deliver 1 (k + 3) ∷ Deliver 2 (k + 3) ∷ Deliver 1 (k + 4) ∷ Deliver 1 (k + 5) ∷ []
+
+-- node 3 is told of the votes at instances 1 and 3
+abbrev pub gap : Value → Value → Value → List Event
+gap a b c =
+    Submit 1 a ∷ Submit 1 b ∷ Submit 1 c ∷ (bring_through 0 ++ (bring_through 6 ++ (bring_through 12 ++ (Deliver 3 4 ∷ Deliver 3 5 ∷ Deliver 3 16 ∷ Deliver 3 17 ∷ []))))
+
+-- and then of those at instance 2
+abbrev pub gap_closes : List Event
+gap_closes = Deliver 3 10 ∷ Deliver 3 11 ∷ []
+
+-- the release at instance 3 is published only when instance 2 is known
+pub record GapIsWaitedFor : Type 0 where
+  pub a : Value
+  pub b : Value
+  pub c : Value
+  pub w : World
+  pub takes : TakesAll 3 start (gap a b c) w
+  pub first : (w.node 3).known 1 ≡ Some a
+  pub third : (w.node 3).known 3 ≡ Some c
+  pub unpublished : (fed : List Value) (r : ℕ) → ¬ Publishes (w.node 3) fed r
+  pub later : World
+  pub closes : TakesAll 3 w gap_closes later
+  pub published : Publishes (later.node 3) (a ∷ b ∷ c ∷ []) 1
+
+-- ---- openings
+
+-- Node 1 has voted for its own proposal, and is opened anew while it runs. Node 3 begins above it, is told that vote, and refuses the proposal that comes
+-- late. Node 2's device is set to fail, does so as it votes for node 3's proposal, and node 2 is opened without a crash: its vote stands, and is told once
+-- the proposal comes again. Node 1 asks, and is told the value
+abbrev pub openings : Value → List Event
+openings a =
+    Submit 1 a ∷ Tick 1 ∷ Deliver 1 0 ∷ Deliver 2 0 ∷ Deliver 1 1 ∷ Deliver 1 2 ∷ Deliver 1 3 ∷ Restart 1 ∷ Tick 3 ∷ Deliver 1 5 ∷ Deliver 3 5 ∷ Deliver 3 3 ∷ Deliver 1 8 ∷ Deliver 3 6
+    ∷ Deliver 3 7 ∷ Arm 2 0 ∷ Deliver 2 9 ∷ Restart 2 ∷ Deliver 2 9 ∷ Deliver 3 9 ∷ Deliver 3 10 ∷ Deliver 3 11 ∷ Ask 1 ∷ Deliver 3 12 ∷ Deliver 1 13 ∷ []
+
+abbrev pub said_over_openings : Value → List Message
+said_over_openings a =
+    say.Prepare 1 1 (at 1 1)
+    ∷ say.Promise 1 1 (at 1 1) None
+    ∷ say.Promise 2 1 (at 1 1) None
+    ∷ say.Propose 1 1 (at 1 1) a
+    ∷ say.Accepted 1 1 (at 1 1) a
+    ∷ say.Prepare 3 1 (at 1 3)
+    ∷ say.Promise 1 1 (at 1 3) (Some (vote (at 1 1) a))
+    ∷ say.Promise 3 1 (at 1 3) None
+    ∷ say.Nack 3 1 (at 1 1) (at 1 3)
+    ∷ say.Propose 3 1 (at 1 3) a
+    ∷ say.Accepted 2 1 (at 1 3) a
+    ∷ say.Accepted 3 1 (at 1 3) a
+    ∷ say.Ask 1 1
+    ∷ say.Chosen 3 1 a
+    ∷ []
+
+pub record OpeningsAreTaken : Type 0 where
+  pub a : Value
+  pub some : a ≢ []
+  pub w : World
+  pub takes : TakesAll 3 start (openings a) w
+  pub said : w.sent ≡ said_over_openings a
+  pub heard : (w.node 1).heard ≡ 1
+  pub known : (w.node 1).known 1 ≡ Some a
