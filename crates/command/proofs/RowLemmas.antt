@@ -4,7 +4,7 @@ use Rattle.std.proofs.lemmas.Option.{option_and_then_some}
 use Rattle.std.proofs.lemmas.Slice.Eq.{bytes_eq-Decides}
 use Rattle.command.specs.Action.{Kind, template, partial, page_data, route}
 use Rattle.command.specs.Cuts.{after_front, cut_at}
-use Rattle.command.specs.Rows.{Row, template_row, partial_row, data_row, route_row, remove_row, release_row, kind_word, spelled, is_word, IsWord, HasWords, is_empty, if_named, named, if_bare, remove_of, if_route, names_of, path_of, route_of, first_of, row_of}
+use Rattle.command.specs.Rows.{Row, template_row, partial_row, data_row, route_row, remove_row, release_row, kind_word, spelled, is_word, IsWord, HasWords, is_empty, if_named, named, if_bare, remove_of, if_route, names_of, path_of, route_of, first_of, removes_of, row_of}
 use Rattle.command.specs.Laws.{RowIsSpelled}
 use Rattle.command.proofs.CutLemmas.{after_front-is}
 use Rattle.command.proofs.WordLemmas.{Cut, both, cut_at_space, cut_at_line, cut_at-is}
@@ -107,18 +107,23 @@ first_is (Some r) later row S here there e = here e
 no_row : (row : Row) (S : Type 0) → first_of [] ≡ Some row → S
 no_row row S e = cc
 
+removes_are : (text : List ℕ) (row : Row) → removes_of text ≡ Some row → Spells text row
+removes_are text row =
+    let S = Spells text row in
+    first_is _ _ row S (remove_is template text row)
+    (first_is _ _ row S (remove_is partial text row)
+    (first_is _ _ row S (remove_is page_data text row)
+    (first_is _ _ row S (remove_is route text row) (no_row row S))))
+
 row_spells : (text : List ℕ) (row : Row) → row_of text ≡ Some row → Spells text row
 row_spells text row =
     let S = Spells text row in
     first_is _ _ row S (put_is (codes "put template ") template_row text row (named (codes "put template ") text) refl (λ p n. n))
+    (first_is _ _ row S (put_is (codes "put partial ") partial_row text row (named (codes "put partial ") text) refl (λ p n. n))
     (first_is _ _ row S (put_is (codes "put data ") data_row text row (named (codes "put data ") text) refl (λ p n. n))
     (first_is _ _ row S (route_is text row)
-    (first_is _ _ row S (release_if (bytes_eq text (codes "release\n")) text row refl)
-    (first_is _ _ row S (put_is (codes "put partial ") partial_row text row (named (codes "put partial ") text) refl (λ p n. n))
-    (first_is _ _ row S (remove_is template text row)
-    (first_is _ _ row S (remove_is partial text row)
-    (first_is _ _ row S (remove_is page_data text row)
-    (first_is _ _ row S (remove_is route text row) (no_row row S)))))))))
+    (first_is _ _ row S (removes_are text row)
+    (first_is _ _ row S (release_if (bytes_eq text (codes "release\n")) text row refl) (no_row row S))))))
 
 -- ---- from a spelling to its row
 

@@ -78,9 +78,6 @@ path_of p = option_and_then (names_of p.0) (cut_at 32 p.1)
 abbrev pub route_of : List ℕ → Option Row
 route_of text = option_and_then path_of (option_and_then (cut_at 32) (after_front (codes "put route ") text))
 
-abbrev pub release_of : List ℕ → Option Row
-release_of text = if bytes_eq text (codes "release\n") then Some release_row else None
-
 abbrev pub first_of : List (Option Row) → Option Row
 first_of [] = None
 first_of (Some row ∷ later) = Some row
@@ -95,16 +92,16 @@ removes_of text = first_of (
     ∷ remove_of route text
     ∷ [])
 
+abbrev pub release_of : List ℕ → Option Row
+release_of text = if bytes_eq text (codes "release\n") then Some release_row else None
+
 -- the row that a text spells
 abbrev pub row_of : List ℕ → Option Row
 row_of text = first_of (
     put_of (codes "put template ") template_row text
+    ∷ put_of (codes "put partial ") partial_row text
     ∷ put_of (codes "put data ") data_row text
     ∷ route_of text
+    ∷ removes_of text
     ∷ release_of text
-    ∷ put_of (codes "put partial ") partial_row text
-    ∷ remove_of template text
-    ∷ remove_of partial text
-    ∷ remove_of page_data text
-    ∷ remove_of route text
     ∷ [])

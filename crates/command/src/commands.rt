@@ -12,13 +12,30 @@ pub enum Kind {
 }
 
 /// What a command does. A template, a partial and data go by their name; a route by its path, with the names of its template and data.
+/// What is removed goes by its name too, a route by its path.
 #[derive(Drop)]
 pub enum Action {
-    PutTemplate(String, Template),
-    PutPartial(String, Template),
-    PutData(String, Data),
-    PutRoute(String, String, String),
-    Remove(Kind, String),
+    PutTemplate {
+        name: String,
+        template: Template,
+    },
+    PutPartial {
+        name: String,
+        template: Template,
+    },
+    PutData {
+        name: String,
+        page_data: Data,
+    },
+    PutRoute {
+        path: String,
+        template: String,
+        page_data: String,
+    },
+    Remove {
+        kind: Kind,
+        name: String,
+    },
     Release,
 }
 

@@ -4,46 +4,46 @@ ghost use Rattle.command.specs.Reading.{is_name_byte, is_name, is_path_byte, is_
 
 use site_ids::{MAX_NAME, MAX_PATH};
 
-fn name_byte(b: u8) -> bool
+fn is_name_byte(b: u8) -> bool
     ensures { result ≡ is_name_byte b }
 {
     matches!(b, b'a'..=b'z' | b'A'..=b'Z' | b'0'..=b'9' | b'-' | b'.' | b'/' | b'_')
 }
 
-fn name_bytes(bytes: &[u8]) -> bool
+fn is_name_text(bytes: &[u8]) -> bool
     ensures { result ≡ list_all is_name_byte bytes.now }
 {
-    bytes.iter().all(|b| name_byte(*b))
+    bytes.iter().all(|b| is_name_byte(*b))
 }
 
 /// Whether a word can name a template or data.
-pub(crate) fn name(word: &str) -> bool
+pub(crate) fn is_name(word: &str) -> bool
     ensures { result ≡ is_name word.now }
 {
     let bytes = word.as_bytes();
-    !bytes.is_empty() && bytes.len() <= MAX_NAME && name_bytes(bytes)
+    !bytes.is_empty() && bytes.len() <= MAX_NAME && is_name_text(bytes)
 }
 
-fn path_byte(b: u8) -> bool
+fn is_path_byte(b: u8) -> bool
     ensures { result ≡ is_path_byte b }
 {
     33 <= b && b != 127
 }
 
-fn path_bytes(bytes: &[u8]) -> bool
+fn is_path_text(bytes: &[u8]) -> bool
     ensures { result ≡ list_all is_path_byte bytes.now }
 {
-    bytes.iter().all(|b| path_byte(*b))
+    bytes.iter().all(|b| is_path_byte(*b))
 }
 
 /// Whether a word can be a route's path.
-pub(crate) fn path(word: &str) -> bool
+pub(crate) fn is_path(word: &str) -> bool
     ensures { result ≡ is_path word.now }
 {
     let bytes = word.as_bytes();
     bytes.starts_with(b"/")
         && bytes.len() <= MAX_PATH
-        && path_bytes(bytes)
+        && is_path_text(bytes)
         && !bytes.starts_with(b"/_")
         && !bytes.starts_with(b"/@")
 }

@@ -10,7 +10,7 @@ ghost use Rattle.command.specs.Written.{HasLine};
 
 use crate::commands::{Action, Command, Kind};
 use crate::fault::CommandFault;
-use crate::names::{name, path};
+use crate::names::{is_name, is_path};
 use crate::rows::{Row, row_in};
 use byteorder::{BigEndian, ByteOrder};
 use context::{Data, DataFault};
@@ -59,11 +59,23 @@ fn action_of(alloc: Global, text: &str) -> Result<Action, CommandFault>
 {
     match row_in(text) {
         None => Err(CommandFault::Form),
-        Some(Row::Template(name, body)) => template_put(alloc, name, body),
-        Some(Row::Partial(name, body)) => partial_put(alloc, name, body),
-        Some(Row::Data(name, body)) => data_put(alloc, name, body),
-        Some(Row::Route(path, template, data)) => route_put(alloc, path, template, data),
-        Some(Row::Remove(kind, name)) => removal(alloc, kind, name),
+        Some(Row::Template { name, body }) => match named_text(alloc, name, body) {
+            Ok((name, template)) => Ok(Action::PutTemplate { name, template }),
+            Err(fault) => Err(fault),
+        },
+        Some(Row::Partial { name, body }) => match named_text(alloc, name, body) {
+            Ok((name, template)) => Ok(Action::PutPartial { name, template }),
+            Err(fault) => Err(fault),
+        },
+        Some(Row::Data { name, body }) => data_put(alloc, name, body),
+        Some(
+            Row::Route {
+                path,
+                template,
+                page_data,
+            },
+        ) => route_put(alloc, path, template, page_data),
+        Some(Row::Remove { kind, name }) => removal(alloc, kind, name),
         Some(Row::Release) => Ok(Action::Release),
     }
 }
@@ -83,30 +95,19 @@ fn parsed(alloc: Global, body: &str) -> Result<Template, CommandFault>
     }
 }
 
-fn template_put(alloc: Global, of: &str, body: &str) -> Result<Action, CommandFault>
-    ensures ok { IfOk result (λ a. IsActionOf a (row_reading (template_row of.now body.now))) }
-    ensures err { IfErr result (λ e. e ≢ CommandFault.OutOfMemory → row_reading (template_row of.now body.now) ≡ Err e) }
+/// The name and the text of a template or a partial that is put.
+fn named_text(alloc: Global, of: &str, body: &str) -> Result<(String, Template), CommandFault>
+    ensures template_put { IfOk result (λ p. IsActionOf (Action.PutTemplate p.0 p.1) (row_reading (template_row of.now body.now))) }
+    ensures partial_put { IfOk result (λ p. IsActionOf (Action.PutPartial p.0 p.1) (row_reading (partial_row of.now body.now))) }
+    ensures no_template { IfErr result (λ e. e ≢ CommandFault.OutOfMemory → row_reading (template_row of.now body.now) ≡ Err e) }
+    ensures no_partial { IfErr result (λ e. e ≢ CommandFault.OutOfMemory → row_reading (partial_row of.now body.now) ≡ Err e) }
     ensures line { IfErr result (λ e. e ≢ CommandFault.OutOfMemory → HasLine e) }
 {
-    if !name(of) {
+    if !is_name(of) {
         return Err(CommandFault::Name);
     }
     match parsed(alloc, body) {
-        Ok(template) => Ok(Action::PutTemplate(String::from_str(alloc, of)?, template)),
-        Err(fault) => Err(fault),
-    }
-}
-
-fn partial_put(alloc: Global, of: &str, body: &str) -> Result<Action, CommandFault>
-    ensures ok { IfOk result (λ a. IsActionOf a (row_reading (partial_row of.now body.now))) }
-    ensures err { IfErr result (λ e. e ≢ CommandFault.OutOfMemory → row_reading (partial_row of.now body.now) ≡ Err e) }
-    ensures line { IfErr result (λ e. e ≢ CommandFault.OutOfMemory → HasLine e) }
-{
-    if !name(of) {
-        return Err(CommandFault::Name);
-    }
-    match parsed(alloc, body) {
-        Ok(template) => Ok(Action::PutPartial(String::from_str(alloc, of)?, template)),
+        Ok(template) => Ok((String::from_str(alloc, of)?, template)),
         Err(fault) => Err(fault),
     }
 }
@@ -116,11 +117,14 @@ fn data_put(alloc: Global, of: &str, body: &str) -> Result<Action, CommandFault>
     ensures err { IfErr result (λ e. e ≢ CommandFault.OutOfMemory → row_reading (data_row of.now body.now) ≡ Err e) }
     ensures line { IfErr result (λ e. e ≢ CommandFault.OutOfMemory → HasLine e) }
 {
-    if !name(of) {
+    if !is_name(of) {
         return Err(CommandFault::Name);
     }
     match Data::from_json(alloc, body.as_bytes()) {
-        Ok(data) => Ok(Action::PutData(String::from_str(alloc, of)?, data)),
+        Ok(page_data) => Ok(Action::PutData {
+            name: String::from_str(alloc, of)?,
+            page_data,
+        }),
         Err(DataFault::OutOfMemory) => Err(CommandFault::OutOfMemory),
         Err(fault) => Err(CommandFault::Data(fault)),
     }
@@ -136,23 +140,23 @@ fn route_put(
     ensures err { IfErr result (λ e. e ≢ CommandFault.OutOfMemory → row_reading (route_row at.now template.now page_data.now) ≡ Err e) }
     ensures line { IfErr result (λ e. e ≢ CommandFault.OutOfMemory → HasLine e) }
 {
-    if !(name(template) && name(page_data)) {
+    if !(is_name(template) && is_name(page_data)) {
         return Err(CommandFault::Name);
     }
-    if !path(at) {
+    if !is_path(at) {
         return Err(CommandFault::Path);
     }
-    Ok(Action::PutRoute(
-        String::from_str(alloc, at)?,
-        String::from_str(alloc, template)?,
-        String::from_str(alloc, page_data)?,
-    ))
+    Ok(Action::PutRoute {
+        path: String::from_str(alloc, at)?,
+        template: String::from_str(alloc, template)?,
+        page_data: String::from_str(alloc, page_data)?,
+    })
 }
 
 fn good_name(of: &str) -> Result<(), CommandFault>
     ensures { result ≡ (if is_name of.now then Ok tt else Err CommandFault.Name) }
 {
-    if name(of) {
+    if is_name(of) {
         Ok(())
     } else {
         Err(CommandFault::Name)
@@ -162,7 +166,7 @@ fn good_name(of: &str) -> Result<(), CommandFault>
 fn good_path(at: &str) -> Result<(), CommandFault>
     ensures { result ≡ (if is_path at.now then Ok tt else Err CommandFault.Path) }
 {
-    if path(at) {
+    if is_path(at) {
         Ok(())
     } else {
         Err(CommandFault::Path)
@@ -187,7 +191,10 @@ fn removal(alloc: Global, kind: Kind, of: &str) -> Result<Action, CommandFault>
     ensures line { IfErr result (λ e. e ≢ CommandFault.OutOfMemory → HasLine e) }
 {
     match removable(kind, of) {
-        Ok(()) => Ok(Action::Remove(kind, String::from_str(alloc, of)?)),
+        Ok(()) => Ok(Action::Remove {
+            kind,
+            name: String::from_str(alloc, of)?,
+        }),
         Err(fault) => Err(fault),
     }
 }

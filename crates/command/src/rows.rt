@@ -8,11 +8,27 @@ use crate::commands::Kind;
 /// A command text by its row of the table: the words of its head that vary, and what follows the head.
 #[derive(Clone, Copy)]
 pub(crate) enum Row<'a> {
-    Template(&'a str, &'a str),
-    Partial(&'a str, &'a str),
-    Data(&'a str, &'a str),
-    Route(&'a str, &'a str, &'a str),
-    Remove(Kind, &'a str),
+    Template {
+        name: &'a str,
+        body: &'a str,
+    },
+    Partial {
+        name: &'a str,
+        body: &'a str,
+    },
+    Data {
+        name: &'a str,
+        body: &'a str,
+    },
+    Route {
+        path: &'a str,
+        template: &'a str,
+        page_data: &'a str,
+    },
+    Remove {
+        kind: Kind,
+        name: &'a str,
+    },
     Release,
 }
 
@@ -29,7 +45,7 @@ fn cut(text: &str, at: char) -> Option<(&str, &str)>
     text.split_once(at)
 }
 
-fn word(text: &str) -> bool
+fn is_word(text: &str) -> bool
     ensures { result ≡ is_word text.now }
 {
     text.as_bytes().iter().all(|b| *b != b' ' && *b != b'\n')
@@ -41,7 +57,11 @@ fn named<'a>(text: &'a str, front: &str) -> Option<(&'a str, &'a str)>
 {
     let rest = after(text, front)?;
     let (name, body) = cut(rest, '\n')?;
-    if word(name) { Some((name, body)) } else { None }
+    if is_word(name) {
+        Some((name, body))
+    } else {
+        None
+    }
 }
 
 fn route(text: &str) -> Option<Row<'_>>
@@ -51,18 +71,12 @@ fn route(text: &str) -> Option<Row<'_>>
     let (path, rest) = cut(rest, ' ')?;
     let (template, rest) = cut(rest, ' ')?;
     let (page_data, body) = cut(rest, '\n')?;
-    if word(path) && word(template) && word(page_data) && body.is_empty() {
-        Some(Row::Route(path, template, page_data))
-    } else {
-        None
-    }
-}
-
-fn release(text: &str) -> Option<Row<'_>>
-    ensures { option_map row_view result ≡ release_of text.now }
-{
-    if text == "release\n" {
-        Some(Row::Release)
+    if is_word(path) && is_word(template) && is_word(page_data) && body.is_empty() {
+        Some(Row::Route {
+            path,
+            template,
+            page_data,
+        })
     } else {
         None
     }
@@ -85,32 +99,10 @@ fn remove(text: &str, kind: Kind) -> Option<Row<'_>>
 {
     let (name, after) = named(text, remove_front(kind))?;
     if after.is_empty() {
-        Some(Row::Remove(kind, name))
+        Some(Row::Remove { kind, name })
     } else {
         None
     }
-}
-
-/// The row that a text spells.
-pub(crate) fn row_in(text: &str) -> Option<Row<'_>>
-    ensures { option_map row_view result ≡ row_of text.now }
-{
-    if let Some((name, body)) = named(text, "put template ") {
-        return Some(Row::Template(name, body));
-    }
-    if let Some((name, body)) = named(text, "put data ") {
-        return Some(Row::Data(name, body));
-    }
-    if let Some(row) = route(text) {
-        return Some(row);
-    }
-    if let Some(row) = release(text) {
-        return Some(row);
-    }
-    if let Some((name, body)) = named(text, "put partial ") {
-        return Some(Row::Partial(name, body));
-    }
-    removed(text)
 }
 
 /// The row of a remove of any kind.
@@ -127,4 +119,36 @@ fn removed(text: &str) -> Option<Row<'_>>
         return Some(row);
     }
     remove(text, Kind::Route)
+}
+
+fn release(text: &str) -> Option<Row<'_>>
+    ensures { option_map row_view result ≡ release_of text.now }
+{
+    if text == "release\n" {
+        Some(Row::Release)
+    } else {
+        None
+    }
+}
+
+/// The row that a text spells.
+pub(crate) fn row_in(text: &str) -> Option<Row<'_>>
+    ensures { option_map row_view result ≡ row_of text.now }
+{
+    if let Some((name, body)) = named(text, "put template ") {
+        return Some(Row::Template { name, body });
+    }
+    if let Some((name, body)) = named(text, "put partial ") {
+        return Some(Row::Partial { name, body });
+    }
+    if let Some((name, body)) = named(text, "put data ") {
+        return Some(Row::Data { name, body });
+    }
+    if let Some(row) = route(text) {
+        return Some(row);
+    }
+    if let Some(row) = removed(text) {
+        return Some(row);
+    }
+    release(text)
 }

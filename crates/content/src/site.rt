@@ -24,6 +24,7 @@ use std::marker::Model;
 /// What a list of values leaves: the contents by name, and the tickets of its commands.
 #[derive(Drop)]
 pub struct Site {
+    alloc: Global,
     tickets: BTreeSet<Ticket>,
     templates: BTreeMap<String, Template>,
     partials: BTreeMap<String, Template>,
@@ -66,6 +67,7 @@ impl Site {
         ensures { IsSiteOf result [] }
     {
         Site {
+            alloc,
             tickets: BTreeSet::new(alloc),
             templates: BTreeMap::new(alloc),
             partials: BTreeMap::new(alloc),
@@ -75,12 +77,12 @@ impl Site {
     }
 
     /// Takes the next value of the list. Where memory is short the site stays as it is.
-    pub fn apply(&mut self, alloc: Global, value: &[u8]) -> Result<Applied, AllocError>
+    pub fn apply(&mut self, value: &[u8]) -> Result<Applied, AllocError>
         ensures ok { IfOk result (λ a. (values : List (List ℕ)) → IsSiteOf self.old values
             → IsSiteOf self.new (values ++ (value.now ∷ [])) × (a ≡ applied values value.now)) }
         ensures err { OnErr result (self.new ≡ self.old) }
     {
-        match read(alloc, value) {
+        match read(self.alloc, value) {
             Ok(command) => self.take(command),
             Err(fault) => no_command(fault),
         }
@@ -111,17 +113,21 @@ impl Site {
         ensures err { OnErr result (self.new ≡ self.old) }
     {
         match action {
-            Action::PutTemplate(name, template) => put(&mut self.templates, name, template)?,
-            Action::PutPartial(name, template) => put(&mut self.partials, name, template)?,
-            Action::PutData(name, page_data) => put(&mut self.page_data, name, page_data)?,
-            Action::PutRoute(path, template, page_data) => {
+            Action::PutTemplate { name, template } => put(&mut self.templates, name, template)?,
+            Action::PutPartial { name, template } => put(&mut self.partials, name, template)?,
+            Action::PutData { name, page_data } => put(&mut self.page_data, name, page_data)?,
+            Action::PutRoute {
+                path,
+                template,
+                page_data,
+            } => {
                 let target = Target {
                     template,
                     page_data,
                 };
                 put(&mut self.routes, path, target)?
             }
-            Action::Remove(kind, name) => self.remove(kind, &name),
+            Action::Remove { kind, name } => self.remove(kind, &name),
             Action::Release => return Ok(Applied::Released),
         }
         Ok(Applied::Changed)
@@ -141,15 +147,16 @@ impl Site {
     }
 
     /// A copy, which changes by itself.
-    pub fn copy(&self, alloc: Global) -> Result<Site, AllocError>
+    pub fn copy(&self) -> Result<Site, AllocError>
         ensures { IfOk result (λ s. (values : List (List ℕ)) → IsSiteOf self.now values → IsSiteOf s values) }
     {
         Ok(Site {
+            alloc: self.alloc,
             tickets: self.tickets.clone()?,
-            templates: copy_of(alloc, &self.templates)?,
-            partials: copy_of(alloc, &self.partials)?,
-            page_data: copy_of(alloc, &self.page_data)?,
-            routes: copy_of(alloc, &self.routes)?,
+            templates: copy_of(self.alloc, &self.templates)?,
+            partials: copy_of(self.alloc, &self.partials)?,
+            page_data: copy_of(self.alloc, &self.page_data)?,
+            routes: copy_of(self.alloc, &self.routes)?,
         })
     }
 

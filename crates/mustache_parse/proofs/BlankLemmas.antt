@@ -1,4 +1,4 @@
--- The blanks before a partial that stands alone, from the text to the tree.
+-- The blanks before a standalone partial, from the text to the tree.
 use Rattle.std.proofs.Common.{◌≡◌, ℕ, zero, suc, ◌+◌, ◌-◌, ◌≤◌, Bool, true, false, not, List, [], ◌∷◌, ◌++◌, length, take, drop, Option, Some, None, Result, Ok, Err, refl, sym, ap, subst, ◌∙◌, arith, length-take, length-drop}
 use Rattle.std.proofs.lemmas.List.{drop-take}
 use Rattle.std.proofs.lemmas.List.Sums.{suffix_len-le-length}
@@ -6,7 +6,7 @@ use Rattle.std.specs.List.{list_all, suffix_len, flat_map}
 use Rattle.mustache_scan.specs.Cutting.{is_blank, is_newline}
 use Rattle.mustache_scan.specs.Names.{braces}
 use Rattle.mustache_scan.specs.Reading.{Piece, Pieces, reading}
-use Rattle.mustache_scan.specs.Standalone.{TokenSeen, last_line, lines_from, lone_lines, may_stand_alone, blanks_before, indent_of, is_literal, kept, literal_of, tag_token, tokens_at, tokens_of, placed, outcome, scanned}
+use Rattle.mustache_scan.specs.Standalone.{TokenSeen, last_line, lines_from, standalone_lines, may_be_standalone, blanks_before, indent_of, is_literal, kept, literal_of, tag_token, tokens_at, tokens_of, placed, outcome, scanned}
 use Rattle.mustache_scan.specs.declared.fault.FaultKind.{FaultKind}
 use Rattle.mustache_scan.specs.declared.fault.TemplateFault.{TemplateFault}
 use Rattle.mustache_scan.specs.declared.token.TokenKind.{TokenKind}
@@ -43,24 +43,24 @@ module _ (t : List ℕ) (first : ℕ) where
       let later : length x - s ≤ start = omega (arith, length-take first t) in
       subst (λ l. list_all is_blank l ≡ true) (ap (λ n. drop start (take n t)) (sym there) ∙ drop-take start (first - start) t) (all-drop is_blank x (length x - s) start later blank)
 
-  lone-blank : (past : ℕ) (o : Option ℕ) → list_all is_blank before ≡ true → AreBlank (blanks_before first t (lines_from (first - length before) past o))
-  lone-blank past None blank = refl
-  lone-blank past (Some n) blank = line_before blank
+  standalone-blank : (past : ℕ) (o : Option ℕ) → list_all is_blank before ≡ true → AreBlank (blanks_before first t (lines_from (first - length before) past o))
+  standalone-blank past None blank = refl
+  standalone-blank past (Some n) blank = line_before blank
 
   chosen-blank : (c : Bool) (past : ℕ) (o : Option ℕ) → list_all is_blank before ≡ c → AreBlank (blanks_before first t (elim c [ true ↦ lines_from (first - length before) past o | false ↦ None ]))
-  chosen-blank true past o is = lone-blank past o is
+  chosen-blank true past o is = standalone-blank past o is
   chosen-blank false past o is = refl
 
-  lines-blank : (past : ℕ) → AreBlank (blanks_before first t (lone_lines t first past))
+  lines-blank : (past : ℕ) → AreBlank (blanks_before first t (standalone_lines t first past))
   unfolding before
   lines-blank past = chosen-blank (list_all is_blank before) _ _ refl
 
-may-blank : (t : List ℕ) (at past : ℕ) (c : Bool) → AreBlank (blanks_before at t (elim c [ true ↦ lone_lines t at past | false ↦ None ]))
+may-blank : (t : List ℕ) (at past : ℕ) (c : Bool) → AreBlank (blanks_before at t (elim c [ true ↦ standalone_lines t at past | false ↦ None ]))
 may-blank t at past true = lines-blank t at past
 may-blank t at past false = refl
 
 indent-blank : (t : List ℕ) (p : ℕ × Piece) (kind : TokenKind) → AreBlank (indent_of t p kind)
-indent-blank t p Partial = may-blank t p.0 (p.0 + length p.1.bytes) (may_stand_alone p.1.kind)
+indent-blank t p Partial = may-blank t p.0 (p.0 + length p.1.bytes) (may_be_standalone p.1.kind)
 indent-blank t p _ = refl
 
 -- tokens that are indented by blanks alone

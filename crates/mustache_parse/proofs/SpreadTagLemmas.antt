@@ -10,6 +10,7 @@ use Rattle.mustache_scan.specs.Standalone.{is_literal}
 use Rattle.mustache_scan.specs.declared.token.TokenKind.{TokenKind}
 use Rattle.mustache_scan.specs.declared.token.TokenKind.TheVariants.{Variable, Raw, Section, Inverted, End, Comment, Partial, Delimiters}
 use Rattle.mustache_scan.proofs.ReadingLemmas.{cut_parts}
+use Rattle.mustache_scan.proofs.TakenLemmas.{sign_no_literal}
 use Rattle.mustache_parse.specs.Indenting.{spread, after_each, spread_inner}
 use Rattle.mustache_parse.proofs.IndentLemmas.{AllAre, NoneAre, moved, cut-spread, spread_newline}
 use Rattle.mustache_parse.proofs.SpreadLemmas.{spread-plain, spread-part, after_each-part, after_each-append, spread-before, unpadded-spread}
@@ -75,18 +76,6 @@ module _ (w : List ℕ) (blank : AllAre is_blank w) where
     pub tag_after-spread : (t : List ℕ) → tag_after closing (spread w t) ≡ spread_opened w (tag_after closing t)
     tag_after-spread t = ap (tag_in closing) (unpadded-spread w blank t) ∙ tag_in-spread (unpadded t)
 
--- no tag is a literal
-module _ (kind : TokenKind) where
-  chosen : (c : Bool) (k : TokenKind) (others : Option TokenKind) → is_literal k ≡ false → (others ≡ Some kind → is_literal kind ≡ false) → (if c then Some k else others) ≡ Some kind → is_literal kind ≡ false
-  chosen true k others here there h = let e : k ≡ kind = cc in subst (λ k. is_literal k ≡ false) e here
-  chosen false k others here there h = there h
-
-  none : None ≡ Some kind → is_literal kind ≡ false
-  none h = absurd (cc)
-
-  sign_tag : (b : ℕ) → kind_of_sign b ≡ Some kind → is_literal kind ≡ false
-  sign_tag b = chosen _ Raw _ refl (chosen _ Section _ refl (chosen _ Inverted _ refl (chosen _ End _ refl (chosen _ Comment _ refl (chosen _ Partial _ refl (chosen _ Delimiters _ refl none))))))
-
 -- A tag's kind, and its end: what follows the tag comes after its closing delimiter.
 record Whole (closing t : List ℕ) (o : Opened) : Type 0 where
   is_tag : is_literal o.kind ≡ false
@@ -107,7 +96,7 @@ whole-more : (front closing t : List ℕ) (o : Opened) → Whole closing t o →
 whole-more front closing t o h = record { is_tag = h.is_tag; first = front ++ h.first; parts = ap (λ l. front ++ l) h.parts ∙ sym (append_assoc front h.first (closing ++ o.rest)) }
 
 whole-signed : (closing : List ℕ) (b : ℕ) (bs : List ℕ) (k : Option TokenKind) (o : Opened) → kind_of_sign b ≡ k → signed closing b bs k ≡ Some o → Whole closing (b ∷ bs) o
-whole-signed closing b bs (Some kind) o is h = whole-more (b ∷ []) closing bs o (whole-cut kind (partner b) closing bs o _ (sign_tag kind b is) refl h)
+whole-signed closing b bs (Some kind) o is h = whole-more (b ∷ []) closing bs o (whole-cut kind (partner b) closing bs o _ (sign_no_literal kind b is) refl h)
 whole-signed closing b bs None o is h = whole-cut Variable [] closing (b ∷ bs) o _ refl refl h
 
 whole-tag_in : (closing t : List ℕ) (o : Opened) → tag_in closing t ≡ Some o → Whole closing t o

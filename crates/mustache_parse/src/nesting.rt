@@ -1,4 +1,5 @@
 ghost use Rattle.std.specs.Prelude.{◌≡◌, ◌≢◌, ◌++◌, [], ◌∷◌, IfOk, IfErr, OnOk, MatchResult, IsTrue, Err, Some, string_bytes};
+ghost use Rattle.mustache_scan.specs.Faults.{memory_wanted};
 ghost use Rattle.mustache_scan.specs.View.{token_view, tokens_view};
 ghost use Rattle.mustache_scan.specs.declared.fault.FaultKind.TheVariants.{OutOfMemory};
 ghost use Rattle.mustache_parse.specs.Nesting.{is_opening};
@@ -57,7 +58,7 @@ impl Nesting {
     fn add(&mut self, node: Node) -> Result<(), TemplateFault>
         ensures opened { OnOk result (self.new.opened.items ≡ self.old.opened.items) }
         ensures nodes { OnOk result (self.new.nodes.items ≡ self.old.nodes.items ++ node ∷ []) }
-        ensures fault { IfErr result (λ f. f.kind ≡ OutOfMemory) }
+        ensures fault { IfErr result (λ f. f ≡ memory_wanted) }
     {
         self.nodes.push(node)?;
         Ok(())
@@ -68,6 +69,7 @@ impl Nesting {
         requires { IsTrue (is_opening token.now.kind) }
         ensures ok { OnOk result (Reads (token_view token.now) self.old self.new) }
         ensures fault { IfErr result (λ f. f.kind ≢ OutOfMemory → opening token.now.inside.now token.now.place (opens_view self.old) ≡ Err f) }
+        ensures memory { IfErr result (λ f. f.kind ≡ OutOfMemory → f.place ≡ 0) }
     {
         if self.opened.len() >= MAX_OPEN {
             return Err(TemplateFault {
@@ -92,6 +94,7 @@ impl Nesting {
         requires { token.now.kind ≡ TokenKind.End }
         ensures ok { OnOk result (Reads (token_view token.now) self.old self.new) }
         ensures fault { IfErr result (λ f. f.kind ≢ OutOfMemory → ending token.now.inside.now token.now.place (opens_view self.old) ≡ Err f) }
+        ensures memory { IfErr result (λ f. f.kind ≡ OutOfMemory → f.place ≡ 0) }
     {
         let Some(section) = self.opened.pop() else {
             return Err(TemplateFault {
@@ -119,6 +122,7 @@ impl Nesting {
     fn read(&mut self, alloc: Global, token: &Token) -> Result<(), TemplateFault>
         ensures ok { OnOk result (Reads (token_view token.now) self.old self.new) }
         ensures fault { IfErr result (λ f. f.kind ≢ OutOfMemory → nest token.now.kind token.now.inside.now token.now.place (opens_view self.old) ≡ Err f) }
+        ensures memory { IfErr result (λ f. f.kind ≡ OutOfMemory → f.place ≡ 0) }
     {
         match token.kind {
             TokenKind::Literal => self.add(Node::Text(String::from_str(alloc, token.text)?)),
@@ -137,7 +141,8 @@ impl Nesting {
 
     /// The nodes, where no section is left open.
     fn finish(self) -> Result<Vec<Node>, TemplateFault>
-        ensures { MatchResult result (λ ns. (self.opened.items ≡ []) × (ns.items ≡ self.nodes.items)) (λ f. left_open (opens_view self) ≡ Some f) }
+        ensures ends { MatchResult result (λ ns. (self.opened.items ≡ []) × (ns.items ≡ self.nodes.items)) (λ f. left_open (opens_view self) ≡ Some f) }
+        ensures told { IfErr result (λ f. f.kind ≢ OutOfMemory) }
     {
         let Nesting { opened, nodes } = self;
         match opened.first() {
@@ -154,6 +159,7 @@ impl Nesting {
 pub(crate) fn nodes_of(alloc: Global, tokens: &[Token]) -> Result<Vec<Node>, TemplateFault>
     ensures ok { IfOk result (λ ns. nested (tokens_view tokens.now) ≡ Ok (tree_view ns.items)) }
     ensures fault { IfErr result (λ f. f.kind ≢ OutOfMemory → nested (tokens_view tokens.now) ≡ Err f) }
+    ensures memory { IfErr result (λ f. f.kind ≡ OutOfMemory → f.place ≡ 0) }
 {
     let mut nesting = Nesting::new(alloc);
     for token in tokens {

@@ -12,6 +12,7 @@ use std::alloc::Global;
 pub fn parse(alloc: Global, source: &str) -> Result<Template, TemplateFault>
     ensures ok { IfOk result (λ t. IsTemplateOf t source.now) }
     ensures fault { IfErr result (λ f. f.kind ≢ OutOfMemory → tree_of source.now ≡ Err f) }
+    ensures memory { IfErr result (λ f. f.kind ≡ OutOfMemory → f.place ≡ 0) }
 {
     let tokens = scan(alloc, source)?;
     let nodes = nodes_of(alloc, &tokens)?;

@@ -2,7 +2,7 @@ pub mod CutLemmas
 pub mod FirstCutLemmas
 pub mod KeptLemmas
 pub mod LineLemmas
-pub mod LoneLemmas
+pub mod StandaloneLemmas
 pub mod OutcomeLemmas
 pub mod PaddingLemmas
 pub mod ProgressLemmas

@@ -1,4 +1,4 @@
--- The lines of a tag that stands alone: how the blanks beside it show them, and where they begin and end.
+-- The lines of a standalone tag: how the blanks beside it show them, and where they begin and end.
 use Rattle.std.proofs.Common.{◌≡◌, ℕ, suc, ◌+◌, ◌-◌, ◌<◌, ◌≤◌, Bool, true, false, not, List, [], ◌∷◌, length, get_or, take, drop, reverse, None, refl, sym, ap, subst, ◌∙◌, arith, ⊎_elim, length-take, length-drop}
 use Rattle.std.proofs.lemmas.Bool.{cases_lt, false≢true}
 use Rattle.std.proofs.lemmas.Bool.Decides.{nat_tests}
@@ -7,7 +7,7 @@ use Rattle.std.proofs.lemmas.List.Folds.{list_all_at, length-prefix_len}
 use Rattle.std.proofs.lemmas.List.Sums.{prefix_len_passes, prefix_len_stops, suffix_len-le-length, suffix_len_is}
 use Rattle.std.specs.List.{list_all, prefix_len, suffix_len}
 use Rattle.mustache_scan.specs.Cutting.{is_blank, is_newline}
-use Rattle.mustache_scan.specs.Standalone.{line_end, last_line, lines_from, lone_lines}
+use Rattle.mustache_scan.specs.Standalone.{line_end, last_line, lines_from, standalone_lines}
 
 suffix_passes : (p : ℕ → Bool) (u : List ℕ) (i : ℕ) → length u ≤ i + suffix_len p u → i < length u → p (get_or u i 0) ≡ true
 suffix_passes p u i low high =
@@ -39,7 +39,7 @@ pub newline_is : (b : ℕ) → not (is_newline b) ≡ false → b ≡ 10
 newline_is b h = grind (arith, nat_tests)
 
 pub lines_are : (t : List ℕ) (first past : ℕ) (b : Bool) → list_all is_blank (last_line (take first t)) ≡ b
-    → lone_lines t first past ≡ elim b [ true ↦ lines_from (first - length (last_line (take first t))) (past + prefix_len is_blank (drop past t)) (line_end (drop (past + prefix_len is_blank (drop past t)) t)) | false ↦ None ]
+    → standalone_lines t first past ≡ elim b [ true ↦ lines_from (first - length (last_line (take first t))) (past + prefix_len is_blank (drop past t)) (line_end (drop (past + prefix_len is_blank (drop past t)) t)) | false ↦ None ]
 lines_are t first past b is =
     ap (λ n. elim (list_all is_blank (last_line (take first t))) [ true ↦ lines_from (first - length (last_line (take first t))) (past + n) (line_end (drop (past + n) t)) | false ↦ None ]) (length-prefix_len is_blank (drop past t))
     ∙ ap (λ b. elim b [ true ↦ lines_from (first - length (last_line (take first t))) (past + prefix_len is_blank (drop past t)) (line_end (drop (past + prefix_len is_blank (drop past t)) t)) | false ↦ None ]) is
@@ -71,7 +71,7 @@ module _ (t : List ℕ) (first past start : ℕ) (le : first ≤ length t) (blan
     line_at : first - length (last_line (take first t)) ≡ start
     line_at = omega (arith, ap length line_is, length-drop start (take first t), long)
 
-    pub alone : lone_lines t first past ≡ lines_from start (past + prefix_len is_blank (drop past t)) (line_end (drop (past + prefix_len is_blank (drop past t)) t))
+    pub alone : standalone_lines t first past ≡ lines_from start (past + prefix_len is_blank (drop past t)) (line_end (drop (past + prefix_len is_blank (drop past t)) t))
     alone = lines_are t first past true all_blank ∙ ap (λ n. lines_from n (past + prefix_len is_blank (drop past t)) (line_end (drop (past + prefix_len is_blank (drop past t)) t))) line_at
 
   -- something else does
@@ -102,5 +102,5 @@ module _ (t : List ℕ) (first past start : ℕ) (le : first ≤ length t) (blan
         list_all_at is_blank (last_line (take first t)) (i - from) 0 (omega (arith, length-drop from (take first t), line_long, long))
         (ap is_blank (get_or-drop from (take first t) (i - from) 0 ∙ ap (λ n. get_or (take first t) n 0) at) ∙ no_blank)
 
-    pub shared : lone_lines t first past ≡ None
+    pub shared : standalone_lines t first past ≡ None
     shared = lines_are t first past false some_other

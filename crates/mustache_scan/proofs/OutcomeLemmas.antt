@@ -11,7 +11,7 @@ use Rattle.mustache_scan.specs.Names.{Pair, braces, is_sequence}
 use Rattle.mustache_scan.specs.Progress.{taken, literal_at, tag_at, or_wrong, checked}
 use Rattle.mustache_scan.specs.Reading.{Opened, tag_after, wrong_inside, delimiters_after, Pieces, with_pieces, literal, ends_here, after_tag, after_opening, reading, text_of}
 use Rattle.mustache_scan.specs.Slices.{AreSlices}
-use Rattle.mustache_scan.specs.Standalone.{TokenSeen, placed, lone, lone_lines_of, is_covered, tokens_at, tokens_of, outcome, scanned}
+use Rattle.mustache_scan.specs.Standalone.{TokenSeen, placed, standalone, standalone_lines_of, is_covered, tokens_at, tokens_of, outcome, scanned}
 use Rattle.mustache_scan.specs.declared.fault.FaultKind.{FaultKind}
 use Rattle.mustache_scan.specs.declared.fault.FaultKind.TheVariants.{UnclosedTag}
 use Rattle.mustache_scan.proofs.KeptLemmas.{TakesEnds, lt_false, le_false}
@@ -75,20 +75,20 @@ module _ (t rest : List ℕ) (d : Pair) (from : ℕ) (xs : List TokenSeen) (so_f
     whole : t ≡ text_of so_far.pieces ++ (rest ++ [])
     whole = sym so_far.text ∙ ap (λ l. text_of so_far.pieces ++ l) (sym (append-nil rest))
 
-    lines_all : lone_lines_of t (placed 0 (so_far.pieces ++ (literal rest ++ []))) ≡ lone_lines_of t (placed 0 so_far.pieces) ++ []
+    lines_all : standalone_lines_of t (placed 0 (so_far.pieces ++ (literal rest ++ []))) ≡ standalone_lines_of t (placed 0 so_far.pieces) ++ []
     lines_all =
-        ap (λ ps. lone_lines_of t (placed 0 (so_far.pieces ++ ps))) (append-nil (literal rest)) ∙ ap (lone_lines_of t) (placed_from so_far.pieces (literal rest))
-        ∙ filter_map-append (lone t) (placed 0 so_far.pieces) (placed (length (text_of so_far.pieces)) (literal rest))
-        ∙ ap (λ l. lone_lines_of t (placed 0 so_far.pieces) ++ l) (literal_lines t (length (text_of so_far.pieces)) rest)
+        ap (λ ps. standalone_lines_of t (placed 0 (so_far.pieces ++ ps))) (append-nil (literal rest)) ∙ ap (standalone_lines_of t) (placed_from so_far.pieces (literal rest))
+        ∙ filter_map-append (standalone t) (placed 0 so_far.pieces) (placed (length (text_of so_far.pieces)) (literal rest))
+        ∙ ap (λ l. standalone_lines_of t (placed 0 so_far.pieces) ++ l) (literal_lines t (length (text_of so_far.pieces)) rest)
 
-    takes : TakesEnds (lone_lines_of t (placed 0 so_far.pieces) ++ []) (length (text_of so_far.pieces)) (length (text_of so_far.pieces) + length rest) from (length t)
+    takes : TakesEnds (standalone_lines_of t (placed 0 so_far.pieces) ++ []) (length (text_of so_far.pieces)) (length (text_of so_far.pieces) + length rest) from (length t)
     takes k low high =
-        covered-append (lone_lines_of t (placed 0 so_far.pieces)) [] k ∙ ap (λ c. c || is_covered [] k) (so_far.covers k low)
+        covered-append (standalone_lines_of t (placed 0 so_far.pieces)) [] k ∙ ap (λ c. c || is_covered [] k) (so_far.covers k low)
         ∙ ap (λ c. nat_lt k from || c) (sym (le_false (length t) k (omega (arith, lengths))))
 
     tokens_all : tokens_of t (placed 0 (so_far.pieces ++ (literal rest ++ []))) ≡ xs ++ literal_at from (slice_range t from (length t))
     tokens_all =
-        let lines = lone_lines_of t (placed 0 so_far.pieces) ++ [] in
+        let lines = standalone_lines_of t (placed 0 so_far.pieces) ++ [] in
         ap (λ l. flat_map (tokens_at t l) (placed 0 (so_far.pieces ++ (literal rest ++ [])))) lines_all
         ∙ ap (λ ps. flat_map (tokens_at t lines) (placed 0 (so_far.pieces ++ ps))) (append-nil (literal rest))
         ∙ ap (flat_map (tokens_at t lines)) (placed_from so_far.pieces (literal rest))

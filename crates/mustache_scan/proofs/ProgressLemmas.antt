@@ -13,7 +13,7 @@ use Rattle.mustache_scan.specs.Names.{Pair, braces}
 use Rattle.mustache_scan.specs.Progress.{literal_at}
 use Rattle.mustache_scan.specs.Reading.{Piece, with_pieces, literal, reading, text_of}
 use Rattle.mustache_scan.specs.Slices.{AreSlices}
-use Rattle.mustache_scan.specs.Standalone.{TokenSeen, placed, lone_lines_of, is_covered, kept, literal_of, tokens_at}
+use Rattle.mustache_scan.specs.Standalone.{TokenSeen, placed, standalone_lines_of, is_covered, kept, literal_of, tokens_at}
 use Rattle.mustache_scan.proofs.KeptLemmas.{TakesEnds, literal_is}
 
 -- lines that take no place up to a byte before `at` that is not blank
@@ -30,8 +30,8 @@ pub record IsReadTo (t rest : List ℕ) (d : Pair) (from : ℕ) (xs : List Token
   pub pieces : List Piece
   pub text : text_of pieces ++ rest ≡ t
   pub read : with_pieces pieces (reading d rest) ≡ reading braces t
-  pub covers : (k : ℕ) → length (text_of pieces) ≤ k → is_covered (lone_lines_of t (placed 0 pieces)) k ≡ nat_lt k from
-  pub settled : (ls : List (ℕ × ℕ)) → AreLater t (length (text_of pieces)) ls → flat_map (tokens_at t (lone_lines_of t (placed 0 pieces) ++ ls)) (placed 0 pieces) ≡ xs
+  pub covers : (k : ℕ) → length (text_of pieces) ≤ k → is_covered (standalone_lines_of t (placed 0 pieces)) k ≡ nat_lt k from
+  pub settled : (ls : List (ℕ × ℕ)) → AreLater t (length (text_of pieces)) ls → flat_map (tokens_at t (standalone_lines_of t (placed 0 pieces) ++ ls)) (placed 0 pieces) ≡ xs
   pub past : length (text_of pieces) ≤ from
   pub seam : IsCharBoundary t from
   pub slices : AreSlices t 0 xs
@@ -63,7 +63,7 @@ pub literal_text : (bs : List ℕ) → text_of (literal bs) ≡ bs
 literal_text [] = refl
 literal_text (b ∷ bs) = append-nil (b ∷ bs)
 
-pub literal_lines : (t : List ℕ) (at : ℕ) (bs : List ℕ) → lone_lines_of t (placed at (literal bs)) ≡ []
+pub literal_lines : (t : List ℕ) (at : ℕ) (bs : List ℕ) → standalone_lines_of t (placed at (literal bs)) ≡ []
 literal_lines t at [] = refl
 literal_lines t at (b ∷ bs) = refl
 

@@ -10,12 +10,12 @@ use Rattle.std.specs.List.{flat_map}
 use Rattle.std.specs.Str.{IsUtf8, IsCharBoundary}
 use Rattle.mustache_scan.specs.Cutting.{cut, is_blank, stripped}
 use Rattle.mustache_scan.specs.Names.{Pair, braces, is_sequence}
-use Rattle.mustache_scan.specs.Progress.{lone_of, taken, literal_at, tag_at}
+use Rattle.mustache_scan.specs.Progress.{standalone_of, taken, literal_at, tag_at}
 use Rattle.mustache_scan.specs.Reading.{Opened, tag_after, wrong_inside, name_of, delimiters_after, Piece, Pieces, with_pieces, literal, after_tag, after_opening, reading, text_of}
 use Rattle.mustache_scan.specs.Slices.{AreSlices}
-use Rattle.mustache_scan.specs.Standalone.{TokenSeen, placed, lone, lone_lines_of, is_covered, kept, literal_of, tag_token, indent_of, tokens_at}
+use Rattle.mustache_scan.specs.Standalone.{TokenSeen, placed, standalone, standalone_lines_of, is_covered, kept, literal_of, tag_token, indent_of, tokens_at}
 use Rattle.mustache_scan.proofs.KeptLemmas.{TakesEnds}
-use Rattle.mustache_scan.proofs.LoneLemmas.{taken_start, taken_end, taken_end_boundary}
+use Rattle.mustache_scan.proofs.StandaloneLemmas.{taken_start, taken_end, taken_end_boundary}
 use Rattle.mustache_scan.proofs.ProgressLemmas.{AreLater, end_of, IsReadTo, covered-append, later-append, placed-append, placed_from, text-append, literal_text, literal_lines, literal_between, before_max, slices-append, end-append, length-slice, literal_sliced}
 use Rattle.mustache_scan.proofs.ReadingLemmas.{cut_parts}
 use Rattle.mustache_scan.proofs.TagLemmas.{with-append, at_cut, ends-tag_after, before_end}
@@ -117,22 +117,22 @@ module _ (t rest : List ℕ) (d : Pair) (from : ℕ) (xs : List TokenSeen) (so_f
         (placed-append (length front) (literal before) (piece ∷ []) ∙ ap (λ l. placed (length front) (literal before) ++ placed (length front + length l) (piece ∷ [])) (literal_text before))
 
     abbrev pub found : Option (ℕ × ℕ)
-    found = lone_of t o.kind place past
+    found = standalone_of t o.kind place past
 
     abbrev pub part : ℕ × ℕ
     part = taken t o.kind place past
 
-    lone_is : lone t (place, piece) ≡ found
-    lone_is = ap (lone_of t o.kind place) past_is
+    standalone_is : standalone t (place, piece) ≡ found
+    standalone_is = ap (standalone_of t o.kind place) past_is
 
     abbrev lines : List (ℕ × ℕ)
-    lines = lone_lines_of t (placed 0 so_far.pieces)
+    lines = standalone_lines_of t (placed 0 so_far.pieces)
 
-    lines_ps : lone_lines_of t (placed 0 ps) ≡ lines ++ one found
-    lines_ps = ap (lone_lines_of t) placed_ps ∙ filter_map-append (lone t) (placed 0 so_far.pieces) (placed (length front) (literal before) ++ (place, piece) ∷ []) ∙ ap (λ l. lines ++ l)
-        (filter_map-append (lone t) (placed (length front) (literal before)) ((place, piece) ∷ []) ∙ ap (λ l. l ++ one (lone t (place, piece))) (literal_lines t (length front) before) ∙ ap one lone_is)
+    lines_ps : standalone_lines_of t (placed 0 ps) ≡ lines ++ one found
+    lines_ps = ap (standalone_lines_of t) placed_ps ∙ filter_map-append (standalone t) (placed 0 so_far.pieces) (placed (length front) (literal before) ++ (place, piece) ∷ []) ∙ ap (λ l. lines ++ l)
+        (filter_map-append (standalone t) (placed (length front) (literal before)) ((place, piece) ∷ []) ∙ ap (λ l. l ++ one (standalone t (place, piece))) (literal_lines t (length front) before) ∙ ap one standalone_is)
 
-    covers_is : (k : ℕ) → length (text_of ps) ≤ k → is_covered (lone_lines_of t (placed 0 ps)) k ≡ nat_lt k (max from part.1)
+    covers_is : (k : ℕ) → length (text_of ps) ≤ k → is_covered (standalone_lines_of t (placed 0 ps)) k ≡ nat_lt k (max from part.1)
     covers_is k le =
         ap (λ l. is_covered l k) lines_ps ∙ covered-append lines (one found) k ∙ ap (λ c. c || is_covered (one found) k) (so_far.covers k (omega (arith, ps_length, order)))
         ∙ ap (λ c. nat_lt k from || c) (one_after t o.kind place past order within found refl k (omega (arith, ps_length))) ∙ before_max k from part.1
@@ -145,7 +145,7 @@ module _ (t rest : List ℕ) (d : Pair) (from : ℕ) (xs : List TokenSeen) (so_f
     tag_same : tag_token t (place, piece) ≡ tag_at t o.kind (stripped o.inside) place past
     tag_same =
         let seen : List ℕ → List ℕ → TokenSeen = λ (text indent : List ℕ). record { kind = o.kind; inside = name_of o.kind (stripped o.inside); place = place; text = text; indent = indent } in
-        ap (λ l. seen l (indent_of t (place, piece) o.kind)) text_part ∙ ap (seen (slice_range t place past)) (indent_same t o.kind place past order within piece o.kind lone_is)
+        ap (λ l. seen l (indent_of t (place, piece) o.kind)) text_part ∙ ap (seen (slice_range t place past)) (indent_same t o.kind place past order within piece o.kind standalone_is)
 
     -- the tokens of the literal and of the tag
     abbrev pub added : List TokenSeen
@@ -169,7 +169,7 @@ module _ (t rest : List ℕ) (d : Pair) (from : ℕ) (xs : List TokenSeen) (so_f
           ap (λ c. (elim c as (λ _. List TokenSeen) [ true ↦ literal_of (kept all place body) | false ↦ tag_token t (place, piece) ∷ [] ]) ++ []) (after_no_literal d.closing after o tag_is)
           ∙ ap (λ x. x ∷ []) tag_same
 
-      settled_is : flat_map (tokens_at t (lone_lines_of t (placed 0 ps) ++ ls)) (placed 0 ps) ≡ xs ++ added
+      settled_is : flat_map (tokens_at t (standalone_lines_of t (placed 0 ps) ++ ls)) (placed 0 ps) ≡ xs ++ added
       settled_is =
           let before_all : AreLater t (length front) (one found ++ ls) =
           later-append t (length front) (one found) ls (one_later t o.kind place past order within found refl (length front) (omega arith)) (λ w k lt. later w k (omega (arith, ps_length, order))) in

@@ -5,14 +5,14 @@ use Rattle.std.proofs.lemmas.Bool.Decides.{nat_tests}
 use Rattle.std.specs.List.{list_any, cons_option}
 use Rattle.mustache_scan.specs.Cutting.{cut, is_blank, is_padding}
 use Rattle.mustache_scan.specs.Names.{is_empty, is_sequence}
-use Rattle.mustache_scan.specs.Progress.{lone_of, lines_or, taken, indent_in}
+use Rattle.mustache_scan.specs.Progress.{standalone_of, lines_or, taken, indent_in}
 use Rattle.mustache_scan.specs.Reading.{Opened, opened_as, signed, tag_in, tag_after, kind_of_sign, partner, Piece}
 use Rattle.mustache_scan.specs.Cutting.{unpadded}
-use Rattle.mustache_scan.specs.Standalone.{lone, is_covered, is_literal, blanks_before, indent_of}
+use Rattle.mustache_scan.specs.Standalone.{standalone, is_covered, is_literal, blanks_before, indent_of}
 use Rattle.mustache_scan.specs.declared.token.TokenKind.{TokenKind}
 use Rattle.mustache_scan.specs.declared.token.TokenKind.TheVariants.{Variable, Raw, Section, Inverted, End, Comment, Partial, Delimiters}
 use Rattle.mustache_scan.proofs.KeptLemmas.{lt_true, lt_false, le_true, le_false}
-use Rattle.mustache_scan.proofs.LoneLemmas.{lone_of_lines, starts_before, ends_after, reaches_back}
+use Rattle.mustache_scan.proofs.StandaloneLemmas.{standalone_of_lines, starts_before, ends_after, reaches_back}
 use Rattle.mustache_scan.proofs.ProgressLemmas.{AreLater}
 
 -- a sequence begins with a byte that is not blank
@@ -44,7 +44,7 @@ module _ (kind : TokenKind) where
   none : None ≡ Some kind → is_literal kind ≡ false
   none h = absurd (cc)
 
-  sign_no_literal : (b : ℕ) → kind_of_sign b ≡ Some kind → is_literal kind ≡ false
+  pub sign_no_literal : (b : ℕ) → kind_of_sign b ≡ Some kind → is_literal kind ≡ false
   sign_no_literal b = chosen _ Raw _ refl (chosen _ Section _ refl (chosen _ Inverted _ refl (chosen _ End _ refl (chosen _ Comment _ refl (chosen _ Partial _ refl (chosen _ Delimiters _ refl none))))))
 
 opened_kind : (kind : TokenKind) (r : Option (List ℕ × List ℕ)) (o : Opened) → opened_as kind r ≡ Some o → kind ≡ o.kind
@@ -76,28 +76,28 @@ true_or_false false = refl
 
 -- what a tag takes, beside the lines that cover its text
 module _ (t : List ℕ) (kind : TokenKind) (first past : ℕ) (order : first < past) (within : past ≤ length t) where
-  pub one_after : (r : Option (ℕ × ℕ)) → lone_of t kind first past ≡ r → (k : ℕ) → past ≤ k → is_covered (one r) k ≡ nat_lt k (lines_or first past r).1
+  pub one_after : (r : Option (ℕ × ℕ)) → standalone_of t kind first past ≡ r → (k : ℕ) → past ≤ k → is_covered (one r) k ≡ nat_lt k (lines_or first past r).1
   one_after None is k le = sym (lt_false k past le)
   one_after (Some l) is k le =
-      let begins : l.0 ≤ first = starts_before t first past l (omega arith) within (lone_of_lines t kind first past l is) in
+      let begins : l.0 ≤ first = starts_before t first past l (omega arith) within (standalone_of_lines t kind first past l is) in
       ap (λ c. (c && nat_lt k l.1) || false) (le_true l.0 k (omega arith)) ∙ or_false (nat_lt k l.1)
 
-  pub one_before : (r : Option (ℕ × ℕ)) → lone_of t kind first past ≡ r → (k : ℕ) → k < first → is_covered (one r) k ≡ nat_le (lines_or first past r).0 k
+  pub one_before : (r : Option (ℕ × ℕ)) → standalone_of t kind first past ≡ r → (k : ℕ) → k < first → is_covered (one r) k ≡ nat_le (lines_or first past r).0 k
   one_before None is k lt = sym (le_false first k lt)
   one_before (Some l) is k lt =
-      let ends : past ≤ l.1 = ends_after t first past l (omega arith) within (lone_of_lines t kind first past l is) in
+      let ends : past ≤ l.1 = ends_after t first past l (omega arith) within (standalone_of_lines t kind first past l is) in
       ap (λ c. (nat_le l.0 k && c) || false) (lt_true k l.1 (omega arith)) ∙ true_or_false (nat_le l.0 k)
 
-  pub one_later : (r : Option (ℕ × ℕ)) → lone_of t kind first past ≡ r → (at : ℕ) → at ≤ first → AreLater t at (one r)
+  pub one_later : (r : Option (ℕ × ℕ)) → standalone_of t kind first past ≡ r → (at : ℕ) → at ≤ first → AreLater t at (one r)
   one_later None is at le w k lt other back = refl
   one_later (Some l) is at le w k lt other back =
-      let begins : w < l.0 = reaches_back t first past l (omega arith) within (lone_of_lines t kind first past l is) w (omega arith) other in
+      let begins : w < l.0 = reaches_back t first past l (omega arith) within (standalone_of_lines t kind first past l is) w (omega arith) other in
       ap (λ c. (c && nat_lt k l.1) || false) (le_false l.0 k (omega arith))
 
   indent_lines : (r : Option (ℕ × ℕ)) → blanks_before first t r ≡ slice_range t (lines_or first past r).0 first
   indent_lines None = let e : 0 ≡ first - first = omega arith in ap (λ n. take n (drop first t)) e
   indent_lines (Some l) = refl
 
-  pub indent_same : (p : Piece) (k : TokenKind) → lone t (first, p) ≡ lone_of t kind first past → indent_of t (first, p) k ≡ indent_in t k (taken t kind first past).0 first
-  indent_same p Partial is = ap (blanks_before first t) is ∙ indent_lines (lone_of t kind first past)
+  pub indent_same : (p : Piece) (k : TokenKind) → standalone t (first, p) ≡ standalone_of t kind first past → indent_of t (first, p) k ≡ indent_in t k (taken t kind first past).0 first
+  indent_same p Partial is = ap (blanks_before first t) is ∙ indent_lines (standalone_of t kind first past)
   indent_same p _ is = refl

@@ -1,6 +1,7 @@
--- The words for each fault, as fault lines print them.
+-- The words for each fault, as fault lines print them; and want of memory.
 use Rattle.std.specs.Prelude.{ℕ, List, codes}
 use Rattle.mustache_scan.specs.declared.fault.FaultKind.{FaultKind}
+use Rattle.mustache_scan.specs.declared.fault.TemplateFault.{TemplateFault}
 use Rattle.mustache_scan.specs.declared.fault.FaultKind.TheVariants.{UnclosedTag, EmptyName, BadName, BadDelimiters, NoSection, WrongEnd, UnclosedSection, TooDeep, OutOfMemory}
 
 -- a fault's number and name; want of memory has no number
@@ -14,3 +15,7 @@ label WrongEnd = codes "6 WrongEnd"
 label UnclosedSection = codes "7 UnclosedSection"
 label TooDeep = codes "8 TooDeep"
 label OutOfMemory = codes "OutOfMemory"
+
+-- want of memory has no place in the text
+abbrev pub memory_wanted : TemplateFault
+memory_wanted = record { kind = OutOfMemory; place = 0 }

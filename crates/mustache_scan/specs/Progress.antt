@@ -1,8 +1,9 @@
--- What the code finds as it reads: the next tag, what that takes of the text, and what is left of the literal before it.
+-- A bridge from the code to the reading, and no definition: the next tag that it finds, what that takes of the text, and what is left of the literal
+-- before it. `StandaloneLemmas`, `TakenLemmas` and `StepLemmas` tie it to `Standalone`.
 use Rattle.std.specs.Prelude.{ℕ, true, false, List, [], ◌∷◌, Option, None, Some, Result, Ok, Err, slice_range}
 use Rattle.mustache_scan.specs.Cutting.{stripped}
 use Rattle.mustache_scan.specs.Reading.{Opened, wrong_inside, name_of}
-use Rattle.mustache_scan.specs.Standalone.{TokenSeen, lone_lines, may_stand_alone}
+use Rattle.mustache_scan.specs.Standalone.{TokenSeen, standalone_lines, may_be_standalone}
 use Rattle.mustache_scan.specs.declared.token.TokenKind.{TokenKind}
 use Rattle.mustache_scan.specs.declared.token.TokenKind.TheVariants.{Literal, Partial}
 use Rattle.mustache_scan.specs.declared.fault.FaultKind.{FaultKind}
@@ -17,17 +18,17 @@ abbrev pub checked : Option Opened → Result Opened FaultKind
 checked None = Err UnclosedTag
 checked (Some o) = or_wrong (record { kind = o.kind; inside = stripped o.inside; rest = o.rest }) (wrong_inside o.kind (stripped o.inside))
 
--- the lines of a tag of this kind, where it stands alone
-abbrev pub lone_of : List ℕ → TokenKind → ℕ → ℕ → Option (ℕ × ℕ)
-lone_of t kind first past = elim (may_stand_alone kind) [ true ↦ lone_lines t first past | false ↦ None ]
+-- the lines of a tag of this kind, where it is standalone
+abbrev pub standalone_of : List ℕ → TokenKind → ℕ → ℕ → Option (ℕ × ℕ)
+standalone_of t kind first past = elim (may_be_standalone kind) [ true ↦ standalone_lines t first past | false ↦ None ]
 
 abbrev pub lines_or : ℕ → ℕ → Option (ℕ × ℕ) → ℕ × ℕ
 lines_or first past None = (first, past)
 lines_or first past (Some lines) = lines
 
--- what a tag takes of its text, from place to place: its lines where it stands alone, else its own bytes
+-- what a tag takes of its text, from place to place: its lines where it is standalone, else its own bytes
 abbrev pub taken : List ℕ → TokenKind → ℕ → ℕ → ℕ × ℕ
-taken t kind first past = lines_or first past (lone_of t kind first past)
+taken t kind first past = lines_or first past (standalone_of t kind first past)
 
 -- no literal is empty
 abbrev pub literal_at : ℕ → List ℕ → List TokenSeen

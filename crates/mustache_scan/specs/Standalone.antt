@@ -1,4 +1,4 @@
--- Tags that stand alone on their lines, and what is left of the literals round them.
+-- Standalone tags, and what is left of the literals round them.
 use Rattle.std.specs.Prelude.{ℕ, ◌+◌, ◌-◌, Bool, true, false, ◌&&◌, ◌==◌, nat_lt, nat_le, List, [], ◌∷◌, map, Option, None, Some, Result, Ok, Err, length, take, drop}
 use Rattle.std.specs.List.{list_any, list_all, after_last, take_while, filter_map, flat_map}
 use Rattle.mustache_scan.specs.Cutting.{is_blank, is_newline}
@@ -23,38 +23,38 @@ abbrev pub lines_from : ℕ → ℕ → Option ℕ → Option (ℕ × ℕ)
 lines_from first past None = None
 lines_from first past (Some n) = Some (first, past + n)
 
--- The lines of a tag that stands alone, from place to place: in the text `t` the tag's first byte is at `first`, and `past` is the
+-- The lines of a standalone tag, from place to place: in the text `t` the tag's first byte is at `first`, and `past` is the
 -- place after its last. Only blanks stand before it on its first line, and after it on its last.
-abbrev pub lone_lines : List ℕ → ℕ → ℕ → Option (ℕ × ℕ)
-lone_lines t first past =
+abbrev pub standalone_lines : List ℕ → ℕ → ℕ → Option (ℕ × ℕ)
+standalone_lines t first past =
     let before = last_line (take first t) in
     let blanks = take_while is_blank (drop past t) in
     elim (list_all is_blank before) [ true ↦ lines_from (first - length before) (past + length blanks) (line_end (drop (past + length blanks) t)) | false ↦ None ]
 
--- variables never stand alone
-abbrev pub may_stand_alone : TokenKind → Bool
-may_stand_alone Literal = false
-may_stand_alone Variable = false
-may_stand_alone Raw = false
-may_stand_alone _ = true
+-- variables are never standalone
+abbrev pub may_be_standalone : TokenKind → Bool
+may_be_standalone Literal = false
+may_be_standalone Variable = false
+may_be_standalone Raw = false
+may_be_standalone _ = true
 
 -- each piece with the place of its first byte
 abbrev pub placed : ℕ → List Piece → List (ℕ × Piece)
 placed at [] = []
 placed at (p ∷ ps) = (at, p) ∷ placed (at + length p.bytes) ps
 
--- the lines of a piece, where it is a tag that stands alone
-abbrev pub lone : List ℕ → ℕ × Piece → Option (ℕ × ℕ)
-lone t p = elim (may_stand_alone p.1.kind) [ true ↦ lone_lines t p.0 (p.0 + length p.1.bytes) | false ↦ None ]
+-- the lines of a piece, where it is a standalone tag
+abbrev pub standalone : List ℕ → ℕ × Piece → Option (ℕ × ℕ)
+standalone t p = elim (may_be_standalone p.1.kind) [ true ↦ standalone_lines t p.0 (p.0 + length p.1.bytes) | false ↦ None ]
 
 -- all such lines of a text
-abbrev pub lone_lines_of : List ℕ → List (ℕ × Piece) → List (ℕ × ℕ)
-lone_lines_of t ps = filter_map (lone t) ps
+abbrev pub standalone_lines_of : List ℕ → List (ℕ × Piece) → List (ℕ × ℕ)
+standalone_lines_of t ps = filter_map (standalone t) ps
 
 abbrev pub is_covered : List (ℕ × ℕ) → ℕ → Bool
 is_covered lines place = list_any (λ l. nat_le l.0 place && nat_lt place l.1) lines
 
--- A token: its kind, a tag's name, its place, its text, and of a partial that stands alone the blanks before it.
+-- A token: its kind, a tag's name, its place, its text, and of a standalone partial the blanks before it.
 pub record TokenSeen : Type 0 where
   pub kind : TokenKind
   pub inside : List ℕ
@@ -72,14 +72,14 @@ abbrev pub literal_of : List (ℕ × ℕ) → List TokenSeen
 literal_of [] = []
 literal_of ((at, b) ∷ bs) = record { kind = Literal; inside = []; place = at; text = b ∷ map (λ x. x.1) bs; indent = [] } ∷ []
 
--- the blanks before a tag that stands alone
+-- the blanks before a standalone tag
 abbrev pub blanks_before : ℕ → List ℕ → Option (ℕ × ℕ) → List ℕ
 blanks_before at t None = []
 blanks_before at t (Some l) = take (at - l.0) (drop l.0 t)
 
 -- the indentation of a tag: only a partial has one
 abbrev pub indent_of : List ℕ → ℕ × Piece → TokenKind → List ℕ
-indent_of t p Partial = blanks_before p.0 t (lone t p)
+indent_of t p Partial = blanks_before p.0 t (standalone t p)
 indent_of t p _ = []
 
 abbrev pub is_literal : TokenKind → Bool
@@ -92,9 +92,9 @@ tag_token t p = record { kind = p.1.kind; inside = p.1.inside; place = p.0; text
 abbrev pub tokens_at : List ℕ → List (ℕ × ℕ) → ℕ × Piece → List TokenSeen
 tokens_at t lines p = elim (is_literal p.1.kind) [ true ↦ literal_of (kept lines p.0 p.1.bytes) | false ↦ tag_token t p ∷ [] ]
 
--- the tokens of a text's pieces: its tags, and what no line of a tag that stands alone covers of its literals
+-- the tokens of a text's pieces: its tags, and what no line of a standalone tag covers of its literals
 abbrev pub tokens_of : List ℕ → List (ℕ × Piece) → List TokenSeen
-tokens_of t ps = flat_map (tokens_at t (lone_lines_of t ps)) ps
+tokens_of t ps = flat_map (tokens_at t (standalone_lines_of t ps)) ps
 
 -- a fault of reading is at the place of the tag after the pieces
 abbrev pub outcome : List ℕ → Pieces → Option FaultKind → Result (List TokenSeen) TemplateFault

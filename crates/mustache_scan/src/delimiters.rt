@@ -81,7 +81,7 @@ fn is_sequence(text: &str) -> bool
     !text.is_empty() && !has_barred(text)
 }
 
-fn stands_in_word(byte: u8) -> bool
+fn is_in_word(byte: u8) -> bool
     ensures { result ≡ not (is_padding byte) }
 {
     !is_padding(byte)
@@ -91,7 +91,7 @@ fn stands_in_word(byte: u8) -> bool
 fn len_before_padding(bytes: &[u8]) -> usize
     ensures { result ≡ position_or_len is_padding bytes.now }
 {
-    bytes.iter().take_while(|b| stands_in_word(**b)).count()
+    bytes.iter().take_while(|b| is_in_word(**b)).count()
 }
 
 /// The delimiters that the inside of a delimiter tag names.

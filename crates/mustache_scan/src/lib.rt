@@ -5,7 +5,7 @@ mod cuts;
 mod delimiters;
 mod fault;
 mod laws;
-mod lone;
+mod standalone;
 mod names;
 mod padding;
 mod push;

@@ -1,10 +1,10 @@
 ghost use Rattle.std.specs.Prelude.{◌≡◌, ◌++◌, ◌-◌, ◌≤◌, OnOk, IfOk, IfErr, [], ◌∷◌, length, max, slice_range};
 ghost use Rattle.std.specs.Str.{IsCharBoundary};
+ghost use Rattle.mustache_scan.specs.Faults.{memory_wanted};
 ghost use Rattle.mustache_scan.specs.Progress.{literal_at, tag_at, taken};
 ghost use Rattle.mustache_scan.specs.View.{tokens_view};
-ghost use Rattle.mustache_scan.specs.declared.fault.FaultKind.TheVariants.{OutOfMemory};
 
-use crate::lone::taken;
+use crate::standalone::taken;
 use crate::tag::{Tag, name_of};
 use crate::{TemplateFault, Token, TokenKind};
 
@@ -18,7 +18,7 @@ pub(crate) fn push_literal<'a>(
     requires from { IsCharBoundary source.now from }
     requires to { IsCharBoundary source.now to }
     ensures ok { OnOk result (tokens_view tokens.new.items ≡ tokens_view tokens.old.items ++ literal_at from (slice_range source.now from to)) }
-    ensures err { IfErr result (λ f. f.kind ≡ OutOfMemory) }
+    ensures err { IfErr result (λ f. f ≡ memory_wanted) }
 {
     if from < to {
         tokens.push(Token {
@@ -49,7 +49,7 @@ pub(crate) fn push_tag<'a>(
         let part = taken source.now tag.entry.kind place past in
         IfOk result (λ next. (next ≡ max from part.1)
         × (tokens_view tokens.new.items ≡ tokens_view tokens.old.items ++ (literal_at from (slice_range source.now from part.0) ++ tag_at source.now tag.entry.kind tag.entry.inside.now place past ∷ []))) }
-    ensures err { IfErr result (λ f. f.kind ≡ OutOfMemory) }
+    ensures err { IfErr result (λ f. f ≡ memory_wanted) }
 {
     let past = source.len() - tag.rest.len();
     let (start, end) = taken(source.as_bytes(), tag.kind, place, past);

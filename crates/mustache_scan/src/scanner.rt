@@ -28,10 +28,11 @@ fn delimiters_after<'a>(
     }
 }
 
-/// The tokens of a template, after mustache(5): literals without the lines of tags that stand alone, and tags.
+/// The tokens of a template, after mustache(5): literals without the lines of standalone tags, and tags.
 pub fn scan<'a>(alloc: Global, source: &'a str) -> Result<Vec<Token<'a>>, TemplateFault>
     ensures tokens { IfOk result (λ ts. scanned source.now ≡ Ok (tokens_view ts.items)) }
     ensures fault { IfErr result (λ f. f.kind ≢ OutOfMemory → scanned source.now ≡ Err f) }
+    ensures memory { IfErr result (λ f. f.kind ≡ OutOfMemory → f.place ≡ 0) }
     ensures slices { IfOk result (λ ts. AreSlices source.now 0 (tokens_view ts.items)) }
 {
     let mut tokens = Vec::new(alloc);

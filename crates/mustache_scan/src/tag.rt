@@ -1,9 +1,10 @@
-ghost use Rattle.std.specs.Prelude.{◌≡◌, ◌<◌, length, option_map, IfSome, IfOk, IfErr, Ok, Err};
+ghost use Rattle.std.specs.Prelude.{◌≡◌, ◌≢◌, ◌<◌, length, option_map, IfSome, IfOk, IfErr, Ok, Err};
 ghost use Rattle.std.specs.Str.{IsUtf8};
 ghost use Rattle.mustache_scan.specs.Cutting.{cut};
 ghost use Rattle.mustache_scan.specs.Progress.{checked};
 ghost use Rattle.mustache_scan.specs.View.{tag_view};
 ghost use Rattle.mustache_scan.specs.Reading.{kind_of_sign, wrong_inside, name_of, opened_as, tag_in, tag_after};
+ghost use Rattle.mustache_scan.specs.declared.fault.FaultKind.TheVariants.{OutOfMemory};
 
 use crate::cuts::cut;
 use crate::delimiters::{Delimiters, delimiters_in};
@@ -61,7 +62,8 @@ fn tag_in<'a>(delimiters: &Delimiters<'_>, text: &'a str) -> Option<Tag<'a>>
 
 /// What is wrong with the inside of a tag of this kind.
 fn wrong_inside(kind: TokenKind, inside: &str) -> Option<FaultKind>
-    ensures { result ≡ wrong_inside kind inside.now }
+    ensures value { result ≡ wrong_inside kind inside.now }
+    ensures told { IfSome result (λ wrong. wrong ≢ OutOfMemory) }
 {
     match kind {
         TokenKind::Literal | TokenKind::Comment => None,
@@ -80,6 +82,7 @@ pub(crate) fn tag_after<'a>(
     ensures ok { IfOk result (λ tag. checked (tag_after delimiters.now.closing.now after.now) ≡ Ok (tag_view tag)) }
     ensures rest { IfOk result (λ tag. IsUtf8 tag.rest.now) }
     ensures err { IfErr result (λ wrong. checked (tag_after delimiters.now.closing.now after.now) ≡ Err wrong) }
+    ensures told { IfErr result (λ wrong. wrong ≢ OutOfMemory) }
 {
     let Some(tag) = tag_in(delimiters, unpadded(after)) else {
         return Err(FaultKind::UnclosedTag);

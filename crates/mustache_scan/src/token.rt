@@ -14,7 +14,7 @@ pub enum TokenKind {
 
 /// A token of a source, whose text stands at the byte `place`.
 ///
-/// `inside` is a tag's name, and `indent` the blanks before a partial's tag that stands alone; else both are empty.
+/// `inside` is a tag's name, and `indent` the blanks before a standalone partial's tag; else both are empty.
 #[derive(Clone, Copy, Debug, PartialEq, Eq)]
 pub struct Token<'a> {
     pub kind: TokenKind,

@@ -4,10 +4,9 @@ use thiserror::Error;
 /// Why there is no answer.
 #[derive(Clone, Copy, Debug, Drop, PartialEq, Eq, Error)]
 pub enum AnswerFault {
-    /// 1: the number is 0, or above the newest.
+    /// The number is 0, or above the newest.
     #[error("no such release")]
     NoSuchRelease,
-    /// 2
     #[error("out of memory")]
     OutOfMemory,
 }

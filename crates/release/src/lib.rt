@@ -5,8 +5,8 @@ mod answer;
 mod fault;
 mod laws;
 mod page;
-mod released;
 mod releases;
+mod site_of_release;
 
 pub use answer::Answer;
 pub use fault::AnswerFault;

@@ -12,7 +12,7 @@ ghost use Rattle.release.specs.Standing.{answer_view};
 use crate::answer::Answer;
 use crate::fault::AnswerFault;
 use crate::page::page;
-use crate::released::site_of_release;
+use crate::site_of_release::site_of_release;
 use command::{Action, Command, CommandFault, read};
 use content::Applied;
 use site_ids::{Instance, Ticket};
@@ -23,6 +23,7 @@ use std::marker::Model;
 /// The values of a log from its first instance on, and the releases that they make.
 #[derive(Drop)]
 pub struct Releases {
+    alloc: Global,
     fed: Vec<Vec<u8>>,
     receipts: BTreeMap<Ticket, Instance>,
     newest: u64,
@@ -65,6 +66,7 @@ impl Releases {
         ensures { result ≡ [] }
     {
         Releases {
+            alloc,
             fed: Vec::new(alloc),
             receipts: BTreeMap::new(alloc),
             newest: 0,
@@ -80,13 +82,13 @@ impl Releases {
     }
 
     /// Takes the value of the next instance.
-    pub fn feed(&mut self, alloc: Global, value: &[u8]) -> Result<Applied, AllocError>
+    pub fn feed(&mut self, value: &[u8]) -> Result<Applied, AllocError>
         requires { length self.old < 1000000 }
         ensures ok { IfOk result (λ a. (self.new ≡ self.old ++ (value.now ∷ [])) × (a ≡ applied self.old value.now)) }
         ensures err { OnErr result (self.new ≡ self.old) }
     {
-        let kept = Vec::from_slice(alloc, value)?;
-        match read(alloc, value) {
+        let kept = Vec::from_slice(self.alloc, value)?;
+        match read(self.alloc, value) {
             Ok(command) => self.take_command(kept, &command),
             Err(fault) => {
                 no_command(fault)?;
@@ -128,15 +130,15 @@ impl Releases {
     }
 
     /// The page of release n for a path: its site is computed from the values at each call.
-    pub fn answer(&self, alloc: Global, n: u64, path: &str) -> Result<Answer, AnswerFault>
+    pub fn answer(&self, n: u64, path: &str) -> Result<Answer, AnswerFault>
         ensures ok { IfOk result (λ a. answer self.now n path.now ≡ Some (answer_view a)) }
         ensures none { IsErrOf result AnswerFault.NoSuchRelease ↔ ((n ≡ 0) ⊎ (release_count (effective self.now) < n)) }
     {
         if n == 0 || self.newest < n {
             return Err(AnswerFault::NoSuchRelease);
         }
-        let site = site_of_release(alloc, self.fed.as_slice(), n)?;
-        Ok(page(alloc, &site, path)?)
+        let site = site_of_release(self.alloc, self.fed.as_slice(), n)?;
+        Ok(page(self.alloc, &site, path)?)
     }
 
     /// The instance of the first value that is a command with that ticket.

@@ -24,3 +24,8 @@ cost_of_each_part = refl
 cost_of_plain_text : costs (codes "Hello, {{subject}}!\n") (o ((codes "subject", str (codes "<")) ∷ [])) [] (codes "Hello, &lt;!\n") 14
 unfolding computing
 cost_of_plain_text = refl
+
+-- a raw tag costs what another does
+cost_of_raw_tags : costs (codes "{{{x}}}{{&x}}") (o ((codes "x", str (codes "<")) ∷ [])) [] (codes "<<") 4
+unfolding computing
+cost_of_raw_tags = refl

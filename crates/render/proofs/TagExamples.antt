@@ -1,4 +1,4 @@
--- Worked computing, computed from the definitions.
+-- Worked pages and faults, a tag of each kind, computed from the definitions.
 use Rattle.std.proofs.Common.{true, [], ◌∷◌, refl}
 use Rattle.std.specs.Prelude.{codes, pos, negsuc}
 use Rattle.mustache_scan.specs.declared.fault.FaultKind.TheVariants.{UnclosedTag, EmptyName, BadName, BadDelimiters, WrongEnd, UnclosedSection}

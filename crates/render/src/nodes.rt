@@ -18,6 +18,15 @@ use itoa::Buffer;
 use mustache_parse::{FaultKind, Node, parse};
 use std::alloc::Global;
 
+/// Where nodes are printed: over which frame, with which partials, and how many more of these may nest.
+#[derive(Drop)]
+pub(crate) struct Place<'a, P: Partials> {
+    pub alloc: Global,
+    pub frame: &'a Frame<'a>,
+    pub partials: &'a P,
+    pub depth: u32,
+}
+
 fn render_variable(name: &str, frame: &Frame<'_>, out: &mut Output) -> Result<(), RenderFault>
     ensures { Adds out.old out.new (and_then costs_one (prints (escaped (printed (look_up name.now (stack_of frame.now)))))) result }
 {
@@ -44,57 +53,50 @@ fn items_named<'a>(name: &str, frame: &Frame<'a>) -> &'a [Data]
     }
 }
 
-/// Prints nodes over a frame, where `depth` more partials may nest. Each part is entered only once it was paid for, so this ends.
+/// Prints nodes at a place. Each part is entered only once it was paid for, so this ends.
 #[cycle(nodes)]
 pub(crate) fn render_nodes<P: Partials>(
-    alloc: Global,
     nodes: &[Node],
-    frame: &Frame<'_>,
-    depth: u32,
-    partials: &P,
+    place: &Place<'_, P>,
     out: &mut Output,
 ) -> Result<(), RenderFault>
-    ensures adds { (texts : Texts) → P.stands partials.now texts
-        → Adds out.old out.new (meaning_to depth texts (tree_view nodes.now) (stack_of frame.now)) result }
+    ensures adds { (texts : Texts) → P.stands place.now.partials.now texts
+        → Adds out.old out.new (meaning_to place.now.depth texts (tree_view nodes.now) (stack_of place.now.frame.now)) result }
     ensures spent { OnOk result (out.new.left ≤ out.old.left) }
 {
     for node in nodes {
-        render_node(alloc, node, frame, depth, partials, out)?;
+        render_node(node, place, out)?;
     }
     Ok(())
 }
 
 #[cycle(nodes)]
 fn render_node<P: Partials>(
-    alloc: Global,
     node: &Node,
-    frame: &Frame<'_>,
-    depth: u32,
-    partials: &P,
+    place: &Place<'_, P>,
     out: &mut Output,
 ) -> Result<(), RenderFault>
-    ensures adds { (texts : Texts) → P.stands partials.now texts
-        → Adds out.old out.new (meaning_to depth texts (node_onto node.now nothing) (stack_of frame.now)) result }
+    ensures adds { (texts : Texts) → P.stands place.now.partials.now texts
+        → Adds out.old out.new (meaning_to place.now.depth texts (node_onto node.now nothing) (stack_of place.now.frame.now)) result }
     ensures spent { OnOk result (out.new.left ≤ out.old.left) }
 {
     match node {
         Node::Text(text) => out.print(text.as_str()),
-        Node::Variable(name) => render_variable(name.as_str(), frame, out),
-        Node::Raw(name) => render_raw(name.as_str(), frame, out),
+        Node::Variable(name) => render_variable(name.as_str(), place.frame, out),
+        Node::Raw(name) => render_raw(name.as_str(), place.frame, out),
         Node::Section { name, block } => {
             out.charge(1)?;
-            let pushed = items_named(name.as_str(), frame);
-            render_items(alloc, block, pushed, frame, depth, partials, out)
+            let pushed = items_named(name.as_str(), place.frame);
+            render_items(block, pushed, place, out)
         }
         Node::Inverted { name, block } => {
             out.charge(1)?;
-            let found = items_named(name.as_str(), frame);
-            render_where_none(alloc, block, found, frame, depth, partials, out)
+            let found = items_named(name.as_str(), place.frame);
+            render_where_none(block, found, place, out)
         }
         Node::Partial { name, indent } => {
             out.charge(1)?;
-            let (name, indent) = (name.as_str(), indent.as_str());
-            render_partial(alloc, name, indent, frame, depth, partials, out)
+            render_partial(name.as_str(), indent.as_str(), place, out)
         }
     }
 }
@@ -102,25 +104,26 @@ fn render_node<P: Partials>(
 /// Prints a block once for each item, with the item pushed.
 #[cycle(nodes)]
 fn render_items<P: Partials>(
-    alloc: Global,
     block: &[Node],
     pushed: &[Data],
-    frame: &Frame<'_>,
-    depth: u32,
-    partials: &P,
+    place: &Place<'_, P>,
     out: &mut Output,
 ) -> Result<(), RenderFault>
-    ensures adds { (texts : Texts) → P.stands partials.now texts
-        → Adds out.old out.new (for_each (λ v. meaning_to depth texts (tree_view block.now) (v ∷ stack_of frame.now)) (map data_view pushed.now)) result }
+    ensures adds { (texts : Texts) → P.stands place.now.partials.now texts
+        → Adds out.old out.new (for_each (λ v. meaning_to place.now.depth texts (tree_view block.now) (v ∷ stack_of place.now.frame.now)) (map data_view pushed.now)) result }
     ensures spent { OnOk result (out.new.left ≤ out.old.left) }
 {
     for item in pushed {
         out.charge(1)?;
         let top = Frame {
             data: item,
-            below: Some(frame),
+            below: Some(place.frame),
         };
-        render_nodes(alloc, block, &top, depth, partials, out)?;
+        let above = Place {
+            frame: &top,
+            ..*place
+        };
+        render_nodes(block, &above, out)?;
     }
     Ok(())
 }
@@ -128,20 +131,17 @@ fn render_items<P: Partials>(
 /// Prints a block where there is no item, with nothing pushed.
 #[cycle(nodes)]
 fn render_where_none<P: Partials>(
-    alloc: Global,
     block: &[Node],
     found: &[Data],
-    frame: &Frame<'_>,
-    depth: u32,
-    partials: &P,
+    place: &Place<'_, P>,
     out: &mut Output,
 ) -> Result<(), RenderFault>
-    ensures adds { (texts : Texts) → P.stands partials.now texts
-        → Adds out.old out.new (where_none (meaning_to depth texts (tree_view block.now) (stack_of frame.now)) (map data_view found.now)) result }
+    ensures adds { (texts : Texts) → P.stands place.now.partials.now texts
+        → Adds out.old out.new (where_none (meaning_to place.now.depth texts (tree_view block.now) (stack_of place.now.frame.now)) (map data_view found.now)) result }
     ensures spent { OnOk result (out.new.left ≤ out.old.left) }
 {
     if found.is_empty() {
-        render_nodes(alloc, block, frame, depth, partials, out)
+        render_nodes(block, place, out)
     } else {
         Ok(())
     }
@@ -150,25 +150,22 @@ fn render_where_none<P: Partials>(
 /// Prints a partial, whose text is indented and then read; nothing where it is missing.
 #[cycle(nodes)]
 fn render_partial<P: Partials>(
-    alloc: Global,
     name: &str,
     indent: &str,
-    frame: &Frame<'_>,
-    depth: u32,
-    partials: &P,
+    place: &Place<'_, P>,
     out: &mut Output,
 ) -> Result<(), RenderFault>
-    ensures adds { (texts : Texts) → P.stands partials.now texts
-        → Adds out.old out.new (called_at depth texts name.now indent.now (stack_of frame.now)) result }
+    ensures adds { (texts : Texts) → P.stands place.now.partials.now texts
+        → Adds out.old out.new (called_at place.now.depth texts name.now indent.now (stack_of place.now.frame.now)) result }
     ensures spent { OnOk result (out.new.left ≤ out.old.left) }
 {
-    let Some(found) = partials.find(name) else {
+    let Some(found) = place.partials.find(name) else {
         return Ok(());
     };
-    let text = indented(alloc, indent, found.source())?;
-    match parse(alloc, text.as_str()) {
-        Ok(template) => match depth.checked_sub(1) {
-            Some(left) => render_nodes(alloc, template.nodes(), frame, left, partials, out),
+    let text = indented(place.alloc, indent, found.source())?;
+    match parse(place.alloc, text.as_str()) {
+        Ok(template) => match place.depth.checked_sub(1) {
+            Some(depth) => render_nodes(template.nodes(), &Place { depth, ..*place }, out),
             None => Err(RenderFault::OverLimit),
         },
         Err(fault) => match fault.kind {

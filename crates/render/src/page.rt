@@ -4,7 +4,7 @@ ghost use Rattle.mustache_parse.specs.Template.{template_tree};
 ghost use Rattle.render.specs.Meaning.{Partials as Texts, rendering};
 
 use crate::fault::RenderFault;
-use crate::nodes::render_nodes;
+use crate::nodes::{Place, render_nodes};
 use crate::output::Output;
 use crate::partials::Partials;
 use context::{Data, Frame};
@@ -31,14 +31,13 @@ pub fn render<P: Partials>(
         data: page_data,
         below: None,
     };
-    match render_nodes(
+    let place = Place {
         alloc,
-        template.nodes(),
-        &frame,
-        MAX_NESTED,
+        frame: &frame,
         partials,
-        &mut out,
-    ) {
+        depth: MAX_NESTED,
+    };
+    match render_nodes(template.nodes(), &place, &mut out) {
         Ok(()) => Ok(out.text),
         Err(fault) => Err(fault),
     }

@@ -89,17 +89,17 @@ fn sites(rt: HostRuntime) -> Result<(), Fail> {
     for (number, text, applied) in COMMANDS {
         let value = written(alloc, ticket(number), text.as_bytes())?;
         let before = site.template("t").map(|t| t.source().len());
-        match site.apply(alloc, &value) {
+        match site.apply(&value) {
             Ok(answer) => assert_eq!(rt; answer, applied),
             Err(_) => {
                 assert_eq!(rt; site.template("t").map(|t| t.source().len()), before);
-                assert_eq!(rt; site.apply(alloc, &value)?, applied);
+                assert_eq!(rt; site.apply(&value)?, applied);
             }
         }
     }
-    let copy = match site.copy(alloc) {
+    let copy = match site.copy() {
         Ok(copy) => copy,
-        Err(_) => site.copy(alloc)?,
+        Err(_) => site.copy()?,
     };
     assert!(rt; copy.template("t").is_none() && copy.data("d").is_some());
     assert!(rt; matches!(copy.route("/"), Some(("t", "d"))));
@@ -114,20 +114,20 @@ fn releases(rt: HostRuntime) -> Result<(), Fail> {
         let value = written(alloc, ticket(number), text.as_bytes())?;
         let newest = releases.newest();
         let fed = releases.len();
-        match feed(alloc, &mut releases, &value) {
+        match feed(&mut releases, &value) {
             Ok(answer) => assert_eq!(rt; answer, applied),
             Err(_) => {
                 assert!(rt; releases.newest() == newest && releases.len() == fed);
-                assert_eq!(rt; feed(alloc, &mut releases, &value)?, applied);
+                assert_eq!(rt; feed(&mut releases, &value)?, applied);
             }
         }
     }
     assert_eq!(rt; releases.newest(), 2);
-    let answer = match releases.answer(alloc, 1, "/") {
+    let answer = match releases.answer(1, "/") {
         Ok(answer) => answer,
         Err(fault) => {
             assert_eq!(rt; fault, AnswerFault::OutOfMemory);
-            releases.answer(alloc, 1, "/")?
+            releases.answer(1, "/")?
         }
     };
     assert!(rt; answer.status == 200 && answer.body.as_str() == "v1\n");

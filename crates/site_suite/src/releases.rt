@@ -27,15 +27,11 @@ pub(crate) fn value_of(alloc: Global, number: u64, text: &str) -> Result<Vec<u8>
 }
 
 /// Feeds a value, where there is an instance left for it.
-pub(crate) fn feed(
-    alloc: Global,
-    releases: &mut Releases,
-    value: &[u8],
-) -> Result<Applied, AllocError> {
+pub(crate) fn feed(releases: &mut Releases, value: &[u8]) -> Result<Applied, AllocError> {
     if releases.len() >= MAX_INSTANCE as usize {
         return Err(AllocError);
     }
-    releases.feed(alloc, value)
+    releases.feed(value)
 }
 
 fn receipt(releases: &Releases, number: u64) -> Option<u32> {
@@ -50,7 +46,7 @@ fn eight_commands(rt: HostRuntime) -> Result<(), Fail> {
     assert_eq!(rt; releases.newest(), 0);
     for (number, text, applied) in COMMANDS {
         let value = value_of(alloc, number, text)?;
-        assert_eq!(rt; feed(alloc, &mut releases, &value)?, applied, "{text}");
+        assert_eq!(rt; feed(&mut releases, &value)?, applied, "{text}");
     }
     assert_eq!(rt; releases.newest(), 2);
     let pages = [
@@ -59,12 +55,12 @@ fn eight_commands(rt: HostRuntime) -> Result<(), Fail> {
         (1, "/x", 404, "not found\n"),
     ];
     for (n, path, status, body) in pages {
-        let answer = releases.answer(alloc, n, path)?;
+        let answer = releases.answer(n, path)?;
         assert_eq!(rt; answer.status, status);
         assert_eq!(rt; answer.body.as_str(), body);
     }
     for n in [0, 3, u64::MAX] {
-        let refused = releases.answer(alloc, n, "/");
+        let refused = releases.answer(n, "/");
         assert!(rt; matches!(refused, Err(AnswerFault::NoSuchRelease)), "{n}");
     }
     assert_eq!(rt; receipt(&releases, 1), Some(1));
@@ -77,13 +73,13 @@ fn eight_commands(rt: HostRuntime) -> Result<(), Fail> {
 fn values_that_are_no_commands(rt: HostRuntime) -> Result<(), Fail> {
     let alloc = rt.alloc();
     let mut releases = Releases::new(alloc);
-    assert_eq!(rt; feed(alloc, &mut releases, b"")?, Applied::NotACommand);
+    assert_eq!(rt; feed(&mut releases, b"")?, Applied::NotACommand);
     let unread = value_of(alloc, 1, "put template t\n{{")?;
-    assert_eq!(rt; feed(alloc, &mut releases, &unread)?, Applied::NotACommand);
+    assert_eq!(rt; feed(&mut releases, &unread)?, Applied::NotACommand);
     assert_eq!(rt; receipt(&releases, 1), None);
     let release = value_of(alloc, 1, "release\n")?;
-    assert_eq!(rt; feed(alloc, &mut releases, &release)?, Applied::Released);
-    assert_eq!(rt; feed(alloc, &mut releases, &release)?, Applied::Repeat);
+    assert_eq!(rt; feed(&mut releases, &release)?, Applied::Released);
+    assert_eq!(rt; feed(&mut releases, &release)?, Applied::Repeat);
     assert_eq!(rt; releases.newest(), 1);
     assert_eq!(rt; receipt(&releases, 1), Some(3));
     Ok(())

@@ -10,7 +10,7 @@ use std::test::Fail;
 fn take(alloc: Global, site: &mut Site, number: u64, text: &str) -> Result<Applied, AllocError> {
     let ticket = Ticket { editor: 1, number };
     let value = write(alloc, ticket, text.as_bytes())?;
-    site.apply(alloc, &value)
+    site.apply(&value)
 }
 
 /// The site of a greeting.
@@ -49,7 +49,7 @@ fn answers_of_values(rt: HostRuntime) -> Result<(), Fail> {
         Applied::NotACommand
     );
     assert_eq!(rt; take(alloc, &mut site, 3, "release\n")?, Applied::Released);
-    assert_eq!(rt; site.apply(alloc, b"")?, Applied::NotACommand);
+    assert_eq!(rt; site.apply(b"")?, Applied::NotACommand);
     assert!(rt; matches!(site.template("t"), Some(t) if t.source() == "a"));
     Ok(())
 }
@@ -76,7 +76,7 @@ fn contents_by_name(rt: HostRuntime) -> Result<(), Fail> {
 fn a_copy_is_its_own(rt: HostRuntime) -> Result<(), Fail> {
     let alloc = rt.alloc();
     let mut site = greeting(alloc)?;
-    let mut copy = site.copy(alloc)?;
+    let mut copy = site.copy()?;
     take(alloc, &mut site, 5, "remove template t\n")?;
     assert!(rt; matches!(copy.template("t"), Some(t) if t.source() == "Hello, {{subject}}!\n"));
     assert!(rt; matches!(copy.partial("t"), Some(t) if t.source() == "{{x}}"));

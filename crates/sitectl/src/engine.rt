@@ -32,7 +32,7 @@ fn outcome_of(
         Input::Fault(line) => Ok(Outcome::Says(line)),
         Input::Fed(releases) => {
             let n = release.unwrap_or(releases.newest());
-            match releases.answer(alloc, n, path) {
+            match releases.answer(n, path) {
                 Ok(answer) => Ok(Outcome::Shows(answer)),
                 Err(AnswerFault::NoSuchRelease) => {
                     Ok(Outcome::Says(String::from_str(alloc, "no release\n")?))

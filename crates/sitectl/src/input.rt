@@ -36,7 +36,7 @@ pub(crate) fn fed(alloc: Global, input: &[u8]) -> Result<Input, AllocError>
             _ => return Ok(Input::Fault(line_at(alloc, place, "framing")?)),
         };
         let value = write(alloc, framed.ticket, framed.text)?;
-        if matches!(releases.feed(alloc, &value)?, Applied::NotACommand) {
+        if matches!(releases.feed(&value)?, Applied::NotACommand) {
             return Ok(Input::Fault(fault_at(alloc, place, &value)?));
         }
         rest = framed.rest;

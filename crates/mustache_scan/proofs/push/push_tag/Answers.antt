@@ -1,7 +1,7 @@
 use Rattle.std.proofs.Common.{◌≡◌, ℕ, ◌-◌, length, sym, ap, subst, ◌∙◌, arith}
 use Rattle.std.specs.Str.{IsCharBoundary}
 use Rattle.mustache_scan.specs.Progress.{taken}
-use Rattle.mustache_scan.proofs.LoneLemmas.{taken_start_boundary}
+use Rattle.mustache_scan.proofs.StandaloneLemmas.{taken_start_boundary}
 use Rattle.mustache_scan.proofs.push.push_tag.Goals as goal
 
 pub push_literal-requires-clause-to : goal.push_literal-requires-clause-to

@@ -32,7 +32,7 @@ returns-then-is_err-clause-err c =
     let none : list_any (is_at (ticket_cmp ticket)) was.tickets.keys ≡ false = answered_by c.in_ok-insert.field-0 _ true c.in_ok-insert.ensures.added c.if-not-branch.false in
     on_err c.act-done.result
     (λ same.
-    let still : the_view c.self-2.inside ≡ the_view (record { tickets = c.insert.new.self; templates = was.templates; partials = was.partials; page_data = was.page_data; routes = was.routes }) = c.self-2.view_is ∙ same in
+    let still : the_view c.self-2.inside ≡ the_view (record { alloc = was.alloc; tickets = c.insert.new.self; templates = was.templates; partials = was.partials; page_data = was.page_data; routes = was.routes }) = c.self-2.view_is ∙ same in
     let keys : c.remove.new.self.keys ≡ was.tickets.keys =
     c.remove.ensures.keys ∙ ap (remove_key (is_at (ticket_cmp ticket))) (ap (λ (s : SiteSeen). s.tickets) still ∙ c.in_ok-insert.ensures.keys) ∙ in_and_out ticket_cmp ticket was.tickets.keys (same_itself ticket) none in
     ap (λ (s : SiteSeen). record { tickets = c.remove.new.self.keys; templates = s.templates; partials = s.partials; page_data = s.page_data; routes = s.routes }) still

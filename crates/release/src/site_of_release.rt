@@ -17,7 +17,7 @@ pub(crate) fn site_of_release(alloc: Global, values: &[Vec<u8>], n: u64) -> Resu
         if left == 0 {
             return Ok(site);
         }
-        if let Applied::Released = site.apply(alloc, value)? {
+        if let Applied::Released = site.apply(value)? {
             left -= 1;
         }
     }

@@ -6,8 +6,8 @@ use Rattle.command.specs.Effective.{effective}
 use Rattle.command.specs.Releases.{through}
 use Rattle.std.proofs.lemmas.List.{take_all, take_more, length-map, get_or-map}
 use Rattle.release.proofs.MoreValues.{IsUpTo, one_if_released, no_release, ends_at, up_to_more}
-use Rattle.release.proofs.released.site_of_release.Goals as goal
-use Rattle.release.proofs.released.site_of_release.Goals.{in-Released, in_default}
+use Rattle.release.proofs.site_of_release.site_of_release.Goals as goal
+use Rattle.release.proofs.site_of_release.site_of_release.Goals.{in-Released, in_default}
 
 abbrev bytes : Vec ℕ Global → List ℕ
 bytes v = v.items

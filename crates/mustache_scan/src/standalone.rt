@@ -2,7 +2,7 @@ ghost use Rattle.std.specs.Prelude.{◌≡◌, ◌+◌, ◌≤◌, IfSome, lengt
 ghost use Rattle.std.specs.List.{prefix_len, suffix_len};
 ghost use Rattle.mustache_scan.specs.Cutting.{is_blank};
 ghost use Rattle.mustache_scan.specs.Progress.{taken};
-ghost use Rattle.mustache_scan.specs.Standalone.{line_end, lone_lines, may_stand_alone};
+ghost use Rattle.mustache_scan.specs.Standalone.{line_end, standalone_lines, may_be_standalone};
 
 use crate::TokenKind;
 
@@ -54,11 +54,11 @@ fn blanks_end(text: &[u8], place: usize) -> usize
     place + leading_blanks(&text[place..])
 }
 
-/// The lines of a tag that stands alone, by the place of its first byte and the place after its last.
-fn lone_lines(text: &[u8], first: usize, past: usize) -> Option<(usize, usize)>
+/// The lines of a standalone tag, by the place of its first byte and the place after its last.
+fn standalone_lines(text: &[u8], first: usize, past: usize) -> Option<(usize, usize)>
     requires order { first ≤ past }
     requires within { past ≤ length text.now }
-    ensures { result ≡ lone_lines text.now first past }
+    ensures { result ≡ standalone_lines text.now first past }
 {
     let start = blanks_start(text, first);
     if start > 0 && text[start - 1] != b'\n' {
@@ -69,8 +69,8 @@ fn lone_lines(text: &[u8], first: usize, past: usize) -> Option<(usize, usize)>
     Some((start, end + len))
 }
 
-fn may_stand_alone(kind: TokenKind) -> bool
-    ensures { result ≡ may_stand_alone kind }
+fn may_be_standalone(kind: TokenKind) -> bool
+    ensures { result ≡ may_be_standalone kind }
 {
     !matches!(
         kind,
@@ -78,14 +78,14 @@ fn may_stand_alone(kind: TokenKind) -> bool
     )
 }
 
-/// What a tag takes of its text, from place to place: its lines where it stands alone, else its own bytes.
+/// What a tag takes of its text, from place to place: its lines where it is standalone, else its own bytes.
 pub(crate) fn taken(text: &[u8], kind: TokenKind, first: usize, past: usize) -> (usize, usize)
     requires order { first ≤ past }
     requires within { past ≤ length text.now }
     ensures { result ≡ taken text.now kind first past }
 {
-    if !may_stand_alone(kind) {
+    if !may_be_standalone(kind) {
         return (first, past);
     }
-    lone_lines(text, first, past).unwrap_or((first, past))
+    standalone_lines(text, first, past).unwrap_or((first, past))
 }

@@ -2,7 +2,7 @@ use Rattle.std.proofs.Common.{ℕ, ◌-◌, ◌+◌, ◌≤◌, List, length, ta
 use Rattle.std.proofs.lemmas.List.Sums.{prefix_len-le-length}
 use Rattle.std.specs.List.{prefix_len}
 use Rattle.mustache_scan.specs.Cutting.{is_blank}
-use Rattle.mustache_scan.proofs.lone.blanks_end.Goals as goal
+use Rattle.mustache_scan.proofs.standalone.blanks_end.Goals as goal
 
 within : (t : List ℕ) (place : ℕ) → place ≤ length t → place + prefix_len is_blank (take (length t - place) (drop place t)) ≤ length t
 within t place le =

@@ -1,4 +1,4 @@
--- Where the lines of a tag that stands alone begin and end: round the tag, after no byte that is not blank, and where a text may be cut.
+-- Where the lines of a standalone tag begin and end: round the tag, after no byte that is not blank, and where a text may be cut.
 use Rattle.std.proofs.Common.{◌≡◌, ℕ, ◌+◌, ◌-◌, ◌<◌, ◌≤◌, Bool, true, false, not, ◌&&◌, ◌==◌, ◌⊎◌, inl, inr, List, [], ◌∷◌, length, get_or, take, drop, Option, Some, None, refl, sym, ap, subst, ◌∙◌, arith, ⊎_elim, length-take, length-drop}
 use Rattle.std.proofs.lemmas.Bool.{cases_lt, false≢true}
 use Rattle.std.proofs.lemmas.Bool.Decides.{nat_tests}
@@ -9,8 +9,8 @@ use Rattle.std.proofs.lemmas.Str.{IsCharBoundary-start, IsCharBoundary-end, IsCh
 use Rattle.std.specs.List.{list_all, prefix_len, suffix_len}
 use Rattle.std.specs.Str.{IsUtf8, IsCharBoundary}
 use Rattle.mustache_scan.specs.Cutting.{is_blank, is_newline}
-use Rattle.mustache_scan.specs.Progress.{lone_of, lines_or, taken}
-use Rattle.mustache_scan.specs.Standalone.{line_end, last_line, lines_from, lone_lines, may_stand_alone}
+use Rattle.mustache_scan.specs.Progress.{standalone_of, lines_or, taken}
+use Rattle.mustache_scan.specs.Standalone.{line_end, last_line, lines_from, standalone_lines, may_be_standalone}
 use Rattle.mustache_scan.specs.declared.token.TokenKind.{TokenKind}
 use Rattle.mustache_scan.proofs.LineLemmas.{suffix_stops, newline_is, lines_are}
 
@@ -67,13 +67,13 @@ seen_from t first past l (Some n) blank is h =
     let e : (first - length (last_line (take first t)), past + prefix_len is_blank (drop past t) + n) ≡ l = cc in
     record { blank = blank; len = n; ending = is; start = ap (λ (x : ℕ × ℕ). x.0) (sym e); past_is = ap (λ (x : ℕ × ℕ). x.1) (sym e) }
 
-seen_by : (t : List ℕ) (first past : ℕ) (l : ℕ × ℕ) (b : Bool) → list_all is_blank (last_line (take first t)) ≡ b → lone_lines t first past ≡ Some l → LinesSeen t first past l
+seen_by : (t : List ℕ) (first past : ℕ) (l : ℕ × ℕ) (b : Bool) → list_all is_blank (last_line (take first t)) ≡ b → standalone_lines t first past ≡ Some l → LinesSeen t first past l
 seen_by t first past l true is h = seen_from t first past l _ is refl (sym (lines_are t first past true is) ∙ h)
 seen_by t first past l false is h = let e : None ≡ Some l = sym (lines_are t first past false is) ∙ h in absurd (cc)
 
-module _ (t : List ℕ) (first past : ℕ) (l : ℕ × ℕ) (order : first ≤ past) (within : past ≤ length t) (lone : lone_lines t first past ≡ Some l) where
+module _ (t : List ℕ) (first past : ℕ) (l : ℕ × ℕ) (order : first ≤ past) (within : past ≤ length t) (standalone : standalone_lines t first past ≡ Some l) where
   seen : LinesSeen t first past l
-  seen = seen_by t first past l _ refl lone
+  seen = seen_by t first past l _ refl standalone
 
   -- the newline before the tag's line
   line_len : ℕ
@@ -133,34 +133,34 @@ chosen : (b : Bool) (r : Option (ℕ × ℕ)) (l : ℕ × ℕ) → (elim b as (�
 chosen true r l h = h
 chosen false r l h = absurd (cc)
 
-pub lone_of_lines : (t : List ℕ) (kind : TokenKind) (first past : ℕ) (l : ℕ × ℕ) → lone_of t kind first past ≡ Some l → lone_lines t first past ≡ Some l
-lone_of_lines t kind first past l h = chosen (may_stand_alone kind) (lone_lines t first past) l h
+pub standalone_of_lines : (t : List ℕ) (kind : TokenKind) (first past : ℕ) (l : ℕ × ℕ) → standalone_of t kind first past ≡ Some l → standalone_lines t first past ≡ Some l
+standalone_of_lines t kind first past l h = chosen (may_be_standalone kind) (standalone_lines t first past) l h
 
 module _ (t : List ℕ) (kind : TokenKind) (first past : ℕ) (order : first ≤ past) (within : past ≤ length t) where
-  starts : (r : Option (ℕ × ℕ)) → lone_of t kind first past ≡ r → (lines_or first past r).0 ≤ first
+  starts : (r : Option (ℕ × ℕ)) → standalone_of t kind first past ≡ r → (lines_or first past r).0 ≤ first
   starts None is = omega arith
-  starts (Some l) is = starts_before t first past l order within (lone_of_lines t kind first past l is)
+  starts (Some l) is = starts_before t first past l order within (standalone_of_lines t kind first past l is)
 
   pub taken_start : (taken t kind first past).0 ≤ first
-  taken_start = starts (lone_of t kind first past) refl
+  taken_start = starts (standalone_of t kind first past) refl
 
-  ends : (r : Option (ℕ × ℕ)) → lone_of t kind first past ≡ r → past ≤ (lines_or first past r).1
+  ends : (r : Option (ℕ × ℕ)) → standalone_of t kind first past ≡ r → past ≤ (lines_or first past r).1
   ends None is = omega arith
-  ends (Some l) is = ends_after t first past l order within (lone_of_lines t kind first past l is)
+  ends (Some l) is = ends_after t first past l order within (standalone_of_lines t kind first past l is)
 
   pub taken_end : past ≤ (taken t kind first past).1
-  taken_end = ends (lone_of t kind first past) refl
+  taken_end = ends (standalone_of t kind first past) refl
 
-  start_cut : (r : Option (ℕ × ℕ)) → lone_of t kind first past ≡ r → IsUtf8 t → IsCharBoundary t first → IsCharBoundary t (lines_or first past r).0
+  start_cut : (r : Option (ℕ × ℕ)) → standalone_of t kind first past ≡ r → IsUtf8 t → IsCharBoundary t first → IsCharBoundary t (lines_or first past r).0
   start_cut None is u h = h
-  start_cut (Some l) is u h = start_boundary t first past l order within (lone_of_lines t kind first past l is) u
+  start_cut (Some l) is u h = start_boundary t first past l order within (standalone_of_lines t kind first past l is) u
 
   pub taken_start_boundary : IsUtf8 t → IsCharBoundary t first → IsCharBoundary t (taken t kind first past).0
-  taken_start_boundary = start_cut (lone_of t kind first past) refl
+  taken_start_boundary = start_cut (standalone_of t kind first past) refl
 
-  end_cut : (r : Option (ℕ × ℕ)) → lone_of t kind first past ≡ r → IsUtf8 t → IsCharBoundary t past → IsCharBoundary t (lines_or first past r).1
+  end_cut : (r : Option (ℕ × ℕ)) → standalone_of t kind first past ≡ r → IsUtf8 t → IsCharBoundary t past → IsCharBoundary t (lines_or first past r).1
   end_cut None is u h = h
-  end_cut (Some l) is u h = end_boundary t first past l order within (lone_of_lines t kind first past l is) u
+  end_cut (Some l) is u h = end_boundary t first past l order within (standalone_of_lines t kind first past l is) u
 
   pub taken_end_boundary : IsUtf8 t → IsCharBoundary t past → IsCharBoundary t (taken t kind first past).1
-  taken_end_boundary = end_cut (lone_of t kind first past) refl
+  taken_end_boundary = end_cut (standalone_of t kind first past) refl
