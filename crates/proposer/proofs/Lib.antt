@@ -2,3 +2,4 @@ pub mod BestLemmas
 pub mod Answering
 pub mod Taking
 pub mod Examples
+pub mod CountingOpen

@@ -1,6 +1,7 @@
 -- A promise taken by the attempt of its instance.
-use Rattle.std.proofs.Common.{◌≡◌, ◌≢◌, ◌⊎◌, inl, inr, ℕ, Option, Some, None, List, sym, ap, subst, ◌∙◌, ⊎_elim}
+use Rattle.std.proofs.Common.{◌≡◌, ◌≢◌, ◌⊎◌, inl, inr, ℕ, Option, Some, None, List, refl, sym, ap, subst, ◌∙◌, ⊎_elim}
 use Rattle.std.proofs.lemmas.Bool.{cases_eq}
+use Rattle.std.specs.Prelude.{◌↔◌, IsSome}
 use Rattle.std.specs.BTreeMap.{BTreeMap}
 use Rattle.site_ids.specs.Ids.{BallotOf}
 use Rattle.site_ids.specs.Majorities.{Majority}
@@ -36,6 +37,13 @@ none_at : (n : ℕ) (found : Option OpenAttempt) (attempt : Option Attempt) → 
 none_at n None None h e = λ _. None
 none_at n None (Some a) h e = absurd h
 none_at n (Some k) attempt h e = absurd (cc)
+
+-- the one is there where the other is
+pub both_there : (n : ℕ) (kept : Option OpenAttempt) (attempt : Option Attempt) → StandsForAny n kept attempt → IsSome kept ↔ IsSome attempt
+both_there n None None h = (λ some. some, λ some. some)
+both_there n None (Some a) h = absurd h
+both_there n (Some k) None h = absurd h
+both_there n (Some k) (Some a) h = (λ some. refl, λ some. refl)
 
 pub put_stands : (n : ℕ) (old new : BTreeMap ℕ (Option OpenAttempt)) (attempts : ℕ → Option Attempt) (i : ℕ) (kept : OpenAttempt) (t : Attempt) → AreThese n old attempts → StandsFor n kept t
     → attempt_at new i ≡ Some kept → ((j : ℕ) → j ≢ i → attempt_at new j ≡ attempt_at old j) → AreThese n new (put_at attempts i (Some t))

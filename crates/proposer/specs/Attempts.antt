@@ -1,7 +1,7 @@
 -- A proposer's attempts, and its step: what a promise does to them.
-use Rattle.std.specs.Prelude.{◌≡◌, ◌⊎◌, ℕ, Option, Some, None, List, [], ◌∷◌, ◌++◌, map}
+use Rattle.std.specs.Prelude.{◌≡◌, ◌⊎◌, ◌↔◌, ℕ, Option, Some, None, IsSome, List, [], ◌∷◌, ◌++◌, length, map}
 use Rattle.site_ids.specs.Ids.{BallotOf, NotAbove}
-use Rattle.site_ids.specs.Majorities.{In, Majority}
+use Rattle.site_ids.specs.Majorities.{In, Distinct, Majority}
 use Rattle.site_ids.specs.Maps.{put_at}
 use Rattle.site_ids.specs.declared.value.Vote.{Vote}
 use Rattle.wire.specs.declared.message.Message.{Message}
@@ -70,3 +70,10 @@ TakesPromise n attempts q i b prior after (Some v) =
 abbrev pub latest : ℕ → ℕ → BallotOf → Option (List ℕ) → Message
 latest p i b None = Prepare p i b
 latest p i b (Some v) = Propose p i b v
+
+-- so many instances have an attempt
+pub record AreOpen (attempts : ℕ → Option Attempt) (count : ℕ) : Type 0 where
+  pub instances : List ℕ
+  pub distinct : Distinct instances
+  pub open_there : (i : ℕ) → In instances i ↔ IsSome (attempts i)
+  pub counted : length instances ≡ count

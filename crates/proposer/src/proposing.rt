@@ -3,7 +3,7 @@ ghost use Rattle.std.specs.Option.{option_map};
 ghost use Rattle.site_ids.specs.Ids.{IsNode};
 ghost use Rattle.site_ids.specs.Maps.{put_at};
 ghost use Rattle.proposer.specs.declared.fault.ProposerFault.TheVariants.{RoundsUsedUp};
-ghost use Rattle.proposer.specs.Attempts.{Attempt, opened, latest};
+ghost use Rattle.proposer.specs.Attempts.{Attempt, AreOpen, opened, latest};
 ghost use Rattle.proposer.specs.Standing.{Attempting, HasRoom, Promised};
 ghost use Rattle.proposer.specs.Best.{vote_told};
 
@@ -169,6 +169,19 @@ impl Proposer {
             ballot: attempt.ballot,
             value,
         }))
+    }
+
+    /// How many attempts are open.
+    pub fn attempts(&self) -> usize
+        ensures { (attempts : ℕ → Option Attempt) → Attempting self.now attempts → AreOpen attempts result }
+    {
+        let mut open = 0;
+        for attempt in self.attempts.values() {
+            if attempt.is_some() {
+                open += 1;
+            }
+        }
+        open
     }
 
     /// The own value of the attempt at an instance, if one is open.

@@ -42,7 +42,7 @@ fn promises_of_another_ballot_count_for_nothing(rt: HostRuntime) -> Result<(), F
     assert!(rt;
         proposer
             .own_value(instance(7)?)
-            .is_some_and(|own| own.as_bytes() == b"X")
+            .is_some_and(|own| own.as_bytes() == b"X".as_slice())
     );
     proposer.abandon(instance(7)?);
     assert!(rt; proposer.own_value(instance(7)?).is_none());
