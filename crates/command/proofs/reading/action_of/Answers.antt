@@ -9,16 +9,19 @@ use Rattle.command.specs.declared.rows.Row.{Row as Found}
 use Rattle.command.proofs.reading.action_of.Goals as goal
 
 -- the text has this row, which is no release's
+the_row : (text : Option Row) (o : Option Found) (x y : Found) → option_map row_view o ≡ text → o ≡ Some x → x ≡ y → row_view y ≢ release_row → (row : Row) × (text ≡ Some row) × (row ≢ release_row)
+the_row text o x y told is same other = (row_view y, sym told ∙ ap (option_map row_view) (is ∙ ap Some same), other)
+
 has_row : {T : Type 0} (r : Result T CommandFault) (text : Option Row) (o : Option Found) (x y : Found) → option_map row_view o ≡ text → o ≡ Some x → x ≡ y → row_view y ≢ release_row
     → IfErr r (λ e. e ≡ OutOfMemory → (row : Row) × (text ≡ Some row) × (row ≢ release_row))
 has_row (Ok found) text o x y told is same other = tt
-has_row (Err e) text o x y told is same other = λ wanted. (row_view y, sym told ∙ ap (option_map row_view) (is ∙ ap Some same), other)
+has_row (Err e) text o x y told is same other = λ wanted. the_row text o x y told is same other
 
-pub returns-in-Some-Template-clause-memory : goal.returns-in-Some-Template-clause-memory
-returns-in-Some-Template-clause-memory c = let s = c.in-Some-Template in has_row _ _ _ _ _ c.row_in.ensures s.is s.field-0-is (λ e. cc)
+pub returns-in-Err-clause-memory : goal.returns-in-Err-clause-memory
+returns-in-Err-clause-memory c = let s = c.in-Some-Template in λ wanted. the_row _ _ _ _ c.row_in.ensures s.is s.field-0-is (λ e. cc)
 
-pub returns-in-Some-Partial-clause-memory : goal.returns-in-Some-Partial-clause-memory
-returns-in-Some-Partial-clause-memory c = let s = c.in-Some-Partial in has_row _ _ _ _ _ c.row_in.ensures s.is s.field-0-is (λ e. cc)
+pub returns-in-Err-named_text-clause-memory : goal.returns-in-Err-named_text-clause-memory
+returns-in-Err-named_text-clause-memory c = let s = c.in-Some-Partial in λ wanted. the_row _ _ _ _ c.row_in.ensures s.is s.field-0-is (λ e. cc)
 
 pub returns-in-Some-Data-clause-memory : goal.returns-in-Some-Data-clause-memory
 returns-in-Some-Data-clause-memory c = let s = c.in-Some-Data in has_row _ _ _ _ _ c.row_in.ensures s.is s.field-0-is (λ e. cc)
