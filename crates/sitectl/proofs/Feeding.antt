@@ -1,6 +1,6 @@
 -- The reading of an input, from what each value was answered with as it was fed.
-use Rattle.std.proofs.Common.{◌≡◌, ◌<◌, ◌≤◌, ◌+◌, ℕ, List, [], ◌∷◌, ◌++◌, Bool, true, false, cond, map, length, Option, Some, None, unwrap_or, Result, Ok, Err, refl, sym, ap, ◌∙◌, arith}
-use Rattle.std.proofs.lemmas.List.{map-append, length-map}
+use Rattle.std.proofs.Common.{◌≡◌, ◌≤◌, ℕ, List, [], ◌∷◌, ◌++◌, Bool, true, false, cond, map, length, Option, Some, None, unwrap_or, Result, Ok, Err, refl, sym, ap, ◌∙◌, arith}
+use Rattle.std.proofs.lemmas.List.{map-append}
 use Rattle.command.specs.Action.{Action, put_template, put_partial, put_data, put_route, remove, release, Order}
 use Rattle.command.specs.Effective.{has_ticket, effective}
 use Rattle.command.specs.Releases.{release_count}
@@ -8,8 +8,8 @@ use Rattle.command.specs.declared.fault.CommandFault.{CommandFault}
 use Rattle.content.specs.Answered.{applied_after, answered}
 use Rattle.content.specs.declared.applied.Applied.TheVariants.{Repeat, NotACommand}
 use Rattle.release.specs.Page.{asked}
-use Rattle.sitectl.specs.Framed.{Entry}
-use Rattle.sitectl.specs.Verdict.{entry_value}
+use Rattle.sitectl.specs.Framed.{FramedCommand}
+use Rattle.sitectl.specs.Verdict.{framed_value}
 
 answered_so : (b : Bool) (a : Action) → cond b Repeat (answered a) ≡ NotACommand → ⊥
 answered_so true a is = cc
@@ -30,8 +30,8 @@ pub some_order : (orders : List Order) (r : Result Order CommandFault) → (appl
 some_order orders (Ok o) other = (o, refl)
 some_order orders (Err f) other = absurd (other refl)
 
-pub values_more : (es : List Entry) (e : Entry) (v : List ℕ) → v ≡ entry_value e → map entry_value es ++ v ∷ [] ≡ map entry_value (es ++ e ∷ [])
-values_more es e v is = ap (λ x. map entry_value es ++ x ∷ []) is ∙ sym (map-append entry_value es (e ∷ []))
+pub values_more : (es : List FramedCommand) (e : FramedCommand) (v : List ℕ) → v ≡ framed_value e → map framed_value es ++ v ∷ [] ≡ map framed_value (es ++ e ∷ [])
+values_more es e v is = ap (λ x. map framed_value es ++ x ∷ []) is ∙ sym (map-append framed_value es (e ∷ []))
 
 -- the release that is asked for
 pub asked_is : (values : List (List ℕ)) (release : Option ℕ) (newest n : ℕ) → newest ≡ release_count (effective values) → n ≡ unwrap_or release newest → n ≡ asked values release

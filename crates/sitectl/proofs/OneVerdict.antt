@@ -3,12 +3,12 @@ use Rattle.std.proofs.Common.{◌≡◌, ℕ, List, map, Option, Result, Ok, Err
 use Rattle.command.specs.Action.{Order}
 use Rattle.release.specs.Page.{answer, asked}
 use Rattle.sitectl.specs.Reading.{HasReading}
-use Rattle.sitectl.specs.Verdict.{Verdict, says, or_no_release, entry_value, HasValues, IsVerdict}
-use Rattle.sitectl.proofs.OneReading.{one_reading, same_entries}
+use Rattle.sitectl.specs.Verdict.{Verdict, says, or_no_release, framed_value, HasValues, IsVerdict}
+use Rattle.sitectl.proofs.OneReading.{one_reading, same_framed}
 use Rattle.sitectl.proofs.SomeReading.{some_reading}
 
 same_values : (input : List ℕ) (vs ws : List (List ℕ)) → HasValues input vs → HasValues input ws → vs ≡ ws
-same_values input vs ws v w = v.are ∙ ap (map entry_value) (same_entries input v.orders w.orders v.whole w.whole) ∙ sym w.are
+same_values input vs ws v w = v.are ∙ ap (map framed_value) (same_framed input v.orders w.orders v.whole w.whole) ∙ sym w.are
 
 pub one_verdict : (input : List ℕ) (release : Option ℕ) (path : List ℕ) (one other : Verdict) → IsVerdict input release path one → IsVerdict input release path other → one ≡ other
 one_verdict input release path one other (inl p) (inl q) =
@@ -20,7 +20,7 @@ one_verdict input release path one other (inr p) (inr q) =
 
 verdict_of : (input : List ℕ) (release : Option ℕ) (path : List ℕ) (reading : Result (List Order) (List ℕ)) → HasReading input reading → (verdict : Verdict) × IsVerdict input release path verdict
 verdict_of input release path (Ok orders) h =
-    let values = map entry_value h.entries in
+    let values = map framed_value h.framed in
     (or_no_release (answer values (asked values release) path), inr (values, record { orders = orders; whole = h; are = refl }, refl))
 verdict_of input release path (Err line) h = (says line, inl (line, h, refl))
 

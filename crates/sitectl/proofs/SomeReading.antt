@@ -8,8 +8,10 @@ use Rattle.std.specs.Str.{bytes_eq}
 use Rattle.command.specs.Action.{Order}
 use Rattle.command.specs.Written.{line_of}
 use Rattle.command.specs.declared.fault.CommandFault.{CommandFault}
-use Rattle.sitectl.specs.Framed.{Entry, frame, IsEntry, HasNoFrame}
-use Rattle.sitectl.specs.Reading.{entry_reading, fault_at, Begins, HasReading}
+use Rattle.sitectl.specs.declared.framed.TheConstants.{MAX_TEXT}
+use Rattle.sitectl.specs.declared.input.TheConstants.{MAX_COMMANDS}
+use Rattle.sitectl.specs.Framed.{FramedCommand, frame, Fits, HasNoFrame}
+use Rattle.sitectl.specs.Reading.{framed_reading, fault_at, Begins, HasReading}
 use Rattle.sitectl.specs.Words.{Lacks, IsCut, Words, HasWords}
 use Rattle.sitectl.proofs.Cutting.{lacks-cons, no_line, no_first, no_second}
 use Rattle.sitectl.proofs.Frames.{no_words, words_are, frame_from_words}
@@ -71,17 +73,17 @@ some_number (suc bound) word = number_or bound word (bytes_eq word (decimal boun
 -- ---- the frame at the front
 
 abbrev SomeFrame : List ℕ → Type 0
-SomeFrame bytes = HasNoFrame bytes ⊎ ((e : Entry) × (rest : List ℕ) × IsEntry e × (bytes ≡ frame e ++ rest))
+SomeFrame bytes = HasNoFrame bytes ⊎ ((e : FramedCommand) × (rest : List ℕ) × Fits e × (bytes ≡ frame e ++ rest))
 
-long_enough : (bytes : List ℕ) (w : Words) (editor number len : ℕ) → HasWords bytes w → editor < 4294967296 → number < 2 ^ 64 → len ≤ 1_000_000
+long_enough : (bytes : List ℕ) (w : Words) (editor number len : ℕ) → HasWords bytes w → editor < 4294967296 → number < 2 ^ 64 → len ≤ MAX_TEXT
     → w.editor ≡ decimal editor → w.number ≡ decimal number → w.length_word ≡ decimal len → len ≤ length w.after → SomeFrame bytes
 long_enough bytes w editor number len words e_low n_low l_low e_is n_is l_is fits =
     let text = take len w.after in
     let size : length text ≡ len = omega (arith, length-take len w.after) in
-    let entry : Entry = record { ticket = record { editor = editor; number = number }; text = text } in
-    inr (entry, drop len w.after, (e_low, n_low, omega arith), frame_from_words bytes w entry (drop len w.after) words e_is n_is (l_is ∙ ap decimal (sym size)) (sym (take-append-drop len w.after)))
+    let command : FramedCommand = record { ticket = record { editor = editor; number = number }; text = text } in
+    inr (command, drop len w.after, (e_low, n_low, omega arith), frame_from_words bytes w command (drop len w.after) words e_is n_is (l_is ∙ ap decimal (sym size)) (sym (take-append-drop len w.after)))
 
-too_short : (bytes : List ℕ) (w : Words) (len : ℕ) → HasWords bytes w → len ≤ 1_000_000 → w.length_word ≡ decimal len → length w.after < len → HasNoFrame bytes
+too_short : (bytes : List ℕ) (w : Words) (len : ℕ) → HasWords bytes w → len ≤ MAX_TEXT → w.length_word ≡ decimal len → length w.after < len → HasNoFrame bytes
 too_short bytes w len words low is short e rest ok here =
     let same = words_are bytes w e rest words ok here in
     let size : len ≡ length e.text = decimal_injective len (length e.text) (omega arith) (omega arith) (sym is ∙ ap (λ v. v.length_word) same) in
@@ -94,7 +96,7 @@ frame_of_words bytes w words (inr editor) (inl none) len = inl (λ e rest ok is.
 frame_of_words bytes w words (inr editor) (inr number) (inl none) =
     inl (λ e rest ok is. none (length e.text) (omega arith) (ap (λ v. v.length_word) (words_are bytes w e rest words ok is)))
 frame_of_words bytes w words (inr editor) (inr number) (inr len) =
-    let low : len.0 ≤ 1_000_000 = omega (arith, len.1) in
+    let low : len.0 ≤ MAX_TEXT = omega (arith, len.1) in
     let fits = long_enough bytes w editor.0 number.0 len.0 words editor.1 number.1 low editor.2 number.2 len.2 in
     elim (cases_order (length w.after) len.0) [
       | inl same ↦ fits (omega arith)
@@ -109,7 +111,7 @@ frame_or_none bytes (inr w) = frame_of_words bytes w.0 w.1 (some_number 42949672
 some_frame : (bytes : List ℕ) → SomeFrame bytes
 some_frame bytes = frame_or_none bytes (line_words bytes (parted 10 bytes))
 
-frame_some : (e : Entry) → 0 < length (frame e)
+frame_some : (e : FramedCommand) → 0 < length (frame e)
 frame_some e = omega (arith, length-append (decimal e.ticket.editor) (32 ∷ (decimal e.ticket.number ++ (32 ∷ (decimal (length e.text) ++ (10 ∷ e.text))))))
 
 -- ---- the reading
@@ -117,40 +119,40 @@ frame_some e = omega (arith, length-append (decimal e.ticket.editor) (32 ∷ (de
 abbrev SomeReading : List ℕ → Type 0
 SomeReading input = (reading : Result (List Order) (List ℕ)) × HasReading input reading
 
-framing : (input : List ℕ) (entries : List Entry) (orders : List Order) (rest : List ℕ) → Begins input entries orders rest → length entries ≤ 1_000_000 → 0 < length rest
-    → (length entries ≡ 1_000_000) ⊎ HasNoFrame rest → SomeReading input
-framing input entries orders rest begins few some stops = (
-  Err (fault_at (length entries + 1) (codes "framing")),
-  inr (record { entries = entries; orders = orders; rest = rest; begins = begins; few = few; some = some; stops = stops; line_is = refl }),
+framing : (input : List ℕ) (framed : List FramedCommand) (orders : List Order) (rest : List ℕ) → Begins input framed orders rest → length framed ≤ MAX_COMMANDS → 0 < length rest
+    → (length framed ≡ MAX_COMMANDS) ⊎ HasNoFrame rest → SomeReading input
+framing input framed orders rest begins few some stops = (
+  Err (fault_at (length framed + 1) (codes "framing")),
+  inr (record { framed = framed; orders = orders; rest = rest; begins = begins; few = few; some = some; stops = stops; line_is = refl }),
 )
 
 module _ (input : List ℕ) where
   -- a reading for what is left, where that is shorter
   abbrev Onward : ℕ → Type 0
-  Onward bound = (entries : List Entry) (orders : List Order) (rest : List ℕ) → length rest < bound → Begins input entries orders rest → length entries ≤ 1_000_000 → SomeReading input
+  Onward bound = (framed : List FramedCommand) (orders : List Order) (rest : List ℕ) → length rest < bound → Begins input framed orders rest → length framed ≤ MAX_COMMANDS → SomeReading input
 
-  of_entry : (bound : ℕ) (entries : List Entry) (orders : List Order) (e : Entry) (after : List ℕ) (r : Result Order CommandFault) → entry_reading e ≡ r → Onward bound
-      → length after < bound → Begins input entries orders (frame e ++ after) → length entries < 1_000_000 → IsEntry e → SomeReading input
-  of_entry bound entries orders e after (Ok order) is onward less begins few ok =
-      let longer = length-append entries (e ∷ []) in onward (entries ++ e ∷ []) (orders ++ order ∷ []) after less (begins_more input entries orders (frame e ++ after) e after order begins refl ok is) (omega arith)
-  of_entry bound entries orders e after (Err fault) is onward less begins few ok = (
-    Err (fault_at (length entries + 1) (line_of fault)),
-    inl (record { entries = entries; orders = orders; entry = e; rest = after; fault = fault; begins = begins; few = few; fits = ok; is = is; line_is = refl }),
+  of_command : (bound : ℕ) (framed : List FramedCommand) (orders : List Order) (e : FramedCommand) (after : List ℕ) (r : Result Order CommandFault) → framed_reading e ≡ r → Onward bound
+      → length after < bound → Begins input framed orders (frame e ++ after) → length framed < MAX_COMMANDS → Fits e → SomeReading input
+  of_command bound framed orders e after (Ok order) is onward less begins few ok =
+      let longer = length-append framed (e ∷ []) in onward (framed ++ e ∷ []) (orders ++ order ∷ []) after less (begins_more input framed orders (frame e ++ after) e after order begins refl ok is) (omega arith)
+  of_command bound framed orders e after (Err fault) is onward less begins few ok = (
+    Err (fault_at (length framed + 1) (line_of fault)),
+    inl (record { framed = framed; orders = orders; command = e; rest = after; fault = fault; begins = begins; few = few; fits = ok; is = is; line_is = refl }),
   )
 
-  of_frame : (bound : ℕ) (entries : List Entry) (orders : List Order) (rest : List ℕ) → SomeFrame rest → Onward bound → length rest < suc bound → 0 < length rest
-      → Begins input entries orders rest → length entries < 1_000_000 → SomeReading input
-  of_frame bound entries orders rest (inl none) onward less some begins few = framing input entries orders rest begins (omega arith) some (inr none)
-  of_frame bound entries orders rest (inr f) onward less some begins few =
+  of_frame : (bound : ℕ) (framed : List FramedCommand) (orders : List Order) (rest : List ℕ) → SomeFrame rest → Onward bound → length rest < suc bound → 0 < length rest
+      → Begins input framed orders rest → length framed < MAX_COMMANDS → SomeReading input
+  of_frame bound framed orders rest (inl none) onward less some begins few = framing input framed orders rest begins (omega arith) some (inr none)
+  of_frame bound framed orders rest (inr f) onward less some begins few =
       let longer : length rest ≡ length (frame f.0) + length f.1 = ap length f.3 ∙ length-append (frame f.0) f.1 in
-      of_entry bound entries orders f.0 f.1 (entry_reading f.0) refl onward (let front : 0 < length (frame f.0) = frame_some f.0 in omega arith) (begins_with_frame input entries orders rest (frame f.0 ++ f.1) begins f.3) few f.2
+      of_command bound framed orders f.0 f.1 (framed_reading f.0) refl onward (let front : 0 < length (frame f.0) = frame_some f.0 in omega arith) (begins_with_frame input framed orders rest (frame f.0 ++ f.1) begins f.3) few f.2
 
   onward : (bound : ℕ) → Onward bound
-  onward zero entries orders rest less begins few = absurd (omega arith)
-  onward (suc bound) entries orders [] less begins few = (Ok orders, record { entries = entries; begins = begins; few = few })
-  onward (suc bound) entries orders (x ∷ xs) less begins few = elim (cases_order (length entries) 1_000_000) [
-    | inl full ↦ framing input entries orders (x ∷ xs) begins few (omega arith) (inl full)
-    | inr (inl less_than) ↦ of_frame bound entries orders (x ∷ xs) (some_frame (x ∷ xs)) (onward bound) less (omega arith) begins less_than
+  onward zero framed orders rest less begins few = absurd (omega arith)
+  onward (suc bound) framed orders [] less begins few = (Ok orders, record { framed = framed; begins = begins; few = few })
+  onward (suc bound) framed orders (x ∷ xs) less begins few = elim (cases_order (length framed) MAX_COMMANDS) [
+    | inl full ↦ framing input framed orders (x ∷ xs) begins few (omega arith) (inl full)
+    | inr (inl less_than) ↦ of_frame bound framed orders (x ∷ xs) (some_frame (x ∷ xs)) (onward bound) less (omega arith) begins less_than
     | inr (inr more) ↦ absurd (omega arith)
   ]
 

@@ -1,17 +1,17 @@
 -- What holds of these definitions.
 use Rattle.std.specs.Prelude.{ℕ, ◌≡◌, List, ◌++◌, Option, Result}
 use Rattle.command.specs.Action.{Order}
-use Rattle.sitectl.specs.Framed.{Entry, frame, IsEntry, Splits}
+use Rattle.sitectl.specs.Framed.{FramedCommand, frame, Fits, Splits}
 use Rattle.sitectl.specs.Reading.{HasReading}
 use Rattle.sitectl.specs.Verdict.{Verdict, IsVerdict}
 
 -- no frame is the beginning of another
 abbrev pub OneFrame : Type 0
-OneFrame = (e f : Entry) (rest others : List ℕ) → IsEntry e → IsEntry f → frame e ++ rest ≡ frame f ++ others → (e ≡ f) × (rest ≡ others)
+OneFrame = (e f : FramedCommand) (rest others : List ℕ) → Fits e → Fits f → frame e ++ rest ≡ frame f ++ others → (e ≡ f) × (rest ≡ others)
 
 -- an input is split into frames in at most one way
 abbrev pub OneSplit : Type 0
-OneSplit = (input : List ℕ) (es fs : List Entry) (rest others : List ℕ) → Splits input es rest → Splits input fs others → (es ≡ fs) × (rest ≡ others)
+OneSplit = (input : List ℕ) (es fs : List FramedCommand) (rest others : List ℕ) → Splits input es rest → Splits input fs others → (es ≡ fs) × (rest ≡ others)
 
 -- an input has at most one reading: its orders, or one line
 abbrev pub OneReading : Type 0

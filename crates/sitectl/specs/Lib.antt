@@ -1,10 +1,9 @@
 pub mod Framed
 pub mod Words
-pub mod Parts
+pub mod View
 pub mod Reading
 pub mod Verdict
 pub mod Standing
-pub mod Input
 pub mod Laws
 pub mod Counted
 pub mod Bytes

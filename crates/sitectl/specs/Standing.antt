@@ -1,10 +1,11 @@
--- What an outcome stands for.
-use Rattle.std.specs.Prelude.{string_bytes}
-use Rattle.release.specs.Standing.{answer_view}
-use Rattle.sitectl.specs.declared.engine.Outcome.{Outcome}
-use Rattle.sitectl.specs.declared.engine.Outcome.TheVariants.{Shows, Says}
-use Rattle.sitectl.specs.Verdict.{Verdict, shows, says}
+-- What an `Input` stands for.
+use Rattle.std.specs.Prelude.{ℕ, List, string_bytes, Err}
+use Rattle.sitectl.specs.Reading.{HasReading}
+use Rattle.sitectl.specs.Verdict.{HasValues}
+use Rattle.sitectl.specs.declared.input.Input.{Input}
+use Rattle.sitectl.specs.declared.input.Input.TheVariants.{Fed, Fault}
 
-abbrev pub verdict_view : Outcome → Verdict
-verdict_view (Shows answer) = shows (answer_view answer)
-verdict_view (Says line) = says (string_bytes line)
+-- the values of the whole input, or the line of its first fault
+abbrev pub IsInput : List ℕ → Input → Type 0
+IsInput bytes (Fed values) = HasValues bytes values
+IsInput bytes (Fault line) = HasReading bytes (Err (string_bytes line))

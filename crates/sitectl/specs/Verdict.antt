@@ -2,7 +2,7 @@
 use Rattle.std.specs.Prelude.{ℕ, ◌≡◌, ◌⊎◌, List, map, codes, Option, Some, None, Err}
 use Rattle.command.specs.Action.{Order}
 use Rattle.command.specs.Written.{value_of}
-use Rattle.sitectl.specs.Framed.{Entry}
+use Rattle.sitectl.specs.Framed.{FramedCommand}
 use Rattle.release.specs.Page.{Page, answer, asked}
 use Rattle.sitectl.specs.Reading.{IsWhole, HasReading}
 
@@ -15,14 +15,14 @@ abbrev pub or_no_release : Option Page → Verdict
 or_no_release None = says (codes "no release\n")
 or_no_release (Some page) = shows page
 
-abbrev pub entry_value : Entry → List ℕ
-entry_value e = value_of e.ticket e.text
+abbrev pub framed_value : FramedCommand → List ℕ
+framed_value e = value_of e.ticket e.text
 
 -- the whole input is frames of commands, and these are their values
 pub record HasValues (input : List ℕ) (values : List (List ℕ)) : Type 0 where
   pub orders : List Order
   pub whole : IsWhole input orders
-  pub are : values ≡ map entry_value whole.entries
+  pub are : values ≡ map framed_value whole.framed
 
 -- the line of the first fault, or the answer of the values read for the release asked and the path
 abbrev pub IsVerdict : List ℕ → Option ℕ → List ℕ → Verdict → Type 0

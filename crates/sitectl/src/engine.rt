@@ -2,7 +2,7 @@
 ghost use Rattle.std.specs.Prelude.{◌≡◌, ◌==◌, IfOk, if◌then◌else◌};
 ghost use Rattle.sitectl.specs.Bytes.{end_of, IsGiven};
 ghost use Rattle.sitectl.specs.Ends.{HasRun};
-ghost use Rattle.sitectl.specs.Standing.{verdict_view};
+ghost use Rattle.sitectl.specs.View.{verdict_view};
 ghost use Rattle.sitectl.specs.Verdict.{IsVerdict};
 
 use crate::counted::Counted;

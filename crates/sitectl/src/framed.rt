@@ -1,8 +1,8 @@
 //! Framed commands: a line of three numbers, and the command text.
 ghost use Rattle.std.specs.Prelude.{◌≡◌, ◌≢◌, ℕ, ◌<◌, ◌^◌, ◌++◌, MatchOption, decimal};
-ghost use Rattle.sitectl.specs.Framed.{frame, IsEntry, HasNoFrame};
+ghost use Rattle.sitectl.specs.Framed.{frame, Fits, HasNoFrame};
 ghost use Rattle.sitectl.specs.Words.{Words, Lacks, IsCut, HasWords};
-ghost use Rattle.sitectl.specs.Parts.{line_view, entry_of};
+ghost use Rattle.sitectl.specs.View.{line_view, framed_view};
 
 use itoa::Buffer;
 use memchr::memchr;
@@ -70,7 +70,7 @@ fn line_of(bytes: &[u8]) -> Option<Line<'_>>
 /// The command at the front of the bytes.
 pub(crate) fn next(bytes: &[u8]) -> Option<Framed<'_>>
     ensures { MatchOption result (HasNoFrame bytes.now)
-        (λ f. (bytes.now ≡ frame (entry_of f) ++ f.rest.now) × IsEntry (entry_of f)) }
+        (λ f. (bytes.now ≡ frame (framed_view f) ++ f.rest.now) × Fits (framed_view f)) }
 {
     let line = line_of(bytes)?;
     let editor = u32::try_from(read_number(line.editor)?).ok()?;

@@ -4,7 +4,7 @@ ghost use Rattle.command.specs.Action.{Order};
 ghost use Rattle.command.specs.Reading.{value_reading};
 ghost use Rattle.command.specs.Written.{line_of, HasLine};
 ghost use Rattle.command.specs.declared.fault.CommandFault.{CommandFault as Fault};
-ghost use Rattle.sitectl.specs.Input.{IsInput};
+ghost use Rattle.sitectl.specs.Standing.{IsInput};
 ghost use Rattle.sitectl.specs.Reading.{fault_at};
 
 use crate::framed::next;

@@ -2,7 +2,7 @@ use Rattle.std.proofs.Common.{◌≡◌, ◌∙◌, ◌+◌, sym, ap, arith, len
 use Rattle.std.proofs.lemmas.Fmt.{decimal_injective}
 use Rattle.std.proofs.lemmas.Bool.{false≢true}
 use Rattle.std.proofs.lemmas.Result.{OkIff-decides}
-use Rattle.sitectl.specs.Parts.{line_view}
+use Rattle.sitectl.specs.View.{line_view}
 use Rattle.sitectl.proofs.Frames.{no_words, words_are}
 use Rattle.sitectl.proofs.framed.next.Goals as goal
 

@@ -1,14 +1,13 @@
-use Rattle.std.proofs.Common.{◌≡◌, ◌⊎◌, ◌<◌, ◌≤◌, ◌+◌, ◌++◌, ◌∷◌, [], ◌∙◌, ℕ, List, true, false, sym, ap, arith, inl, inr, length, map, length-append, subst, refl, Ok, Err, rules, codes}
+use Rattle.std.proofs.Common.{◌≡◌, ◌⊎◌, ◌+◌, ◌++◌, ◌∷◌, [], ◌∙◌, true, false, sym, ap, arith, inl, inr, length, length-append, refl, rules, codes}
 use Rattle.std.proofs.lemmas.List.{length-map}
 use Rattle.command.specs.Effective.{commands_of}
 use Rattle.command.specs.Reading.{value_reading}
 use Rattle.command.specs.Written.{line_of}
-use Rattle.content.specs.Answered.{applied_after}
-use Rattle.content.specs.declared.applied.Applied.TheVariants.{NotACommand}
+use Rattle.sitectl.specs.declared.input.TheConstants.{MAX_COMMANDS}
 use Rattle.sitectl.specs.Framed.{HasNoFrame}
-use Rattle.sitectl.specs.Parts.{entry_of}
+use Rattle.sitectl.specs.View.{framed_view}
 use Rattle.sitectl.specs.Reading.{fault_at}
-use Rattle.sitectl.specs.Verdict.{entry_value}
+use Rattle.sitectl.specs.Verdict.{framed_value}
 use Rattle.sitectl.proofs.Feeding.{no_order, some_order, values_more, nothing_left}
 use Rattle.sitectl.proofs.Inputs.{begins_with_frame, begins_more}
 use Rattle.sitectl.proofs.input.fed.Goals as goal
@@ -16,7 +15,7 @@ use Rattle.sitectl.proofs.input.fed.Goals.{in_default-via-in-Some+else-place-le-
 
 pub loop-rest-init : goal.loop-rest-init
 loop-rest-init c = record {
-  entries = [];
+  framed = [];
   orders = [];
   begins = record { whole = refl; each = tt; commands = tt };
   few = omega arith;
@@ -26,13 +25,13 @@ loop-rest-init c = record {
 pub returns-in_default : goal.returns-in_default
 returns-in_default c =
     let i = c.loop-rest.invariant in
-    let count : c.len-place.result ≡ length i.entries = c.len-place.ensures.is ∙ (ap length i.fed ∙ length-map i.entries entry_value) in
-    let stops : (length i.entries ≡ 1_000_000) ⊎ HasNoFrame c.loop-rest.rest.now = elim c.in_default.branch [
+    let count : c.len-place.result ≡ length i.framed = c.len-place.ensures.is ∙ (ap length i.fed ∙ length-map i.framed framed_value) in
+    let stops : (length i.framed ≡ MAX_COMMANDS) ⊎ HasNoFrame c.loop-rest.rest.now = elim c.in_default.branch [
       | in_default-via-in-Some+else-place-le-MAX_COMMANDS w ↦ inl (omega (arith, count, i.few, w.if-place-le-MAX_COMMANDS))
       | in_default-via-in_default w ↦ inr w.in_default.ensures
     ] in
     inr (record {
-      entries = i.entries;
+      framed = i.framed;
       orders = i.orders;
       rest = c.loop-rest.rest.now;
       begins = i.begins;
@@ -52,13 +51,13 @@ fault_at-requires c = elim c.match-matches.branch [
 pub returns-then-matches : goal.returns-then-matches
 returns-then-matches c =
     let i = c.loop-rest.invariant in
-    let count : c.len-place.result ≡ length i.entries = c.len-place.ensures.is ∙ (ap length i.fed ∙ length-map i.entries entry_value) in
-    let e = entry_of c.in-Some.framed in
+    let count : c.len-place.result ≡ length i.framed = c.len-place.ensures.is ∙ (ap length i.fed ∙ length-map i.framed framed_value) in
+    let e = framed_view c.in-Some.framed in
     let fault = c.in_ok-fault_at.ensures.0 in
     inl (record {
-      entries = i.entries;
+      framed = i.framed;
       orders = i.orders;
-      entry = e;
+      command = e;
       rest = c.in-Some.framed.rest.now;
       fault = fault;
       begins = begins_with_frame _ _ _ _ _ i.begins c.in-Some.ensures.0;
@@ -71,20 +70,20 @@ returns-then-matches c =
 pub loop-rest-preserved : goal.loop-rest-preserved
 loop-rest-preserved c =
     let i = c.loop-rest.invariant in
-    let count : c.len-place.result ≡ length i.entries = c.len-place.ensures.is ∙ (ap length i.fed ∙ length-map i.entries entry_value) in
-    let e = entry_of c.in-Some.framed in
-    let value : c.deref.result.now ≡ entry_value e = c.deref.ensures.value ∙ c.in_ok-value.ensures in
-    let longer : length (i.entries ++ e ∷ []) ≡ length i.entries + 1 = length-append i.entries (e ∷ []) in
+    let count : c.len-place.result ≡ length i.framed = c.len-place.ensures.is ∙ (ap length i.fed ∙ length-map i.framed framed_value) in
+    let e = framed_view c.in-Some.framed in
+    let value : c.deref.result.now ≡ framed_value e = c.deref.ensures.value ∙ c.in_ok-value.ensures in
+    let longer : length (i.framed ++ e ∷ []) ≡ length i.framed + 1 = length-append i.framed (e ∷ []) in
     elim c.match-matches.branch [
       | in-NotACommand w ↦ let bad : true ≡ false = sym w.matches-is ∙ c.if-matches.false in cc
       | in_default-matches w ↦
           let read = some_order (commands_of c.loop-rest.releases) (value_reading c.deref.result.now) (λ none. w.in_default-matches.not-NotACommand (c.in_ok-feed.ensures.ok.1 ∙ none)) in
           record {
-            entries = i.entries ++ e ∷ [];
+            framed = i.framed ++ e ∷ [];
             orders = i.orders ++ read.0 ∷ [];
             begins = begins_more _ _ _ _ e _ read.0 i.begins c.in-Some.ensures.0 c.in-Some.ensures.1 (ap value_reading (sym value) ∙ read.1);
             few = omega (arith, longer, count, c.if-place-le-MAX_COMMANDS.true);
-            fed = c.in_ok-feed.ensures.ok.0 ∙ (ap (λ vs. vs ++ c.deref.result.now ∷ []) i.fed ∙ values_more i.entries e c.deref.result.now value);
+            fed = c.in_ok-feed.ensures.ok.0 ∙ (ap (λ vs. vs ++ c.deref.result.now ∷ []) i.fed ∙ values_more i.framed e c.deref.result.now value);
           }
     ]
 
@@ -93,6 +92,6 @@ returns c =
     let i = c.loop-rest.invariant in
     record {
       orders = i.orders;
-      whole = record { entries = i.entries; begins = begins_with_frame _ _ _ _ _ i.begins (nothing_left c.loop-rest.rest.now (search rules)); few = i.few };
+      whole = record { framed = i.framed; begins = begins_with_frame _ _ _ _ _ i.begins (nothing_left c.loop-rest.rest.now (search rules)); few = i.few };
       are = i.fed;
     }

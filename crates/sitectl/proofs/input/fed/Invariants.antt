@@ -1,18 +1,19 @@
-use Rattle.std.proofs.Common.{◌≡◌, ◌≤◌, ℕ, List, length, map}
+use Rattle.std.proofs.Common.{◌≡◌, ◌≤◌, List, length, map}
 use Rattle.command.specs.Action.{Order}
-use Rattle.sitectl.specs.Framed.{Entry}
+use Rattle.sitectl.specs.declared.input.TheConstants.{MAX_COMMANDS}
+use Rattle.sitectl.specs.Framed.{FramedCommand}
 use Rattle.sitectl.specs.Reading.{Begins}
-use Rattle.sitectl.specs.Verdict.{entry_value}
+use Rattle.sitectl.specs.Verdict.{framed_value}
 use Rattle.sitectl.proofs.input.fed.Given as goal
 
 -- the input begins with the commands fed so far, and goes on with the rest
 abbrev pub invariant-loop-rest : goal.invariant-loop-rest
 invariant-loop-rest l = record {
-  entries : List Entry;
+  framed : List FramedCommand;
   orders : List Order;
-  begins : Begins l.input entries orders l.rest;
-  few : length entries ≤ 1_000_000;
-  fed : l.releases ≡ map entry_value entries;
+  begins : Begins l.input framed orders l.rest;
+  few : length framed ≤ MAX_COMMANDS;
+  fed : l.releases ≡ map framed_value framed;
 }
 
 abbrev pub decreases-loop-rest : goal.decreases-loop-rest
