@@ -104,7 +104,7 @@ fn partials_table(rt: HostRuntime) -> Result<(), Fail> {
             &[("a/b.c", "right")],
             "[right]",
         ),
-        ("missing_alone", "a\n  {{>none}}\nb\n", "{}", &[], "a\nb\n"),
+        ("missing_standalone", "a\n  {{>none}}\nb\n", "{}", &[], "a\nb\n"),
         (
             "empty_lines",
             "  {{>p}}\n",
@@ -127,14 +127,14 @@ fn partials_table(rt: HostRuntime) -> Result<(), Fail> {
             " a\n   b\n   c\n",
         ),
         (
-            "not_alone",
+            "not_standalone",
             "x {{>p}}\n",
             "{}",
             &[("p", "a\nb")],
             "x a\nb\n",
         ),
         (
-            "alone_in_a_section",
+            "standalone_in_a_section",
             "{{#l}}\n  {{>p}}\n{{/l}}\n",
             "{\"l\": [1, 2]}",
             &[("p", "<{{.}}>\n")],
