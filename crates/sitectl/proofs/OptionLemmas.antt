@@ -1,5 +1,5 @@
 -- The options that the getters read, by the rows that the words gave.
-use Rattle.std.proofs.Common.{◌≡◌, ◌∙◌, ◌<◌, ◌≤◌, ◌^◌, ℕ, List, Option, Some, None, Result, Ok, Err, refl, sym, ap, subst, codes, arith}
+use Rattle.std.proofs.Common.{◌≡◌, ◌∙◌, ℕ, List, Option, Some, None, Result, Ok, Err, refl, sym, ap, subst, codes}
 use Rattle.std.specs.Str.Parse.{ParsesUnsigned}
 use Rattle.clap.specs.Words.{Row, rows_of, first_value, one_text, one_of, first_of, IsUnsignedIn, ReadsOne}
 use Rattle.clap.specs.declared.parser.matches.Found.{Found}

@@ -1,14 +1,14 @@
 -- What a parse of a command of two arguments gives: the second is there, and the first passed its parser.
-use Rattle.std.proofs.Common.{◌≡◌, ◌⊎◌, ◌∙◌, ◌++◌, ◌<◌, ◌||◌, ℕ, Bool, true, false, List, [], ◌∷◌, length, Option, Some, None, refl, sym, ap, subst, inl, inr, arith}
+use Rattle.std.proofs.Common.{◌≡◌, ◌∙◌, ◌<◌, ℕ, Bool, true, false, List, [], ◌∷◌, length, Option, Some, None, refl, sym, ap, subst, inl, inr, arith}
 use Rattle.std.specs.Prelude.{option_map, slice_get}
 use Rattle.std.specs.Borrow.{Bor}
 use Rattle.std.specs.List.{All, slice_index_or}
 use Rattle.std.specs.Str.{bytes_eq}
-use Rattle.std.proofs.lemmas.List.Elements.{All-get_or, All-nil}
+use Rattle.std.proofs.lemmas.List.Elements.{All-get_or}
 use Rattle.std.proofs.lemmas.Slice.Eq.{bytes_eq-Decides}
-use Rattle.clap.specs.Words.{args_of, groups_of, found_of, matched_of, one_text, read_as, reading_of, IsParsedFrom, IsPlain, IsPlainArg, AddsArg, SameRules, Accepts, parser_of}
+use Rattle.clap.specs.Words.{args_of, groups_of, found_of, matched_of, one_text, read_as, reading_of, IsParsedFrom, IsPlain, SameRules, Accepts, parser_of}
 use Rattle.clap.specs.Facts.{Entry, EntryPasses, PassesArg, HasReading, parser_of_value}
-use Rattle.clap.specs.Built.{IsAuto, FitsChain}
+use Rattle.clap.specs.Built.{IsAuto}
 use Rattle.clap.specs.declared.builder.arg.Arg.{Arg}
 use Rattle.clap.specs.declared.builder.command.Command.{Command}
 use Rattle.clap.specs.declared.builder.command.Command.TheViews.{out-Command}
@@ -17,7 +17,7 @@ use Rattle.clap.specs.declared.builder.value_parser.Reading.{Reading}
 use Rattle.clap.specs.declared.builder.value_parser.Reading.TheVariants.{AsWritten}
 use Rattle.clap.specs.declared.parser.matches.ArgMatches.{ArgMatches}
 use Rattle.clap.specs.declared.parser.matches.MatchedArg.{MatchedArg}
-use Rattle.clap.proofs.CallerLemmas.{entry_by_id, same_rules_by_id, added_plain}
+use Rattle.clap.proofs.CallerLemmas.{entry_by_id, same_rules_by_id}
 
 -- an argument of a caller's command, alone with its id
 pub record IsAlone (c : Command) (a : Arg) (q : ValueParser) : Type 0 where

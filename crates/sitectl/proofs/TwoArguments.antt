@@ -1,11 +1,11 @@
 -- A command made of two arguments: its second, which is required, has a value, and a text of its first passed the parser.
-use Rattle.std.proofs.Common.{◌≡◌, ◌∙◌, ◌++◌, ◌<◌, ◌||◌, ℕ, zero, suc, Bool, true, false, List, [], ◌∷◌, length, Option, Some, is_some, refl, sym, ap, subst, inl, inr, arith}
+use Rattle.std.proofs.Common.{◌≡◌, ◌∙◌, ◌++◌, ◌<◌, ◌||◌, ℕ, zero, suc, Bool, true, false, List, [], ◌∷◌, length, Some, is_some, refl, sym, ap, subst, inl, inr, arith}
 use Rattle.std.specs.List.{All, slice_index_or}
 use Rattle.std.specs.Str.{bytes_eq}
 use Rattle.std.proofs.lemmas.List.Elements.{All-nil}
 use Rattle.std.proofs.lemmas.Slice.Eq.{bytes_eq-Decides}
 use Rattle.clap.specs.Words.{args_of, groups_of, found_of, first_value, one_text, reading_of, IsParsedFrom, IsPlain, IsPlainArg, AddsArg, Accepts}
-use Rattle.clap.specs.Built.{IsAuto, FitsChain, TakesValue, HasDistinctIds}
+use Rattle.clap.specs.Built.{FitsChain, TakesValue, HasDistinctIds}
 use Rattle.clap.specs.declared.builder.arg.Arg.{Arg}
 use Rattle.clap.specs.declared.builder.command.Command.{Command}
 use Rattle.clap.specs.declared.builder.command.Command.TheViews.{out-Command}

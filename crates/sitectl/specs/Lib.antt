@@ -6,7 +6,5 @@ pub mod Verdict
 pub mod Standing
 pub mod Input
 pub mod Laws
-pub mod Counted
-pub mod Bytes
 pub mod Ends
 pub mod Options

@@ -1,8 +1,8 @@
-use Rattle.std.proofs.Common.{◌≡◌, ℕ, List, Option, None, Err, ◌∙◌, sym, ap, inr, subst}
-use Rattle.release.specs.Page.{Page, answer, asked}
+use Rattle.std.proofs.Common.{◌≡◌, None, Err, ◌∙◌, sym, ap, inr, subst}
+use Rattle.release.specs.Page.{answer, asked}
 use Rattle.release.proofs.Answering.{answer_is_none}
 use Rattle.sitectl.specs.Input.{IsInput}
-use Rattle.sitectl.specs.Verdict.{IsVerdict, says, or_no_release}
+use Rattle.sitectl.specs.Verdict.{says, or_no_release}
 use Rattle.sitectl.proofs.Feeding.{asked_is}
 use Rattle.sitectl.proofs.engine.outcome_of.Goals as goal
 

@@ -1,10 +1,8 @@
-use Rattle.std.proofs.Common.{◌≡◌, ◌⊎◌, ◌<◌, ◌≤◌, ◌+◌, ◌++◌, ◌∷◌, [], ◌∙◌, ℕ, List, true, false, sym, ap, arith, inl, inr, length, map, length-append, subst, refl, Ok, Err, rules, codes}
+use Rattle.std.proofs.Common.{◌≡◌, ◌⊎◌, ◌+◌, ◌++◌, ◌∷◌, [], ◌∙◌, true, false, sym, ap, arith, inl, inr, length, length-append, refl, rules, codes}
 use Rattle.std.proofs.lemmas.List.{length-map}
 use Rattle.command.specs.Effective.{commands_of}
 use Rattle.command.specs.Reading.{value_reading}
 use Rattle.command.specs.Written.{line_of}
-use Rattle.content.specs.Answered.{applied_after}
-use Rattle.content.specs.declared.applied.Applied.TheVariants.{NotACommand}
 use Rattle.sitectl.specs.Framed.{HasNoFrame}
 use Rattle.sitectl.specs.Parts.{entry_of}
 use Rattle.sitectl.specs.Reading.{fault_at}

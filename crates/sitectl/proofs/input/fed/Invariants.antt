@@ -1,4 +1,4 @@
-use Rattle.std.proofs.Common.{◌≡◌, ◌≤◌, ℕ, List, length, map}
+use Rattle.std.proofs.Common.{◌≡◌, ◌≤◌, List, length, map}
 use Rattle.command.specs.Action.{Order}
 use Rattle.sitectl.specs.Framed.{Entry}
 use Rattle.sitectl.specs.Reading.{Begins}

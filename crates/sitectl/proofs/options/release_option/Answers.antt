@@ -1,8 +1,6 @@
 use Rattle.std.proofs.Common.{rules, ap, ◌≡◌, ◌∙◌, Some}
-use Rattle.clap.specs.Words.{rule_of}
 use Rattle.clap.specs.declared.builder.value_parser.ValueParser.{ValueParser}
 use Rattle.clap.specs.declared.builder.value_parser.ValueParser.TheVariants.{Unsigned}
-use Rattle.sitectl.specs.Options.{release_rule}
 use Rattle.sitectl.proofs.options.release_option.Goals as goal
 
 pub returns : goal.returns

@@ -1,4 +1,4 @@
-use Rattle.std.proofs.Common.{rules, ap, ap₂, refl, subst, sym, true, ℕ, List, [], Some, codes, is_some, ◌≡◌, inl, inr, ◌∙◌, arith, slice_index}
+use Rattle.std.proofs.Common.{ap, ap₂, refl, subst, sym, true, ℕ, List, [], Some, codes, is_some, ◌≡◌, inl, inr, ◌∙◌, arith, slice_index}
 use Rattle.std.proofs.lemmas.Result.{IfErr-weaker, IfOk-weaker}
 use Rattle.clap.specs.Built.{IsAuto}
 use Rattle.clap.specs.Words.{App, app_of, is_simple, takes, with_rule, matches_of, fault_of, is_simple_and_free, FailsBy, found_of, one_text, first_value}

@@ -1,4 +1,4 @@
-use Rattle.std.proofs.Common.{◌≡◌, ◌∙◌, ap, sym, Option, Some, List, ℕ}
+use Rattle.std.proofs.Common.{◌∙◌, ap, sym, List, ℕ}
 use Rattle.std.specs.Prelude.{option_map}
 use Rattle.std.specs.Borrow.{Bor}
 use Rattle.std.specs.Str.Parse.{ParsesUnsigned, ExplainsUnsignedError, HasUnsignedDigitsIfOk}
