@@ -1,6 +1,6 @@
 -- How a run of the renderer ends.
 use Rattle.std.specs.Prelude.{ℕ, ◌≡◌, ◌⊎◌, ◌==◌, List, codes, Option, if◌then◌else◌}
-use Rattle.sitectl.specs.Bytes.{End, HasFailed, IsRead, IsSilent, IsWritten, IsBroken, IsGiven}
+use Rattle.http_read.specs.Bytes.{End, HasFailed, IsRead, IsSilent, IsWritten, IsBroken, IsGiven}
 use Rattle.release.specs.Page.{Page}
 use Rattle.sitectl.specs.Verdict.{IsVerdict, shows, says}
 

@@ -5,7 +5,5 @@ pub mod Reading
 pub mod Verdict
 pub mod Standing
 pub mod Laws
-pub mod Counted
-pub mod Bytes
 pub mod Ends
 pub mod Options

@@ -1,13 +1,12 @@
-//! Whole readings and writings.
-ghost use Rattle.std.specs.Prelude.{◌≡◌, ℕ, List, OnErr, OnOk, IsErrOf, IfOk};
+//! Whole readings.
+ghost use Rattle.std.specs.Prelude.{◌≡◌, ℕ, List, IsErrOf, IfOk};
 ghost use Rattle.std.specs.Io.KnownBytes.{Consumes};
-ghost use Rattle.sitectl.specs.Bytes.{end_of, IsSound, HasFailed, IsRead, IsWritten, IsBroken};
-ghost use Rattle.sitectl.specs.Counted.{inside};
+ghost use Rattle.http_read.specs.Bytes.{end_of, IsSound, HasFailed, IsRead};
+ghost use Rattle.http_read.specs.Counted.{inside};
 
-use crate::counted::Counted;
+use http_read::Counted;
 use std::alloc::{AllocError, Global};
-use std::io;
-use std::io::{ErrorKind, Read, Write};
+use std::io::Read;
 use thiserror::Error;
 
 /// How many bytes one call asks for.
@@ -52,20 +51,4 @@ pub(crate) fn read_all<R: Read>(
             Err(_) => return Err(InputFault::Read),
         }
     }
-}
-
-/// Writes all the bytes, or a beginning of them where the writer fails.
-pub(crate) fn write_all<W: Write>(out: &mut Counted<W>, bytes: &[u8]) -> io::Result<()>
-    ensures ok { OnOk result (IsWritten (end_of W.contents out.old out.new) bytes.now) }
-    ensures err { OnErr result (IsBroken (end_of W.contents out.old out.new) bytes.now) }
-{
-    let mut rest = bytes;
-    while !rest.is_empty() {
-        let n = out.write(rest)?;
-        if n == 0 {
-            return Err(ErrorKind::WriteZero.into());
-        }
-        rest = &rest[n..];
-    }
-    out.flush()
 }

@@ -1,13 +1,13 @@
 //! The renderer: framed commands in, one page out.
 ghost use Rattle.std.specs.Prelude.{◌≡◌, ◌==◌, IfOk, if◌then◌else◌};
-ghost use Rattle.sitectl.specs.Bytes.{end_of, IsGiven};
+ghost use Rattle.http_read.specs.Bytes.{end_of, IsGiven};
 ghost use Rattle.sitectl.specs.Ends.{HasRun};
 ghost use Rattle.sitectl.specs.View.{verdict_view};
 ghost use Rattle.sitectl.specs.Verdict.{IsVerdict};
 
-use crate::counted::Counted;
-use crate::ends::{InputFault, read_all, write_all};
+use crate::ends::{InputFault, read_all};
 use crate::input::{Input, fed};
+use http_read::{Counted, write_all};
 use release::{Answer, AnswerFault};
 use std::alloc::{AllocError, Global};
 use std::io::{Read, Write};

@@ -1,7 +1,6 @@
 //! The engines of the programs.
 #![tactic(auto)]
 
-mod counted;
 mod ends;
 mod engine;
 mod framed;
@@ -9,8 +8,8 @@ mod input;
 mod laws;
 mod options;
 
-pub use counted::Counted;
 pub use engine::siterender;
+pub use http_read::Counted;
 pub use laws::an_input_has_one_verdict;
 pub use options::{RenderOptions, render_options};
 

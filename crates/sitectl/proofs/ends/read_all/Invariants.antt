@@ -1,6 +1,6 @@
 use Rattle.std.proofs.Common.{◌≡◌, ◌-◌, ◌^◌, vec_len}
 use Rattle.std.specs.Io.KnownBytes.{Consumes}
-use Rattle.sitectl.specs.Counted.{inside, failed}
+use Rattle.http_read.specs.Counted.{inside, failed}
 use Rattle.sitectl.proofs.ends.read_all.Given as goal
 
 -- what was read so far is what the reader lost

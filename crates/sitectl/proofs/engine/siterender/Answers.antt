@@ -1,6 +1,6 @@
 use Rattle.std.proofs.Common.{sym, inl, inr, refl, subst}
 use Rattle.std.proofs.KnownBytes.{Keeps-refl}
-use Rattle.sitectl.specs.Bytes.{end_of, IsWritten, IsBroken}
+use Rattle.http_read.specs.Bytes.{end_of, IsWritten, IsBroken}
 use Rattle.release.specs.Standing.{answer_view}
 use Rattle.sitectl.specs.View.{verdict_view}
 use Rattle.sitectl.specs.Verdict.{IsVerdict, shows, says}

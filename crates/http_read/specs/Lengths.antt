@@ -1,0 +1,12 @@
+-- What is said of a value of Content-Length.
+use Rattle.std.specs.Prelude.{◌≡◌, ℕ, ◌<◌, ◌≤◌, List, false, true}
+use Rattle.std.specs.Str.Parse.{digits_value}
+use Rattle.http_read.specs.declared.lengths.Stated.{Stated}
+use Rattle.http_read.specs.declared.lengths.Stated.TheVariants.{NoNumber, TooLarge, Fits}
+use Rattle.http_read.specs.Checks.{is_number}
+
+-- it is no number, or one above 40,000, or this one
+abbrev pub IsStated : List ℕ → Stated → Type 0
+IsStated value NoNumber = is_number value ≡ false
+IsStated value TooLarge = (is_number value ≡ true) × (40000 < digits_value 10 value)
+IsStated value (Fits n) = (is_number value ≡ true) × (n ≡ digits_value 10 value) × (n ≤ 40000)

@@ -1,0 +1,119 @@
+//! Finds the head of a request at the front of an input (RFC 9112, sections 2 to 5).
+ghost use Rattle.std.specs.Prelude.{◌≡◌, ◌≢◌, if◌then◌else◌, ℕ, List, ◌≤◌, ◌<◌, length, IfOk, IfSome, OnOk, IfErr, IsErrOf};
+ghost use Rattle.std.specs.Io.KnownBytes.{Keeps, IsAtEnd};
+ghost use Rattle.http_read.specs.Counted.{inside, failed, RoseByOne};
+ghost use Rattle.http_read.specs.Input.{input_of, StopsAt};
+ghost use Rattle.http_read.specs.Heads.{window, skip_breaks, is_long_line, ended, ReadsHead};
+ghost use Rattle.http_read.specs.Looks.{Sees, LiesWithin, Finds};
+
+use crate::counted::Counted;
+use crate::fault::ReadFault;
+use crate::inbox::Inbox;
+use httparse::spans::{EMPTY_HEADER_SPAN, HeaderSpan, RequestSpans, parse_request};
+use httparse::{Error, Status};
+use std::alloc::AllocError;
+use std::io::Read;
+
+/// The most bytes of a head, its request line and its last line among them.
+pub(crate) const HEAD_LIMIT: usize = 8192;
+
+/// The most field lines that so many bytes can be: each has three of them at least.
+pub(crate) const FIELD_ROOM: usize = HEAD_LIMIT / 3;
+
+/// What the bytes so far say of a head.
+pub(crate) enum Look {
+    /// A whole head, where these spans say.
+    Head(RequestSpans),
+    /// No bytes can follow that make a head.
+    Never,
+    /// More bytes are wanted.
+    Open,
+}
+
+/// What stands at the front of an input.
+pub(crate) enum Found {
+    /// A head, where these spans say.
+    At(RequestSpans),
+    /// No head: the status of the refusal.
+    Refused(u16),
+}
+
+/// The first 8,192 bytes.
+pub(crate) fn first_bytes(held: &[u8]) -> &[u8]
+    ensures window { result.now ≡ window held.now }
+    ensures short { length result.now ≤ 8192 }
+{
+    &held[..HEAD_LIMIT.min(held.len())]
+}
+
+/// Looks for a head in these bytes. The spans grow where its field lines are more than they have room for.
+fn look_within(bytes: &[u8], spans: &mut Vec<HeaderSpan>) -> Result<Look, AllocError>
+    requires { length bytes.now ≤ 8192 }
+    ensures { IfOk result (Sees bytes.now spans.new.items) }
+{
+    loop {
+        match parse_request(bytes, spans.as_mut_slice()) {
+            Ok(Status::Complete(found)) => return Ok(Look::Head(found)),
+            Ok(Status::Partial) => return Ok(Look::Open),
+            Err(Error::TooManyHeaders) => spans.resize(FIELD_ROOM, EMPTY_HEADER_SPAN)?,
+            Err(_) => return Ok(Look::Never),
+        }
+    }
+}
+
+/// The bytes without the line breaks at their front.
+fn without_breaks(bytes: &[u8]) -> &[u8]
+    ensures { result.now ≡ skip_breaks bytes.now }
+{
+    let mut rest = bytes;
+    while let [first, others @ ..] = rest {
+        if *first != b'\r' && *first != b'\n' {
+            return rest;
+        }
+        rest = others;
+    }
+    rest
+}
+
+/// The status for a full window without a head.
+fn overlong(bytes: &[u8]) -> u16
+    ensures { result ≡ (if is_long_line bytes.now then 414 else 431) }
+{
+    let line = without_breaks(bytes);
+    if line.contains(&b' ') && !line.contains(&b'\n') {
+        414
+    } else {
+        431
+    }
+}
+
+/// Reads until the input shows a head or a reason to refuse it.
+pub(crate) fn find_head<R: Read>(
+    reader: &mut Counted<R>,
+    inbox: &mut Inbox,
+    spans: &mut Vec<HeaderSpan>,
+) -> Result<Found, ReadFault>
+    ensures input { OnOk result (Keeps (input_of inbox.old (R.remaining (inside reader.old)))
+        (input_of inbox.new (R.remaining (inside reader.new)))) }
+    ensures found { IfOk result (λ found. IfSome (input_of inbox.new (R.remaining (inside reader.new)))
+        (Finds inbox.new spans.new.items found)) }
+    ensures within { IfOk result (LiesWithin inbox.new spans.new.items) }
+    ensures stopped { IfErr result (λ fault. fault ≢ ReadFault.OutOfMemory →
+        StopsAt (input_of inbox.old (R.remaining (inside reader.old))) (R.remaining (inside reader.new)) (λ taken. ReadsHead taken ended)) }
+    ensures ended { IsErrOf result ReadFault.EndedEarly → IsAtEnd (R.remaining (inside reader.new)) }
+    ensures failed { IsErrOf result ReadFault.Read → RoseByOne (failed reader.old) (failed reader.new) }
+    ensures quiet { ¬ (IsErrOf result ReadFault.Read) → failed reader.new ≡ failed reader.old }
+{
+    loop {
+        let bytes = first_bytes(inbox.held());
+        match look_within(bytes, spans)? {
+            Look::Head(found) => return Ok(Found::At(found)),
+            Look::Never => return Ok(Found::Refused(400)),
+            Look::Open => {}
+        }
+        if inbox.held().len() > HEAD_LIMIT {
+            return Ok(Found::Refused(overlong(first_bytes(inbox.held()))));
+        }
+        inbox.read_more(reader)?;
+    }
+}

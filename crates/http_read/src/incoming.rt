@@ -1,0 +1,32 @@
+//! What one call reads.
+
+/// The methods that are known (RFC 9110, section 9.3).
+#[derive(Clone, Copy, Debug, PartialEq, Eq)]
+pub enum Method {
+    Get,
+    Head,
+    Post,
+}
+
+/// A request.
+#[derive(Drop)]
+pub struct Request {
+    pub method: Method,
+    /// The target's path, percent-decoded once, without the query.
+    pub path: String,
+    /// At most 40,000 bytes; a body that came by chunks stands here without them.
+    pub body: Vec<u8>,
+}
+
+/// What came.
+#[derive(Drop)]
+pub enum Incoming {
+    Request(Request),
+    /// A request that is refused.
+    Refused {
+        /// 400, 413, 414, 431 or 501.
+        status: u16,
+        /// Whether a whole head was read and its method is HEAD, so that the response has no body.
+        head: bool,
+    },
+}

@@ -1,0 +1,35 @@
+//! Reads HTTP/1.1 requests, one at a time, from any reader (RFC 9112).
+//!
+//! `request` reads the next one of a connection: its method, its path and its body, or the status of its refusal. What the client sent is
+//! read as one list of bytes, however it was cut. Readers and writers are counted ends: `Counted` says how many of their calls failed.
+#![tactic(auto)]
+
+mod bodies;
+mod checks;
+mod chunk_lines;
+mod chunks;
+mod codings;
+mod counted;
+mod fault;
+mod fields;
+mod heads;
+mod inbox;
+mod incoming;
+mod judging;
+mod laws;
+mod lengths;
+mod lines;
+mod opening;
+mod reading;
+mod taking;
+mod targets;
+mod trailers;
+mod writing;
+
+pub use counted::Counted;
+pub use fault::ReadFault;
+pub use inbox::Inbox;
+pub use incoming::{Incoming, Method, Request};
+pub use laws::{answer_is_one, candidates_agree, head_is_one};
+pub use reading::request;
+pub use writing::write_all;

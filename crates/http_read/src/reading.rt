@@ -1,0 +1,75 @@
+//! Reads one request.
+ghost use Rattle.std.specs.Prelude.{◌≡◌, ◌≢◌, ◌≤◌, ℕ, List, length, IfOk, IfErr, IfSome, IsErrOf};
+ghost use Rattle.std.specs.Io.KnownBytes.{IsAtEnd};
+ghost use Rattle.http_read.specs.Counted.{inside, failed, RoseByOne};
+ghost use Rattle.http_read.specs.Input.{input_of, StopsAt};
+ghost use Rattle.http_read.specs.Requests.{Answers, stops};
+ghost use Rattle.http_read.specs.Incoming.{Shows};
+
+use crate::bodies::{BodyRead, read_body};
+use crate::checks::FIELD_LIMIT;
+use crate::counted::Counted;
+use crate::fault::ReadFault;
+use crate::inbox::Inbox;
+use crate::incoming::{Incoming, Request};
+use crate::opening::{Opened, open_head};
+use httparse::spans::{EMPTY_HEADER_SPAN, HeaderSpan};
+use std::alloc::{AllocError, Global};
+use std::io::Read;
+
+/// Room for as many field lines as a head may have.
+fn room_for_fields(alloc: Global) -> Result<Vec<HeaderSpan>, AllocError> {
+    vec![in alloc; EMPTY_HEADER_SPAN; FIELD_LIMIT]
+}
+
+/// Reads one request, with this room for field lines.
+fn read_one<R: Read>(
+    alloc: Global,
+    reader: &mut Counted<R>,
+    inbox: &mut Inbox,
+    spans: &mut Vec<HeaderSpan>,
+) -> Result<Incoming, ReadFault>
+    ensures answer { IfOk result (λ incoming. IfSome (input_of inbox.old (R.remaining (inside reader.old)))
+        (Shows incoming (input_of inbox.new (R.remaining (inside reader.new))))) }
+    ensures stopped { IfErr result (λ fault. fault ≢ ReadFault.OutOfMemory →
+        StopsAt (input_of inbox.old (R.remaining (inside reader.old))) (R.remaining (inside reader.new)) (λ taken. Answers taken stops)) }
+    ensures ended { IsErrOf result ReadFault.EndedEarly → IsAtEnd (R.remaining (inside reader.new)) }
+    ensures failed { IsErrOf result ReadFault.Read → RoseByOne (failed reader.old) (failed reader.new) }
+    ensures quiet { ¬ (IsErrOf result ReadFault.Read) → failed reader.new ≡ failed reader.old }
+{
+    let (passed, path, head) = match open_head(alloc, reader, inbox, spans)? {
+        Opened::Head(passed, path, head) => (passed, path, head),
+        Opened::Refused(status, head) => return Ok(Incoming::Refused { status, head }),
+    };
+    match read_body(alloc, reader, inbox, spans, passed.cut)? {
+        BodyRead::Got(body) => Ok(Incoming::Request(Request {
+            method: passed.method,
+            path,
+            body,
+        })),
+        BodyRead::Refused(status) => Ok(Incoming::Refused { status, head }),
+    }
+}
+
+/// Reads one request, at the front of what the inbox holds and then of what the reader gives.
+///
+/// Behind a request the inbox and the reader have exactly the bytes that follow it. Behind a refusal or a fault it is open what they have:
+/// the connection is to be closed. No call that failed is made again.
+///
+/// A head has at most 8,192 bytes and 64 field lines, a body 40,000 bytes. Beyond the inbox a call takes at most 90 KB for field lines (2 KB
+/// for a head of 64), 40 KB for a body, and three copies of the target.
+pub fn request<R: Read>(
+    alloc: Global,
+    reader: &mut Counted<R>,
+    inbox: &mut Inbox,
+) -> Result<Incoming, ReadFault>
+    ensures answer { IfOk result (λ incoming. IfSome (input_of inbox.old (R.remaining (inside reader.old)))
+        (Shows incoming (input_of inbox.new (R.remaining (inside reader.new))))) }
+    ensures ended { IsErrOf result ReadFault.EndedEarly → IfSome (input_of inbox.old (R.remaining (inside reader.old))) (λ input. Answers input stops) }
+    ensures unread { IsErrOf result ReadFault.Read → StopsAt (input_of inbox.old (R.remaining (inside reader.old))) (R.remaining (inside reader.new)) (λ taken. Answers taken stops) }
+    ensures failed { IsErrOf result ReadFault.Read → RoseByOne (failed reader.old) (failed reader.new) }
+    ensures quiet { ¬ (IsErrOf result ReadFault.Read) → failed reader.new ≡ failed reader.old }
+{
+    let mut spans = room_for_fields(alloc)?;
+    read_one(alloc, reader, inbox, &mut spans)
+}
