@@ -56,8 +56,8 @@ fn read_one<R: Read>(
 /// Behind a request the inbox and the reader have exactly the bytes that follow it. Behind a refusal or a fault it is open what they have:
 /// the connection is to be closed. No call that failed is made again.
 ///
-/// A head has at most 8,192 bytes and 64 field lines, a body 40,000 bytes. Beyond the inbox a call takes at most 90 KB for field lines (2 KB
-/// for a head of 64), 40 KB for a body, and three copies of the target.
+/// A head has at most 8,192 bytes and 64 field lines, a body 40,000 bytes. Beyond the inbox a call takes at most 90 KB for where field lines
+/// lie (2 KB for a head of up to 64), 40 KB for a body, and 8 KB each for a copy of the target and for its path.
 pub fn request<R: Read>(
     alloc: Global,
     reader: &mut Counted<R>,

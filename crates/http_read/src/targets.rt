@@ -27,7 +27,7 @@ fn decoded(alloc: Global, text: &str) -> Result<Option<String>, AllocError>
     ensures text { IfOk result (λ found. MatchOption found (¬ (IsUtf8 (decoded_form text.now)))
         (λ path. (string_bytes path ≡ decoded_form text.now) × IsUtf8 (string_bytes path))) }
 {
-    let mut bytes = Vec::new(alloc);
+    let mut bytes = Vec::with_capacity(alloc, text.len())?;
     percent_decode(text.as_bytes()).append_to(&mut bytes)?;
     match String::from_utf8(bytes) {
         Ok(path) => {
