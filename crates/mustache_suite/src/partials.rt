@@ -104,7 +104,13 @@ fn partials_table(rt: HostRuntime) -> Result<(), Fail> {
             &[("a/b.c", "right")],
             "[right]",
         ),
-        ("missing_standalone", "a\n  {{>none}}\nb\n", "{}", &[], "a\nb\n"),
+        (
+            "missing_standalone",
+            "a\n  {{>none}}\nb\n",
+            "{}",
+            &[],
+            "a\nb\n",
+        ),
         (
             "empty_lines",
             "  {{>p}}\n",
