@@ -8,3 +8,7 @@ pub mod Laws
 pub mod Tidy
 pub mod Ranges
 pub mod Stuck
+pub mod Faults
+pub mod Waiting
+pub mod Knowing
+pub mod Standing

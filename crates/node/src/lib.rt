@@ -1,12 +1,31 @@
 //! A node of the replicated log: what it keeps, what each call does to it, and how a call may end.
 #![tactic(auto)]
 
+mod accepted;
+mod asked;
+mod asking;
+mod chosen;
+mod delivering;
 mod fault;
+mod known;
 mod laws;
+mod learning;
+mod messages;
+mod nacked;
+mod prepared;
+mod promised;
+mod proposed;
+mod publishing;
+mod queue;
+mod running;
 mod submitted;
+mod submitting;
+mod tickets;
+mod ticking;
 mod to;
 
 pub use fault::NodeFault;
 pub use laws::{calls_forget_nothing, no_call_is_stuck, nodes_stay_in_range, nodes_stay_tidy};
+pub use running::Node;
 pub use submitted::Submitted;
-pub use to::To;
+pub use to::{Outbox, To};

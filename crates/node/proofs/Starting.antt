@@ -1,0 +1,78 @@
+-- A tick: the ballot that it takes, and its whole ending.
+use Rattle.std.proofs.Common.{◌≡◌, ℕ, suc, ◌+◌, ◌<◌, max, false, Option, Some, [], ◌∷◌, ◌++◌, refl, sym, ap, subst, ◌∙◌, arith}
+use Rattle.std.specs.Prelude.{◌↔◌}
+use Rattle.site_disk.specs.Model.{DiskState}
+use Rattle.site_ids.specs.Ids.{BallotOf}
+use Rattle.site_ids.specs.Majorities.{In}
+use Rattle.site_ids.specs.Maps.{put_at}
+use Rattle.wire.specs.declared.message.Message.TheVariants.{Prepare}
+use Rattle.durable.specs.Entries.{Round, last_round}
+use Rattle.durable.specs.Puts.{IsPut, Acknowledges}
+use Rattle.learner.specs.Votes.{IsTold}
+use Rattle.learner.specs.declared.learning.Learner.{Learner}
+use Rattle.proposer.specs.Attempts.{Attempt, opened}
+use Rattle.proposer.specs.Standing.{Attempting}
+use Rattle.node.specs.declared.known.Known.{Known}
+use Rattle.node.specs.declared.queue.Queue.{Queue}
+use Rattle.node.specs.declared.running.Node.{Node as Running}
+use Rattle.node.specs.declared.to.To.TheVariants.{All}
+use Rattle.node.specs.Nodes.{Value, Node, IsFirstUnknown}
+use Rattle.node.specs.Calls.{tick, fresh_ballot, HasRound, oldest}
+use Rattle.node.specs.Knowing.{AreKnown}
+use Rattle.node.specs.Standing.{HasParts, IsNodeOf, KeepsOthers}
+use Rattle.node.specs.Waiting.{AreWaiting}
+use Rattle.node.proofs.FreshAttempts.{begun, begins}
+use Rattle.node.proofs.Stepping.{Done, put_record, put_stays}
+
+module _ {D : Type 0} where
+  -- the ballot that the proposer gives
+  abbrev pub next_of : Running D → BallotOf
+  next_of code = record { round = max code.store.recorded.round code.proposer.heard + 1; node = code.proposer.me }
+
+  pub next_is_fresh : (code : Running D) (s : Node) → HasParts code s → next_of code ≡ fresh_ballot code.me s
+  next_is_fresh code s parts =
+      let round : max code.store.recorded.round code.proposer.heard + 1 ≡ suc (max (last_round s.entries) s.heard) =
+      ap (λ r. max r code.proposer.heard + 1) parts.on_record.kept.round ∙ ap (λ h. max (last_round s.entries) h + 1) parts.heard ∙ omega arith in
+      λ k. record { round = round k; node = code.proposer_node k }
+
+  pub has_round : (code : Running D) (s : Node) → HasParts code s → max code.store.recorded.round code.proposer.heard < 4294967295 → HasRound s
+  has_round code s parts low =
+      let same = ap (λ (b : BallotOf). b.round) (next_is_fresh code s parts) in
+      omega (arith, same, low)
+
+  pub no_round : (code : Running D) (s : Node) → HasParts code s → max code.store.recorded.round code.proposer.heard ≡ 4294967295 → ¬ HasRound s
+  no_round code s parts last has =
+      let same = ap (λ (b : BallotOf). b.round) (next_is_fresh code s parts) in
+      omega (arith, same, last, has)
+
+  -- the round is on record, and the attempt is open
+  pub record Starts (stands_for : D → DiskState → Type 0) (failed : D → ℕ) (old new : Running D) (i : ℕ) (b : BallotOf) (own : Value) : Type 0 where
+    pub put : IsPut failed old.store new.store (Round b.round)
+    pub acknowledged : Acknowledges stands_for old.store new.store (Round b.round)
+    pub attempts : (attempts : ℕ → Option Attempt) → Attempting old.proposer attempts → Attempting new.proposer (put_at attempts i (Some (opened b own)))
+    pub heard : new.proposer.heard ≡ old.proposer.heard
+    pub learner : new.learner ≡ old.learner
+    pub known : new.known ≡ old.known
+    pub queue : new.queue ≡ old.queue
+    pub reached : new.reached ≡ old.reached
+
+  pub started : (stands_for : D → DiskState → Type 0) (failed : D → ℕ) (old new : Running D) (s : Node) (i : ℕ) (b : BallotOf) (own : Value) → IsNodeOf old s → old.store.stopped ≡ false → KeepsOthers old new → IsFirstUnknown s.known i
+      → b ≡ next_of old → max old.store.recorded.round old.proposer.heard < 4294967295 → own ≡ oldest s.pending → Starts stands_for failed old new i b own → Done stands_for old new tick ((All, Prepare old.me i b) ∷ []) s
+  started stands_for failed old new s i b own stands runs others first next low oldest_is starts =
+      let parts = stands.parts in
+      let t : Node = record s { entries = s.entries ++ Round b.round ∷ []; attempts = put_at s.attempts i (Some (opened b own)) } in
+      record {
+        effect = begun old.me s i b own;
+        does = begins old.me s i b own stands.tidy.attempted first (has_round old s parts low) (next ∙ next_is_fresh old s parts) oldest_is;
+        handed = refl;
+        parts = record {
+          on_record = put_record stands_for failed old new (Round b.round) others runs s parts starts.put;
+          votes = λ x. subst (λ (l : Learner). IsTold l x ↔ In s.votes x) (sym starts.learner) (parts.votes x);
+          known = subst (λ (k : Known). AreKnown k s.known) (sym starts.known) parts.known;
+          attempts = starts.attempts s.attempts parts.attempts;
+          pending = subst (λ (q : Queue). AreWaiting q.items.items s.pending) (sym starts.queue) parts.pending;
+          heard = starts.heard ∙ parts.heard;
+          reached = starts.reached ∙ parts.reached;
+        };
+        on_disk = put_stays stands_for failed old new (Round b.round) others runs s t parts starts.acknowledged refl refl;
+      }

@@ -1,0 +1,39 @@
+use Rattle.node.proofs.Gaps.{items_begin, fed_items, taken_known, all_taken}
+use Rattle.node.proofs.running.Node.publish.Goals as goal
+
+pub returns-in_err-feed-clause-same : goal.returns-in_err-feed-clause-same
+returns-in_err-feed-clause-same g c s stands =
+    let parts = stands.parts in
+    let log = c.args.self.now.known.log in
+    let prefix = c.prefix.result.now in
+    let old = items_begin c.args.self.now.releases prefix (fed_items log s prefix c.args.self.now.releases parts.known.values c.prefix.ensures.each c.prefix.ensures.gap stands.fed) in
+    record {
+      parts = record { on_record = parts.on_record; votes = parts.votes; known = parts.known; attempts = parts.attempts; pending = parts.pending; heard = parts.heard; reached = parts.reached };
+      tidy = stands.tidy;
+      ranges = stands.ranges;
+      fed = taken_known log s prefix c.feed.new.releases parts.known.values c.prefix.ensures.each c.prefix.ensures.gap (c.feed.ensures.begins old);
+    }
+
+pub returns-clause-same : goal.returns-clause-same
+returns-clause-same g c s stands =
+    let parts = stands.parts in
+    let log = c.args.self.now.known.log in
+    let prefix = c.prefix.result.now in
+    let old = items_begin c.args.self.now.releases prefix (fed_items log s prefix c.args.self.now.releases parts.known.values c.prefix.ensures.each c.prefix.ensures.gap stands.fed) in
+    record {
+      parts = record { on_record = parts.on_record; votes = parts.votes; known = parts.known; attempts = parts.attempts; pending = parts.pending; heard = parts.heard; reached = parts.reached };
+      tidy = stands.tidy;
+      ranges = stands.ranges;
+      fed = taken_known log s prefix c.feed.new.releases parts.known.values c.prefix.ensures.each c.prefix.ensures.gap (c.feed.ensures.begins old);
+    }
+
+pub returns-clause-ok : goal.returns-clause-ok
+returns-clause-ok g c = (
+  c.newest.ensures,
+  λ s stands.
+      let parts = stands.parts in
+      let log = c.args.self.now.known.log in
+      let prefix = c.prefix.result.now in
+      let old = items_begin c.args.self.now.releases prefix (fed_items log s prefix c.args.self.now.releases parts.known.values c.prefix.ensures.each c.prefix.ensures.gap stands.fed) in
+      all_taken log s prefix c.feed.new.releases parts.known.values c.prefix.ensures.each c.prefix.ensures.gap (c.feed.ensures.begins old) c.in_ok-feed.ensures.all,
+)

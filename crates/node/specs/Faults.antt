@@ -1,0 +1,32 @@
+-- Faults of the layers below, told by a node.
+use Rattle.std.specs.Prelude.{◌≡◌, Err}
+use Rattle.durable.specs.declared.fault.RecordFault.{RecordFault}
+use Rattle.durable.specs.declared.fault.RecordFault.TheVariants as stored
+use Rattle.command.specs.declared.fault.CommandFault.{CommandFault}
+use Rattle.command.specs.declared.fault.CommandFault.TheVariants as command
+use Rattle.command.specs.Reading.{value_reading, TakesMemory}
+use Rattle.node.specs.declared.fault.NodeFault.{NodeFault}
+use Rattle.node.specs.declared.fault.NodeFault.TheVariants.{OutOfMemory, Device, Stopped, NotACommand}
+use Rattle.node.specs.Nodes.{Value}
+
+-- a put that is refused as full is a growth refused
+abbrev pub of_record : RecordFault → NodeFault
+of_record stored.Device = Device
+of_record stored.Stopped = Stopped
+of_record _ = OutOfMemory
+
+-- what reads as no command is told, or want of memory
+abbrev pub of_command : CommandFault → NodeFault
+of_command command.OutOfMemory = OutOfMemory
+of_command command.TooLong = NotACommand command.TooLong
+of_command command.Form = NotACommand command.Form
+of_command command.Name = NotACommand command.Name
+of_command command.Path = NotACommand command.Path
+of_command (command.Template why) = NotACommand (command.Template why)
+of_command (command.Data why) = NotACommand (command.Data why)
+
+-- why a value that is submitted was not read
+abbrev pub IsUnread : Value → NodeFault → Type 0
+IsUnread v (NotACommand why) = value_reading v ≡ Err why
+IsUnread v OutOfMemory = TakesMemory v
+IsUnread v _ = ⊥

@@ -1,0 +1,116 @@
+-- Which nodes of the definitions a running node stands for.
+use Rattle.std.specs.Prelude.{◌≡◌, ◌↔◌, ◌⊎◌, ℕ, ◌<◌, ◌≤◌, ◌-◌, ◌^◌, false, if◌then◌else◌, Option, None, List, ◌++◌, length, Result, Ok, Err, IsErrOf}
+use Rattle.site_disk.specs.Model.{DiskState, LeavesOnly, after_sync}
+use Rattle.site_ids.specs.Majorities.{In}
+use Rattle.wire.specs.declared.message.Message.{Message}
+use Rattle.wire.specs.Messages.{IsMessage}
+use Rattle.durable.specs.Entries.{Entry}
+use Rattle.durable.specs.Histories.{IsHistory}
+use Rattle.durable.specs.Keeping.{IsFound, Keeps, Settles}
+use Rattle.durable.specs.Reading.{IsKept}
+use Rattle.durable.specs.Ready.{IsStored}
+use Rattle.durable.specs.Standing.{StandsFor}
+use Rattle.durable.specs.declared.record.Record.{Record}
+use Rattle.learner.specs.Tallies.{Tally}
+use Rattle.learner.specs.Votes.{IsTold}
+use Rattle.proposer.specs.Standing.{Attempting}
+use Rattle.node.specs.declared.fault.NodeFault.{NodeFault}
+use Rattle.node.specs.declared.fault.NodeFault.TheVariants as fault
+use Rattle.node.specs.declared.to.To.{To}
+use Rattle.node.specs.declared.running.Node.{Node as Running}
+use Rattle.node.specs.Nodes.{Mode, Up, Stopped, Node, opened, BeginsKnown}
+use Rattle.node.specs.Calls.{Call}
+use Rattle.node.specs.Endings.{Ending, Whole, Refused, Failed, Ends}
+use Rattle.node.specs.Knowing.{AreKnown}
+use Rattle.node.specs.Ranges.{HasRanges}
+use Rattle.node.specs.Tidy.{IsTidy}
+use Rattle.node.specs.Waiting.{AreWaiting}
+
+-- ---- in memory, over any disk
+
+-- its record keeps what these entries record, and none is in flight while it runs
+pub record IsOnRecord {D : Type 0} (store : Record D) (n : ℕ) (mode : Mode) (entries : List Entry) (in_flight : Option Entry) : Type 0 where
+  pub mode_is : mode ≡ (if store.stopped then Stopped else Up)
+  pub kept : IsKept entries store.recorded
+  pub history : IsHistory n entries
+  pub settled : store.stopped ≡ false → in_flight ≡ None
+
+-- what a node keeps
+pub record HasParts {D : Type 0} (code : Running D) (s : Node) : Type 0 where
+  pub on_record : IsOnRecord code.store code.cluster s.mode s.entries s.in_flight
+  pub votes : (t : Tally) → IsTold code.learner t ↔ In s.votes t
+  pub known : AreKnown code.known s.known
+  pub attempts : Attempting code.proposer s.attempts
+  pub pending : AreWaiting code.queue.items.items s.pending
+  pub heard : code.proposer.heard ≡ s.heard
+  pub reached : code.reached ≡ s.reached
+
+-- and it is tidy and in range, and published what begins the known prefix
+pub record IsNodeOf {D : Type 0} (code : Running D) (s : Node) : Type 0 where
+  pub parts : HasParts code s
+  pub tidy : IsTidy s
+  pub ranges : HasRanges s
+  pub fed : BeginsKnown code.releases s
+
+-- ---- on the disk
+
+-- The disk stands for this state, which keeps the node's entries and the one in flight, whether it crashes or not. While the node runs, all of it is synced
+pub record IsOnDisk {D : Type 0} (stands_for : D → DiskState → Type 0) (code : Running D) (s : Node) (d : DiskState) : Type 0 where
+  pub stands : stands_for code.store.disk d
+  pub keeps : Keeps code.me code.cluster s.entries s.in_flight d
+  pub stored : code.store.stopped ≡ false → IsStored stands_for code.store d s.entries
+
+-- a file of node p of n with what either node has on record
+abbrev pub IsEither : ℕ → ℕ → Node → Node → List ℕ → Type 0
+IsEither p n s next file = IsFound p n s.entries s.in_flight file ⊎ IsFound p n next.entries next.in_flight file
+
+-- So it is after a call as it was before it, and a crash at any moment of the call leaves what may be left before the call or after it
+abbrev pub StaysOnDisk : {D : Type 0} → (D → DiskState → Type 0) → Running D → Running D → Node → Node → Type 0
+StaysOnDisk stands_for old new s next = (d : DiskState) → IsOnDisk stands_for old s d → (e : DiskState) × IsOnDisk stands_for new next e × LeavesOnly d e (IsEither old.me old.cluster s next)
+
+-- ---- calls
+
+-- Ok is the whole ending, a failure of the device the failed one, and any other fault a refusal
+abbrev pub ending_by : NodeFault → Ending
+ending_by fault.Device = Failed
+ending_by cause = Refused cause
+
+abbrev pub ending_of : {T : Type 0} → Result T NodeFault → Ending
+ending_of (Ok x) = Whole
+ending_of (Err cause) = ending_by cause
+
+-- From s the call ends so, at a node that the new value stands for. The outbox is longer by what is handed out: few messages, each of the cluster
+pub record Leads {D : Type 0} (stands_for : D → DiskState → Type 0) (old new : Running D) (call : Call) (ending : Ending) (before after : List (To × Message)) (s : Node) : Type 0 where
+  pub next : Node
+  pub out : List (To × Message)
+  pub ends : Ends old.cluster old.me s call ending out next
+  pub stands : IsNodeOf new next
+  pub on_disk : StaysOnDisk stands_for old new s next
+  pub outbox : after ≡ before ++ out
+  pub few : length out ≤ 64
+  pub messages : (x : To × Message) → In out x → IsMessage old.cluster x.1
+
+-- and so it does from each node that the old value stands for
+pub record IsEvent {D : Type 0} (stands_for : D → DiskState → Type 0) (old new : Running D) (call : Call) (ending : Ending) (before after : List (To × Message)) : Type 0 where
+  pub leads : (s : Node) → IsNodeOf old s → Leads stands_for old new call ending before after s
+
+-- of which node it is, and what was published, stays
+pub record KeepsOthers {D : Type 0} (old new : Running D) : Type 0 where
+  pub me : new.me ≡ old.me
+  pub cluster : new.cluster ≡ old.cluster
+  pub releases : new.releases ≡ old.releases
+
+-- a failure of the device is told where its count rose, or stands at its last value, and else nothing was counted
+pub record CountsDevice {T : Type 0} (result : Result T NodeFault) (before now : ℕ) : Type 0 where
+  pub counted : IsErrOf result fault.Device → (before < now) ⊎ (before ≡ 2 ^ 64 - 1)
+  pub none : ¬ IsErrOf result fault.Device → now ≡ before
+
+-- ---- opening
+
+-- The node has these entries on record, over any disk, and nothing else. Of each state that the disk stood for, they are those of its file, and where it kept a
+-- record with an entry in flight, they are that record's, with that entry or without it.
+pub record OpensAs {D : Type 0} (stands_for : D → DiskState → Type 0) (disk : D) (code : Running D) (entries : List Entry) : Type 0 where
+  pub stands : IsNodeOf code (opened Up entries None)
+  pub on_disk : (d : DiskState) → stands_for disk d → IsOnDisk stands_for code (opened Up entries None) (after_sync d)
+  pub reads : (d : DiskState) → stands_for disk d → StandsFor code.me code.cluster d.seen entries
+  pub settles : (d : DiskState) (kept : List Entry) (in_flight : Option Entry) → stands_for disk d → Keeps code.me code.cluster kept in_flight d → Settles kept in_flight entries

@@ -1,0 +1,42 @@
+//! A question that is delivered.
+
+ghost use Rattle.std.specs.Prelude.{◌≡◌, IsErrOf, false};
+ghost use Rattle.wire.specs.Messages.{IsMessage};
+
+use crate::{Node, NodeFault, Outbox, To};
+use site_disk::Disk;
+use site_ids::{Instance, NodeId};
+use wire::Message;
+
+impl<D: Disk> Node<D> {
+    ghost use Rattle.node.specs.Calls.{deliver};
+    ghost use Rattle.node.specs.Standing.{IsEvent, KeepsOthers, ending_of};
+
+    /// The value goes to the asker, where it is known.
+    pub(crate) fn on_ask(
+        &mut self,
+        from: NodeId,
+        instance: Instance,
+        outbox: &mut Outbox,
+    ) -> Result<(), NodeFault>
+        requires running { self.old.store.stopped ≡ false }
+        ensures event { IsMessage self.old.cluster (Message.Ask from instance) → IsEvent D.stands_for self.old self.new (deliver (Message.Ask from instance)) (ending_of result) outbox.old.items outbox.new.items }
+        ensures no_put { (¬ IsErrOf result NodeFault.Device) × (self.new.store ≡ self.old.store) }
+        ensures others { KeepsOthers self.old self.new }
+    {
+        let Some(value) = self.known.log.get(instance) else {
+            return Ok(());
+        };
+        outbox.reserve(1)?;
+        let value = value.try_clone(self.alloc)?;
+        outbox.push_reserved((
+            To::One(from),
+            Message::Chosen {
+                from: self.me,
+                instance,
+                value,
+            },
+        ));
+        Ok(())
+    }
+}

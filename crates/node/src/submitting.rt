@@ -1,0 +1,55 @@
+//! A submission.
+
+ghost use Rattle.std.specs.Prelude.{◌≡◌, ◌↔◌, ◌<◌, [], Ok, IsTrue, IfOk, IsErrOf, MatchResult};
+ghost use Rattle.command.specs.Action.{Order};
+ghost use Rattle.command.specs.Reading.{value_reading};
+ghost use Rattle.node.specs.Faults.{IsUnread};
+
+use crate::{Node, NodeFault, Submitted};
+use command::read;
+use site_disk::Disk;
+use site_ids::Ticket;
+use std::alloc::Global;
+
+/// The ticket of a command that is submitted.
+fn submitted_ticket(alloc: Global, value: &[u8]) -> Result<Ticket, NodeFault>
+    ensures { MatchResult result (λ ticket. (order : Order) × (value_reading value.now ≡ Ok order) × (ticket ≡ order.ticket)) (IsUnread value.now) }
+{
+    let command = read(alloc, value)?;
+    Ok(command.ticket)
+}
+
+impl<D: Disk> Node<D> {
+    ghost use Rattle.node.specs.Nodes.{Node as AbstractNode};
+    ghost use Rattle.node.specs.Calls.{submit as submission, IsAnswered};
+    ghost use Rattle.node.specs.Tickets.{HoldsTicket};
+    ghost use Rattle.node.specs.Standing.{IsNodeOf, IsEvent, KeepsOthers, ending_of};
+
+    /// Takes a command to be proposed, unless its ticket is pending or known.
+    pub fn submit(&mut self, value: &[u8]) -> Result<Submitted, NodeFault>
+        ensures event { IsEvent D.stands_for self.old self.new (submission value.now) (ending_of result) [] [] }
+        ensures answered { IfOk result (λ answer. (s : AbstractNode) → IsNodeOf self.old s → IsAnswered s value.now answer) }
+        ensures no_put { (¬ IsErrOf result NodeFault.Device) × (self.new.store ≡ self.old.store) }
+        ensures others { KeepsOthers self.old self.new }
+    {
+        if self.store.is_stopped() {
+            return Err(NodeFault::Stopped);
+        }
+        let ticket = submitted_ticket(self.alloc, value)?;
+        if self.holds(ticket) {
+            return Ok(Submitted::Already);
+        }
+        if self.queue.is_full() {
+            return Err(NodeFault::QueueFull);
+        }
+        self.queue.push(self.alloc, ticket, value)?;
+        Ok(Submitted::Queued)
+    }
+
+    /// A value with that ticket is pending or known.
+    fn holds(&self, ticket: Ticket) -> bool
+        ensures { (s : AbstractNode) → IsNodeOf self.now s → IsTrue result ↔ HoldsTicket s ticket }
+    {
+        self.queue.holds(ticket) || self.known.holds(ticket)
+    }
+}
