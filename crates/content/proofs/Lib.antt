@@ -2,6 +2,6 @@ pub mod Tickets
 pub mod Changes
 pub mod Actions
 pub mod Values
-pub mod Copies
+pub mod Names
 pub mod LookUps
 pub mod Examples

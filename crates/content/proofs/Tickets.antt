@@ -1,14 +1,14 @@
 -- The tickets of a list of commands, and of a site.
-use Rattle.std.proofs.Common.{◌≡◌, ◌≢◌, ◌⊎◌, inl, inr, ◌==◌, ◌&&◌, not, ℕ, List, [], ◌∷◌, ◌++◌, Bool, true, false, cond, ◌||◌, Ordering, Less, Equal, Greater, nat_cmp, nat_lt, ◌<◌, arith, Result, Ok, Err, OnErr, refl, sym, ap, ◌∙◌}
-use Rattle.std.proofs.lemmas.Bool.Decides.{eqb_tells, Decides-ltb, Decides-eqb}
-use Rattle.std.specs.List.{list_any, AllZip}
+use Rattle.std.proofs.Common.{◌≡◌, ◌≢◌, ◌⊎◌, inl, inr, ◌==◌, ◌&&◌, ℕ, List, [], ◌∷◌, ◌++◌, Bool, true, false, cond, ◌||◌, Option, Some, Ordering, Less, Equal, Greater, nat_cmp, nat_lt, ◌<◌, arith, refl, sym, ap, ◌∙◌}
+use Rattle.std.proofs.lemmas.Bool.Decides.{eqb_tells, Decides-ltb, Decides-eqb, nat_tests}
 use Rattle.std.specs.Ordering.{is_eq, match_ordering, ordering_then}
-use Rattle.std.specs.Set.{remove_key}
 use Rattle.std.specs.BTreeMap.{is_at}
-use Rattle.std.specs.BTreeSet.{BTreeSet, insert_key, Updates}
+use Rattle.std.specs.Option.{is_some}
+use Rattle.shared_map.specs.Entries.{put, find}
 use Rattle.site_ids.specs.declared.Ticket.{Ticket}
 use Rattle.command.specs.Action.{Order}
 use Rattle.command.specs.Effective.{same_ticket, has_ticket}
+use Rattle.content.specs.Seen.{keys}
 use Rattle.content.specs.Standing.{holds_ticket}
 
 -- the commands and one more have its ticket, and those that they had
@@ -25,22 +25,6 @@ has_more ticket (x ∷ os) o = ap (λ b. same_ticket x.ticket ticket || b) (has_
     joined true false c = refl
     joined false true c = refl
     joined false false c = refl
-
--- a test that answers as another at each item finds the same
-pub any_same : {K : Type 0} (p q : K → Bool) → ((k : K) → p k ≡ q k) → (ks : List K) → list_any p ks ≡ list_any q ks
-any_same p q h [] = refl
-any_same p q h (k ∷ ks) = rw (h k, any_same p q h ks)
-
--- a new key that is put in and taken out again leaves the keys as they were
-pub in_and_out : {K : Type 0} (cmp : K → K → Ordering) (k : K) (ks : List K) → is_eq (cmp k k) ≡ true → list_any (is_at (cmp k)) ks ≡ false → remove_key (is_at (cmp k)) (insert_key cmp ks k) ≡ ks
-in_and_out cmp k [] same none = rw same
-in_and_out cmp k (x ∷ ks) same none = by (cmp k x) refl (in_and_out cmp k ks same)
-  where
-    by : (r : Ordering) → cmp k x ≡ r → (list_any (is_at (cmp k)) ks ≡ false → remove_key (is_at (cmp k)) (insert_key cmp ks k) ≡ ks)
-        → remove_key (is_at (cmp k)) (match_ordering (cmp k x) (k ∷ x ∷ ks) (x ∷ ks) (x ∷ insert_key cmp ks k)) ≡ x ∷ ks
-    by Less e more = rw (e, same)
-    by Equal e more = let found : true ≡ false = ap (λ r. is_eq r || list_any (is_at (cmp k)) ks) (sym e) ∙ none in cc
-    by Greater e more = let later : list_any (is_at (cmp k)) ks ≡ false = ap (λ r. is_eq r || list_any (is_at (cmp k)) ks) (sym e) ∙ none in rw (e, e) (ap (λ ys. x ∷ ys) (more later))
 
 ticket_of : (a b : Ticket) → a.editor ≡ b.editor → a.number ≡ b.number → a ≡ b
 ticket_of a b e n = ap (λ (x : ℕ). record { editor = x; number = a.number }) e ∙ ap (λ (x : ℕ). record { editor = b.editor; number = x }) n
@@ -92,26 +76,51 @@ same_itself a =
     let number : (a.number == a.number) ≡ true = (Decides-eqb a.number a.number).1 refl in
     same_by_order a a ∙ rw (editor, number)
 
-pub holds_by_order : (t : Ticket) (ks : List Ticket) → list_any (is_at (ticket_cmp t)) ks ≡ holds_ticket t ks
-holds_by_order t ks = any_same (is_at (ticket_cmp t)) (same_ticket t) (same_by_order t) ks
+-- ---- the tickets of a map
 
-pub inserted : (k : Ticket) (old new : BTreeSet Ticket) → Updates ticket_cmp old new k true → (t : Ticket) → holds_ticket t new.keys ≡ cond (same_ticket k t) true (holds_ticket t old.keys)
-inserted k old new updates t =
-    sym (holds_by_order t new.keys) ∙ updates.0 t ∙ ap (λ b. cond b true (list_any (is_at (ticket_cmp t)) old.keys)) (same_by_order k t) ∙ ap (cond (same_ticket k t) true) (holds_by_order t old.keys)
+abbrev pub Entries : Type 0
+Entries = List (Ticket × Unit {0})
 
-pub copied_tickets : (ks ls : List Ticket) → AllZip (λ k l. l ≡ k) ks ls → ls ≡ ks
-copied_tickets [] [] same = refl
-copied_tickets [] (l ∷ ls) same = absurd same
-copied_tickets (k ∷ ks) [] same = absurd same
-copied_tickets (k ∷ ks) (l ∷ ls) same = ap (λ x. x ∷ ls) same.0 ∙ ap (λ xs. k ∷ xs) (copied_tickets ks ls same.1)
+some_or : (b h : Bool) (x : Unit {0}) (r : Option (Unit {0})) → is_some r ≡ h → is_some (cond b (Some x) r) ≡ (b || h)
+some_or true h x r is = refl
+some_or false h x r is = is
 
--- whether it was there, from the answer whether it is new
-pub answered_by : (added had b : Bool) → added ≡ not had → added ≡ b → had ≡ not b
-answered_by added true true e f = sym f ∙ e
-answered_by added false false e f = sym f ∙ e
-answered_by added true false e f = refl
-answered_by added false true e f = refl
+-- what the map finds is held
+pub found_held : (t : Ticket) (es : Entries) → is_some (find (ticket_cmp t) es) ≡ holds_ticket t (keys es)
+found_held t [] = refl
+found_held t (e ∷ es) =
+    some_or (is_at (ticket_cmp t) e.0) (holds_ticket t (keys es)) e.1 (find (ticket_cmp t) es) (found_held t es) ∙ ap (λ b. b || holds_ticket t (keys es)) (same_by_order t e.0)
 
-pub on_err : {A E : Type 0} {P Q : Type 0} (r : Result A E) → (P → Q) → OnErr r P → OnErr r Q
-on_err (Ok x) f p = tt
-on_err (Err e) f p = f p
+flipped : (a b : ℕ) → (a == b) ≡ (b == a)
+flipped a b = grind (arith, nat_tests)
+
+same_flipped : (a b : Ticket) → same_ticket a b ≡ same_ticket b a
+same_flipped a b = ap (λ x. x && (a.number == b.number)) (flipped a.editor b.editor) ∙ ap (λ x. (b.editor == a.editor) && x) (flipped a.number b.number)
+
+or_cond : (b c : Bool) → (b || c) ≡ cond b true c
+or_cond true c = refl
+or_cond false c = refl
+
+again : (b c : Bool) → (b || c) ≡ cond b true (b || c)
+again true c = refl
+again false c = refl
+
+-- one more ticket is held, and those that were
+pub put_held : (k t : Ticket) (es : Entries) → holds_ticket t (keys (put ticket_cmp (k, tt) es)) ≡ cond (same_ticket k t) true (holds_ticket t (keys es))
+put_held k t [] = ap (λ b. b || false) (same_flipped t k) ∙ or_cond (same_ticket k t) false
+put_held k t (e ∷ es) = by (ticket_cmp k e.0) refl (put_held k t es)
+  where
+    later : (a b c : Bool) → (a || cond b true c) ≡ cond b true (a || c)
+    later true true c = refl
+    later true false c = refl
+    later false true c = refl
+    later false false c = refl
+
+    by : (r : Ordering) → ticket_cmp k e.0 ≡ r → holds_ticket t (keys (put ticket_cmp (k, tt) es)) ≡ cond (same_ticket k t) true (holds_ticket t (keys es))
+        → holds_ticket t (keys (match_ordering r ((k, tt) ∷ e ∷ es) ((k, tt) ∷ es) (e ∷ put ticket_cmp (k, tt) es))) ≡ cond (same_ticket k t) true (same_ticket t e.0 || holds_ticket t (keys es))
+    by Less is more = ap (λ b. b || (same_ticket t e.0 || holds_ticket t (keys es))) (same_flipped t k) ∙ or_cond (same_ticket k t) (same_ticket t e.0 || holds_ticket t (keys es))
+    by Equal is more =
+        let same : k ≡ e.0 = same_ticket-is k e.0 (sym (same_by_order k e.0) ∙ ap is_eq is) in
+        ap (λ b. b || holds_ticket t (keys es)) (same_flipped t k) ∙ again (same_ticket k t) (holds_ticket t (keys es))
+        ∙ ap (λ b. cond (same_ticket k t) true (b || holds_ticket t (keys es))) (same_flipped k t ∙ ap (same_ticket t) same)
+    by Greater is more = ap (λ b. same_ticket t e.0 || b) more ∙ later (same_ticket t e.0) (same_ticket k t) (holds_ticket t (keys es))

@@ -1,4 +1,3 @@
 pub mod Seen
 pub mod Standing
 pub mod Answered
-pub mod Copied

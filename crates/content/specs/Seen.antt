@@ -1,5 +1,5 @@
 -- A site as its callers see it: its tickets in order, and what it has by name.
-use Rattle.std.specs.Prelude.{ℕ, List, Option, String, string_bytes}
+use Rattle.std.specs.Prelude.{ℕ, List, map, Option, String, string_bytes}
 use Rattle.std.specs.declared.alloc.Global.{Global}
 use Rattle.std.specs.Cmp.Lexicographic.{slice_cmp}
 use Rattle.std.specs.Ordering.{nat_cmp}
@@ -9,6 +9,10 @@ use Rattle.site_ids.specs.declared.Ticket.{Ticket}
 use Rattle.context.specs.declared.tree.Data.{Data}
 use Rattle.mustache_parse.specs.Template.{TemplateSeen}
 use Rattle.content.specs.declared.target.Target.{Target}
+
+-- the keys of entries
+abbrev pub keys : {K V : Type 0} → List (K × V) → List K
+keys entries = map (λ e. e.0) entries
 
 -- contents by name
 abbrev pub Named : Type 0 → Type 0

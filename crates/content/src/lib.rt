@@ -2,7 +2,6 @@
 #![tactic(auto)]
 
 mod applied;
-mod copying;
 mod maps;
 mod site;
 mod target;

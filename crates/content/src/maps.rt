@@ -4,27 +4,28 @@ ghost use Rattle.std.specs.Map.{update};
 ghost use Rattle.std.specs.Str.{bytes_eq};
 ghost use Rattle.content.specs.Seen.{at_name};
 
+use shared_map::SharedMap;
 use std::alloc::AllocError;
-use std::collections::BTreeMap;
 
-/// Puts something at a name, and drops what was there.
+/// Puts something at a name, in place of what was there.
 pub(crate) fn put<V: Drop>(
-    map: &mut BTreeMap<String, V>,
+    map: &mut SharedMap<String, V>,
     name: String,
     value: V,
 ) -> Result<(), AllocError>
-    ensures ok { OnOk result ((n : List ℕ) → at_name n map.new.entries ≡ update bytes_eq (λ m. at_name m map.old.entries) (string_bytes name) (Some value) n) }
-    ensures err { OnErr result (map.new.entries ≡ map.old.entries) }
+    ensures ok { OnOk result ((n : List ℕ) → at_name n map.new ≡ update bytes_eq (λ m. at_name m map.old) (string_bytes name) (Some value) n) }
+    ensures err { OnErr result (map.new ≡ map.old) }
 {
-    match map.insert(name, value) {
-        Ok(_) => Ok(()),
-        Err(_) => Err(AllocError),
-    }
+    map.put(name, value)
 }
 
 /// Takes away what is at a name.
-pub(crate) fn take_away<V: Drop>(map: &mut BTreeMap<String, V>, name: &str)
-    ensures { (n : List ℕ) → at_name n map.new.entries ≡ update bytes_eq (λ m. at_name m map.old.entries) name.now None n }
+pub(crate) fn take_away<V: Drop>(
+    map: &mut SharedMap<String, V>,
+    name: &str,
+) -> Result<(), AllocError>
+    ensures ok { OnOk result ((n : List ℕ) → at_name n map.new ≡ update bytes_eq (λ m. at_name m map.old) name.now None n) }
+    ensures err { OnErr result (map.new ≡ map.old) }
 {
-    drop(map.remove(name));
+    map.remove(name)
 }

@@ -1,4 +1,4 @@
-ghost use Rattle.std.specs.Prelude.{◌≡◌, ◌≢◌, ℕ, List, [], ◌∷◌, ◌++◌, Some, None, Ok, IfOk, OnErr, MatchOption, option_map};
+ghost use Rattle.std.specs.Prelude.{◌≡◌, ◌≢◌, ℕ, List, [], ◌∷◌, ◌++◌, Some, None, Ok, IfOk, OnOk, OnErr, MatchOption, option_map};
 ghost use Rattle.command.specs.Action.{Order, remove};
 ghost use Rattle.command.specs.Effective.{effective};
 ghost use Rattle.command.specs.Reading.{value_reading};
@@ -10,44 +10,43 @@ ghost use Rattle.content.specs.Standing.{HasContents, IsSiteOf};
 ghost use Rattle.content.specs.Answered.{answered, applied};
 
 use crate::applied::Applied;
-use crate::copying::copy_of;
 use crate::maps::{put, take_away};
 use crate::target::Target;
 use command::{Action, Command, CommandFault, Kind, read};
 use context::Data;
 use mustache_parse::Template;
+use shared_map::SharedMap;
 use site_ids::Ticket;
 use std::alloc::{AllocError, Global};
-use std::collections::{BTreeMap, BTreeSet};
 use std::marker::Model;
 
 /// What a list of values leaves: the contents by name, and the tickets of its commands.
 #[derive(Drop)]
 pub struct Site {
     alloc: Global,
-    tickets: BTreeSet<Ticket>,
-    templates: BTreeMap<String, Template>,
-    partials: BTreeMap<String, Template>,
-    page_data: BTreeMap<String, Data>,
-    routes: BTreeMap<String, Target>,
+    tickets: SharedMap<Ticket, ()>,
+    templates: SharedMap<String, Template>,
+    partials: SharedMap<String, Template>,
+    page_data: SharedMap<String, Data>,
+    routes: SharedMap<String, Target>,
 }
 
 impl Model for Site {
     ghost use Rattle.std.specs.Coded.{codes};
     ghost use Rattle.context.specs.contracts.tree.Data as data_type;
     ghost use Rattle.mustache_parse.specs.contracts.node.Node as node_type;
-    ghost use Rattle.content.specs.Seen.{SiteSeen};
+    ghost use Rattle.content.specs.Seen.{SiteSeen, keys};
 
     ghost Value = { SiteSeen };
 
     ghost coded = { Prim.hlevel (codes, node_type.the_row.coded, data_type.the_row.coded) };
 
     ghost view = { λ s. record {
-      tickets = s.tickets.keys;
-      templates = s.templates.entries;
-      partials = s.partials.entries;
-      page_data = s.page_data.entries;
-      routes = s.routes.entries;
+      tickets = keys s.tickets;
+      templates = s.templates;
+      partials = s.partials;
+      page_data = s.page_data;
+      routes = s.routes;
     } };
 }
 
@@ -68,11 +67,11 @@ impl Site {
     {
         Site {
             alloc,
-            tickets: BTreeSet::new(alloc),
-            templates: BTreeMap::new(alloc),
-            partials: BTreeMap::new(alloc),
-            page_data: BTreeMap::new(alloc),
-            routes: BTreeMap::new(alloc),
+            tickets: SharedMap::new(alloc),
+            templates: SharedMap::new(alloc),
+            partials: SharedMap::new(alloc),
+            page_data: SharedMap::new(alloc),
+            routes: SharedMap::new(alloc),
         }
     }
 
@@ -88,21 +87,21 @@ impl Site {
         }
     }
 
-    /// Takes a command, unless its ticket stands in an earlier one. A ticket is taken out again where the command couldn't be taken.
-    fn take(&mut self, command: Command) -> Result<Applied, AllocError>
+    /// Takes a value by the command that was read of it, unless its ticket stands in an earlier one. Where memory is short the site stays as it is.
+    pub fn take(&mut self, command: Command) -> Result<Applied, AllocError>
         ensures ok { IfOk result (λ a. (values : List (List ℕ)) (v : List ℕ) (order : Order) → value_reading v ≡ Ok order → StandsFor command order
             → IsSiteOf self.old values → IsSiteOf self.new (values ++ (v ∷ [])) × (a ≡ applied values v)) }
         ensures err { OnErr result (self.new ≡ self.old) }
     {
         let Command { ticket, action } = command;
-        if !self.tickets.insert(ticket)? {
+        if self.tickets.contains(&ticket) {
             return Ok(Applied::Repeat);
         }
-        let done = self.act(action);
-        if done.is_err() {
-            self.tickets.remove(&ticket);
-        }
-        done
+        let mut tickets = self.tickets.copy()?;
+        tickets.put(ticket, ())?;
+        let done = self.act(action)?;
+        self.tickets = tickets;
+        Ok(done)
     }
 
     /// Puts or removes what the command says.
@@ -127,16 +126,17 @@ impl Site {
                 };
                 put(&mut self.routes, path, target)?
             }
-            Action::Remove { kind, name } => self.remove(kind, &name),
+            Action::Remove { kind, name } => self.remove(kind, &name)?,
             Action::Release => return Ok(Applied::Released),
         }
         Ok(Applied::Changed)
     }
 
-    fn remove(&mut self, kind: Kind, name: &str)
-        ensures removed { (orders : List Order) (order : Order) → order.action ≡ remove (kind_view kind) name.now
-            → HasContents self.old orders → HasContents self.new (orders ++ (order ∷ [])) }
+    fn remove(&mut self, kind: Kind, name: &str) -> Result<(), AllocError>
+        ensures removed { OnOk result ((orders : List Order) (order : Order) → order.action ≡ remove (kind_view kind) name.now
+            → HasContents self.old orders → HasContents self.new (orders ++ (order ∷ []))) }
         ensures tickets { self.new.tickets ≡ self.old.tickets }
+        ensures err { OnErr result (self.new ≡ self.old) }
     {
         match kind {
             Kind::Template => take_away(&mut self.templates, name),
@@ -146,17 +146,17 @@ impl Site {
         }
     }
 
-    /// A copy, which changes by itself.
+    /// A copy, which shares its contents with this site. Either changes by itself.
     pub fn copy(&self) -> Result<Site, AllocError>
-        ensures { IfOk result (λ s. (values : List (List ℕ)) → IsSiteOf self.now values → IsSiteOf s values) }
+        ensures { IfOk result (λ s. s ≡ self.now) }
     {
         Ok(Site {
             alloc: self.alloc,
-            tickets: self.tickets.clone()?,
-            templates: copy_of(self.alloc, &self.templates)?,
-            partials: copy_of(self.alloc, &self.partials)?,
-            page_data: copy_of(self.alloc, &self.page_data)?,
-            routes: copy_of(self.alloc, &self.routes)?,
+            tickets: self.tickets.copy()?,
+            templates: self.templates.copy()?,
+            partials: self.partials.copy()?,
+            page_data: self.page_data.copy()?,
+            routes: self.routes.copy()?,
         })
     }
 

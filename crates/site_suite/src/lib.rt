@@ -1,11 +1,13 @@
-//! Rows of sites: each call of the crates from the scanner to the releases once with ample memory, a site by its values, releases by number; and
-//! each call with one growth refused.
+//! Rows of sites: each call of the crates from the scanner to the releases once with ample memory, a site by its values, releases by number, maps whose
+//! copies share; and each call with one growth refused.
 #![tactic(auto)]
 
 #[cfg(test)]
 mod calls;
 #[cfg(test)]
 mod refusals;
+#[cfg(test)]
+mod maps;
 #[cfg(test)]
 mod releases;
 #[cfg(test)]

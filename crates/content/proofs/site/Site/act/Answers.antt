@@ -10,20 +10,20 @@ returns-in-Release-clause-ok c orders order stands h = released c.args.self.now 
 
 pub returns-in_ok-put-in-PutTemplate-clause-ok : goal.returns-in_ok-put-in-PutTemplate-clause-ok
 returns-in_ok-put-in-PutTemplate-clause-ok c orders order stands h =
-    template_put (the_view c.self.inside) c.put.new.map.entries c.in-PutTemplate.name c.in-PutTemplate.template orders order.ticket order.action c.in_ok-put-in-PutTemplate.ensures.ok
+    template_put (the_view c.self.inside) c.put.new.map c.in-PutTemplate.name c.in-PutTemplate.template orders order.ticket order.action c.in_ok-put-in-PutTemplate.ensures.ok
     (subst (λ a. StandsAs a order.action) c.in-PutTemplate.is stands) (subst (λ s. HasContents s orders) (sym c.self.view_is) h)
 
 pub returns-in_ok-put-in-PutPartial-clause-ok : goal.returns-in_ok-put-in-PutPartial-clause-ok
 returns-in_ok-put-in-PutPartial-clause-ok c orders order stands h =
-    partial_put (the_view c.self-in-PutPartial.inside) c.put-in-PutPartial.new.map.entries c.in-PutPartial.name c.in-PutPartial.template orders order.ticket order.action c.in_ok-put-in-PutPartial.ensures.ok
+    partial_put (the_view c.self-in-PutPartial.inside) c.put-in-PutPartial.new.map c.in-PutPartial.name c.in-PutPartial.template orders order.ticket order.action c.in_ok-put-in-PutPartial.ensures.ok
     (subst (λ a. StandsAs a order.action) c.in-PutPartial.is stands) (subst (λ s. HasContents s orders) (sym c.self-in-PutPartial.view_is) h)
 
 pub returns-in_ok-put-in-PutData-clause-ok : goal.returns-in_ok-put-in-PutData-clause-ok
 returns-in_ok-put-in-PutData-clause-ok c orders order stands h =
-    data_put (the_view c.self-in-PutData.inside) c.put-in-PutData.new.map.entries c.in-PutData.name c.in-PutData.page_data orders order.ticket order.action c.in_ok-put-in-PutData.ensures.ok
+    data_put (the_view c.self-in-PutData.inside) c.put-in-PutData.new.map c.in-PutData.name c.in-PutData.page_data orders order.ticket order.action c.in_ok-put-in-PutData.ensures.ok
     (subst (λ a. StandsAs a order.action) c.in-PutData.is stands) (subst (λ s. HasContents s orders) (sym c.self-in-PutData.view_is) h)
 
 pub returns-in_ok-put-in-PutRoute-clause-ok : goal.returns-in_ok-put-in-PutRoute-clause-ok
 returns-in_ok-put-in-PutRoute-clause-ok c orders order stands h =
-    route_put (the_view c.self-in-PutRoute.inside) c.put-in-PutRoute.new.map.entries c.in-PutRoute.path c.in-PutRoute.template c.in-PutRoute.page_data orders order.ticket order.action c.in_ok-put-in-PutRoute.ensures.ok
+    route_put (the_view c.self-in-PutRoute.inside) c.put-in-PutRoute.new.map c.in-PutRoute.path c.in-PutRoute.template c.in-PutRoute.page_data orders order.ticket order.action c.in_ok-put-in-PutRoute.ensures.ok
     (subst (λ a. StandsAs a order.action) c.in-PutRoute.is stands) (subst (λ s. HasContents s orders) (sym c.self-in-PutRoute.view_is) h)

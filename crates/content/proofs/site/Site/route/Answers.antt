@@ -7,4 +7,4 @@ pub returns : goal.returns
 returns c values is =
     let site = subst (λ s. IsSiteOf s values) (sym c.self.view_is) is in
     ap (λ (t : List ℕ). Some (t, c.as_str-2.result.now)) c.as_str.ensures.value ∙ ap (λ (d : List ℕ). Some ((names_of c.in_ok-target.target.now).0, d)) c.as_str-2.ensures.value
-    ∙ ap (option_map names_of) c.in_ok-target.ensures.value ∙ site.contents.routes c.args.path.now
+    ∙ ap (option_map names_of) c.in_ok-target.ensures ∙ site.contents.routes c.args.path.now

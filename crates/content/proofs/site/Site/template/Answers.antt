@@ -9,4 +9,4 @@ use Rattle.content.proofs.site.Site.template.Goals as goal
 pub returns : goal.returns
 returns c values is =
     let site = subst (λ s. IsSiteOf s values) (sym c.self.view_is) is in
-    lent_text c.get.result (at_name c.args.name.now c.self.inside.templates.entries) (template_at c.args.name.now (effective values)) c.get.ensures.value (site.contents.templates c.args.name.now)
+    lent_text c.get.result (at_name c.args.name.now c.self.inside.templates) (template_at c.args.name.now (effective values)) c.get.ensures (site.contents.templates c.args.name.now)
