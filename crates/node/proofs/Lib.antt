@@ -18,3 +18,4 @@ pub mod Starting
 pub mod Promising
 pub mod Unread
 pub mod Counting
+pub mod TicketSets
