@@ -70,7 +70,7 @@ slots_after es (Promised i b) old new advances kept after k =
 slots_after es (Voted i b v) old new advances kept after k =
     let S : ℕ → Slot → Type 0 = λ j s. IsSlot (es ++ Voted i b v ∷ []) j s in
     let test : k ≢ i → last_vote k (es ++ Voted i b v ∷ []) ≡ last_vote k es = λ other. vote_after-push k None es (Voted i b v ∷ [])
-        ∙ ap (λ (x : Bool). if x then Some (record { ballot = b; value = v }) else last_vote k es) (not_number i k (λ e. other (sym e))) in
+    ∙ ap (λ (x : Bool). if x then Some (record { ballot = b; value = v }) else last_vote k es) (not_number i k (λ e. other (sym e))) in
     ⊎_elim
     (λ (same : k ≡ i). subst (λ (j : ℕ). S j (slot_at new j)) (sym same) (subst (λ (s : Slot). S i s) (sym after.0) (slot_voted es i b v advances)))
     (λ (other : k ≢ i). subst (λ (s : Slot). S k s) (sym (after.1 k other)) (slot_kept es (Voted i b v) k (slot_at old k) (λ c raises. other (sym raises.0)) (test other) (kept k)))

@@ -5,11 +5,11 @@ mod cuts;
 mod delimiters;
 mod fault;
 mod laws;
-mod standalone;
 mod names;
 mod padding;
 mod push;
 mod scanner;
+mod standalone;
 mod tag;
 mod token;
 

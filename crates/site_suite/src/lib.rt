@@ -5,9 +5,9 @@
 #[cfg(test)]
 mod calls;
 #[cfg(test)]
-mod refusals;
-#[cfg(test)]
 mod maps;
+#[cfg(test)]
+mod refusals;
 #[cfg(test)]
 mod releases;
 #[cfg(test)]
