@@ -88,7 +88,7 @@ impl Site {
     }
 
     /// Takes a value by the command that was read of it, unless its ticket stands in an earlier one. Where memory is short the site stays as it is.
-    pub fn take(&mut self, command: Command) -> Result<Applied, AllocError>
+    fn take(&mut self, command: Command) -> Result<Applied, AllocError>
         ensures ok { IfOk result (λ a. (values : List (List ℕ)) (v : List ℕ) (order : Order) → value_reading v ≡ Ok order → StandsFor command order
             → IsSiteOf self.old values → IsSiteOf self.new (values ++ (v ∷ [])) × (a ≡ applied values v)) }
         ensures err { OnErr result (self.new ≡ self.old) }
