@@ -3,25 +3,6 @@ use shared_map::SharedMap;
 use std::alloc::{AllocError, Global};
 use std::test::Fail;
 
-#[test]
-fn copies_change_by_themselves(rt: HostRuntime) -> Result<(), Fail> {
-    let alloc = rt.alloc();
-    let mut map: SharedMap<String, u32> = SharedMap::new(alloc);
-    for (name, value) in [("b", 1), ("a", 2), ("c", 3), ("a", 4)] {
-        map.put(String::from_str(alloc, name)?, value)?;
-    }
-    let kept = map.copy()?;
-    map.remove("a")?;
-    map.remove("x")?;
-    map.put(String::from_str(alloc, "c")?, 5)?;
-    assert_eq!(rt; kept.get("a"), Some(&4));
-    assert_eq!(rt; kept.get("c"), Some(&3));
-    assert_eq!(rt; map.get("a"), None);
-    assert_eq!(rt; map.get("c"), Some(&5));
-    assert!(rt; map.contains("b") && !map.contains("x"));
-    Ok(())
-}
-
 fn name(alloc: Global, n: u32) -> Result<String, AllocError> {
     Ok(format!(in alloc; "{n:04}")?)
 }

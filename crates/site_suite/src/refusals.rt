@@ -2,7 +2,6 @@
 //! answers as ever.
 use crate::releases::{COMMANDS, feed, ticket};
 use command::{CommandFault, fault_line, read, write};
-use content::Site;
 use context::{Data, DataFault};
 use mustache_parse::parse;
 use mustache_scan::{FaultKind, scan};
@@ -79,30 +78,6 @@ fn values_and_lines(rt: HostRuntime) -> Result<(), Fail> {
         Err(_) => fault_line(alloc, &fault)?,
     };
     assert_eq!(rt; line.as_str(), "6 Data 1 NotJson");
-    Ok(())
-}
-
-#[test]
-fn sites(rt: HostRuntime) -> Result<(), Fail> {
-    let alloc = rt.alloc();
-    let mut site = Site::new(alloc);
-    for (number, text, applied) in COMMANDS {
-        let value = written(alloc, ticket(number), text.as_bytes())?;
-        let before = site.template("t").map(|t| t.source().len());
-        match site.apply(&value) {
-            Ok(answer) => assert_eq!(rt; answer, applied),
-            Err(_) => {
-                assert_eq!(rt; site.template("t").map(|t| t.source().len()), before);
-                assert_eq!(rt; site.apply(&value)?, applied);
-            }
-        }
-    }
-    let copy = match site.copy() {
-        Ok(copy) => copy,
-        Err(_) => site.copy()?,
-    };
-    assert!(rt; copy.template("t").is_none() && copy.data("d").is_some());
-    assert!(rt; matches!(copy.route("/"), Some(("t", "d"))));
     Ok(())
 }
 
