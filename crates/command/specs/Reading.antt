@@ -2,6 +2,7 @@
 use Rattle.std.specs.Prelude.{◌≡◌, ◌≢◌, ℕ, List, [], ◌∷◌, length, drop, codes, nat_eq, nat_le, ◌==◌, ◌&&◌, ◌||◌, not, if◌then◌else◌, Bool, Option, None, Result, Ok, Err, ok_or}
 use Rattle.std.specs.List.{list_all, starts_with}
 use Rattle.std.specs.Str.{is_utf8}
+use Rattle.site_ids.specs.declared.TheConstants.{MAX_VALUE}
 use Rattle.byteorder.specs.Endian.{big_number}
 use Rattle.site_ids.specs.declared.Ticket.{Ticket}
 use Rattle.context.specs.Whole.{Whole, data_reading}
@@ -105,7 +106,7 @@ abbrev pub text_row : List ℕ → Option Row
 text_row v = if nat_le 12 (length v) && is_utf8 (drop 12 v) then row_of (drop 12 v) else None
 
 abbrev pub value_row : List ℕ → Result Row CommandFault
-value_row v = if nat_le (length v) 32768 then ok_or (text_row v) Form else Err TooLong
+value_row v = if nat_le (length v) MAX_VALUE then ok_or (text_row v) Form else Err TooLong
 
 abbrev pub read_row : Result Row CommandFault → Result Action CommandFault
 read_row (Ok row) = row_reading row

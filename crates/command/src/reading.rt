@@ -5,7 +5,8 @@ ghost use Rattle.mustache_scan.specs.declared.fault.TemplateFault.{TemplateFault
 ghost use Rattle.command.specs.Action.{Order};
 ghost use Rattle.command.specs.Reading.{is_name, is_path, is_removable, wrong_remove, row_reading, text_reading, ticket_of, value_reading, TakesMemory};
 ghost use Rattle.command.specs.Rows.{Row as TextRow, release_row, template_row, partial_row, data_row, route_row, remove_row, row_of};
-ghost use Rattle.command.specs.View.{kind_view, StandsFor, IsActionOf};
+ghost use Rattle.command.specs.Standing.{StandsFor, IsActionOf};
+ghost use Rattle.command.specs.View.{kind_view};
 ghost use Rattle.command.specs.Written.{HasLine};
 
 use crate::commands::{Action, Command, Kind};

@@ -1,6 +1,7 @@
 -- The body of a request (RFC 9112, sections 6 and 7.1).
 use Rattle.std.specs.Prelude.{◌≡◌, ◌≢◌, ℕ, ◌-◌, slice_index, ◌+◌, ◌<◌, ◌≤◌, ◌⊎◌, List, ◌++◌, length, take, drop, All}
 use Rattle.std.specs.List.{flat_map}
+use Rattle.http_read.specs.declared.lengths.TheConstants.{BODY_LIMIT}
 use Rattle.httparse.specs.Ascii.{line_feed, crlf_bytes}
 use Rattle.httparse.specs.Grammar.{ChunkLine, IsChunkLine, print_chunk_line, chunk_size, Field}
 use Rattle.http_read.specs.Heads.{Reading, got, refused, ended, ReadsTrailer}
@@ -46,7 +47,7 @@ chunks_joined chunks = flat_map (λ chunk. chunk.bytes) chunks
 pub record BeginsWithChunks (input : List ℕ) (chunks : List Chunk) (tail : List ℕ) : Type 0 where
   pub each : All IsChunk chunks
   pub whole : input ≡ flat_map print_chunk chunks ++ tail
-  pub small : length (chunks_joined chunks) ≤ 40000
+  pub small : length (chunks_joined chunks) ≤ BODY_LIMIT
 
 -- tail begins with this chunk line, and rest follows
 pub record BeginsWithLine (tail : List ℕ) (line : ChunkLine) (rest : List ℕ) : Type 0 where
@@ -73,14 +74,14 @@ EndsChunks so_far tail (got fields rest) =
 EndsChunks so_far tail (refused status) =
     ((status ≡ 400) × IsNoLine tail)
     ⊎ ((line : ChunkLine) × (behind : List ℕ) × BeginsWithLine tail line behind × (
-    ((status ≡ 413) × (40000 < so_far + chunk_size line))
-    ⊎ ((status ≡ 400) × (0 < chunk_size line) × (so_far + chunk_size line ≤ 40000)
+    ((status ≡ 413) × (BODY_LIMIT < so_far + chunk_size line))
+    ⊎ ((status ≡ 400) × (0 < chunk_size line) × (so_far + chunk_size line ≤ BODY_LIMIT)
     × (chunk_size line + 2 ≤ length behind) × ¬ (take 2 (drop (chunk_size line) behind) ≡ crlf_bytes))
     ⊎ ((chunk_size line ≡ 0) × ReadsTrailer behind (refused status))))
 EndsChunks so_far tail ended =
     IsCutLine tail
     ⊎ ((line : ChunkLine) × (behind : List ℕ) × BeginsWithLine tail line behind × (
-    ((0 < chunk_size line) × (so_far + chunk_size line ≤ 40000) × (length behind < chunk_size line + 2))
+    ((0 < chunk_size line) × (so_far + chunk_size line ≤ BODY_LIMIT) × (length behind < chunk_size line + 2))
     ⊎ ((chunk_size line ≡ 0) × ReadsTrailer behind ended)))
 
 -- a body by chunks: whole chunks, and then what ends them
