@@ -1,4 +1,5 @@
 ghost use Rattle.std.specs.Prelude.{◌≡◌, ◌≢◌, ◌≤◌, length, Some, Ok, Err, IfOk, IfErr, if◌then◌else◌};
+ghost use Rattle.site_ids.specs.declared.TheConstants.{TICKET_BYTES};
 ghost use Rattle.mustache_parse.specs.Template.{IsTemplateOf};
 ghost use Rattle.mustache_parse.specs.Tree.{tree_of};
 ghost use Rattle.mustache_scan.specs.declared.fault.TemplateFault.{TemplateFault};
@@ -43,7 +44,7 @@ pub fn read(alloc: Global, value: &[u8]) -> Result<Command, CommandFault>
 }
 
 fn ticket(value: &[u8]) -> Ticket
-    requires { 12 ≤ length value.now }
+    requires { TICKET_BYTES ≤ length value.now }
     ensures { result ≡ ticket_of value.now }
 {
     Ticket {

@@ -1,6 +1,7 @@
 -- The body of a request (RFC 9112, sections 6 and 7.1).
 use Rattle.std.specs.Prelude.{◌≡◌, ◌≢◌, ℕ, ◌-◌, slice_index, ◌+◌, ◌<◌, ◌≤◌, ◌⊎◌, List, ◌++◌, length, take, drop, All}
 use Rattle.std.specs.List.{flat_map}
+use Rattle.http_read.specs.declared.lines.TheConstants.{LINE_LIMIT}
 use Rattle.http_read.specs.declared.lengths.TheConstants.{BODY_LIMIT}
 use Rattle.httparse.specs.Ascii.{line_feed, crlf_bytes}
 use Rattle.httparse.specs.Grammar.{ChunkLine, IsChunkLine, print_chunk_line, chunk_size, Field}
@@ -16,18 +17,18 @@ pub record Chunk : Type 0 where
 pub record IsFirstLine (input : List ℕ) (n : ℕ) : Type 0 where
   pub some : 0 < n
   pub within : n ≤ length input
-  pub short : n ≤ 256
+  pub short : n ≤ LINE_LIMIT
   pub feed : slice_index input (n - 1) ≡ line_feed
   pub before : (k : ℕ) → k + 1 < n → slice_index input k ≢ line_feed
 
 -- no line feed stands among the first 256 bytes
 abbrev pub HasNoFeed : List ℕ → Type 0
-HasNoFeed input = (k : ℕ) → k < 256 → k < length input → slice_index input k ≢ line_feed
+HasNoFeed input = (k : ℕ) → k < LINE_LIMIT → k < length input → slice_index input k ≢ line_feed
 
 -- a chunk line has at most 256 bytes
 pub record IsShortLine (line : ChunkLine) : Type 0 where
   pub well_formed : IsChunkLine line
-  pub short : length (print_chunk_line line) ≤ 256
+  pub short : length (print_chunk_line line) ≤ LINE_LIMIT
 
 -- the line is short and tells the number of the bytes, which isn't 0
 pub record IsChunk (chunk : Chunk) : Type 0 where
@@ -57,13 +58,13 @@ pub record BeginsWithLine (tail : List ℕ) (line : ChunkLine) (rest : List ℕ)
 -- the first line is too long, or it is no chunk line
 abbrev pub IsNoLine : List ℕ → Type 0
 IsNoLine tail =
-    ((256 ≤ length tail) × HasNoFeed tail)
+    ((LINE_LIMIT ≤ length tail) × HasNoFeed tail)
     ⊎ ((n : ℕ) × IsFirstLine tail n × ((line : ChunkLine) → IsChunkLine line → ¬ (take n tail ≡ print_chunk_line line)))
 
 -- the input ends within the first line
 pub record IsCutLine (tail : List ℕ) : Type 0 where
   pub open_end : HasNoFeed tail
-  pub short : length tail < 256
+  pub short : length tail < LINE_LIMIT
 
 -- What the chunks end with, behind so many bytes of them.
 -- got: the line of the last chunk and the trailer section.

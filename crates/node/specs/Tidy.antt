@@ -1,5 +1,6 @@
 -- What stands in a node beside its record, whatever calls it has taken since it opened.
 use Rattle.std.specs.Prelude.{◌≡◌, ℕ, ◌≤◌, true, false, Option, Some, None, List, [], ◌∷◌, length, ⊤}
+use Rattle.site_ids.specs.declared.TheConstants.{MAX_PENDING}
 use Rattle.site_ids.specs.Lists.{In}
 use Rattle.wire.specs.declared.message.Message.{Message}
 use Rattle.durable.specs.Entries.{Entry}
@@ -22,7 +23,7 @@ pub record AreTidy (votes : List ToldVote) (known : ℕ → Option Value) (attem
   pub attempted : (i : ℕ) (a : Attempt) → attempts i ≡ Some a → IsFirstUnknown known i
   pub voted : (t : ToldVote) → In votes t → known t.instance ≡ None
   pub commands : (v : Value) → In pending v → IsCommand v
-  pub few : length pending ≤ 64
+  pub few : length pending ≤ MAX_PENDING
   pub apart : AreApart pending
   pub unknown : (v : Value) (i : ℕ) (u : Value) → In pending v → known i ≡ Some u → has_same_ticket v u ≡ false
 
