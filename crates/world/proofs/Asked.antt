@@ -1,5 +1,5 @@
 -- What a world is asked of one node.
-use Rattle.std.proofs.Common.{◌≡◌, ◌≢◌, ℕ, ◌-◌, ◌≤◌, nat_lt, nat_le, Bool, true, false, Some, List, [], refl, sym, ap, subst, ◌∙◌, arith}
+use Rattle.std.proofs.Common.{◌≡◌, ◌≢◌, ℕ, suc, ◌-◌, ◌≤◌, nat_lt, nat_le, Bool, true, false, Some, List, [], refl, sym, ap, subst, ◌∙◌, arith}
 use Rattle.std.specs.Prelude.{slice_get}
 use Rattle.std.proofs.lemmas.Bool.Decides.{nat_tests}
 use Rattle.site_disk.specs.declared.memory.MemDisk.{MemDisk}
@@ -14,12 +14,13 @@ use Rattle.world.specs.declared.places.Place.{Place}
 use Rattle.world.specs.declared.places.Place.TheVariants.{Open, Bare}
 use Rattle.world.specs.declared.whole.World.{World as Code}
 use Rattle.world.specs.Worlds.{World}
-use Rattle.world.specs.Decided.{AreDecided}
+use Rattle.world.specs.Decided.{Decides, AreDecided}
 use Rattle.world.specs.Standing.{IsOpen, IsBare, IsPlaceOf, IsWorldOf}
-use Rattle.world.specs.Steps.{Reached, IsAnswer}
+use Rattle.world.specs.Steps.{Reached, IsAnswer, AreOfRun}
 use Rattle.world.specs.Telling.{fed_in, fed_at}
 use Rattle.world.proofs.Turning.{not_down}
-use Rattle.world.proofs.Published.{one_list_answers}
+use Rattle.world.proofs.Agreed.{decides_submitted, knows_decided}
+use Rattle.world.proofs.Published.{place_of, one_list_answers}
 
 -- there is such a release where there is an answer
 has_release : (orders : List Order) (n : ℕ) (path : List ℕ) (page : Page) → released orders n path ≡ Some page → (1 ≤ n) × (n ≤ release_count orders)
@@ -67,3 +68,14 @@ module _ (code : Code) (p : ℕ) (here : Place) (one : 1 ≤ p) (got : slice_get
         submitted = one_list.submitted;
         answers = sym (one_list.answers p n node.releases (record { begins = mine.stands.fed; some = has.0; has = has.1 }) path) ∙ told;
       }
+
+-- what a node knows without a gap is decided, and is the no-op or was submitted
+pub of_run : (code : Code) (p : ℕ) (events : List Event) (reached : Reached code events) (values : List Value) → BeginsKnown values (reached.world.node p) → AreOfRun code events values
+of_run code p events reached values begins =
+    let n = code.cluster in
+    let w = reached.world in
+    let decided : (k : ℕ) (v : Value) → slice_get values k ≡ Some v → Decides n w.sent (suc k) v = λ k v got. knows_decided n events w reached.runs p (suc k) v (begins k v got) in
+    record {
+      decided = λ k v got. subst (λ l. Decides n l (suc k) v) reached.stands.sent (decided k v got);
+      submitted = λ v told. let at = place_of values v told in decides_submitted n events w reached.runs (suc at.0) v (decided at.0 v at.1);
+    }

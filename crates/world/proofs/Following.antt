@@ -4,7 +4,6 @@ use Rattle.std.specs.Prelude.{slice_get}
 use Rattle.std.proofs.lemmas.Bool.Decides.{nat_tests}
 use Rattle.site_ids.specs.Majorities.{In}
 use Rattle.site_ids.proofs.MemberLemmas.{in_push}
-use Rattle.node.specs.Nodes.{Down}
 use Rattle.node.specs.Standing.{OnlyGrows}
 use Rattle.world.specs.declared.event.Event.{Event}
 use Rattle.world.specs.declared.event.Event.TheVariants.{Restart}

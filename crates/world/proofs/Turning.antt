@@ -1,5 +1,5 @@
 -- What a call of one node does at its place.
-use Rattle.std.proofs.Common.{◌≡◌, ◌≢◌, ◌⊎◌, inl, inr, ℕ, zero, suc, get_or, Bool, true, false, if◌then◌else◌, Result, Ok, Err, Option, Some, None, List, [], ◌∷◌, ◌++◌, refl, sym, ap, subst, ◌∙◌, ⊎_elim, append-nil}
+use Rattle.std.proofs.Common.{◌≡◌, ◌≢◌, ◌⊎◌, inl, inr, ℕ, zero, suc, get_or, Bool, true, false, if◌then◌else◌, Result, Ok, Err, Some, None, List, [], ◌∷◌, ◌++◌, refl, sym, ap, subst, ◌∙◌, ⊎_elim, append-nil}
 use Rattle.std.specs.Prelude.{slice_get, IsTrue, is_err}
 use Rattle.std.specs.Result.{OnOk, OnErr}
 use Rattle.site_disk.specs.Model.{DiskState, MayLeave, moment, at_rest, after_sync}
@@ -19,7 +19,7 @@ use Rattle.node.specs.declared.fault.NodeFault.TheVariants.{OutOfMemory, Stopped
 use Rattle.node.specs.Nodes.{Mode, Up, Stopped, Down, Node, opened, IsKnownPrefix}
 use Rattle.node.specs.Effects.{messages_of}
 use Rattle.node.specs.Calls.{Call, deliver}
-use Rattle.node.specs.Endings.{Ending, Whole, Refused, Failed, Ends}
+use Rattle.node.specs.Endings.{Ending, Refused, Ends}
 use Rattle.node.specs.Standing.{IsNodeOf, IsOnDisk, IsEvent, KeepsOthers, OpensAs}
 use Rattle.world.specs.declared.event.Event.TheVariants.{Arm}
 use Rattle.world.specs.declared.places.Place.{Place}

@@ -1,8 +1,8 @@
 -- How a step of a run ends, and a run.
-use Rattle.std.specs.Prelude.{◌≡◌, ◌≢◌, ◌⊎◌, ℕ, Some, Result, Ok, Err, List, [], ◌∷◌, ◌++◌, take, slice_get}
+use Rattle.std.specs.Prelude.{◌≡◌, ◌≢◌, ◌⊎◌, ℕ, suc, Some, Result, Ok, Err, List, [], ◌∷◌, ◌++◌, take, slice_get}
 use mathlib.Core.Logic.{inl, inr}
 use Rattle.site_ids.specs.Majorities.{In}
-use Rattle.node.specs.Nodes.{Value, Down}
+use Rattle.node.specs.Nodes.{Value}
 use Rattle.node.specs.Effects.{messages_of}
 use Rattle.release.specs.Page.{Page, answer}
 use Rattle.world.specs.declared.event.Event.{Event}
@@ -14,7 +14,7 @@ use Rattle.world.specs.declared.halt.Halt.TheVariants.{Wanted, Unpublished, Bad}
 use Rattle.world.specs.declared.whole.World.{World as Code}
 use Rattle.world.specs.Worlds.{World, Runs, start}
 use Rattle.world.specs.Taking.{node_of, Takes, TakesAll, IsBad, IsRefused, IsLast, EndsWanting, WantsMemory, MeetsBadEvent}
-use Rattle.world.specs.Decided.{AreDecided, IsSubmitted}
+use Rattle.world.specs.Decided.{Decides, AreDecided, IsSubmitted}
 use Rattle.world.specs.Standing.{IsWorldOf, IsPublishedAt, IsUnpublishedAt}
 
 -- it goes on to a world that the new value stands for
@@ -78,3 +78,8 @@ pub record IsAnswer (code : Code) (events : List Event) (n : ℕ) (path : List �
   pub decided : AreDecided code.cluster (messages_of code.sent.items) values
   pub submitted : (v : Value) → In values v → (v ≡ []) ⊎ IsSubmitted events v
   pub answers : answer values n path ≡ Some page
+
+-- the values are decided by the messages, from instance 1 on, and each is the no-op or submitted by the events
+pub record AreOfRun (code : Code) (events : List Event) (values : List Value) : Type 0 where
+  pub decided : (k : ℕ) (v : Value) → slice_get values k ≡ Some v → Decides code.cluster (messages_of code.sent.items) (suc k) v
+  pub submitted : (v : Value) → In values v → (v ≡ []) ⊎ IsSubmitted events v

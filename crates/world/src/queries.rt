@@ -18,7 +18,7 @@ use wire::Message;
 impl World {
     ghost use Rattle.std.specs.Prelude.{ℕ};
     ghost use Rattle.world.specs.Standing.{IsWorldOf};
-    ghost use Rattle.world.specs.Steps.{Reached, IsAnswer};
+    ghost use Rattle.world.specs.Steps.{Reached, IsAnswer, AreOfRun};
     ghost use Rattle.world.specs.Telling.{mode_told, fed_at};
 
     /// Whose nodes they are.
@@ -71,7 +71,8 @@ impl World {
     /// How many values a node knows from the first instance on without a gap.
     pub fn known(&self, node: NodeId) -> u32
         requires { node ≤ self.now.cluster }
-        ensures { (w : AbstractWorld) → IsWorldOf self.now w → (values : List Bytes) × IsKnownPrefix (w.node node) values × (result ≡ length values) }
+        ensures is { (w : AbstractWorld) → IsWorldOf self.now w → (values : List Bytes) × IsKnownPrefix (w.node node) values × (result ≡ length values) }
+        ensures decided { (events : List AbstractEvent) (reached : Reached self.now events) → (values : List Bytes) × IsKnownPrefix (reached.world.node node) values × (result ≡ length values) × AreOfRun self.now events values }
     {
         match self.place(node) {
             Place::Bare(_) => 0,
@@ -84,6 +85,7 @@ impl World {
         requires { node ≤ self.now.cluster }
         ensures count { result ≡ release_count (effective (fed_at self.now node)) }
         ensures begins { (w : AbstractWorld) → IsWorldOf self.now w → BeginsKnown (fed_at self.now node) (w.node node) }
+        ensures decided { (events : List AbstractEvent) → Reached self.now events → AreOfRun self.now events (fed_at self.now node) }
     {
         match self.place(node) {
             Place::Bare(_) => 0,
