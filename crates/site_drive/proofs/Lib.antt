@@ -1,0 +1,3 @@
+pub mod Receiving
+pub mod Counting
+pub mod Giving

@@ -1,0 +1,134 @@
+-- What a drive does with its node: turn after turn, and then a tick or a question.
+use Rattle.std.specs.Prelude.{◌≡◌, ◌≢◌, ◌⊎◌, ℕ, zero, suc, ◌+◌, ◌≤◌, Option, Some, None, List, [], ◌∷◌, ◌++◌, length, map, take, flat_map}
+use Rattle.wire.specs.declared.message.Message.{Message}
+use Rattle.wire.specs.Decoding.{Spells}
+use Rattle.wire.specs.Spelling.{spelled}
+use Rattle.node.specs.declared.fault.NodeFault.{NodeFault}
+use Rattle.node.specs.declared.fault.NodeFault.TheVariants.{OutOfMemory, InstancesUsedUp}
+use Rattle.node.specs.declared.to.To.{To}
+use Rattle.node.specs.declared.to.To.TheVariants.{One, All}
+use Rattle.node.specs.Nodes.{Node, WantsTick, IsKnownPrefix}
+use Rattle.node.specs.Calls.{Call, tick, ask, deliver}
+use Rattle.node.specs.Endings.{Whole, Refused, Ends}
+use Rattle.node.specs.Standing.{ending_by}
+
+-- ---- turns
+
+-- what one receive gave: a datagram, or nothing
+abbrev pub Heard : Type 0
+Heard = Option (List ℕ)
+
+-- A turn at node p of n. A datagram that spells a message is delivered whole; any other counts as malformed, and does nothing
+abbrev pub Takes : ℕ → ℕ → Node → Heard → ℕ → List (To × Message) → Node → Type 0
+Takes n p s None malformed out next = (malformed ≡ 0) × (out ≡ []) × (next ≡ s)
+Takes n p s (Some bytes) malformed out next =
+    ((m : Message) × Spells n bytes m × Ends n p s (deliver m) Whole out next × (malformed ≡ 0))
+    ⊎ (((m : Message) → ¬ Spells n bytes m) × (malformed ≡ 1) × (out ≡ []) × (next ≡ s))
+
+-- turn after turn
+abbrev pub TakesAll : ℕ → ℕ → Node → List Heard → ℕ → List (To × Message) → Node → Type 0
+TakesAll n p s [] malformed out next = (malformed ≡ 0) × (out ≡ []) × (next ≡ s)
+TakesAll n p s (h ∷ hs) malformed out next =
+    (mid : Node) × (one : ℕ) × (others : ℕ) × (first : List (To × Message)) × (then : List (To × Message))
+    × Takes n p s h one first mid × TakesAll n p mid hs others then next
+    × (malformed ≡ one + others) × (out ≡ first ++ then)
+
+-- the datagrams among what was heard
+abbrev pub datagrams : List Heard → List (List ℕ)
+datagrams [] = []
+datagrams (None ∷ hs) = datagrams hs
+datagrams (Some bytes ∷ hs) = bytes ∷ datagrams hs
+
+-- ---- what the link is given
+
+-- the numbers from 1 to n
+abbrev pub up_to : ℕ → List ℕ
+up_to zero = []
+up_to (suc n) = up_to n ++ suc n ∷ []
+
+-- a message for one node goes to it, and a message for all to each node in order
+abbrev pub addressed : ℕ → To × Message → List (ℕ × List ℕ)
+addressed n (One p, m) = (p, spelled m) ∷ []
+addressed n (All, m) = map (λ p. (p, spelled m)) (up_to n)
+
+abbrev pub sent_of : ℕ → List (To × Message) → List (ℕ × List ℕ)
+sent_of n out = flat_map (addressed n) out
+
+-- ---- a node and its link
+
+-- a node, what its link has received, and what the link was given to send
+pub record Scene : Type 0 where
+  pub node : Node
+  pub received : List (List ℕ)
+  pub given : List (ℕ × List ℕ)
+
+-- So many turns: what was heard is taken turn after turn, and what is handed out is given to the link. After a turn all that is known without a gap is fed
+pub record Exchanges (n p turns malformed : ℕ) (fed : List (List ℕ)) (before after : Scene) : Type 0 where
+  pub heard : List Heard
+  pub out : List (To × Message)
+  pub turns_are : length heard ≡ turns
+  pub takes : TakesAll n p before.node heard malformed out after.node
+  pub received : after.received ≡ before.received ++ datagrams heard
+  pub given : after.given ≡ before.given ++ sent_of n out
+  pub fed_is : turns ≢ 0 → IsKnownPrefix after.node fed
+
+-- behind the last turn a tick where one is wanted, and else a question
+abbrev pub IsLastCall : Node → Call → Type 0
+IsLastCall s tick = WantsTick s
+IsLastCall s ask = ¬ WantsTick s
+IsLastCall s _ = ⊥
+
+-- that call is whole, or it is passed over, as every instance is known
+pub record Closes (n p : ℕ) (before after : Scene) : Type 0 where
+  pub call : Call
+  pub last : IsLastCall before.node call
+  pub out : List (To × Message)
+  pub ends : Ends n p before.node call Whole out after.node ⊎ Ends n p before.node call (Refused InstancesUsedUp) out after.node
+  pub received : after.received ≡ before.received
+  pub given : after.given ≡ before.given ++ sent_of n out
+
+-- a drive is its turns and the last call
+pub record Drives (n p turns malformed : ℕ) (fed : List (List ℕ)) (before after : Scene) : Type 0 where
+  pub mid : Scene
+  pub turns_first : Exchanges n p turns malformed fed before mid
+  pub then_closes : Closes n p mid after
+  pub fed_is : turns ≢ 0 → IsKnownPrefix after.node fed
+
+-- ---- given up
+
+-- what was given to the link is a beginning of what was handed out
+abbrev pub IsPartlyGiven : ℕ → List (To × Message) → Scene → Scene → Type 0
+IsPartlyGiven n out before after = (k : ℕ) × (after.given ≡ before.given ++ take k (sent_of n out))
+
+-- a turn that is not whole: its delivery ends by this fault; or memory is wanted to read the datagram, and it is not delivered
+abbrev pub BreaksOff : ℕ → ℕ → Node → List ℕ → NodeFault → Node → Type 0
+BreaksOff n p s bytes fault next =
+    (m : Message) × Spells n bytes m
+    × (Ends n p s (deliver m) (ending_by fault) [] next ⊎ ((fault ≡ OutOfMemory) × (next ≡ s)))
+
+-- Given up in a turn: turns that were taken, and then one that broke off; or memory was wanted to publish or to send what was handed out
+pub record GivesUp (n p turns : ℕ) (fault : NodeFault) (before after : Scene) : Type 0 where
+  pub heard : List Heard
+  pub malformed : ℕ
+  pub out : List (To × Message)
+  pub mid : Node
+  pub taken : TakesAll n p before.node heard malformed out mid
+  pub given : IsPartlyGiven n out before after
+  pub how :
+    ((bytes : List ℕ) × BreaksOff n p mid bytes fault after.node × (after.received ≡ before.received ++ datagrams (heard ++ Some bytes ∷ [])) × (suc (length heard) ≤ turns))
+    ⊎ ((fault ≡ OutOfMemory) × (after.node ≡ mid) × (after.received ≡ before.received ++ datagrams heard) × (length heard ≤ turns))
+
+-- given up at the last call: it ended by this fault, or memory was wanted to send what it handed out
+pub record GivesUpLast (n p : ℕ) (fault : NodeFault) (before after : Scene) : Type 0 where
+  pub call : Call
+  pub last : IsLastCall before.node call
+  pub out : List (To × Message)
+  pub ends : Ends n p before.node call (ending_by fault) out after.node ⊎ ((fault ≡ OutOfMemory) × Ends n p before.node call Whole out after.node)
+  pub received : after.received ≡ before.received
+  pub given : IsPartlyGiven n out before after
+
+-- given up in a turn, or at the last call behind all of them
+abbrev pub GivesUpDriving : ℕ → ℕ → ℕ → NodeFault → Scene → Scene → Type 0
+GivesUpDriving n p turns fault before after =
+    GivesUp n p turns fault before after
+    ⊎ ((mid : Scene) × (malformed : ℕ) × (fed : List (List ℕ)) × Exchanges n p turns malformed fed before mid × GivesUpLast n p fault mid after)

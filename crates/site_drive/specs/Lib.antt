@@ -1,0 +1,5 @@
+pub mod Links
+pub mod Memory
+pub mod Sending
+pub mod Drives
+pub mod Leading

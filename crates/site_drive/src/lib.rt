@@ -1,0 +1,17 @@
+//! A node at work: messages between nodes over a link, and turns that take what was received and send what is handed out.
+#![tactic(auto)]
+
+mod drive;
+mod driven;
+mod link;
+mod memory;
+mod queues;
+mod sending;
+mod turns;
+mod udp;
+
+// pub use drive::{drive, exchange};
+// pub use driven::Driven;
+pub use link::{Link, LinkFailed};
+pub use memory::MemLink;
+pub use udp::UdpLink;
