@@ -29,7 +29,7 @@ in_at [] k x below got = absurd (omega (arith, below))
 in_at (y ∷ ys) zero x below got = inl (sym got)
 in_at (y ∷ ys) (suc k) x below got = inr (in_at ys k x (omega (arith, below)) got)
 
-take_past : {X : Type 0} (xs : List X) (k : ℕ) → length xs ≤ k → take k xs ≡ xs
+pub take_past : {X : Type 0} (xs : List X) (k : ℕ) → length xs ≤ k → take k xs ≡ xs
 take_past [] zero past = refl
 take_past [] (suc k) past = refl
 take_past (y ∷ ys) zero past = absurd (omega (arith, past))

@@ -1,3 +1,5 @@
 pub mod Receiving
 pub mod Counting
+pub mod Results
 pub mod Giving
+pub mod Turning

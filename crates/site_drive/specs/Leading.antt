@@ -1,17 +1,37 @@
 -- How calls over a node and a link lead from scene to scene.
-use Rattle.std.specs.Prelude.{ℕ, List}
+use Rattle.std.specs.Prelude.{◌≡◌, ℕ, Option, Some, None, List, ◌++◌, take, length, ⊤}
 use Rattle.site_disk.specs.Model.{DiskState}
 use Rattle.node.specs.declared.running.Node.{Node as Running}
+use Rattle.node.specs.Nodes.{Node}
 use Rattle.node.specs.Standing.{IsNodeOf, IsOnDisk}
-use Rattle.site_drive.specs.Drives.{Scene}
+use Rattle.site_drive.specs.Drives.{Heard, Scene}
 
--- the values stand for the scene
+-- what the disk keeps of one node it keeps of the next
+abbrev pub KeepsRecord : {D : Type 0} → (D → DiskState → Type 0) → Running D → Running D → Node → Node → Type 0
+KeepsRecord stands_for old new s next = (d : DiskState) → IsOnDisk stands_for old s d → (e : DiskState) × IsOnDisk stands_for new next e
+
+-- from each node that the old value stands for, this leads to one that the new value stands for
+pub record NodeLeads {D : Type 0} (stands_for : D → DiskState → Type 0) (old new : Running D) (How : Node → Node → Type 0) : Type 0 where
+  pub leads : (s : Node) → IsNodeOf old s → (next : Node) × How s next × IsNodeOf new next × KeepsRecord stands_for old new s next
+
+-- node and link stand for the scene
 pub record IsAt {D L : Type 0} (received : L → List (List ℕ) → Type 0) (given : L → List (ℕ × List ℕ) → Type 0) (code : Running D) (link : L) (x : Scene) : Type 0 where
   pub node : IsNodeOf code x.node
   pub heard : received link x.received
   pub told : given link x.given
 
--- From each scene that the old values stand for, this leads to one that the new values stand for; and the disk keeps its node's record, as it did before
+-- the same of a node and its link
 pub record LeadsTo {D L : Type 0} (stands_for : D → DiskState → Type 0) (received : L → List (List ℕ) → Type 0) (given : L → List (ℕ × List ℕ) → Type 0) (old new : Running D) (before after : L) (How : Scene → Scene → Type 0) : Type 0 where
-  pub leads : (x : Scene) → IsAt received given old before x
-    → (y : Scene) × How x y × IsAt received given new after y × ((d : DiskState) → IsOnDisk stands_for old x.node d → (e : DiskState) × IsOnDisk stands_for new y.node e)
+  pub leads : (x : Scene) → IsAt received given old before x → (y : Scene) × How x y × IsAt received given new after y × KeepsRecord stands_for old new x.node y.node
+
+-- whose node it is stays, and what was published grows at its end alone
+pub record StaysWhose {D : Type 0} (old new : Running D) : Type 0 where
+  pub me : new.me ≡ old.me
+  pub cluster : new.cluster ≡ old.cluster
+  pub more : (vs : List (List ℕ)) × (new.releases ≡ old.releases ++ vs)
+
+-- what a receive left in a buffer: nothing, or as much of a datagram as the buffer holds
+abbrev pub IsHeldAs : Option ℕ → List ℕ → Heard → Type 0
+IsHeldAs None buffer None = ⊤
+IsHeldAs (Some n) buffer (Some d) = take n buffer ≡ take (length buffer) d
+IsHeldAs _ buffer _ = ⊥

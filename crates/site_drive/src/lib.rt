@@ -1,6 +1,7 @@
 //! A node at work: messages between nodes over a link, and turns that take what was received and send what is handed out.
 #![tactic(auto)]
 
+mod desk;
 mod drive;
 mod driven;
 mod link;

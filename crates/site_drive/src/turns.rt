@@ -1,1 +1,94 @@
-//! Turns.
+//! Turns: what is received is delivered, the node publishes, and what it hands out is sent.
+
+ghost use Rattle.std.specs.Prelude.{◌≡◌, ◌≤◌, ◌++◌, ◌∷◌, [], ℕ, List, length, take, Some, IfOk, IfErr, IfSome, OnOk};
+ghost use Rattle.site_ids.specs.Lists.{In};
+ghost use Rattle.wire.specs.declared.message.Message.{Message};
+ghost use Rattle.wire.specs.Messages.{Fits};
+ghost use Rattle.node.specs.Nodes.{Node as AbstractNode};
+ghost use Rattle.node.specs.declared.to.To.{To};
+ghost use Rattle.node.specs.Standing.{IsNodeOf, KeepsOthers};
+ghost use Rattle.site_drive.specs.Links.{RoseBy};
+ghost use Rattle.site_drive.specs.Sending.{Counted};
+ghost use Rattle.site_drive.specs.Drives.{Heard, datagrams, Takes, BreaksOff, Exchanges, GivesUp};
+ghost use Rattle.site_drive.specs.Leading.{LeadsTo, NodeLeads, StaysWhose, IsHeldAs};
+
+use crate::{Link, LinkFailed};
+use crate::desk::Desk;
+use crate::sending::send_all;
+use node::{Node, NodeFault};
+use site_disk::Disk;
+use wire::{WireFault, decode};
+
+impl Desk {
+    /// Receives once: how many bytes came. A failure is counted, and nothing came.
+    fn hear<L: Link>(&mut self, link: &mut L) -> Option<usize>
+        ensures bound { IfSome result (λ n. n ≤ length self.new.datagram.items) }
+        ensures heard { (ds : List (List ℕ)) → L.received link.old ds → (h : Heard) × L.received link.new (ds ++ datagrams (h ∷ [])) × IsHeldAs result self.new.datagram.items h }
+        ensures given { (gs : List (ℕ × List ℕ)) → L.given link.old gs → L.given link.new gs }
+        ensures tried { RoseBy 1 (L.tried link.old) (L.tried link.new) }
+        ensures counted { Counted self.old.failed self.new.failed (L.failed link.old) (L.failed link.new) }
+        ensures outbox { self.new.outbox ≡ self.old.outbox }
+    {
+        match link.receive(self.datagram.as_mut_slice()) {
+            Ok(came) => came,
+            Err(LinkFailed) => {
+                self.failed = self.failed.saturating_add(1);
+                None
+            }
+        }
+    }
+
+    /// Delivers what came: how many datagrams were malformed, one or none.
+    fn take_in<D: Disk>(&mut self, node: &mut Node<D>, came: Option<usize>) -> Result<u32, NodeFault>
+        requires bound { IfSome came (λ n. n ≤ length self.old.datagram.items) }
+        requires empty { self.old.outbox.items ≡ [] }
+        ensures one { IfOk result (λ malformed. malformed ≤ 1) }
+        ensures taken { IfOk result (λ malformed. (h : Heard) → IsHeldAs came self.old.datagram.items h → NodeLeads D.stands_for node.old node.new (λ s next.
+            Takes node.old.cluster node.old.me s h malformed self.new.outbox.items next × ((x : To × Message) → In self.new.outbox.items x → Fits x.1))) }
+        ensures broken { IfErr result (λ fault. (h : Heard) → IsHeldAs came self.old.datagram.items h → NodeLeads D.stands_for node.old node.new (λ s next.
+            (d : List ℕ) × (h ≡ Some d) × BreaksOff node.old.cluster node.old.me s d fault next)) }
+        ensures others { KeepsOthers node.old node.new }
+        ensures counted { self.new.failed ≡ self.old.failed }
+    {
+        let Some(n) = came else {
+            return Ok(0);
+        };
+        match decode(self.alloc, &self.datagram[..n], node.cluster()) {
+            Ok(message) => match node.deliver(&message, &mut self.outbox) {
+                Ok(()) => Ok(0),
+                Err(fault) => Err(fault),
+            },
+            Err(WireFault::Malformed) => Ok(1),
+            Err(WireFault::OutOfMemory) => Err(NodeFault::OutOfMemory),
+        }
+    }
+
+    /// One turn: how many datagrams were malformed, one or none.
+    pub fn turn<D: Disk, L: Link>(
+        &mut self,
+        node: &mut Node<D>,
+        link: &mut L,
+    ) -> Result<u32, NodeFault>
+        requires { self.old.outbox.items ≡ [] }
+        ensures one { IfOk result (λ malformed. malformed ≤ 1) }
+        ensures ok { IfOk result (λ malformed. LeadsTo D.stands_for L.received L.given node.old node.new link.old link.new (Exchanges node.old.cluster node.old.me 1 malformed node.new.releases)) }
+        ensures fault { IfErr result (λ fault. LeadsTo D.stands_for L.received L.given node.old node.new link.old link.new (GivesUp node.old.cluster node.old.me 1 fault)) }
+        ensures empty { OnOk result (self.new.outbox.items ≡ []) }
+        ensures whose { StaysWhose node.old node.new }
+        ensures tried { RoseBy 1 (L.tried link.old) (L.tried link.new) }
+        ensures counted { Counted self.old.failed self.new.failed (L.failed link.old) (L.failed link.new) }
+    {
+        let came = self.hear(link);
+        let malformed = self.take_in(node, came)?;
+        node.publish()?;
+        send_all(
+            link,
+            node.cluster(),
+            &self.outbox,
+            &mut self.spelling,
+            &mut self.failed,
+        )?;
+        self.outbox.clear();
+        Ok(malformed)
+    }
+}
