@@ -3,3 +3,4 @@ pub mod Counting
 pub mod Results
 pub mod Giving
 pub mod Turning
+pub mod ManyTurns

@@ -79,11 +79,12 @@ IsLastCall s ask = ¬ WantsTick s
 IsLastCall s _ = ⊥
 
 -- that call is whole, or it is passed over, as every instance is known
+abbrev pub EndsTurns : ℕ → ℕ → Node → List (To × Message) → Node → Type 0
+EndsTurns n p s out next = (call : Call) × IsLastCall s call × (Ends n p s call Whole out next ⊎ Ends n p s call (Refused InstancesUsedUp) out next)
+
 pub record Closes (n p : ℕ) (before after : Scene) : Type 0 where
-  pub call : Call
-  pub last : IsLastCall before.node call
   pub out : List (To × Message)
-  pub ends : Ends n p before.node call Whole out after.node ⊎ Ends n p before.node call (Refused InstancesUsedUp) out after.node
+  pub ends : EndsTurns n p before.node out after.node
   pub received : after.received ≡ before.received
   pub given : after.given ≡ before.given ++ sent_of n out
 
@@ -120,10 +121,10 @@ pub record GivesUp (n p turns : ℕ) (fault : NodeFault) (before after : Scene) 
 
 -- given up at the last call: it ended by this fault, or memory was wanted to send what it handed out
 pub record GivesUpLast (n p : ℕ) (fault : NodeFault) (before after : Scene) : Type 0 where
-  pub call : Call
-  pub last : IsLastCall before.node call
   pub out : List (To × Message)
-  pub ends : Ends n p before.node call (ending_by fault) out after.node ⊎ ((fault ≡ OutOfMemory) × Ends n p before.node call Whole out after.node)
+  pub ends :
+    ((call : Call) × IsLastCall before.node call × Ends n p before.node call (ending_by fault) out after.node)
+    ⊎ ((fault ≡ OutOfMemory) × EndsTurns n p before.node out after.node)
   pub received : after.received ≡ before.received
   pub given : IsPartlyGiven n out before after
 

@@ -1,1 +1,95 @@
-//! Drives.
+//! Turns, and the call behind the last one.
+
+ghost use Rattle.std.specs.Prelude.{◌≡◌, ◌≤◌, ◌≢◌, [], ℕ, List, IfOk, IfErr, OnOk, OnErr};
+ghost use Rattle.site_ids.specs.Lists.{In};
+ghost use Rattle.wire.specs.declared.message.Message.{Message};
+ghost use Rattle.wire.specs.Messages.{Fits};
+ghost use Rattle.node.specs.Calls.{Call};
+ghost use Rattle.node.specs.Endings.{Ends};
+ghost use Rattle.node.specs.Standing.{KeepsOthers, ending_by};
+ghost use Rattle.node.specs.declared.to.To.{To};
+ghost use Rattle.site_drive.specs.Links.{RoseBy};
+ghost use Rattle.site_drive.specs.Sending.{Counted};
+ghost use Rattle.site_drive.specs.Drives.{Exchanges, GivesUp, IsLastCall, EndsTurns, Drives, GivesUpDriving};
+ghost use Rattle.site_drive.specs.Leading.{LeadsTo, NodeLeads, StaysWhose};
+
+use crate::desk::Desk;
+use crate::sending::send_all;
+use crate::{Driven, Link};
+use node::{Node, NodeFault};
+use site_disk::Disk;
+use std::alloc::Global;
+
+impl Desk {
+    /// So many turns: how many datagrams were malformed.
+    fn take_turns<D: Disk, L: Link>(
+        &mut self,
+        node: &mut Node<D>,
+        link: &mut L,
+        turns: u32,
+    ) -> Result<u32, NodeFault>
+        requires { self.old.outbox.items ≡ [] }
+        ensures ok { IfOk result (λ malformed. LeadsTo D.stands_for L.received L.given node.old node.new link.old link.new (Exchanges node.old.cluster node.old.me turns malformed node.new.releases)) }
+        ensures fault { IfErr result (λ fault. LeadsTo D.stands_for L.received L.given node.old node.new link.old link.new (GivesUp node.old.cluster node.old.me turns fault)) }
+        ensures empty { OnOk result (self.new.outbox.items ≡ []) }
+        ensures whose { StaysWhose node.old node.new }
+        ensures tried { OnOk result (RoseBy turns (L.tried link.old) (L.tried link.new)) }
+        ensures tried_fewer { OnErr result ((made : ℕ) × (made ≤ turns) × RoseBy made (L.tried link.old) (L.tried link.new)) }
+        ensures counted { Counted self.old.failed self.new.failed (L.failed link.old) (L.failed link.new) }
+    {
+        let mut malformed = 0;
+        let mut made = 0;
+        while made < turns {
+            malformed += self.turn(node, link)?;
+            made += 1;
+        }
+        Ok(malformed)
+    }
+}
+
+impl Desk {
+    /// Ticks where a tick is wanted, and else asks. That every instance is known is passed over.
+    fn last_call<D: Disk>(&mut self, node: &mut Node<D>) -> Result<(), NodeFault>
+        requires { self.old.outbox.items ≡ [] }
+        ensures ok { OnOk result (NodeLeads D.stands_for node.old node.new (λ s next. EndsTurns node.old.cluster node.old.me s self.new.outbox.items next × ((x : To × Message) → In self.new.outbox.items x → Fits x.1))) }
+        ensures fault { IfErr result (λ fault. NodeLeads D.stands_for node.old node.new (λ s next. (call : Call) × IsLastCall s call × Ends node.old.cluster node.old.me s call (ending_by fault) [] next)) }
+        ensures other { IfErr result (λ fault. fault ≢ NodeFault.InstancesUsedUp) }
+        ensures others { KeepsOthers node.old node.new }
+        ensures counted { self.new.failed ≡ self.old.failed }
+    {
+        let ended = if node.wants_tick() {
+            node.tick(&mut self.outbox)
+        } else {
+            node.ask(&mut self.outbox)
+        };
+        match ended {
+            Ok(()) | Err(NodeFault::InstancesUsedUp) => Ok(()),
+            Err(fault) => Err(fault),
+        }
+    }
+}
+
+/// So many turns: each receives at most one datagram, delivers what it spells, publishes, and sends what is handed out.
+///
+/// A datagram that spells no message and a call of the link that fails are counted and passed over, as losses.
+pub fn exchange<D: Disk, L: Link>(
+    alloc: Global,
+    node: &mut Node<D>,
+    link: &mut L,
+    turns: u32,
+) -> Result<Driven, NodeFault>
+    ensures ok { IfOk result (λ driven. LeadsTo D.stands_for L.received L.given node.old node.new link.old link.new (Exchanges node.old.cluster node.old.me turns driven.malformed node.new.releases)) }
+    ensures fault { IfErr result (λ fault. LeadsTo D.stands_for L.received L.given node.old node.new link.old link.new (GivesUp node.old.cluster node.old.me turns fault)) }
+    ensures whose { StaysWhose node.old node.new }
+    ensures tried { OnOk result (RoseBy turns (L.tried link.old) (L.tried link.new)) }
+    ensures tried_fewer { OnErr result ((made : ℕ) × (made ≤ turns) × RoseBy made (L.tried link.old) (L.tried link.new)) }
+    ensures failed { IfOk result (λ driven. RoseBy driven.failed (L.failed link.old) (L.failed link.new)) }
+    ensures failed_too { OnErr result ((calls : ℕ) × RoseBy calls (L.failed link.old) (L.failed link.new)) }
+{
+    let mut desk = Desk::new(alloc)?;
+    let malformed = desk.take_turns(node, link, turns)?;
+    Ok(Driven {
+        malformed,
+        failed: desk.failed,
+    })
+}

@@ -11,8 +11,8 @@ mod sending;
 mod turns;
 mod udp;
 
-// pub use drive::{drive, exchange};
-// pub use driven::Driven;
+pub use drive::exchange;
+pub use driven::Driven;
 pub use link::{Link, LinkFailed};
 pub use memory::MemLink;
 pub use udp::UdpLink;
