@@ -4,3 +4,4 @@ pub mod Results
 pub mod Giving
 pub mod Turning
 pub mod ManyTurns
+pub mod Closing

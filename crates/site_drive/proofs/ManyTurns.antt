@@ -132,3 +132,21 @@ stays_on old mid new first then = record {
   cluster = then.cluster ∙ first.cluster;
   more = (first.more.0 ++ then.more.0, then.more.1 ∙ ap (λ l. l ++ then.more.0) first.more.1 ∙ append_assoc old.releases first.more.0 then.more.0);
 }
+
+-- memory was wanted before the first turn
+pub none_taken : {D L : Type 0} (stands_for : D → DiskState → Type 0) (received : L → List (List ℕ) → Type 0) (given : L → List (ℕ × List ℕ) → Type 0) (code : Running D) (link : L) (n p turns : ℕ)
+    → LeadsTo stands_for received given code code link link (GivesUp n p turns fault.OutOfMemory)
+none_taken stands_for received given code link n p turns = record {
+  leads = λ x at.
+    (x,
+    record {
+      heard = [];
+      malformed = 0;
+      out = [];
+      mid = x.node;
+      taken = (refl, refl, refl);
+      given = (0, sym (append-nil x.given));
+      how = inr (refl, refl, sym (append-nil x.received), omega arith);
+    },
+    at, λ d on. (d, on));
+}

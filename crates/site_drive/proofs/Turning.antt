@@ -58,7 +58,7 @@ module _ (n k : ℕ) (d : List ℕ) (room : k ≡ MAX_MESSAGE + 1) where
 
 -- ---- a delivery
 
-none_out : (n p : ℕ) (s next : Node) (call : Call) (out : List (To × Message)) (why : NodeFault) → Ends n p s call (ending_by why) out next → Ends n p s call (ending_by why) [] next
+pub none_out : (n p : ℕ) (s next : Node) (call : Call) (out : List (To × Message)) (why : NodeFault) → Ends n p s call (ending_by why) out next → Ends n p s call (ending_by why) [] next
 none_out n p s next call out fault.OutOfMemory h = subst (λ l. Ends n p s call (ending_by fault.OutOfMemory) l next) h.nothing h
 none_out n p s next call out fault.Device h = subst (λ l. Ends n p s call (ending_by fault.Device) l next) h.nothing h
 none_out n p s next call out fault.Stopped h = subst (λ l. Ends n p s call (ending_by fault.Stopped) l next) h.nothing h

@@ -2,7 +2,7 @@
 #![tactic(auto)]
 
 mod desk;
-mod drive;
+mod driving;
 mod driven;
 mod link;
 mod memory;
@@ -11,7 +11,7 @@ mod sending;
 mod turns;
 mod udp;
 
-pub use drive::exchange;
+pub use driving::{drive, exchange};
 pub use driven::Driven;
 pub use link::{Link, LinkFailed};
 pub use memory::MemLink;

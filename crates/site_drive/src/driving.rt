@@ -6,11 +6,11 @@ ghost use Rattle.wire.specs.declared.message.Message.{Message};
 ghost use Rattle.wire.specs.Messages.{Fits};
 ghost use Rattle.node.specs.Calls.{Call};
 ghost use Rattle.node.specs.Endings.{Ends};
-ghost use Rattle.node.specs.Standing.{KeepsOthers, ending_by};
+ghost use Rattle.node.specs.Standing.{KeepsOthers, ending_by, ending_of};
 ghost use Rattle.node.specs.declared.to.To.{To};
 ghost use Rattle.site_drive.specs.Links.{RoseBy};
 ghost use Rattle.site_drive.specs.Sending.{Counted};
-ghost use Rattle.site_drive.specs.Drives.{Exchanges, GivesUp, IsLastCall, EndsTurns, Drives, GivesUpDriving};
+ghost use Rattle.site_drive.specs.Drives.{Exchanges, GivesUp, IsLastCall, EndsTurns, Closes, GivesUpLast, Drives, GivesUpDriving};
 ghost use Rattle.site_drive.specs.Leading.{LeadsTo, NodeLeads, StaysWhose};
 
 use crate::desk::Desk;
@@ -48,7 +48,22 @@ impl Desk {
 }
 
 impl Desk {
-    /// Ticks where a tick is wanted, and else asks. That every instance is known is passed over.
+    /// Ticks where a tick is wanted, and else asks.
+    fn tick_or_ask<D: Disk>(&mut self, node: &mut Node<D>) -> Result<(), NodeFault>
+        requires { self.old.outbox.items ≡ [] }
+        ensures event { NodeLeads D.stands_for node.old node.new (λ s next. (call : Call) × IsLastCall s call × Ends node.old.cluster node.old.me s call (ending_of result) self.new.outbox.items next
+            × ((x : To × Message) → In self.new.outbox.items x → Fits x.1)) }
+        ensures others { KeepsOthers node.old node.new }
+        ensures counted { self.new.failed ≡ self.old.failed }
+    {
+        if node.wants_tick() {
+            node.tick(&mut self.outbox)
+        } else {
+            node.ask(&mut self.outbox)
+        }
+    }
+
+    /// The call behind the last turn. That every instance is known is passed over.
     fn last_call<D: Disk>(&mut self, node: &mut Node<D>) -> Result<(), NodeFault>
         requires { self.old.outbox.items ≡ [] }
         ensures ok { OnOk result (NodeLeads D.stands_for node.old node.new (λ s next. EndsTurns node.old.cluster node.old.me s self.new.outbox.items next × ((x : To × Message) → In self.new.outbox.items x → Fits x.1))) }
@@ -57,13 +72,9 @@ impl Desk {
         ensures others { KeepsOthers node.old node.new }
         ensures counted { self.new.failed ≡ self.old.failed }
     {
-        let ended = if node.wants_tick() {
-            node.tick(&mut self.outbox)
-        } else {
-            node.ask(&mut self.outbox)
-        };
-        match ended {
-            Ok(()) | Err(NodeFault::InstancesUsedUp) => Ok(()),
+        match self.tick_or_ask(node) {
+            Ok(()) => Ok(()),
+            Err(fault) if fault == NodeFault::InstancesUsedUp => Ok(()),
             Err(fault) => Err(fault),
         }
     }
@@ -88,6 +99,53 @@ pub fn exchange<D: Disk, L: Link>(
 {
     let mut desk = Desk::new(alloc)?;
     let malformed = desk.take_turns(node, link, turns)?;
+    Ok(Driven {
+        malformed,
+        failed: desk.failed,
+    })
+}
+
+impl Desk {
+    /// The call behind the last turn, and what it hands out is sent.
+    fn close<D: Disk, L: Link>(&mut self, node: &mut Node<D>, link: &mut L) -> Result<(), NodeFault>
+        requires { self.old.outbox.items ≡ [] }
+        ensures ok { OnOk result (LeadsTo D.stands_for L.received L.given node.old node.new link.old link.new (Closes node.old.cluster node.old.me)) }
+        ensures fault { IfErr result (λ fault. LeadsTo D.stands_for L.received L.given node.old node.new link.old link.new (GivesUpLast node.old.cluster node.old.me fault)) }
+        ensures other { IfErr result (λ fault. fault ≢ NodeFault.InstancesUsedUp) }
+        ensures others { KeepsOthers node.old node.new }
+        ensures tried { L.tried link.new ≡ L.tried link.old }
+        ensures counted { Counted self.old.failed self.new.failed (L.failed link.old) (L.failed link.new) }
+    {
+        self.last_call(node)?;
+        send_all(
+            link,
+            node.cluster(),
+            &self.outbox,
+            &mut self.spelling,
+            &mut self.failed,
+        )?;
+        Ok(())
+    }
+}
+
+/// Turns as those of `exchange`, and then a tick where one is wanted, and else a question.
+pub fn drive<D: Disk, L: Link>(
+    alloc: Global,
+    node: &mut Node<D>,
+    link: &mut L,
+    turns: u32,
+) -> Result<Driven, NodeFault>
+    ensures ok { IfOk result (λ driven. LeadsTo D.stands_for L.received L.given node.old node.new link.old link.new (Drives node.old.cluster node.old.me turns driven.malformed node.new.releases)) }
+    ensures fault { IfErr result (λ fault. LeadsTo D.stands_for L.received L.given node.old node.new link.old link.new (GivesUpDriving node.old.cluster node.old.me turns fault)) }
+    ensures whose { StaysWhose node.old node.new }
+    ensures tried { OnOk result (RoseBy turns (L.tried link.old) (L.tried link.new)) }
+    ensures tried_fewer { OnErr result ((made : ℕ) × (made ≤ turns) × RoseBy made (L.tried link.old) (L.tried link.new)) }
+    ensures failed { IfOk result (λ driven. RoseBy driven.failed (L.failed link.old) (L.failed link.new)) }
+    ensures failed_too { OnErr result ((calls : ℕ) × RoseBy calls (L.failed link.old) (L.failed link.new)) }
+{
+    let mut desk = Desk::new(alloc)?;
+    let malformed = desk.take_turns(node, link, turns)?;
+    desk.close(node, link)?;
     Ok(Driven {
         malformed,
         failed: desk.failed,
