@@ -58,6 +58,13 @@ RunEnds old new events (Ok x) = LeadsTo old new (λ w after. TakesAll old.cluste
 RunEnds old new events (Err (OutOfMemory k)) = LeadsTo old new (λ w after. (wants : WantsMemory old.cluster w events k after) × PublishedAsFar old.cluster events k wants.taken after new wants.ended)
 RunEnds old new events (Err (BadEvent k)) = LeadsTo old new (λ w after. MeetsBadEvent old.cluster w events k after × ArePublished new after (take k events))
 
+-- ---- from one value to a later one
+
+-- a schedule leads from each world that the old value stands for to one that the new value stands for
+pub record Follows (old new : Code) : Type 0 where
+  pub cluster : new.cluster ≡ old.cluster
+  pub leads : (w : World) → IsWorldOf old w → (events : List Event) × (after : World) × Runs old.cluster w events after × IsWorldOf new after
+
 -- ---- since the start
 
 -- these events, from the start on, lead to a world that the value stands for

@@ -27,7 +27,7 @@ impl World {
     ghost use Rattle.world.specs.declared.event.Event.{Event as AbstractEvent};
     ghost use Rattle.world.specs.Worlds.{start};
     ghost use Rattle.world.specs.Standing.{IsWorldOf};
-    ghost use Rattle.world.specs.Steps.{StepEnds, RunEnds, Reached, Reaches};
+    ghost use Rattle.world.specs.Steps.{StepEnds, RunEnds, Follows, Reached, Reaches};
 
     /// The nodes of a cluster, each opened over an empty record. No message was handed out.
     pub fn new(alloc: Global, cluster: Cluster) -> Result<World, AllocError>
@@ -51,6 +51,7 @@ impl World {
     /// Takes the events in order, until one is a bad one or memory is wanted.
     pub fn run(&mut self, events: &[Event]) -> Result<(), WorldFault>
         ensures ends { RunEnds self.old self.new events.now result }
+        ensures follows { Follows self.old self.new }
         ensures reached { (earlier : List AbstractEvent) → Reached self.old earlier → Reaches self.new earlier events.now result }
         ensures grows { OnlyGrows self.old.sent.items self.new.sent.items }
         ensures whose { self.new.cluster ≡ self.old.cluster }
