@@ -3,7 +3,7 @@ ghost use Rattle.std.specs.Prelude.{◌≡◌, IfOk};
 ghost use Rattle.site_ids.specs.Ids.{IsNode};
 
 use crate::halt::Halt;
-use durable::Record;
+use durable::{Record, RecordFault};
 use node::{Node, NodeFault, Outbox, Submitted};
 use site_disk::MemDisk;
 use site_ids::{Cluster, Instance, NodeId, Ticket};
@@ -25,8 +25,10 @@ pub(crate) struct Peer {
 /// A record that was just made. A growth that was refused leaves a beginning of it behind, so it is made on another disk then.
 fn formatted(alloc: Global, cluster: Cluster, me: NodeId) -> Result<MemDisk, Halt> {
     let mut disk = MemDisk::new(alloc);
-    if Record::format(cluster, me, &mut disk).is_ok() {
-        return Ok(disk);
+    match Record::format(cluster, me, &mut disk) {
+        Ok(()) => return Ok(disk),
+        Err(RecordFault::Device) => {}
+        Err(fault) => return Err(Halt::Record(fault)),
     }
     let mut disk = MemDisk::new(alloc);
     Record::format(cluster, me, &mut disk)?;
@@ -40,7 +42,8 @@ fn opened(alloc: Global, cluster: Cluster, me: NodeId, disk: MemDisk) -> Result<
 {
     let disk = match Node::open(alloc, cluster, me, disk) {
         Ok(node) => return Ok(node),
-        Err((_fault, disk)) => disk,
+        Err((RecordFault::OutOfMemory | RecordFault::Device, disk)) => disk,
+        Err((fault, _disk)) => return Err(Halt::Record(fault)),
     };
     match Node::open(alloc, cluster, me, disk) {
         Ok(node) => Ok(node),

@@ -1,5 +1,5 @@
 //! Each call with one growth refused, as `tools/refuse-growths` runs this: it answers as ever, or that memory was refused, and then the next try
-//! answers as ever. Where the disk in memory found none its call failed, so the node is opened again.
+//! answers as ever. Where the disk in memory found none its call failed, so the node is opened again; an opening is tried twice.
 use crate::halt::Halt;
 use crate::peer::Peer;
 use crate::samples::{
@@ -147,6 +147,17 @@ fn requests(rt: HostRuntime) -> Result<(), Fail> {
     let steps = [Step::Hear(Said::Propose), Step::Hear(Said::Prepare)];
     let node = after(&rt, rt.alloc(), &steps)?;
     assert!(rt; node.out().len() == 2 && told_vote(node.out()) == Some(true));
+    Ok(())
+}
+
+#[test]
+fn openings(rt: HostRuntime) -> Result<(), Fail> {
+    let steps = [Step::Tick, Step::Hear(Said::Propose)];
+    let node = after(&rt, rt.alloc(), &steps)?.again(None)?;
+    let node = stepped(&rt, node, Step::Hear(Said::Prepare))?;
+    assert_eq!(rt; told_vote(node.out()), Some(true));
+    let node = stepped(&rt, node, Step::Tick)?;
+    assert!(rt; prepared_round(node.out()).is_some_and(|round| 1 < round));
     Ok(())
 }
 
