@@ -5,7 +5,7 @@ use Rattle.std.specs.Result.{OnOk, OnErr}
 use Rattle.site_disk.specs.Model.{DiskState, MayLeave, moment, at_rest, after_sync}
 use Rattle.site_disk.specs.Memory.{MemoryStandsFor}
 use Rattle.site_disk.specs.declared.memory.MemDisk.{MemDisk}
-use Rattle.site_ids.specs.Majorities.{In}
+use Rattle.site_ids.specs.Lists.{In}
 use Rattle.wire.specs.declared.message.Message.{Message}
 use Rattle.wire.specs.Messages.{IsMessage}
 use Rattle.durable.specs.Append.{IsSettled}

@@ -3,7 +3,7 @@ use Rattle.std.specs.Prelude.{◌≡◌, ◌≢◌, ℕ, suc, Some, slice_get, �
 use Rattle.site_disk.specs.Model.{DiskState}
 use Rattle.site_disk.specs.Memory.{MemoryStandsFor}
 use Rattle.site_disk.specs.declared.memory.MemDisk.{MemDisk}
-use Rattle.site_ids.specs.Majorities.{In}
+use Rattle.site_ids.specs.Lists.{In}
 use Rattle.wire.specs.declared.message.Message.{Message}
 use Rattle.wire.specs.Messages.{IsMessage}
 use Rattle.durable.specs.Keeping.{Keeps}

@@ -1,7 +1,7 @@
 -- How a step of a run ends, and a run.
 use Rattle.std.specs.Prelude.{◌≡◌, ◌≢◌, ◌⊎◌, ℕ, suc, Some, Result, Ok, Err, List, [], ◌∷◌, ◌++◌, take, slice_get}
 use mathlib.Core.Logic.{inl, inr}
-use Rattle.site_ids.specs.Majorities.{In}
+use Rattle.site_ids.specs.Lists.{In}
 use Rattle.node.specs.Nodes.{Value}
 use Rattle.node.specs.Effects.{messages_of}
 use Rattle.release.specs.Page.{Page, answer}
