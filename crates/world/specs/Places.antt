@@ -17,6 +17,7 @@ use Rattle.world.specs.declared.places.Place.{Place}
 use Rattle.world.specs.Taking.{IsTaken, node_of}
 use Rattle.world.specs.Standing.{IsPlaceOf, HasPublished}
 
+-- what is handed out, and to whom
 abbrev pub Handed : Type 0
 Handed = List (To × Message)
 
@@ -65,10 +66,11 @@ pub record RefusesOpening (n p : ℕ) (old new : Place) : Type 0 where
 abbrev pub CallTurns : ℕ → ℕ → Call → Place → Place → Handed → Handed → Type 0
 CallTurns n p call old new before after = Turns n p (λ s out next. AtNode n p s call out next) old new before after
 
--- the call may want memory
+-- it isn't taken, and want of memory is a cause to refuse it
 abbrev pub CallWants : ℕ → ℕ → Call → Place → Place → Handed → Handed → Type 0
 CallWants n p call old new before after = Wants n p (λ s. Refuses s call OutOfMemory) old new before after
 
+-- the node runs
 abbrev pub IsUp : Node → Type 0
 IsUp s = s.mode ≡ Up
 
@@ -82,8 +84,10 @@ EventWants n p (Tick q) old new before after = CallWants n p tick old new before
 EventWants n p (Ask q) old new before after = CallWants n p ask old new before after
 EventWants n p (Deliver q index) old new before after = Wants n p IsUp old new before after
 
+-- all of them are messages of the cluster
 abbrev pub AreMessages : ℕ → Handed → Type 0
 AreMessages n sent = (m : Message) → In (messages_of sent) m → IsMessage n m
 
+-- the event is taken at its node, but for the publication behind it
 abbrev pub EventTurns : ℕ → Event → Place → Place → Handed → Handed → Type 0
 EventTurns n event old new before after = AreMessages n before → Turns n (node_of event) (λ s out next. NodeTakes n (node_of event) (messages_of before) s event out next) old new before after
