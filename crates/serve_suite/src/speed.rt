@@ -54,6 +54,11 @@ fn many_pages_of_10_kb(rt: HostRuntime) -> Result<(), Fail> {
 }
 
 #[test]
+fn few_pages_of_100_kb(rt: HostRuntime) -> Result<(), Fail> {
+    check_page(&rt, rt.alloc(), 100_000, 100)
+}
+
+#[test]
 fn many_pages_of_100_kb(rt: HostRuntime) -> Result<(), Fail> {
     check_page(&rt, rt.alloc(), 100_000, 600)
 }
