@@ -4,3 +4,4 @@ pub mod OneExchange
 pub mod Elsewhere
 pub mod Answering
 pub mod Ending
+pub mod Examples
