@@ -44,12 +44,7 @@ const PATHS: [(&str, Row); 18] = [
     ("/@1/%C3%A9/@2/h", NOT_FOUND),
     (
         "/lost",
-        (
-            "500 Internal Server Error",
-            PLAIN,
-            "",
-            "template missing\n",
-        ),
+        ("500 Internal Server Error", PLAIN, "", "template missing\n"),
     ),
     ("/", NOT_FOUND),
     ("*", NOT_FOUND),

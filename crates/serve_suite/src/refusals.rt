@@ -31,7 +31,10 @@ fn connections(rt: HostRuntime) -> Result<(), Fail> {
         ("GET /h HTTP/1.1\r\nHost: a\r\n\r\n", "Hi\n"),
         ("HEAD /_newest HTTP/1.1\r\nHost: a\r\n\r\n", "\r\n\r\n"),
         ("GET /_ticket/1/5 HTTP/1.1\r\nHost: a\r\n\r\n", "unknown\n"),
-        ("GET /_submit/1/5 HTTP/1.1\r\nHost: a\r\n\r\n", "method not allowed\n"),
+        (
+            "GET /_submit/1/5 HTTP/1.1\r\nHost: a\r\n\r\n",
+            "method not allowed\n",
+        ),
         ("GET /h HTTP/1.1\r\n\r\n", "bad request\n"),
         (
             "POST /_submit/1/5 HTTP/1.1\r\nHost: a\r\nContent-Length: 22\r\n\r\nput template t\n{{a}}{{",
@@ -40,7 +43,10 @@ fn connections(rt: HostRuntime) -> Result<(), Fail> {
     ] {
         let run = tried_again(&rt, alloc, &mut desk, request.as_bytes());
         assert_eq!(rt; run.result, Ok(()));
-        assert!(rt; run.written.as_slice().ends_with(end.as_bytes()), "{request}");
+        assert!(rt;
+            run.written.as_slice().ends_with(end.as_bytes()),
+            "{request}"
+        );
     }
     assert!(rt; desk.values.is_empty());
     let posted = b"POST /_submit/1/5 HTTP/1.1\r\nHost: a\r\nContent-Length: 8\r\n\r\nrelease\n";

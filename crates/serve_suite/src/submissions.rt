@@ -57,8 +57,9 @@ fn check_text(
     expected: &str,
 ) -> Result<(), AllocError> {
     let size = text.len();
-    let request =
-        format!(in alloc; "POST /_submit/1/5 HTTP/1.1\r\nHost: a\r\nContent-Length: {size}\r\n\r\n{text}")?;
+    let request = format!(in alloc;
+        "POST /_submit/1/5 HTTP/1.1\r\nHost: a\r\nContent-Length: {size}\r\n\r\n{text}"
+    )?;
     check(rt, alloc, desk, request.as_str(), expected);
     Ok(())
 }
