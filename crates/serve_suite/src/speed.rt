@@ -40,7 +40,7 @@ fn few_small_pages(rt: HostRuntime) -> Result<(), Fail> {
 
 #[test]
 fn many_small_pages(rt: HostRuntime) -> Result<(), Fail> {
-    check_page(&rt, rt.alloc(), 100, 5_100)
+    check_page(&rt, rt.alloc(), 100, 20_100)
 }
 
 #[test]
