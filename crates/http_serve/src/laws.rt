@@ -10,5 +10,5 @@ pub fn paths_name_one_place()
 
 /// What is said of the exchanges before the last response of a connection says that there are none.
 pub fn connections_have_one_exchange<S: Service>(_service: &S)
-    ensures { ServesOne (record { newest_is = S.newest_is; page_is = S.page_is; receipt_is = S.receipt_is; takes = S.takes; stays = S.stays }) }
+    ensures { ServesOne S.offered }
 {}

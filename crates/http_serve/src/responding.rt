@@ -88,7 +88,7 @@ fn receipt<S: Service>(
     service: &S,
     ticket: Ticket,
 ) -> Result<Vec<u8>, AllocError>
-    ensures { IfOk result (λ bytes. bytes.items ≡ print_reply to_head (receipt_reply (S.receipt_is service.now ticket))) }
+    ensures { IfOk result (λ bytes. bytes.items ≡ print_reply to_head (receipt_reply (S.offered.receipt_is service.now ticket))) }
 {
     match service.receipt(ticket) {
         Some(instance) => number(alloc, to_head, instance.number() as u64),
@@ -104,7 +104,7 @@ fn page<S: Service>(
     n: u64,
     path: &str,
 ) -> Result<Vec<u8>, AllocError>
-    ensures { IfOk result (λ bytes. bytes.items ≡ print_reply to_head (page_reply (S.page_is service.now n path.now))) }
+    ensures { IfOk result (λ bytes. bytes.items ≡ print_reply to_head (page_reply (S.offered.page_is service.now n path.now))) }
 {
     match service.answer(alloc, n, path) {
         Ok(Answer { status, body }) => {
@@ -133,9 +133,7 @@ fn shown<S: Service>(
     path: &str,
     place: Place<'_>,
 ) -> Result<Vec<u8>, AllocError>
-    ensures { IfOk result (λ bytes. bytes.items ≡ print_reply to_head (asked_reply
-        (record { newest_is = S.newest_is; page_is = S.page_is; receipt_is = S.receipt_is; takes = S.takes; stays = S.stays })
-        service.now path.now (place_shown place.entry))) }
+    ensures { IfOk result (λ bytes. bytes.items ≡ print_reply to_head (asked_reply S.offered service.now path.now (place_shown place.entry))) }
 {
     match place {
         Place::Submission(_) => wrong_method(alloc, to_head, "POST"),
@@ -158,12 +156,9 @@ fn submitted<S: Service>(
     text: &[u8],
 ) -> Result<Vec<u8>, AllocError>
     ensures answered { IfOk result (λ bytes. (done : Outcome) × (reply : Reply)
-        × Submits (record { newest_is = S.newest_is; page_is = S.page_is; receipt_is = S.receipt_is; takes = S.takes; stays = S.stays })
-        service.old ticket text.now done service.new
+        × Submits S.offered service.old ticket text.now done service.new
         × (outcome_reply done ≡ Some reply) × (bytes.items ≡ print_reply false reply)) }
-    ensures refused { OnErr result ((service.new ≡ service.old) ⊎ Refuses
-        (record { newest_is = S.newest_is; page_is = S.page_is; receipt_is = S.receipt_is; takes = S.takes; stays = S.stays })
-        service.old service.new) }
+    ensures refused { OnErr result ((service.new ≡ service.old) ⊎ Refuses S.offered service.old service.new) }
 {
     let queued = plain(alloc, false, 202, "queued")?;
     let already = plain(alloc, false, 200, "already")?;
@@ -189,12 +184,9 @@ fn posted<S: Service>(
     place: Place<'_>,
 ) -> Result<Vec<u8>, AllocError>
     ensures answered { IfOk result (λ bytes. (reply : Reply)
-        × RepliesToPost (record { newest_is = S.newest_is; page_is = S.page_is; receipt_is = S.receipt_is; takes = S.takes; stays = S.stays })
-        service.old body.now (place_shown place.entry) service.new reply
+        × RepliesToPost S.offered service.old body.now (place_shown place.entry) service.new reply
         × (bytes.items ≡ print_reply false reply)) }
-    ensures refused { OnErr result ((service.new ≡ service.old) ⊎ Refuses
-        (record { newest_is = S.newest_is; page_is = S.page_is; receipt_is = S.receipt_is; takes = S.takes; stays = S.stays })
-        service.old service.new) }
+    ensures refused { OnErr result ((service.new ≡ service.old) ⊎ Refuses S.offered service.old service.new) }
 {
     match place {
         Place::Submission(ticket) => submitted(alloc, service, ticket, body),
@@ -212,11 +204,8 @@ pub(crate) fn respond<S: Service>(
     service: &mut S,
 ) -> Result<Vec<u8>, AllocError>
     ensures answered { IfOk result (λ bytes. (reply : Reply)
-        × IsResponse (record { newest_is = S.newest_is; page_is = S.page_is; receipt_is = S.receipt_is; takes = S.takes; stays = S.stays })
-        service.old (request_of request.now) service.new reply bytes.items) }
-    ensures refused { OnErr result ((service.new ≡ service.old) ⊎ Refuses
-        (record { newest_is = S.newest_is; page_is = S.page_is; receipt_is = S.receipt_is; takes = S.takes; stays = S.stays })
-        service.old service.new) }
+        × IsResponse S.offered service.old (request_of request.now) service.new reply bytes.items) }
+    ensures refused { OnErr result ((service.new ≡ service.old) ⊎ Refuses S.offered service.old service.new) }
 {
     let path = request.path.as_str();
     let place = place_of(path);

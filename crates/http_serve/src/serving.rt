@@ -22,21 +22,15 @@ fn next_response<R: Read, S: Service>(
     inbox: &mut Inbox,
     service: &mut S,
 ) -> Result<Vec<u8>, ServeFault>
-    ensures response { IfOk result (λ bytes. IfSome (input_of inbox.old (R.remaining (inside reader.old))) (λ input. IsLast
-        (record { newest_is = S.newest_is; page_is = S.page_is; receipt_is = S.receipt_is; takes = S.takes; stays = S.stays })
-        1 service.old input service.new bytes.items)) }
+    ensures response { IfOk result (λ bytes. IfSome (input_of inbox.old (R.remaining (inside reader.old))) (λ input. IsLast S.offered 1 service.old input service.new bytes.items)) }
     ensures unread { IsErrOf result ServeFault.Read →
         StopsAt (input_of inbox.old (R.remaining (inside reader.old))) (R.remaining (inside reader.new)) (λ taken. Answers taken stops) }
     ensures ended { IsErrOf result ServeFault.EndedEarly →
         IfSome (input_of inbox.old (R.remaining (inside reader.old))) (λ input. Answers input stops) }
     ensures unasked { (IsErrOf result ServeFault.Read ⊎ IsErrOf result ServeFault.EndedEarly) → service.new ≡ service.old }
-    ensures refused { IsErrOf result ServeFault.OutOfMemory → (service.new ≡ service.old) ⊎ Refuses
-        (record { newest_is = S.newest_is; page_is = S.page_is; receipt_is = S.receipt_is; takes = S.takes; stays = S.stays })
-        service.old service.new }
+    ensures refused { IsErrOf result ServeFault.OutOfMemory → (service.new ≡ service.old) ⊎ Refuses S.offered service.old service.new }
     ensures unwritten { ¬ (IsErrOf result ServeFault.Write) }
-    ensures taken { MaySubmit
-        (record { newest_is = S.newest_is; page_is = S.page_is; receipt_is = S.receipt_is; takes = S.takes; stays = S.stays })
-        service.old service.new }
+    ensures taken { MaySubmit S.offered service.old service.new }
     ensures failed { IsErrOf result ServeFault.Read → RoseByOne (failed reader.old) (failed reader.new) }
     ensures quiet { ¬ (IsErrOf result ServeFault.Read) → failed reader.new ≡ failed reader.old }
 {
@@ -55,13 +49,9 @@ pub fn serve<R: Read, W: Write, S: Service>(
     writer: &mut Counted<W>,
     service: &mut S,
 ) -> Result<(), ServeFault>
-    ensures answered { IfSome (R.remaining (inside reader.old)) (λ input. (text : List ℕ) × Serves
-        (record { newest_is = S.newest_is; page_is = S.page_is; receipt_is = S.receipt_is; takes = S.takes; stays = S.stays })
-        service.old input (R.remaining (inside reader.new)) service.new text result
+    ensures answered { IfSome (R.remaining (inside reader.old)) (λ input. (text : List ℕ) × Serves S.offered service.old input (R.remaining (inside reader.new)) service.new text result
         × Appends (W.contents (inside writer.old)) (W.contents (inside writer.new)) text) }
-    ensures taken { MaySubmit
-        (record { newest_is = S.newest_is; page_is = S.page_is; receipt_is = S.receipt_is; takes = S.takes; stays = S.stays })
-        service.old service.new }
+    ensures taken { MaySubmit S.offered service.old service.new }
     ensures silent { (IsErrOf result ServeFault.Read ⊎ IsErrOf result ServeFault.OutOfMemory ⊎ IsErrOf result ServeFault.EndedEarly) → IsSilent (end_of W.contents writer.old writer.new) }
     ensures read_failed { IsErrOf result ServeFault.Read → HasFailed (end_of R.remaining reader.old reader.new) }
     ensures read_sound { ¬ (IsErrOf result ServeFault.Read) → IsSound (end_of R.remaining reader.old reader.new) }

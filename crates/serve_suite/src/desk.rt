@@ -88,15 +88,13 @@ fn keep(values: &mut Vec<Vec<u8>>, value: Vec<u8>) -> Result<(), AllocError>
 
 /// What the submissions leave is seen by the tests, and said in no clause.
 impl Service for Desk<'_> {
-    ghost newest_is = { λ d. d.newest };
-
-    ghost page_is = { λ d n path. page_at d.page.now d.newest n path };
-
-    ghost receipt_is = { λ d _. d.receipt };
-
-    ghost takes = { λ _ _ _ _ _. ⊤ };
-
-    ghost stays = { λ old new. new.values.items ≡ old.values.items };
+    ghost offered = { record {
+      newest_is = λ d. d.newest;
+      page_is = λ d n path. page_at d.page.now d.newest n path;
+      receipt_is = λ d _. d.receipt;
+      takes = λ _ _ _ _ _. ⊤;
+      stays = λ old new. new.values.items ≡ old.values.items;
+    } };
 
     fn newest(&self) -> u64 {
         self.newest
