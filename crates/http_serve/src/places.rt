@@ -1,5 +1,5 @@
 //! What a decoded path names.
-ghost use Rattle.std.specs.Prelude.{◌≡◌, ◌≢◌, ℕ, ◌+◌, ◌<◌, ◌^◌, List, ◌∷◌, ◌++◌, length, drop, codes, slice_index, MatchOption, decimal};
+ghost use Rattle.std.specs.Prelude.{◌≡◌, ◌≢◌, ℕ, ◌+◌, ◌<◌, ◌^◌, List, ◌++◌, length, drop, codes, slice_index, MatchOption, decimal};
 ghost use Rattle.http_serve.specs.Paths.{Place as Meant, Names, IsOwn};
 ghost use Rattle.http_serve.specs.Places.{place_shown};
 
