@@ -1,6 +1,6 @@
 -- The chosen values of a log, and what learning one more does.
 use Rattle.std.specs.Prelude.{◌≡◌, ◌≢◌, ℕ, List, Option, Some, None, Result, Ok, Err}
-use Rattle.site_ids.specs.Maps.{put_at}
+use Rattle.site_ids.specs.Lists.{put_at}
 use Rattle.chosen_log.specs.Places.{Places, in_either}
 use Rattle.chosen_log.specs.declared.fault.LearnFault.{LearnFault}
 use Rattle.chosen_log.specs.declared.fault.LearnFault.TheVariants.{OutOfMemory, Conflict}

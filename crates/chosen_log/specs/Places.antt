@@ -4,6 +4,7 @@ use Rattle.std.specs.BTreeMap.{is_at}
 use Rattle.std.specs.Map.{lookup}
 use Rattle.std.specs.Option.{option_or}
 use Rattle.std.specs.Ordering.{nat_cmp}
+use Rattle.site_ids.specs.declared.TheConstants.{MAX_INSTANCE}
 
 -- the values from instance 1 on, in order, and others by their instance
 pub record Places : Type 0 where
@@ -21,5 +22,5 @@ in_either prefix beyond (suc k) = option_or (slice_get prefix k) (among beyond (
 -- the first instance past the prefix has no value, and there is none past the last instance
 pub record IsCut (prefix : List (List ℕ)) (beyond : List (ℕ × List ℕ)) : Type 0 where
   pub gap : among beyond (length prefix + 1) ≡ None
-  pub few : length prefix ≤ 1000000
-  pub within : (k : ℕ) → 1000000 < k → among beyond k ≡ None
+  pub few : length prefix ≤ MAX_INSTANCE
+  pub within : (k : ℕ) → MAX_INSTANCE < k → among beyond k ≡ None

@@ -1,6 +1,7 @@
 ghost use Rattle.std.specs.Prelude.{◌≡◌, ℕ, ◌+◌, ◌<◌, ◌≤◌, length, slice_get, None, IsSome, MatchOption, option_copied, vec_len, vec_capacity};
 ghost use Rattle.std.specs.BTreeMap.{get, btree_map_len};
 ghost use Rattle.std.specs.Ordering.{nat_cmp};
+ghost use Rattle.site_ids.specs.declared.TheConstants.{MAX_INSTANCE};
 ghost use Rattle.site_ids.specs.Ids.{IsInstance};
 ghost use Rattle.chosen_log.specs.Places.{in_either, IsCut};
 
@@ -88,7 +89,7 @@ impl ChosenLog {
     pub fn prefix(&self) -> &[Value]
         ensures each { (k : ℕ) → k < length result.now → slice_get result.now k ≡ value_at self.now (k + 1) }
         ensures gap { value_at self.now (length result.now + 1) ≡ None }
-        ensures few { length result.now ≤ 1000000 }
+        ensures few { length result.now ≤ MAX_INSTANCE }
     {
         &self.prefix
     }
@@ -104,8 +105,8 @@ impl ChosenLog {
 // Moves the values that follow the prefix without a gap to its end.
 fn close_gap(prefix: &mut Vec<Value>, beyond: &mut BTreeMap<u32, Value>)
     requires room { vec_len prefix.old + btree_map_len beyond.old ≤ vec_capacity prefix.old }
-    requires few { vec_len prefix.old ≤ 1000000 }
-    requires within { (k : ℕ) → 1000000 < k → get nat_cmp beyond.old k ≡ None }
+    requires few { vec_len prefix.old ≤ MAX_INSTANCE }
+    requires within { (k : ℕ) → MAX_INSTANCE < k → get nat_cmp beyond.old k ≡ None }
     ensures same { (k : ℕ) → in_either prefix.new.items beyond.new.entries k ≡ in_either prefix.old.items beyond.old.entries k }
     ensures cut { IsCut prefix.new.items beyond.new.entries }
 {

@@ -4,6 +4,7 @@ use Rattle.std.specs.List.{list_all}
 use Rattle.std.specs.Str.{is_utf8}
 use Rattle.std.proofs.lemmas.Bool.{leb-true, leb-false, le-leb}
 use Rattle.std.proofs.lemmas.Str.{is_utf8-from_IsUtf8, IsUtf8-from_is_utf8}
+use Rattle.site_ids.specs.declared.TheConstants.{MAX_VALUE}
 use Rattle.context.specs.Whole.{Whole, data_reading}
 use Rattle.context.specs.declared.fault.DataFault.{DataFault}
 use Rattle.mustache_scan.specs.declared.fault.TemplateFault.{TemplateFault}
@@ -38,7 +39,7 @@ of-text_row v row e = row_of-text (leb 12 (length v) && is_utf8 (drop 12 v)) v r
 -- ---- faults of a value that has a row and is not too long
 
 record HasRow (v : List ℕ) (row : Row) : Type 0 where
-  short : length v ≤ 32768
+  short : length v ≤ MAX_VALUE
   is : text_row v ≡ Some row
 
 same_row : (v : List ℕ) (row other : Row) → HasRow v row → IsRowOf v other → other ≡ row
@@ -76,7 +77,7 @@ above_zero (Template f) = omega arith
 above_zero (Data f) = omega arith
 above_zero OutOfMemory = omega arith
 
-form_above : (v : List ℕ) → length v ≤ 32768 → (other : CommandFault) → Applies v other → 2 ≤ number other
+form_above : (v : List ℕ) → length v ≤ MAX_VALUE → (other : CommandFault) → Applies v other → 2 ≤ number other
 form_above v short TooLong a = absurd (omega arith)
 form_above v short Form a = omega arith
 form_above v short Name a = omega arith
@@ -175,21 +176,21 @@ row_least false paths v row fault h n p e = let is : Name ≡ fault = cc in subs
 no_row : (v : List ℕ) → text_row v ≡ None → Applies v Form
 no_row v none row h = let there = text_row-of v row h in cc
 
-short_least : (o : Option Row) (v : List ℕ) (fault : CommandFault) → length v ≤ 32768 → text_row v ≡ o → read_row (ok_or o Form) ≡ Err fault → IsLeast v fault
+short_least : (o : Option Row) (v : List ℕ) (fault : CommandFault) → length v ≤ MAX_VALUE → text_row v ≡ o → read_row (ok_or o Form) ≡ Err fault → IsLeast v fault
 short_least None v fault short is e = let same : Form ≡ fault = cc in subst (IsLeast v) same (no_row v is, form_above v short)
 short_least (Some row) v fault short is e =
     row_least (list_all is_name (names_in row)) (list_all is_path (paths_in row)) v row fault (record { short = short; is = is }) refl refl e
 
-value_least : (b : Bool) (v : List ℕ) (fault : CommandFault) → leb (length v) 32768 ≡ b → read_row (cond {A = Result Row CommandFault} b (ok_or (text_row v) Form) (Err TooLong)) ≡ Err fault → IsLeast v fault
-value_least true v fault is e = short_least (text_row v) v fault (leb-true (length v) 32768 is) refl e
-value_least false v fault is e = let same : TooLong ≡ fault = cc in subst (IsLeast v) same (leb-false (length v) 32768 is, λ other a. above_zero other)
+value_least : (b : Bool) (v : List ℕ) (fault : CommandFault) → leb (length v) MAX_VALUE ≡ b → read_row (cond {A = Result Row CommandFault} b (ok_or (text_row v) Form) (Err TooLong)) ≡ Err fault → IsLeast v fault
+value_least true v fault is e = short_least (text_row v) v fault (leb-true (length v) MAX_VALUE is) refl e
+value_least false v fault is e = let same : TooLong ≡ fault = cc in subst (IsLeast v) same (leb-false (length v) MAX_VALUE is, λ other a. above_zero other)
 
 ticket_err : (v : List ℕ) (r : Result Action CommandFault) (fault : CommandFault) → with_ticket (ticket_of v) r ≡ Err fault → r ≡ Err fault
 ticket_err v (Ok action) fault e = cc
 ticket_err v (Err f) fault e = cc
 
 pub fault_is_least : FaultIsLeast
-fault_is_least v fault e = value_least (leb (length v) 32768) v fault refl (ticket_err v (read_row (value_row v)) fault e)
+fault_is_least v fault e = value_least (leb (length v) MAX_VALUE) v fault refl (ticket_err v (read_row (value_row v)) fault e)
 
 -- ---- commands
 
@@ -225,14 +226,14 @@ row_none true true v row done h n p e = done_none v row done h n p e
 row_none true false v row done h n p e = cc
 row_none false paths v row done h n p e = cc
 
-short_none : (o : Option Row) (v : List ℕ) (done : Action) → length v ≤ 32768 → text_row v ≡ o → read_row (ok_or o Form) ≡ Ok done → (fault : CommandFault) → ¬ Applies v fault
+short_none : (o : Option Row) (v : List ℕ) (done : Action) → length v ≤ MAX_VALUE → text_row v ≡ o → read_row (ok_or o Form) ≡ Ok done → (fault : CommandFault) → ¬ Applies v fault
 short_none None v done short is e = cc
 short_none (Some row) v done short is e =
     row_none (list_all is_name (names_in row)) (list_all is_path (paths_in row)) v row done (record { short = short; is = is }) refl refl e
 
-value_none : (b : Bool) (v : List ℕ) (done : Action) → leb (length v) 32768 ≡ b → read_row (cond {A = Result Row CommandFault} b (ok_or (text_row v) Form) (Err TooLong)) ≡ Ok done
+value_none : (b : Bool) (v : List ℕ) (done : Action) → leb (length v) MAX_VALUE ≡ b → read_row (cond {A = Result Row CommandFault} b (ok_or (text_row v) Form) (Err TooLong)) ≡ Ok done
     → (fault : CommandFault) → ¬ Applies v fault
-value_none true v done is e = short_none (text_row v) v done (leb-true (length v) 32768 is) refl e
+value_none true v done is e = short_none (text_row v) v done (leb-true (length v) MAX_VALUE is) refl e
 value_none false v done is e = cc
 
 ticket_ok : (v : List ℕ) (r : Result Action CommandFault) (order : Order) → with_ticket (ticket_of v) r ≡ Ok order → (done : Action) × (r ≡ Ok done)
@@ -242,4 +243,4 @@ ticket_ok v (Err f) order e = cc
 pub command_has_none : CommandHasNone
 command_has_none v order e =
     let p = ticket_ok v (read_row (value_row v)) order e in
-    value_none (leb (length v) 32768) v p.0 refl p.1
+    value_none (leb (length v) MAX_VALUE) v p.0 refl p.1

@@ -5,7 +5,7 @@ use Rattle.std.proofs.lemmas.List.{take-append-le}
 use Rattle.command.specs.Action.{Kind, Action, Order}
 use Rattle.command.specs.Effective.{has_ticket, firsts}
 use Rattle.command.specs.Releases.{is_release, release_count, through}
-use Rattle.command.specs.Site.{touches, first_or, last_about}
+use Rattle.command.specs.Site.{is_about, first_or, last_about}
 use Rattle.command.proofs.EffectiveLemmas.{firsts-append}
 
 all_before : (os : List Order) (o : Order) → take (0 + length os) (os ++ o ∷ []) ≡ os
@@ -16,14 +16,14 @@ firsts_more os o true has = firsts-append os (o ∷ []) ∙ rw (all_before os o,
 firsts_more os o false has = firsts-append os (o ∷ []) ∙ rw (all_before os o, has) (refl)
 
 pub last_more : (kind : Kind) (name : List ℕ) (os : List Order) (o : Order)
-    → last_about kind name (os ++ o ∷ []) ≡ cond (touches kind name o.action) (Some o.action) (last_about kind name os)
-last_more kind name [] o = one (touches kind name o.action) o.action
+    → last_about kind name (os ++ o ∷ []) ≡ cond (is_about kind name o.action) (Some o.action) (last_about kind name os)
+last_more kind name [] o = one (is_about kind name o.action) o.action
   where
     one : (b : Bool) (a : Action) → first_or None (cond b (Some a) None) ≡ cond b (Some a) None
     one b a = refl
 last_more kind name (x ∷ os) o =
-    ap (λ l. first_or l (cond (touches kind name x.action) (Some x.action) None)) (last_more kind name os o)
-    ∙ joined (touches kind name o.action) o.action (last_about kind name os) (cond (touches kind name x.action) (Some x.action) None)
+    ap (λ l. first_or l (cond (is_about kind name x.action) (Some x.action) None)) (last_more kind name os o)
+    ∙ joined (is_about kind name o.action) o.action (last_about kind name os) (cond (is_about kind name x.action) (Some x.action) None)
   where
     joined : (b : Bool) (a : Action) (l p : Option Action) → first_or (cond b (Some a) l) p ≡ cond b (Some a) (first_or l p)
     joined true a l p = refl

@@ -5,6 +5,7 @@ use Rattle.std.proofs.lemmas.List.{take_rest}
 use Rattle.std.proofs.lemmas.Str.{is_utf8-from_IsUtf8, IsUtf8-from_is_utf8}
 use Rattle.std.specs.Option.{ok_or}
 use Rattle.std.specs.Str.{IsUtf8, is_utf8}
+use Rattle.site_ids.specs.declared.TheConstants.{MAX_VALUE}
 use Rattle.context.specs.Whole.{Whole, data_reading}
 use Rattle.mustache_parse.specs.Tree.{Tree, tree_of}
 use Rattle.command.specs.Action.{Kind, template, partial, page_data, route, put_template, put_partial, put_data, put_route, remove}
@@ -38,18 +39,18 @@ remove_fails route n h = rw h
 
 -- ---- values, from their texts
 
-short_value : (v : List ℕ) → length v ≤ 32768 → value_reading v ≡ with_ticket (ticket_of v) (text_reading (text_row v))
-short_value v short = let fits = le-leb (length v) 32768 short in rw fits
+short_value : (v : List ℕ) → length v ≤ MAX_VALUE → value_reading v ≡ with_ticket (ticket_of v) (text_reading (text_row v))
+short_value v short = let fits = le-leb (length v) MAX_VALUE short in rw fits
 
-pub value_of_text : (v : List ℕ) → length v ≤ 32768 → 12 ≤ length v → IsUtf8 (drop 12 v) → value_reading v ≡ with_ticket (ticket_of v) (text_reading (row_of (drop 12 v)))
+pub value_of_text : (v : List ℕ) → length v ≤ MAX_VALUE → 12 ≤ length v → IsUtf8 (drop 12 v) → value_reading v ≡ with_ticket (ticket_of v) (text_reading (row_of (drop 12 v)))
 value_of_text v short long text =
     let ticketed = le-leb 12 (length v) long in
     let there : text_row v ≡ row_of (drop 12 v) = rw (ticketed, is_utf8-from_IsUtf8 (drop 12 v) text) in
     short_value v short ∙ ap (λ (o : Option Row). with_ticket (ticket_of v) (text_reading o)) there
 
-pub row_of_text : (v : List ℕ) → length v ≤ 32768 → 12 ≤ length v → IsUtf8 (drop 12 v) → value_row v ≡ ok_or (row_of (drop 12 v)) Form
+pub row_of_text : (v : List ℕ) → length v ≤ MAX_VALUE → 12 ≤ length v → IsUtf8 (drop 12 v) → value_row v ≡ ok_or (row_of (drop 12 v)) Form
 row_of_text v short long text =
-    let fits = le-leb (length v) 32768 short in
+    let fits = le-leb (length v) MAX_VALUE short in
     let ticketed = le-leb 12 (length v) long in
     rw (fits, ticketed, is_utf8-from_IsUtf8 (drop 12 v) text)
 
@@ -57,7 +58,7 @@ not_text : (b : Bool) (v : List ℕ) → is_utf8 (drop 12 v) ≡ b → ¬ IsUtf8
 not_text true v e never = absurd (never (IsUtf8-from_is_utf8 (drop 12 v) e))
 not_text false v e never = e
 
-pub value_of_bytes : (v : List ℕ) → length v ≤ 32768 → 12 ≤ length v → ¬ IsUtf8 (drop 12 v) → value_reading v ≡ Err Form
+pub value_of_bytes : (v : List ℕ) → length v ≤ MAX_VALUE → 12 ≤ length v → ¬ IsUtf8 (drop 12 v) → value_reading v ≡ Err Form
 value_of_bytes v short long never =
     let ticketed = le-leb 12 (length v) long in
     let none : text_row v ≡ None = rw (ticketed, not_text (is_utf8 (drop 12 v)) v refl never) in

@@ -4,47 +4,47 @@ use Rattle.std.proofs.lemmas.Option.{option_and_then_some}
 use Rattle.std.proofs.lemmas.Slice.Eq.{bytes_eq-Decides}
 use Rattle.context.specs.Whole.{Whole}
 use Rattle.command.specs.Action.{Kind, template, partial, page_data, route, Action, put_template, put_partial, put_data, put_route, remove, release, Order}
-use Rattle.command.specs.Site.{touches, is_put, first_or, last_about, if_put, standing, IsStanding, if_template, if_partial, if_data, if_route}
+use Rattle.command.specs.Site.{is_about, is_put, first_or, last_about, if_put, standing, IsStanding, if_template, if_partial, if_data, if_route}
 use Rattle.command.specs.Laws.{StandingIsLast, TemplateIsLast, PartialIsLast, DataIsLast, RouteIsLast}
 
 -- nothing in the orders is about that kind and name
 abbrev Untouched : Kind → List ℕ → List Order → Type 0
-Untouched kind name orders = (j : ℕ) (o : Order) → slice_get orders j ≡ Some o → touches kind name o.action ≡ false
+Untouched kind name orders = (j : ℕ) (o : Order) → slice_get orders j ≡ Some o → is_about kind name o.action ≡ false
 
 record IsLastAbout (kind : Kind) (name : List ℕ) (orders : List Order) (action : Action) : Type 0 where
   place : ℕ
   order : Order
   there : slice_get orders place ≡ Some order
   does : order.action ≡ action
-  touched : touches kind name action ≡ true
-  last : (j : ℕ) (later : Order) → place < j → slice_get orders j ≡ Some later → touches kind name later.action ≡ false
+  touched : is_about kind name action ≡ true
+  last : (j : ℕ) (later : Order) → place < j → slice_get orders j ≡ Some later → is_about kind name later.action ≡ false
 
 -- ---- from the computed last action
 
-none_step : (b : Bool) (r : Option Action) (kind : Kind) (name : List ℕ) (x : Order) (later : List Order) → touches kind name x.action ≡ b → first_or r (cond b (Some x.action) None) ≡ None
+none_step : (b : Bool) (r : Option Action) (kind : Kind) (name : List ℕ) (x : Order) (later : List Order) → is_about kind name x.action ≡ b → first_or r (cond b (Some x.action) None) ≡ None
     → (r ≡ None → Untouched kind name later) → Untouched kind name (x ∷ later)
 none_step true None kind name x later is e ih j o there = cc
 none_step true (Some a) kind name x later is e ih j o there = cc
 none_step false (Some a) kind name x later is e ih j o there = cc
-none_step false None kind name x later is e ih zero o there = let same : x ≡ o = cc in sym (ap (λ (y : Order). touches kind name y.action) same) ∙ is
+none_step false None kind name x later is e ih zero o there = let same : x ≡ o = cc in sym (ap (λ (y : Order). is_about kind name y.action) same) ∙ is
 none_step false None kind name x later is e ih (suc j) o there = ih refl j o there
 
 none_about : (kind : Kind) (name : List ℕ) (orders : List Order) → last_about kind name orders ≡ None → Untouched kind name orders
 none_about kind name [] e j o there = cc
-none_about kind name (x ∷ later) e j o there = none_step (touches kind name x.action) (last_about kind name later) kind name x later refl e (none_about kind name later) j o there
+none_about kind name (x ∷ later) e j o there = none_step (is_about kind name x.action) (last_about kind name later) kind name x later refl e (none_about kind name later) j o there
 
 first_last : (kind : Kind) (name : List ℕ) (x : Order) (later : List Order) → Untouched kind name later
-    → (j : ℕ) (o : Order) → zero < j → slice_get (x ∷ later) j ≡ Some o → touches kind name o.action ≡ false
+    → (j : ℕ) (o : Order) → zero < j → slice_get (x ∷ later) j ≡ Some o → is_about kind name o.action ≡ false
 first_last kind name x later none zero o l there = absurd (omega arith)
 first_last kind name x later none (suc j) o l there = none j o there
 
 later_last : (kind : Kind) (name : List ℕ) (x : Order) (later : List Order) (place : ℕ)
-    → ((j : ℕ) (o : Order) → place < j → slice_get later j ≡ Some o → touches kind name o.action ≡ false)
-    → (j : ℕ) (o : Order) → suc place < j → slice_get (x ∷ later) j ≡ Some o → touches kind name o.action ≡ false
+    → ((j : ℕ) (o : Order) → place < j → slice_get later j ≡ Some o → is_about kind name o.action ≡ false)
+    → (j : ℕ) (o : Order) → suc place < j → slice_get (x ∷ later) j ≡ Some o → is_about kind name o.action ≡ false
 later_last kind name x later place last zero o l there = absurd (omega arith)
 later_last kind name x later place last (suc j) o l there = last j o (omega arith) there
 
-last_step : (b : Bool) (r : Option Action) (kind : Kind) (name : List ℕ) (x : Order) (later : List Order) (a : Action) → touches kind name x.action ≡ b
+last_step : (b : Bool) (r : Option Action) (kind : Kind) (name : List ℕ) (x : Order) (later : List Order) (a : Action) → is_about kind name x.action ≡ b
     → first_or r (cond b (Some x.action) None) ≡ Some a → (r ≡ None → Untouched kind name later) → (r ≡ Some a → IsLastAbout kind name later a) → IsLastAbout kind name (x ∷ later) a
 last_step true None kind name x later a is e none some =
     let does : x.action ≡ a = cc in
@@ -53,7 +53,7 @@ last_step true None kind name x later a is e none some =
       order = x;
       there = refl;
       does = does;
-      touched = sym (ap (touches kind name) does) ∙ is;
+      touched = sym (ap (is_about kind name) does) ∙ is;
       last = first_last kind name x later (none refl);
     }
 last_step false None kind name x later a is e none some = cc
@@ -71,7 +71,7 @@ last_step b (Some y) kind name x later a is e none some =
 last_about-is : (kind : Kind) (name : List ℕ) (orders : List Order) (a : Action) → last_about kind name orders ≡ Some a → IsLastAbout kind name orders a
 last_about-is kind name [] a e = cc
 last_about-is kind name (x ∷ later) a e =
-    last_step (touches kind name x.action) (last_about kind name later) kind name x later a refl e (none_about kind name later) (last_about-is kind name later a)
+    last_step (is_about kind name x.action) (last_about kind name later) kind name x later a refl e (none_about kind name later) (last_about-is kind name later a)
 
 -- ---- to it
 
@@ -79,8 +79,8 @@ untouched : (kind : Kind) (name : List ℕ) (orders : List Order) → Untouched 
 untouched kind name [] h = refl
 untouched kind name (x ∷ later) h = rw (untouched kind name later (λ j o e. h (suc j) o e), h zero x refl)
 
-last_at : (kind : Kind) (name : List ℕ) (orders : List Order) (place : ℕ) (order : Order) → slice_get orders place ≡ Some order → touches kind name order.action ≡ true
-    → ((j : ℕ) (o : Order) → place < j → slice_get orders j ≡ Some o → touches kind name o.action ≡ false) → last_about kind name orders ≡ Some order.action
+last_at : (kind : Kind) (name : List ℕ) (orders : List Order) (place : ℕ) (order : Order) → slice_get orders place ≡ Some order → is_about kind name order.action ≡ true
+    → ((j : ℕ) (o : Order) → place < j → slice_get orders j ≡ Some o → is_about kind name o.action ≡ false) → last_about kind name orders ≡ Some order.action
 last_at kind name [] place order there touched last = cc
 last_at kind name (x ∷ later) zero order there touched last =
     let same : x ≡ order = cc in
@@ -99,7 +99,7 @@ stands kind name orders a action l same puts = record {
   order = l.order;
   there = l.there;
   does = l.does ∙ same;
-  touched = sym (ap (touches kind name) same) ∙ l.touched;
+  touched = sym (ap (is_about kind name) same) ∙ l.touched;
   puts = puts;
   last = l.last;
 }
@@ -111,7 +111,7 @@ from_standing kind name orders action e =
 
 to_standing : (kind : Kind) (name : List ℕ) (orders : List Order) (action : Action) → IsStanding kind name orders action → standing kind name orders ≡ Some action
 to_standing kind name orders action h =
-    let touched : touches kind name h.order.action ≡ true = ap (touches kind name) h.does ∙ h.touched in
+    let touched : is_about kind name h.order.action ≡ true = ap (is_about kind name) h.does ∙ h.touched in
     let found : last_about kind name orders ≡ Some action = last_at kind name orders h.place h.order h.there touched h.last ∙ ap Some h.does in
     let puts = h.puts in
     rw (found, puts)

@@ -14,11 +14,11 @@ if_command (Err fault) = None
 abbrev pub commands_of : List (List ℕ) → List Order
 commands_of values = filter_map (λ v. if_command (value_reading v)) values
 
-abbrev pub same_ticket : Ticket → Ticket → Bool
-same_ticket a b = (a.editor == b.editor) && (a.number == b.number)
+abbrev pub is_same_ticket : Ticket → Ticket → Bool
+is_same_ticket a b = (a.editor == b.editor) && (a.number == b.number)
 
 abbrev pub has_ticket : Ticket → List Order → Bool
-has_ticket ticket orders = list_any (λ o. same_ticket o.ticket ticket) orders
+has_ticket ticket orders = list_any (λ o. is_same_ticket o.ticket ticket) orders
 
 -- no command before its place has its ticket
 abbrev pub is_first : List Order → ℕ × Order → Bool

@@ -2,6 +2,7 @@
 use Rattle.std.specs.Prelude.{◌≡◌, ◌≤◌, ◌<◌, ℕ, List, length, drop, false, Option, Some, None, Err}
 use Rattle.std.specs.List.{list_all}
 use Rattle.std.specs.Str.{IsUtf8}
+use Rattle.site_ids.specs.declared.TheConstants.{MAX_VALUE, TICKET_BYTES}
 use Rattle.context.specs.Whole.{data_reading}
 use Rattle.mustache_parse.specs.Tree.{tree_of}
 use Rattle.command.specs.Rows.{Row, template_row, partial_row, data_row, spelled, HasWords}
@@ -11,10 +12,10 @@ use Rattle.command.specs.declared.fault.CommandFault.TheVariants.{TooLong, Form,
 
 -- the value has a ticket's 12 bytes, and after them the row's text
 pub record IsRowOf (v : List ℕ) (row : Row) : Type 0 where
-  pub ticketed : 12 ≤ length v
-  pub is_text : IsUtf8 (drop 12 v)
+  pub ticketed : TICKET_BYTES ≤ length v
+  pub is_text : IsUtf8 (drop TICKET_BYTES v)
   pub words : HasWords row
-  pub spells : drop 12 v ≡ spelled row
+  pub spells : drop TICKET_BYTES v ≡ spelled row
 
 -- the text of a template or a partial
 abbrev pub template_in : Row → Option (List ℕ)
@@ -28,7 +29,7 @@ data_in _ = None
 
 -- the value has the fault, whatever others it has
 abbrev pub Applies : List ℕ → CommandFault → Type 0
-Applies v TooLong = 32768 < length v
+Applies v TooLong = MAX_VALUE < length v
 Applies v Form = (row : Row) → ¬ IsRowOf v row
 Applies v Name = (row : Row) × IsRowOf v row × (list_all is_name (names_in row) ≡ false)
 Applies v Path = (row : Row) × IsRowOf v row × (list_all is_path (paths_in row) ≡ false)

@@ -1,5 +1,6 @@
 -- What holds of these definitions, whatever the values.
 use Rattle.std.specs.Prelude.{ℕ, suc, ◌≡◌, ◌<◌, ◌≤◌, ◌^◌, ◌↔◌, List, ◌++◌, drop, Some, Ok, Err}
+use Rattle.site_ids.specs.declared.TheConstants.{TICKET_BYTES}
 use Rattle.context.specs.Whole.{Whole}
 use Rattle.site_ids.specs.declared.Ticket.{Ticket}
 use Rattle.command.specs.Action.{Kind, template, partial, page_data, route, Action, put_template, put_partial, put_data, put_route, Order}
@@ -30,7 +31,7 @@ CommandHasNone = (v : List ℕ) (order : Order) → value_reading v ≡ Ok order
 -- a written value holds its ticket and its text
 abbrev pub WrittenHolds : Type 0
 WrittenHolds = (ticket : Ticket) (text : List ℕ) → ticket.editor < 2 ^ 32 → ticket.number < 2 ^ 64
-    → (ticket_of (value_of ticket text) ≡ ticket) × (drop 12 (value_of ticket text) ≡ text)
+    → (ticket_of (value_of ticket text) ≡ ticket) × (drop TICKET_BYTES (value_of ticket text) ≡ text)
 
 -- ---- sites
 

@@ -5,6 +5,7 @@ pub mod Reading
 pub mod Faults
 pub mod Written
 pub mod View
+pub mod Standing
 pub mod Effective
 pub mod Site
 pub mod Releases

@@ -2,6 +2,7 @@
 use Rattle.std.specs.Prelude.{◌≡◌, ◌≢◌, ℕ, List, [], ◌∷◌, length, drop, codes, nat_eq, nat_le, ◌==◌, ◌&&◌, ◌||◌, not, if◌then◌else◌, Bool, Option, None, Result, Ok, Err, ok_or}
 use Rattle.std.specs.List.{list_all, starts_with}
 use Rattle.std.specs.Str.{is_utf8}
+use Rattle.site_ids.specs.declared.TheConstants.{MAX_VALUE, MAX_NAME, MAX_PATH, TICKET_BYTES}
 use Rattle.byteorder.specs.Endian.{big_number}
 use Rattle.site_ids.specs.declared.Ticket.{Ticket}
 use Rattle.context.specs.Whole.{Whole, data_reading}
@@ -33,7 +34,7 @@ is_name_byte b =
 abbrev pub is_name : List ℕ → Bool
 is_name name =
     nat_le 1 (length name)
-    && nat_le (length name) 64
+    && nat_le (length name) MAX_NAME
     && list_all is_name_byte name
 
 -- no control byte, space or delete
@@ -43,7 +44,7 @@ is_path_byte b = nat_le 33 b && not (b == 127)
 abbrev pub is_path : List ℕ → Bool
 is_path path =
     starts_with nat_eq path (codes "/")
-    && nat_le (length path) 200
+    && nat_le (length path) MAX_PATH
     && list_all is_path_byte path
     && not (starts_with nat_eq path (codes "/_"))
     && not (starts_with nat_eq path (codes "/@"))
@@ -102,10 +103,10 @@ wrong_remove route = Path
 
 -- the row of a value's text, which follows the 12 bytes of its ticket
 abbrev pub text_row : List ℕ → Option Row
-text_row v = if nat_le 12 (length v) && is_utf8 (drop 12 v) then row_of (drop 12 v) else None
+text_row v = if nat_le TICKET_BYTES (length v) && is_utf8 (drop TICKET_BYTES v) then row_of (drop TICKET_BYTES v) else None
 
 abbrev pub value_row : List ℕ → Result Row CommandFault
-value_row v = if nat_le (length v) 32768 then ok_or (text_row v) Form else Err TooLong
+value_row v = if nat_le (length v) MAX_VALUE then ok_or (text_row v) Form else Err TooLong
 
 abbrev pub read_row : Result Row CommandFault → Result Action CommandFault
 read_row (Ok row) = row_reading row

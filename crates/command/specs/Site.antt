@@ -4,21 +4,21 @@ use Rattle.std.specs.Str.{bytes_eq}
 use Rattle.context.specs.Whole.{Whole}
 use Rattle.command.specs.Action.{Kind, template, partial, page_data, route, Action, put_template, put_partial, put_data, put_route, remove, release, Order}
 
-abbrev pub same_kind : Kind → Kind → Bool
-same_kind template template = true
-same_kind partial partial = true
-same_kind page_data page_data = true
-same_kind route route = true
-same_kind _ _ = false
+abbrev pub is_same_kind : Kind → Kind → Bool
+is_same_kind template template = true
+is_same_kind partial partial = true
+is_same_kind page_data page_data = true
+is_same_kind route route = true
+is_same_kind _ _ = false
 
 -- the action puts or removes that kind and name
-abbrev pub touches : Kind → List ℕ → Action → Bool
-touches kind name (put_template n body) = same_kind template kind && bytes_eq n name
-touches kind name (put_partial n body) = same_kind partial kind && bytes_eq n name
-touches kind name (put_data n whole) = same_kind page_data kind && bytes_eq n name
-touches kind name (put_route path shows fills) = same_kind route kind && bytes_eq path name
-touches kind name (remove k n) = same_kind k kind && bytes_eq n name
-touches kind name release = false
+abbrev pub is_about : Kind → List ℕ → Action → Bool
+is_about kind name (put_template n body) = is_same_kind template kind && bytes_eq n name
+is_about kind name (put_partial n body) = is_same_kind partial kind && bytes_eq n name
+is_about kind name (put_data n whole) = is_same_kind page_data kind && bytes_eq n name
+is_about kind name (put_route path shows fills) = is_same_kind route kind && bytes_eq path name
+is_about kind name (remove k n) = is_same_kind k kind && bytes_eq n name
+is_about kind name release = false
 
 abbrev pub is_put : Action → Bool
 is_put (remove kind name) = false
@@ -32,7 +32,7 @@ first_or (Some action) other = Some action
 -- the last action about that kind and name
 abbrev pub last_about : Kind → List ℕ → List Order → Option Action
 last_about kind name [] = None
-last_about kind name (o ∷ later) = first_or (last_about kind name later) (if touches kind name o.action then Some o.action else None)
+last_about kind name (o ∷ later) = first_or (last_about kind name later) (if is_about kind name o.action then Some o.action else None)
 
 abbrev pub if_put : Action → Option Action
 if_put action = if is_put action then Some action else None
@@ -47,9 +47,9 @@ pub record IsStanding (kind : Kind) (name : List ℕ) (orders : List Order) (act
   pub order : Order
   pub there : slice_get orders place ≡ Some order
   pub does : order.action ≡ action
-  pub touched : IsTrue (touches kind name action)
+  pub touched : IsTrue (is_about kind name action)
   pub puts : IsTrue (is_put action)
-  pub last : (j : ℕ) (later : Order) → place < j → slice_get orders j ≡ Some later → touches kind name later.action ≡ false
+  pub last : (j : ℕ) (later : Order) → place < j → slice_get orders j ≡ Some later → is_about kind name later.action ≡ false
 
 -- ---- what stands at a name, by its kind
 

@@ -1,11 +1,13 @@
 ghost use Rattle.std.specs.Prelude.{◌≡◌, ◌≢◌, ◌≤◌, length, Some, Ok, Err, IfOk, IfErr, if◌then◌else◌};
+ghost use Rattle.site_ids.specs.declared.TheConstants.{TICKET_BYTES};
 ghost use Rattle.mustache_parse.specs.Template.{IsTemplateOf};
 ghost use Rattle.mustache_parse.specs.Tree.{tree_of};
 ghost use Rattle.mustache_scan.specs.declared.fault.TemplateFault.{TemplateFault};
 ghost use Rattle.command.specs.Action.{Order};
 ghost use Rattle.command.specs.Reading.{is_name, is_path, is_removable, wrong_remove, row_reading, text_reading, ticket_of, value_reading, TakesMemory};
 ghost use Rattle.command.specs.Rows.{Row as TextRow, release_row, template_row, partial_row, data_row, route_row, remove_row, row_of};
-ghost use Rattle.command.specs.View.{kind_view, StandsFor, IsActionOf};
+ghost use Rattle.command.specs.Standing.{StandsFor, IsActionOf};
+ghost use Rattle.command.specs.View.{kind_view};
 ghost use Rattle.command.specs.Written.{HasLine};
 
 use crate::commands::{Action, Command, Kind};
@@ -42,7 +44,7 @@ pub fn read(alloc: Global, value: &[u8]) -> Result<Command, CommandFault>
 }
 
 fn ticket(value: &[u8]) -> Ticket
-    requires { 12 ≤ length value.now }
+    requires { TICKET_BYTES ≤ length value.now }
     ensures { result ≡ ticket_of value.now }
 {
     Ticket {

@@ -7,12 +7,13 @@ use Rattle.context.specs.View.{data_view}
 use Rattle.context.specs.declared.tree.Data.{Data}
 use Rattle.mustache_parse.specs.Template.{TemplateSeen}
 use Rattle.command.specs.Action.{Kind, template, partial, page_data, route, Action, put_template, put_partial, put_data, put_route, remove, release, Order}
-use Rattle.command.specs.Site.{same_kind, touches, if_put, if_template, if_partial, if_data, if_route}
-use Rattle.command.specs.View.{kind_view, StandsAs}
+use Rattle.command.specs.Site.{is_same_kind, is_about, if_put, if_template, if_partial, if_data, if_route}
+use Rattle.command.specs.Standing.{StandsAs}
+use Rattle.command.specs.View.{kind_view}
 use Rattle.command.specs.declared.commands.Action.TheVariants.{PutTemplate, PutPartial, PutData, PutRoute, Remove, Release}
 use Rattle.command.specs.declared.commands.Kind.{Kind as CodeKind}
 use Rattle.content.specs.Answered.{answered}
-use Rattle.content.specs.Seen.{Named, SiteSeen, at_name, names_of}
+use Rattle.content.specs.View.{Named, SiteSeen, at_name, names_of}
 use Rattle.content.specs.Standing.{IsOfText, HasContents}
 use Rattle.content.specs.declared.applied.Applied.TheVariants.{Changed, Released}
 use Rattle.content.specs.declared.target.Target.{Target}
@@ -47,7 +48,7 @@ with_routes s new = record { tickets = s.tickets; templates = s.templates; parti
 
 -- the action is about that kind and name alone
 abbrev About : Kind → List ℕ → Action → Type 0
-About kind key a = (k : Kind) (name : List ℕ) → touches k name a ≡ (same_kind kind k && bytes_eq key name)
+About kind key a = (k : Kind) (name : List ℕ) → is_about k name a ≡ (is_same_kind kind k && bytes_eq key name)
 
 templates_written : (site : SiteSeen) (new : Named TemplateSeen) (os : List Order) (o : Order) (key : List ℕ) (v : Option TemplateSeen) → Writes site.templates new key v
     → About template key o.action → IsOfText v (option_and_then if_template (if_put o.action)) → HasContents site os → HasContents (with_templates site new) (os ++ o ∷ [])
@@ -94,7 +95,7 @@ Done site os ticket a = HasContents site (os ++ order ticket a ∷ []) × (Chang
 pub template_put : (site : SiteSeen) (new : Named TemplateSeen) (name : String Global) (t : TemplateSeen) (os : List Order) (ticket : Ticket) (a : Action)
     → Writes site.templates new (string_bytes name) (Some t) → StandsAs (PutTemplate name t) a → HasContents site os → Done (with_templates site new) os ticket a
 template_put site new name t os ticket (put_template n body) written is h = (
-  templates_written site new os (order ticket (put_template n body)) (string_bytes name) (Some t) written (λ k m. ap (λ x. same_kind template k && bytes_eq x m) (sym is.0)) (body, refl, is.1) h,
+  templates_written site new os (order ticket (put_template n body)) (string_bytes name) (Some t) written (λ k m. ap (λ x. is_same_kind template k && bytes_eq x m) (sym is.0)) (body, refl, is.1) h,
   refl,
 )
 template_put site new name t os ticket (put_partial n body) written is h = absurd is
@@ -106,7 +107,7 @@ template_put site new name t os ticket release written is h = absurd is
 pub partial_put : (site : SiteSeen) (new : Named TemplateSeen) (name : String Global) (t : TemplateSeen) (os : List Order) (ticket : Ticket) (a : Action)
     → Writes site.partials new (string_bytes name) (Some t) → StandsAs (PutPartial name t) a → HasContents site os → Done (with_partials site new) os ticket a
 partial_put site new name t os ticket (put_partial n body) written is h = (
-  partials_written site new os (order ticket (put_partial n body)) (string_bytes name) (Some t) written (λ k m. ap (λ x. same_kind partial k && bytes_eq x m) (sym is.0)) (body, refl, is.1) h,
+  partials_written site new os (order ticket (put_partial n body)) (string_bytes name) (Some t) written (λ k m. ap (λ x. is_same_kind partial k && bytes_eq x m) (sym is.0)) (body, refl, is.1) h,
   refl,
 )
 partial_put site new name t os ticket (put_template n body) written is h = absurd is
@@ -118,7 +119,7 @@ partial_put site new name t os ticket release written is h = absurd is
 pub data_put : (site : SiteSeen) (new : Named Data) (name : String Global) (d : Data) (os : List Order) (ticket : Ticket) (a : Action)
     → Writes site.page_data new (string_bytes name) (Some d) → StandsAs (PutData name d) a → HasContents site os → Done (with_data site new) os ticket a
 data_put site new name d os ticket (put_data n whole) written is h = (
-  data_written site new os (order ticket (put_data n whole)) (string_bytes name) (Some d) written (λ k m. ap (λ x. same_kind page_data k && bytes_eq x m) (sym is.0)) (ap Some is.1) h,
+  data_written site new os (order ticket (put_data n whole)) (string_bytes name) (Some d) written (λ k m. ap (λ x. is_same_kind page_data k && bytes_eq x m) (sym is.0)) (ap Some is.1) h,
   refl,
 )
 data_put site new name d os ticket (put_template n body) written is h = absurd is
@@ -131,7 +132,7 @@ pub route_put : (site : SiteSeen) (new : Named Target) (path shows fills : Strin
     → Writes site.routes new (string_bytes path) (Some (record { template = shows; page_data = fills })) → StandsAs (PutRoute path shows fills) a → HasContents site os → Done (with_routes site new) os ticket a
 route_put site new path shows fills os ticket (put_route p s f) written is h = (
   routes_written site new os (order ticket (put_route p s f)) (string_bytes path) (Some (record { template = shows; page_data = fills })) written
-      (λ k m. ap (λ x. same_kind route k && bytes_eq x m) (sym is.0)) (ap Some (ap (λ x. (x, string_bytes fills)) is.1 ∙ ap (λ x. (s, x)) is.2)) h,
+      (λ k m. ap (λ x. is_same_kind route k && bytes_eq x m) (sym is.0)) (ap Some (ap (λ x. (x, string_bytes fills)) is.1 ∙ ap (λ x. (s, x)) is.2)) h,
   refl,
 )
 route_put site new path shows fills os ticket (put_template n body) written is h = absurd is
@@ -143,7 +144,7 @@ route_put site new path shows fills os ticket release written is h = absurd is
 -- ---- removes
 
 about : (kind : Kind) (key : List ℕ) (a : Action) → a ≡ remove kind key → About kind key a
-about kind key a is k name = ap (touches k name) is
+about kind key a is k name = ap (is_about k name) is
 
 pub template_removed : (site : SiteSeen) (new : Named TemplateSeen) (key : List ℕ) (os : List Order) (o : Order) → Writes site.templates new key None → o.action ≡ remove template key
     → HasContents site os → HasContents (with_templates site new) (os ++ o ∷ [])

@@ -7,7 +7,7 @@ use Rattle.std.specs.Cmp.Lexicographic.{slice_cmp}
 use Rattle.std.specs.Ordering.{is_eq, ordering_reverse}
 use Rattle.shared_map.specs.Entries.{find}
 use Rattle.shared_map.specs.Search.{IsSearch, AreApart}
-use Rattle.content.specs.Seen.{Named, at_name}
+use Rattle.content.specs.View.{Named, at_name}
 
 pub on_ok : {A E P Q : Type 0} (r : Result A E) → (P → Q) → OnOk r P → OnOk r Q
 on_ok (Ok x) f p = f p

@@ -7,18 +7,18 @@ use Rattle.std.specs.Option.{is_some}
 use Rattle.shared_map.specs.Entries.{put, find}
 use Rattle.site_ids.specs.declared.Ticket.{Ticket}
 use Rattle.command.specs.Action.{Order}
-use Rattle.command.specs.Effective.{same_ticket, has_ticket}
-use Rattle.content.specs.Seen.{keys}
-use Rattle.content.specs.Standing.{holds_ticket}
+use Rattle.command.specs.Effective.{is_same_ticket, has_ticket}
+use Rattle.content.specs.View.{keys}
+use Rattle.content.specs.Standing.{is_held}
 
 -- the commands and one more have its ticket, and those that they had
-pub has_more : (ticket : Ticket) (os : List Order) (o : Order) → has_ticket ticket (os ++ o ∷ []) ≡ cond (same_ticket o.ticket ticket) true (has_ticket ticket os)
-has_more ticket [] o = one (same_ticket o.ticket ticket)
+pub has_more : (ticket : Ticket) (os : List Order) (o : Order) → has_ticket ticket (os ++ o ∷ []) ≡ cond (is_same_ticket o.ticket ticket) true (has_ticket ticket os)
+has_more ticket [] o = one (is_same_ticket o.ticket ticket)
   where
     one : (b : Bool) → (b || false) ≡ cond b true false
     one true = refl
     one false = refl
-has_more ticket (x ∷ os) o = ap (λ b. same_ticket x.ticket ticket || b) (has_more ticket os o) ∙ joined (same_ticket x.ticket ticket) (same_ticket o.ticket ticket) (has_ticket ticket os)
+has_more ticket (x ∷ os) o = ap (λ b. is_same_ticket x.ticket ticket || b) (has_more ticket os o) ∙ joined (is_same_ticket x.ticket ticket) (is_same_ticket o.ticket ticket) (has_ticket ticket os)
   where
     joined : (a b c : Bool) → (a || cond b true c) ≡ cond b true (a || c)
     joined true true c = refl
@@ -29,8 +29,8 @@ has_more ticket (x ∷ os) o = ap (λ b. same_ticket x.ticket ticket || b) (has_
 ticket_of : (a b : Ticket) → a.editor ≡ b.editor → a.number ≡ b.number → a ≡ b
 ticket_of a b e n = ap (λ (x : ℕ). record { editor = x; number = a.number }) e ∙ ap (λ (x : ℕ). record { editor = b.editor; number = x }) n
 
-pub same_ticket-is : (a b : Ticket) → same_ticket a b ≡ true → a ≡ b
-same_ticket-is a b same = by (eqb_tells a.editor b.editor) (eqb_tells a.number b.number)
+pub is_same_ticket-is : (a b : Ticket) → is_same_ticket a b ≡ true → a ≡ b
+is_same_ticket-is a b same = by (eqb_tells a.editor b.editor) (eqb_tells a.number b.number)
   where
     by : ((a.editor == b.editor) ≡ true) × (a.editor ≡ b.editor) ⊎ ((a.editor == b.editor) ≡ false) × (a.editor ≢ b.editor)
         → ((a.number == b.number) ≡ true) × (a.number ≡ b.number) ⊎ ((a.number == b.number) ≡ false) × (a.number ≢ b.number) → a ≡ b
@@ -67,7 +67,7 @@ equal_last x y = whole (nat_cmp x y) ∙ equal_then x y Equal ∙ alone (x == y)
     alone true = refl
     alone false = refl
 
-pub same_by_order : (a b : Ticket) → is_eq (ticket_cmp a b) ≡ same_ticket a b
+pub same_by_order : (a b : Ticket) → is_eq (ticket_cmp a b) ≡ is_same_ticket a b
 same_by_order a b = equal_then a.editor b.editor (nat_cmp a.number b.number) ∙ ap (λ t. (a.editor == b.editor) && t) (equal_last a.number b.number)
 
 pub same_itself : (a : Ticket) → is_eq (ticket_cmp a a) ≡ true
@@ -86,15 +86,15 @@ some_or true h x r is = refl
 some_or false h x r is = is
 
 -- what the map finds is held
-pub found_held : (t : Ticket) (es : Entries) → is_some (find (ticket_cmp t) es) ≡ holds_ticket t (keys es)
+pub found_held : (t : Ticket) (es : Entries) → is_some (find (ticket_cmp t) es) ≡ is_held t (keys es)
 found_held t [] = refl
 found_held t (e ∷ es) =
-    some_or (is_at (ticket_cmp t) e.0) (holds_ticket t (keys es)) e.1 (find (ticket_cmp t) es) (found_held t es) ∙ ap (λ b. b || holds_ticket t (keys es)) (same_by_order t e.0)
+    some_or (is_at (ticket_cmp t) e.0) (is_held t (keys es)) e.1 (find (ticket_cmp t) es) (found_held t es) ∙ ap (λ b. b || is_held t (keys es)) (same_by_order t e.0)
 
 flipped : (a b : ℕ) → (a == b) ≡ (b == a)
 flipped a b = grind (arith, nat_tests)
 
-same_flipped : (a b : Ticket) → same_ticket a b ≡ same_ticket b a
+same_flipped : (a b : Ticket) → is_same_ticket a b ≡ is_same_ticket b a
 same_flipped a b = ap (λ x. x && (a.number == b.number)) (flipped a.editor b.editor) ∙ ap (λ x. (b.editor == a.editor) && x) (flipped a.number b.number)
 
 or_cond : (b c : Bool) → (b || c) ≡ cond b true c
@@ -106,8 +106,8 @@ again true c = refl
 again false c = refl
 
 -- one more ticket is held, and those that were
-pub put_held : (k t : Ticket) (es : Entries) → holds_ticket t (keys (put ticket_cmp (k, tt) es)) ≡ cond (same_ticket k t) true (holds_ticket t (keys es))
-put_held k t [] = ap (λ b. b || false) (same_flipped t k) ∙ or_cond (same_ticket k t) false
+pub put_held : (k t : Ticket) (es : Entries) → is_held t (keys (put ticket_cmp (k, tt) es)) ≡ cond (is_same_ticket k t) true (is_held t (keys es))
+put_held k t [] = ap (λ b. b || false) (same_flipped t k) ∙ or_cond (is_same_ticket k t) false
 put_held k t (e ∷ es) = by (ticket_cmp k e.0) refl (put_held k t es)
   where
     later : (a b c : Bool) → (a || cond b true c) ≡ cond b true (a || c)
@@ -116,11 +116,11 @@ put_held k t (e ∷ es) = by (ticket_cmp k e.0) refl (put_held k t es)
     later false true c = refl
     later false false c = refl
 
-    by : (r : Ordering) → ticket_cmp k e.0 ≡ r → holds_ticket t (keys (put ticket_cmp (k, tt) es)) ≡ cond (same_ticket k t) true (holds_ticket t (keys es))
-        → holds_ticket t (keys (match_ordering r ((k, tt) ∷ e ∷ es) ((k, tt) ∷ es) (e ∷ put ticket_cmp (k, tt) es))) ≡ cond (same_ticket k t) true (same_ticket t e.0 || holds_ticket t (keys es))
-    by Less is more = ap (λ b. b || (same_ticket t e.0 || holds_ticket t (keys es))) (same_flipped t k) ∙ or_cond (same_ticket k t) (same_ticket t e.0 || holds_ticket t (keys es))
+    by : (r : Ordering) → ticket_cmp k e.0 ≡ r → is_held t (keys (put ticket_cmp (k, tt) es)) ≡ cond (is_same_ticket k t) true (is_held t (keys es))
+        → is_held t (keys (match_ordering r ((k, tt) ∷ e ∷ es) ((k, tt) ∷ es) (e ∷ put ticket_cmp (k, tt) es))) ≡ cond (is_same_ticket k t) true (is_same_ticket t e.0 || is_held t (keys es))
+    by Less is more = ap (λ b. b || (is_same_ticket t e.0 || is_held t (keys es))) (same_flipped t k) ∙ or_cond (is_same_ticket k t) (is_same_ticket t e.0 || is_held t (keys es))
     by Equal is more =
-        let same : k ≡ e.0 = same_ticket-is k e.0 (sym (same_by_order k e.0) ∙ ap is_eq is) in
-        ap (λ b. b || holds_ticket t (keys es)) (same_flipped t k) ∙ again (same_ticket k t) (holds_ticket t (keys es))
-        ∙ ap (λ b. cond (same_ticket k t) true (b || holds_ticket t (keys es))) (same_flipped k t ∙ ap (same_ticket t) same)
-    by Greater is more = ap (λ b. same_ticket t e.0 || b) more ∙ later (same_ticket t e.0) (same_ticket k t) (holds_ticket t (keys es))
+        let same : k ≡ e.0 = is_same_ticket-is k e.0 (sym (same_by_order k e.0) ∙ ap is_eq is) in
+        ap (λ b. b || is_held t (keys es)) (same_flipped t k) ∙ again (is_same_ticket k t) (is_held t (keys es))
+        ∙ ap (λ b. cond (is_same_ticket k t) true (b || is_held t (keys es))) (same_flipped k t ∙ ap (is_same_ticket t) same)
+    by Greater is more = ap (λ b. is_same_ticket t e.0 || b) more ∙ later (is_same_ticket t e.0) (is_same_ticket k t) (is_held t (keys es))

@@ -1,3 +1,3 @@
-pub mod Seen
+pub mod View
 pub mod Standing
 pub mod Answered

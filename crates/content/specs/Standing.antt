@@ -5,9 +5,9 @@ use Rattle.site_ids.specs.declared.Ticket.{Ticket}
 use Rattle.context.specs.View.{data_view}
 use Rattle.mustache_parse.specs.Template.{TemplateSeen, IsTemplateOf}
 use Rattle.command.specs.Action.{Order}
-use Rattle.command.specs.Effective.{same_ticket, has_ticket, commands_of, effective}
+use Rattle.command.specs.Effective.{is_same_ticket, has_ticket, commands_of, effective}
 use Rattle.command.specs.Site.{template_at, partial_at, data_at, route_at}
-use Rattle.content.specs.Seen.{SiteSeen, at_name, names_of}
+use Rattle.content.specs.View.{SiteSeen, at_name, names_of}
 
 -- a template is of the text, and there is none where there is no text
 abbrev pub IsOfText : Option TemplateSeen → Option (List ℕ) → Type 0
@@ -21,10 +21,10 @@ pub record HasContents (site : SiteSeen) (orders : List Order) : Type 0 where
   pub page_data : (name : List ℕ) → option_map data_view (at_name name site.page_data) ≡ data_at name orders
   pub routes : (path : List ℕ) → option_map names_of (at_name path site.routes) ≡ route_at path orders
 
-abbrev pub holds_ticket : Ticket → List Ticket → Bool
-holds_ticket ticket tickets = list_any (same_ticket ticket) tickets
+abbrev pub is_held : Ticket → List Ticket → Bool
+is_held ticket tickets = list_any (is_same_ticket ticket) tickets
 
 -- the site stands for the values: it has the tickets of their commands, and what their effective commands leave
 pub record IsSiteOf (site : SiteSeen) (values : List (List ℕ)) : Type 0 where
-  pub tickets : (ticket : Ticket) → holds_ticket ticket site.tickets ≡ has_ticket ticket (commands_of values)
+  pub tickets : (ticket : Ticket) → is_held ticket site.tickets ≡ has_ticket ticket (commands_of values)
   pub contents : HasContents site (effective values)

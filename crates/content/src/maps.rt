@@ -2,7 +2,7 @@
 ghost use Rattle.std.specs.Prelude.{◌≡◌, ℕ, List, None, Some, OnOk, OnErr, string_bytes};
 ghost use Rattle.std.specs.Map.{update};
 ghost use Rattle.std.specs.Str.{bytes_eq};
-ghost use Rattle.content.specs.Seen.{at_name};
+ghost use Rattle.content.specs.View.{at_name};
 
 use shared_map::SharedMap;
 use std::alloc::AllocError;

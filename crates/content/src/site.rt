@@ -3,7 +3,8 @@ ghost use Rattle.command.specs.Action.{Order, remove};
 ghost use Rattle.command.specs.Effective.{effective};
 ghost use Rattle.command.specs.Reading.{value_reading};
 ghost use Rattle.command.specs.Site.{template_at, partial_at, data_at, route_at};
-ghost use Rattle.command.specs.View.{kind_view, StandsAs, StandsFor, pair_view};
+ghost use Rattle.command.specs.Standing.{StandsAs, StandsFor};
+ghost use Rattle.command.specs.View.{kind_view, pair_view};
 ghost use Rattle.context.specs.View.{data_view};
 ghost use Rattle.mustache_parse.specs.Template.{IsTemplateOf};
 ghost use Rattle.content.specs.Standing.{HasContents, IsSiteOf};
@@ -35,7 +36,7 @@ impl Model for Site {
     ghost use Rattle.std.specs.Coded.{codes};
     ghost use Rattle.context.specs.contracts.tree.Data as data_type;
     ghost use Rattle.mustache_parse.specs.contracts.node.Node as node_type;
-    ghost use Rattle.content.specs.Seen.{SiteSeen, keys};
+    ghost use Rattle.content.specs.View.{SiteSeen, keys};
 
     ghost Value = { SiteSeen };
 

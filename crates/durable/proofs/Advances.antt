@@ -1,7 +1,7 @@
 -- Which entries advance a list, by the slot of their instance.
 use Rattle.std.proofs.Common.{◌≡◌, ◌≢◌, ℕ, List, Option, Some, None, refl, sym, ◌∙◌, subst, arith}
 use Rattle.site_ids.specs.Ids.{BallotOf, Below, NotAbove}
-use Rattle.site_ids.specs.Majorities.{In}
+use Rattle.site_ids.specs.Lists.{In}
 use Rattle.site_ids.specs.declared.value.Vote.{Vote}
 use Rattle.acceptor.specs.declared.slot.Slot.{Slot}
 use Rattle.acceptor.specs.Judging.{IsFreeBelow, IsFreeAt, IsVotedAt}

@@ -2,7 +2,7 @@
 use Rattle.std.proofs.Common.{◌≡◌, ◌⊎◌, inl, inr, ⊎_elim, ℕ, List, [], ◌∷◌, ◌++◌, length, get_or, drop, refl, sym, ◌∙◌, ap, subst, arith, length-append, max, if◌then◌else◌, Option, Some, None}
 use Rattle.std.specs.Prelude.{nat_eq}
 use Rattle.site_ids.specs.Ids.{BallotOf, NotAbove}
-use Rattle.site_ids.specs.Majorities.{In}
+use Rattle.site_ids.specs.Lists.{In}
 use Rattle.site_ids.specs.declared.value.Vote.{Vote}
 use Rattle.durable.specs.Entries.{Entry, Round, Promised, Voted, round_after, round_in, greatest_round, vote_after, Raises, IsPromise}
 use Rattle.durable.specs.Histories.{MayFollow, IsHistory}

@@ -1,7 +1,7 @@
 -- Entries, and what a list of them records, the oldest first.
 use Rattle.std.specs.Prelude.{◌≡◌, ℕ, List, [], ◌∷◌, ◌++◌, Option, Some, None, max, nat_eq, if◌then◌else◌}
 use Rattle.site_ids.specs.Ids.{BallotOf, NotAbove}
-use Rattle.site_ids.specs.Majorities.{In}
+use Rattle.site_ids.specs.Lists.{In}
 use Rattle.site_ids.specs.declared.value.Vote.{Vote}
 use Rattle.acceptor.specs.declared.slot.Slot.{Slot}
 

@@ -1,7 +1,8 @@
 -- Which entries may follow one another.
 use Rattle.std.specs.Prelude.{◌≡◌, ◌≢◌, ℕ, ◌<◌, ◌≤◌, ◌^◌, List, ◌∷◌, ◌++◌, length, Some}
+use Rattle.site_ids.specs.declared.TheConstants.{MAX_VALUE}
 use Rattle.site_ids.specs.Ids.{BallotOf, IsInstance, IsBallot, Below, NotAbove}
-use Rattle.site_ids.specs.Majorities.{In}
+use Rattle.site_ids.specs.Lists.{In}
 use Rattle.site_ids.specs.declared.value.Vote.{Vote}
 use Rattle.durable.specs.Entries.{Entry, Round, Promised, Voted, Raises, last_round, last_vote}
 
@@ -9,7 +10,7 @@ use Rattle.durable.specs.Entries.{Entry, Round, Promised, Voted, Raises, last_ro
 abbrev pub IsInRange : ℕ → Entry → Type 0
 IsInRange n (Round r) = (0 < r) × (r < 2 ^ 32)
 IsInRange n (Promised i b) = IsInstance i × IsBallot n b
-IsInRange n (Voted i b v) = IsInstance i × IsBallot n b × (length v ≤ 32768)
+IsInRange n (Voted i b v) = IsInstance i × IsBallot n b × (length v ≤ MAX_VALUE)
 
 -- A round is above the last one, a promise above each ballot raised at its instance. A vote is below none of them, and not at the ballot of
 -- the last vote there.

@@ -1,6 +1,7 @@
 //! Putting one entry more on record.
 
 ghost use Rattle.std.specs.Prelude.{◌≡◌, ◌+◌, ◌≤◌, ◌<◌, ◌^◌, IsErrOf, OnOk, OnErr, length, false, true};
+ghost use Rattle.site_ids.specs.declared.TheConstants.{MAX_VALUE};
 ghost use Rattle.site_disk.specs.Model.{CountsFailure};
 ghost use Rattle.site_ids.specs.Ids.{IsNode};
 ghost use Rattle.acceptor.specs.Judging.{IsFreeBelow, IsFreeAt, IsVotedAt};
@@ -71,7 +72,7 @@ impl<D: Disk> Record<D> {
         requires of_cluster { IsNode self.old.cluster ballot.node }
         requires free { IsFreeAt (slot_at self.old.recorded.slots instance).promised ballot }
         requires new { ¬ IsVotedAt (slot_at self.old.recorded.slots instance).vote ballot }
-        requires fits { length value.now ≤ 32768 }
+        requires fits { length value.now ≤ MAX_VALUE }
         ensures { Puts D.stands_for D.failed self.old self.new (Voted instance ballot value.now) result }
     {
         if self.stopped {

@@ -1,6 +1,7 @@
 //! What a node has promised and voted at each instance.
 
 ghost use Rattle.std.specs.Prelude.{◌≡◌, ◌≢◌, ◌≤◌, ◌<◌, ◌^◌, ℕ, None, Some, OnOk, IfOk, length};
+ghost use Rattle.site_ids.specs.declared.TheConstants.{MAX_VALUE};
 ghost use Rattle.site_ids.specs.Ids.{IsInstance};
 ghost use Rattle.durable.specs.Entries.{Voted};
 ghost use Rattle.durable.specs.Spelling.{behind_gate};
@@ -96,7 +97,7 @@ impl Slots {
         ballot: Ballot,
         value: &[u8],
     ) -> Result<(Vec<u8>, Vote), AllocError>
-        requires { length value.now ≤ 32768 }
+        requires { length value.now ≤ MAX_VALUE }
         ensures bytes { IfOk result (λ p. p.0.items ≡ behind_gate (Voted instance ballot value.now)) }
         ensures vote { IfOk result (λ p. p.1 ≡ record { ballot = ballot; value = value.now }) }
         ensures in_range { IsInstance instance × (1 ≤ ballot.round) × (ballot.round < 2 ^ 32) }

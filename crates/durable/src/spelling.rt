@@ -1,6 +1,7 @@
 //! How entries are spelled behind their gates.
 
 ghost use Rattle.std.specs.Prelude.{◌≡◌, ◌≤◌, ◌<◌, ◌^◌, length, IfOk};
+ghost use Rattle.site_ids.specs.declared.TheConstants.{MAX_VALUE};
 ghost use Rattle.site_ids.specs.Ids.{IsInstance};
 ghost use Rattle.durable.specs.Entries.{Round, Promised, Voted};
 ghost use Rattle.durable.specs.Spelling.{behind_gate};
@@ -55,7 +56,7 @@ pub(crate) fn vote_behind(
     ballot: Ballot,
     value: &[u8],
 ) -> Result<Vec<u8>, AllocError>
-    requires { length value.now ≤ 32768 }
+    requires { length value.now ≤ MAX_VALUE }
     ensures bytes { IfOk result (λ bytes. bytes.items ≡ behind_gate (Voted instance ballot value.now)) }
     ensures in_range { IsInstance instance × (1 ≤ ballot.round) × (ballot.round < 2 ^ 32) }
 {

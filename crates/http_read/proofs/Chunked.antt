@@ -4,6 +4,7 @@ use Rattle.std.proofs.lemmas.List.{take-append-drop, length-take}
 use Rattle.std.proofs.lemmas.List.Concat.{flat_map-append}
 use Rattle.std.proofs.lemmas.List.Elements.{All-push}
 use Rattle.std.specs.List.{flat_map}
+use Rattle.http_read.specs.declared.lengths.TheConstants.{BODY_LIMIT}
 use Rattle.httparse.specs.Ascii.{crlf_bytes}
 use Rattle.httparse.specs.Grammar.{print_chunk_line}
 use Rattle.http_read.specs.Input.{StopsAt}
@@ -48,7 +49,7 @@ step_more (Some input) mid late now size old new (line, behind, begins, says, is
       b.2,
     )
 
-pub step_cut_bytes : (first mid left : Option (List ℕ)) (size n : ℕ) → IfSome first (ReadsLine (Some size) mid) → 0 < size → n + size ≤ 40000
+pub step_cut_bytes : (first mid left : Option (List ℕ)) (size n : ℕ) → IfSome first (ReadsLine (Some size) mid) → 0 < size → n + size ≤ BODY_LIMIT
     → StopsAt mid left (λ taken. length taken < size) → StopsAt first left (λ taken. EndsChunks n taken ended)
 step_cut_bytes None mid left size n reads some small stops = tt
 step_cut_bytes (Some input) mid left size n (line, behind, begins, says, is) some small stops =
@@ -62,7 +63,7 @@ step_cut_bytes (Some input) mid left size n (line, behind, begins, says, is) som
     (subst (λ m. StopsAt m left (λ taken. length taken < size)) is stops)
 
 pub step_cut_break : (first mid late left : Option (List ℕ)) (size : ℕ) (old new : List ℕ) → IfSome first (ReadsLine (Some size) mid)
-    → IfSome mid (TakesFront size old new late) → 0 < size → length old + size ≤ 40000
+    → IfSome mid (TakesFront size old new late) → 0 < size → length old + size ≤ BODY_LIMIT
     → StopsAt late left (λ taken. length taken < 2) → StopsAt first left (λ taken. EndsChunks (length old) taken ended)
 step_cut_break None mid late left size old new reads takes some small stops = tt
 step_cut_break (Some input) mid late left size old new (line, behind, begins, says, is) takes some small stops =
@@ -93,7 +94,7 @@ taken_none None = tt
 taken_none (Some input) = ([], input, record { each = (λ k d below. absurd (omega (arith, below))); whole = refl; small = omega arith }, refl, refl)
 
 pub taken_more : (first mid now : Option (List ℕ)) (body new : List ℕ) → HasTaken first mid body
-    → IfSome mid (ShowsStep step.More body new now) → length new ≤ 40000 → HasTaken first now new
+    → IfSome mid (ShowsStep step.More body new now) → length new ≤ BODY_LIMIT → HasTaken first now new
 taken_more None mid now body new taken shows small = tt
 taken_more (Some input) mid now body new (chunks, tail, begins, joined, is) shows small =
     let s : TakesChunk body new now tail = subst (λ m. IfSome m (TakesChunk body new now)) is shows in

@@ -11,7 +11,7 @@ use Rattle.httparse.specs.Grammar.{trim_ows}
 use Rattle.httparse.specs.declared.spans.HeaderSpan.{HeaderSpan}
 use Rattle.httparse.specs.Spans.{header_bytes}
 use Rattle.http_read.specs.declared.codings.Codings.{Codings}
-use Rattle.http_read.specs.Checks.{FieldPair, comma_parts, coding_in, codings_of, ends_chunked, is_chunked, has_field_name}
+use Rattle.http_read.specs.Checks.{FieldPair, comma_parts, coding_in, codings_of, is_chunked_last, is_chunked, has_field_name}
 use Rattle.http_read.specs.Codings.{Tells, codings_in}
 use Rattle.http_read.specs.Spans.{covered}
 
@@ -35,7 +35,7 @@ cut_nowhere value none =
     slice_split_none (λ b. b == 44) value (All-from_get_or (λ b. (b == 44) ≡ false) value 0
     (λ k below. let h = none k below in grind arith))
 
-ends_push : (seen : List (List ℕ)) (coding : List ℕ) → ends_chunked (seen ++ coding ∷ []) ≡ is_chunked coding
+ends_push : (seen : List (List ℕ)) (coding : List ℕ) → is_chunked_last (seen ++ coding ∷ []) ≡ is_chunked coding
 ends_push [] coding = refl
 ends_push (x ∷ []) coding = refl
 ends_push (x ∷ y ∷ ys) coding = ends_push (y ∷ ys) coding
@@ -54,7 +54,7 @@ several_push (x ∷ xs) coding = let h = length-append xs (coding ∷ []) in gri
 
 -- one coding more
 pub tells_more : (old new : Codings) (seen : List (List ℕ)) (part : List ℕ) → Tells old seen → (length (trim_ows part) == 0) ≡ false
-    → new.any ≡ true → new.several ≡ old.any → new.ends_chunked ≡ is_chunked (trim_ows part) → Tells new (seen ++ coding_in part)
+    → new.any ≡ true → new.several ≡ old.any → new.is_chunked_last ≡ is_chunked (trim_ows part) → Tells new (seen ++ coding_in part)
 tells_more old new seen part told some any several ends =
     rw (coding_is part false some) record {
       any = any ∙ any_push seen (trim_ows part);

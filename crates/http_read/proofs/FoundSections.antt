@@ -2,6 +2,7 @@
 use Rattle.std.proofs.Common.{◌≡◌, ℕ, ◌<◌, ◌≤◌, List, ◌++◌, length, take, drop, arith, sym, ap, subst, refl, ◌∙◌, append_assoc, length-append, inl, inr, Some, None}
 use Rattle.std.proofs.lemmas.List.{take-append-drop, take-append-le, drop-append-le, length-take, length-map}
 use Rattle.std.proofs.Math.Seq.{drop-append_seam}
+use Rattle.http_read.specs.declared.heads.TheConstants.{HEAD_LIMIT}
 use Rattle.httparse.specs.declared.spans.HeaderSpan.{HeaderSpan}
 use Rattle.httparse.specs.Grammar.{Field, LineEnd, print_section, ReadsSection, HasNoSection, NeverHasSection, MayBecomeSection}
 use Rattle.httparse.specs.Spans.{IsSectionWithin, IsSectionOf, header_bytes, name_and_value}
@@ -59,8 +60,8 @@ trailer_whole held bytes more len count same seen few =
       drop len held ++ more,
       (
         s.1,
-        section_of_front 8192 len count held more s.0 s.1 s.2 s.3 s.5,
-        omega (arith, s.3, s.5, length-take 8192 held),
+        section_of_front HEAD_LIMIT len count held more s.0 s.1 s.2 s.3 s.5,
+        omega (arith, s.3, s.5, length-take HEAD_LIMIT held),
         omega (arith, s.4, few),
       ),
       refl,
@@ -76,8 +77,8 @@ trailer_many held bytes more len count same seen many =
         s.0,
         s.1,
         drop len held ++ more,
-        section_of_front 8192 len count held more s.0 s.1 s.2 s.3 s.5,
-        omega (arith, s.3, s.5, length-take 8192 held),
+        section_of_front HEAD_LIMIT len count held more s.0 s.1 s.2 s.3 s.5,
+        omega (arith, s.3, s.5, length-take HEAD_LIMIT held),
         omega (arith, s.4, many),
       ),
     ))
@@ -87,12 +88,12 @@ never_within n held more never =
     let r = take_goes_on n held more in subst NeverHasSection (sym r.1) (never_a_section (take n held) r.0 never)
 
 pub trailer_never : (held bytes more : List ℕ) → bytes ≡ window held → SeesSection bytes Never → ReadsTrailer (held ++ more) (refused 400)
-trailer_never held bytes more same never = inl (refl, never_within 8192 held more (subst NeverHasSection same never))
+trailer_never held bytes more same never = inl (refl, never_within HEAD_LIMIT held more (subst NeverHasSection same never))
 
-pub trailer_long : (held bytes more : List ℕ) → bytes ≡ window held → SeesSection bytes Open → 8192 < length held
+pub trailer_long : (held bytes more : List ℕ) → bytes ≡ window held → SeesSection bytes Open → HEAD_LIMIT < length held
     → ReadsTrailer (held ++ more) (refused 431)
 trailer_long held bytes more same wanted full =
-    let front : window (held ++ more) ≡ window held = take-append-le 8192 held more (omega arith) in
+    let front : window (held ++ more) ≡ window held = take-append-le HEAD_LIMIT held more (omega arith) in
     inr (inl (
       refl,
       subst HasNoSection (same ∙ sym front) wanted.0,
@@ -100,8 +101,8 @@ trailer_long held bytes more same wanted full =
       omega (arith, length-append held more),
     ))
 
-pub trailer_short : (held bytes : List ℕ) → bytes ≡ window held → SeesSection bytes Open → length held ≤ 8192 → ReadsTrailer held ended
+pub trailer_short : (held bytes : List ℕ) → bytes ≡ window held → SeesSection bytes Open → length held ≤ HEAD_LIMIT → ReadsTrailer held ended
 trailer_short held bytes same wanted short = (subst HasNoSection same wanted.0, subst MayBecomeSection same wanted.1, short)
 
 pub section_fits_held : (held bytes : List ℕ) (len count : ℕ) → bytes ≡ window held → SeesSection bytes (Whole len count) → len ≤ length held
-section_fits_held held bytes len count same seen = omega (arith, seen.5, ap length same, length-take 8192 held)
+section_fits_held held bytes len count same seen = omega (arith, seen.5, ap length same, length-take HEAD_LIMIT held)

@@ -5,6 +5,7 @@ use Rattle.std.proofs.lemmas.List.Elements.{All-append, All-head, All-tail}
 use Rattle.std.proofs.Math.Seq.{take-append_seam, drop-append_seam}
 use Rattle.std.specs.List.{All, flat_map}
 use Rattle.std.specs.Char.{is_ascii_hexdigit}
+use Rattle.http_read.specs.declared.lengths.TheConstants.{BODY_LIMIT}
 use Rattle.httparse.specs.Ascii.{crlf_bytes}
 use Rattle.httparse.specs.Grammar.{AllPass, is_ows, is_extension_byte, Field, ChunkLine, IsChunkLine, IsExtension, print_chunk_line, print_extension, print_end, crlf, chunk_size}
 use Rattle.httparse.proofs.ChunkLemmas.{chunk_line_unique}
@@ -96,10 +97,10 @@ one_line tail l k r q a b =
 -- what follows a chunk line that ends the chunks
 abbrev Behind : ℕ → ChunkLine → List ℕ → Reading (List Field) → Type 0
 Behind n line behind x =
-    ((40000 < n + chunk_size line) × (x ≡ refused 413))
-    ⊎ (((0 < chunk_size line) × (n + chunk_size line ≤ 40000)
+    ((BODY_LIMIT < n + chunk_size line) × (x ≡ refused 413))
+    ⊎ (((0 < chunk_size line) × (n + chunk_size line ≤ BODY_LIMIT)
     × (chunk_size line + 2 ≤ length behind) × ¬ (take 2 (drop (chunk_size line) behind) ≡ crlf_bytes) × (x ≡ refused 400))
-    ⊎ (((0 < chunk_size line) × (n + chunk_size line ≤ 40000) × (length behind < chunk_size line + 2) × (x ≡ ended))
+    ⊎ (((0 < chunk_size line) × (n + chunk_size line ≤ BODY_LIMIT) × (length behind < chunk_size line + 2) × (x ≡ ended))
     ⊎ ((chunk_size line ≡ 0) × ReadsTrailer behind x)))
 
 abbrev AtLine : ℕ → List ℕ → Reading (List Field) → Type 0
@@ -121,7 +122,7 @@ kind n tail ended (inr (line, behind, begins, inl (some, small, short))) =
     inr (inr (line, behind, begins, inr (inr (inl (some, small, short, refl)))))
 kind n tail ended (inr (line, behind, begins, inr (none, trailer))) = inr (inr (line, behind, begins, inr (inr (inr (none, trailer)))))
 
-one_behind : (n : ℕ) (line : ChunkLine) (behind : List ℕ) (x y : Reading (List Field)) → n ≤ 40000 → Behind n line behind x
+one_behind : (n : ℕ) (line : ChunkLine) (behind : List ℕ) (x y : Reading (List Field)) → n ≤ BODY_LIMIT → Behind n line behind x
     → Behind n line behind y → x ≡ y
 one_behind n line behind x y few (inl (a, is)) (inl (b, it)) = is ∙ sym it
 one_behind n line behind x y few (inl (a, is)) (inr (inl (b, c, d, e, it))) = absurd (omega (arith, a, c))
@@ -140,7 +141,7 @@ one_behind n line behind x y few (inr (inr (inr (b, t)))) (inr (inl (b', c', d',
 one_behind n line behind x y few (inr (inr (inr (b, t)))) (inr (inr (inl (b', c', d', is)))) = absurd (omega (arith, b, b'))
 one_behind n line behind x y few (inr (inr (inr (b, t)))) (inr (inr (inr (b', t')))) = one_trailer behind x y t t'
 
-one_end : (n : ℕ) (tail : List ℕ) (x y : Reading (List Field)) → n ≤ 40000 → Kind n tail x → Kind n tail y → x ≡ y
+one_end : (n : ℕ) (tail : List ℕ) (x y : Reading (List Field)) → n ≤ BODY_LIMIT → Kind n tail x → Kind n tail y → x ≡ y
 one_end n tail x y few (inl (a, is)) (inl (b, it)) = is ∙ sym it
 one_end n tail x y few (inl (a, is)) (inr (inl (b, it))) = absurd (no_line_is_whole tail a b)
 one_end n tail x y few (inl (a, is)) (inr (inr (line, behind, begins, w))) = absurd (line_is_line tail line behind begins a)
@@ -155,7 +156,7 @@ one_end n tail x y few (inr (inr (l, r, a, w))) (inr (inr (k, q, b, v))) =
 
 -- the chunks don't end where a chunk stands
 goes_on : (n : ℕ) (d : Chunk) (tail rest : List ℕ) (x : Reading (List Field)) → IsChunk d → tail ≡ print_chunk d ++ rest
-    → n + length d.bytes ≤ 40000 → Kind n tail x → ⊥
+    → n + length d.bytes ≤ BODY_LIMIT → Kind n tail x → ⊥
 goes_on n d tail rest x ok whole small k =
     by_kind k
   where
@@ -198,8 +199,8 @@ one_chunk c d r q ok fine e =
     (ap₂ (λ l b. record { line = l; bytes = b }) same.0 parts.0, append_cancel_left crlf_bytes r q parts.1)
 
 one_list : (cs ds : List Chunk) (s t : List ℕ) (n : ℕ) (x y : Reading (List Field)) → All IsChunk cs → All IsChunk ds
-    → flat_map print_chunk cs ++ s ≡ flat_map print_chunk ds ++ t → n + length (chunks_joined cs) ≤ 40000
-    → n + length (chunks_joined ds) ≤ 40000 → Kind (n + length (chunks_joined cs)) s x → Kind (n + length (chunks_joined ds)) t y
+    → flat_map print_chunk cs ++ s ≡ flat_map print_chunk ds ++ t → n + length (chunks_joined cs) ≤ BODY_LIMIT
+    → n + length (chunks_joined ds) ≤ BODY_LIMIT → Kind (n + length (chunks_joined cs)) s x → Kind (n + length (chunks_joined ds)) t y
     → (cs ≡ ds) × (s ≡ t)
 one_list [] [] s t n x y ok fine e small few a b = (refl, e)
 one_list [] (d ∷ ds) s t n x y ok fine e small few a b =

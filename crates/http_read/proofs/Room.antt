@@ -2,6 +2,7 @@
 use Rattle.std.proofs.Common.{ℕ, ◌+◌, ◌*◌, ◌<◌, ◌≤◌, List, [], ◌∷◌, ◌++◌, length, All, arith, length-append, ap}
 use Rattle.std.specs.List.{flat_map}
 use Rattle.std.proofs.lemmas.List.Elements.{All-head, All-tail}
+use Rattle.http_read.specs.declared.heads.TheConstants.{HEAD_LIMIT}
 use Rattle.httparse.specs.Grammar.{Field, IsField, LineEnd, lf, print_end, print_field, print_section, RequestHead, print_request, print_blank, print_version}
 use Rattle.httparse.specs.Spans.{RequestExceeds, SectionExceeds}
 use Rattle.httparse.specs.Ascii.{space, colon}
@@ -36,7 +37,7 @@ head_fits h each =
     omega (arith, section_fits h.fields h.last each, length-append start (print_section h.fields h.last))
 
 -- room that a short head exceeds
-pub room_of_head : (room : ℕ) (bytes : List ℕ) → length bytes ≤ 8192 → RequestExceeds room bytes → room < 2730
+pub room_of_head : (room : ℕ) (bytes : List ℕ) → length bytes ≤ HEAD_LIMIT → RequestExceeds room bytes → room < 2730
 room_of_head room bytes short (front, rest, begins, h, reads, many) =
     omega (
       arith,
@@ -49,7 +50,7 @@ room_of_head room bytes short (front, rest, begins, h, reads, many) =
     )
 
 -- and a short section
-pub room_of_section : (room : ℕ) (bytes : List ℕ) → length bytes ≤ 8192 → SectionExceeds room bytes → room < 2730
+pub room_of_section : (room : ℕ) (bytes : List ℕ) → length bytes ≤ HEAD_LIMIT → SectionExceeds room bytes → room < 2730
 room_of_section room bytes short (front, rest, begins, fields, reads, many) =
     omega (
       arith,

@@ -1,6 +1,8 @@
 -- The body of a request (RFC 9112, sections 6 and 7.1).
 use Rattle.std.specs.Prelude.{◌≡◌, ◌≢◌, ℕ, ◌-◌, slice_index, ◌+◌, ◌<◌, ◌≤◌, ◌⊎◌, List, ◌++◌, length, take, drop, All}
 use Rattle.std.specs.List.{flat_map}
+use Rattle.http_read.specs.declared.lines.TheConstants.{LINE_LIMIT}
+use Rattle.http_read.specs.declared.lengths.TheConstants.{BODY_LIMIT}
 use Rattle.httparse.specs.Ascii.{line_feed, crlf_bytes}
 use Rattle.httparse.specs.Grammar.{ChunkLine, IsChunkLine, print_chunk_line, chunk_size, Field}
 use Rattle.http_read.specs.Heads.{Reading, got, refused, ended, ReadsTrailer}
@@ -15,18 +17,18 @@ pub record Chunk : Type 0 where
 pub record IsFirstLine (input : List ℕ) (n : ℕ) : Type 0 where
   pub some : 0 < n
   pub within : n ≤ length input
-  pub short : n ≤ 256
+  pub short : n ≤ LINE_LIMIT
   pub feed : slice_index input (n - 1) ≡ line_feed
   pub before : (k : ℕ) → k + 1 < n → slice_index input k ≢ line_feed
 
 -- no line feed stands among the first 256 bytes
 abbrev pub HasNoFeed : List ℕ → Type 0
-HasNoFeed input = (k : ℕ) → k < 256 → k < length input → slice_index input k ≢ line_feed
+HasNoFeed input = (k : ℕ) → k < LINE_LIMIT → k < length input → slice_index input k ≢ line_feed
 
 -- a chunk line has at most 256 bytes
 pub record IsShortLine (line : ChunkLine) : Type 0 where
   pub well_formed : IsChunkLine line
-  pub short : length (print_chunk_line line) ≤ 256
+  pub short : length (print_chunk_line line) ≤ LINE_LIMIT
 
 -- the line is short and tells the number of the bytes, which isn't 0
 pub record IsChunk (chunk : Chunk) : Type 0 where
@@ -46,7 +48,7 @@ chunks_joined chunks = flat_map (λ chunk. chunk.bytes) chunks
 pub record BeginsWithChunks (input : List ℕ) (chunks : List Chunk) (tail : List ℕ) : Type 0 where
   pub each : All IsChunk chunks
   pub whole : input ≡ flat_map print_chunk chunks ++ tail
-  pub small : length (chunks_joined chunks) ≤ 40000
+  pub small : length (chunks_joined chunks) ≤ BODY_LIMIT
 
 -- tail begins with this chunk line, and rest follows
 pub record BeginsWithLine (tail : List ℕ) (line : ChunkLine) (rest : List ℕ) : Type 0 where
@@ -56,13 +58,13 @@ pub record BeginsWithLine (tail : List ℕ) (line : ChunkLine) (rest : List ℕ)
 -- the first line is too long, or it is no chunk line
 abbrev pub IsNoLine : List ℕ → Type 0
 IsNoLine tail =
-    ((256 ≤ length tail) × HasNoFeed tail)
+    ((LINE_LIMIT ≤ length tail) × HasNoFeed tail)
     ⊎ ((n : ℕ) × IsFirstLine tail n × ((line : ChunkLine) → IsChunkLine line → ¬ (take n tail ≡ print_chunk_line line)))
 
 -- the input ends within the first line
 pub record IsCutLine (tail : List ℕ) : Type 0 where
   pub open_end : HasNoFeed tail
-  pub short : length tail < 256
+  pub short : length tail < LINE_LIMIT
 
 -- What the chunks end with, behind so many bytes of them.
 -- got: the line of the last chunk and the trailer section.
@@ -73,14 +75,14 @@ EndsChunks so_far tail (got fields rest) =
 EndsChunks so_far tail (refused status) =
     ((status ≡ 400) × IsNoLine tail)
     ⊎ ((line : ChunkLine) × (behind : List ℕ) × BeginsWithLine tail line behind × (
-    ((status ≡ 413) × (40000 < so_far + chunk_size line))
-    ⊎ ((status ≡ 400) × (0 < chunk_size line) × (so_far + chunk_size line ≤ 40000)
+    ((status ≡ 413) × (BODY_LIMIT < so_far + chunk_size line))
+    ⊎ ((status ≡ 400) × (0 < chunk_size line) × (so_far + chunk_size line ≤ BODY_LIMIT)
     × (chunk_size line + 2 ≤ length behind) × ¬ (take 2 (drop (chunk_size line) behind) ≡ crlf_bytes))
     ⊎ ((chunk_size line ≡ 0) × ReadsTrailer behind (refused status))))
 EndsChunks so_far tail ended =
     IsCutLine tail
     ⊎ ((line : ChunkLine) × (behind : List ℕ) × BeginsWithLine tail line behind × (
-    ((0 < chunk_size line) × (so_far + chunk_size line ≤ 40000) × (length behind < chunk_size line + 2))
+    ((0 < chunk_size line) × (so_far + chunk_size line ≤ BODY_LIMIT) × (length behind < chunk_size line + 2))
     ⊎ ((chunk_size line ≡ 0) × ReadsTrailer behind ended)))
 
 -- a body by chunks: whole chunks, and then what ends them

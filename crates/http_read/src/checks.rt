@@ -68,7 +68,7 @@ fn coding_status(minor: u8, bytes: &[u8], fields: &[HeaderSpan]) -> Option<u16>
         return Some(400);
     }
     let codings = codings_named(bytes, fields);
-    if !codings.ends_chunked {
+    if !codings.is_chunked_last {
         Some(400)
     } else if codings.several {
         Some(501)

@@ -1,6 +1,7 @@
 //! Reads a body by chunks (RFC 9112, section 7.1).
 ghost use Rattle.std.specs.Prelude.{◌≡◌, ◌≢◌, ℕ, List, ◌≤◌, ◌<◌, length, IfOk, IfErr, IfSome, OnOk, IsErrOf};
 ghost use Rattle.std.specs.Io.KnownBytes.{Keeps, IsAtEnd};
+ghost use Rattle.http_read.specs.declared.lengths.TheConstants.{BODY_LIMIT};
 ghost use Rattle.http_read.specs.Counted.{inside, failed, RoseByOne};
 ghost use Rattle.http_read.specs.Input.{input_of, StopsAt};
 ghost use Rattle.http_read.specs.Heads.{ended};
@@ -57,10 +58,10 @@ fn next_chunk<R: Read>(
     inbox: &mut Inbox,
     body: &mut Vec<u8>,
 ) -> Result<Step, ReadFault>
-    requires { length body.old.items ≤ 40000 }
+    requires { length body.old.items ≤ BODY_LIMIT }
     ensures step { IfOk result (λ step. IfSome (input_of inbox.old (R.remaining (inside reader.old)))
         (ShowsStep step body.old.items body.new.items (input_of inbox.new (R.remaining (inside reader.new))))) }
-    ensures small { OnOk result (length body.new.items ≤ 40000) }
+    ensures small { OnOk result (length body.new.items ≤ BODY_LIMIT) }
     ensures grows { IfOk result (λ step. step ≡ Step.More → length body.old.items < length body.new.items) }
     ensures stopped { IfErr result (λ fault. fault ≢ ReadFault.OutOfMemory →
         StopsAt (input_of inbox.old (R.remaining (inside reader.old))) (R.remaining (inside reader.new)) (λ taken. EndsChunks (length body.old.items) taken ended)) }

@@ -14,7 +14,7 @@ pub(crate) struct Codings {
     pub any: bool,
     pub several: bool,
     /// Whether the last is `chunked`.
-    pub ends_chunked: bool,
+    pub is_chunked_last: bool,
 }
 
 /// What stands before the first comma, and after it.
@@ -84,7 +84,7 @@ fn with_part(codings: Codings, part: &[u8]) -> Codings
     Codings {
         any: true,
         several: codings.any,
-        ends_chunked: is_chunks(coding),
+        is_chunked_last: is_chunks(coding),
     }
 }
 
@@ -109,7 +109,7 @@ pub(crate) fn codings_named(bytes: &[u8], fields: &[HeaderSpan]) -> Codings
     let mut codings = Codings {
         any: false,
         several: false,
-        ends_chunked: false,
+        is_chunked_last: false,
     };
     for i in 0..fields.len() {
         if has_name(bytes, fields[i], b"transfer-encoding") {

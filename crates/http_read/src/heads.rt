@@ -1,6 +1,7 @@
 //! Finds the head of a request at the front of an input (RFC 9112, sections 2 to 5).
 ghost use Rattle.std.specs.Prelude.{◌≡◌, ◌≢◌, if◌then◌else◌, ℕ, List, ◌≤◌, ◌<◌, length, IfOk, IfSome, OnOk, IfErr, IsErrOf};
 ghost use Rattle.std.specs.Io.KnownBytes.{Keeps, IsAtEnd};
+ghost use Rattle.http_read.specs.declared.heads.TheConstants.{HEAD_LIMIT};
 ghost use Rattle.http_read.specs.Counted.{inside, failed, RoseByOne};
 ghost use Rattle.http_read.specs.Input.{input_of, StopsAt};
 ghost use Rattle.http_read.specs.Heads.{window, skip_breaks, is_long_line, ended, ReadsHead};
@@ -41,14 +42,14 @@ pub(crate) enum Found {
 /// The first 8,192 bytes.
 pub(crate) fn first_bytes(held: &[u8]) -> &[u8]
     ensures window { result.now ≡ window held.now }
-    ensures short { length result.now ≤ 8192 }
+    ensures short { length result.now ≤ HEAD_LIMIT }
 {
     &held[..HEAD_LIMIT.min(held.len())]
 }
 
 /// Looks for a head in these bytes. The spans grow where its field lines are more than they have room for.
 fn look_within(bytes: &[u8], spans: &mut Vec<HeaderSpan>) -> Result<Look, AllocError>
-    requires { length bytes.now ≤ 8192 }
+    requires { length bytes.now ≤ HEAD_LIMIT }
     ensures { IfOk result (Sees bytes.now spans.new.items) }
 {
     loop {

@@ -1,6 +1,7 @@
 //! The bytes that were read from a connection and not yet used.
 ghost use Rattle.std.specs.Prelude.{◌≡◌, ◌≢◌, ℕ, ◌+◌, ◌-◌, List, [], ◌<◌, ◌≤◌, length, take, drop, slice_range, OnOk, IfErr, IsErrOf, vec_len};
 ghost use Rattle.std.specs.Io.KnownBytes.{Keeps, IsAtEnd};
+ghost use Rattle.http_read.specs.declared.heads.TheConstants.{HEAD_LIMIT};
 ghost use Rattle.http_read.specs.Counted.{inside, failed, RoseByOne};
 ghost use Rattle.http_read.specs.Input.{input_of};
 
@@ -60,7 +61,7 @@ impl Inbox {
 
     /// Reads once, behind what is held, which is moved to the front first: so the room of all used bytes is given back.
     pub(crate) fn read_more<R: Read>(&mut self, reader: &mut Counted<R>) -> Result<(), ReadFault>
-        requires { length self.old ≤ 8192 }
+        requires { length self.old ≤ HEAD_LIMIT }
         ensures input { OnOk result (Keeps (input_of self.old (R.remaining (inside reader.old)))
             (input_of self.new (R.remaining (inside reader.new)))) }
         ensures grows { OnOk result (length self.old < length self.new) }

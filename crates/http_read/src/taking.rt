@@ -1,6 +1,7 @@
 //! Takes a number of bytes of the input.
 ghost use Rattle.std.specs.Prelude.{◌≡◌, ◌≢◌, ℕ, ◌+◌, List, [], ◌++◌, ◌≤◌, ◌<◌, length, IfOk, IfSome, IfErr, IsErrOf, OnOk};
 ghost use Rattle.std.specs.Io.KnownBytes.{Keeps, IsAtEnd};
+ghost use Rattle.http_read.specs.declared.heads.TheConstants.{HEAD_LIMIT};
 ghost use Rattle.http_read.specs.Counted.{inside, failed, RoseByOne};
 ghost use Rattle.http_read.specs.Input.{input_of, StopsAt};
 ghost use Rattle.http_read.specs.Taken.{TakesFront, TakesHeld};
@@ -17,7 +18,7 @@ pub(crate) fn fill_to<R: Read>(
     inbox: &mut Inbox,
     n: usize,
 ) -> Result<(), ReadFault>
-    requires { n ≤ 8192 }
+    requires { n ≤ HEAD_LIMIT }
     ensures input { OnOk result (Keeps (input_of inbox.old (R.remaining (inside reader.old)))
         (input_of inbox.new (R.remaining (inside reader.new)))) }
     ensures held { OnOk result (n ≤ length inbox.new) }

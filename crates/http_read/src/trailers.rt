@@ -1,6 +1,7 @@
 //! Reads the field lines behind the last chunk, the trailer section (RFC 9112, section 7.1.2).
 ghost use Rattle.std.specs.Prelude.{◌≡◌, ◌≢◌, ℕ, List, ◌≤◌, ◌<◌, length, IfOk, IfErr, IfSome, OnOk, IsErrOf};
 ghost use Rattle.std.specs.Io.KnownBytes.{Keeps, IsAtEnd};
+ghost use Rattle.http_read.specs.declared.heads.TheConstants.{HEAD_LIMIT};
 ghost use Rattle.http_read.specs.Counted.{inside, failed, RoseByOne};
 ghost use Rattle.http_read.specs.Input.{input_of, StopsAt};
 ghost use Rattle.http_read.specs.Heads.{window, ended, ReadsTrailer};
@@ -29,7 +30,7 @@ pub(crate) enum Section {
 
 /// Looks for a section in these bytes. The spans grow where its field lines are more than they have room for.
 fn look_for_section(bytes: &[u8], spans: &mut Vec<HeaderSpan>) -> Result<Section, AllocError>
-    requires { length bytes.now ≤ 8192 }
+    requires { length bytes.now ≤ HEAD_LIMIT }
     ensures { IfOk result (SeesSection bytes.now) }
 {
     loop {

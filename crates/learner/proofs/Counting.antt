@@ -3,9 +3,9 @@ use Rattle.std.proofs.Common.{◌≡◌, ◌⊎◌, inl, inr, ℕ, ◌+◌, ◌/
 use Rattle.std.specs.Prelude.{◌↔◌, IsTrue, nat_le}
 use Rattle.std.proofs.lemmas.Bool.Decides.{nat_tests}
 use Rattle.site_ids.specs.Ids.{IsNode, BallotOf}
-use Rattle.site_ids.specs.Majorities.{In, Distinct}
+use Rattle.site_ids.specs.Lists.{In, Distinct}
 use Rattle.site_ids.proofs.MemberLemmas.{distinct_within}
-use Rattle.learner.specs.Tallies.{Tally, tally, HasMajority}
+use Rattle.learner.specs.ToldVotes.{ToldVote, told_vote, HasMajority}
 
 -- c of the nodes 1 to k pass
 pub record Counted (P : ℕ → Type 0) (k c : ℕ) : Type 0 where
@@ -40,21 +40,21 @@ counted_same P k c fails h = record {
 }
 
 -- enough voters are a majority
-pub enough_counted : (n c : ℕ) (IsVote : Tally → Type 0) (i : ℕ) (b : BallotOf) (v : List ℕ) → Counted (λ p. IsVote (tally p i b v)) n c → n / 2 + 1 ≤ c → HasMajority n IsVote i b v
+pub enough_counted : (n c : ℕ) (IsVote : ToldVote → Type 0) (i : ℕ) (b : BallotOf) (v : List ℕ) → Counted (λ p. IsVote (told_vote p i b v)) n c → n / 2 + 1 ≤ c → HasMajority n IsVote i b v
 enough_counted n c IsVote i b v h enough =
     (h.nodes, record { distinct = h.distinct; nodes = λ p k. (h.each p k).0; enough = omega (arith, h.number) }, λ p k. (h.each p k).1)
 
 -- and a majority of them is enough
-pub majority_counted : (n c : ℕ) (IsVote : Tally → Type 0) (i : ℕ) (b : BallotOf) (v : List ℕ) → Counted (λ p. IsVote (tally p i b v)) n c → HasMajority n IsVote i b v → n / 2 + 1 ≤ c
+pub majority_counted : (n c : ℕ) (IsVote : ToldVote → Type 0) (i : ℕ) (b : BallotOf) (v : List ℕ) → Counted (λ p. IsVote (told_vote p i b v)) n c → HasMajority n IsVote i b v → n / 2 + 1 ≤ c
 majority_counted n c IsVote i b v h m =
     let all_counted = distinct_within m.0 h.nodes m.1.distinct (λ p k. h.all p (m.1.nodes p k) (m.2 p k)) in
     omega (arith, m.1.enough, all_counted, h.number)
 
 -- the nodes counted up to the last one reach the quorum where there is a majority, and only there
-pub quorum_reached : (n k quorum c : ℕ) (IsVote : Tally → Type 0) (i : ℕ) (b : BallotOf) (v : List ℕ) → k ≡ n → quorum ≡ n / 2 + 1
-    → Counted (λ p. IsVote (tally p i b v)) k c → IsTrue (nat_le quorum c) ↔ HasMajority n IsVote i b v
+pub quorum_reached : (n k quorum c : ℕ) (IsVote : ToldVote → Type 0) (i : ℕ) (b : BallotOf) (v : List ℕ) → k ≡ n → quorum ≡ n / 2 + 1
+    → Counted (λ p. IsVote (told_vote p i b v)) k c → IsTrue (nat_le quorum c) ↔ HasMajority n IsVote i b v
 quorum_reached n k quorum c IsVote i b v last is h =
-    let all : Counted (λ p. IsVote (tally p i b v)) n c = subst (λ (m : ℕ). Counted (λ p. IsVote (tally p i b v)) m c) last h in
+    let all : Counted (λ p. IsVote (told_vote p i b v)) n c = subst (λ (m : ℕ). Counted (λ p. IsVote (told_vote p i b v)) m c) last h in
     (λ t. enough_counted n c IsVote i b v all (subst (λ (q : ℕ). q ≤ c) is (reached quorum c t)), λ m. reaches quorum c (subst (λ (q : ℕ). q ≤ c) (sym is) (majority_counted n c IsVote i b v all m)))
   where
     reached : (q c : ℕ) → IsTrue (nat_le q c) → q ≤ c
@@ -64,5 +64,5 @@ quorum_reached n k quorum c IsVote i b v last is h =
     reaches q c le = grind (arith, nat_tests)
 
 -- of two sets with the same votes both have a majority or none
-pub same_majority : (n : ℕ) (IsVote IsOther : Tally → Type 0) (i : ℕ) (b : BallotOf) (v : List ℕ) → ((t : Tally) → IsVote t → IsOther t) → HasMajority n IsVote i b v → HasMajority n IsOther i b v
-same_majority n IsVote IsOther i b v same m = (m.0, m.1, λ p k. same (tally p i b v) (m.2 p k))
+pub same_majority : (n : ℕ) (IsVote IsOther : ToldVote → Type 0) (i : ℕ) (b : BallotOf) (v : List ℕ) → ((t : ToldVote) → IsVote t → IsOther t) → HasMajority n IsVote i b v → HasMajority n IsOther i b v
+same_majority n IsVote IsOther i b v same m = (m.0, m.1, λ p k. same (told_vote p i b v) (m.2 p k))

@@ -4,10 +4,10 @@ use Rattle.std.specs.BTreeMap.{BTreeMap, get}
 use Rattle.std.specs.Option.{option_map_or}
 use Rattle.std.specs.Ordering.{nat_cmp}
 use Rattle.site_ids.specs.Ids.{BallotOf}
-use Rattle.site_ids.specs.Majorities.{In}
+use Rattle.site_ids.specs.Lists.{In}
 use Rattle.learner.specs.declared.learning.Told.{Told}
 use Rattle.learner.specs.declared.learning.Learner.{Learner}
-use Rattle.learner.specs.Tallies.{Tally}
+use Rattle.learner.specs.ToldVotes.{ToldVote}
 
 abbrev pub told : ℕ → BallotOf → List ℕ → Told
 told p b v = record { voter = p; ballot = b; value = v }
@@ -20,9 +20,9 @@ abbrev pub votes_at : Learner → ℕ → List Told
 votes_at learner i = told_at learner.votes i
 
 -- the vote is one of the set
-abbrev pub IsTold : Learner → Tally → Type 0
+abbrev pub IsTold : Learner → ToldVote → Type 0
 IsTold learner t = In (votes_at learner t.instance) (told t.voter t.ballot t.value)
 
 -- the vote is one of the set, or it is this one
-abbrev pub IsToldWith : Learner → Tally → Tally → Type 0
+abbrev pub IsToldWith : Learner → ToldVote → ToldVote → Type 0
 IsToldWith learner one t = IsTold learner t ⊎ (t ≡ one)

@@ -1,6 +1,6 @@
 ghost use Rattle.std.specs.Prelude.{◌≡◌, ◌≢◌, ◌↔◌, ◌⊎◌, ℕ, ◌++◌, [], ◌∷◌, OnOk, OnErr, IfOk, IsTrue, MatchOption};
-ghost use Rattle.site_ids.specs.Majorities.{In};
-ghost use Rattle.learner.specs.Tallies.{Tally, tally, HasMajority};
+ghost use Rattle.site_ids.specs.Lists.{In};
+ghost use Rattle.learner.specs.ToldVotes.{ToldVote, told_vote, HasMajority};
 ghost use Rattle.learner.specs.Votes.{told, told_at, votes_at, IsTold, IsToldWith};
 
 use site_ids::{Ballot, Cluster, Instance, NodeId, Value};
@@ -27,7 +27,7 @@ pub struct Learner {
 impl Learner {
     pub fn new(alloc: Global, cluster: Cluster) -> Learner
         ensures cluster { result.cluster ≡ cluster }
-        ensures none { (t : Tally) → ¬ IsTold result t }
+        ensures none { (t : ToldVote) → ¬ IsTold result t }
     {
         Learner {
             alloc,
@@ -45,9 +45,9 @@ impl Learner {
         value: &[u8],
     ) -> Result<Option<Value>, AllocError>
         ensures cluster { self.new.cluster ≡ self.old.cluster }
-        ensures added { OnOk result ((t : Tally) → IsTold self.new t ↔ IsToldWith self.old (tally from instance ballot value.now) t) }
+        ensures added { OnOk result ((t : ToldVote) → IsTold self.new t ↔ IsToldWith self.old (told_vote from instance ballot value.now) t) }
         ensures chosen { IfOk result (λ chosen. MatchOption chosen (¬ HasMajority self.old.cluster (IsTold self.new) instance ballot value.now) (λ v. (v ≡ value.now) × HasMajority self.old.cluster (IsTold self.new) instance ballot value.now)) }
-        ensures refused { OnErr result ((t : Tally) → IsTold self.new t ↔ IsTold self.old t) }
+        ensures refused { OnErr result ((t : ToldVote) → IsTold self.new t ↔ IsTold self.old t) }
     {
         let chosen = if self.completes(from, instance, ballot, value) {
             Some(Value::copied_from(self.alloc, value)?)
@@ -60,7 +60,7 @@ impl Learner {
 
     /// Whether `on_accepted`, of the same arguments, would give the value.
     pub fn completes(&self, from: NodeId, instance: Instance, ballot: Ballot, value: &[u8]) -> bool
-        ensures { IsTrue result ↔ HasMajority self.now.cluster (IsToldWith self.now (tally from instance ballot value.now)) instance ballot value.now }
+        ensures { IsTrue result ↔ HasMajority self.now.cluster (IsToldWith self.now (told_vote from instance ballot value.now)) instance ballot value.now }
     {
         let votes = self.at(instance);
         let mut voters = 0;
@@ -76,7 +76,7 @@ impl Learner {
     /// Drops the votes at an instance.
     pub fn forget(&mut self, instance: Instance)
         ensures cluster { self.new.cluster ≡ self.old.cluster }
-        ensures dropped { (t : Tally) → IsTold self.new t ↔ (IsTold self.old t × (t.instance ≢ instance)) }
+        ensures dropped { (t : ToldVote) → IsTold self.new t ↔ (IsTold self.old t × (t.instance ≢ instance)) }
     {
         self.votes.remove(&instance.number());
     }
@@ -99,8 +99,8 @@ impl Learner {
         value: &[u8],
     ) -> Result<(), AllocError>
         ensures cluster { self.new.cluster ≡ self.old.cluster }
-        ensures added { OnOk result ((t : Tally) → IsTold self.new t ↔ IsToldWith self.old (tally from instance ballot value.now) t) }
-        ensures refused { OnErr result ((t : Tally) → IsTold self.new t ↔ IsTold self.old t) }
+        ensures added { OnOk result ((t : ToldVote) → IsTold self.new t ↔ IsToldWith self.old (told_vote from instance ballot value.now) t) }
+        ensures refused { OnErr result ((t : ToldVote) → IsTold self.new t ↔ IsTold self.old t) }
     {
         if has_vote(self.at(instance), from.number(), ballot, value) {
             return Ok(());

@@ -1,7 +1,7 @@
 -- A tick of a node with no attempt elsewhere.
 use Rattle.std.proofs.Common.{◌≡◌, ℕ, Some, [], ◌∷◌, refl}
 use Rattle.site_ids.specs.Ids.{BallotOf}
-use Rattle.site_ids.specs.Maps.{put_at}
+use Rattle.site_ids.specs.Lists.{put_at}
 use Rattle.wire.specs.declared.message.Message.TheVariants.{Prepare}
 use Rattle.durable.specs.Entries.{Round}
 use Rattle.proposer.specs.Attempts.{Attempt, opened}

@@ -3,9 +3,8 @@ use Rattle.std.proofs.Common.{◌≡◌, ◌≢◌, inl, inr, ⊎_elim, ℕ, Boo
 use Rattle.std.specs.Prelude.{◌↔◌, filter, nat_eq}
 use Rattle.std.proofs.lemmas.Bool.Decides.{nat_tests}
 use Rattle.site_ids.specs.Ids.{BallotOf}
-use Rattle.site_ids.specs.Majorities.{In}
-use Rattle.site_ids.specs.Maps.{put_at}
-use Rattle.learner.specs.Tallies.{Tally, tally, HasMajority}
+use Rattle.site_ids.specs.Lists.{In, put_at}
+use Rattle.learner.specs.ToldVotes.{ToldVote, told_vote, HasMajority}
 use Rattle.learner.specs.Votes.{IsTold, IsToldWith}
 use Rattle.learner.specs.declared.learning.Learner.{Learner}
 use Rattle.proposer.specs.Attempts.{Attempt}
@@ -15,7 +14,7 @@ use Rattle.node.specs.declared.known.Known.{Known}
 use Rattle.node.specs.declared.queue.Queue.{Queue}
 use Rattle.node.specs.declared.running.Node.{Node as Running}
 use Rattle.node.specs.Nodes.{Value, Node}
-use Rattle.node.specs.Tickets.{shares_ticket}
+use Rattle.node.specs.Tickets.{has_same_ticket}
 use Rattle.node.specs.Effects.{learned}
 use Rattle.node.specs.Knowing.{AreKnown}
 use Rattle.node.specs.Waiting.{AreWaiting}
@@ -24,10 +23,10 @@ use Rattle.node.proofs.Stepping.{same_record, same_store}
 
 -- ---- filtered votes
 
-abbrev pub elsewhere : ℕ → List Tally → List Tally
+abbrev pub elsewhere : ℕ → List ToldVote → List ToldVote
 elsewhere i votes = filter (λ t. not (nat_eq t.instance i)) votes
 
-in_filter : (f : Tally → Bool) (xs : List Tally) (x : Tally) → In (filter f xs) x ↔ (In xs x × (f x ≡ true))
+in_filter : (f : ToldVote → Bool) (xs : List ToldVote) (x : ToldVote) → In (filter f xs) x ↔ (In xs x × (f x ≡ true))
 in_filter f [] x = (λ h. absurd h, λ h. h.0)
 in_filter f (y ∷ xs) x =
     let rest : In (filter f xs) x ↔ (In xs x × (f x ≡ true)) = in_filter f xs x in
@@ -51,8 +50,8 @@ apart_is j i is = grind (arith, nat_tests)
 is_apart : (j i : ℕ) → j ≢ i → not (nat_eq j i) ≡ true
 is_apart j i is = grind (arith, nat_tests)
 
-told_elsewhere : (i : ℕ) (votes : List Tally) (old new : Learner) → ((t : Tally) → IsTold old t ↔ In votes t) → ((t : Tally) → IsTold new t ↔ (IsTold old t × (t.instance ≢ i)))
-    → (t : Tally) → IsTold new t ↔ In (elsewhere i votes) t
+told_elsewhere : (i : ℕ) (votes : List ToldVote) (old new : Learner) → ((t : ToldVote) → IsTold old t ↔ In votes t) → ((t : ToldVote) → IsTold new t ↔ (IsTold old t × (t.instance ≢ i)))
+    → (t : ToldVote) → IsTold new t ↔ In (elsewhere i votes) t
 told_elsewhere i votes old new are dropped t =
     let filtered = in_filter (λ x. not (nat_eq x.instance i)) votes t in (
       λ h. let r = (dropped t).0 h in filtered.1 ((are t).0 r.0, is_apart t.instance i r.1),
@@ -60,7 +59,7 @@ told_elsewhere i votes old new are dropped t =
     )
 
 -- one vote more at the instance doesn't count there
-pub told_elsewhere_with : (i : ℕ) (one : Tally) (votes : List Tally) (told : Learner) → one.instance ≡ i → ((t : Tally) → IsTold told t ↔ In (elsewhere i votes) t) → (t : Tally) → IsTold told t ↔ In (elsewhere i (one ∷ votes)) t
+pub told_elsewhere_with : (i : ℕ) (one : ToldVote) (votes : List ToldVote) (told : Learner) → one.instance ≡ i → ((t : ToldVote) → IsTold told t ↔ In (elsewhere i votes) t) → (t : ToldVote) → IsTold told t ↔ In (elsewhere i (one ∷ votes)) t
 told_elsewhere_with i one votes told at are t = subst (λ b. IsTold told t ↔ In (cond (not b) (one ∷ elsewhere i votes) (elsewhere i votes)) t) (sym (same one.instance i at)) (are t)
   where
     same : (j i : ℕ) → j ≡ i → nat_eq j i ≡ true
@@ -68,10 +67,10 @@ told_elsewhere_with i one votes told at are t = subst (λ b. IsTold told t ↔ I
 
 -- ---- majorities, by whichever set of the same votes
 
-pub majority_by : (n : ℕ) (P Q : Tally → Type 0) (i : ℕ) (b : BallotOf) (v : Value) → ((t : Tally) → P t → Q t) → HasMajority n P i b v → HasMajority n Q i b v
-majority_by n P Q i b v each many = (many.0, many.1, λ p k. each (tally p i b v) (many.2 p k))
+pub majority_by : (n : ℕ) (P Q : ToldVote → Type 0) (i : ℕ) (b : BallotOf) (v : Value) → ((t : ToldVote) → P t → Q t) → HasMajority n P i b v → HasMajority n Q i b v
+majority_by n P Q i b v each many = (many.0, many.1, λ p k. each (told_vote p i b v) (many.2 p k))
 
-pub told_or_one : (told : Learner) (one : Tally) (votes : List Tally) → ((t : Tally) → IsTold told t ↔ In votes t) → (t : Tally) → IsToldWith told one t ↔ In (one ∷ votes) t
+pub told_or_one : (told : Learner) (one : ToldVote) (votes : List ToldVote) → ((t : ToldVote) → IsTold told t ↔ In votes t) → (t : ToldVote) → IsToldWith told one t ↔ In (one ∷ votes) t
 told_or_one told one votes are t = (
   λ h. ⊎_elim (λ (k : IsTold told t). inr ((are t).0 k)) (λ (e : t ≡ one). inl (sym e)) h,
   λ h. ⊎_elim (λ (e : one ≡ t). inr (sym e)) (λ (k : In votes t). inl ((are t).1 k)) h,
@@ -86,9 +85,9 @@ module _ {D : Type 0} where
     pub reached : new.reached ≡ old.reached
     pub heard : new.proposer.heard ≡ old.proposer.heard
     pub known : (known : ℕ → Option Value) → AreKnown old.known known → AreKnown new.known (put_at known i (Some v))
-    pub votes : (t : Tally) → IsTold new.learner t ↔ (IsTold old.learner t × (t.instance ≢ i))
+    pub votes : (t : ToldVote) → IsTold new.learner t ↔ (IsTold old.learner t × (t.instance ≢ i))
     pub attempts : (attempts : ℕ → Option Attempt) → Attempting old.proposer attempts → Attempting new.proposer (put_at attempts i None)
-    pub pending : (values : List Value) → AreWaiting old.queue.items.items values → AreWaiting new.queue.items.items (filter (λ u. not (shares_ticket u v)) values)
+    pub pending : (values : List Value) → AreWaiting old.queue.items.items values → AreWaiting new.queue.items.items (filter (λ u. not (has_same_ticket u v)) values)
 
   pub learned_parts : (old new : Running D) (s : Node) (i : ℕ) (v : Value) → KeepsOthers old new → Learns old new i v → HasParts old s → HasParts new (learned s i v)
   learned_parts old new s i v others learns parts = record {
@@ -117,8 +116,8 @@ module _ {D : Type 0} where
   -- ---- a vote, and a chosen value, that were delivered
 
   -- a value became known, and then its instance was counted
-  pub counted_parts : (code counted : Running D) (s : Node) (votes : List Tally) (i : ℕ) (v : Value) (reached : ℕ) → KeepsOthers code counted → HasParts code (learned s i v) → counted.store ≡ code.store → counted.learner ≡ code.learner
-      → counted.known ≡ code.known → counted.queue ≡ code.queue → counted.proposer ≡ code.proposer → counted.reached ≡ reached → ((t : Tally) → IsTold code.learner t ↔ In (elsewhere i votes) t)
+  pub counted_parts : (code counted : Running D) (s : Node) (votes : List ToldVote) (i : ℕ) (v : Value) (reached : ℕ) → KeepsOthers code counted → HasParts code (learned s i v) → counted.store ≡ code.store → counted.learner ≡ code.learner
+      → counted.known ≡ code.known → counted.queue ≡ code.queue → counted.proposer ≡ code.proposer → counted.reached ≡ reached → ((t : ToldVote) → IsTold code.learner t ↔ In (elsewhere i votes) t)
       → HasParts counted (learned (record s { votes = votes; reached = reached }) i v)
   counted_parts code counted s votes i v reached others parts store learner known queue proposer is told = record {
     on_record = same_record code counted (learned s i v) (learned (record s { votes = votes; reached = reached }) i v) others (same_store code.store counted.store store) refl refl refl parts.on_record;

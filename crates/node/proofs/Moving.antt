@@ -1,7 +1,8 @@
 -- At a node that runs no call is stuck.
 use Rattle.std.proofs.Common.{◌≡◌, ◌≢◌, ◌⊎◌, inl, inr, ⊎_elim, ℕ, zero, suc, ◌<◌, ◌≤◌, max, Option, Some, None, Result, Ok, Err, List, [], ◌∷◌, length, refl, sym, ap, subst, ◌∙◌, arith}
 use Rattle.site_ids.specs.Ids.{BallotOf, Below, NotAbove, IsInstance}
-use Rattle.site_ids.specs.Majorities.{In, Majority}
+use Rattle.site_ids.specs.Lists.{In}
+use Rattle.site_ids.specs.Majorities.{Majority}
 use Rattle.site_ids.specs.declared.value.Vote.{Vote}
 use Rattle.site_ids.proofs.BallotLemmas.{one_of_three}
 use Rattle.wire.specs.declared.message.Message.{Message}
@@ -16,7 +17,7 @@ use Rattle.durable.specs.Entries.{Entry, Round, Promised, Voted, Raises, IsPromi
 use Rattle.command.specs.Action.{Order}
 use Rattle.command.specs.Reading.{value_reading}
 use Rattle.command.specs.declared.fault.CommandFault.{CommandFault}
-use Rattle.learner.specs.Tallies.{tally, HasMajority}
+use Rattle.learner.specs.ToldVotes.{told_vote, HasMajority}
 use Rattle.proposer.specs.Attempts.{Answer, Attempt, senders, Counts, with_answer}
 use Rattle.proposer.specs.Best.{IsBest, value_by}
 use Rattle.proposer.proofs.BestLemmas.{best_chooses}
@@ -222,7 +223,7 @@ on_promise n p s q i b prior stuck =
 on_accepted : (n p : ℕ) (s : Node) (q i : ℕ) (b : BallotOf) (v : Value) → IsStuck n p s (deliver (Accepted q i b v)) → ⊥
 on_accepted n p s q i b v stuck =
     let t : Node = record s { reached = reached_by s.reached (Accepted q i b v) } in
-    let u : Node = with_vote t (tally q i b v) in
+    let u : Node = with_vote t (told_vote q i b v) in
     ⊎_elim (λ known. stuck.no_effect (quiet t) (inr (known, refl)))
     (λ unknown. cases (λ (enough : HasMajority n (In u.votes) i b v ⊎ (¬ HasMajority n (In u.votes) i b v)).
     ⊎_elim (λ yes. stuck.no_effect (quiet (learned u i v)) (inl (unknown, inr (yes, refl)))) (λ no. stuck.no_effect (quiet u) (inl (unknown, inl (no, refl)))) enough))

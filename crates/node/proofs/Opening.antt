@@ -8,7 +8,7 @@ use Rattle.durable.specs.Keeping.{Keeps}
 use Rattle.durable.specs.Ready.{IsOpened}
 use Rattle.durable.specs.Standing.{StandsFor}
 use Rattle.durable.proofs.Keeping.{settled_keeps, opening_settles}
-use Rattle.learner.specs.Tallies.{Tally}
+use Rattle.learner.specs.ToldVotes.{ToldVote}
 use Rattle.learner.specs.Votes.{IsTold}
 use Rattle.proposer.specs.Standing.{Attempting}
 use Rattle.node.specs.declared.running.Node.{Node as Running}
@@ -20,7 +20,7 @@ use Rattle.node.proofs.Ranging.{opens_in_range}
 use Rattle.node.proofs.Tidying.{opens_tidy}
 
 module _ {D : Type 0} (stands_for : D → DiskState → Type 0) (disk : D) (code : Running D) (entries : List Entry) where
-  pub opens : IsOpened stands_for disk code.store entries → ((t : Tally) → ¬ IsTold code.learner t) → AreKnown code.known (λ i. None) → Attempting code.proposer (λ i. None) → AreWaiting code.queue.items.items []
+  pub opens : IsOpened stands_for disk code.store entries → ((t : ToldVote) → ¬ IsTold code.learner t) → AreKnown code.known (λ i. None) → Attempting code.proposer (λ i. None) → AreWaiting code.queue.items.items []
       → code.proposer.heard ≡ 0 → code.reached ≡ 0 → code.releases ≡ [] → OpensAs stands_for disk code entries
   opens read votes known attempts pending heard reached releases = record {
     stands = record {

@@ -3,7 +3,7 @@ use Rattle.std.proofs.Common.{◌≡◌, ℕ, max, false, Option, Some, None, Ok
 use Rattle.site_disk.specs.Model.{DiskState}
 use Rattle.std.specs.Prelude.{◌↔◌}
 use Rattle.site_ids.specs.Ids.{BallotOf}
-use Rattle.site_ids.specs.Majorities.{In}
+use Rattle.site_ids.specs.Lists.{In}
 use Rattle.site_ids.specs.declared.value.Vote.{Vote}
 use Rattle.wire.specs.declared.message.Message.TheVariants.{Promise, Propose}
 use Rattle.wire.specs.Messages.{IsMessage}

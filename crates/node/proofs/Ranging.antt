@@ -4,8 +4,8 @@ use Rattle.std.specs.Prelude.{nat_eq, filter, IfSome}
 use Rattle.std.proofs.lemmas.Bool.Decides.{nat_tests}
 use Rattle.std.proofs.lemmas.Bool.{cases_eq}
 use Rattle.site_ids.specs.Ids.{BallotOf, IsNode, IsInstance, IsBallot}
-use Rattle.site_ids.specs.Majorities.{In, Majority}
-use Rattle.site_ids.specs.Maps.{put_at}
+use Rattle.site_ids.specs.Lists.{In, put_at}
+use Rattle.site_ids.specs.Majorities.{Majority}
 use Rattle.site_ids.specs.declared.value.Vote.{Vote}
 use Rattle.site_ids.proofs.MapLemmas.{put_here, put_other}
 use Rattle.site_ids.proofs.MemberLemmas.{in_push}
@@ -16,8 +16,9 @@ use Rattle.acceptor.specs.declared.slot.Slot.{Slot}
 use Rattle.acceptor.specs.Steps.{Answer as Reply, promise, accepted, nack, no_answer, prepare, proposal, Steps}
 use Rattle.durable.specs.Entries.{Entry, Round, Promised, Voted, Raises, IsPromise, IsSlot, vote_after}
 use Rattle.durable.specs.Histories.{IsInRange, IsHistory}
-use Rattle.learner.specs.Tallies.{tally, HasMajority}
+use Rattle.learner.specs.ToldVotes.{told_vote, HasMajority}
 use Rattle.std.specs.Option.{ok_or}
+use Rattle.site_ids.specs.declared.TheConstants.{MAX_VALUE}
 use Rattle.site_ids.specs.declared.Ticket.{Ticket}
 use Rattle.command.specs.Rows.{Row}
 use Rattle.command.specs.declared.fault.CommandFault.{CommandFault}
@@ -28,7 +29,7 @@ use Rattle.proposer.specs.Attempts.{Answer, Attempt, opened, senders, Chooses, C
 use Rattle.node.specs.declared.to.To.{To}
 use Rattle.node.specs.declared.to.To.TheVariants.{One, All}
 use Rattle.node.specs.Nodes.{Value, Node, IsKnown, IsUnknown}
-use Rattle.node.specs.Tickets.{IsCommand, IsHeld, shares_ticket}
+use Rattle.node.specs.Tickets.{IsCommand, IsHeld, has_same_ticket}
 use Rattle.node.specs.Effects.{Effect, quiet, says, learned}
 use Rattle.node.specs.Deliveries.{prepare_out, propose_out, promise_out, with_vote, Counted, ByKind}
 use Rattle.node.specs.Calls.{Call, submit, tick, ask, deliver, queued, oldest, fresh_ballot, resent, Does}
@@ -55,11 +56,11 @@ is_short false t row o e = absurd (clash o e)
     clash : (o : Order) → ◌≡◌ {A = Result Order CommandFault} (Err TooLong) (Ok o) → ⊥
     clash o e = cc
 
-low : (n : ℕ) → leb n 32768 ≡ true → n ≤ 32768
+low : (n : ℕ) → leb n MAX_VALUE ≡ true → n ≤ MAX_VALUE
 low n is = grind (arith, nat_tests)
 
-short : (v : Value) → IsCommand v → length v ≤ 32768
-short v command = low (length v) (is_short (leb (length v) 32768) (ticket_of v) (ok_or (text_row v) Form) command.0 command.1)
+short : (v : Value) → IsCommand v → length v ≤ MAX_VALUE
+short v command = low (length v) (is_short (leb (length v) MAX_VALUE) (ticket_of v) (ok_or (text_row v) Form) command.0 command.1)
 
 kept_in : (f : Value → Bool) (xs : List Value) (x : Value) → In (filter f xs) x → In xs x
 kept_in f [] x h = h
@@ -70,7 +71,7 @@ kept_in f (y ∷ xs) x h =
       | false ↦ λ h. inr (rest h)
     ] h
 
-oldest_short : (vs : List Value) → ((v : Value) → In vs v → length v ≤ 32768) → length (oldest vs) ≤ 32768
+oldest_short : (vs : List Value) → ((v : Value) → In vs v → length v ≤ MAX_VALUE) → length (oldest vs) ≤ MAX_VALUE
 oldest_short [] h = omega arith
 oldest_short (v ∷ vs) h = h v (inl refl)
 
@@ -82,18 +83,18 @@ put_attempt attempts i a h is j b e =
     ⊎_elim (λ (at : j ≡ i). subst IsAttemptInRange (same_some a b (sym (put_here attempts i (Some a) j at) ∙ e)) is)
     (λ apart. h j b (sym (put_other attempts i (Some a) j apart) ∙ e)) (cases_eq j i)
 
-prior_short : (prior : Option Vote) (w : Vote) → IfSome prior (λ vote. length vote.value ≤ 32768) → prior ≡ Some w → length w.value ≤ 32768
+prior_short : (prior : Option Vote) (w : Vote) → IfSome prior (λ vote. length vote.value ≤ MAX_VALUE) → prior ≡ Some w → length w.value ≤ MAX_VALUE
 prior_short None w h e = cc
-prior_short (Some x) w h e = subst (λ (y : Vote). length y.value ≤ 32768) (same_some x w e) h
+prior_short (Some x) w h e = subst (λ (y : Vote). length y.value ≤ MAX_VALUE) (same_some x w e) h
 
-with_one : (a : Attempt) (q : ℕ) (prior : Option Vote) → IsAttemptInRange a → IfSome prior (λ vote. length vote.value ≤ 32768)
-    → (x : Answer) (w : Vote) → In (with_answer a q prior) x → x.prior ≡ Some w → length w.value ≤ 32768
+with_one : (a : Attempt) (q : ℕ) (prior : Option Vote) → IsAttemptInRange a → IfSome prior (λ vote. length vote.value ≤ MAX_VALUE)
+    → (x : Answer) (w : Vote) → In (with_answer a q prior) x → x.prior ≡ Some w → length w.value ≤ MAX_VALUE
 with_one a q prior h fits x w k e =
     ⊎_elim (λ m. h.told x w m e) (λ (is : record { sender = q; prior = prior } ≡ x). prior_short prior w fits (ap (λ (y : Answer). y.prior) is ∙ e))
     (in_push a.answers (record { sender = q; prior = prior }) x k)
 
 taken_ranges : (n : ℕ) (attempts : ℕ → Option Attempt) (q i : ℕ) (b : BallotOf) (prior : Option Vote) (after : ℕ → Option Attempt) (proposed : Option Value) → TakesPromise n attempts q i b prior after proposed
-    → IfSome prior (λ vote. length vote.value ≤ 32768) → ((j : ℕ) (a : Attempt) → attempts j ≡ Some a → IsAttemptInRange a) → (j : ℕ) (a : Attempt) → after j ≡ Some a → IsAttemptInRange a
+    → IfSome prior (λ vote. length vote.value ≤ MAX_VALUE) → ((j : ℕ) (a : Attempt) → attempts j ≡ Some a → IsAttemptInRange a) → (j : ℕ) (a : Attempt) → after j ≡ Some a → IsAttemptInRange a
 taken_ranges n attempts q i b prior after None step fits h =
     ⊎_elim
     (λ (x : ((a : Attempt) → attempts i ≡ Some a → ¬ Counts a q b) × (after ≡ attempts)). λ j a e. h j a (ap (λ (f : ℕ → Option Attempt). f j) (sym x.1) ∙ e))
@@ -103,11 +104,11 @@ taken_ranges n attempts q i b prior after None step fits h =
 taken_ranges n attempts q i b prior after (Some v) step fits h = λ j a e.
     put_attempt attempts i (proposing step.0 q prior v) h (record { own = (h i step.0 step.1).own; told = with_one step.0 q prior (h i step.0 step.1) fits }) j a (ap (λ (f : ℕ → Option Attempt). f j) (sym step.5) ∙ e)
 
-learned_ranges : (s : Node) (i : ℕ) (v : Value) → HasRanges s → IsInstance i → length v ≤ 32768 → HasRanges (learned s i v)
+learned_ranges : (s : Node) (i : ℕ) (v : Value) → HasRanges s → IsInstance i → length v ≤ MAX_VALUE → HasRanges (learned s i v)
 learned_ranges s i v h instance fits = record {
-  known = λ j u e. ⊎_elim (λ (at : j ≡ i). (subst IsInstance (sym at) instance, subst (λ (x : Value). length x ≤ 32768) (same_some v u (sym (put_here s.known i (Some v) j at) ∙ e)) fits))
+  known = λ j u e. ⊎_elim (λ (at : j ≡ i). (subst IsInstance (sym at) instance, subst (λ (x : Value). length x ≤ MAX_VALUE) (same_some v u (sym (put_here s.known i (Some v) j at) ∙ e)) fits))
       (λ apart. h.known j u (sym (put_other s.known i (Some v) j apart) ∙ e)) (cases_eq j i);
-  pending = λ u k. h.pending u (kept_in (λ u. not (shares_ticket u v)) s.pending u k);
+  pending = λ u k. h.pending u (kept_in (λ u. not (has_same_ticket u v)) s.pending u k);
   attempts = λ j a e. ⊎_elim (λ (at : j ≡ i). absurd (no_attempt a (sym (put_here s.attempts i None j at) ∙ e)))
       (λ apart. h.attempts j a (sym (put_other s.attempts i None j apart) ∙ e)) (cases_eq j i);
 }
@@ -129,13 +130,13 @@ delivery_ranges n p s (Promise q i b prior) effect h m how =
     by_effect effect (record { entry = None; after = record s { attempts = how.attempts }; out = _ }) how.is
     (record { known = h.known; pending = h.pending; attempts = taken_ranges n s.attempts q i b prior how.attempts how.proposed how.step m.fits h.attempts })
 delivery_ranges n p s (Accepted q i b v) effect h m how =
-    let told : HasRanges (with_vote s (tally q i b v)) = same_ranges s (with_vote s (tally q i b v)) h refl refl refl in
+    let told : HasRanges (with_vote s (told_vote q i b v)) = same_ranges s (with_vote s (told_vote q i b v)) h refl refl refl in
     ⊎_elim
-    (λ (x : IsUnknown s i × Counted n (with_vote s (tally q i b v)) i b v effect).
+    (λ (x : IsUnknown s i × Counted n (with_vote s (told_vote q i b v)) i b v effect).
     ⊎_elim
-    (λ (few : (¬ HasMajority n (In (with_vote s (tally q i b v)).votes) i b v) × (effect ≡ quiet (with_vote s (tally q i b v)))). by_effect effect (quiet (with_vote s (tally q i b v))) few.1 told)
-    (λ (enough : HasMajority n (In (with_vote s (tally q i b v)).votes) i b v × (effect ≡ quiet (learned (with_vote s (tally q i b v)) i v))).
-    by_effect effect (quiet (learned (with_vote s (tally q i b v)) i v)) enough.1 (learned_ranges (with_vote s (tally q i b v)) i v told m.instance m.fits))
+    (λ (few : (¬ HasMajority n (In (with_vote s (told_vote q i b v)).votes) i b v) × (effect ≡ quiet (with_vote s (told_vote q i b v)))). by_effect effect (quiet (with_vote s (told_vote q i b v))) few.1 told)
+    (λ (enough : HasMajority n (In (with_vote s (told_vote q i b v)).votes) i b v × (effect ≡ quiet (learned (with_vote s (told_vote q i b v)) i v))).
+    by_effect effect (quiet (learned (with_vote s (told_vote q i b v)) i v)) enough.1 (learned_ranges (with_vote s (told_vote q i b v)) i v told m.instance m.fits))
     x.1)
     (λ (x : IsKnown s i × (effect ≡ quiet s)). by_effect effect (quiet s) x.1 h)
     how
@@ -157,7 +158,7 @@ call_ranges n p s (submit v) effect h m how =
     (λ (x : IsCommand v × IsHeld s v × (effect ≡ quiet s)). by_effect effect (quiet s) x.2 h)
     (λ (x : IsCommand v × (¬ IsHeld s v) × (length s.pending < 64) × (effect ≡ quiet (queued s v))). by_effect effect (quiet (queued s v)) x.3 (record {
       known = h.known;
-      pending = λ u k. ⊎_elim (λ m. h.pending u m) (λ (e : v ≡ u). subst (λ (x : Value). length x ≤ 32768) e (short v x.0)) (in_push s.pending v u k);
+      pending = λ u k. ⊎_elim (λ m. h.pending u m) (λ (e : v ≡ u). subst (λ (x : Value). length x ≤ MAX_VALUE) e (short v x.0)) (in_push s.pending v u k);
       attempts = h.attempts;
     }))
     how
@@ -210,7 +211,7 @@ vote_stands i last (Voted j b v ∷ es) w e =
         inl (j, inl (λ k. Voted j (same k).ballot (same k).value))
     go false h = inr h
 
-vote_in_range : (n : ℕ) (es : List Entry) (i : ℕ) (slot : Slot) (w : Vote) → IsHistory n es → IsSlot es i slot → slot.vote ≡ Some w → IsBallot n w.ballot × (length w.value ≤ 32768)
+vote_in_range : (n : ℕ) (es : List Entry) (i : ℕ) (slot : Slot) (w : Vote) → IsHistory n es → IsSlot es i slot → slot.vote ≡ Some w → IsBallot n w.ballot × (length w.value ≤ MAX_VALUE)
 vote_in_range n es i slot w history is e =
     ⊎_elim
     (λ (h : (j : ℕ) × In es (Voted j w.ballot w.value)). let range = entry_in_range n es (Voted h.0 w.ballot w.value) history h.1 in (range.1, range.2))
@@ -242,14 +243,14 @@ prepare_says n p i b es slot after (promise prior) node instance ballot history 
       sender = node;
       instance = instance;
       ballots = (ballot, if_some prior (λ vote. IsBallot n vote.ballot) (λ w e. (ranges w e).0));
-      fits = if_some prior (λ vote. length vote.value ≤ 32768) (λ w e. (ranges w e).1);
+      fits = if_some prior (λ vote. length vote.value ≤ MAX_VALUE) (λ w e. (ranges w e).1);
     })
 prepare_says n p i b es slot after (nack c) node instance ballot history is step =
     one_message n (One b.node) (Nack p i b c) (record { sender = node; instance = instance; ballots = (ballot, promise_in_range n es i slot c history is step.0.0); fits = tt })
 prepare_says n p i b es slot after accepted node instance ballot history is step = no_message n
 prepare_says n p i b es slot after no_answer node instance ballot history is step = no_message n
 
-propose_says : (n p i : ℕ) (b : BallotOf) (v : Value) (es : List Entry) (slot after : Slot) (reply : Reply) → IsNode n p → IsInstance i → IsBallot n b → length v ≤ 32768 → IsHistory n es → IsSlot es i slot
+propose_says : (n p i : ℕ) (b : BallotOf) (v : Value) (es : List Entry) (slot after : Slot) (reply : Reply) → IsNode n p → IsInstance i → IsBallot n b → length v ≤ MAX_VALUE → IsHistory n es → IsSlot es i slot
     → Steps slot (proposal b v) after reply → Says n (propose_out p i b v reply)
 propose_says n p i b v es slot after accepted node instance ballot fits history is step = one_message n All (Accepted p i b v) (record { sender = node; instance = instance; ballots = ballot; fits = fits })
 propose_says n p i b v es slot after (nack c) node instance ballot fits history is step =
@@ -257,10 +258,10 @@ propose_says n p i b v es slot after (nack c) node instance ballot fits history 
 propose_says n p i b v es slot after (promise prior) node instance ballot fits history is step = no_message n
 propose_says n p i b v es slot after no_answer node instance ballot fits history is step = no_message n
 
-chosen_short : (own : Value) (answers : List Answer) (v : Value) → length own ≤ 32768 → ((x : Answer) (w : Vote) → In answers x → x.prior ≡ Some w → length w.value ≤ 32768) → Chooses own answers v → length v ≤ 32768
+chosen_short : (own : Value) (answers : List Answer) (v : Value) → length own ≤ MAX_VALUE → ((x : Answer) (w : Vote) → In answers x → x.prior ≡ Some w → length w.value ≤ MAX_VALUE) → Chooses own answers v → length v ≤ MAX_VALUE
 chosen_short own answers v fits told chooses =
     ⊎_elim
-    (λ none. subst (λ (x : Value). length x ≤ 32768) (sym none.1) fits)
+    (λ none. subst (λ (x : Value). length x ≤ MAX_VALUE) (sym none.1) fits)
     (λ (h : (x : Answer) × (c : BallotOf) × In answers x × (x.prior ≡ Some (record { ballot = c; value = v })) × _). told h.0 (record { ballot = h.1; value = v }) h.2 h.3)
     chooses
 
@@ -268,7 +269,7 @@ by_out : (n : ℕ) (effect e : Effect) → effect ≡ e → Says n e.out → Say
 by_out n effect e is h = subst (λ (x : Effect). Says n x.out) (sym is) h
 
 promise_says : (n p : ℕ) (s : Node) (q i : ℕ) (b : BallotOf) (prior : Option Vote) (after : ℕ → Option Attempt) (proposed : Option Value) → IsNode n p → IsInstance i → IsBallot n b
-    → IfSome prior (λ vote. length vote.value ≤ 32768) → HasRanges s → TakesPromise n s.attempts q i b prior after proposed → Says n (promise_out p i b proposed)
+    → IfSome prior (λ vote. length vote.value ≤ MAX_VALUE) → HasRanges s → TakesPromise n s.attempts q i b prior after proposed → Says n (promise_out p i b proposed)
 promise_says n p s q i b prior after None node instance ballot fits h step = no_message n
 promise_says n p s q i b prior after (Some v) node instance ballot fits h step =
     let a = h.attempts i step.0 step.1 in
@@ -284,11 +285,11 @@ delivery_says n p s (Promise q i b prior) effect node history h m how =
     (promise_says n p s q i b prior how.attempts how.proposed node m.instance m.ballots.0 m.fits h how.step)
 delivery_says n p s (Accepted q i b v) effect node history h m how =
     ⊎_elim
-    (λ (x : IsUnknown s i × Counted n (with_vote s (tally q i b v)) i b v effect).
+    (λ (x : IsUnknown s i × Counted n (with_vote s (told_vote q i b v)) i b v effect).
     ⊎_elim
-    (λ (few : (¬ HasMajority n (In (with_vote s (tally q i b v)).votes) i b v) × (effect ≡ quiet (with_vote s (tally q i b v)))). by_out n effect (quiet (with_vote s (tally q i b v))) few.1 (no_message n))
-    (λ (enough : HasMajority n (In (with_vote s (tally q i b v)).votes) i b v × (effect ≡ quiet (learned (with_vote s (tally q i b v)) i v))).
-    by_out n effect (quiet (learned (with_vote s (tally q i b v)) i v)) enough.1 (no_message n))
+    (λ (few : (¬ HasMajority n (In (with_vote s (told_vote q i b v)).votes) i b v) × (effect ≡ quiet (with_vote s (told_vote q i b v)))). by_out n effect (quiet (with_vote s (told_vote q i b v))) few.1 (no_message n))
+    (λ (enough : HasMajority n (In (with_vote s (told_vote q i b v)).votes) i b v × (effect ≡ quiet (learned (with_vote s (told_vote q i b v)) i v))).
+    by_out n effect (quiet (learned (with_vote s (told_vote q i b v)) i v)) enough.1 (no_message n))
     x.1)
     (λ (x : IsKnown s i × (effect ≡ quiet s)). by_out n effect (quiet s) x.1 (no_message n))
     how

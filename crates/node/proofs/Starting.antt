@@ -1,10 +1,10 @@
 -- A tick: the ballot that it takes, and its whole ending.
 use Rattle.std.proofs.Common.{◌≡◌, ℕ, suc, ◌+◌, ◌<◌, max, false, Option, Some, [], ◌∷◌, ◌++◌, refl, sym, ap, subst, ◌∙◌, arith}
 use Rattle.std.specs.Prelude.{◌↔◌}
+use Rattle.site_ids.specs.declared.TheConstants.{MAX_ROUND}
 use Rattle.site_disk.specs.Model.{DiskState}
 use Rattle.site_ids.specs.Ids.{BallotOf}
-use Rattle.site_ids.specs.Majorities.{In}
-use Rattle.site_ids.specs.Maps.{put_at}
+use Rattle.site_ids.specs.Lists.{In, put_at}
 use Rattle.wire.specs.declared.message.Message.TheVariants.{Prepare}
 use Rattle.durable.specs.Entries.{Round, last_round}
 use Rattle.durable.specs.Puts.{IsPut, Acknowledges}
@@ -35,12 +35,12 @@ module _ {D : Type 0} where
       ap (λ r. max r code.proposer.heard + 1) parts.on_record.kept.round ∙ ap (λ h. max (last_round s.entries) h + 1) parts.heard ∙ omega arith in
       λ k. record { round = round k; node = code.proposer_node k }
 
-  pub has_round : (code : Running D) (s : Node) → HasParts code s → max code.store.recorded.round code.proposer.heard < 4294967295 → HasRound s
+  pub has_round : (code : Running D) (s : Node) → HasParts code s → max code.store.recorded.round code.proposer.heard < MAX_ROUND → HasRound s
   has_round code s parts low =
       let same = ap (λ (b : BallotOf). b.round) (next_is_fresh code s parts) in
       omega (arith, same, low)
 
-  pub no_round : (code : Running D) (s : Node) → HasParts code s → max code.store.recorded.round code.proposer.heard ≡ 4294967295 → ¬ HasRound s
+  pub no_round : (code : Running D) (s : Node) → HasParts code s → max code.store.recorded.round code.proposer.heard ≡ MAX_ROUND → ¬ HasRound s
   no_round code s parts last has =
       let same = ap (λ (b : BallotOf). b.round) (next_is_fresh code s parts) in
       omega (arith, same, last, has)
@@ -57,7 +57,7 @@ module _ {D : Type 0} where
     pub reached : new.reached ≡ old.reached
 
   pub started : (stands_for : D → DiskState → Type 0) (failed : D → ℕ) (old new : Running D) (s : Node) (i : ℕ) (b : BallotOf) (own : Value) → IsNodeOf old s → old.store.stopped ≡ false → KeepsOthers old new → IsFirstUnknown s.known i
-      → b ≡ next_of old → max old.store.recorded.round old.proposer.heard < 4294967295 → own ≡ oldest s.pending → Starts stands_for failed old new i b own → Done stands_for old new tick ((All, Prepare old.me i b) ∷ []) s
+      → b ≡ next_of old → max old.store.recorded.round old.proposer.heard < MAX_ROUND → own ≡ oldest s.pending → Starts stands_for failed old new i b own → Done stands_for old new tick ((All, Prepare old.me i b) ∷ []) s
   started stands_for failed old new s i b own stands runs others first next low oldest_is starts =
       let parts = stands.parts in
       let t : Node = record s { entries = s.entries ++ Round b.round ∷ []; attempts = put_at s.attempts i (Some (opened b own)) } in

@@ -6,8 +6,8 @@ use Rattle.std.specs.Set.{remove_key}
 use Rattle.std.specs.BTreeMap.{is_at}
 use Rattle.std.specs.BTreeSet.{BTreeSet, insert_key, Updates}
 use Rattle.site_ids.specs.declared.Ticket.{Ticket}
-use Rattle.command.specs.Effective.{same_ticket}
-use Rattle.content.specs.Standing.{holds_ticket}
+use Rattle.command.specs.Effective.{is_same_ticket}
+use Rattle.content.specs.Standing.{is_held}
 use Rattle.content.proofs.Tickets.{ticket_cmp, same_by_order}
 
 -- a test that answers as another at each item finds the same
@@ -26,12 +26,12 @@ in_and_out cmp k (x ∷ ks) same none = by (cmp k x) refl (in_and_out cmp k ks s
     by Equal e more = let found : true ≡ false = ap (λ r. is_eq r || list_any (is_at (cmp k)) ks) (sym e) ∙ none in cc
     by Greater e more = let later : list_any (is_at (cmp k)) ks ≡ false = ap (λ r. is_eq r || list_any (is_at (cmp k)) ks) (sym e) ∙ none in rw (e, e) (ap (λ ys. x ∷ ys) (more later))
 
-pub holds_by_order : (t : Ticket) (ks : List Ticket) → list_any (is_at (ticket_cmp t)) ks ≡ holds_ticket t ks
-holds_by_order t ks = any_same (is_at (ticket_cmp t)) (same_ticket t) (same_by_order t) ks
+pub holds_by_order : (t : Ticket) (ks : List Ticket) → list_any (is_at (ticket_cmp t)) ks ≡ is_held t ks
+holds_by_order t ks = any_same (is_at (ticket_cmp t)) (is_same_ticket t) (same_by_order t) ks
 
-pub inserted : (k : Ticket) (old new : BTreeSet Ticket) → Updates ticket_cmp old new k true → (t : Ticket) → holds_ticket t new.keys ≡ cond (same_ticket k t) true (holds_ticket t old.keys)
+pub inserted : (k : Ticket) (old new : BTreeSet Ticket) → Updates ticket_cmp old new k true → (t : Ticket) → is_held t new.keys ≡ cond (is_same_ticket k t) true (is_held t old.keys)
 inserted k old new updates t =
-    sym (holds_by_order t new.keys) ∙ updates.0 t ∙ ap (λ b. cond b true (list_any (is_at (ticket_cmp t)) old.keys)) (same_by_order k t) ∙ ap (cond (same_ticket k t) true) (holds_by_order t old.keys)
+    sym (holds_by_order t new.keys) ∙ updates.0 t ∙ ap (λ b. cond b true (list_any (is_at (ticket_cmp t)) old.keys)) (same_by_order k t) ∙ ap (cond (is_same_ticket k t) true) (holds_by_order t old.keys)
 
 -- whether it was there, from the answer whether it is new
 pub answered_by : (added had b : Bool) → added ≡ not had → added ≡ b → had ≡ not b

@@ -1,7 +1,8 @@
 -- What a node knows, attempts and keeps waiting is in its ranges, and so is what it hands out.
 use Rattle.std.specs.Prelude.{◌≡◌, ℕ, ◌≤◌, Option, Some, List, length, ⊤}
+use Rattle.site_ids.specs.declared.TheConstants.{MAX_VALUE}
 use Rattle.site_ids.specs.Ids.{IsNode, IsInstance}
-use Rattle.site_ids.specs.Majorities.{In}
+use Rattle.site_ids.specs.Lists.{In}
 use Rattle.site_ids.specs.declared.value.Vote.{Vote}
 use Rattle.wire.specs.declared.message.Message.{Message}
 use Rattle.wire.specs.Messages.{IsMessage}
@@ -16,13 +17,13 @@ use Rattle.node.specs.Tidy.{IsTidy}
 
 -- its own value and the votes told are within the limit
 pub record IsAttemptInRange (a : Attempt) : Type 0 where
-  pub own : length a.own ≤ 32768
-  pub told : (x : Answer) (w : Vote) → In a.answers x → x.prior ≡ Some w → length w.value ≤ 32768
+  pub own : length a.own ≤ MAX_VALUE
+  pub told : (x : Answer) (w : Vote) → In a.answers x → x.prior ≡ Some w → length w.value ≤ MAX_VALUE
 
 -- values are within the limit, and known ones at instances
 pub record HasRanges (s : Node) : Type 0 where
-  pub known : (i : ℕ) (v : Value) → s.known i ≡ Some v → IsInstance i × (length v ≤ 32768)
-  pub pending : (v : Value) → In s.pending v → length v ≤ 32768
+  pub known : (i : ℕ) (v : Value) → s.known i ≡ Some v → IsInstance i × (length v ≤ MAX_VALUE)
+  pub pending : (v : Value) → In s.pending v → length v ≤ MAX_VALUE
   pub attempts : (i : ℕ) (a : Attempt) → s.attempts i ≡ Some a → IsAttemptInRange a
 
 -- what is delivered to a node of n is a message of theirs

@@ -1,7 +1,7 @@
 -- Which nodes of the definitions a running node stands for.
 use Rattle.std.specs.Prelude.{◌≡◌, ◌↔◌, ◌⊎◌, ℕ, ◌<◌, ◌≤◌, ◌-◌, ◌^◌, false, if◌then◌else◌, Option, None, List, ◌++◌, length, Result, Ok, Err, IsErrOf}
 use Rattle.site_disk.specs.Model.{DiskState, LeavesOnly, after_sync}
-use Rattle.site_ids.specs.Majorities.{In}
+use Rattle.site_ids.specs.Lists.{In}
 use Rattle.wire.specs.declared.message.Message.{Message}
 use Rattle.wire.specs.Messages.{IsMessage}
 use Rattle.durable.specs.Entries.{Entry}
@@ -11,7 +11,7 @@ use Rattle.durable.specs.Reading.{IsKept}
 use Rattle.durable.specs.Ready.{IsStored}
 use Rattle.durable.specs.Standing.{StandsFor}
 use Rattle.durable.specs.declared.record.Record.{Record}
-use Rattle.learner.specs.Tallies.{Tally}
+use Rattle.learner.specs.ToldVotes.{ToldVote}
 use Rattle.learner.specs.Votes.{IsTold}
 use Rattle.proposer.specs.Standing.{Attempting}
 use Rattle.node.specs.declared.fault.NodeFault.{NodeFault}
@@ -38,7 +38,7 @@ pub record IsOnRecord {D : Type 0} (store : Record D) (n : ℕ) (mode : Mode) (e
 -- what a node keeps
 pub record HasParts {D : Type 0} (code : Running D) (s : Node) : Type 0 where
   pub on_record : IsOnRecord code.store code.cluster s.mode s.entries s.in_flight
-  pub votes : (t : Tally) → IsTold code.learner t ↔ In s.votes t
+  pub votes : (t : ToldVote) → IsTold code.learner t ↔ In s.votes t
   pub known : AreKnown code.known s.known
   pub attempts : Attempting code.proposer s.attempts
   pub pending : AreWaiting code.queue.items.items s.pending

@@ -1,30 +1,31 @@
 -- What stands in a node beside its record, whatever calls it has taken since it opened.
 use Rattle.std.specs.Prelude.{◌≡◌, ℕ, ◌≤◌, true, false, Option, Some, None, List, [], ◌∷◌, length, ⊤}
-use Rattle.site_ids.specs.Majorities.{In}
+use Rattle.site_ids.specs.declared.TheConstants.{MAX_PENDING}
+use Rattle.site_ids.specs.Lists.{In}
 use Rattle.wire.specs.declared.message.Message.{Message}
 use Rattle.durable.specs.Entries.{Entry}
-use Rattle.learner.specs.Tallies.{Tally}
+use Rattle.learner.specs.ToldVotes.{ToldVote}
 use Rattle.proposer.specs.Attempts.{Attempt}
 use Rattle.node.specs.declared.to.To.{To}
 use Rattle.node.specs.Nodes.{Value, Mode, Node, opened, IsFirstUnknown}
-use Rattle.node.specs.Tickets.{IsCommand, shares_ticket}
+use Rattle.node.specs.Tickets.{IsCommand, has_same_ticket}
 use Rattle.node.specs.Calls.{Call}
 use Rattle.node.specs.Endings.{Ending, Ends}
 
 -- no two of the values share a ticket
 abbrev pub AreApart : List Value → Type 0
 AreApart [] = ⊤
-AreApart (v ∷ vs) = ((u : Value) → In vs u → shares_ticket u v ≡ false) × AreApart vs
+AreApart (v ∷ vs) = ((u : Value) → In vs u → has_same_ticket u v ≡ false) × AreApart vs
 
 -- Votes stand at unknown instances. What is pending are commands, 64 at most, each of a ticket of its own that no known value has. While a node has one
 -- attempt, it stands at the first unknown instance
-pub record AreTidy (votes : List Tally) (known : ℕ → Option Value) (attempts : ℕ → Option Attempt) (pending : List Value) : Type 0 where
+pub record AreTidy (votes : List ToldVote) (known : ℕ → Option Value) (attempts : ℕ → Option Attempt) (pending : List Value) : Type 0 where
   pub attempted : (i : ℕ) (a : Attempt) → attempts i ≡ Some a → IsFirstUnknown known i
-  pub voted : (t : Tally) → In votes t → known t.instance ≡ None
+  pub voted : (t : ToldVote) → In votes t → known t.instance ≡ None
   pub commands : (v : Value) → In pending v → IsCommand v
-  pub few : length pending ≤ 64
+  pub few : length pending ≤ MAX_PENDING
   pub apart : AreApart pending
-  pub unknown : (v : Value) (i : ℕ) (u : Value) → In pending v → known i ≡ Some u → shares_ticket v u ≡ false
+  pub unknown : (v : Value) (i : ℕ) (u : Value) → In pending v → known i ≡ Some u → has_same_ticket v u ≡ false
 
 abbrev pub IsTidy : Node → Type 0
 IsTidy s = AreTidy s.votes s.known s.attempts s.pending
@@ -45,7 +46,7 @@ SaysFew = (n p : ℕ) (s new : Node) (call : Call) (ending : Ending) (out : List
 
 -- of two values both share the other's ticket, or neither does; a command shares its own
 abbrev pub SharingIsMutual : Type 0
-SharingIsMutual = (u v : Value) → shares_ticket u v ≡ shares_ticket v u
+SharingIsMutual = (u v : Value) → has_same_ticket u v ≡ has_same_ticket v u
 
 abbrev pub CommandsShareTheirOwn : Type 0
-CommandsShareTheirOwn = (v : Value) → IsCommand v → shares_ticket v v ≡ true
+CommandsShareTheirOwn = (v : Value) → IsCommand v → has_same_ticket v v ≡ true

@@ -1,6 +1,7 @@
 //! A proposal that is delivered.
 
 ghost use Rattle.std.specs.Prelude.{◌≡◌, ◌≤◌, ℕ, IsErrOf, length, false};
+ghost use Rattle.site_ids.specs.declared.TheConstants.{MAX_VALUE};
 ghost use Rattle.site_ids.specs.Ids.{IsNode};
 ghost use Rattle.wire.specs.Messages.{IsMessage};
 
@@ -25,7 +26,7 @@ impl<D: Disk> Node<D> {
     ) -> Result<(), NodeFault>
         requires running { self.old.store.stopped ≡ false }
         requires of_cluster { IsNode self.old.cluster ballot.node }
-        requires fits { length value.now ≤ 32768 }
+        requires fits { length value.now ≤ MAX_VALUE }
         ensures event { (from : ℕ) → IsMessage self.old.cluster (Message.Propose from instance ballot value.now) → IsEvent D.stands_for self.old self.new (deliver (Message.Propose from instance ballot value.now)) (ending_of result) outbox.old.items outbox.new.items }
         ensures counts { CountsDevice result (D.failed self.old.store.disk) (D.failed self.new.store.disk) }
         ensures others { KeepsOthers self.old self.new }

@@ -1,6 +1,7 @@
 //! What a node has published, and its answers.
 
 ghost use Rattle.std.specs.Prelude.{◌≡◌, ◌↔◌, ◌⊎◌, ◌<◌, ◌≤◌, ◌++◌, List, Some, IfOk, OnOk, OnErr, IsErrOf, length, take};
+ghost use Rattle.site_ids.specs.declared.TheConstants.{MAX_INSTANCE};
 ghost use Rattle.site_disk.specs.Model.{DiskState};
 ghost use Rattle.command.specs.Effective.{effective};
 ghost use Rattle.command.specs.Releases.{release_count};
@@ -17,7 +18,7 @@ use std::alloc::AllocError;
 
 // Feeds those of the values that were not fed yet, one after the other.
 fn feed(values: &[Value], releases: &mut Releases) -> Result<(), AllocError>
-    requires { length values.now ≤ 1000000 }
+    requires { length values.now ≤ MAX_INSTANCE }
     ensures more { (more : List Bytes) × (releases.new ≡ releases.old ++ more) }
     ensures begins { releases.old ≡ take (length releases.old) values.now → releases.new ≡ take (length releases.new) values.now }
     ensures all { OnOk result (length values.now ≤ length releases.new) }

@@ -7,7 +7,8 @@ use Rattle.std.proofs.Math.Dec.{eqb}
 use Rattle.std.specs.List.{list_any}
 use Rattle.std.proofs.lemmas.List.{map-append, length_push}
 use Rattle.site_ids.specs.Ids.{BallotOf, IsNode}
-use Rattle.site_ids.specs.Majorities.{In, Distinct, Majority}
+use Rattle.site_ids.specs.Lists.{In, Distinct}
+use Rattle.site_ids.specs.Majorities.{Majority}
 use Rattle.site_ids.specs.declared.value.Vote.{Vote}
 use Rattle.site_ids.proofs.MemberLemmas.{in_push, distinct_push}
 use Rattle.proposer.specs.declared.attempt.OpenAttempt.{OpenAttempt}

@@ -1,7 +1,7 @@
 -- The highest vote told is kept along with the answers, and suffices for the choice.
 use Rattle.std.proofs.Common.{◌≡◌, ◌⊎◌, inl, inr, ℕ, Option, Some, None, List, [], ◌∷◌, ◌++◌, sym, ap, subst, ◌∙◌, ⊎_elim, arith}
 use Rattle.site_ids.specs.Ids.{BallotOf, Below, NotAbove}
-use Rattle.site_ids.specs.Majorities.{In}
+use Rattle.site_ids.specs.Lists.{In}
 use Rattle.site_ids.specs.declared.value.Vote.{Vote}
 use Rattle.site_ids.proofs.MemberLemmas.{in_left, in_last, in_push}
 use Rattle.proposer.specs.Attempts.{Answer, Chooses}

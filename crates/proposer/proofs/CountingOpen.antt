@@ -11,7 +11,7 @@ use Rattle.std.proofs.lemmas.Bool.{cases_eq}
 use Rattle.std.proofs.lemmas.Bool.Decides.{nat_tests}
 use Rattle.std.proofs.lemmas.Map.Entries.{lookup_head, lookup_tail}
 use Rattle.std.proofs.lemmas.Map.Keys.{sorted_head, sorted_tail}
-use Rattle.site_ids.specs.Majorities.{In, Distinct}
+use Rattle.site_ids.specs.Lists.{In, Distinct}
 
 less : (k i : ℕ) → nat_cmp k i ≡ Less → k < i
 less k i is = grind (arith, nat_tests)

@@ -1,8 +1,7 @@
 -- Examples of choices and of steps, in a cluster of five.
 use Rattle.std.proofs.Common.{◌≡◌, inl, ℕ, List, [], ◌∷◌, ◌++◌, Option, Some, None, refl, subst, arith}
 use Rattle.site_ids.specs.Ids.{BallotOf, IsNode}
-use Rattle.site_ids.specs.Majorities.{In}
-use Rattle.site_ids.specs.Maps.{put_at}
+use Rattle.site_ids.specs.Lists.{In, put_at}
 use Rattle.site_ids.specs.declared.value.Vote.{Vote}
 use Rattle.proposer.specs.Attempts.{Answer, Attempt, senders, TakesPromise, proposing}
 use Rattle.proposer.specs.Best.{IsBest}

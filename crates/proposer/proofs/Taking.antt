@@ -5,7 +5,7 @@ use Rattle.std.specs.Prelude.{◌↔◌, IsSome}
 use Rattle.std.specs.BTreeMap.{BTreeMap}
 use Rattle.site_ids.specs.Ids.{BallotOf}
 use Rattle.site_ids.specs.Majorities.{Majority}
-use Rattle.site_ids.specs.Maps.{put_at}
+use Rattle.site_ids.specs.Lists.{put_at}
 use Rattle.site_ids.specs.declared.value.Vote.{Vote}
 use Rattle.site_ids.proofs.MapLemmas.{put_here, put_other}
 use Rattle.proposer.specs.declared.attempt.OpenAttempt.{OpenAttempt}

@@ -1,8 +1,8 @@
 -- A proposer's attempts, and its step: what a promise does to them.
 use Rattle.std.specs.Prelude.{◌≡◌, ◌⊎◌, ◌↔◌, ℕ, Option, Some, None, IsSome, List, [], ◌∷◌, ◌++◌, length, map}
 use Rattle.site_ids.specs.Ids.{BallotOf, NotAbove}
-use Rattle.site_ids.specs.Majorities.{In, Distinct, Majority}
-use Rattle.site_ids.specs.Maps.{put_at}
+use Rattle.site_ids.specs.Lists.{In, Distinct, put_at}
+use Rattle.site_ids.specs.Majorities.{Majority}
 use Rattle.site_ids.specs.declared.value.Vote.{Vote}
 use Rattle.wire.specs.declared.message.Message.{Message}
 use Rattle.wire.specs.declared.message.Message.TheVariants.{Prepare, Propose}

@@ -4,7 +4,8 @@ use Rattle.std.specs.BTreeMap.{BTreeMap, get}
 use Rattle.std.specs.Ordering.{nat_cmp}
 use Rattle.std.specs.declared.alloc.AllocError.{AllocError}
 use Rattle.site_ids.specs.Ids.{IsNode, BallotOf}
-use Rattle.site_ids.specs.Majorities.{In, Distinct, Majority}
+use Rattle.site_ids.specs.Lists.{In, Distinct}
+use Rattle.site_ids.specs.Majorities.{Majority}
 use Rattle.site_ids.specs.declared.value.Vote.{Vote}
 use Rattle.proposer.specs.declared.attempt.OpenAttempt.{OpenAttempt}
 use Rattle.proposer.specs.declared.fault.ProposerFault.{ProposerFault}

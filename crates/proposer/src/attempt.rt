@@ -2,7 +2,7 @@
 
 ghost use Rattle.std.specs.Prelude.{◌≡◌, ◌↔◌, ◌<◌, ◌++◌, [], ◌∷◌, IfOk, IsTrue, None, Some, vec_len, vec_capacity};
 ghost use Rattle.site_ids.specs.Ids.{IsNode};
-ghost use Rattle.site_ids.specs.Majorities.{In};
+ghost use Rattle.site_ids.specs.Lists.{In};
 ghost use Rattle.proposer.specs.Attempts.{Attempt};
 ghost use Rattle.proposer.specs.Best.{Exceeds, value_by, replacing, vote_told};
 ghost use Rattle.proposer.specs.Standing.{StandsFor, Answered};

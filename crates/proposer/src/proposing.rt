@@ -1,7 +1,8 @@
 ghost use Rattle.std.specs.Prelude.{◌≡◌, ◌+◌, ◌<◌, ℕ, max, None, Some, Option, OnOk, OnErr, IfOk, MatchResult};
 ghost use Rattle.std.specs.Option.{option_map};
+ghost use Rattle.site_ids.specs.declared.TheConstants.{MAX_ROUND};
 ghost use Rattle.site_ids.specs.Ids.{IsNode};
-ghost use Rattle.site_ids.specs.Maps.{put_at};
+ghost use Rattle.site_ids.specs.Lists.{put_at};
 ghost use Rattle.proposer.specs.declared.fault.ProposerFault.TheVariants.{RoundsUsedUp};
 ghost use Rattle.proposer.specs.Attempts.{Attempt, AreOpen, opened, latest};
 ghost use Rattle.proposer.specs.Standing.{Attempting, HasRoom, Promised};
@@ -52,7 +53,7 @@ impl Proposer {
 
     /// A ballot above the last round on record and above each round that a nack told.
     pub fn next_ballot(&self, recorded: u32) -> Result<Ballot, ProposerFault>
-        ensures { MatchResult result (λ b. (b ≡ record { round = max recorded self.now.heard + 1; node = self.now.me }) × (max recorded self.now.heard < 4294967295)) (λ fault. (fault ≡ RoundsUsedUp) × (max recorded self.now.heard ≡ 4294967295)) }
+        ensures { MatchResult result (λ b. (b ≡ record { round = max recorded self.now.heard + 1; node = self.now.me }) × (max recorded self.now.heard < MAX_ROUND)) (λ fault. (fault ≡ RoundsUsedUp) × (max recorded self.now.heard ≡ MAX_ROUND)) }
     {
         let last = recorded.max(self.heard);
         if last == MAX_ROUND {

@@ -3,9 +3,10 @@ use Rattle.std.proofs.Common.{◌≡◌, ℕ, ◌+◌, ◌<◌, ◌≤◌, List,
 use Rattle.std.proofs.lemmas.List.{length-map, length-append, map-append}
 use Rattle.std.specs.BTreeMap.{BTreeMap, get, Updates}
 use Rattle.std.specs.Option.{is_some}
+use Rattle.site_ids.specs.declared.TheConstants.{MAX_INSTANCE}
 use Rattle.site_ids.specs.declared.Ticket.{Ticket}
 use Rattle.command.specs.Action.{Action, put_template, put_partial, put_data, put_route, remove, release, Order}
-use Rattle.command.specs.Effective.{same_ticket, commands_of, effective}
+use Rattle.command.specs.Effective.{is_same_ticket, commands_of, effective}
 use Rattle.command.specs.Reading.{value_reading}
 use Rattle.command.specs.Releases.{is_release, release_count}
 use Rattle.command.specs.declared.fault.CommandFault.{CommandFault}
@@ -66,7 +67,7 @@ one_at_most Released = omega arith
 one_at_most Repeat = omega arith
 one_at_most NotACommand = omega arith
 
-pub kept : (r new : Inside) (v : Vec ℕ Global) → IsKept r → length (values_fed r) < 1000000 → new.fed.items ≡ r.fed.items ++ v ∷ []
+pub kept : (r new : Inside) (v : Vec ℕ Global) → IsKept r → length (values_fed r) < MAX_INSTANCE → new.fed.items ≡ r.fed.items ++ v ∷ []
     → new.newest ≡ r.newest + one_if_released (applied (values_fed r) v.items)
     → ((t : Ticket) → get ticket_cmp new.receipts t ≡ receipt_of t (values_fed r ++ v.items ∷ [])) → IsKept new
 kept r new v is few fed newest receipts =
@@ -85,7 +86,7 @@ pub receipts_more : (r : Inside) (m : BTreeMap Ticket ℕ) (v : List ℕ) (o : O
     → i ≡ 1 + length (values_fed r) → Updates ticket_cmp r.receipts m o.ticket (Some i) → (t : Ticket) → get ticket_cmp m t ≡ receipt_of t (values_fed r ++ v ∷ [])
 receipts_more r m v o i is reads had place updates t =
     updates.0 t ∙ ap (λ b. cond b (Some i) (get ticket_cmp r.receipts t)) (same_by_order o.ticket t)
-    ∙ ap (λ n. cond (same_ticket o.ticket t) (Some n) (get ticket_cmp r.receipts t)) place ∙ ap (cond (same_ticket o.ticket t) (Some (1 + length (values_fed r)))) (is.receipts t)
+    ∙ ap (λ n. cond (is_same_ticket o.ticket t) (Some n) (get ticket_cmp r.receipts t)) place ∙ ap (cond (is_same_ticket o.ticket t) (Some (1 + length (values_fed r)))) (is.receipts t)
     ∙ sym (new_receipt t (values_fed r) v o reads had)
 
 pub receipts_after_none : (r : Inside) (v : List ℕ) (fault : CommandFault) → IsKept r → value_reading v ≡ Err fault → (t : Ticket) → get ticket_cmp r.receipts t ≡ receipt_of t (values_fed r ++ v ∷ [])

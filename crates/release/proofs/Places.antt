@@ -4,17 +4,17 @@ use Rattle.std.specs.List.{position_from}
 use Rattle.std.specs.Option.{is_some}
 use Rattle.site_ids.specs.declared.Ticket.{Ticket}
 use Rattle.command.specs.Action.{Order}
-use Rattle.command.specs.Effective.{commands_of, has_ticket, same_ticket}
+use Rattle.command.specs.Effective.{commands_of, has_ticket, is_same_ticket}
 use Rattle.command.specs.Reading.{value_reading}
 use Rattle.command.specs.declared.fault.CommandFault.{CommandFault}
 use Rattle.std.proofs.lemmas.Option.{none-some, same_Some}
 use Rattle.release.specs.Receipts.{has_that, is_named, IsNamedAt}
-use Rattle.content.proofs.Tickets.{same_ticket-is, same_by_order, same_itself}
+use Rattle.content.proofs.Tickets.{is_same_ticket-is, same_by_order, same_itself}
 
 pub not_named : (ticket : Ticket) (v : List ℕ) (fault : CommandFault) → value_reading v ≡ Err fault → is_named ticket v ≡ false
 not_named ticket v fault reads = rw reads
 
-pub named_by : (ticket : Ticket) (v : List ℕ) (o : Order) → value_reading v ≡ Ok o → is_named ticket v ≡ same_ticket o.ticket ticket
+pub named_by : (ticket : Ticket) (v : List ℕ) (o : Order) → value_reading v ≡ Ok o → is_named ticket v ≡ is_same_ticket o.ticket ticket
 named_by ticket v o reads = rw reads
 
 -- ---- one more value
@@ -61,13 +61,13 @@ at_head ticket v values is = by (value_reading v) refl
       order = o;
       there = refl;
       reads = reads;
-      named = same_ticket-is o.ticket ticket (sym (named_by ticket v o reads) ∙ is);
+      named = is_same_ticket-is o.ticket ticket (sym (named_by ticket v o reads) ∙ is);
     }
 
 pub not_at_head : (ticket : Ticket) (v : List ℕ) (values : List (List ℕ)) → is_named ticket v ≡ false → ¬ IsNamedAt ticket (v ∷ values) zero
 not_at_head ticket v values is at =
     let first : v ≡ at.value = same_Some v at.value at.there in
-    let named : is_named ticket v ≡ true = named_by ticket v at.order (ap value_reading first ∙ at.reads) ∙ ap (λ t. same_ticket t ticket) at.named ∙ sym (same_by_order ticket ticket) ∙ same_itself ticket in
+    let named : is_named ticket v ≡ true = named_by ticket v at.order (ap value_reading first ∙ at.reads) ∙ ap (λ t. is_same_ticket t ticket) at.named ∙ sym (same_by_order ticket ticket) ∙ same_itself ticket in
     let never : true ≡ false = sym named ∙ is in cc
 
 pub at_next : (ticket : Ticket) (v : List ℕ) (values : List (List ℕ)) (place : ℕ) → IsNamedAt ticket values place → IsNamedAt ticket (v ∷ values) (suc place)

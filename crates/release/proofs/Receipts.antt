@@ -6,14 +6,14 @@ use Rattle.std.specs.List.{position_from}
 use Rattle.std.specs.Option.{is_some}
 use Rattle.site_ids.specs.declared.Ticket.{Ticket}
 use Rattle.command.specs.Action.{Action, put_template, put_partial, put_data, put_route, remove, release, Order}
-use Rattle.command.specs.Effective.{commands_of, has_ticket, same_ticket}
+use Rattle.command.specs.Effective.{commands_of, has_ticket, is_same_ticket}
 use Rattle.command.specs.Reading.{value_reading}
 use Rattle.command.specs.declared.fault.CommandFault.{CommandFault}
 use Rattle.content.specs.Answered.{applied, applied_after, answered}
 use Rattle.content.specs.declared.applied.Applied.TheVariants.{Repeat}
 use Rattle.release.specs.Receipts.{is_named, receipt_of, IsNamedAt, IsReceipt}
 use Rattle.release.specs.Laws.{ReceiptIsFirst, ReceiptIsNone, ReceiptStays, RepeatHasReceipt}
-use Rattle.content.proofs.Tickets.{same_ticket-is}
+use Rattle.content.proofs.Tickets.{is_same_ticket-is}
 use Rattle.release.proofs.Places.{not_named, named_by, position_more, has_position, position_first, position_none}
 
 pub has_receipt : (ticket : Ticket) (values : List (List ℕ)) → has_ticket ticket (commands_of values) ≡ is_some (receipt_of ticket values)
@@ -49,24 +49,24 @@ no_command_keeps ticket values v fault reads = unnamed_more ticket values v (not
 -- a command whose ticket stood earlier changes no receipt
 pub repeat_keeps : (ticket : Ticket) (values : List (List ℕ)) (v : List ℕ) (o : Order) → value_reading v ≡ Ok o → is_some (receipt_of o.ticket values) ≡ true
     → receipt_of ticket (values ++ v ∷ []) ≡ receipt_of ticket values
-repeat_keeps ticket values v o reads had = by (same_ticket o.ticket ticket) refl
+repeat_keeps ticket values v o reads had = by (is_same_ticket o.ticket ticket) refl
   where
-    by : (b : Bool) → same_ticket o.ticket ticket ≡ b → receipt_of ticket (values ++ v ∷ []) ≡ receipt_of ticket values
+    by : (b : Bool) → is_same_ticket o.ticket ticket ≡ b → receipt_of ticket (values ++ v ∷ []) ≡ receipt_of ticket values
     by false is = unnamed_more ticket values v (named_by ticket v o reads ∙ is)
     by true is =
         position_more (is_named ticket) 1 values v
-        ∙ some_or (receipt_of ticket values) (cond (is_named ticket v) (Some (1 + length values)) None) (subst (λ t. is_some (receipt_of t values) ≡ true) (same_ticket-is o.ticket ticket is) had)
+        ∙ some_or (receipt_of ticket values) (cond (is_named ticket v) (Some (1 + length values)) None) (subst (λ t. is_some (receipt_of t values) ≡ true) (is_same_ticket-is o.ticket ticket is) had)
 
 -- a command with a new ticket has its own place as its receipt
 pub new_receipt : (ticket : Ticket) (values : List (List ℕ)) (v : List ℕ) (o : Order) → value_reading v ≡ Ok o → is_some (receipt_of o.ticket values) ≡ false
-    → receipt_of ticket (values ++ v ∷ []) ≡ cond (same_ticket o.ticket ticket) (Some (1 + length values)) (receipt_of ticket values)
-new_receipt ticket values v o reads had = by (same_ticket o.ticket ticket) refl
+    → receipt_of ticket (values ++ v ∷ []) ≡ cond (is_same_ticket o.ticket ticket) (Some (1 + length values)) (receipt_of ticket values)
+new_receipt ticket values v o reads had = by (is_same_ticket o.ticket ticket) refl
   where
-    by : (b : Bool) → same_ticket o.ticket ticket ≡ b → receipt_of ticket (values ++ v ∷ []) ≡ cond (same_ticket o.ticket ticket) (Some (1 + length values)) (receipt_of ticket values)
+    by : (b : Bool) → is_same_ticket o.ticket ticket ≡ b → receipt_of ticket (values ++ v ∷ []) ≡ cond (is_same_ticket o.ticket ticket) (Some (1 + length values)) (receipt_of ticket values)
     by false is = unnamed_more ticket values v (named_by ticket v o reads ∙ is) ∙ sym (ap (λ b. cond b (Some (1 + length values)) (receipt_of ticket values)) is)
     by true is =
         position_more (is_named ticket) 1 values v
-        ∙ none_or (receipt_of ticket values) (cond (is_named ticket v) (Some (1 + length values)) None) (subst (λ t. is_some (receipt_of t values) ≡ false) (same_ticket-is o.ticket ticket is) had)
+        ∙ none_or (receipt_of ticket values) (cond (is_named ticket v) (Some (1 + length values)) None) (subst (λ t. is_some (receipt_of t values) ≡ false) (is_same_ticket-is o.ticket ticket is) had)
         ∙ ap (λ b. cond b (Some (1 + length values)) None) (named_by ticket v o reads ∙ is) ∙ sym (ap (λ b. cond b (Some (1 + length values)) (receipt_of ticket values)) is)
 
 -- ---- in words of places

@@ -3,12 +3,12 @@ use Rattle.std.specs.Prelude.{ℕ, suc, ◌≡◌, ◌<◌, List, Bool, false, O
 use Rattle.std.specs.List.{position_from}
 use Rattle.site_ids.specs.declared.Ticket.{Ticket}
 use Rattle.command.specs.Action.{Order}
-use Rattle.command.specs.Effective.{same_ticket}
+use Rattle.command.specs.Effective.{is_same_ticket}
 use Rattle.command.specs.Reading.{value_reading}
 use Rattle.command.specs.declared.fault.CommandFault.{CommandFault}
 
 abbrev pub has_that : Ticket → Result Order CommandFault → Bool
-has_that ticket (Ok order) = same_ticket order.ticket ticket
+has_that ticket (Ok order) = is_same_ticket order.ticket ticket
 has_that ticket (Err fault) = false
 
 -- the value is a command with that ticket

@@ -3,6 +3,7 @@ use Rattle.std.specs.Prelude.{ℕ, ◌≡◌, ◌≤◌, List, length, map, stri
 use Rattle.std.specs.BTreeMap.{get}
 use Rattle.std.specs.declared.cmp.Ordering.{Ordering}
 use Rattle.std.specs.Ordering.{nat_cmp, ordering_then}
+use Rattle.site_ids.specs.declared.TheConstants.{MAX_INSTANCE}
 use Rattle.site_ids.specs.declared.Ticket.{Ticket}
 use Rattle.command.specs.Effective.{effective}
 use Rattle.command.specs.Releases.{release_count}
@@ -23,7 +24,7 @@ values_fed r = map (λ v. v.items) r.fed.items
 
 -- what is kept beside the values is what the definitions say of them
 pub record IsKept (r : Inside) : Type 0 where
-  pub few : length r.fed.items ≤ 1000000
+  pub few : length r.fed.items ≤ MAX_INSTANCE
   pub receipts : (ticket : Ticket) → get ticket_cmp r.receipts ticket ≡ receipt_of ticket (values_fed r)
   pub bounded : r.newest ≤ length r.fed.items
   pub newest : r.newest ≡ release_count (effective (values_fed r))

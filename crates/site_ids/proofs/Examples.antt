@@ -1,7 +1,8 @@
 -- Examples of majorities and of ballots in their order.
 use Rattle.std.proofs.Common.{◌≡◌, inl, inr, ℕ, [], ◌∷◌, refl, ⊎_elim, arith}
 use Rattle.site_ids.specs.Ids.{IsNode, BallotOf, Below}
-use Rattle.site_ids.specs.Majorities.{In, Distinct, Majority}
+use Rattle.site_ids.specs.Lists.{In, Distinct}
+use Rattle.site_ids.specs.Majorities.{Majority}
 
 abbrev at : ℕ → ℕ → BallotOf
 at round node = record { round = round; node = node }

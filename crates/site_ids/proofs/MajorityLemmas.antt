@@ -3,7 +3,8 @@ use Rattle.std.proofs.Common.{◌≡◌, ◌≢◌, inl, inr, ℕ, zero, suc, �
 use Rattle.std.specs.Prelude.{nat_eq}
 use Rattle.std.proofs.lemmas.Bool.Decides.{nat_tests}
 use Rattle.site_ids.specs.Ids.{IsNode}
-use Rattle.site_ids.specs.Majorities.{In, Distinct, Majority}
+use Rattle.site_ids.specs.Lists.{In, Distinct}
+use Rattle.site_ids.specs.Majorities.{Majority}
 
 -- how many of the nodes 1 to n pass a test
 count : (ℕ → Bool) → ℕ → ℕ

@@ -1,7 +1,7 @@
 -- Functions of the instance, with one more value.
 use Rattle.std.proofs.Common.{◌≡◌, ◌≢◌, ℕ, arith}
 use Rattle.std.proofs.lemmas.Bool.Decides.{nat_tests}
-use Rattle.site_ids.specs.Maps.{put_at}
+use Rattle.site_ids.specs.Lists.{put_at}
 
 pub put_here : {X : Type 0} (f : ℕ → X) (i : ℕ) (x : X) (j : ℕ) → j ≡ i → put_at f i x j ≡ x
 put_here f i x j e = grind (arith, nat_tests)

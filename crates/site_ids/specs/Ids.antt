@@ -2,6 +2,7 @@
 use Rattle.std.specs.Prelude.{◌≡◌, ◌⊎◌, ℕ, ◌<◌, ◌≤◌, ◌^◌}
 use Rattle.std.specs.Coded.{Coded, coded_ℕ, coded×, code_by}
 use Rattle.std.proofs.Common.{refl}
+use Rattle.site_ids.specs.declared.TheConstants.{MAX_INSTANCE}
 
 -- node p is one of the nodes 1 to n
 abbrev pub IsNode : ℕ → ℕ → Type 0
@@ -9,7 +10,7 @@ IsNode n p = (1 ≤ p) × (p ≤ n)
 
 -- instances are numbered from 1 to 1,000,000
 abbrev pub IsInstance : ℕ → Type 0
-IsInstance i = (1 ≤ i) × (i ≤ 1000000)
+IsInstance i = (1 ≤ i) × (i ≤ MAX_INSTANCE)
 
 -- a round and the node that began it
 pub record BallotOf : Type 0 where

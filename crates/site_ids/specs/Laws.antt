@@ -1,7 +1,8 @@
 -- What holds of majorities and ballots.
 use Rattle.std.specs.Prelude.{◌≡◌, ◌⊎◌, ℕ, ◌≤◌, List}
 use Rattle.site_ids.specs.Ids.{BallotOf, Below}
-use Rattle.site_ids.specs.Majorities.{In, Majority}
+use Rattle.site_ids.specs.Lists.{In}
+use Rattle.site_ids.specs.Majorities.{Majority}
 
 -- two majorities of the nodes 1 to n have a node in common
 abbrev pub MajoritiesShare : Type 0

@@ -1,5 +1,5 @@
 pub mod Ids
+pub mod Lists
 pub mod Majorities
-pub mod Maps
 pub mod Spelling
 pub mod Laws

@@ -1,6 +1,7 @@
 //! Ballots in their order.
 
 ghost use Rattle.std.specs.Prelude.{◌≡◌, ◌≤◌, MatchOption};
+ghost use Rattle.site_ids.specs.declared.TheConstants.{MAX_NODES};
 ghost use Rattle.site_ids.specs.Ids.{IsNode};
 
 use crate::NodeId;
@@ -48,7 +49,7 @@ impl Ballot {
 
     pub fn node(self) -> NodeId
         ensures is { result ≡ self.node }
-        ensures range { IsNode 9 result }
+        ensures range { IsNode MAX_NODES result }
     {
         self.node
     }

@@ -1,6 +1,7 @@
 //! A cluster and its nodes.
 
 ghost use Rattle.std.specs.Prelude.{◌≡◌, ◌+◌, ◌/◌, MatchOption};
+ghost use Rattle.site_ids.specs.declared.TheConstants.{MAX_NODES};
 ghost use Rattle.site_ids.specs.Ids.{IsNode};
 
 use crate::MAX_NODES;
@@ -15,6 +16,7 @@ pub struct Cluster {
 impl Model for Cluster {
     ghost use Rattle.std.specs.Prelude.{ℕ};
     ghost use Rattle.std.specs.Coded.{coded_ℕ};
+    ghost use Rattle.site_ids.specs.declared.TheConstants.{MAX_NODES};
     ghost use Rattle.site_ids.specs.Ids.{IsNode};
 
     ghost Value = { ℕ };
@@ -23,7 +25,7 @@ impl Model for Cluster {
 
     ghost view = { λ c. c.size };
 
-    ghost invariant = { λ c. IsNode 9 c.size };
+    ghost invariant = { λ c. IsNode MAX_NODES c.size };
 
     ghost inverse = { λ n. record { size = n } };
 }
@@ -37,6 +39,7 @@ pub struct NodeId {
 impl Model for NodeId {
     ghost use Rattle.std.specs.Prelude.{ℕ};
     ghost use Rattle.std.specs.Coded.{coded_ℕ};
+    ghost use Rattle.site_ids.specs.declared.TheConstants.{MAX_NODES};
     ghost use Rattle.site_ids.specs.Ids.{IsNode};
 
     ghost Value = { ℕ };
@@ -45,14 +48,14 @@ impl Model for NodeId {
 
     ghost view = { λ p. p.number };
 
-    ghost invariant = { λ p. IsNode 9 p.number };
+    ghost invariant = { λ p. IsNode MAX_NODES p.number };
 
     ghost inverse = { λ n. record { number = n } };
 }
 
 impl Cluster {
     pub fn new(size: u8) -> Option<Cluster>
-        ensures { MatchOption result (¬ IsNode 9 size) (λ c. (c ≡ size) × IsNode 9 size) }
+        ensures { MatchOption result (¬ IsNode MAX_NODES size) (λ c. (c ≡ size) × IsNode MAX_NODES size) }
     {
         if 1 <= size && size <= MAX_NODES {
             Some(Cluster { size })
@@ -63,7 +66,7 @@ impl Cluster {
 
     pub fn size(self) -> u8
         ensures is { result ≡ self }
-        ensures range { IsNode 9 result }
+        ensures range { IsNode MAX_NODES result }
     {
         self.size
     }
@@ -89,7 +92,7 @@ impl Cluster {
 impl NodeId {
     pub fn number(self) -> u8
         ensures is { result ≡ self }
-        ensures range { IsNode 9 result }
+        ensures range { IsNode MAX_NODES result }
     {
         self.number
     }

@@ -1,6 +1,7 @@
 -- What a message says of itself, and the ranges of its fields.
 use Rattle.std.specs.Prelude.{ℕ, ◌≤◌, length, ⊤}
 use Rattle.std.specs.Option.{IfSome}
+use Rattle.site_ids.specs.declared.TheConstants.{MAX_VALUE}
 use Rattle.site_ids.specs.Ids.{IsNode, IsInstance, IsBallot}
 use Rattle.wire.specs.declared.message.Message.{Message}
 use Rattle.wire.specs.declared.message.Message.TheVariants.{Prepare, Promise, Propose, Accepted, Nack, Ask, Chosen}
@@ -36,12 +37,12 @@ kind_of (Chosen q i v) = 7
 -- each value has at most 32,768 bytes
 abbrev pub Fits : Message → Type 0
 Fits (Prepare q i b) = ⊤
-Fits (Promise q i b prior) = IfSome prior (λ vote. length vote.value ≤ 32768)
-Fits (Propose q i b v) = length v ≤ 32768
-Fits (Accepted q i b v) = length v ≤ 32768
+Fits (Promise q i b prior) = IfSome prior (λ vote. length vote.value ≤ MAX_VALUE)
+Fits (Propose q i b v) = length v ≤ MAX_VALUE
+Fits (Accepted q i b v) = length v ≤ MAX_VALUE
 Fits (Nack q i b c) = ⊤
 Fits (Ask q i) = ⊤
-Fits (Chosen q i v) = length v ≤ 32768
+Fits (Chosen q i v) = length v ≤ MAX_VALUE
 
 -- each ballot has its round in range, and one of the n nodes
 abbrev pub HasBallots : ℕ → Message → Type 0

@@ -1,4 +1,5 @@
 ghost use Rattle.std.specs.Prelude.{◌≡◌, ◌≤◌, ◌<◌, ◌+◌, ◌++◌, [], ◌∷◌, length, OnOk, OnErr, IfSome, vec_len, vec_capacity};
+ghost use Rattle.site_ids.specs.declared.TheConstants.{MAX_VALUE};
 ghost use Rattle.wire.specs.Messages.{kind_of, sender_of, instance_of, Fits};
 ghost use Rattle.site_ids.specs.Spelling.{ballot_bytes};
 ghost use Rattle.wire.specs.Spelling.{front, length_bytes, prior_bytes, spelled};
@@ -35,7 +36,7 @@ pub fn encode(message: &Message, out: &mut Vec<u8>) -> Result<(), AllocError>
 // All three, or nothing.
 fn append(out: &mut Vec<u8>, front: &[u8; 7], fields: &[u8], value: &[u8]) -> Result<(), AllocError>
     requires fields { length fields.now ≤ 15 }
-    requires value { length value.now ≤ 32768 }
+    requires value { length value.now ≤ MAX_VALUE }
     ensures ok { OnOk result (out.new.items ≡ out.old.items ++ (front.now ++ (fields.now ++ value.now))) }
     ensures err { OnErr result (out.new.items ≡ out.old.items) }
     ensures full { OnErr result (vec_capacity out.old < vec_len out.old + (7 + length fields.now + length value.now)) }
@@ -52,7 +53,7 @@ fn append_promise(
     ballot: Ballot,
     prior: &Option<Vote>,
 ) -> Result<(), AllocError>
-    requires { IfSome prior.now (λ vote. length vote.value ≤ 32768) }
+    requires { IfSome prior.now (λ vote. length vote.value ≤ MAX_VALUE) }
     ensures ok { OnOk result (out.new.items ≡ out.old.items ++ (front.now ++ (ballot_bytes ballot ++ prior_bytes prior.now))) }
     ensures err { OnErr result (out.new.items ≡ out.old.items) }
     ensures full { OnErr result (vec_capacity out.old < vec_len out.old + (7 + length (ballot_bytes ballot ++ prior_bytes prior.now))) }
@@ -81,7 +82,7 @@ fn ballot_of(ballot: Ballot) -> [u8; 5]
 }
 
 fn length_of(value: &Value) -> [u8; 4]
-    requires { length value.now ≤ 32768 }
+    requires { length value.now ≤ MAX_VALUE }
     ensures { result ≡ length_bytes value.now }
 {
     let mut bytes = [0; 4];
@@ -99,7 +100,7 @@ fn without_prior(ballot: Ballot) -> [u8; 6]
 
 // All of a promise that stands between its front and the prior's value.
 fn with_prior(ballot: Ballot, vote: &Vote) -> [u8; 15]
-    requires { length vote.now.value ≤ 32768 }
+    requires { length vote.now.value ≤ MAX_VALUE }
     ensures { result ≡ ballot_bytes ballot ++ (1 ∷ ballot_bytes vote.now.ballot ++ length_bytes vote.now.value) }
 {
     let mut bytes = [0; 15];
@@ -111,7 +112,7 @@ fn with_prior(ballot: Ballot, vote: &Vote) -> [u8; 15]
 }
 
 fn before_value(ballot: Ballot, value: &Value) -> [u8; 9]
-    requires { length value.now ≤ 32768 }
+    requires { length value.now ≤ MAX_VALUE }
     ensures { result ≡ ballot_bytes ballot ++ length_bytes value.now }
 {
     let mut bytes = [0; 9];

@@ -1,21 +1,21 @@
 -- What each call does at a node by tables, computed, and that it does so.
 use Rattle.std.proofs.Common.{◌≡◌, ◌≢◌, ◌⊎◌, inl, inr, ℕ, zero, suc, ◌<◌, ◌^◌, max, true, false, not, Option, Some, None, Result, Ok, Err, List, [], ◌∷◌, ◌++◌, filter, length, refl, sym, ap, subst, ⊎_elim, arith, ◌∙◌}
 use Rattle.std.specs.Prelude.{nat_eq}
+use Rattle.site_ids.specs.declared.TheConstants.{MAX_INSTANCE}
 use Rattle.site_ids.specs.Ids.{BallotOf, Below, NotAbove, IsInstance}
-use Rattle.site_ids.specs.Majorities.{In}
-use Rattle.site_ids.specs.Maps.{put_at}
+use Rattle.site_ids.specs.Lists.{In, put_at}
 use Rattle.site_ids.specs.declared.value.Vote.{Vote}
 use Rattle.wire.specs.declared.message.Message.{Message}
 use Rattle.wire.specs.declared.message.Message.TheVariants.{Prepare, Promise, Propose, Accepted, Nack, Ask, Chosen}
 use Rattle.durable.specs.Entries.{Round, last_round}
 use Rattle.proposer.specs.Attempts.{Answer, Attempt, opened as opened_attempt, waiting, proposing, senders, with_answer, Counts, ToldNone, Highest, Chooses}
-use Rattle.learner.specs.Tallies.{Tally, tally}
+use Rattle.learner.specs.ToldVotes.{ToldVote, told_vote}
 use Rattle.command.specs.Action.{Order}
 use Rattle.command.specs.Reading.{value_reading}
 use Rattle.command.specs.declared.fault.CommandFault.{CommandFault}
 use Rattle.node.specs.declared.to.To.TheVariants.{One, All}
 use Rattle.node.specs.Nodes.{Value, IsFirstUnknown}
-use Rattle.node.specs.Tickets.{IsHeld, shares_ticket}
+use Rattle.node.specs.Tickets.{IsHeld, has_same_ticket}
 use Rattle.node.specs.Deliveries.{reached_by, OnPromise, OnAccepted, OnAsk, OnChosen, ByKind}
 use Rattle.node.specs.Calls.{Call, submit, tick, ask, deliver, oldest, Does}
 use Rattle.world.proofs.Lists.{put_at_cases}
@@ -139,13 +139,13 @@ on_promise n p t q i b prior = elim (map_of t.attempts i) as (λ o. map_of t.att
 
 -- ---- the learner
 
-pub same_tally : (x y : Tally) → x.voter ≡ y.voter → x.instance ≡ y.instance → x.ballot ≡ y.ballot → x.value ≡ y.value → x ≡ y
-same_tally x y a b c d = λ k. record { voter = a k; instance = b k; ballot = c k; value = d k }
+pub same_told_vote : (x y : ToldVote) → x.voter ≡ y.voter → x.instance ≡ y.instance → x.ballot ≡ y.ballot → x.value ≡ y.value → x ≡ y
+same_told_vote x y a b c d = λ k. record { voter = a k; instance = b k; ballot = c k; value = d k }
 
-abbrev pub tallies : (x y : Tally) → Told (x ≡ y)
-tallies x y = elim (both (both (numbers x.voter y.voter) (numbers x.instance y.instance)) (both (ballots x.ballot y.ballot) (values x.value y.value))) [
-  | inl e ↦ inl (same_tally x y e.0.0 e.0.1 e.1.0 e.1.1)
-  | inr apart ↦ inr (λ e. apart ((ap (λ (z : Tally). z.voter) e, ap (λ (z : Tally). z.instance) e), (ap (λ (z : Tally). z.ballot) e, ap (λ (z : Tally). z.value) e)))
+abbrev pub told_votes : (x y : ToldVote) → Told (x ≡ y)
+told_votes x y = elim (both (both (numbers x.voter y.voter) (numbers x.instance y.instance)) (both (ballots x.ballot y.ballot) (values x.value y.value))) [
+  | inl e ↦ inl (same_told_vote x y e.0.0 e.0.1 e.1.0 e.1.1)
+  | inr apart ↦ inr (λ e. apart ((ap (λ (z : ToldVote). z.voter) e, ap (λ (z : ToldVote). z.instance) e), (ap (λ (z : ToldVote). z.ballot) e, ap (λ (z : ToldVote). z.value) e)))
 ]
 
 -- the value is known, and what has served is dropped
@@ -154,15 +154,15 @@ learned_by t i v = record t {
   votes = filter (λ x. not (nat_eq x.instance i)) t.votes;
   known = (i, Some v) ∷ t.known;
   attempts = (i, None) ∷ t.attempts;
-  pending = filter (λ u. not (shares_ticket u v)) t.pending;
+  pending = filter (λ u. not (has_same_ticket u v)) t.pending;
 }
 
 abbrev pub on_accepted : (n : ℕ) (t : NodeBy) (q i : ℕ) (b : BallotOf) (v : Value) → Done (OnAccepted n (node_by t) q i b v)
 on_accepted n t q i b v = elim (map_of t.known i) as (λ o. map_of t.known i ≡ o → Done (OnAccepted n (node_by t) q i b v)) [
   | Some u ↦ λ is. record { entry = None; after = t; out = []; does = inr ((u, is), refl) }
   | None ↦ λ is.
-      let votes : List Tally = tally q i b v ∷ t.votes in
-      elim (are_many (λ p. In votes (tally p i b v)) (λ p. among tallies votes (tally p i b v)) n) [
+      let votes : List ToldVote = told_vote q i b v ∷ t.votes in
+      elim (are_many (λ p. In votes (told_vote p i b v)) (λ p. among told_votes votes (told_vote p i b v)) n) [
         | inr few ↦ record { entry = None; after = record t { votes = votes }; out = []; does = inl (is, inl (few, refl)) }
         | inl many ↦ record { entry = None; after = learned_by (record t { votes = votes }) i v; out = []; does = inl (is, inr (many, refl)) }
       ]
@@ -197,19 +197,19 @@ pub never : false ≡ true → ⊥
 never e = cc
 
 -- none of the values shares the ticket
-abbrev pub apart_from : (v : Value) (us : List Value) → Option ((u : Value) → In us u → ¬ (shares_ticket u v ≡ true))
+abbrev pub apart_from : (v : Value) (us : List Value) → Option ((u : Value) → In us u → ¬ (has_same_ticket u v ≡ true))
 apart_from v [] = Some (λ u k. absurd k)
-apart_from v (u ∷ us) = elim (shares_ticket u v) as (λ b. shares_ticket u v ≡ b → Option ((x : Value) → In (u ∷ us) x → ¬ (shares_ticket x v ≡ true))) [
+apart_from v (u ∷ us) = elim (has_same_ticket u v) as (λ b. has_same_ticket u v ≡ b → Option ((x : Value) → In (u ∷ us) x → ¬ (has_same_ticket x v ≡ true))) [
   | true ↦ λ is. None
-  | false ↦ λ is. elim (apart_from v us) [ None ↦ None | Some later ↦ Some (λ x k. ⊎_elim (λ (e : u ≡ x). subst (λ y. ¬ (shares_ticket y v ≡ true)) e (λ shares. never (sym is ∙ shares))) (λ k. later x k) k) ]
+  | false ↦ λ is. elim (apart_from v us) [ None ↦ None | Some later ↦ Some (λ x k. ⊎_elim (λ (e : u ≡ x). subst (λ y. ¬ (has_same_ticket y v ≡ true)) e (λ shares. never (sym is ∙ shares))) (λ k. later x k) k) ]
 ] refl
 
 -- nor does a known one
-abbrev pub unknown_to : (v : Value) (xs : Table Value) → Option ((i : ℕ) (u : Value) → map_of xs i ≡ Some u → ¬ (shares_ticket u v ≡ true))
+abbrev pub unknown_to : (v : Value) (xs : Table Value) → Option ((i : ℕ) (u : Value) → map_of xs i ≡ Some u → ¬ (has_same_ticket u v ≡ true))
 unknown_to v [] = Some (λ i u is. absurd (no_such u is))
 unknown_to v (x ∷ xs) = elim (unknown_to v xs) [
   | None ↦ None
-  | Some later ↦ elim (x.1) as (λ o. x.1 ≡ o → Option ((i : ℕ) (u : Value) → map_of (x ∷ xs) i ≡ Some u → ¬ (shares_ticket u v ≡ true))) [
+  | Some later ↦ elim (x.1) as (λ o. x.1 ≡ o → Option ((i : ℕ) (u : Value) → map_of (x ∷ xs) i ≡ Some u → ¬ (has_same_ticket u v ≡ true))) [
     | None ↦ λ is. Some (λ i u there. ⊎_elim (λ (e : (i ≡ x.0) × (x.1 ≡ Some u)). absurd (no_such u (sym is ∙ e.1))) (λ k. later i u k) (put_at_cases (map_of xs) x.0 x.1 i u there))
     | Some w ↦ λ is. elim (apart_from v (w ∷ [])) [
       | None ↦ None
@@ -218,10 +218,10 @@ unknown_to v (x ∷ xs) = elim (unknown_to v xs) [
   ] refl
 ]
 
-pub unheld : (t : NodeBy) (v : Value) → ((u : Value) → In t.pending u → ¬ (shares_ticket u v ≡ true)) → ((i : ℕ) (u : Value) → map_of t.known i ≡ Some u → ¬ (shares_ticket u v ≡ true)) → ¬ IsHeld (node_by t) v
+pub unheld : (t : NodeBy) (v : Value) → ((u : Value) → In t.pending u → ¬ (has_same_ticket u v ≡ true)) → ((i : ℕ) (u : Value) → map_of t.known i ≡ Some u → ¬ (has_same_ticket u v ≡ true)) → ¬ IsHeld (node_by t) v
 unheld t v apart unknown held = ⊎_elim
-    (λ (x : (u : Value) × In t.pending u × (shares_ticket u v ≡ true)). apart x.0 x.1 x.2)
-    (λ (x : (i : ℕ) × (u : Value) × (map_of t.known i ≡ Some u) × (shares_ticket u v ≡ true)). unknown x.0 x.1 x.2 x.3)
+    (λ (x : (u : Value) × In t.pending u × (has_same_ticket u v ≡ true)). apart x.0 x.1 x.2)
+    (λ (x : (i : ℕ) × (u : Value) × (map_of t.known i ≡ Some u) × (has_same_ticket u v ≡ true)). unknown x.0 x.1 x.2 x.3)
     held
 
 abbrev pub submitted : (n p : ℕ) (t : NodeBy) (v : Value) (r : Result Order CommandFault) → value_reading v ≡ r → Option (Done (Does n p (node_by t) (submit v)))
@@ -248,7 +248,7 @@ none_before known j at_ low = absurd (omega (arith, at_.0, low))
 abbrev pub first_from : (known : ℕ → Option Value) (fuel i : ℕ) → ((j : ℕ) → IsInstance j → j < i → (u : Value) × (known j ≡ Some u)) → Option ((k : ℕ) × IsFirstUnknown known k)
 first_from known zero i before = None
 first_from known (suc fuel) i before = elim (known i) as (λ o. known i ≡ o → Option ((k : ℕ) × IsFirstUnknown known k)) [
-  | None ↦ λ is. elim (both (no_more 1 i) (no_more i 1000000)) [ inl h ↦ Some (i, record { instance = h; unknown = is; before = before }) | inr past ↦ None ]
+  | None ↦ λ is. elim (both (no_more 1 i) (no_more i MAX_INSTANCE)) [ inl h ↦ Some (i, record { instance = h; unknown = is; before = before }) | inr past ↦ None ]
   | Some v ↦ λ is. first_from known fuel (suc i) (one_further known i v is before)
 ] refl
 

@@ -4,7 +4,7 @@ use Rattle.std.specs.Prelude.{slice_get}
 use Rattle.std.specs.Str.{is_utf8, chars}
 use lib.Utf8.{encode}
 use Rattle.site_ids.specs.Ids.{BallotOf}
-use Rattle.site_ids.specs.Majorities.{In}
+use Rattle.site_ids.specs.Lists.{In}
 use Rattle.site_ids.proofs.MemberLemmas.{in_get}
 use Rattle.wire.specs.declared.message.Message.{Message}
 use Rattle.wire.specs.declared.message.Message.TheVariants.{Accepted}

@@ -1,12 +1,11 @@
 -- Nodes and worlds by tables, so that what happens to them can be computed.
 use Rattle.std.proofs.Common.{◌≡◌, inl, inr, ℕ, Bool, true, false, Option, Some, None, List, [], ◌∷◌, map, refl, sym, ⊎_elim}
 use Rattle.std.specs.Prelude.{nat_eq, if◌then◌else◌}
-use Rattle.site_ids.specs.Majorities.{In}
-use Rattle.site_ids.specs.Maps.{put_at}
+use Rattle.site_ids.specs.Lists.{In, put_at}
 use Rattle.wire.specs.declared.message.Message.{Message}
 use Rattle.durable.specs.Entries.{Entry}
 use Rattle.proposer.specs.Attempts.{Attempt}
-use Rattle.learner.specs.Tallies.{Tally}
+use Rattle.learner.specs.ToldVotes.{ToldVote}
 use Rattle.node.specs.Nodes.{Value, Mode, Up, Node}
 use Rattle.world.specs.Worlds.{World, start}
 use Rattle.world.proofs.Lists.{put_at_cases}
@@ -34,7 +33,7 @@ pub record NodeBy : Type 0 where
   pub mode : Mode
   pub entries : List Entry
   pub in_flight : Option Entry
-  pub votes : List Tally
+  pub votes : List ToldVote
   pub known : Table Value
   pub attempts : Table Attempt
   pub pending : List Value

@@ -3,7 +3,8 @@ use Rattle.std.proofs.Common.{◌≡◌, ◌≢◌, ◌⊎◌, inl, inr, ℕ, ze
 use Rattle.std.specs.Prelude.{nat_eq, nat_le}
 use Rattle.std.proofs.lemmas.Bool.Decides.{nat_tests}
 use Rattle.site_ids.specs.Ids.{BallotOf, Below, NotAbove, IsNode}
-use Rattle.site_ids.specs.Majorities.{In, Distinct, Majority}
+use Rattle.site_ids.specs.Lists.{In, Distinct}
+use Rattle.site_ids.specs.Majorities.{Majority}
 use Rattle.site_ids.proofs.MemberLemmas.{distinct_within}
 use Rattle.node.specs.Nodes.{Value}
 use Rattle.world.proofs.Lists.{same_number, other_number}

@@ -1,6 +1,6 @@
 use Rattle.std.proofs.Common.{Some, cond, string_bytes, ap, ◌∙◌}
 use Rattle.shared_map.specs.Searches.{text_search}
-use Rattle.content.specs.Seen.{at_name}
+use Rattle.content.specs.View.{at_name}
 use Rattle.content.proofs.Names.{on_ok, by_bytes, same_bytes}
 use Rattle.content.proofs.maps.put.Goals as goal
 

@@ -1,4 +1,5 @@
 use Rattle.std.proofs.Common.{◌≡◌, ◌≤◌, ◌-◌, length}
+use Rattle.http_read.specs.declared.lengths.TheConstants.{BODY_LIMIT}
 use Rattle.http_read.specs.Counted.{inside, failed}
 use Rattle.http_read.specs.Input.{input_of}
 use Rattle.http_read.proofs.Chunked.{HasTaken}
@@ -8,7 +9,7 @@ abbrev pub invariant-loop-body : goal.invariant-loop-body
 invariant-loop-body g l = record {
   taken : HasTaken (input_of l.fn.inbox (g.R.Read.remaining (inside l.fn.reader)))
       (input_of l.inbox (g.R.Read.remaining (inside l.reader))) l.body.items;
-  small : length l.body.items ≤ 40000;
+  small : length l.body.items ≤ BODY_LIMIT;
   quiet : failed l.reader ≡ failed l.fn.reader;
 }
 

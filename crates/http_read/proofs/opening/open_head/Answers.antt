@@ -1,5 +1,6 @@
 use Rattle.std.proofs.Common.{◌∙◌, ap, arith}
 use Rattle.std.proofs.lemmas.List.{length-take}
+use Rattle.http_read.specs.declared.heads.TheConstants.{HEAD_LIMIT}
 use Rattle.http_read.specs.Heads.{window}
 use Rattle.http_read.proofs.Answered.{head_refused, head_opened, head_judged}
 use Rattle.http_read.proofs.opening.open_head.Goals as goal
@@ -12,7 +13,7 @@ returns-in-Refused-clause-head g c =
 pub pass-requires : goal.pass-requires
 pass-requires g c =
     let within = rw c.in-At.is at c.in_ok-found.ensures.within in
-    omega (arith, within.section.len_fits, length-take 8192 c.find_head.new.inbox)
+    omega (arith, within.section.len_fits, length-take HEAD_LIMIT c.find_head.new.inbox)
 
 pub returns-in-Asks-clause-head : goal.returns-in-Asks-clause-head
 returns-in-Asks-clause-head g c =
@@ -22,7 +23,7 @@ returns-in-Asks-clause-head g c =
     let named = rw c.deref.ensures.value at c.asks_for_head-of_head.ensures in
     head_opened _ c.find_head.new.inbox _ c.first_bytes-bytes.result.now _ c.find_head.new.spans.items c.in-At.found c.in-Asks.passed c.in-Asks.path _
     (c.first_bytes-bytes.ensures.window ∙ ap window c.held.ensures) c.in_ok-found.ensures.input finds
-    (omega (arith, within.section.len_fits, length-take 8192 c.find_head.new.inbox)) c.pass.ensures judges named
+    (omega (arith, within.section.len_fits, length-take HEAD_LIMIT c.find_head.new.inbox)) c.pass.ensures judges named
 
 pub returns-in-Refused-2-clause-head : goal.returns-in-Refused-2-clause-head
 returns-in-Refused-2-clause-head g c =

@@ -1,5 +1,5 @@
 use Rattle.std.proofs.Common.{take}
-use Rattle.site_ids.specs.Majorities.{In}
+use Rattle.site_ids.specs.Lists.{In}
 use Rattle.learner.specs.Votes.{told}
 use Rattle.learner.proofs.learning.has_vote.Given as goal
 

@@ -1,5 +1,5 @@
 use Rattle.std.proofs.Common.{sym, subst}
-use Rattle.command.specs.View.{StandsAs}
+use Rattle.command.specs.Standing.{StandsAs}
 use Rattle.content.specs.Standing.{HasContents}
 use Rattle.content.specs.contracts.site.Site.{the_view}
 use Rattle.content.proofs.Actions.{template_put, partial_put, data_put, route_put, released}

@@ -1,6 +1,6 @@
 use Rattle.std.proofs.Common.{sym, subst, ◌∙◌}
 use Rattle.context.specs.View.{data_view}
-use Rattle.content.specs.Seen.{at_name}
+use Rattle.content.specs.View.{at_name}
 use Rattle.content.specs.Standing.{IsSiteOf}
 use Rattle.content.proofs.LookUps.{lent_view}
 use Rattle.content.proofs.site.Site.data.Goals as goal

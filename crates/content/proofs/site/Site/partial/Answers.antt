@@ -1,7 +1,7 @@
 use Rattle.std.proofs.Common.{sym, subst}
 use Rattle.command.specs.Effective.{effective}
 use Rattle.command.specs.Site.{partial_at}
-use Rattle.content.specs.Seen.{at_name}
+use Rattle.content.specs.View.{at_name}
 use Rattle.content.specs.Standing.{IsSiteOf}
 use Rattle.content.proofs.LookUps.{lent_text}
 use Rattle.content.proofs.site.Site.partial.Goals as goal

@@ -1,5 +1,5 @@
 use Rattle.std.proofs.Common.{ℕ, List, Some, option_map, sym, ap, ◌∙◌, subst}
-use Rattle.content.specs.Seen.{names_of}
+use Rattle.content.specs.View.{names_of}
 use Rattle.content.specs.Standing.{IsSiteOf}
 use Rattle.content.proofs.site.Site.route.Goals as goal
 

@@ -1,5 +1,5 @@
 use Rattle.std.proofs.Common.{◌+◌, arith, rules}
-use Rattle.learner.specs.Tallies.{tally}
+use Rattle.learner.specs.ToldVotes.{told_vote}
 use Rattle.learner.specs.Votes.{IsToldWith}
 use Rattle.learner.proofs.Counting.{counted_more, counted_same, quorum_reached}
 use Rattle.learner.proofs.Adding.{is_voter}
@@ -16,5 +16,5 @@ loop-below-preserved c =
 
 pub returns : goal.returns
 returns c =
-    quorum_reached c.args.self.now.cluster c.loop-below.below c.quorum.result c.loop-below.voters (IsToldWith c.args.self.now (tally c.args.from c.args.instance c.args.ballot c.args.value.now)) c.args.instance c.args.ballot c.args.value.now
+    quorum_reached c.args.self.now.cluster c.loop-below.below c.quorum.result c.loop-below.voters (IsToldWith c.args.self.now (told_vote c.args.from c.args.instance c.args.ballot c.args.value.now)) c.args.instance c.args.ballot c.args.value.now
     (omega arith) c.quorum.ensures c.loop-below.invariant.counted

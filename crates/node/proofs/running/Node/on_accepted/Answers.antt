@@ -1,6 +1,6 @@
 use Rattle.std.proofs.Common.{◌≡◌, inl, inr, max, true, false, [], ◌∷◌, refl, sym, ap, ◌∙◌, append-nil}
 use Rattle.wire.specs.declared.message.Message.TheVariants.{Accepted}
-use Rattle.learner.specs.Tallies.{tally}
+use Rattle.learner.specs.ToldVotes.{told_vote}
 use Rattle.chosen_log.specs.Log.{value_at}
 use Rattle.node.specs.Nodes.{Value}
 use Rattle.node.specs.Calls.{deliver}
@@ -42,12 +42,12 @@ returns-then-completes-clause-event g c before in_range =
     let parts = stands.parts in
     let now = c.in_ok-learn.ensures.learned s parts in
     record {
-      effect = quiet (learned (with_vote (touched i s) (tally q i b v)) i v);
+      effect = quiet (learned (with_vote (touched i s) (told_vote q i b v)) i v);
       does = inl (sym (parts.known.values i) ∙ unknown, inr ((completes old s parts q i b v c.completes.result c.completes.ensures).0 (is_true c.completes.result c.if-completes.true), refl));
       handed = refl;
-      parts = counted_parts c.learn.new.self _ s (tally q i b v ∷ s.votes) i v (max s.reached i) (record { me = refl; cluster = refl; releases = refl }) now refl refl refl refl refl
-          (c.max-reached.ensures ∙ ap (max old.reached) c.number.ensures.is ∙ ap (λ r. max r i) parts.reached) (told_elsewhere_with i (tally q i b v) s.votes c.learn.new.self.learner refl now.votes);
-      on_disk = stays_there stands_for old _ s (learned (with_vote (touched i s) (tally q i b v)) i v) (record { me = others.me; cluster = others.cluster; releases = others.releases }) (same_store old.store c.learn.new.self.store c.learn.ensures.same.1) refl refl;
+      parts = counted_parts c.learn.new.self _ s (told_vote q i b v ∷ s.votes) i v (max s.reached i) (record { me = refl; cluster = refl; releases = refl }) now refl refl refl refl refl
+          (c.max-reached.ensures ∙ ap (max old.reached) c.number.ensures.is ∙ ap (λ r. max r i) parts.reached) (told_elsewhere_with i (told_vote q i b v) s.votes c.learn.new.self.learner refl now.votes);
+      on_disk = stays_there stands_for old _ s (learned (with_vote (touched i s) (told_vote q i b v)) i v) (record { me = others.me; cluster = others.cluster; releases = others.releases }) (same_store old.store c.learn.new.self.store c.learn.ensures.same.1) refl refl;
     })
 
 pub returns-in_err-on_accepted-clause-event : goal.returns-in_err-on_accepted-clause-event
@@ -79,7 +79,7 @@ returns-clause-event g c before in_range =
     (λ s stands.
     let parts = stands.parts in
     record {
-      effect = quiet (with_vote (touched i s) (tally q i b v));
+      effect = quiet (with_vote (touched i s) (told_vote q i b v));
       does = inl (
         sym (parts.known.values i) ∙ unknown,
         inl (λ many. off (sym (true_is c.completes.result ((completes old s parts q i b v c.completes.result c.completes.ensures).1 many)) ∙ c.if-completes.false), refl),
@@ -94,7 +94,7 @@ returns-clause-event g c before in_range =
         heard = parts.heard;
         reached = c.max-reached.ensures ∙ ap (max old.reached) c.number.ensures.is ∙ ap (λ r. max r i) parts.reached;
       };
-      on_disk = stays_there stands_for old _ s (with_vote (touched i s) (tally q i b v)) (record { me = refl; cluster = refl; releases = refl }) (same_store old.store old.store refl) refl refl;
+      on_disk = stays_there stands_for old _ s (with_vote (touched i s) (told_vote q i b v)) (record { me = refl; cluster = refl; releases = refl }) (same_store old.store old.store refl) refl refl;
     })
   where
     off : true ≡ false → ⊥

@@ -1,4 +1,5 @@
 use Rattle.std.proofs.Common.{◌≡◌, ℕ, ◌+◌, ◌<◌, max, false, Some, [], ◌∷◌, ◌++◌, refl, sym, ap, subst, ◌∙◌, arith}
+use Rattle.site_ids.specs.declared.TheConstants.{MAX_ROUND}
 use Rattle.site_ids.specs.Ids.{BallotOf}
 use Rattle.durable.specs.Entries.{Round}
 use Rattle.durable.specs.Puts.{IsPut, Acknowledges}
@@ -17,7 +18,7 @@ use Rattle.node.proofs.Stepping.{Handed, is_up, same_store, unmoved, whole, refu
 use Rattle.node.proofs.running.Node.tick.Goals as goal
 
 -- want of memory is told where an instance is unknown and a round is left
-wants_it : {D : Type 0} (old : Running D) (s : Node) (i : ℕ) → IsNodeOf old s → old.store.stopped ≡ false → IsGap old.known.log i → max old.store.recorded.round old.proposer.heard < 4294967295 → Refuses s ticking OutOfMemory
+wants_it : {D : Type 0} (old : Running D) (s : Node) (i : ℕ) → IsNodeOf old s → old.store.stopped ≡ false → IsGap old.known.log i → max old.store.recorded.round old.proposer.heard < MAX_ROUND → Refuses s ticking OutOfMemory
 wants_it old s i stands runs gap low = (is_up old s stands.parts runs, (not_all_known s i (first_unknown old.known.log s.known i stands.parts.known.values gap), has_round old s stands.parts low))
 
 pub returns-in_default-clause-event : goal.returns-in_default-clause-event
@@ -46,7 +47,7 @@ pub returns-in_err-reserve-clause-event : goal.returns-in_err-reserve-clause-eve
 returns-in_err-reserve-clause-event g c =
     let old = c.args.self.now in
     let runs = sym c.is_stopped.ensures ∙ c.if-is_stopped.false in
-    let low : max old.store.recorded.round old.proposer.heard < 4294967295 = omega (arith, ap (λ r. max r old.proposer.heard) c.round.ensures, c.in-Ok.ensures.1) in
+    let low : max old.store.recorded.round old.proposer.heard < MAX_ROUND = omega (arith, ap (λ r. max r old.proposer.heard) c.round.ensures, c.in-Ok.ensures.1) in
     wants_memory g.D.Disk.stands_for old _ ticking c.from_residual.result _ _ (record { me = refl; cluster = refl; releases = refl }) tt c.reserve.ensures.items c.from_residual.ensures.1
     (λ s stands. wants_it old s c.in-Some.instance stands runs c.in-Some.ensures low)
     (same_store old.store old.store refl) (λ s parts. unmoved old _ s (record { me = refl; cluster = refl; releases = refl }) refl (record { learner = refl; known = refl; queue = refl; attempts = λ a are. are; heard = refl }) refl parts)
@@ -55,7 +56,7 @@ pub returns-in_err-make_room-clause-event : goal.returns-in_err-make_room-clause
 returns-in_err-make_room-clause-event g c =
     let old = c.args.self.now in
     let runs = sym c.is_stopped.ensures ∙ c.if-is_stopped.false in
-    let low : max old.store.recorded.round old.proposer.heard < 4294967295 = omega (arith, ap (λ r. max r old.proposer.heard) c.round.ensures, c.in-Ok.ensures.1) in
+    let low : max old.store.recorded.round old.proposer.heard < MAX_ROUND = omega (arith, ap (λ r. max r old.proposer.heard) c.round.ensures, c.in-Ok.ensures.1) in
     wants_memory g.D.Disk.stands_for old _ ticking c.from_residual-in_err-make_room.result _ _ (record { me = refl; cluster = refl; releases = refl }) tt c.reserve.ensures.items c.from_residual-in_err-make_room.ensures.1
     (λ s stands. wants_it old s c.in-Some.instance stands runs c.in-Some.ensures low)
     (same_store old.store old.store refl) (λ s parts. unmoved old _ s (record { me = refl; cluster = refl; releases = refl }) refl (record { learner = refl; known = refl; queue = refl; attempts = c.make_room.ensures.stays; heard = c.make_room.ensures.same.2 }) refl parts)
@@ -64,7 +65,7 @@ pub returns-in_err-own-clause-event : goal.returns-in_err-own-clause-event
 returns-in_err-own-clause-event g c =
     let old = c.args.self.now in
     let runs = sym c.is_stopped.ensures ∙ c.if-is_stopped.false in
-    let low : max old.store.recorded.round old.proposer.heard < 4294967295 = omega (arith, ap (λ r. max r old.proposer.heard) c.round.ensures, c.in-Ok.ensures.1) in
+    let low : max old.store.recorded.round old.proposer.heard < MAX_ROUND = omega (arith, ap (λ r. max r old.proposer.heard) c.round.ensures, c.in-Ok.ensures.1) in
     wants_memory g.D.Disk.stands_for old _ ticking c.from_residual-in_err-own.result _ _ (record { me = refl; cluster = refl; releases = refl }) tt c.reserve.ensures.items c.from_residual-in_err-own.ensures.1
     (λ s stands. wants_it old s c.in-Some.instance stands runs c.in-Some.ensures low)
     (same_store old.store old.store refl) (λ s parts. unmoved old _ s (record { me = refl; cluster = refl; releases = refl }) refl (record { learner = refl; known = refl; queue = refl; attempts = c.make_room.ensures.stays; heard = c.make_room.ensures.same.2 }) refl parts)
@@ -78,7 +79,7 @@ returns-in_err-put_round-clause-event g c =
     let failed = c.in_err-put_round in
     let told = c.from_residual-in_err-put_round in
     let next : ℕ → BallotOf = λ r. record { round = max r old.proposer.heard + 1; node = old.proposer.me } in
-    let low : max old.store.recorded.round old.proposer.heard < 4294967295 = omega (arith, ap (λ r. max r old.proposer.heard) c.round.ensures, c.in-Ok.ensures.1) in
+    let low : max old.store.recorded.round old.proposer.heard < MAX_ROUND = omega (arith, ap (λ r. max r old.proposer.heard) c.round.ensures, c.in-Ok.ensures.1) in
     put_fails g.D.Disk.stands_for g.D.Disk.failed old _ (Round c.round-2.result) (record { me = refl; cluster = refl; releases = refl }) runs ticking failed.field-0.0 told.result _ _ tt (record { learner = refl; known = refl; queue = refl; attempts = c.make_room.ensures.stays; heard = c.make_room.ensures.same.2 }) refl c.reserve.ensures.items failed.ensures.put told.ensures.1
     (λ s stands. (
       begun old.me s i b c.in_ok-own.own,
@@ -97,7 +98,7 @@ returns-clause-event g c =
     let put = c.in_ok-put_round.ensures.put in
     let next : ℕ → BallotOf = λ r. record { round = max r old.proposer.heard + 1; node = old.proposer.me } in
     let out : Handed = (All, Prepare old.me i b) ∷ [] in
-    let low : max old.store.recorded.round old.proposer.heard < 4294967295 = omega (arith, ap (λ r. max r old.proposer.heard) c.round.ensures, c.in-Ok.ensures.1) in
+    let low : max old.store.recorded.round old.proposer.heard < MAX_ROUND = omega (arith, ap (λ r. max r old.proposer.heard) c.round.ensures, c.in-Ok.ensures.1) in
     whole g.D.Disk.stands_for old _ ticking _ _ out (record { me = refl; cluster = refl; releases = refl }) runs tt (c.push_reserved.ensures.items ∙ ap (λ (l : Handed). l ++ out) c.reserve.ensures.items)
     (λ s stands. started g.D.Disk.stands_for g.D.Disk.failed old _ s i b c.in_ok-own.own stands runs (record { me = refl; cluster = refl; releases = refl })
     (first_unknown old.known.log s.known i stands.parts.known.values c.in-Some.ensures)

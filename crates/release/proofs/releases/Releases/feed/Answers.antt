@@ -2,6 +2,7 @@ use Rattle.std.proofs.Common.{◌≡◌, ◌∙◌, ◌++◌, ◌∷◌, [], ◌
 use Rattle.content.specs.Answered.{applied}
 use Rattle.command.specs.Reading.{value_reading}
 use Rattle.std.proofs.Common.{Err, IfOk}
+use Rattle.site_ids.specs.declared.TheConstants.{MAX_INSTANCE}
 use Rattle.release.specs.Standing.{values_fed}
 use Rattle.release.proofs.MoreValues.{one_if_released}
 use Rattle.release.proofs.Keeping.{kept, fed_more, not_a_command, receipts_after_none}
@@ -15,7 +16,7 @@ invariant_of-self-in-Err c =
     let r = c.self.inside in
     let v = c.in_ok-kept.kept in
     let reads : value_reading v.items ≡ Err c.in-Err.fault = ap value_reading c.in_ok-kept.ensures.items ∙ c.in-Err.ensures.err c.in_ok-no_command-in-Err.ensures in
-    kept r (record { alloc = r.alloc; fed = c.push.new.self; receipts = r.receipts; newest = r.newest }) v c.self.invariant (subst (λ vs. length vs < 1000000) (sym c.self.view_is) c.requires) c.in_ok-push-in-Err.ensures.items
+    kept r (record { alloc = r.alloc; fed = c.push.new.self; receipts = r.receipts; newest = r.newest }) v c.self.invariant (subst (λ vs. length vs < MAX_INSTANCE) (sym c.self.view_is) c.requires) c.in_ok-push-in-Err.ensures.items
     (sym (add-zero r.newest) ∙ ap (λ a. r.newest + one_if_released a) (not_a_command (values_fed r) v.items c.in-Err.fault reads))
     (receipts_after_none r v.items c.in-Err.fault c.self.invariant reads)
 

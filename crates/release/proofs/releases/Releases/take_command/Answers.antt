@@ -2,6 +2,7 @@ use Rattle.std.proofs.Common.{◌≡◌, ◌∙◌, ◌+◌, ◌<◌, ◌++◌, 
 use Rattle.std.proofs.lemmas.List.{length-map}
 use Rattle.std.specs.BTreeMap.{get, Updates}
 use Rattle.std.specs.Option.{is_some}
+use Rattle.site_ids.specs.declared.TheConstants.{MAX_INSTANCE}
 use Rattle.content.specs.Answered.{applied}
 use Rattle.release.specs.Standing.{ticket_cmp, values_fed}
 use Rattle.release.proofs.MoreValues.{one_if_released}
@@ -15,7 +16,7 @@ invariant_of-self-then-contains_key c =
     let v = c.args.value in
     let had : is_some (get ticket_cmp r.receipts c.args.command.now.ticket) ≡ true = sym c.contains_key.ensures ∙ c.if-contains_key.true in
     let repeat = had_receipt r c.args.command.now.ticket o.0.ticket true c.self.invariant o.2.0 had in
-    kept r (record { alloc = r.alloc; fed = c.push.new.self; receipts = r.receipts; newest = r.newest }) v c.self.invariant (subst (λ vs. length vs < 1000000) (sym c.self.view_is) c.requires.few) c.in_ok-push.ensures.items
+    kept r (record { alloc = r.alloc; fed = c.push.new.self; receipts = r.receipts; newest = r.newest }) v c.self.invariant (subst (λ vs. length vs < MAX_INSTANCE) (sym c.self.view_is) c.requires.few) c.in_ok-push.ensures.items
     (sym (add-zero r.newest) ∙ ap (λ a. r.newest + one_if_released a) (repeated (values_fed r) v.items o.0 o.1 repeat))
     (receipts_after_repeat r v.items o.0 c.self.invariant o.1 repeat)
 
@@ -41,7 +42,7 @@ invariant_of-self-then-is_release c =
     let had : is_some (get ticket_cmp r.receipts c.args.command.now.ticket) ≡ false = sym c.contains_key.ensures ∙ c.if-contains_key.false in
     let new = had_receipt r c.args.command.now.ticket o.0.ticket false c.self.invariant o.2.0 had in
     let release = new_release (values_fed r) v.items o.0 o.1 new (sym (c.is_release.ensures o.0 o.2) ∙ c.if-is_release.true) in
-    kept r (record { alloc = r.alloc; fed = c.push-2.new.self; receipts = c.insert.new.self; newest = r.newest + 1 }) v c.self.invariant (subst (λ vs. length vs < 1000000) (sym c.self.view_is) c.requires.few)
+    kept r (record { alloc = r.alloc; fed = c.push-2.new.self; receipts = c.insert.new.self; newest = r.newest + 1 }) v c.self.invariant (subst (λ vs. length vs < MAX_INSTANCE) (sym c.self.view_is) c.requires.few)
     (c.in_ok-push-2.ensures.items ∙ ap (λ vs. vs ++ v ∷ []) c.in_ok-reserve.ensures.items)
     (ap (λ a. r.newest + one_if_released a) release)
     (receipts_more r c.insert.new.self v.items o.0 c.in-Some.instance c.self.invariant o.1 new
@@ -67,7 +68,7 @@ invariant_of-self-else-is_release c =
     let had : is_some (get ticket_cmp r.receipts c.args.command.now.ticket) ≡ false = sym c.contains_key.ensures ∙ c.if-contains_key.false in
     let new = had_receipt r c.args.command.now.ticket o.0.ticket false c.self.invariant o.2.0 had in
     let change = new_change (values_fed r) v.items o.0 o.1 new (sym (c.is_release.ensures o.0 o.2) ∙ c.if-is_release.false) in
-    kept r (record { alloc = r.alloc; fed = c.push-2.new.self; receipts = c.insert.new.self; newest = r.newest }) v c.self.invariant (subst (λ vs. length vs < 1000000) (sym c.self.view_is) c.requires.few)
+    kept r (record { alloc = r.alloc; fed = c.push-2.new.self; receipts = c.insert.new.self; newest = r.newest }) v c.self.invariant (subst (λ vs. length vs < MAX_INSTANCE) (sym c.self.view_is) c.requires.few)
     (c.in_ok-push-2.ensures.items ∙ ap (λ vs. vs ++ v ∷ []) c.in_ok-reserve.ensures.items)
     (sym (add-zero r.newest) ∙ ap (λ a. r.newest + one_if_released a) change)
     (receipts_more r c.insert.new.self v.items o.0 c.in-Some.instance c.self.invariant o.1 new
