@@ -3,8 +3,7 @@ use Rattle.std.proofs.Common.{◌≡◌, ◌≢◌, ◌⊎◌, inl, inr, ⊎_eli
 use Rattle.std.specs.Prelude.{slice_get, slice_set}
 use Rattle.std.proofs.lemmas.Bool.Decides.{nat_tests}
 use Rattle.site_ids.specs.Ids.{IsNode}
-use Rattle.site_ids.specs.Lists.{In}
-use Rattle.site_ids.specs.Lists.{put_at}
+use Rattle.site_ids.specs.Lists.{In, put_at}
 use Rattle.site_ids.proofs.MapLemmas.{put_here, put_other}
 use Rattle.site_ids.proofs.MemberLemmas.{in_split}
 use Rattle.wire.specs.declared.message.Message.{Message}
