@@ -1,4 +1,6 @@
 pub mod Page
 pub mod Receipts
+pub mod Keeping
+pub mod Stepping
 pub mod Standing
 pub mod Laws
