@@ -176,7 +176,7 @@ released values v o i live site kept receipts new is few reads done stands place
       few = longer values v few;
       stands = stands;
       count =
-        length-append kept (site ∷ []) ∙ ap (λ n. n + 1) is.count ∙ ap (λ a. release_count (effective values) + one_if_released a) (sym done) ∙ sym (counts values v);
+          length-append kept (site ∷ []) ∙ ap (λ n. n + 1) is.count ∙ ap (λ a. release_count (effective values) + one_if_released a) (sym done) ∙ sym (counts values v);
       each = λ at found there. which at found (one_more kept site at found there);
       found = receipts_more values v o i receipts new is.found reads first place updates;
     }
