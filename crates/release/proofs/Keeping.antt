@@ -21,7 +21,8 @@ use Rattle.content.specs.declared.applied.Applied.TheVariants.{Changed, Released
 use Rattle.content.proofs.Tickets.{same_by_order}
 use Rattle.content.proofs.Values.{effective_more, not_a_command, repeated}
 use Rattle.release.specs.Receipts.{receipt_of}
-use Rattle.release.specs.Keeping.{IsSiteOfRelease, Keeps, ticket_cmp}
+use Rattle.release.specs.ReleaseSite.{IsSiteOfRelease}
+use Rattle.release.specs.Keeping.{Keeps, ticket_cmp}
 use Rattle.release.specs.declared.kept.Kept.{Kept}
 use Rattle.release.proofs.MoreValues.{one_if_released, counts, through_last}
 use Rattle.release.proofs.Receipts.{has_receipt, no_command_keeps, repeat_keeps, new_receipt}

@@ -1,21 +1,15 @@
--- The site of a release, and what is kept beside the values fed.
-use Rattle.std.specs.Prelude.{ℕ, suc, ◌≡◌, ◌≤◌, List, [], ◌∷◌, ◌++◌, length, Option, None, Some, slice_get}
+-- What is kept beside the values fed.
+use Rattle.std.specs.Prelude.{ℕ, suc, ◌≡◌, ◌≤◌, List, [], ◌∷◌, length, Option, None, Some, slice_get}
 use Rattle.std.specs.BTreeMap.{BTreeMap, get}
 use Rattle.std.specs.declared.cmp.Ordering.{Ordering}
 use Rattle.std.specs.Ordering.{nat_cmp, ordering_then}
 use Rattle.site_ids.specs.declared.Ticket.{Ticket}
 use Rattle.command.specs.Effective.{effective}
-use Rattle.command.specs.Releases.{release_count, through}
+use Rattle.command.specs.Releases.{release_count}
 use Rattle.content.specs.Seen.{SiteSeen}
 use Rattle.content.specs.Standing.{IsSiteOf}
 use Rattle.release.specs.Receipts.{receipt_of}
-
--- the site of release n: it stands for a beginning of the values, whose effective commands are that release's list
-pub record IsSiteOfRelease (values : List (List ℕ)) (n : ℕ) (site : SiteSeen) : Type 0 where
-  pub shown : List (List ℕ)
-  pub begins : (rest : List (List ℕ)) × (values ≡ shown ++ rest)
-  pub list : effective shown ≡ through (effective values) n
-  pub stands : IsSiteOf site shown
+use Rattle.release.specs.ReleaseSite.{IsSiteOfRelease}
 
 -- by editor, then by number
 abbrev pub ticket_cmp : Ticket → Ticket → Ordering

@@ -7,7 +7,7 @@ ghost use Rattle.command.specs.View.{StandsFor};
 ghost use Rattle.content.specs.Answered.{applied};
 ghost use Rattle.release.specs.Page.{answer};
 ghost use Rattle.release.specs.Receipts.{receipt_of};
-ghost use Rattle.release.specs.Keeping.{IsSiteOfRelease};
+ghost use Rattle.release.specs.ReleaseSite.{IsSiteOfRelease};
 ghost use Rattle.release.specs.Standing.{answer_view};
 
 use crate::answer::Answer;
