@@ -1,10 +1,12 @@
-//! `releases RELEASES NAMES`: feeds the releases of a status page, each a put of data over so many names and a release, and tells times.
+//! `releases RELEASES NAMES PUTS` feeds the releases of a status page, each so many puts of data over so many names and the release, and tells
+//! times. `releases log VALUES` learns such puts alone, for the memory that they take.
 #![tactic(auto)]
 
 use anyhow::{Result, anyhow};
+use chosen_log::ChosenLog;
 use command::write;
 use release::Releases;
-use site_ids::{MAX_INSTANCE, Ticket};
+use site_ids::{Instance, MAX_INSTANCE, Ticket, Value};
 use std::alloc::Global;
 use std::env;
 use std::hint::black_box;
@@ -39,12 +41,26 @@ fn start(alloc: Global, releases: &mut Releases, names: u64) -> Result<()> {
     Ok(())
 }
 
+/// The put of a name's data.
+fn put(alloc: Global, number: u64, names: u64) -> Result<String> {
+    let name = number.checked_rem(names).unwrap_or(0);
+    Ok(format!(in alloc; "put data d{name}\n{{\"state\":\"up\",\"minute\":{number}}}")?)
+}
+
 /// The releases from one number to another.
-fn publish(alloc: Global, releases: &mut Releases, from: u64, to: u64, names: u64) -> Result<()> {
+fn publish(
+    alloc: Global,
+    releases: &mut Releases,
+    from: u64,
+    to: u64,
+    names: u64,
+    puts: u64,
+) -> Result<()> {
     for minute in from..to {
-        let name = minute.checked_rem(names).unwrap_or(0);
-        let text = format!(in alloc; "put data d{name}\n{{\"state\":\"up\",\"minute\":{minute}}}")?;
-        feed(alloc, releases, text.as_str())?;
+        for n in 0..puts {
+            let text = put(alloc, minute.wrapping_mul(puts).wrapping_add(n), names)?;
+            feed(alloc, releases, text.as_str())?;
+        }
         feed(alloc, releases, "release\n")?;
     }
     Ok(())
@@ -60,13 +76,13 @@ fn page(rt: &HostRuntime, releases: &Releases, n: u64) -> Result<u128> {
 }
 
 /// Feeds so many releases, and prints the times of feeding and of pages.
-fn run(rt: &HostRuntime, releases: &mut Releases, count: u64, names: u64) -> Result<()> {
+fn run(rt: &HostRuntime, releases: &mut Releases, count: u64, names: u64, puts: u64) -> Result<()> {
     let alloc = rt.alloc();
     start(alloc, releases, names)?;
     let begin = Instant::now(rt)?;
-    publish(alloc, releases, 0, count / 2, names)?;
+    publish(alloc, releases, 0, count / 2, names, puts)?;
     let half = begin.elapsed(rt)?.as_micros();
-    publish(alloc, releases, count / 2, count, names)?;
+    publish(alloc, releases, count / 2, count, names, puts)?;
     let full = begin.elapsed(rt)?.as_micros();
     println!(rt; "{} {} {half} {full}", releases.len(), releases.newest())?;
     for n in [1, count / 2, count] {
@@ -75,11 +91,31 @@ fn run(rt: &HostRuntime, releases: &mut Releases, count: u64, names: u64) -> Res
     Ok(())
 }
 
+/// Learns so many values.
+fn learn(alloc: Global, log: &mut ChosenLog, count: u32) -> Result<()> {
+    for number in 0..count {
+        let instance = Instance::new(number.wrapping_add(1)).ok_or(anyhow!("VALUES?"))?;
+        let text = put(alloc, u64::from(number), 50)?;
+        let ticket = Ticket {
+            editor: 1,
+            number: u64::from(number),
+        };
+        let value = write(alloc, ticket, text.as_str().as_bytes())?;
+        log.learn(instance, Value::from_bytes(value))?;
+    }
+    Ok(())
+}
+
 fn main(rt: HostRuntime) -> Result<()> {
     let mut words = env::args(&rt)?;
     words.next();
-    let count: u64 = words.next().ok_or(anyhow!("RELEASES?"))?.parse()?;
-    let names: u64 = words.next().ok_or(anyhow!("NAMES?"))?.parse()?;
+    let first = words.next().ok_or(anyhow!("RELEASES?"))?;
+    let second = words.next().ok_or(anyhow!("NAMES?"))?;
+    if first.as_str() == "log" {
+        let mut log = ChosenLog::new(rt.alloc());
+        return learn(rt.alloc(), &mut log, second.parse()?);
+    }
+    let puts: u64 = words.next().ok_or(anyhow!("PUTS?"))?.parse()?;
     let mut releases = Releases::new(rt.alloc());
-    run(&rt, &mut releases, count, names)
+    run(&rt, &mut releases, first.parse()?, second.parse()?, puts)
 }
