@@ -136,19 +136,16 @@ fn sites(rt: HostRuntime) -> Result<(), Fail> {
     Ok(())
 }
 
-#[test]
-fn releases(rt: HostRuntime) -> Result<(), Fail> {
-    let alloc = rt.alloc();
-    let mut releases = Releases::new(alloc);
+fn fed_and_answered(rt: &impl Abort, alloc: Global, releases: &mut Releases) -> Result<(), Fail> {
     for (number, text, applied) in COMMANDS {
         let value = written(alloc, ticket(number), text.as_bytes())?;
         let newest = releases.newest();
         let fed = releases.len();
-        match feed(&mut releases, &value) {
+        match feed(releases, &value) {
             Ok(answer) => assert_eq!(rt; answer, applied),
             Err(_) => {
                 assert!(rt; releases.newest() == newest && releases.len() == fed);
-                assert_eq!(rt; feed(&mut releases, &value)?, applied);
+                assert_eq!(rt; feed(releases, &value)?, applied);
             }
         }
     }
@@ -162,4 +159,9 @@ fn releases(rt: HostRuntime) -> Result<(), Fail> {
     };
     assert!(rt; answer.status == 200 && answer.body.as_str() == "v1\n");
     Ok(())
+}
+
+#[test]
+fn releases(rt: HostRuntime) -> Result<(), Fail> {
+    fed_and_answered(&rt, rt.alloc(), &mut Releases::new(rt.alloc()))
 }

@@ -6,7 +6,7 @@ use Rattle.shared_map.specs.Entries.{put}
 use Rattle.content.specs.contracts.site.Site.{the_view}
 use Rattle.content.proofs.Tickets.{ticket_cmp, found_held, put_held}
 use Rattle.content.proofs.Values.{repeated, taken}
-use Rattle.content.proofs.site.Site.take.Goals as goal
+use Rattle.content.proofs.site.Site.apply_command.Goals as goal
 
 pub returns-then-contains-clause-ok : goal.returns-then-contains-clause-ok
 returns-then-contains-clause-ok c values v order reads stands is =
