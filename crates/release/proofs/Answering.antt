@@ -7,7 +7,7 @@ use Rattle.command.specs.Effective.{effective}
 use Rattle.command.specs.Releases.{is_release, release_count, through}
 use Rattle.command.proofs.EffectiveLemmas.{effective_grows}
 use Rattle.command.proofs.ReleaseLemmas.{next_begins, release_stays}
-use Rattle.content.specs.Seen.{SiteSeen}
+use Rattle.content.specs.View.{SiteSeen}
 use Rattle.content.specs.Standing.{IsSiteOf}
 use Rattle.release.specs.Page.{Page, page_of, released, answer}
 use Rattle.release.specs.ReleaseSite.{IsSiteOfRelease}

@@ -5,16 +5,17 @@ use Rattle.std.proofs.lemmas.Option.{none-some, same_Some, slice_get_within}
 use Rattle.std.specs.BTreeMap.{BTreeMap, get, is_at, Updates}
 use Rattle.std.specs.List.{slice_get}
 use Rattle.std.specs.Map.{lookup}
+use Rattle.site_ids.specs.declared.TheConstants.{MAX_INSTANCE}
 use Rattle.site_ids.specs.declared.Ticket.{Ticket}
 use Rattle.command.specs.Action.{Action, put_template, put_partial, put_data, put_route, remove, release, Order}
-use Rattle.command.specs.Effective.{same_ticket, commands_of, has_ticket, effective}
+use Rattle.command.specs.Effective.{is_same_ticket, commands_of, has_ticket, effective}
 use Rattle.command.specs.Reading.{value_reading}
 use Rattle.command.specs.Releases.{release_count, through}
 use Rattle.command.specs.declared.fault.CommandFault.{CommandFault}
 use Rattle.command.proofs.EffectiveLemmas.{effective_grows}
 use Rattle.command.proofs.ReleaseLemmas.{release_stays}
 use Rattle.content.specs.Answered.{applied, applied_after, answered}
-use Rattle.content.specs.Seen.{SiteSeen}
+use Rattle.content.specs.View.{SiteSeen}
 use Rattle.content.specs.Standing.{IsSiteOf}
 use Rattle.content.specs.declared.applied.Applied.{Applied}
 use Rattle.content.specs.declared.applied.Applied.TheVariants.{Changed, Released, Repeat, NotACommand}
@@ -105,11 +106,11 @@ no_more values v none = counts values v ∙ by (applied values v) none
 
 -- ---- one more value
 
-longer : (values : List (List ℕ)) (v : List ℕ) → length values < 1000000 → length (values ++ v ∷ []) ≤ 1000000
+longer : (values : List (List ℕ)) (v : List ℕ) → length values < MAX_INSTANCE → length (values ++ v ∷ []) ≤ MAX_INSTANCE
 longer values v few = omega (arith, length-append values (v ∷ []), few)
 
 -- a value that has no effect
-pub passed : (values : List (List ℕ)) (v : List ℕ) (live : SiteSeen) (kept : List SiteSeen) (receipts : BTreeMap Ticket ℕ) → Keeps values live kept receipts → length values < 1000000
+pub passed : (values : List (List ℕ)) (v : List ℕ) (live : SiteSeen) (kept : List SiteSeen) (receipts : BTreeMap Ticket ℕ) → Keeps values live kept receipts → length values < MAX_INSTANCE
     → applied values v ≢ Changed → applied values v ≢ Released → Keeps (values ++ v ∷ []) live kept receipts
 passed values v live kept receipts is few unchanged none = by (value_reading v) refl
   where
@@ -149,12 +150,12 @@ receipts_more : (values : List (List ℕ)) (v : List ℕ) (o : Order) (i : ℕ) 
     → applied values v ≢ Repeat → i ≡ 1 + length values → Updates ticket_cmp receipts new o.ticket (Some i) → (t : Ticket) → get ticket_cmp new t ≡ receipt_of t (values ++ v ∷ [])
 receipts_more values v o i receipts new are reads first place updates t =
     updates.0 t ∙ ap (λ b. cond b (Some i) (get ticket_cmp receipts t)) (same_by_order o.ticket t)
-    ∙ ap (λ n. cond (same_ticket o.ticket t) (Some n) (get ticket_cmp receipts t)) place ∙ ap (cond (same_ticket o.ticket t) (Some (1 + length values))) (are t)
+    ∙ ap (λ n. cond (is_same_ticket o.ticket t) (Some n) (get ticket_cmp receipts t)) place ∙ ap (cond (is_same_ticket o.ticket t) (Some (1 + length values))) (are t)
     ∙ sym (new_receipt t values v o reads (sym (has_receipt o.ticket values) ∙ is_new values v o reads first))
 
 -- a value that puts or removes a name
 pub changed : (values : List (List ℕ)) (v : List ℕ) (o : Order) (i : ℕ) (live site : SiteSeen) (kept : List SiteSeen) (receipts new : BTreeMap Ticket ℕ) → Keeps values live kept receipts
-    → length values < 1000000 → value_reading v ≡ Ok o → applied values v ≡ Changed → IsSiteOf site (values ++ v ∷ []) → i ≡ 1 + length values → Updates ticket_cmp receipts new o.ticket (Some i)
+    → length values < MAX_INSTANCE → value_reading v ≡ Ok o → applied values v ≡ Changed → IsSiteOf site (values ++ v ∷ []) → i ≡ 1 + length values → Updates ticket_cmp receipts new o.ticket (Some i)
     → Keeps (values ++ v ∷ []) site kept new
 changed values v o i live site kept receipts new is few reads done stands place updates =
     let none : applied values v ≢ Released = λ e. let never : Changed ≡ Released = sym done ∙ e in cc in
@@ -169,7 +170,7 @@ changed values v o i live site kept receipts new is few reads done stands place 
 
 -- a value that is a release, whose site is kept
 pub released : (values : List (List ℕ)) (v : List ℕ) (o : Order) (i : ℕ) (live site : SiteSeen) (kept : List SiteSeen) (receipts new : BTreeMap Ticket ℕ) → Keeps values live kept receipts
-    → length values < 1000000 → value_reading v ≡ Ok o → applied values v ≡ Released → IsSiteOf site (values ++ v ∷ []) → i ≡ 1 + length values → Updates ticket_cmp receipts new o.ticket (Some i)
+    → length values < MAX_INSTANCE → value_reading v ≡ Ok o → applied values v ≡ Released → IsSiteOf site (values ++ v ∷ []) → i ≡ 1 + length values → Updates ticket_cmp receipts new o.ticket (Some i)
     → Keeps (values ++ v ∷ []) site (kept ++ site ∷ []) new
 released values v o i live site kept receipts new is few reads done stands place updates =
     let first : applied values v ≢ Repeat = λ e. let never : Released ≡ Repeat = sym done ∙ e in cc in
@@ -208,14 +209,14 @@ whole_still old new fed live sites receipts is =
     rw (fed, live, sites) found
 
 pub whole_passed : (old new : Kept SiteSeen) (v : Vec ℕ Global) (values : List (List ℕ)) → map bytes old.fed.items ≡ values → new.live ≡ old.live → new.sites.items ≡ old.sites.items → new.receipts ≡ old.receipts → Fed old new v
-    → IsWhole old → length values < 1000000 → applied values v.items ≢ Changed → applied values v.items ≢ Released → IsWhole new
+    → IsWhole old → length values < MAX_INSTANCE → applied values v.items ≢ Changed → applied values v.items ≢ Released → IsWhole new
 whole_passed old new v values are live sites receipts fed is few unchanged none =
     let more = fed_more old.fed.items new.fed.items v fed ∙ ap (λ vs. vs ++ v.items ∷ []) are in
     rw (more, live, sites, receipts) (passed values v.items old.live old.sites.items old.receipts (subst (λ vs. Keeps vs old.live old.sites.items old.receipts) are is) few unchanged none)
 
 pub whole_changed : (old new : Kept SiteSeen) (v : Vec ℕ Global) (values : List (List ℕ)) (o : Order) (ticket : Ticket) (site : SiteSeen) → map bytes old.fed.items ≡ values → Fed old new v
     → new.live ≡ site → new.sites.items ≡ old.sites.items ++ [] → Updates ticket_cmp old.receipts new.receipts ticket (Some (length old.fed.items + 1)) → o.ticket ≡ ticket
-    → IsWhole old → length values < 1000000 → value_reading v.items ≡ Ok o → Changed ≡ applied values v.items → IsSiteOf site (values ++ v.items ∷ []) → IsWhole new
+    → IsWhole old → length values < MAX_INSTANCE → value_reading v.items ≡ Ok o → Changed ≡ applied values v.items → IsSiteOf site (values ++ v.items ∷ []) → IsWhole new
 whole_changed old new v values o ticket site are fed live sites updates same is few reads done stands =
     let more = fed_more old.fed.items new.fed.items v fed ∙ ap (λ vs. vs ++ v.items ∷ []) are in
     let long : length old.fed.items ≡ length values = sym (length-map old.fed.items bytes) ∙ ap length are in
@@ -225,7 +226,7 @@ whole_changed old new v values o ticket site are fed live sites updates same is 
 
 pub whole_released : (old new : Kept SiteSeen) (v : Vec ℕ Global) (values : List (List ℕ)) (o : Order) (ticket : Ticket) (site copy : SiteSeen) → map bytes old.fed.items ≡ values → Fed old new v
     → new.live ≡ site → new.sites.items ≡ old.sites.items ++ copy ∷ [] → copy ≡ site → Updates ticket_cmp old.receipts new.receipts ticket (Some (length old.fed.items + 1)) → o.ticket ≡ ticket
-    → IsWhole old → length values < 1000000 → value_reading v.items ≡ Ok o → Released ≡ applied values v.items → IsSiteOf site (values ++ v.items ∷ []) → IsWhole new
+    → IsWhole old → length values < MAX_INSTANCE → value_reading v.items ≡ Ok o → Released ≡ applied values v.items → IsSiteOf site (values ++ v.items ∷ []) → IsWhole new
 whole_released old new v values o ticket site copy are fed live sites alike updates same is few reads done stands =
     let more = fed_more old.fed.items new.fed.items v fed ∙ ap (λ vs. vs ++ v.items ∷ []) are in
     let long : length old.fed.items ≡ length values = sym (length-map old.fed.items bytes) ∙ ap length are in

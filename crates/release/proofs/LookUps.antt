@@ -4,7 +4,7 @@ use Rattle.std.proofs.lemmas.Bool.Decides.{Decides-ltb}
 use Rattle.std.proofs.lemmas.Option.{slice_get_read}
 use Rattle.std.specs.List.{slice_get}
 use Rattle.std.specs.Option.{is_some}
-use Rattle.content.specs.Seen.{SiteSeen}
+use Rattle.content.specs.View.{SiteSeen}
 use Rattle.release.specs.ReleaseSite.{IsSiteOfRelease}
 
 pub lent_site : (r : Option (Bor SiteSeen)) (sites : List SiteSeen) (values : List (List ℕ)) (place : ℕ) → is_some r ≡ nat_lt place (length sites) → IfSome r (λ s. s.now ≡ get_or sites place s.now)

@@ -2,7 +2,7 @@
 use Rattle.std.specs.Prelude.{ℕ, ◌≡◌, List, ◌++◌}
 use Rattle.command.specs.Effective.{effective}
 use Rattle.command.specs.Releases.{through}
-use Rattle.content.specs.Seen.{SiteSeen}
+use Rattle.content.specs.View.{SiteSeen}
 use Rattle.content.specs.Standing.{IsSiteOf}
 
 -- the site of release n: it stands for a beginning of the values, whose effective commands are that release's list

@@ -1,6 +1,7 @@
 //! The values fed, and what is kept beside them.
 ghost use Rattle.std.specs.Prelude.{◌≡◌, ◌+◌, ◌<◌, List, [], ◌∷◌, ◌++◌, length, Some, OnOk, OnErr};
 ghost use Rattle.std.specs.BTreeMap.{Updates};
+ghost use Rattle.site_ids.specs.declared.TheConstants.{MAX_INSTANCE};
 ghost use Rattle.release.specs.Keeping.{ticket_cmp, listed};
 
 use site_ids::{Instance, Ticket};
@@ -30,7 +31,7 @@ pub(crate) struct Effect<S> {
 impl<S: Drop> Kept<S> {
     /// Takes the next value. All room is made before the first change.
     pub(crate) fn take(&mut self, effect: Effect<S>) -> Result<(), AllocError>
-        requires { length self.old.fed.items < 1000000 }
+        requires { length self.old.fed.items < MAX_INSTANCE }
         ensures fed { OnOk result (self.new.fed.items ≡ self.old.fed.items ++ (effect.value ∷ [])) }
         ensures live { OnOk result (self.new.live ≡ effect.site) }
         ensures sites { OnOk result (self.new.sites.items ≡ self.old.sites.items ++ listed effect.release) }

@@ -1,9 +1,10 @@
 ghost use Rattle.std.specs.Prelude.{◌≡◌, ◌≢◌, ◌⊎◌, ◌<◌, ◌≤◌, ◌↔◌, ℕ, List, [], ◌∷◌, ◌++◌, length, Some, Ok, IfOk, IfSome, IsNone, OnOk, OnErr, IsErrOf};
+ghost use Rattle.site_ids.specs.declared.TheConstants.{MAX_INSTANCE};
 ghost use Rattle.command.specs.Action.{Order};
 ghost use Rattle.command.specs.Effective.{effective};
 ghost use Rattle.command.specs.Reading.{value_reading};
 ghost use Rattle.command.specs.Releases.{release_count};
-ghost use Rattle.command.specs.View.{StandsFor};
+ghost use Rattle.command.specs.Standing.{StandsFor};
 ghost use Rattle.content.specs.Answered.{applied};
 ghost use Rattle.release.specs.Page.{answer};
 ghost use Rattle.release.specs.Receipts.{receipt_of};
@@ -74,14 +75,14 @@ impl Releases {
     /// How many values were fed, `MAX_INSTANCE` at most.
     pub fn len(&self) -> usize
         ensures is { result ≡ length self.now }
-        ensures range { result ≤ 1000000 }
+        ensures range { result ≤ MAX_INSTANCE }
     {
         self.kept.fed.len()
     }
 
     /// Takes the value of the next instance.
     pub fn feed(&mut self, value: &[u8]) -> Result<Applied, AllocError>
-        requires { length self.old < 1000000 }
+        requires { length self.old < MAX_INSTANCE }
         ensures ok { IfOk result (λ a. (self.new ≡ self.old ++ (value.now ∷ [])) × (a ≡ applied self.old value.now)) }
         ensures err { OnErr result (self.new ≡ self.old) }
     {
@@ -98,7 +99,7 @@ impl Releases {
 
     /// Takes a value that is a command.
     fn take_command(&mut self, value: Vec<u8>, command: Command) -> Result<Applied, AllocError>
-        requires few { length self.old < 1000000 }
+        requires few { length self.old < MAX_INSTANCE }
         requires reads { (order : Order) × (value_reading value.items ≡ Ok order) × StandsFor command order }
         ensures ok { IfOk result (λ a. (self.new ≡ self.old ++ (value.items ∷ [])) × (a ≡ applied self.old value.items)) }
         ensures err { OnErr result (self.new ≡ self.old) }
@@ -132,7 +133,7 @@ impl Releases {
 
     /// Takes a value that has no effect.
     fn pass(&mut self, value: Vec<u8>) -> Result<(), AllocError>
-        requires few { length self.old < 1000000 }
+        requires few { length self.old < MAX_INSTANCE }
         requires passes { (applied self.old value.items ≢ Applied.Changed) × (applied self.old value.items ≢ Applied.Released) }
         ensures ok { OnOk result (self.new ≡ self.old ++ (value.items ∷ [])) }
         ensures err { OnErr result (self.new ≡ self.old) }

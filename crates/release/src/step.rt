@@ -2,7 +2,7 @@
 ghost use Rattle.std.specs.Prelude.{◌≡◌, ℕ, List, Ok, IfOk};
 ghost use Rattle.command.specs.Action.{Order};
 ghost use Rattle.command.specs.Reading.{value_reading};
-ghost use Rattle.command.specs.View.{StandsFor};
+ghost use Rattle.command.specs.Standing.{StandsFor};
 ghost use Rattle.content.specs.Standing.{IsSiteOf};
 ghost use Rattle.release.specs.Stepping.{IsStep};
 

@@ -1,6 +1,6 @@
 use Rattle.std.proofs.Common.{◌≡◌, ◌≤◌, ◌-◌, suc, List, length, nat_lt, get_or, IfSome, subst, arith}
 use Rattle.std.specs.Option.{is_some}
-use Rattle.content.specs.Seen.{SiteSeen}
+use Rattle.content.specs.View.{SiteSeen}
 use Rattle.release.specs.ReleaseSite.{IsSiteOfRelease}
 use Rattle.release.proofs.LookUps.{lent_site}
 use Rattle.release.proofs.releases.Releases.site.Goals as goal
