@@ -33,7 +33,6 @@ pub record IsReadTo (t rest : List ℕ) (d : Pair) (from : ℕ) (xs : List Token
   pub covers : (k : ℕ) → length (text_of pieces) ≤ k → is_covered (standalone_lines_of t (placed 0 pieces)) k ≡ nat_lt k from
   pub settled : (ls : List (ℕ × ℕ)) → AreLater t (length (text_of pieces)) ls → flat_map (tokens_at t (standalone_lines_of t (placed 0 pieces) ++ ls)) (placed 0 pieces) ≡ xs
   pub past : length (text_of pieces) ≤ from
-  pub seam : IsCharBoundary t from
   pub slices : AreSlices t 0 xs
   pub ended : end_of 0 xs ≤ length (text_of pieces)
 
