@@ -16,3 +16,5 @@ pub mod SpreadTagLemmas
 pub mod SpreadReadingLemmas
 pub mod IndentingLemmas
 pub mod BlankLemmas
+pub mod MarginTextLemmas
+pub mod MarginLineLemmas
