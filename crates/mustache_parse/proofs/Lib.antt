@@ -18,3 +18,4 @@ pub mod IndentingLemmas
 pub mod BlankLemmas
 pub mod MarginTextLemmas
 pub mod MarginLineLemmas
+pub mod MarginAloneLemmas
