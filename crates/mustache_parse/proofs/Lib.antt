@@ -19,3 +19,4 @@ pub mod BlankLemmas
 pub mod MarginTextLemmas
 pub mod MarginLineLemmas
 pub mod MarginAloneLemmas
+pub mod MarginLevelLemmas

@@ -1,4 +1,5 @@
-use Rattle.mustache_parse.proofs.MarginAloneLemmas.{alike, chunk, next}
+use Rattle.mustache_parse.proofs.MarginLevelLemmas.{chunk-levels}
+use Rattle.mustache_parse.proofs.SpreadNameLemmas.{after-sequences}
 use Rattle.mustache_parse.proofs.indenting.margin_makes_tree.Goals as goal
 
 pub returns : goal.returns
