@@ -20,3 +20,4 @@ pub mod MarginTextLemmas
 pub mod MarginLineLemmas
 pub mod MarginAloneLemmas
 pub mod MarginLevelLemmas
+pub mod MarginWalkLemmas

@@ -252,3 +252,9 @@ module _ (w z r y : List ℕ) (c : ℕ) (solid : is_padding c ≡ false) (first 
   pub next : (o o' : Option (ℕ × ℕ)) → Alike w z r first (length (y ++ c ∷ [])) first' (length (open_under w (y ++ c ∷ []))) o o' → After o o'
   next o o' (inr (none, none')) = subst (λ o. After o o') (sym none) (subst (After None) (sym none') after-inline)
   next o o' (inl h) = subst (λ o. After o o') (sym h.here) (subst (After (Some (first - length (last_line z), length (y ++ c ∷ []) + blanks r + h.len))) (sym h.there) (after-alone h.len (first - length (last_line z)) (first' - length (w ++ last_line z)) h.ending))
+
+-- the same of a text that ends behind a tag
+pub next-for : (w z r u y : List ℕ) (c : ℕ) → u ≡ y ++ c ∷ [] → is_padding c ≡ false → (first first' : ℕ) (o o' : Option (ℕ × ℕ)) → Alike w z r first (length u) first' (length (open_under w u)) o o'
+    → Next w r u (is_some o) (lines_or first (length u) o).1 (lines_or first' (length (open_under w u)) o').1
+next-for w z r u y c is solid first first' o o' =
+    subst (λ u. Alike w z r first (length u) first' (length (open_under w u)) o o' → Next w r u (is_some o) (lines_or first (length u) o).1 (lines_or first' (length (open_under w u)) o').1) (sym is) (next w z r y c solid first first' o o')
