@@ -21,3 +21,4 @@ pub mod MarginLineLemmas
 pub mod MarginAloneLemmas
 pub mod MarginLevelLemmas
 pub mod MarginWalkLemmas
+pub mod MarginTreeLemmas
