@@ -22,3 +22,4 @@ pub mod MarginAloneLemmas
 pub mod MarginLevelLemmas
 pub mod MarginWalkLemmas
 pub mod MarginTreeLemmas
+pub mod ParseLemmas

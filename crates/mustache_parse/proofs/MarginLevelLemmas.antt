@@ -25,7 +25,7 @@ nothing-under : (w : List ℕ) (trails : Bool) → literal_under w false trails 
 nothing-under w true = refl
 nothing-under w false = refl
 
-with-tag : (w : List ℕ) (leads trails : Bool) (m : Marked) (kind : TokenKind) (ls : Levels) → is_literal kind ≡ false
+pub with-tag : (w : List ℕ) (leads trails : Bool) (m : Marked) (kind : TokenKind) (ls : Levels) → is_literal kind ≡ false
     → with_marked w leads trails m kind ls ≡ onto (text_onto (literal_under w leads (not m.is_alone) [])) (with_token (tag_under w m) kind ls)
 with-tag w leads trails m Literal ls tag = absurd (false≢true (sym tag))
 with-tag w leads trails m _ ls tag = refl
