@@ -15,10 +15,10 @@ returns-in-Err-clause-over g c e texts stands =
     let old = c.new-out.result in
     let new = c.render_nodes.new.out in
     let is : c.in-Err.fault ≡ OverLimit = cc in
-    let over : Adds old new (meaning_to 32 texts (tree_view ns) (d ∷ [])) (Err c.in-Err.fault) =
-    subst (λ stack. Adds old new (meaning_to 32 texts (tree_view ns) stack) (Err c.in-Err.fault)) (stack_of-one c.args.page_data) (c.in-Err.ensures.adds texts stands) in
-    rendering-is texts (template_tree c.args.template.now) d ∙ ap (λ ns. within_limit (meaning_to 32 texts (tree_view ns) (d ∷ []))) (sym c.nodes.ensures)
-    ∙ exceeds_page old.left _ c.new-out.ensures.all (subst (λ f. Adds old new (meaning_to 32 texts (tree_view ns) (d ∷ [])) (Err f)) is over)
+    let over : Adds old new (meaning_to 32 texts (tree_view [] ns) (d ∷ [])) (Err c.in-Err.fault) =
+    subst (λ stack. Adds old new (meaning_to 32 texts (tree_view [] ns) stack) (Err c.in-Err.fault)) (stack_of-one c.args.page_data) (c.in-Err.ensures.adds texts stands) in
+    rendering-is texts (template_tree c.args.template.now) d ∙ ap (λ ns. within_limit (meaning_to 32 texts (tree_view [] ns) (d ∷ []))) (sym c.nodes.ensures)
+    ∙ exceeds_page old.left _ c.new-out.ensures.all (subst (λ f. Adds old new (meaning_to 32 texts (tree_view [] ns) (d ∷ [])) (Err f)) is over)
 
 pub returns-in-Ok-clause-text : goal.returns-in-Ok-clause-text
 returns-in-Ok-clause-text g c texts stands =
@@ -26,7 +26,7 @@ returns-in-Ok-clause-text g c texts stands =
     let ns = c.nodes.result.now in
     let old = c.new-out.result in
     let new = c.render_nodes.new.out in
-    let paid : IsPaid old new (meaning_to 32 texts (tree_view ns) (d ∷ [])) =
-    subst (λ stack. IsPaid old new (meaning_to 32 texts (tree_view ns) stack)) (stack_of-one c.args.page_data) (c.in-Ok.ensures.adds texts stands) in
-    rendering-is texts (template_tree c.args.template.now) d ∙ ap (λ ns. within_limit (meaning_to 32 texts (tree_view ns) (d ∷ []))) (sym c.nodes.ensures)
+    let paid : IsPaid old new (meaning_to 32 texts (tree_view [] ns) (d ∷ [])) =
+    subst (λ stack. IsPaid old new (meaning_to 32 texts (tree_view [] ns) stack)) (stack_of-one c.args.page_data) (c.in-Ok.ensures.adds texts stands) in
+    rendering-is texts (template_tree c.args.template.now) d ∙ ap (λ ns. within_limit (meaning_to 32 texts (tree_view [] ns) (d ∷ []))) (sym c.nodes.ensures)
     ∙ paid_page old new _ c.new-out.ensures.empty c.new-out.ensures.all paid
