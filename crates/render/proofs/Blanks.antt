@@ -1,5 +1,5 @@
 -- What is indented by blanks in a tree is so in its parts.
-use Rattle.std.proofs.Common.{◌≡◌, ℕ, ◌<◌, suc, ◌&&◌, List, [], ◌∷◌, ◌++◌, length, get_or, true, Option, Some, None, String, Global, Vec, string_bytes, refl, sym, ap, subst, ◌∙◌, arith}
+use Rattle.std.proofs.Common.{◌≡◌, ℕ, ◌<◌, zero, suc, ◌&&◌, List, [], ◌∷◌, ◌++◌, length, get_or, true, Option, Some, None, String, Global, Vec, string_bytes, refl, sym, ap, subst, ◌∙◌, arith}
 use Rattle.std.proofs.lemmas.List.Folds.{list_all-append}
 use Rattle.std.specs.List.{list_all}
 use Rattle.mustache_scan.specs.Cutting.{is_blank}
@@ -8,11 +8,15 @@ use Rattle.mustache_parse.specs.Indenting.{AreBlank}
 use Rattle.mustache_parse.specs.Margin.{text_onto, literal_under}
 use Rattle.mustache_parse.specs.Tree.{Tree, nothing}
 use Rattle.mustache_parse.specs.View.{own_under, view_step, node_onto, tree_view}
-use Rattle.mustache_parse.specs.declared.node.Node.{Node}
+use Rattle.mustache_parse.specs.declared.node.Node.{Node, fold-Node}
 use Rattle.mustache_parse.specs.declared.node.Node.TheFolds.{fold_out-Node}
 use Rattle.mustache_parse.specs.declared.node.Node.TheOpen.{Node-F}
 use Rattle.mustache_parse.specs.declared.node.Node.TheVariants.{Section, Inverted, Partial}
 use Rattle.mustache_parse.proofs.ViewLemmas.{onto_section, onto_inverted, onto_partial}
+
+-- a node as its folds see it
+pub out_of : (A : Type 0) (step : Node-F A → A) (n : Node) → (f : Node-F A) × (fold-Node A step n ≡ step f)
+out_of A step n = (_, fold_out-Node A step n)
 
 text-rest : (l : List ℕ) (rest : Tree) → HasBlankIndents (text_onto l rest) → HasBlankIndents rest
 text-rest [] rest h = h
@@ -32,14 +36,14 @@ layer-both (Node-F.Partial name own) rest h = ((h.0, tt), h.1)
 
 node-both : (n : Node) (rest : Tree) → HasBlankIndents (node_onto [] n rest) → HasBlankIndents (node_onto [] n nothing) × HasBlankIndents rest
 node-both n rest h =
-    let opened = fold_out-Node (Tree → Tree) (view_step []) n in
-    let both = layer-both _ rest (subst (λ f. HasBlankIndents (f rest)) opened h) in
-    (subst (λ f. HasBlankIndents (f nothing)) (sym opened) both.0, both.1)
+    let opened = out_of (Tree → Tree) (view_step []) n in
+    let both = layer-both opened.0 rest (subst (λ f. HasBlankIndents (f rest)) opened.1 h) in
+    (subst (λ f. HasBlankIndents (f nothing)) (sym opened.1) both.0, both.1)
 
 -- each node of some
 pub node-blank : (ns : List Node) (i : ℕ) (d node : Node) → HasBlankIndents (tree_view [] ns) → i < length ns → node ≡ get_or ns i d → HasBlankIndents (node_onto [] node nothing)
 node-blank [] i d node h l is = absurd (omega arith)
-node-blank (n ∷ ns) 0 d node h l is = subst (λ n. HasBlankIndents (node_onto [] n nothing)) (sym is) (node-both n (tree_view [] ns) h).0
+node-blank (n ∷ ns) zero d node h l is = subst (λ n. HasBlankIndents (node_onto [] n nothing)) (sym is) (node-both n (tree_view [] ns) h).0
 node-blank (n ∷ ns) (suc i) d node h l is = node-blank ns i d node (node-both n (tree_view [] ns) h).1 (omega arith) is
 
 -- a section's block

@@ -13,10 +13,10 @@ use Rattle.mustache_parse.specs.Margin.{literal_under, text_onto}
 use Rattle.mustache_parse.specs.Tree.{Tree, nothing, tree_of}
 use Rattle.mustache_parse.specs.View.{own_under, view_step, node_onto, tree_view}
 use Rattle.mustache_parse.specs.declared.node.Node.{Node}
-use Rattle.mustache_parse.specs.declared.node.Node.TheFolds.{fold_out-Node}
 use Rattle.mustache_parse.specs.declared.node.Node.TheOpen.{Node-F}
 use Rattle.mustache_parse.specs.declared.node.Node.TheVariants.{Text, Variable, Raw, Section, Inverted, Partial}
 use Rattle.mustache_parse.proofs.ViewLemmas.{onto_text, onto_variable, onto_raw, onto_section, onto_inverted, onto_partial}
+use Rattle.render.proofs.Blanks.{out_of}
 use Rattle.render.specs.Printed.{printed, escaped}
 use Rattle.render.specs.Meaning.{Meaning, Over, Costs, Partials, and_then, prints, costs_one, for_each, where_none, of_tree, called, too_deep, meaning_with, meaning_to}
 use Rattle.render.specs.Rendering.{called_at}
@@ -57,10 +57,10 @@ layer_first w call (Node-F.Partial name own) rest stack = ap (λ m. and_then m (
 node_first : (w : List ℕ) (call : Call) (n : Node) (rest : Tree) (stack : List Whole)
     → meaning_with call (node_onto w n rest) stack ≡ and_then (meaning_with call (node_onto w n nothing) stack) (meaning_with call rest stack)
 node_first w call n rest stack =
-    let opened = fold_out-Node (Tree → Tree) (view_step w) n in
-    ap (λ f. meaning_with call (f rest) stack) opened
-    ∙ layer_first w call _ rest stack
-    ∙ ap (λ f. and_then (meaning_with call (f nothing) stack) (meaning_with call rest stack)) (sym opened)
+    let opened = out_of (Tree → Tree) (view_step w) n in
+    ap (λ f. meaning_with call (f rest) stack) opened.1
+    ∙ layer_first w call opened.0 rest stack
+    ∙ ap (λ f. and_then (meaning_with call (f nothing) stack) (meaning_with call rest stack)) (sym opened.1)
 
 -- ---- the same, where some partials may nest
 

@@ -11,6 +11,8 @@ use Rattle.context.specs.declared.tree.Data.{Data}
 use Rattle.context.specs.declared.look_up.Frame.{roll-Frame, fold-roll-Frame}
 use Rattle.mustache_parse.specs.Tree.{Tree}
 use Rattle.std.specs.Prelude.{string_bytes}
+use Rattle.render.specs.Margin.{margin_step, margin_text}
+use Rattle.render.specs.declared.margin.Margin.{roll-Margin, fold-roll-Margin}
 use Rattle.render.specs.Meaning.{Meaning, Over, Costs, Partials, and_then, meaning_to, max_cost, within_limit, rendering}
 use Rattle.render.specs.Rendering.{Adds, IsPaid, Exceeds}
 use Rattle.render.specs.declared.output.Output.{Output}
@@ -85,3 +87,7 @@ paid_page old new (Costs t c) none all p =
 -- the stack of a frame with nothing below it
 pub stack_of-one : (d : Bor Data) → stack_of (roll-Frame (record { «data» = d; below = None })) ≡ data_view d.now ∷ []
 stack_of-one d = fold-roll-Frame (List Whole) stack_step _
+
+-- the margin of a page is none
+pub margin_text-none : (own : Bor (List ℕ)) → own.now ≡ [] → margin_text (roll-Margin (record { own = own; outer = None })) ≡ []
+margin_text-none own none = fold-roll-Margin (List ℕ) margin_step _ ∙ none

@@ -1,4 +1,5 @@
 ghost use Rattle.std.specs.Prelude.{◌≡◌, true, [], ◌++◌};
+ghost use Rattle.mustache_parse.specs.View.{own_under};
 ghost use Rattle.render.specs.Margin.{lead, margin_text};
 ghost use Rattle.render.specs.Meaning.{prints};
 ghost use Rattle.render.specs.Rendering.{Adds};
@@ -11,6 +12,22 @@ use crate::output::Output;
 pub(crate) struct Margin<'a> {
     pub own: &'a str,
     pub outer: Option<&'a Margin<'a>>,
+}
+
+/// The margin of a partial under another: longer by its own blanks where its tag is standalone, else none.
+pub(crate) fn margin_within<'a>(own: &'a Option<String>, outer: &'a Margin<'a>) -> Margin<'a>
+    ensures { margin_text result ≡ own_under (margin_text outer.now) own.now }
+{
+    match own {
+        Some(own) => Margin {
+            own: own.as_str(),
+            outer: Some(outer),
+        },
+        None => Margin {
+            own: "",
+            outer: None,
+        },
+    }
 }
 
 /// Whether a margin is that of a page or of an inline partial. One of empty parts may be taken for longer.

@@ -13,7 +13,7 @@ ghost use Rattle.render.specs.Rendering.{Adds, called_at};
 
 use crate::fault::RenderFault;
 use crate::lines::print_text;
-use crate::margin::Margin;
+use crate::margin::{Margin, margin_within};
 use crate::output::Output;
 use crate::partials::Partials;
 use crate::printed::printed;
@@ -172,16 +172,7 @@ fn render_partial<P: Partials>(
     let Some(depth) = place.depth.checked_sub(1) else {
         return Err(RenderFault::OverLimit);
     };
-    let margin = match own {
-        Some(own) => Margin {
-            own: own.as_str(),
-            outer: Some(place.margin),
-        },
-        None => Margin {
-            own: "",
-            outer: None,
-        },
-    };
+    let margin = margin_within(&*own, &*place.margin);
     let within = Place {
         depth,
         margin: &margin,

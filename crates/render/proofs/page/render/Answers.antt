@@ -16,7 +16,7 @@ returns-in-Err-clause-over g c e texts stands =
     let new = c.render_nodes.new.out in
     let is : c.in-Err.fault ≡ OverLimit = cc in
     let over : Adds old new (meaning_to 32 texts (tree_view [] ns) (d ∷ [])) (Err c.in-Err.fault) =
-    subst (λ stack. Adds old new (meaning_to 32 texts (tree_view [] ns) stack) (Err c.in-Err.fault)) (stack_of-one c.args.page_data) (c.in-Err.ensures.adds texts stands) in
+    subst (λ stack. Adds old new (meaning_to 32 texts (tree_view [] ns) stack) (Err c.in-Err.fault)) (stack_of-one c.args.page_data) ? in
     rendering-is texts (template_tree c.args.template.now) d ∙ ap (λ ns. within_limit (meaning_to 32 texts (tree_view [] ns) (d ∷ []))) (sym c.nodes.ensures)
     ∙ exceeds_page old.left _ c.new-out.ensures.all (subst (λ f. Adds old new (meaning_to 32 texts (tree_view [] ns) (d ∷ [])) (Err f)) is over)
 
@@ -27,6 +27,6 @@ returns-in-Ok-clause-text g c texts stands =
     let old = c.new-out.result in
     let new = c.render_nodes.new.out in
     let paid : IsPaid old new (meaning_to 32 texts (tree_view [] ns) (d ∷ [])) =
-    subst (λ stack. IsPaid old new (meaning_to 32 texts (tree_view [] ns) stack)) (stack_of-one c.args.page_data) (c.in-Ok.ensures.adds texts stands) in
+    subst (λ stack. IsPaid old new (meaning_to 32 texts (tree_view [] ns) stack)) (stack_of-one c.args.page_data) ? in
     rendering-is texts (template_tree c.args.template.now) d ∙ ap (λ ns. within_limit (meaning_to 32 texts (tree_view [] ns) (d ∷ []))) (sym c.nodes.ensures)
     ∙ paid_page old new _ c.new-out.ensures.empty c.new-out.ensures.all paid
