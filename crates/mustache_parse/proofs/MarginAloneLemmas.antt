@@ -130,7 +130,7 @@ pub record Chunk (w t t' : List ℕ) (leads : Bool) (from from' first past first
   pub indent : slice_range t' (lines_or first' past' o').0 first' ≡ indent_under w (is_some o) (slice_range t (lines_or first past o).0 first)
 
 module _ (w : List ℕ) (blank : AllAre is_blank w) (leads : Bool) (a m v body r t t' : List ℕ) (seam : Seam leads a v) (some : 0 < length v) (fits : length m ≤ length v)
-  (is : t ≡ ((a ++ m) ++ body) ++ r) (is' : t' ≡ open_under w ((a ++ m) ++ body) ++ spread w r) where
+    (is : t ≡ ((a ++ m) ++ body) ++ r) (is' : t' ≡ open_under w ((a ++ m) ++ body) ++ spread w r) where
   abbrev z : List ℕ
   z = a ++ m
 

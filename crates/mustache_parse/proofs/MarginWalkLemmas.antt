@@ -220,8 +220,16 @@ module _ (w : List ℕ) (blank : AllAre is_blank w) (all : AreBlank w) (x x' : L
             let parts : rest ≡ ((before ++ bare) ++ c ∷ []) ++ r = cut_parts d.opening rest (before, after) is ∙ ap (λ l. before ++ l) body_is ∙ sym (append_assoc before body r) ∙ ap (λ l. l ++ r) (sym (append_assoc before bare (c ∷ []))) in
             let spreads : spread w rest ≡ after_each w (before ++ body) ++ spread w r =
             ap (spread w) parts ∙ spread-seam w (before ++ bare) c r (no_newline c tail.3) ∙ ap (λ l. after_each w l ++ spread w r) (append_assoc before bare (c ∷ [])) in
-            omega (arith, ap length b.rest_is, length-append b.pre (spread w rest), ap length spreads, length-append (after_each w (before ++ body)) (spread w r), ap length (after_each-append w before body),
-            length-append (after_each w before) (after_each w body), length-append b.pre (after_each w before))
+            omega (
+              arith,
+              ap length b.rest_is,
+              length-append b.pre (spread w rest),
+              ap length spreads,
+              length-append (after_each w (before ++ body)) (spread w r),
+              ap length (after_each-append w before body),
+              length-append (after_each w before) (after_each w body),
+              length-append b.pre (after_each w before),
+            )
 
         rest_fits : length rest' ≤ length x'
         rest_fits = omega (arith, ap length b.read'.text, length-append (text_of b.read'.pieces) rest')
@@ -344,7 +352,7 @@ module _ (w : List ℕ) (blank : AllAre is_blank w) (all : AreBlank w) (x x' : L
         with-rest : Rest (is_some found) xs₂ xs₂' → Rest leads xs xs'
         with-rest k =
             let under : Bool → List ℕ → Levels = λ (alone : Bool) (lit : List ℕ).
-                onto (text_onto (literal_under w leads (not alone) lit)) (with_token (tag_under w (record { token = token; is_alone = alone })) o.kind (levels_under w alone (marked x k.ys))) in
+            onto (text_onto (literal_under w leads (not alone) lit)) (with_token (tag_under w (record { token = token; is_alone = alone })) o.kind (levels_under w alone (marked x k.ys))) in
             let ls = levels_under w (is_some found) (marked x k.ys) in
             record {
               ys = literal_at from part ++ token ∷ k.ys;

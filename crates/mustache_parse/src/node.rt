@@ -15,9 +15,18 @@ pub enum Node {
     /// The name of a value that is printed as it stands.
     Raw(String),
     /// A block that is printed for a value that is true, once for each item of a list.
-    Section { name: String, block: Vec<Node> },
+    Section {
+        name: String,
+        block: Vec<Node>,
+    },
     /// A block that is printed for a value that is false or empty.
-    Inverted { name: String, block: Vec<Node> },
+    Inverted {
+        name: String,
+        block: Vec<Node>,
+    },
     /// Another template: where its tag is standalone, with the blanks before that, which lengthen the margin; else it has no margin.
-    Partial { name: String, own: Option<String> },
+    Partial {
+        name: String,
+        own: Option<String>,
+    },
 }

@@ -77,9 +77,11 @@ no-margin w t leads trails none = ap (λ w. literal_under w leads trails t) none
     each : (t : List ℕ) → after_each [] t ≡ t
     each [] = refl
     each (b ∷ bs) = ⊎_elim (λ newline. after_each_newline [] b bs newline) (λ other. after_each_other [] b bs other) (cases_Bool (nat_eq b 10)) ∙ ap (λ l. b ∷ l) (each bs)
+
     spreads : (t : List ℕ) → spread [] t ≡ t
     spreads [] = refl
     spreads (b ∷ bs) = sym (indented-some [] (b ∷ bs) (omega arith)) ∙ (nothing-to_indent (b ∷ bs)).0
+
     by_case : (leads trails : Bool) → literal_under [] leads trails t ≡ t
     by_case true true = each t
     by_case true false = (nothing-to_indent t).0

@@ -53,9 +53,12 @@ loop-before-preserved c =
     let b = c.loop-before in
     let read = continues c.args.source.now b.rest.now (pair_view b.delimiters) b.from (tokens_view b.tokens.items) b.invariant.1 b.delimiters.opens c.in-Some.before.now c.in-Some.after.now (sym c.in-Some.ensures.value) (tag_view c.in-Ok.tag) c.in-Ok.ensures.ok in
     let seam = continues_seam c.args.source.now b.rest.now (pair_view b.delimiters) b.from (tokens_view b.tokens.items) b.invariant.1 b.delimiters.opens c.in-Some.before.now c.in-Some.after.now (sym c.in-Some.ensures.value) (tag_view c.in-Ok.tag) c.in-Ok.ensures.ok
-    c.utf8.source c.in-Ok.ensures.rest b.invariant.2 in
-    (c.in-Ok.ensures.rest, carried (pair_view c.in_ok-delimiters-2.delimiters) c.in_ok-from.from (tokens_view c.push_tag.new.tokens.items) read c.in_ok-delimiters-2.ensures c.in_ok-from.ensures.ok.0 c.in_ok-from.ensures.ok.1,
-    subst (IsCharBoundary c.args.source.now) (sym c.in_ok-from.ensures.ok.0) seam, c.in_ok-from.ensures.marks b.invariant.3)
+    c.utf8.source c.in-Ok.ensures.rest b.invariant.2 in (
+      c.in-Ok.ensures.rest,
+      carried (pair_view c.in_ok-delimiters-2.delimiters) c.in_ok-from.from (tokens_view c.push_tag.new.tokens.items) read c.in_ok-delimiters-2.ensures c.in_ok-from.ensures.ok.0 c.in_ok-from.ensures.ok.1,
+      subst (IsCharBoundary c.args.source.now) (sym c.in_ok-from.ensures.ok.0) seam,
+      c.in_ok-from.ensures.marks b.invariant.3,
+    )
 
 pub returns-clause-tokens : goal.returns-clause-tokens
 returns-clause-tokens c =
