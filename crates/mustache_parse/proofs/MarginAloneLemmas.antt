@@ -1,12 +1,12 @@
 -- A tag is standalone in an indented text exactly where it is in the text, and what it leaves of the literal before it is that literal under the margin.
-use Rattle.std.proofs.Common.{◌≡◌, ℕ, zero, suc, ◌+◌, ◌-◌, ◌<◌, ◌≤◌, Bool, true, false, not, ◌&&◌, List, [], ◌∷◌, ◌++◌, length, take, drop, take_while, is_some, slice_range, ◌⊎◌, inl, inr, Option, Some, None, refl, sym, ap, subst, ◌∙◌, arith, append_assoc, append-nil, ⊎_elim, length-append}
+use Rattle.std.proofs.Common.{◌≡◌, ℕ, ◌+◌, ◌-◌, ◌<◌, ◌≤◌, Bool, true, false, not, ◌&&◌, List, [], ◌∷◌, ◌++◌, length, take, drop, take_while, is_some, slice_range, ◌⊎◌, inl, inr, Option, Some, None, refl, sym, ap, subst, ◌∙◌, arith, append_assoc, append-nil, length-append}
 use Rattle.std.proofs.Math.Seq.{take-append_seam, drop-append_seam, drop-append-add}
 use Rattle.std.proofs.lemmas.Bool.{false≢true}
 use Rattle.std.proofs.lemmas.Bool.Decides.{nat_tests}
 use Rattle.std.proofs.lemmas.List.Folds.{list_all-append}
 use Rattle.std.specs.List.{list_all}
 use Rattle.mustache_scan.specs.Cutting.{is_padding, is_blank, is_newline}
-use Rattle.mustache_scan.specs.Progress.{standalone_of, lines_or, indent_in}
+use Rattle.mustache_scan.specs.Progress.{standalone_of, lines_or}
 use Rattle.mustache_scan.specs.Standalone.{last_line, line_end, lines_from, standalone_lines, may_be_standalone}
 use Rattle.mustache_scan.specs.declared.token.TokenKind.{TokenKind}
 use Rattle.mustache_parse.specs.Indent.{indented}
@@ -15,7 +15,7 @@ use Rattle.mustache_parse.specs.Margin.{literal_under, indent_under}
 use Rattle.mustache_parse.proofs.IndentLemmas.{AllAre, NoneAre}
 use Rattle.mustache_parse.proofs.SpreadLemmas.{no_newline}
 use Rattle.mustache_parse.proofs.MarginTextLemmas.{open_under, front_under, IsLineStart, Seam, goes-on, ends, open-append}
-use Rattle.mustache_parse.proofs.MarginLineLemmas.{Split, split, last-split, open-split, last-open, last-append, blanks-same, end-same, Behind, behind, behind-under, behind-seam}
+use Rattle.mustache_parse.proofs.MarginLineLemmas.{Split, split, last-split, open-split, last-open, last-append, blanks-same, end-same, behind, behind-under, behind-seam}
 
 abbrev pub blanks : List ℕ → ℕ
 blanks r = length (take_while is_blank r)

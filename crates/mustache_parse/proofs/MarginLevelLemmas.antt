@@ -6,7 +6,7 @@ use Rattle.mustache_scan.specs.Standalone.{TokenSeen, is_literal, is_alone}
 use Rattle.mustache_scan.specs.declared.token.TokenKind.{TokenKind}
 use Rattle.mustache_scan.specs.declared.token.TokenKind.TheVariants.{Literal, Variable, Raw, Section, Inverted, End, Comment, Partial, Delimiters}
 use Rattle.mustache_parse.specs.Margin.{literal_under, text_onto, Marked, marked, tag_under, goes_on, with_marked, levels_under}
-use Rattle.mustache_parse.specs.Tree.{Tree, nothing, text, variable, raw, partial, section, inverted, Levels, last, up_to_end, onto, closing, with_token, levels}
+use Rattle.mustache_parse.specs.Tree.{nothing, text, variable, raw, partial, section, inverted, Levels, last, up_to_end, onto, closing, with_token, levels}
 use Rattle.mustache_parse.proofs.MarginTextLemmas.{no_lines}
 
 onto-none : (ls : Levels) → onto (text_onto []) ls ≡ ls

@@ -1,17 +1,10 @@
 -- Texts under a margin, cut where their lines begin and behind their tags.
-use Rattle.std.proofs.Common.{◌≡◌, ℕ, suc, ◌+◌, ◌-◌, ◌<◌, ◌≤◌, Bool, true, false, not, cond, ◌&&◌, List, [], ◌∷◌, ◌++◌, length, take, drop, nat_eq, ◌⊎◌, inl, inr, refl, sym, ap, subst, ◌∙◌, arith, append_assoc, append-nil, ⊎_elim, length-append}
-use Rattle.std.proofs.Math.Seq.{drop-append_seam}
-use Rattle.std.proofs.lemmas.Bool.{cases_Bool, false≢true}
-use Rattle.std.proofs.lemmas.Bool.Decides.{nat_tests}
-use Rattle.std.proofs.lemmas.List.{reverse-append}
-use Rattle.std.proofs.lemmas.List.Folds.{list_all-append}
-use Rattle.std.specs.List.{list_all, prefix_len, suffix_len}
-use Rattle.mustache_scan.specs.Cutting.{is_padding, is_blank, is_newline}
-use Rattle.mustache_scan.specs.Standalone.{last_line}
+use Rattle.std.proofs.Common.{◌≡◌, ℕ, ◌<◌, ◌≤◌, Bool, true, false, List, [], ◌∷◌, ◌++◌, length, nat_eq, ◌⊎◌, inl, inr, refl, sym, ap, subst, ◌∙◌, arith, append_assoc, append-nil, length-append}
+use Rattle.mustache_scan.specs.Cutting.{is_padding}
 use Rattle.mustache_parse.specs.Indent.{indented}
 use Rattle.mustache_parse.specs.Indenting.{spread, after_each}
 use Rattle.mustache_parse.specs.Margin.{literal_under}
-use Rattle.mustache_parse.proofs.IndentLemmas.{AllAre, NoneAre, indented-spread, after_each_newline, after_each_other}
+use Rattle.mustache_parse.proofs.IndentLemmas.{indented-spread, after_each_newline, after_each_other}
 use Rattle.mustache_parse.proofs.SpreadLemmas.{spread-plain, after_each-append, spread-before, no_newline}
 
 -- a text with more behind it on its last line, once it is indented

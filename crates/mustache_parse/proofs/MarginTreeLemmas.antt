@@ -1,5 +1,5 @@
 -- The tree of an indented text, by the tokens of the text.
-use Rattle.std.proofs.Common.{◌≡◌, ℕ, true, List, [], ◌∷◌, Result, Ok, Err, length, refl, sym, ap, subst, ◌∙◌, arith}
+use Rattle.std.proofs.Common.{◌≡◌, ℕ, true, List, [], ◌∷◌, Result, Ok, refl, sym, ap, ◌∙◌, arith}
 use Rattle.mustache_scan.specs.Names.{braces}
 use Rattle.mustache_scan.specs.Standalone.{TokenSeen, scanned}
 use Rattle.mustache_scan.specs.declared.fault.TemplateFault.{TemplateFault}
@@ -7,7 +7,7 @@ use Rattle.mustache_scan.proofs.CutLemmas.{cut_nil}
 use Rattle.mustache_scan.proofs.OutcomeLemmas.{begins, ends_well}
 use Rattle.mustache_parse.specs.Indent.{indented}
 use Rattle.mustache_parse.specs.Margin.{marked, levels_under, MarginMakesTree}
-use Rattle.mustache_parse.specs.Tree.{Tree, nothing, levels, first_level, nested, tree_of_scanned, tree_of}
+use Rattle.mustache_parse.specs.Tree.{Tree, levels, first_level, nested, tree_of}
 use Rattle.mustache_parse.proofs.IndentingLemmas.{keeps-trees}
 use Rattle.mustache_parse.proofs.MarginTextLemmas.{no_lines}
 use Rattle.mustache_parse.proofs.MarginWalkLemmas.{side-by-side}

@@ -1,11 +1,11 @@
 -- A text and the same text indented are scanned side by side: the tokens of the second nest into what those of the first nest into under the margin.
-use Rattle.std.proofs.Common.{◌≡◌, ℕ, zero, suc, ◌+◌, ◌-◌, ◌<◌, ◌≤◌, Bool, true, false, not, List, [], ◌∷◌, ◌++◌, length, max, is_some, slice_range, ◌⊎◌, inl, inr, Option, Some, None, Result, Ok, Err, refl, sym, ap, subst, ◌∙◌, arith, append_assoc, append-nil, ⊎_elim, length-append}
+use Rattle.std.proofs.Common.{◌≡◌, ℕ, zero, suc, ◌+◌, ◌-◌, ◌<◌, ◌≤◌, Bool, true, false, not, List, [], ◌∷◌, ◌++◌, length, max, is_some, slice_range, inl, Option, Some, None, Result, Ok, Err, refl, sym, ap, subst, ◌∙◌, arith, append_assoc, append-nil, length-append}
 use Rattle.std.proofs.lemmas.Bool.{false≢true}
 use Rattle.mustache_scan.specs.Cutting.{cut, is_padding, is_blank, stripped}
-use Rattle.mustache_scan.specs.Names.{Pair, braces, is_sequence}
+use Rattle.mustache_scan.specs.Names.{Pair, braces}
 use Rattle.mustache_scan.specs.Progress.{standalone_of, lines_or, taken, literal_at, tag_at, indent_in, or_wrong, checked}
 use Rattle.mustache_scan.specs.Reading.{Opened, tag_after, wrong_inside, name_of, delimiters_after, text_of}
-use Rattle.mustache_scan.specs.Standalone.{TokenSeen, is_literal, is_alone, scanned}
+use Rattle.mustache_scan.specs.Standalone.{TokenSeen, is_alone, scanned}
 use Rattle.mustache_scan.specs.declared.fault.FaultKind.{FaultKind}
 use Rattle.mustache_scan.specs.declared.fault.FaultKind.TheVariants.{UnclosedTag}
 use Rattle.mustache_scan.specs.declared.token.TokenKind.{TokenKind}
@@ -18,11 +18,11 @@ use Rattle.mustache_scan.proofs.StandaloneLemmas.{taken_end}
 use Rattle.mustache_parse.specs.Indent.{indented}
 use Rattle.mustache_parse.specs.Indenting.{spread, after_each, AreBlank}
 use Rattle.mustache_parse.specs.Margin.{literal_under, indent_under, text_onto, marked, tag_under, levels_under}
-use Rattle.mustache_parse.specs.Tree.{nothing, Levels, last, onto, with_token, levels}
+use Rattle.mustache_parse.specs.Tree.{Levels, onto, with_token, levels}
 use Rattle.mustache_parse.proofs.IndentLemmas.{AllAre, NoneAre, behind_all, past_blanks, behind_all-none, behind_all-some, moved}
 use Rattle.mustache_parse.proofs.SpreadLemmas.{no_newline, after_each-append, stripped-after_each}
 use Rattle.mustache_parse.proofs.SpreadNameLemmas.{Solid, Sequences, sequences-solid, after-sequences, wrong_inside-same, delimiters_after-same, name_of-same}
-use Rattle.mustache_parse.proofs.SpreadTagLemmas.{spread_tag, spread_opened, cut-solid, tag_after-spread, tag_kind, tag_parts}
+use Rattle.mustache_parse.proofs.SpreadTagLemmas.{spread_opened, cut-solid, tag_after-spread, tag_kind, tag_parts}
 use Rattle.mustache_parse.proofs.MarginTextLemmas.{open_under, front_under, Seam, goes-on, ends, open-append, indented-some, indented-seam, spread-seam, no_lines}
 use Rattle.mustache_parse.proofs.MarginAloneLemmas.{slice-at, Alike, alike, Chunk, chunk, Next, next-for}
 use Rattle.mustache_parse.proofs.MarginLevelLemmas.{levels-literal, chunk-levels, end-levels, tag-levels}

@@ -1,16 +1,16 @@
 -- The nodes of a text's tokens: under each margin the tree of the text indented by that.
-use Rattle.std.proofs.Common.{◌≡◌, ℕ, true, List, [], ◌∷◌, map, Result, Ok, refl, sym, ap, subst, ◌∙◌}
+use Rattle.std.proofs.Common.{◌≡◌, ℕ, true, List, [], ◌∷◌, map, Ok, refl, sym, ap, ◌∙◌}
 use Rattle.mustache_scan.specs.Marks.{AreMarked}
-use Rattle.mustache_scan.specs.Standalone.{TokenSeen, scanned, is_alone}
+use Rattle.mustache_scan.specs.Standalone.{scanned, is_alone}
 use Rattle.mustache_scan.specs.View.{token_view, tokens_view}
 use Rattle.mustache_scan.specs.declared.token.Token.{Token}
 use Rattle.mustache_parse.specs.BlankIndents.{HasBlankIndents}
 use Rattle.mustache_parse.specs.Indent.{indented}
 use Rattle.mustache_parse.specs.Indenting.{AreBlank}
-use Rattle.mustache_parse.specs.Margin.{Marked, marked, levels_under}
+use Rattle.mustache_parse.specs.Margin.{marked, levels_under}
 use Rattle.mustache_parse.specs.Stack.{marked_view, AreNodesOf}
 use Rattle.mustache_parse.specs.Template.{TemplateSeen, IsTemplateOf}
-use Rattle.mustache_parse.specs.Tree.{Tree, levels, first_level, nested, tree_of}
+use Rattle.mustache_parse.specs.Tree.{levels, first_level, tree_of}
 use Rattle.mustache_parse.specs.View.{tree_view}
 use Rattle.mustache_parse.specs.declared.node.Node.{Node}
 use Rattle.mustache_parse.proofs.BlankLemmas.{indents-blank}

@@ -8,7 +8,7 @@ use Rattle.mustache_scan.specs.Cutting.{cut, is_padding, is_blank, unpadded, str
 use Rattle.mustache_scan.specs.Reading.{Opened, opened_as, signed, tag_in, tag_after, kind_of_sign, partner, wrong_inside, name_of, tag}
 use Rattle.mustache_scan.specs.Standalone.{is_literal}
 use Rattle.mustache_scan.specs.declared.token.TokenKind.{TokenKind}
-use Rattle.mustache_scan.specs.declared.token.TokenKind.TheVariants.{Variable, Raw, Section, Inverted, End, Comment, Partial, Delimiters}
+use Rattle.mustache_scan.specs.declared.token.TokenKind.TheVariants.{Variable}
 use Rattle.mustache_scan.proofs.ReadingLemmas.{cut_parts}
 use Rattle.mustache_scan.proofs.TakenLemmas.{sign_no_literal}
 use Rattle.mustache_parse.specs.Indenting.{spread, after_each, spread_inner}

@@ -7,7 +7,7 @@ use Rattle.mustache_scan.specs.Standalone.{TokenSeen}
 use Rattle.mustache_scan.specs.declared.fault.FaultKind.TheVariants.{UnclosedSection}
 use Rattle.mustache_scan.specs.declared.fault.TemplateFault.{TemplateFault}
 use Rattle.mustache_scan.specs.declared.token.TokenKind.TheVariants.{End}
-use Rattle.mustache_parse.specs.Tree.{Tree, nothing, Open, nest, ending, left_open, Levels, last, up_to_end, onto, closing, with_token}
+use Rattle.mustache_parse.specs.Tree.{Tree, nothing, Open, nest, ending, left_open, Levels, last, up_to_end, onto, closing}
 use Rattle.mustache_parse.specs.Stack.{before, made_by, levels_over, open_view, opens_view, levels_with, Reads}
 use Rattle.mustache_parse.specs.View.{node_onto, tree_view}
 use Rattle.mustache_parse.specs.declared.nesting.Nesting.{Nesting}

@@ -1,5 +1,5 @@
 -- The tree of nodes, node by node.
-use Rattle.std.proofs.Common.{◌≡◌, List, ℕ, Bool, Option, String, Global, Vec, string_bytes, refl, ap, sym, ◌∙◌}
+use Rattle.std.proofs.Common.{◌≡◌, List, ℕ, Bool, Option, String, Global, Vec, string_bytes, ap, sym, ◌∙◌}
 use Rattle.mustache_parse.specs.Tree.{Tree, variable, raw, partial, section, inverted}
 use Rattle.mustache_parse.specs.View.{own_under, view_step, node_onto, tree_view}
 use Rattle.mustache_parse.specs.declared.node.Node.{Node}

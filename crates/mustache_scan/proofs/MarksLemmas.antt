@@ -1,5 +1,5 @@
 -- One more token that says whether it is standalone.
-use Rattle.std.proofs.Common.{◌≡◌, ℕ, ◌+◌, ◌<◌, ◌≤◌, Bool, List, [], ◌∷◌, ◌++◌, length, Option, Some, None, is_some, refl, sym, ap, subst, ◌∙◌, slice_range, arith}
+use Rattle.std.proofs.Common.{◌≡◌, ℕ, ◌+◌, ◌≤◌, List, [], ◌∷◌, ◌++◌, length, Option, Some, None, is_some, refl, ap, ◌∙◌, slice_range, arith}
 use Rattle.std.specs.Option.{unwrap_or}
 use Rattle.mustache_scan.specs.Marks.{AreMarked}
 use Rattle.mustache_scan.specs.Progress.{standalone_of, lines_or, taken}

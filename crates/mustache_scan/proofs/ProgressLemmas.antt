@@ -7,7 +7,6 @@ use Rattle.std.proofs.lemmas.Grind.{flat_map-append}
 use Rattle.std.proofs.lemmas.List.{take-append-le, drop-append-le}
 use Rattle.std.proofs.lemmas.List.Folds.{list_any-append}
 use Rattle.std.specs.List.{flat_map}
-use Rattle.std.specs.Str.{IsCharBoundary}
 use Rattle.mustache_scan.specs.Cutting.{is_blank}
 use Rattle.mustache_scan.specs.Names.{Pair, braces}
 use Rattle.mustache_scan.specs.Progress.{literal_at}

@@ -1,5 +1,5 @@
 -- What is indented by blanks in a tree is so in its parts.
-use Rattle.std.proofs.Common.{◌≡◌, ℕ, ◌<◌, zero, suc, ◌&&◌, List, [], ◌∷◌, ◌++◌, length, get_or, true, Option, Some, None, String, Global, Vec, string_bytes, refl, sym, ap, subst, ◌∙◌, arith}
+use Rattle.std.proofs.Common.{◌≡◌, ℕ, ◌<◌, zero, suc, ◌&&◌, List, [], ◌∷◌, length, get_or, Option, Some, None, String, Global, Vec, string_bytes, refl, sym, ap, subst, ◌∙◌, arith}
 use Rattle.std.proofs.lemmas.List.Folds.{list_all-append}
 use Rattle.std.specs.List.{list_all}
 use Rattle.mustache_scan.specs.Cutting.{is_blank}

@@ -1,5 +1,5 @@
 -- A literal under a margin, line by line.
-use Rattle.std.proofs.Common.{◌≡◌, ◌≢◌, ℕ, ◌+◌, ◌<◌, suc, Bool, true, false, not, ◌&&◌, ◌||◌, ◌==◌, List, [], ◌∷◌, ◌++◌, length, get_or, nat_eq, Option, Some, None, Bor, MatchOption, IfSome, refl, sym, ap, ◌∙◌, arith, length-append, append_assoc, append-nil, ⊎_elim}
+use Rattle.std.proofs.Common.{◌≡◌, ◌≢◌, ℕ, ◌<◌, suc, Bool, true, false, not, ◌&&◌, ◌||◌, ◌==◌, List, [], ◌∷◌, ◌++◌, length, get_or, nat_eq, Option, Some, None, Bor, MatchOption, IfSome, refl, sym, ap, ◌∙◌, arith, length-append, append_assoc, ⊎_elim}
 use Rattle.std.proofs.lemmas.Bool.{cases_Bool}
 use Rattle.std.proofs.lemmas.Bool.Decides.{nat_tests}
 use Rattle.mustache_parse.specs.Indent.{indented}
@@ -12,7 +12,7 @@ use Rattle.mustache_parse.proofs.MarginTextLemmas.{indented-some, no_lines}
 use Rattle.mustache_parse.proofs.SpreadLemmas.{after_each-append, spread-before}
 use Rattle.mustache_scan.specs.Cutting.{is_newline}
 use Rattle.render.specs.Margin.{lead}
-use Rattle.render.specs.Meaning.{Meaning, Costs, and_then, prints}
+use Rattle.render.specs.Meaning.{Costs, and_then, prints}
 
 differs : (a : ℕ) → a ≢ 10 → nat_eq a 10 ≡ false
 differs a h = grind (arith, nat_tests)

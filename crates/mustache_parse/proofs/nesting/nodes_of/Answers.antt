@@ -1,4 +1,4 @@
-use Rattle.std.proofs.Common.{◌≡◌, ◌+◌, List, Bool, map, ap, sym, ◌∙◌, arith, drop, length, ◌-◌, ◌≤◌, length-drop}
+use Rattle.std.proofs.Common.{◌+◌, map, ap, ◌∙◌, arith, drop, length, ◌-◌, length-drop}
 use Rattle.std.proofs.lemmas.List.{take_all}
 use Rattle.std.proofs.lemmas.Result.{err_from_is_err_and}
 use Rattle.mustache_parse.specs.Margin.{goes_on}

@@ -1,4 +1,4 @@
-use Rattle.std.proofs.Common.{◌≡◌, refl, sym, subst}
+use Rattle.std.proofs.Common.{refl, sym, subst}
 use Rattle.mustache_scan.specs.Marks.{AreMarked}
 use Rattle.mustache_scan.proofs.MarksLemmas.{marks-push}
 use Rattle.mustache_scan.proofs.push.push_literal.Goals as goal

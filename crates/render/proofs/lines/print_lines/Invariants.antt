@@ -1,4 +1,4 @@
-use Rattle.std.proofs.Common.{◌≡◌, Result, length}
+use Rattle.std.proofs.Common.{Result, length}
 use denote.Text.{Utf8}
 use denote.Shadow.{shadow}
 use Rattle.mustache_parse.specs.Margin.{literal_under}

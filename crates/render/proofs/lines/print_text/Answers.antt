@@ -1,4 +1,4 @@
-use Rattle.std.proofs.Common.{◌≡◌, ap, sym, ◌∙◌}
+use Rattle.std.proofs.Common.{ap}
 use Rattle.render.specs.Margin.{margin_text}
 use Rattle.render.specs.Meaning.{prints}
 use Rattle.render.proofs.LineLemmas.{no-margin}

@@ -1,4 +1,4 @@
-use Rattle.std.proofs.Common.{◌≡◌, ℕ, List, ◌+◌, ◌<◌, [], ◌∷◌, Ok, Err, map, drop, length, string_bytes, sym, ap, refl, subst, ◌∙◌, arith}
+use Rattle.std.proofs.Common.{◌≡◌, ℕ, List, ◌+◌, ◌<◌, [], ◌∷◌, Ok, Err, map, drop, length, string_bytes, sym, refl, subst, ◌∙◌, arith}
 use Rattle.std.proofs.Math.ListN.{drop_of_length-le}
 use Rattle.context.specs.LookUp.{items_of, look_up}
 use Rattle.context.specs.View.{data_view}

@@ -1,4 +1,4 @@
-use Rattle.std.proofs.Common.{◌≡◌, true, ap, sym, subst, OnOk, List, ℕ, [], Bool}
+use Rattle.std.proofs.Common.{◌≡◌, true, sym, subst, OnOk, List, ℕ, []}
 use Rattle.mustache_parse.specs.Margin.{literal_under, text_onto}
 use Rattle.mustache_parse.specs.Stack.{levels_with}
 use Rattle.mustache_parse.specs.Tree.{Levels, onto}

@@ -1,4 +1,4 @@
-use Rattle.std.proofs.Common.{◌≡◌, ◌≢◌, ◌&&◌, not, ℕ, List, [], Err, IfErr, true, false, refl, sym, subst}
+use Rattle.std.proofs.Common.{◌≡◌, ◌≢◌, ℕ, List, [], Err, IfErr, true, false, refl, sym, subst}
 use Rattle.mustache_scan.specs.Standalone.{is_literal}
 use Rattle.mustache_scan.specs.declared.fault.FaultKind.TheVariants.{OutOfMemory}
 use Rattle.mustache_scan.specs.declared.token.TokenKind.{TokenKind}
