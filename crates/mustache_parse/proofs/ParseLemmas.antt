@@ -34,8 +34,15 @@ nodes-of_text t ts ns is marks h = λ w blank.
     margin-tree w t (tokens_view ts) (first_level (levels (tokens_view ts))) blank is tree
     ∙ ap (λ ms. Ok (first_level (levels_under w true ms))) (sym (marks-same t ts marks)) ∙ ap (λ ls. Ok (first_level ls)) (h.levels_are w)
 
+-- without a margin they are the text's own tree
+whole : (t : List ℕ) (ns : List Node) → Holds t ns → tree_of t ≡ Ok (tree_view [] ns)
+whole t ns h = ap tree_of (sym (nothing-to_indent t).0) ∙ h [] refl
+
 pub blank-nodes : (t : List ℕ) (ns : List Node) → Holds t ns → HasBlankIndents (tree_view [] ns)
-blank-nodes t ns h = indents-blank t (tree_view [] ns) (ap tree_of (sym (nothing-to_indent t).0) ∙ h [] refl)
+blank-nodes t ns h = indents-blank t (tree_view [] ns) (whole t ns h)
 
 pub template-of : (t : List ℕ) (ns : List Node) (seen : TemplateSeen) → seen.nodes ≡ ns → Holds t ns → IsTemplateOf seen t
-template-of t ns seen is h = record { holds = λ w blank. h w blank ∙ ap (λ ns. Ok (tree_view w ns)) (sym is) }
+template-of t ns seen is h = record {
+  holds = whole t ns h ∙ ap (λ ns. Ok (tree_view [] ns)) (sym is);
+  under = λ w blank. h w blank ∙ ap (λ ns. Ok (tree_view w ns)) (sym is);
+}

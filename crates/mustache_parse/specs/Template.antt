@@ -1,5 +1,5 @@
 -- What a template stands for, and which text it was read from.
-use Rattle.std.specs.Prelude.{◌≡◌, ℕ, List, Ok}
+use Rattle.std.specs.Prelude.{◌≡◌, ℕ, List, [], Ok}
 use Rattle.mustache_parse.specs.Indent.{indented}
 use Rattle.mustache_parse.specs.Indenting.{AreBlank}
 use Rattle.mustache_parse.specs.Tree.{Tree, tree_of}
@@ -14,6 +14,7 @@ pub record TemplateSeen : Type 0 where
 abbrev pub template_tree : List ℕ → TemplateSeen → Tree
 template_tree w t = tree_view w t.nodes
 
--- A template of a text: under each margin it holds the tree of the text indented by that.
+-- A template of a text: it holds the text's tree, and under each margin that of the text indented by it.
 pub record IsTemplateOf (t : TemplateSeen) (x : List ℕ) : Type 0 where
-  pub holds : (w : List ℕ) → AreBlank w → tree_of (indented w x) ≡ Ok (template_tree w t)
+  pub holds : tree_of x ≡ Ok (template_tree [] t)
+  pub under : (w : List ℕ) → AreBlank w → tree_of (indented w x) ≡ Ok (template_tree w t)
