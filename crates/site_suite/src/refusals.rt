@@ -90,7 +90,7 @@ fn values_and_lines(rt: HostRuntime) -> Result<(), Fail> {
 }
 
 fn length_of(site: &Site) -> Option<usize> {
-    site.template("t").map(|t| t.source().len())
+    site.template("t").map(|t| t.nodes().len())
 }
 
 /// The site takes the value, and answers so. Where memory was refused it is as before.
