@@ -9,3 +9,5 @@ pub mod OptionValues
 pub mod TwoArguments
 pub mod OptionLemmas
 pub mod Feeding
+pub mod LineLemmas
+pub mod ScheduleLemmas

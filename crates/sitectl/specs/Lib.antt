@@ -7,3 +7,5 @@ pub mod Standing
 pub mod Laws
 pub mod Ends
 pub mod Options
+pub mod Schedule
+pub mod ScheduleView

@@ -7,6 +7,7 @@ mod framed;
 mod input;
 mod laws;
 mod options;
+mod schedule;
 
 pub use engine::siterender;
 pub use http_read::Counted;
