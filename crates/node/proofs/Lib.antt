@@ -19,3 +19,4 @@ pub mod Promising
 pub mod Unread
 pub mod Counting
 pub mod TicketSets
+pub mod Adding

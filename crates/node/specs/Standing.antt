@@ -70,6 +70,10 @@ StaysOnDisk stands_for old new s next = (d : DiskState) → IsOnDisk stands_for 
 
 -- ---- calls
 
+-- messages are added, at the end alone
+abbrev pub OnlyGrows : List (To × Message) → List (To × Message) → Type 0
+OnlyGrows before after = (more : List (To × Message)) × (after ≡ before ++ more)
+
 -- Ok is the whole ending, a failure of the device the failed one, and any other fault a refusal
 abbrev pub ending_by : NodeFault → Ending
 ending_by fault.Device = Failed

@@ -10,7 +10,7 @@ use wire::Message;
 
 impl<D: Disk> Node<D> {
     ghost use Rattle.node.specs.Calls.{deliver};
-    ghost use Rattle.node.specs.Standing.{IsEvent, KeepsOthers, ending_of};
+    ghost use Rattle.node.specs.Standing.{IsEvent, OnlyGrows, KeepsOthers, ending_of};
 
     /// The value goes to the asker, where it is known.
     pub(crate) fn on_ask(
@@ -22,6 +22,7 @@ impl<D: Disk> Node<D> {
         requires running { self.old.store.stopped ≡ false }
         ensures event { IsMessage self.old.cluster (Message.Ask from instance) → IsEvent D.stands_for self.old self.new (deliver (Message.Ask from instance)) (ending_of result) outbox.old.items outbox.new.items }
         ensures no_put { (¬ IsErrOf result NodeFault.Device) × (self.new.store ≡ self.old.store) }
+        ensures grows { OnlyGrows outbox.old.items outbox.new.items }
         ensures others { KeepsOthers self.old self.new }
     {
         let Some(value) = self.known.log.get(instance) else {

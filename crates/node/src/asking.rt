@@ -8,12 +8,13 @@ use wire::Message;
 
 impl<D: Disk> Node<D> {
     ghost use Rattle.node.specs.Calls.{ask as asking};
-    ghost use Rattle.node.specs.Standing.{IsEvent, KeepsOthers, ending_of};
+    ghost use Rattle.node.specs.Standing.{IsEvent, OnlyGrows, KeepsOthers, ending_of};
 
     /// Asks all nodes for the first unknown instance.
     pub fn ask(&mut self, outbox: &mut Outbox) -> Result<(), NodeFault>
         ensures event { IsEvent D.stands_for self.old self.new asking (ending_of result) outbox.old.items outbox.new.items }
         ensures no_put { (¬ IsErrOf result NodeFault.Device) × (self.new.store ≡ self.old.store) }
+        ensures grows { OnlyGrows outbox.old.items outbox.new.items }
         ensures others { KeepsOthers self.old self.new }
     {
         if self.store.is_stopped() {

@@ -9,13 +9,14 @@ use wire::Message;
 
 impl<D: Disk> Node<D> {
     ghost use Rattle.node.specs.Calls.{deliver as delivery};
-    ghost use Rattle.node.specs.Standing.{IsEvent, KeepsOthers, CountsDevice, ending_of};
+    ghost use Rattle.node.specs.Standing.{IsEvent, OnlyGrows, KeepsOthers, CountsDevice, ending_of};
 
     /// Takes a message, of whatever age.
     pub fn deliver(&mut self, message: &Message, outbox: &mut Outbox) -> Result<(), NodeFault>
         requires { IsMessage self.old.cluster message.now }
         ensures event { IsEvent D.stands_for self.old self.new (delivery message.now) (ending_of result) outbox.old.items outbox.new.items }
         ensures counts { CountsDevice result (D.failed self.old.store.disk) (D.failed self.new.store.disk) }
+        ensures grows { OnlyGrows outbox.old.items outbox.new.items }
         ensures others { KeepsOthers self.old self.new }
     {
         if self.store.is_stopped() {

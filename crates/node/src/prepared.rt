@@ -23,7 +23,7 @@ fn copy_of(alloc: Global, vote: &Option<Vote>) -> Result<Option<Vote>, AllocErro
 
 impl<D: Disk> Node<D> {
     ghost use Rattle.node.specs.Calls.{deliver};
-    ghost use Rattle.node.specs.Standing.{IsEvent, KeepsOthers, CountsDevice, ending_of};
+    ghost use Rattle.node.specs.Standing.{IsEvent, OnlyGrows, KeepsOthers, CountsDevice, ending_of};
 
     /// A promise is on record before it is handed out.
     pub(crate) fn on_prepare(
@@ -36,6 +36,7 @@ impl<D: Disk> Node<D> {
         requires of_cluster { IsNode self.old.cluster ballot.node }
         ensures event { (from : ℕ) → IsMessage self.old.cluster (Message.Prepare from instance ballot) → IsEvent D.stands_for self.old self.new (deliver (Message.Prepare from instance ballot)) (ending_of result) outbox.old.items outbox.new.items }
         ensures counts { CountsDevice result (D.failed self.old.store.disk) (D.failed self.new.store.disk) }
+        ensures grows { OnlyGrows outbox.old.items outbox.new.items }
         ensures others { KeepsOthers self.old self.new }
     {
         outbox.reserve(1)?;

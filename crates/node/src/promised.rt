@@ -13,7 +13,7 @@ use wire::Message;
 
 impl<D: Disk> Node<D> {
     ghost use Rattle.node.specs.Calls.{deliver};
-    ghost use Rattle.node.specs.Standing.{IsEvent, KeepsOthers, CountsDevice, ending_of};
+    ghost use Rattle.node.specs.Standing.{IsEvent, OnlyGrows, KeepsOthers, CountsDevice, ending_of};
 
     /// A majority's promises lead to a proposal.
     pub(crate) fn on_promise(
@@ -28,6 +28,7 @@ impl<D: Disk> Node<D> {
         requires of_cluster { IsNode self.old.cluster from }
         ensures event { IsMessage self.old.cluster (Message.Promise from instance ballot (vote_told prior.entry)) → IsEvent D.stands_for self.old self.new (deliver (Message.Promise from instance ballot (vote_told prior.entry))) (ending_of result) outbox.old.items outbox.new.items }
         ensures no_put { (¬ IsErrOf result NodeFault.Device) × (self.new.store ≡ self.old.store) }
+        ensures grows { OnlyGrows outbox.old.items outbox.new.items }
         ensures others { KeepsOthers self.old self.new }
     {
         outbox.reserve(1)?;

@@ -13,7 +13,7 @@ use wire::Message;
 
 impl<D: Disk> Node<D> {
     ghost use Rattle.node.specs.Calls.{deliver};
-    ghost use Rattle.node.specs.Standing.{IsEvent, KeepsOthers, CountsDevice, ending_of};
+    ghost use Rattle.node.specs.Standing.{IsEvent, OnlyGrows, KeepsOthers, CountsDevice, ending_of};
 
     /// A vote is on record before it is handed out.
     pub(crate) fn on_propose(
@@ -28,6 +28,7 @@ impl<D: Disk> Node<D> {
         requires fits { length value.now ≤ 32768 }
         ensures event { (from : ℕ) → IsMessage self.old.cluster (Message.Propose from instance ballot value.now) → IsEvent D.stands_for self.old self.new (deliver (Message.Propose from instance ballot value.now)) (ending_of result) outbox.old.items outbox.new.items }
         ensures counts { CountsDevice result (D.failed self.old.store.disk) (D.failed self.new.store.disk) }
+        ensures grows { OnlyGrows outbox.old.items outbox.new.items }
         ensures others { KeepsOthers self.old self.new }
     {
         outbox.reserve(1)?;

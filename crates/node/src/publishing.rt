@@ -21,6 +21,7 @@ fn feed(values: &[Value], releases: &mut Releases) -> Result<(), AllocError>
     ensures more { (more : List Bytes) × (releases.new ≡ releases.old ++ more) }
     ensures begins { releases.old ≡ take (length releases.old) values.now → releases.new ≡ take (length releases.new) values.now }
     ensures all { OnOk result (length values.now ≤ length releases.new) }
+    ensures short { OnErr result (length releases.new < length values.now) }
 {
     while let Some(value) = values.get(releases.len()) {
         releases.feed(value.as_bytes())?;
@@ -41,6 +42,7 @@ impl<D: Disk> Node<D> {
         ensures more { (more : List Bytes) × (self.new.releases ≡ self.old.releases ++ more) }
         ensures ok { IfOk result (λ n. (n ≡ release_count (effective self.new.releases)) × ((s : AbstractNode) → IsNodeOf self.old s → IsKnownPrefix s self.new.releases)) }
         ensures err { OnErr result (IsErrOf result NodeFault.OutOfMemory) }
+        ensures short { OnErr result ((s : AbstractNode) → IsNodeOf self.old s → ¬ IsKnownPrefix s self.new.releases) }
         ensures whose { (self.new.me ≡ self.old.me) × (self.new.cluster ≡ self.old.cluster) }
     {
         feed(self.known.log.prefix(), &mut self.releases)?;

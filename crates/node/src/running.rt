@@ -78,6 +78,13 @@ impl<D: Disk> Node<D> {
         }
     }
 
+    /// Whose messages it takes.
+    pub fn cluster(&self) -> Cluster
+        ensures { result ≡ self.now.cluster }
+    {
+        self.cluster
+    }
+
     /// Whether the device failed since the node was opened.
     pub fn is_stopped(&self) -> bool
         ensures { (s : AbstractNode) → IsNodeOf self.now s → IsTrue result ↔ (s.mode ≡ Stopped) }

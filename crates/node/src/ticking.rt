@@ -9,13 +9,14 @@ use wire::Message;
 
 impl<D: Disk> Node<D> {
     ghost use Rattle.node.specs.Calls.{tick as ticking};
-    ghost use Rattle.node.specs.Standing.{IsEvent, KeepsOthers, CountsDevice, ending_of};
+    ghost use Rattle.node.specs.Standing.{IsEvent, OnlyGrows, KeepsOthers, CountsDevice, ending_of};
 
     /// A fresh round goes on record, and an attempt at the first unknown instance begins with it, for the oldest value
     /// that is pending.
     pub fn tick(&mut self, outbox: &mut Outbox) -> Result<(), NodeFault>
         ensures event { IsEvent D.stands_for self.old self.new ticking (ending_of result) outbox.old.items outbox.new.items }
         ensures counts { CountsDevice result (D.failed self.old.store.disk) (D.failed self.new.store.disk) }
+        ensures grows { OnlyGrows outbox.old.items outbox.new.items }
         ensures others { KeepsOthers self.old self.new }
     {
         if self.store.is_stopped() {

@@ -24,3 +24,9 @@ pub mod DoingVotes
 pub mod Doing
 pub mod Computing
 pub mod Schedules
+pub mod Turning
+pub mod Happening
+pub mod Moving
+pub mod Following
+pub mod Beginning
+pub mod Asked

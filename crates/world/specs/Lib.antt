@@ -3,3 +3,7 @@ pub mod Taking
 pub mod Decided
 pub mod Agreement
 pub mod Worked
+pub mod Standing
+pub mod Places
+pub mod Steps
+pub mod Telling

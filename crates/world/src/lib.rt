@@ -1,8 +1,18 @@
-//! A cluster's nodes and the list of all messages ever handed out: events, schedules, and that every schedule agrees.
+//! A cluster's nodes and the list of all messages ever handed out: events, schedules, that every schedule agrees, and a world that runs.
 #![tactic(auto)]
 
 mod event;
+mod fault;
+mod halt;
 mod laws;
+mod passing;
+mod places;
+mod queries;
+mod state;
+mod whole;
 
 pub use event::Event;
+pub use fault::{AskFault, WorldFault};
 pub use laws::{every_schedule_agrees, runs_are_schedules, worked_schedules_are_taken};
+pub use state::NodeState;
+pub use whole::World;

@@ -6,6 +6,7 @@ use Rattle.node.specs.Calls.{ask as asking}
 use Rattle.node.specs.Effects.{says}
 use Rattle.node.proofs.Gaps.{first_unknown, all_known, not_all_known}
 use Rattle.node.proofs.Stepping.{Handed, is_up, same_store, stays_there, whole, refused, wants_memory}
+use Rattle.node.proofs.Adding.{one_more}
 use Rattle.node.proofs.running.Node.ask.Goals as goal
 
 pub returns-in_default-clause-event : goal.returns-in_default-clause-event
@@ -36,3 +37,6 @@ returns-clause-event g c =
       parts = stands.parts;
       on_disk = stays_there g.D.Disk.stands_for old _ s s (record { me = refl; cluster = refl; releases = refl }) (same_store old.store old.store refl) refl refl;
     })
+
+pub returns-clause-grows : goal.returns-clause-grows
+returns-clause-grows g c = one_more _ _ _ _ c.reserve.ensures.items c.push_reserved.ensures.items

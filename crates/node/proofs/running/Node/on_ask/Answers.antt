@@ -5,6 +5,7 @@ use Rattle.node.specs.Nodes.{Value}
 use Rattle.node.specs.Calls.{deliver}
 use Rattle.node.specs.Effects.{quiet, says}
 use Rattle.node.proofs.Stepping.{delivery_wants, Handed, same_store, stays_there, whole}
+use Rattle.node.proofs.Adding.{one_more}
 use Rattle.node.proofs.running.Node.on_ask.Goals as goal
 
 pub returns-in_default-clause-event : goal.returns-in_default-clause-event
@@ -37,3 +38,6 @@ returns-in_err-reserve-clause-event g c in_range =
 pub returns-in_err-value-clause-event : goal.returns-in_err-value-clause-event
 returns-in_err-value-clause-event g c in_range =
     delivery_wants g.D.Disk.stands_for c.args.self.now _ (Ask c.args.from c.args.instance) c.from_residual-in_err-value.result _ _ (record { me = refl; cluster = refl; releases = refl }) c.requires.running in_range (λ s x. x) c.reserve.ensures.items c.from_residual-in_err-value.ensures.1 refl (record { learner = refl; known = refl; queue = refl; attempts = λ a are. are; heard = refl }) refl
+
+pub returns-clause-grows : goal.returns-clause-grows
+returns-clause-grows g c = one_more _ _ _ _ c.reserve.ensures.items c.push_reserved.ensures.items

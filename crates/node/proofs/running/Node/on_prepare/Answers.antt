@@ -10,6 +10,7 @@ use Rattle.node.specs.Calls.{deliver}
 use Rattle.node.proofs.Preparing.{prepare_does}
 use Rattle.node.proofs.Verdicts.{prepare_effect}
 use Rattle.node.proofs.Stepping.{delivery_wants, Handed, is_up, touched, put_fails, put_whole, quiet_whole}
+use Rattle.node.proofs.Adding.{one_more}
 use Rattle.node.proofs.running.Node.on_prepare.Goals as goal
 
 pub returns-in_err-put_promise-in-Promise-clause-event : goal.returns-in_err-put_promise-in-Promise-clause-event
@@ -90,3 +91,12 @@ returns-in_err-prior-in-Promise-clause-event g c from in_range =
 pub returns-in_err-prior-in-Again-clause-event : goal.returns-in_err-prior-in-Again-clause-event
 returns-in_err-prior-in-Again-clause-event g c from in_range =
     delivery_wants g.D.Disk.stands_for c.args.self.now _ (Prepare from c.args.instance c.args.ballot) c.from_residual-in_err-prior-in-Again.result _ _ (record { me = refl; cluster = refl; releases = refl }) c.requires.running in_range (λ s x. x) c.reserve.ensures.items c.from_residual-in_err-prior-in-Again.ensures.1 refl (record { learner = refl; known = refl; queue = refl; attempts = λ a are. are; heard = refl }) refl
+
+pub returns-in_ok-put_promise-in-Promise-clause-grows : goal.returns-in_ok-put_promise-in-Promise-clause-grows
+returns-in_ok-put_promise-in-Promise-clause-grows g c = one_more _ _ _ _ c.reserve.ensures.items c.push_reserved.ensures.items
+
+pub returns-in_ok-prior-in-Again-clause-grows : goal.returns-in_ok-prior-in-Again-clause-grows
+returns-in_ok-prior-in-Again-clause-grows g c = one_more _ _ _ _ c.reserve.ensures.items c.push_reserved-in-Again.ensures.items
+
+pub returns-in-Nack-clause-grows : goal.returns-in-Nack-clause-grows
+returns-in-Nack-clause-grows g c = one_more _ _ _ _ c.reserve.ensures.items c.push_reserved-in-Nack.ensures.items

@@ -10,6 +10,7 @@ use Rattle.node.specs.declared.to.To.TheVariants.{All}
 use Rattle.node.specs.Calls.{deliver}
 use Rattle.node.proofs.Promising.{attempts_stay, proposes_none, proposes_some, proposal_out, promise_whole}
 use Rattle.node.proofs.Stepping.{delivery_wants, Handed, is_up, same_store, refused}
+use Rattle.node.proofs.Adding.{one_more}
 use Rattle.node.proofs.running.Node.on_promise.Goals as goal
 
 pub returns-in-Ok-Some-clause-event : goal.returns-in-Ok-Some-clause-event
@@ -69,3 +70,6 @@ returns-in-Err-clause-event g c in_range =
 pub returns-in_err-reserve-clause-event : goal.returns-in_err-reserve-clause-event
 returns-in_err-reserve-clause-event g c in_range =
     delivery_wants g.D.Disk.stands_for c.args.self.now _ (Promise c.args.from c.args.instance c.args.ballot (vote_told c.args.prior)) c.from_residual.result _ _ (record { me = refl; cluster = refl; releases = refl }) c.requires.running in_range (λ s x. x) c.reserve.ensures.items c.from_residual.ensures.1 refl (record { learner = refl; known = refl; queue = refl; attempts = λ a are. are; heard = refl }) refl
+
+pub returns-in-Ok-Some-clause-grows : goal.returns-in-Ok-Some-clause-grows
+returns-in-Ok-Some-clause-grows g c = one_more _ _ _ _ c.reserve.ensures.items c.push_reserved.ensures.items

@@ -10,6 +10,7 @@ use Rattle.node.specs.Calls.{deliver}
 use Rattle.node.proofs.Preparing.{propose_does}
 use Rattle.node.proofs.Verdicts.{proposal_effect}
 use Rattle.node.proofs.Stepping.{delivery_wants, Handed, is_up, touched, put_fails, put_whole, quiet_whole}
+use Rattle.node.proofs.Adding.{one_more}
 use Rattle.node.proofs.running.Node.on_propose.Goals as goal
 
 pub returns-in_err-put_vote-in-Vote-clause-event : goal.returns-in_err-put_vote-in-Vote-clause-event
@@ -95,3 +96,12 @@ returns-in_err-copy-in-Vote-clause-event g c from in_range =
 pub returns-in_err-copy-in-Again-clause-event : goal.returns-in_err-copy-in-Again-clause-event
 returns-in_err-copy-in-Again-clause-event g c from in_range =
     delivery_wants g.D.Disk.stands_for c.args.self.now _ (Propose from c.args.instance c.args.ballot c.args.value.now) c.from_residual-in_err-copy-in-Again.result _ _ (record { me = refl; cluster = refl; releases = refl }) c.requires.running in_range (λ s x. x) c.reserve.ensures.items c.from_residual-in_err-copy-in-Again.ensures.1 refl (record { learner = refl; known = refl; queue = refl; attempts = λ a are. are; heard = refl }) refl
+
+pub returns-in_ok-put_vote-in-Vote-clause-grows : goal.returns-in_ok-put_vote-in-Vote-clause-grows
+returns-in_ok-put_vote-in-Vote-clause-grows g c = one_more _ _ _ _ c.reserve.ensures.items c.push_reserved.ensures.items
+
+pub returns-in_ok-copy-in-Again-clause-grows : goal.returns-in_ok-copy-in-Again-clause-grows
+returns-in_ok-copy-in-Again-clause-grows g c = one_more _ _ _ _ c.reserve.ensures.items c.push_reserved-in-Again.ensures.items
+
+pub returns-in-Nack-clause-grows : goal.returns-in-Nack-clause-grows
+returns-in-Nack-clause-grows g c = one_more _ _ _ _ c.reserve.ensures.items c.push_reserved-in-Nack.ensures.items

@@ -14,6 +14,7 @@ use Rattle.node.proofs.FreshAttempts.{begun, begins}
 use Rattle.node.proofs.Gaps.{IsGap, first_unknown, all_known, not_all_known}
 use Rattle.node.proofs.Starting.{has_round, no_round, next_is_fresh, started}
 use Rattle.node.proofs.Stepping.{Handed, is_up, same_store, unmoved, whole, refused, wants_memory, put_fails}
+use Rattle.node.proofs.Adding.{one_more}
 use Rattle.node.proofs.running.Node.tick.Goals as goal
 
 -- want of memory is told where an instance is unknown and a round is left
@@ -112,3 +113,6 @@ returns-clause-event g c =
       queue = refl;
       reached = refl;
     }))
+
+pub returns-clause-grows : goal.returns-clause-grows
+returns-clause-grows g c = one_more _ _ _ _ c.reserve.ensures.items c.push_reserved.ensures.items

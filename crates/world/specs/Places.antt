@@ -1,0 +1,78 @@
+-- What a call makes of one node's place.
+use Rattle.std.specs.Prelude.{◌≡◌, ◌≢◌, ◌⊎◌, ℕ, List, Some, None, true, [], ◌++◌, slice_get}
+use Rattle.site_ids.specs.Majorities.{In}
+use Rattle.wire.specs.declared.message.Message.{Message}
+use Rattle.wire.specs.Messages.{IsMessage}
+use Rattle.durable.specs.Entries.{Entry}
+use Rattle.durable.specs.Keeping.{Settles}
+use Rattle.node.specs.declared.to.To.{To}
+use Rattle.node.specs.Nodes.{Mode, Up, Down, Node, opened}
+use Rattle.node.specs.Effects.{messages_of}
+use Rattle.node.specs.Calls.{Call, submit, tick, ask, deliver}
+use Rattle.node.specs.Endings.{Ending, Ends}
+use Rattle.world.specs.declared.event.Event.{Event}
+use Rattle.world.specs.declared.event.Event.TheVariants.{Submit, Tick, Ask, Deliver, Arm, Crash, Restart}
+use Rattle.world.specs.declared.places.Place.{Place}
+use Rattle.world.specs.Taking.{IsTaken, node_of}
+use Rattle.world.specs.Standing.{IsPlaceOf, HasPublished}
+
+abbrev pub Handed : Type 0
+Handed = List (To × Message)
+
+-- the call at node p of n is taken, or the node is down and nothing happens
+abbrev pub AtNode : ℕ → ℕ → Node → Call → Handed → Node → Type 0
+AtNode n p s call out next =
+    ((ending : Ending) × IsTaken ending × Ends n p s call ending out next)
+    ⊎ ((s.mode ≡ Down) × (out ≡ []) × (next ≡ s))
+
+-- node p of n, in this mode over its record, with the entry in flight or without it
+abbrev pub Settled : Mode → Node → Handed → Node → Type 0
+Settled mode s out next = (entries : List Entry) × Settles s.entries s.in_flight entries × (out ≡ []) × (next ≡ opened mode entries None)
+
+-- the event at its node, p of n
+abbrev pub NodeTakes : ℕ → ℕ → List Message → Node → Event → Handed → Node → Type 0
+NodeTakes n p sent s (Submit q v) out next = AtNode n p s (submit v) out next
+NodeTakes n p sent s (Tick q) out next = AtNode n p s tick out next
+NodeTakes n p sent s (Ask q) out next = AtNode n p s ask out next
+NodeTakes n p sent s (Deliver q index) out next = (message : Message) × (slice_get sent index ≡ Some message) × AtNode n p s (deliver message) out next
+NodeTakes n p sent s (Arm q calls) out next = (out ≡ []) × (((s.mode ≢ Down) × (next ≡ record s { armed = true })) ⊎ ((s.mode ≡ Down) × (next ≡ s)))
+NodeTakes n p sent s (Crash q choice) out next = Settled Down s out next
+NodeTakes n p sent s (Restart q) out next = Settled Up s out next
+
+-- with a place that stands for the node afterwards, and what is handed out at the end of the list
+pub record Turned (n p : ℕ) (Does : Node → Handed → Node → Type 0) (new : Place) (before after : Handed) (s : Node) : Type 0 where
+  pub next : Node
+  pub out : Handed
+  pub does : Does s out next
+  pub stands : IsPlaceOf n p new next
+  pub outbox : after ≡ before ++ out
+  pub messages : (m : Message) → In (messages_of out) m → IsMessage n m
+
+-- and so from each node that the place stands for
+pub record Turns (n p : ℕ) (Does : Node → Handed → Node → Type 0) (old new : Place) (before after : Handed) : Type 0 where
+  pub leads : (s : Node) → IsPlaceOf n p old s → Turned n p Does new before after s
+
+-- memory is wanted at a node that runs, and nothing happens; what was published stays
+pub record Wants (n p : ℕ) (old new : Place) (before after : Handed) : Type 0 where
+  pub leads : (s : Node) → IsPlaceOf n p old s → (s.mode ≡ Up) × IsPlaceOf n p new s × (after ≡ before) × (HasPublished old s → HasPublished new s)
+
+-- the opening is refused: the node is down, with its disk as it was
+pub record RefusesOpening (n p : ℕ) (old new : Place) : Type 0 where
+  pub leads : (s : Node) → IsPlaceOf n p old s → IsPlaceOf n p new (opened Down s.entries s.in_flight)
+
+-- the call at node p of n
+abbrev pub CallTurns : ℕ → ℕ → Call → Place → Place → Handed → Handed → Type 0
+CallTurns n p call old new before after = Turns n p (λ s out next. AtNode n p s call out next) old new before after
+
+-- the event isn't taken for want of memory
+abbrev pub EventWants : ℕ → ℕ → Event → Place → Place → Handed → Handed → Type 0
+EventWants n p (Restart q) old new before after = RefusesOpening n p old new × (after ≡ before)
+EventWants n p (Arm q calls) old new before after = ⊥
+EventWants n p (Crash q choice) old new before after = ⊥
+EventWants n p _ old new before after = Wants n p old new before after
+
+abbrev pub AreMessages : ℕ → Handed → Type 0
+AreMessages n sent = (m : Message) → In (messages_of sent) m → IsMessage n m
+
+abbrev pub EventTurns : ℕ → Event → Place → Place → Handed → Handed → Type 0
+EventTurns n event old new before after = AreMessages n before → Turns n (node_of event) (λ s out next. NodeTakes n (node_of event) (messages_of before) s event out next) old new before after

@@ -1,0 +1,56 @@
+-- Which worlds of the definitions a running world stands for.
+use Rattle.std.specs.Prelude.{◌≡◌, ◌≢◌, ℕ, suc, Some, slice_get, ⊤}
+use Rattle.site_disk.specs.Model.{DiskState}
+use Rattle.site_disk.specs.Memory.{MemoryStandsFor}
+use Rattle.site_disk.specs.declared.memory.MemDisk.{MemDisk}
+use Rattle.site_ids.specs.Majorities.{In}
+use Rattle.wire.specs.declared.message.Message.{Message}
+use Rattle.wire.specs.Messages.{IsMessage}
+use Rattle.durable.specs.Keeping.{Keeps}
+use Rattle.node.specs.declared.running.Node.{Node as Running}
+use Rattle.node.specs.Nodes.{Down, Node, opened, IsKnownPrefix}
+use Rattle.node.specs.Effects.{messages_of}
+use Rattle.node.specs.Standing.{IsNodeOf, IsOnDisk}
+use Rattle.world.specs.declared.places.Place.{Place}
+use Rattle.world.specs.declared.places.Place.TheVariants.{Open, Bare}
+use Rattle.world.specs.declared.whole.World.{World as Code}
+use Rattle.world.specs.Worlds.{World}
+
+-- node p of n, running or stopped, over a disk in memory
+pub record IsOpen (n p : ℕ) (code : Running MemDisk) (s : Node) : Type 0 where
+  pub me : code.me ≡ p
+  pub cluster : code.cluster ≡ n
+  pub stands : IsNodeOf code s
+  pub state : DiskState
+  pub on_disk : IsOnDisk (λ m d. MemoryStandsFor m d) code s state
+
+-- node p of n is down, and the disk keeps its record
+pub record IsBare (n p : ℕ) (disk : MemDisk) (s : Node) : Type 0 where
+  pub down : s ≡ opened Down s.entries s.in_flight
+  pub state : DiskState
+  pub stands : MemoryStandsFor disk state
+  pub keeps : Keeps p n s.entries s.in_flight state
+
+abbrev pub IsPlaceOf : ℕ → ℕ → Place → Node → Type 0
+IsPlaceOf n p (Open code) s = IsOpen n p code s
+IsPlaceOf n p (Bare disk) s = IsBare n p disk s
+
+-- what was published is all of the known prefix
+abbrev pub HasPublished : Place → Node → Type 0
+HasPublished (Open code) s = IsKnownPrefix s code.releases
+HasPublished (Bare disk) s = ⊤
+
+-- Each place is that of its node, the first one of node 1. The messages are those handed out, and they are of the cluster's nodes
+pub record IsWorldOf (code : Code) (w : World) : Type 0 where
+  pub places : (k : ℕ) (place : Place) → slice_get code.places.items k ≡ Some place → IsPlaceOf code.cluster (suc k) place (w.node (suc k))
+  pub sent : w.sent ≡ messages_of code.sent.items
+  pub messages : (m : Message) → In w.sent m → IsMessage code.cluster m
+
+-- the node has published all that it knows without a gap, unless it is down
+abbrev pub IsPublishedAt : Code → World → ℕ → Type 0
+IsPublishedAt code w p = (k : ℕ) (place : Place) → p ≡ suc k → slice_get code.places.items k ≡ Some place → HasPublished place (w.node p)
+
+-- and so it has not, where it isn't down
+pub record IsUnpublishedAt (code : Code) (w : World) (p : ℕ) : Type 0 where
+  pub up : (w.node p).mode ≢ Down
+  pub lacks : ¬ IsPublishedAt code w p

@@ -1,0 +1,85 @@
+-- How a step of a run ends, and a run.
+use Rattle.std.specs.Prelude.{◌≡◌, ◌≢◌, ◌⊎◌, ℕ, suc, Some, Result, Ok, Err, List, [], ◌∷◌, ◌++◌, take, slice_get}
+use mathlib.Core.Logic.{inl, inr}
+use Rattle.site_ids.specs.Majorities.{In}
+use Rattle.node.specs.Nodes.{Value}
+use Rattle.node.specs.Effects.{messages_of}
+use Rattle.release.specs.Page.{Page, answer}
+use Rattle.world.specs.declared.event.Event.{Event}
+use Rattle.world.specs.declared.event.Event.TheVariants.{Restart}
+use Rattle.world.specs.declared.fault.WorldFault.{WorldFault}
+use Rattle.world.specs.declared.fault.WorldFault.TheVariants.{OutOfMemory, BadEvent}
+use Rattle.world.specs.declared.halt.Halt.{Halt}
+use Rattle.world.specs.declared.halt.Halt.TheVariants.{Wanted, Unpublished, Bad}
+use Rattle.world.specs.declared.whole.World.{World as Code}
+use Rattle.world.specs.Worlds.{World, Runs, start}
+use Rattle.world.specs.Taking.{node_of, Takes, TakesAll, IsBad, IsRefused, IsLast, EndsWanting, WantsMemory, MeetsBadEvent}
+use Rattle.world.specs.Decided.{Decides, AreDecided, IsSubmitted}
+use Rattle.world.specs.Standing.{IsWorldOf, IsPublishedAt, IsUnpublishedAt}
+
+-- it goes on to a world that the new value stands for
+pub record Led (old new : Code) (How : World → World → Type 0) (w : World) : Type 0 where
+  pub after : World
+  pub how : How w after
+  pub stands : IsWorldOf new after
+
+-- and so it does from each world that the old value stands for
+pub record LeadsTo (old new : Code) (How : World → World → Type 0) : Type 0 where
+  pub leads : (w : World) → IsWorldOf old w → Led old new How w
+
+-- where a node other than that of the event has published all, it still has
+abbrev pub KeepsPublished : Code → Code → Event → World → World → Type 0
+KeepsPublished old new event w after = (q : ℕ) → q ≢ node_of event → IsPublishedAt old w q → IsPublishedAt new after q
+
+-- one event: taken, with its node published or not, or not taken
+abbrev pub StepEnds : Code → Code → Event → Result (Unit {0}) Halt → Type 0
+StepEnds old new event (Ok x) = LeadsTo old new (λ w after. Takes old.cluster w event after × KeepsPublished old new event w after × IsPublishedAt new after (node_of event))
+StepEnds old new event (Err Unpublished) = LeadsTo old new (λ w after. Takes old.cluster w event after × KeepsPublished old new event w after × IsUnpublishedAt new after (node_of event))
+StepEnds old new event (Err Wanted) = LeadsTo old new (λ w after. IsRefused old.cluster w event after × ((q : ℕ) → IsPublishedAt old w q → IsPublishedAt new after q))
+StepEnds old new event (Err Bad) = LeadsTo old new (λ w after. (IsBad old.cluster w.sent event × (after ≡ w)) × ((q : ℕ) → IsPublishedAt old w q → IsPublishedAt new after q))
+
+-- the node of each of the events has published all that it knows without a gap
+abbrev pub ArePublished : Code → World → List Event → Type 0
+ArePublished code w events = (event : Event) → In events event → IsPublishedAt code w (node_of event)
+
+-- or it is that of the last of k events
+abbrev pub ArePublishedButLast : Code → World → List Event → ℕ → Type 0
+ArePublishedButLast code w events k = (event : Event) → In (take k events) event → IsLast events k (node_of event) ⊎ IsPublishedAt code w (node_of event)
+
+-- Where the next event is refused, the nodes of all events taken have published. Where the publication behind the last one is, that node has not, and those of
+-- the others have
+abbrev pub PublishedAsFar : (n : ℕ) (events : List Event) (k : ℕ) (taken after : World) → Code → EndsWanting n events k taken after → Type 0
+PublishedAsFar n events k taken after code (inl refused) = ArePublished code after (take k events)
+PublishedAsFar n events k taken after code (inr last) = IsUnpublishedAt code after last.0 × ArePublishedButLast code after events k
+
+-- a run over a list of events
+abbrev pub RunEnds : Code → Code → List Event → Result (Unit {0}) WorldFault → Type 0
+RunEnds old new events (Ok x) = LeadsTo old new (λ w after. TakesAll old.cluster w events after × ArePublished new after events)
+RunEnds old new events (Err (OutOfMemory k)) = LeadsTo old new (λ w after. (wants : WantsMemory old.cluster w events k after) × PublishedAsFar old.cluster events k wants.taken after new wants.ended)
+RunEnds old new events (Err (BadEvent k)) = LeadsTo old new (λ w after. MeetsBadEvent old.cluster w events k after × ArePublished new after (take k events))
+
+-- ---- since the start
+
+-- these events, from the start on, lead to a world that the value stands for
+pub record Reached (code : Code) (events : List Event) : Type 0 where
+  pub world : World
+  pub runs : Runs code.cluster start events world
+  pub stands : IsWorldOf code world
+
+-- the events that were taken come behind the earlier ones, and an opening that was refused behind those
+abbrev pub Reaches : Code → List Event → List Event → Result (Unit {0}) WorldFault → Type 0
+Reaches new earlier events (Ok x) = Reached new (earlier ++ events)
+Reaches new earlier events (Err (OutOfMemory k)) = Reached new (earlier ++ take k events) ⊎ ((p : ℕ) × (slice_get events k ≡ Some (Restart p)) × Reached new (earlier ++ (take k events ++ Restart p ∷ [])))
+Reaches new earlier events (Err (BadEvent k)) = Reached new (earlier ++ take k events)
+
+-- the page is that of one list of values: those that the messages decide from instance 1 up to the first gap, each the no-op or submitted by the events
+pub record IsAnswer (code : Code) (events : List Event) (n : ℕ) (path : List ℕ) (page : Page) : Type 0 where
+  pub values : List Value
+  pub decided : AreDecided code.cluster (messages_of code.sent.items) values
+  pub submitted : (v : Value) → In values v → (v ≡ []) ⊎ IsSubmitted events v
+  pub answers : answer values n path ≡ Some page
+
+-- the values are decided by the messages, from instance 1 on, and each is the no-op or submitted by the events
+pub record AreOfRun (code : Code) (events : List Event) (values : List Value) : Type 0 where
+  pub decided : (k : ℕ) (v : Value) → slice_get values k ≡ Some v → Decides code.cluster (messages_of code.sent.items) (suc k) v
+  pub submitted : (v : Value) → In values v → (v ≡ []) ⊎ IsSubmitted events v

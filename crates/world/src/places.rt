@@ -1,0 +1,224 @@
+//! One node of a world: running, stopped or down.
+
+ghost use Rattle.std.specs.Prelude.{◌≡◌, ◌≢◌, ◌<◌, ◌⊎◌, ℕ, [], Some, None, length, slice_get, IfOk, IfErr, OnOk, OnErr};
+
+use crate::Event;
+use crate::passing::passed;
+use durable::{Record, RecordFault};
+use node::{Node, Outbox};
+use site_disk::MemDisk;
+use site_ids::{Cluster, NodeId};
+use std::alloc::{AllocError, Global};
+use std::mem;
+
+#[derive(Drop)]
+pub(crate) enum Place {
+    /// The node runs, or its device has stopped it.
+    Open(Node<MemDisk>),
+    /// The node is down: its disk alone is left.
+    Bare(MemDisk),
+}
+
+impl Place {
+    ghost use Rattle.site_disk.specs.Model.{DiskState};
+    ghost use Rattle.site_disk.specs.Memory.{MemoryStandsFor};
+    ghost use Rattle.durable.specs.Keeping.{Keeps};
+    ghost use Rattle.wire.specs.declared.message.Message.{Message as AbstractMessage};
+    ghost use Rattle.wire.specs.Messages.{IsMessage};
+    ghost use Rattle.node.specs.Nodes.{Node as AbstractNode, Up, Down, opened};
+    ghost use Rattle.node.specs.Effects.{messages_of};
+    ghost use Rattle.node.specs.Calls.{submit as submission, tick as ticking, ask as asking, deliver as delivery};
+    ghost use Rattle.node.specs.Standing.{OnlyGrows};
+    ghost use Rattle.site_ids.specs.Ids.{IsNode};
+    ghost use Rattle.world.specs.declared.event.Event.TheVariants.{Arm};
+    ghost use Rattle.world.specs.Standing.{IsPlaceOf, HasPublished};
+    ghost use Rattle.world.specs.Taking.{node_of, IsUnsent};
+    ghost use Rattle.world.specs.Places.{EventTurns, EventWants, Turns, Wants, RefusesOpening, CallTurns, NodeTakes, Settled};
+
+    /// A node opened over an empty record.
+    pub(crate) fn fresh(alloc: Global, cluster: Cluster, me: NodeId) -> Result<Place, AllocError>
+        requires { IsNode cluster me }
+        ensures { IfOk result (λ place. IsPlaceOf cluster me place (opened Up [] None)) }
+    {
+        let mut disk = MemDisk::new(alloc);
+        if Record::format(cluster, me, &mut disk).is_err() {
+            return Err(AllocError);
+        }
+        match Node::open(alloc, cluster, me, disk) {
+            Ok(node) => Ok(Place::Open(node)),
+            Err(_) => Err(AllocError),
+        }
+    }
+
+    pub(crate) fn submit(&mut self, value: &[u8]) -> Result<(), AllocError>
+        ensures ok { OnOk result ((n p : ℕ) → CallTurns n p (submission value.now) self.old self.new [] []) }
+        ensures err { OnErr result ((n p : ℕ) → Wants n p self.old self.new [] []) }
+    {
+        match self {
+            Place::Bare(_) => Ok(()),
+            Place::Open(node) => passed(node.submit(value)),
+        }
+    }
+
+    pub(crate) fn tick(&mut self, sent: &mut Outbox) -> Result<(), AllocError>
+        ensures ok { OnOk result ((n p : ℕ) → CallTurns n p ticking self.old self.new sent.old.items sent.new.items) }
+        ensures err { OnErr result ((n p : ℕ) → Wants n p self.old self.new sent.old.items sent.new.items) }
+        ensures grows { OnlyGrows sent.old.items sent.new.items }
+    {
+        match self {
+            Place::Bare(_) => Ok(()),
+            Place::Open(node) => passed(node.tick(sent)),
+        }
+    }
+
+    pub(crate) fn ask(&mut self, sent: &mut Outbox) -> Result<(), AllocError>
+        ensures ok { OnOk result ((n p : ℕ) → CallTurns n p asking self.old self.new sent.old.items sent.new.items) }
+        ensures err { OnErr result ((n p : ℕ) → Wants n p self.old self.new sent.old.items sent.new.items) }
+        ensures grows { OnlyGrows sent.old.items sent.new.items }
+    {
+        match self {
+            Place::Bare(_) => Ok(()),
+            Place::Open(node) => passed(node.ask(sent)),
+        }
+    }
+
+    /// Delivers a message that was handed out. One that is none of the cluster's is passed over.
+    pub(crate) fn deliver(
+        &mut self,
+        alloc: Global,
+        index: usize,
+        sent: &mut Outbox,
+    ) -> Result<(), AllocError>
+        requires { index < length sent.old.items }
+        ensures ok { OnOk result ((message : AbstractMessage) → slice_get (messages_of sent.old.items) index ≡ Some message
+            → (n p : ℕ) → IsMessage n message → CallTurns n p (delivery message) self.old self.new sent.old.items sent.new.items) }
+        ensures err { OnErr result ((n p : ℕ) → Wants n p self.old self.new sent.old.items sent.new.items) }
+        ensures grows { OnlyGrows sent.old.items sent.new.items }
+    {
+        match self {
+            Place::Bare(_) => Ok(()),
+            Place::Open(node) => {
+                if node.is_stopped() {
+                    return Ok(());
+                }
+                let (_, message) = &sent[index];
+                let message = message.try_clone(alloc)?;
+                if !message.is_of(node.cluster()) {
+                    return Ok(());
+                }
+                passed(node.deliver(&message, sent))
+            }
+        }
+    }
+
+    pub(crate) fn arm(&mut self, calls: u32)
+        ensures { (n p q : ℕ) → Turns n p (λ s out next. NodeTakes n p [] s (Arm q calls) out next) self.old self.new [] [] }
+    {
+        match self {
+            Place::Bare(_) => {}
+            Place::Open(node) => node.arm(calls),
+        }
+    }
+
+    /// Takes the disk away.
+    fn close(self) -> MemDisk
+        ensures { (n p : ℕ) (s : AbstractNode) → IsPlaceOf n p self s → (d : DiskState) × MemoryStandsFor result d × Keeps p n s.entries s.in_flight d }
+    {
+        match self {
+            Place::Open(node) => node.close(),
+            Place::Bare(disk) => disk,
+        }
+    }
+
+    fn take(&mut self, alloc: Global) -> MemDisk
+        ensures { (n p : ℕ) (s : AbstractNode) → IsPlaceOf n p self.old s → (d : DiskState) × MemoryStandsFor result d × Keeps p n s.entries s.in_flight d }
+    {
+        mem::replace(self, Place::Bare(MemDisk::new(alloc))).close()
+    }
+
+    /// The node is down, and its disk has lost what wasn't synced, by the choice.
+    pub(crate) fn crash(&mut self, alloc: Global, choice: u8)
+        ensures { (n p : ℕ) → Turns n p (λ s out next. Settled Down s out next) self.old self.new [] [] }
+    {
+        let mut disk = self.take(alloc);
+        disk.crash(choice);
+        *self = Place::Bare(disk);
+    }
+
+    /// Opens the node over its disk. Where that is refused, the node is down.
+    pub(crate) fn restart(
+        &mut self,
+        alloc: Global,
+        cluster: Cluster,
+        me: NodeId,
+    ) -> Result<(), RecordFault>
+        requires { IsNode cluster me }
+        ensures ok { OnOk result (Turns cluster me (λ s out next. Settled Up s out next) self.old self.new [] []) }
+        ensures err { OnErr result (RefusesOpening cluster me self.old self.new) }
+        ensures never { IfErr result (λ fault. (s : AbstractNode) → IsPlaceOf cluster me self.old s → (fault ≡ RecordFault.Device) ⊎ (fault ≡ RecordFault.OutOfMemory)) }
+    {
+        let mut disk = self.take(alloc);
+        disk.disarm();
+        match Node::open(alloc, cluster, me, disk) {
+            Ok(node) => {
+                *self = Place::Open(node);
+                Ok(())
+            }
+            Err((fault, disk)) => {
+                *self = Place::Bare(disk);
+                Err(fault)
+            }
+        }
+    }
+
+    /// Publishes all that is known without a gap.
+    pub(crate) fn publish(&mut self) -> Result<(), AllocError>
+        ensures same { (n p : ℕ) (s : AbstractNode) → IsPlaceOf n p self.old s → IsPlaceOf n p self.new s }
+        ensures ok { OnOk result ((n p : ℕ) (s : AbstractNode) → IsPlaceOf n p self.old s → HasPublished self.new s) }
+        ensures err { OnErr result ((n p : ℕ) (s : AbstractNode) → IsPlaceOf n p self.old s → (s.mode ≢ Down) × ¬ HasPublished self.new s) }
+    {
+        match self {
+            Place::Bare(_) => Ok(()),
+            Place::Open(node) => {
+                if node.publish().is_err() {
+                    return Err(AllocError);
+                }
+                Ok(())
+            }
+        }
+    }
+
+    /// Takes an event of this node, but for its publication.
+    pub(crate) fn happen(
+        &mut self,
+        alloc: Global,
+        cluster: Cluster,
+        event: &Event,
+        sent: &mut Outbox,
+    ) -> Result<(), AllocError>
+        requires node { IsNode cluster (node_of event.now) }
+        requires message { ¬ IsUnsent (messages_of sent.old.items) event.now }
+        ensures ok { OnOk result (EventTurns cluster event.now self.old self.new sent.old.items sent.new.items) }
+        ensures err { OnErr result (EventWants cluster (node_of event.now) event.now self.old self.new sent.old.items sent.new.items) }
+        ensures grows { OnlyGrows sent.old.items sent.new.items }
+    {
+        match event {
+            Event::Submit { value, .. } => self.submit(value.as_bytes()),
+            Event::Tick { .. } => self.tick(sent),
+            Event::Ask { .. } => self.ask(sent),
+            Event::Deliver { index, .. } => self.deliver(alloc, *index, sent),
+            Event::Arm { calls, .. } => {
+                self.arm(*calls);
+                Ok(())
+            }
+            Event::Crash { choice, .. } => {
+                self.crash(alloc, *choice);
+                Ok(())
+            }
+            Event::Restart { node } => match self.restart(alloc, cluster, *node) {
+                Ok(()) => Ok(()),
+                Err(_) => Err(AllocError),
+            },
+        }
+    }
+}

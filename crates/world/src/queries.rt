@@ -1,0 +1,113 @@
+//! What a world tells of its nodes and messages.
+
+ghost use Rattle.std.specs.Prelude.{◌≡◌, ◌≢◌, ◌≤◌, ◌<◌, ◌⊎◌, ◌↔◌, ◌-◌, List, Some, length, slice_get, option_copied, IfOk, IsErrOf};
+ghost use Rattle.command.specs.Effective.{effective};
+ghost use Rattle.command.specs.Releases.{release_count};
+ghost use Rattle.release.specs.Standing.{answer_view};
+ghost use Rattle.node.specs.Nodes.{Value as Bytes, Down, BeginsKnown, IsKnownPrefix};
+ghost use Rattle.node.specs.Effects.{messages_of};
+ghost use Rattle.world.specs.declared.event.Event.{Event as AbstractEvent};
+ghost use Rattle.world.specs.Worlds.{World as AbstractWorld};
+
+use crate::places::Place;
+use crate::{AskFault, NodeState, World};
+use release::{Answer, AnswerFault};
+use site_ids::{Cluster, NodeId};
+use wire::Message;
+
+impl World {
+    ghost use Rattle.std.specs.Prelude.{ℕ};
+    ghost use Rattle.world.specs.Standing.{IsWorldOf};
+    ghost use Rattle.world.specs.Steps.{Reached, IsAnswer, AreOfRun};
+    ghost use Rattle.world.specs.Telling.{mode_told, fed_at};
+
+    /// Whose nodes they are.
+    pub fn cluster(&self) -> Cluster
+        ensures { result ≡ self.now.cluster }
+    {
+        self.cluster
+    }
+
+    /// The message at a place of all that were ever handed out, from 0.
+    pub fn sent(&self, index: usize) -> Option<&Message>
+        ensures { option_copied result ≡ slice_get (messages_of self.now.sent.items) index }
+    {
+        match self.sent.get(index) {
+            Some((_, message)) => Some(message),
+            None => None,
+        }
+    }
+
+    /// How many messages were ever handed out.
+    pub fn sent_count(&self) -> usize
+        ensures { result ≡ length (messages_of self.now.sent.items) }
+    {
+        self.sent.len()
+    }
+
+    fn place(&self, node: NodeId) -> &Place
+        requires { node ≤ self.now.cluster }
+        ensures { slice_get self.now.places.items (node - 1) ≡ Some result.now }
+    {
+        &self.places[(node.number() - 1) as usize]
+    }
+
+    /// Whether a node of the cluster runs, was stopped by its device, or is down.
+    pub fn state(&self, node: NodeId) -> NodeState
+        requires { node ≤ self.now.cluster }
+        ensures { (w : AbstractWorld) → IsWorldOf self.now w → (w.node node).mode ≡ mode_told result }
+    {
+        match self.place(node) {
+            Place::Bare(_) => NodeState::Down,
+            Place::Open(node) => {
+                if node.is_stopped() {
+                    return NodeState::Stopped;
+                }
+                NodeState::Up
+            }
+        }
+    }
+
+    /// How many values a node knows from the first instance on without a gap.
+    pub fn known(&self, node: NodeId) -> u32
+        requires { node ≤ self.now.cluster }
+        ensures is { (w : AbstractWorld) → IsWorldOf self.now w → (values : List Bytes) × IsKnownPrefix (w.node node) values × (result ≡ length values) }
+        ensures decided { (events : List AbstractEvent) (reached : Reached self.now events) → (values : List Bytes) × IsKnownPrefix (reached.world.node node) values × (result ≡ length values) × AreOfRun self.now events values }
+    {
+        match self.place(node) {
+            Place::Bare(_) => 0,
+            Place::Open(node) => node.known(),
+        }
+    }
+
+    /// The number of the newest release that a node has published; 0 where there is none, or the node is down.
+    pub fn published(&self, node: NodeId) -> u64
+        requires { node ≤ self.now.cluster }
+        ensures count { result ≡ release_count (effective (fed_at self.now node)) }
+        ensures begins { (w : AbstractWorld) → IsWorldOf self.now w → BeginsKnown (fed_at self.now node) (w.node node) }
+        ensures decided { (events : List AbstractEvent) → Reached self.now events → AreOfRun self.now events (fed_at self.now node) }
+    {
+        match self.place(node) {
+            Place::Bare(_) => 0,
+            Place::Open(node) => node.newest(),
+        }
+    }
+
+    /// What a node answers for release n and a path. Whichever events led here, and whichever node is asked: it is the
+    /// answer of the one list of values that the messages decide.
+    pub fn answer(&self, node: NodeId, n: u64, path: &str) -> Result<Answer, AskFault>
+        requires { node ≤ self.now.cluster }
+        ensures ok { IfOk result (λ a. (events : List AbstractEvent) → Reached self.now events → IsAnswer self.now events n path.now (answer_view a)) }
+        ensures down { (w : AbstractWorld) → IsWorldOf self.now w → IsErrOf result AskFault.NotUp ↔ ((w.node node).mode ≡ Down) }
+        ensures none { (w : AbstractWorld) → IsWorldOf self.now w → IsErrOf result AskFault.NoSuchRelease ↔ (((w.node node).mode ≢ Down) × ((n ≡ 0) ⊎ (release_count (effective (fed_at self.now node)) < n))) }
+    {
+        match self.place(node) {
+            Place::Bare(_) => Err(AskFault::NotUp),
+            Place::Open(node) => match node.answer(n, path) {
+                Ok(answer) => Ok(answer),
+                Err(AnswerFault::NoSuchRelease) => Err(AskFault::NoSuchRelease),
+                Err(AnswerFault::OutOfMemory) => Err(AskFault::OutOfMemory),
+            },
+        }
+    }
+}
