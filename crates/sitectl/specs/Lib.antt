@@ -9,3 +9,5 @@ pub mod Ends
 pub mod Options
 pub mod Schedule
 pub mod ScheduleView
+pub mod Simulation
+pub mod SimOptions

@@ -1,12 +1,13 @@
 //! The renderer: framed commands in, one page out.
 ghost use Rattle.std.specs.Prelude.{◌≡◌, ◌==◌, IfOk, if◌then◌else◌};
-ghost use Rattle.http_read.specs.Bytes.{end_of, IsGiven};
+ghost use Rattle.http_read.specs.Bytes.{end_of};
 ghost use Rattle.sitectl.specs.Ends.{HasRun};
 ghost use Rattle.sitectl.specs.View.{verdict_view};
 ghost use Rattle.sitectl.specs.Verdict.{IsVerdict};
 
 use crate::ends::{InputFault, read_all};
 use crate::input::{Input, fed};
+use crate::saying::say;
 use http_read::{Counted, write_all};
 use release::{Answer, AnswerFault};
 use std::alloc::{AllocError, Global};
@@ -41,15 +42,6 @@ fn outcome_of(
             }
         }
     }
-}
-
-/// Writes a line on the other writer, and gives status 1.
-fn say<E: Write>(err: &mut Counted<E>, line: &str) -> u8
-    ensures status { result ≡ 1 }
-    ensures said { IsGiven (end_of E.contents err.old err.new) line.now }
-{
-    let _ = write_all(err, line.as_bytes());
-    1
 }
 
 fn exit_status(page_status: u16) -> u8
