@@ -11,3 +11,5 @@ pub mod OptionLemmas
 pub mod Feeding
 pub mod LineLemmas
 pub mod ScheduleLemmas
+pub mod Simulating
+pub mod Simulated

@@ -11,3 +11,5 @@ pub mod Schedule
 pub mod ScheduleView
 pub mod Simulation
 pub mod SimOptions
+pub mod SimulationEnds
+pub mod Stepping

@@ -2,7 +2,7 @@
 use Rattle.std.specs.Prelude.{◌≡◌, true, List, Some, codes}
 use Rattle.clap.specs.Words.{App, Rule, Row, new_app, new_rule, with_rule, first_of}
 use Rattle.clap.specs.declared.builder.action.ArgAction.TheVariants.{Set}
-use Rattle.sitectl.specs.declared.sim_options.SimOptions.{SimOptions}
+use Rattle.sitectl.specs.declared.schedule_file.SimOptions.{SimOptions}
 
 -- `FILE`, which has to be there
 abbrev pub file_rule : Rule

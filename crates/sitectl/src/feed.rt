@@ -1,8 +1,7 @@
 //! The bytes of a file that were read and not yet used.
-ghost use Rattle.std.specs.Prelude.{◌≡◌, ℕ, List, [], ◌++◌, ◌≤◌, ◌<◌, length, drop, IsErrOf, IfOk, OnOk, false, true, vec_len};
-ghost use Rattle.std.specs.Io.KnownBytes.{Consumes, IsAtEnd};
-ghost use Rattle.http_read.specs.Bytes.{end_of, IsSound, HasFailed};
-ghost use Rattle.http_read.specs.Counted.{inside};
+ghost use Rattle.std.specs.Prelude.{◌≡◌, ℕ, List, [], ◌≤◌, length, drop, vec_len};
+ghost use Rattle.http_read.specs.Bytes.{end_of};
+ghost use Rattle.sitectl.specs.Stepping.{ReadEnds};
 
 use crate::ends::InputFault;
 use http_read::Counted;
@@ -59,11 +58,7 @@ impl Feed {
         &mut self,
         reader: &mut Counted<R>,
     ) -> Result<bool, InputFault>
-        ensures taken { (more : List ℕ) × Consumes (R.remaining (inside reader.old)) (R.remaining (inside reader.new)) more × OnOk result (self.new ≡ self.old ++ more) }
-        ensures grows { IfOk result (λ some. some ≡ true → length self.old < length self.new) }
-        ensures ended { IfOk result (λ some. some ≡ false → IsAtEnd (R.remaining (inside reader.new)) × (self.new ≡ self.old)) }
-        ensures sound { OnOk result (IsSound (end_of R.remaining reader.old reader.new)) }
-        ensures read { IsErrOf result InputFault.Read → HasFailed (end_of R.remaining reader.old reader.new) }
+        ensures { ReadEnds (end_of R.remaining reader.old reader.new) self.old self.new result }
     {
         drop_front(&mut self.bytes, self.used);
         self.used = 0;

@@ -10,14 +10,14 @@ mod laws;
 mod options;
 mod saying;
 mod schedule;
-mod sim_options;
+mod schedule_file;
 mod simulator;
 
 pub use engine::siterender;
 pub use http_read::Counted;
 pub use laws::an_input_has_one_verdict;
 pub use options::{RenderOptions, render_options};
-pub use sim_options::{SimOptions, sim_options};
+pub use schedule_file::{SimOptions, sim_options};
 pub use simulator::sitesim;
 
 #[cfg(test)]

@@ -1,10 +1,26 @@
 //! The simulator: a schedule in, what its nodes show out.
+ghost use Rattle.std.specs.Prelude.{◌≡◌, ◌⊎◌, ℕ, List, [], ◌∷◌, ◌++◌, ◌<◌, ◌≤◌, ◌+◌, length, IfOk, OnOk, IfErr, IsErrOf, string_bytes, codes};
+ghost use Rattle.http_read.specs.Bytes.{end_of, IsGiven};
+ghost use Rattle.node.specs.Effects.{messages_of};
+ghost use Rattle.sitectl.specs.ScheduleView.{line_view};
+ghost use Rattle.sitectl.specs.Simulation.{Moment, IsMoment, event_of, to_each, deliveries, state_word, IsShown, got, page_lines, IsPage, IsNoPage};
+ghost use Rattle.release.specs.Standing.{answer_view};
+ghost use Rattle.sitectl.specs.SimulationEnds.{IsStart, HasSimulated};
+ghost use Rattle.sitectl.specs.Stepping.{sim_fault, moment_of, HappenEnds, FillEnds, NextEnds, BeginEnds, IsSaid};
+ghost use Rattle.site_ids.specs.Ids.{IsNode};
+ghost use Rattle.world.specs.declared.event.Event.{Event as AbstractEvent};
+ghost use Rattle.world.specs.declared.event.Event.TheVariants.{Deliver};
+ghost use Rattle.world.specs.Standing.{IsWorldOf};
+ghost use Rattle.world.specs.Taking.{IsBad};
+ghost use Rattle.world.specs.Worlds.{World as AbstractWorld};
+
 use crate::ends::InputFault;
 use crate::feed::Feed;
 use crate::saying::say;
 use crate::schedule::{Found, FoundNodes, Line, line_in, nodes_in};
 use command::write;
 use http_read::{Counted, write_all};
+use release::Answer;
 use site_ids::{Cluster, NodeId, Value};
 use std::alloc::{AllocError, Global};
 use std::io::{Read, Write};
@@ -37,7 +53,7 @@ impl From<AllocError> for SimFault {
 
 impl From<InputFault> for SimFault {
     ghost use Rattle.std.specs.Prelude.{◌≡◌};
-    ghost use Rattle.sitectl.specs.Simulation.{sim_fault};
+    ghost use Rattle.sitectl.specs.Stepping.{sim_fault};
 
     ghost from_gives = { λ f e. e ≡ sim_fault f };
 
@@ -58,7 +74,9 @@ pub(crate) struct Simulation {
 }
 
 /// The event of a line, if it is one.
-fn event_in(alloc: Global, line: &Line<'_>) -> Result<Option<Event>, AllocError> {
+fn event_in(alloc: Global, line: &Line<'_>) -> Result<Option<Event>, AllocError>
+    ensures { IfOk result (λ event. event ≡ event_of (line_view line.now)) }
+{
     let event = match line {
         Line::Submit { node, ticket, text } => {
             let value = Value::from_bytes(write(alloc, *ticket, text)?);
@@ -84,7 +102,9 @@ fn event_in(alloc: Global, line: &Line<'_>) -> Result<Option<Event>, AllocError>
     Ok(Some(event))
 }
 
-fn state_word(state: NodeState) -> &'static str {
+fn state_word(state: NodeState) -> &'static str
+    ensures { result.now ≡ state_word state }
+{
     match state {
         NodeState::Up => "up",
         NodeState::Stopped => "stopped",
@@ -92,13 +112,51 @@ fn state_word(state: NodeState) -> &'static str {
     }
 }
 
+/// What `get` prints of a page.
+fn page_text(
+    alloc: Global,
+    number: u8,
+    release: u64,
+    path: &str,
+    answer: &Answer,
+) -> Result<String, AllocError>
+    ensures { IfOk result (λ text. string_bytes text ≡ got number release path.now (page_lines (answer_view answer.now))) }
+{
+    let (status, len) = (answer.status, answer.body.len());
+    let mut text =
+        format!(in alloc; "node {number} release {release} {path}: {status} {len}\n")?;
+    text.push_str(answer.body.as_str())?;
+    Ok(text)
+}
+
+/// What `get` prints where there is none.
+fn no_page_text(
+    alloc: Global,
+    number: u8,
+    release: u64,
+    path: &str,
+) -> Result<String, AllocError>
+    ensures { IfOk result (λ text. string_bytes text ≡ got number release path.now (codes "none\n")) }
+{
+    format!(in alloc; "node {number} release {release} {path}: none\n")
+}
+
 impl Simulation {
-    fn new(alloc: Global, cluster: Cluster) -> Result<Simulation, AllocError> {
+    fn new(alloc: Global, cluster: Cluster) -> Result<Simulation, AllocError>
+        ensures { IfOk result (λ s. IsStart cluster (moment_of s [])) }
+    {
         let world = World::new(alloc, cluster)?;
         Ok(Simulation { world, settled: 0 })
     }
 
-    fn take(&mut self, event: Event) -> Result<(), SimFault> {
+    fn take(&mut self, event: Event) -> Result<(), SimFault>
+        ensures ok { OnOk result ((n : ℕ) (events : List AbstractEvent) → IsMoment n (moment_of self.old events) → IsMoment n (moment_of self.new (events ++ event ∷ []))) }
+        ensures bad { IsErrOf result SimFault.BadEvent → (w : AbstractWorld) → IsWorldOf self.old.world w → IsBad self.old.world.cluster w.sent event }
+        ensures faults { IfErr result (λ e. (e ≡ SimFault.BadEvent) ⊎ (e ≡ SimFault.OutOfMemory)) }
+        ensures grows { length (messages_of self.old.world.sent.items) ≤ length (messages_of self.new.world.sent.items) }
+        ensures settled { self.new.settled ≡ self.old.settled }
+        ensures whose { self.new.world.cluster ≡ self.old.world.cluster }
+    {
         match self.world.run(&[event]) {
             Ok(()) => Ok(()),
             Err(WorldFault::OutOfMemory(_)) => Err(SimFault::OutOfMemory),
@@ -107,7 +165,13 @@ impl Simulation {
     }
 
     /// Delivers a message to each node, the first one first.
-    fn deliver_to_all(&mut self, index: usize) -> Result<(), SimFault> {
+    fn deliver_to_all(&mut self, index: usize) -> Result<(), SimFault>
+        requires { index < length (messages_of self.old.world.sent.items) }
+        ensures ok { OnOk result ((n : ℕ) (events : List AbstractEvent) → IsMoment n (moment_of self.old events) → IsMoment n (moment_of self.new (events ++ to_each n index))) }
+        ensures bad { IsErrOf result SimFault.BadEvent → (n : ℕ) (events : List AbstractEvent) → ¬ IsMoment n (moment_of self.old events) }
+        ensures faults { IfErr result (λ e. (e ≡ SimFault.BadEvent) ⊎ (e ≡ SimFault.OutOfMemory)) }
+        ensures settled { self.new.settled ≡ self.old.settled }
+    {
         let cluster = self.world.cluster();
         let mut number = 1;
         while let Some(node) = cluster.node(number) {
@@ -118,7 +182,13 @@ impl Simulation {
     }
 
     /// Delivers each message that no settle has taken, and those that come of it.
-    fn settle(&mut self) -> Result<(), SimFault> {
+    fn settle(&mut self) -> Result<(), SimFault>
+        ensures ok { OnOk result ((n : ℕ) (events : List AbstractEvent) → IsMoment n (moment_of self.old events)
+            → (count : ℕ) × (self.new.settled ≡ self.old.settled + count) × IsMoment n (moment_of self.new (events ++ deliveries n self.old.settled count))) }
+        ensures all { OnOk result (length (messages_of self.new.world.sent.items) ≤ self.new.settled) }
+        ensures bad { IsErrOf result SimFault.BadEvent → (n : ℕ) (events : List AbstractEvent) → ¬ IsMoment n (moment_of self.old events) }
+        ensures faults { IfErr result (λ e. (e ≡ SimFault.BadEvent) ⊎ (e ≡ SimFault.OutOfMemory)) }
+    {
         for index in self.settled..usize::MAX {
             if index >= self.world.sent_count() {
                 break;
@@ -130,11 +200,15 @@ impl Simulation {
     }
 
     /// The line of `show`.
-    fn shown(&self, alloc: Global, node: NodeId) -> Result<String, SimFault> {
+    fn shown(&self, alloc: Global, node: NodeId) -> Result<String, SimFault>
+        ensures ok { IfOk result (λ text. IsNode self.now.world.cluster node × ((events : List AbstractEvent) → IsShown (moment_of self.now events) node (string_bytes text))) }
+        ensures bad { IsErrOf result SimFault.BadLine → ¬ IsNode self.now.world.cluster node }
+        ensures faults { IfErr result (λ e. (e ≡ SimFault.BadLine) ⊎ (e ≡ SimFault.OutOfMemory)) }
+    {
         let number = node.number();
-        let Some(node) = self.world.cluster().node(number) else {
+        if self.world.cluster().size() < number {
             return Err(SimFault::BadLine);
-        };
+        }
         let state = state_word(self.world.state(node));
         let known = self.world.known(node);
         let newest = self.world.published(node);
@@ -149,43 +223,47 @@ impl Simulation {
         node: NodeId,
         release: u64,
         path: &str,
-    ) -> Result<String, SimFault> {
+    ) -> Result<String, SimFault>
+        ensures ok { IfOk result (λ text. IsNode self.now.world.cluster node × ((n : ℕ) (events : List AbstractEvent) → IsMoment n (moment_of self.now events)
+            → IsPage (moment_of self.now events) node release path.now (string_bytes text) ⊎ IsNoPage (moment_of self.now events) node release path.now (string_bytes text))) }
+        ensures bad { IsErrOf result SimFault.BadLine → ¬ IsNode self.now.world.cluster node }
+        ensures faults { IfErr result (λ e. (e ≡ SimFault.BadLine) ⊎ (e ≡ SimFault.OutOfMemory)) }
+    {
         let number = node.number();
-        let Some(node) = self.world.cluster().node(number) else {
+        if self.world.cluster().size() < number {
             return Err(SimFault::BadLine);
-        };
+        }
         match self.world.answer(node, release, path) {
-            Ok(answer) => {
-                let (status, len) = (answer.status, answer.body.len());
-                let mut text = format!(in alloc; "node {number} release {release} {path}: {status} {len}\n")?;
-                text.push_str(answer.body.as_str())?;
-                Ok(text)
-            }
+            Ok(answer) => Ok(page_text(alloc, number, release, path, &answer)?),
+            Err(AskFault::NoSuchRelease) => Ok(no_page_text(alloc, number, release, path)?),
+            Err(AskFault::NotUp) => Ok(no_page_text(alloc, number, release, path)?),
             Err(AskFault::OutOfMemory) => Err(SimFault::OutOfMemory),
-            Err(AskFault::NoSuchRelease | AskFault::NotUp) => {
-                let text = format!(in alloc; "node {number} release {release} {path}: none\n")?;
-                Ok(text)
-            }
         }
     }
 
     /// Does a line. The answer is what it prints.
-    fn happen(&mut self, alloc: Global, line: &Line<'_>) -> Result<String, SimFault> {
+    fn happen(&mut self, alloc: Global, line: &Line<'_>) -> Result<String, SimFault>
+        ensures { HappenEnds self.old self.new (line_view line.now) result }
+    {
         match line {
-            Line::Show { node } => return self.shown(alloc, *node),
+            Line::Show { node } => self.shown(alloc, *node),
             Line::Get {
                 node,
                 release,
                 path,
-            } => return self.got(alloc, *node, *release, path),
-            Line::Settle => self.settle()?,
-            _ => {
-                if let Some(event) = event_in(alloc, line)? {
-                    self.take(event)?;
-                }
+            } => self.got(alloc, *node, *release, path),
+            Line::Settle => {
+                self.settle()?;
+                Ok(String::new(alloc))
             }
+            _ => match event_in(alloc, line)? {
+                Some(event) => {
+                    self.take(event)?;
+                    Ok(String::new(alloc))
+                }
+                None => unreachable!(),
+            },
         }
-        Ok(String::new(alloc))
     }
 
     /// Does the next line of the input. The answer is what it prints, or nothing at the input's end.
@@ -194,7 +272,9 @@ impl Simulation {
         alloc: Global,
         feed: &mut Feed,
         reader: &mut Counted<R>,
-    ) -> Result<Option<String>, SimFault> {
+    ) -> Result<Option<String>, SimFault>
+        ensures { NextEnds (end_of R.remaining reader.old reader.new) self.old self.new feed.old feed.new result }
+    {
         if !fill(feed, reader)? {
             return Ok(None);
         }
@@ -210,7 +290,9 @@ impl Simulation {
 }
 
 /// Reads until a line stands at the front; false at the input's end.
-fn fill<R: Read>(feed: &mut Feed, reader: &mut Counted<R>) -> Result<bool, SimFault> {
+fn fill<R: Read>(feed: &mut Feed, reader: &mut Counted<R>) -> Result<bool, SimFault>
+    ensures { FillEnds (end_of R.remaining reader.old reader.new) feed.old feed.new result }
+{
     loop {
         match line_in(feed.held()) {
             Found::Line(..) => return Ok(true),
@@ -231,7 +313,9 @@ fn begin<R: Read>(
     alloc: Global,
     feed: &mut Feed,
     reader: &mut Counted<R>,
-) -> Result<Simulation, SimFault> {
+) -> Result<Simulation, SimFault>
+    ensures { BeginEnds (end_of R.remaining reader.old reader.new) feed.old feed.new result }
+{
     loop {
         match nodes_in(feed.held()) {
             FoundNodes::Nodes(cluster, rest) => {
@@ -249,7 +333,10 @@ fn begin<R: Read>(
 }
 
 /// Says why line k stopped the run.
-fn say_fault<E: Write>(alloc: Global, err: &mut Counted<E>, k: u64, fault: SimFault) -> u8 {
+fn say_fault<E: Write>(alloc: Global, err: &mut Counted<E>, k: u64, fault: SimFault) -> u8
+    ensures status { result ≡ 1 }
+    ensures said { (said : List ℕ) × IsSaid k fault said × IsGiven (end_of E.contents err.old err.new) said }
+{
     let line = match fault {
         SimFault::OutOfMemory => return say(err, "out of memory\n"),
         SimFault::Read => return say(err, "read failed\n"),
@@ -268,7 +355,9 @@ pub fn sitesim<R: Read, W: Write, E: Write>(
     reader: &mut Counted<R>,
     out: &mut Counted<W>,
     err: &mut Counted<E>,
-) -> u8 {
+) -> u8
+    ensures { HasSimulated (end_of R.remaining reader.old reader.new) (end_of W.contents out.old out.new) (end_of E.contents err.old err.new) result }
+{
     let mut feed = Feed::new(alloc);
     let mut simulation = match begin(alloc, &mut feed, reader) {
         Ok(simulation) => simulation,
