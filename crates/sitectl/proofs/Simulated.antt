@@ -1,5 +1,5 @@
 -- Whole runs of the simulator.
-use Rattle.std.proofs.Common.{◌≡◌, ◌⊎◌, ℕ, ◌+◌, ◌<◌, List, [], ◌∷◌, ◌++◌, length, Option, Result, Ok, Err, String, Global, string_bytes, codes, refl, sym, ap, ap₂, ◌∙◌, subst, inl, inr, arith, append_assoc, append-nil, length-append}
+use Rattle.std.proofs.Common.{◌≡◌, ◌⊎◌, ℕ, ◌+◌, ◌<◌, List, [], ◌∷◌, ◌++◌, length, Option, Some, None, true, false, is_err, OnOk, OnErr, Result, Ok, Err, String, Global, string_bytes, codes, refl, sym, ap, ap₂, ◌∙◌, subst, inl, inr, arith, append_assoc, append-nil, length-append}
 use Rattle.std.specs.List.{flat_map, AllByRecursion}
 use Rattle.std.specs.Io.KnownBytes.{Consumes, Appends, IsAtEnd}
 use Rattle.std.proofs.KnownBytes.{Consumes-trans, Consumes-nil, Appends-trans, Appends-nil, Keeps-refl}
@@ -24,7 +24,7 @@ all_more (x ∷ lines) line each ok = (each.0, all_more lines line each.1 ok)
 
 does_more : (n : ℕ) (old mid new : Moment) (lines : List Line) (line : Line) (printed text : List ℕ) → DoesAll n old lines printed mid → Does n mid line text new → DoesAll n old (lines ++ line ∷ []) (printed ++ text) new
 does_more n old mid new [] line printed text all one =
-    (new, text, [], subst (λ m. Does n m line text new) all.1 one, ap (λ t. t ++ text) all.0 ∙ sym (append-nil text), refl, refl)
+    (new, text, [], subst (λ m. Does n m line text new) all.1 one, ap (λ t. t ++ text) all.0 ∙ sym (append-nil text), (refl, refl))
 does_more n old mid new (x ∷ lines) line printed text (next, first, later, here, whole, rest) one =
     (next, first, later ++ text, here, ap (λ t. t ++ text) whole ∙ append_assoc first later text, does_more n next mid new lines line later text rest one)
 
@@ -66,9 +66,9 @@ pub record SoFar (reader out : End) (k : ℕ) (s : Simulation) (feed : List ℕ)
   pub sound : IsSound reader
   pub written : IsWritten out printed
 
-pub so_far_first : (a b : Option (List ℕ)) (f g : ℕ) (c : Option (List ℕ)) (h : ℕ) (s : Simulation) (new : List ℕ) → HasBegun (record { before = a; after = b; failures = f; failures_after = g }) s [] new
+pub so_far_first : (a b : Option (List ℕ)) (f g : ℕ) (c : Option (List ℕ)) (h : ℕ) (s : Simulation) (held new : List ℕ) → held ≡ [] → HasBegun (record { before = a; after = b; failures = f; failures_after = g }) s held new
     → SoFar (record { before = a; after = b; failures = f; failures_after = g }) (record { before = c; after = c; failures = h; failures_after = h }) 2 s new
-so_far_first a b f g c h s new begun = record {
+so_far_first a b f g c h s held new none begun = record {
   n = begun.n;
   lines = [];
   printed = [];
@@ -77,7 +77,7 @@ so_far_first a b f g c h s new begun = record {
   count = refl;
   moment = begun.fresh.moment;
   done = record { node = begun.node; fits = tt; whole = begun.whole; start = moment_of s []; fresh = begun.fresh; does = (refl, refl) };
-  read = subst (λ t. Consumes a b t) (sym begun.grown.longer) begun.grown.taken;
+  read = subst (λ t. Consumes a b t) (sym (begun.grown.longer ∙ ap (λ t. t ++ begun.grown.more) none)) begun.grown.taken;
   sound = begun.sound;
   written = record { whole = Appends-nil c; sound = refl };
 }
@@ -101,6 +101,23 @@ so_far_more a b d f g h p q r x y z k next s t feed new text written is same so 
       sound = step.sound ∙ so.sound;
       written = record { whole = Appends-trans p q r so.printed text so.written.whole (subst (λ w. Appends q r w) same out.whole); sound = out.sound ∙ so.written.sound };
     }
+
+pub stepped : (reader : End) (s t : Simulation) (feed new : List ℕ) (o : Option (String Global)) (text : String Global) → o ≡ Some text → NextEnds reader s t feed new (Ok o) → HasStepped reader s t feed new (string_bytes text)
+stepped reader s t feed new o text is ends = subst (λ x. NextEnds reader s t feed new (Ok x)) is ends
+
+pub at_the_end : (reader : End) (s t : Simulation) (feed new : List ℕ) (o : Option (String Global)) → o ≡ None → NextEnds reader s t feed new (Ok o) → Grown reader feed [] × IsSound reader × IsAtEnd reader.after × (t ≡ s)
+at_the_end reader s t feed new o is ends = subst (λ x. NextEnds reader s t feed new (Ok x)) is ends
+
+pub on_err : {T E : Type 0} (r : Result T E) (P : Type 0) → OnErr r P → is_err r ≡ true → P
+on_err (Ok x) P h is = cc
+on_err (Err e) P h is = h
+
+pub on_ok : {T E : Type 0} (r : Result T E) (P : Type 0) → OnOk r P → is_err r ≡ false → P
+on_ok (Ok x) P h is = h
+on_ok (Err e) P h is = cc
+
+pub silent : (a : Option (List ℕ)) (f : ℕ) → IsSilent (record { before = a; after = a; failures = f; failures_after = f })
+silent a f = record { kept = Keeps-refl a; sound = refl }
 
 -- ---- ends
 
@@ -167,8 +184,10 @@ pub broken : (a b d : Option (List ℕ)) (f g h : ℕ) (p q r : Option (List ℕ
     → HasStepped (record { before = b; after = d; failures = g; failures_after = h }) s t feed new text
     → IsBroken (record { before = q; after = r; failures = y; failures_after = z }) written → IsGiven err (codes "write failed\n") → status ≡ 1
     → HasSimulated (record { before = a; after = d; failures = f; failures_after = h }) (record { before = p; after = r; failures = x; failures_after = z }) err status
-broken a b d f g h p q r x y z err k status s t feed new text written same so step (record { part = (front, rest, cut, appended); failed = failed }) given one =
+broken a b d f g h p q r x y z err k status s t feed new text written same so step out given one =
     let to = step.does so.n so.events so.moment in
+    let front = out.part.0 in
+    let rest = out.part.1 in
     inr (inr (inr (record {
       taken = so.taken ++ step.grown.more;
       read = Consumes-trans a b d so.taken step.grown.more so.read step.grown.taken;
@@ -179,19 +198,19 @@ broken a b d f g h p q r x y z err k status s t feed new text written same so st
       rest = new;
       done = done_more _ so.n so.lines so.printed _ _ step.held new step.line text (done_read so.taken step.grown.more so.n so.lines so.printed _ feed step.held so.done step.grown.longer) step.fits step.whole to.2;
       broken = record {
-        part = (so.printed ++ front, rest, ap (λ w. so.printed ++ w) (sym same ∙ cut) ∙ sym (append_assoc so.printed front rest), Appends-trans p q r so.printed front so.written.whole appended);
-        failed = subst (λ u. RoseByOne u z) so.written.sound failed;
+        part = (so.printed ++ front, rest, ap (λ w. so.printed ++ w) (sym same ∙ out.part.2) ∙ sym (append_assoc so.printed front rest), Appends-trans p q r so.printed front so.written.whole out.part.3);
+        failed = subst (λ u. RoseByOne u z) so.written.sound out.failed;
       };
       given = given;
       status_is = one;
     })))
 
 -- a first line that is none
-pub not_begun : (reader out err : End) (status : ℕ) (new said : List ℕ) (e : SimFault) → BeginEnds reader [] new (Err e) → IsSaid 1 e said → IsSilent out → IsGiven err said → status ≡ 1 → HasSimulated reader out err status
-not_begun reader out err status new said sim.BadLine (held, grown, bad) (inl is) silent given one =
-    inr (inl (record { taken = held; read = subst (λ t. Consumes reader.before reader.after t) (sym grown.longer) grown.taken; said = said; why = inl (is, bad); silent = silent; given = given; status_is = one }))
-not_begun reader out err status new said sim.BadLine (held, grown, bad) (inr is) silent given one =
-    inr (inl (record { taken = held; read = subst (λ t. Consumes reader.before reader.after t) (sym grown.longer) grown.taken; said = said; why = inr (inr is); silent = silent; given = given; status_is = one }))
-not_begun reader out err status new said sim.BadEvent ends is silent given one = absurd ends
-not_begun reader out err status new said sim.OutOfMemory (more, taken) is silent given one = inr (inl (record { taken = more; read = taken; said = said; why = inr (inr is); silent = silent; given = given; status_is = one }))
-not_begun reader out err status new said sim.Read ((more, taken), failed) is silent given one = inr (inl (record { taken = more; read = taken; said = said; why = inr (inl (is, failed)); silent = silent; given = given; status_is = one }))
+pub not_begun : (reader out err : End) (status : ℕ) (old new said : List ℕ) (e : SimFault) → old ≡ [] → BeginEnds reader old new (Err e) → IsSaid 1 e said → IsSilent out → IsGiven err said → status ≡ 1 → HasSimulated reader out err status
+not_begun reader out err status old new said sim.BadLine none (held, grown, bad) (inl is) silent given one =
+    inr (inl (record { taken = held; read = subst (λ t. Consumes reader.before reader.after t) (sym (grown.longer ∙ ap (λ t. t ++ grown.more) none)) grown.taken; said = said; why = inl (is, bad); silent = silent; given = given; status_is = one }))
+not_begun reader out err status old new said sim.BadLine none (held, grown, bad) (inr is) silent given one =
+    inr (inl (record { taken = held; read = subst (λ t. Consumes reader.before reader.after t) (sym (grown.longer ∙ ap (λ t. t ++ grown.more) none)) grown.taken; said = said; why = inr (inr is); silent = silent; given = given; status_is = one }))
+not_begun reader out err status old new said sim.BadEvent none ends is silent given one = absurd ends
+not_begun reader out err status old new said sim.OutOfMemory none (more, taken) is silent given one = inr (inl (record { taken = more; read = taken; said = said; why = inr (inr is); silent = silent; given = given; status_is = one }))
+not_begun reader out err status old new said sim.Read none ((more, taken), failed) is silent given one = inr (inl (record { taken = more; read = taken; said = said; why = inr (inl (is, failed)); silent = silent; given = given; status_is = one }))

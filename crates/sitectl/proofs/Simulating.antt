@@ -1,5 +1,5 @@
 -- Steps of the simulator.
-use Rattle.std.proofs.Common.{◌≡◌, ◌≢◌, ◌⊎◌, ◌==◌, ◌-◌, drop, None, Bor, String, Global, string_bytes, ℕ, zero, suc, ◌<◌, ◌≤◌, ◌+◌, List, [], ◌∷◌, ◌++◌, length, Some, take, slice_get, refl, sym, ap, ◌∙◌, subst, arith, append_assoc, append-nil, length-append, map, Option, Bool, Result, Ok, Err, inl, inr, false}
+use Rattle.std.proofs.Common.{◌≡◌, ◌≢◌, ◌⊎◌, ◌==◌, ◌-◌, drop, None, Bor, String, Global, string_bytes, ℕ, zero, suc, ◌<◌, ◌≤◌, ◌+◌, List, [], ◌∷◌, ◌++◌, length, Some, take, slice_get, refl, sym, ap, ◌∙◌, subst, arith, append_assoc, append-nil, length-append, map, Option, Bool, Result, Ok, Err, inl, inr, false, true}
 use Rattle.std.proofs.Math.Seq.{drop-append_seam}
 use Rattle.std.proofs.lemmas.List.{length-map}
 use Rattle.std.proofs.KnownBytes.{Consumes-nil, Consumes-trans}
@@ -52,7 +52,7 @@ ended reader old new true is h = cc
 ended reader old new false is h = h
 
 pub some_held : (xs held : List ℕ) (b : Bool) → b ≡ false → b ≡ (length held == 0) → held ≡ xs → xs ≢ []
-some_held xs held b no is same empty = let none : length held ≡ 0 = ap length (same ∙ empty) in grind (arith, none, is, no)
+some_held xs held b other is same empty = let none : length held ≡ 0 = ap length (same ∙ empty) in grind (arith, none, is, other)
 
 pub grown_then : (a b d : Option (List ℕ)) (f g h : ℕ) (old mid new : List ℕ) → Grown (record { before = a; after = b; failures = f; failures_after = g }) old mid
     → Grown (record { before = b; after = d; failures = g; failures_after = h }) mid new → Grown (record { before = a; after = d; failures = f; failures_after = h }) old new

@@ -1,4 +1,4 @@
-use Rattle.std.proofs.Common.{◌∙◌, ap, Err, inl, codes, decimal, ◌++◌, ◌∷◌, []}
+use Rattle.std.proofs.Common.{◌∙◌, sym, ap, Err, inl, codes, decimal, ◌++◌, ◌∷◌, []}
 use Rattle.std.proofs.lemmas.Result.{err_from_is_err_and}
 use Rattle.sitectl.specs.Schedule.{spelled_nodes}
 use Rattle.sitectl.proofs.Simulating.{begin_fault_then, grown_then, ended, used_front}
@@ -16,7 +16,7 @@ returns-in-Nodes g c = record {
   grown = c.loop-cluster.invariant.0;
   sound = c.loop-cluster.invariant.1;
   node = c.in-Nodes.ensures.0;
-  whole = used_front (spelled_nodes c.in-Nodes.cluster) c.in-Nodes.rest.now c.loop-cluster.feed c.held-in-Nodes.result.now c.pass.new.self ? c.held-in-Nodes.ensures c.pass.ensures;
+  whole = used_front (spelled_nodes c.in-Nodes.cluster) c.in-Nodes.rest.now c.loop-cluster.feed c.held-in-Nodes.result.now c.pass.new.self (c.held-in-Nodes.ensures ∙ (sym c.held.ensures ∙ c.in-Nodes.ensures.1)) c.held-in-Nodes.ensures c.pass.ensures;
   fresh = c.in_ok-new-in-Nodes.ensures;
 }
 
