@@ -1,16 +1,14 @@
 -- The words of a schedule's line, from its bytes.
-use Rattle.std.proofs.Common.{◌≡◌, ◌≢◌, ℕ, zero, suc, ◌<◌, ◌≤◌, ◌^◌, ◌+◌, List, [], ◌∷◌, ◌++◌, take, drop, length, Bool, true, false, codes, decimal, Option, Some, None, Bor, MatchOption, is_some, Result, Ok, Err, refl, sym, ap, ap₂, ◌∙◌, arith, append_assoc, length-append, take-append-drop, nat_eq}
+use Rattle.std.proofs.Common.{◌≡◌, ◌≢◌, ℕ, suc, ◌<◌, ◌^◌, ◌+◌, List, [], ◌∷◌, ◌++◌, take, drop, length, true, false, codes, decimal, Option, Some, None, Bor, MatchOption, is_some, Result, Ok, Err, refl, sym, ap, ap₂, ◌∙◌, arith, take-append-drop, nat_eq}
 use Rattle.std.specs.Cmp.Lexicographic.{pointwise}
-use Rattle.std.proofs.lemmas.Fmt.{decimal_injective}
 use Rattle.std.proofs.lemmas.List.{append_cancel_left}
 use Rattle.std.proofs.lemmas.Slice.Eq.{bytes_eq-Decides}
-use Rattle.std.proofs.Math.Seq.{take-append_seam, drop-append_seam}
+use Rattle.std.proofs.Math.Seq.{take-append_seam}
 use Rattle.std.specs.Result.{OkIff, result_ok}
-use Rattle.site_ids.specs.Ids.{IsNode}
 use Rattle.site_ids.specs.declared.Ticket.{Ticket}
 use Rattle.sitectl.specs.Words.{Lacks, IsCut}
 use Rattle.sitectl.specs.Schedule.{submit_words, joined, FitsSubmission}
-use Rattle.sitectl.proofs.Cutting.{Same, lacks-append, lacks-cons, no_cut, one_cut}
+use Rattle.sitectl.proofs.Cutting.{Same, no_cut, one_cut}
 use Rattle.sitectl.proofs.Frames.{lacks-decimal}
 
 -- ---- fronts

@@ -1,5 +1,5 @@
 -- Which bytes have a line of a schedule at their front.
-use Rattle.std.proofs.Common.{◌≡◌, ◌≢◌, ℕ, zero, suc, ◌<◌, ◌≤◌, ◌^◌, ◌+◌, List, [], ◌∷◌, ◌++◌, length, get_or, Bool, true, false, not, ◌&&◌, eqb, codes, decimal, refl, sym, ap, ◌∙◌, arith, append_assoc, append-nil, length-append}
+use Rattle.std.proofs.Common.{◌≡◌, ◌≢◌, ℕ, suc, ◌<◌, ◌≤◌, ◌^◌, ◌+◌, List, [], ◌∷◌, ◌++◌, length, get_or, Bool, true, false, not, ◌&&◌, eqb, codes, decimal, refl, sym, ap, ◌∙◌, arith, append_assoc, length-append}
 use Rattle.std.specs.List.{list_all}
 use Rattle.std.proofs.lemmas.Fmt.{decimal_injective}
 use Rattle.std.proofs.Math.Seq.{get_or-append_seam}
@@ -9,7 +9,7 @@ use Rattle.sitectl.specs.Words.{Lacks, IsCut}
 use Rattle.sitectl.specs.Schedule.{Line, submit_line, tick_line, ask_line, restart_line, deliver_line, arm_line, crash_line, settle_line, show_line, get_line, submit_words, words, joined, body, spelled, FitsSubmission, Fits, HasNoLine, GetsNoLine, spelled_nodes, HasNoNodes, GetsNoNodes}
 use Rattle.sitectl.proofs.Cutting.{Same, lacks-append, lacks-cons, no_cut, one_cut}
 use Rattle.sitectl.proofs.Frames.{lacks-decimal}
-use Rattle.sitectl.proofs.LineLemmas.{behind, same_submission, number_cut}
+use Rattle.sitectl.proofs.LineLemmas.{same_submission, number_cut}
 
 -- ---- no newline stands in the words of a line
 

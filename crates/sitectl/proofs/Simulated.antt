@@ -1,20 +1,19 @@
 -- Whole runs of the simulator.
-use Rattle.std.proofs.Common.{◌≡◌, ◌⊎◌, ℕ, ◌+◌, ◌<◌, List, [], ◌∷◌, ◌++◌, length, Option, Some, None, true, false, is_err, OnOk, OnErr, Result, Ok, Err, String, Global, string_bytes, codes, refl, sym, ap, ap₂, ◌∙◌, subst, inl, inr, arith, append_assoc, append-nil, length-append}
+use Rattle.std.proofs.Common.{◌≡◌, ℕ, ◌+◌, List, [], ◌∷◌, ◌++◌, length, Option, Some, None, true, false, is_err, OnOk, OnErr, Result, Ok, Err, String, Global, string_bytes, codes, refl, sym, ap, ◌∙◌, subst, inl, inr, arith, append_assoc, append-nil, length-append}
 use Rattle.std.specs.List.{flat_map, AllByRecursion}
 use Rattle.std.specs.Io.KnownBytes.{Consumes, Appends, IsAtEnd}
 use Rattle.std.proofs.KnownBytes.{Consumes-trans, Consumes-nil, Appends-trans, Appends-nil, Keeps-refl}
 use Rattle.std.proofs.lemmas.List.Concat.{flat_map-append}
-use Rattle.http_read.specs.Bytes.{End, HasFailed, IsSound, IsSilent, IsWritten, IsBroken, IsGiven}
+use Rattle.http_read.specs.Bytes.{End, IsSound, IsSilent, IsWritten, IsBroken, IsGiven}
 use Rattle.http_read.specs.Counted.{RoseByOne}
-use Rattle.site_ids.specs.Ids.{IsNode}
 use Rattle.world.specs.declared.event.Event.{Event}
 use Rattle.sitectl.specs.declared.simulator.SimFault.{SimFault}
 use Rattle.sitectl.specs.declared.simulator.SimFault.TheVariants as sim
 use Rattle.sitectl.specs.declared.simulator.Simulation.{Simulation}
 use Rattle.sitectl.specs.Schedule.{Line, spelled, Fits, spelled_nodes}
 use Rattle.sitectl.specs.Simulation.{Moment, IsMoment, Does, DoesAll}
-use Rattle.sitectl.specs.SimulationEnds.{IsStart, HasDone, HasSimulated, HasBadLine, IsFault}
-use Rattle.sitectl.specs.Stepping.{moment_of, DoesTo, Grown, HasTaken, HasStepped, HasBegun, NextEnds, BeginEnds, IsSaid}
+use Rattle.sitectl.specs.SimulationEnds.{HasDone, HasSimulated, HasBadLine, IsFault}
+use Rattle.sitectl.specs.Stepping.{moment_of, Grown, HasStepped, HasBegun, NextEnds, BeginEnds, IsSaid}
 
 -- ---- one line more
 

@@ -1,12 +1,10 @@
 -- Steps of the simulator.
-use Rattle.std.proofs.Common.{◌≡◌, ◌≢◌, ◌⊎◌, ◌==◌, ◌-◌, drop, None, Bor, String, Global, string_bytes, ℕ, zero, suc, ◌<◌, ◌≤◌, ◌+◌, List, [], ◌∷◌, ◌++◌, length, Some, take, slice_get, refl, sym, ap, ◌∙◌, subst, arith, append_assoc, append-nil, length-append, map, Option, Bool, Result, Ok, Err, inl, inr, false, true}
+use Rattle.std.proofs.Common.{◌≡◌, ◌≢◌, ◌⊎◌, ◌==◌, ◌-◌, drop, String, Global, string_bytes, ℕ, zero, suc, ◌<◌, ◌≤◌, ◌+◌, List, [], ◌∷◌, ◌++◌, length, Some, refl, sym, ap, ◌∙◌, subst, arith, append_assoc, length-append, Option, Bool, Result, Ok, Err, inl, inr, false, true}
 use Rattle.std.proofs.Math.Seq.{drop-append_seam}
-use Rattle.std.proofs.lemmas.List.{length-map}
-use Rattle.std.proofs.KnownBytes.{Consumes-nil, Consumes-trans}
-use Rattle.std.specs.Io.KnownBytes.{Consumes, IsAtEnd}
+use Rattle.std.proofs.KnownBytes.{Consumes-trans}
+use Rattle.std.specs.Io.KnownBytes.{IsAtEnd}
 use Rattle.http_read.specs.Bytes.{End, IsSound}
 use Rattle.node.specs.Effects.{messages_of}
-use Rattle.node.specs.Standing.{OnlyGrows}
 use Rattle.world.specs.declared.event.Event.{Event}
 use Rattle.world.specs.declared.event.Event.TheVariants.{Deliver}
 use Rattle.world.specs.declared.fault.WorldFault.{WorldFault}

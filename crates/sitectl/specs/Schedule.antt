@@ -1,5 +1,5 @@
 -- The lines of a schedule, and how each is spelled.
-use Rattle.std.specs.Prelude.{ℕ, ◌≡◌, ◌≢◌, ◌<◌, ◌≤◌, ◌^◌, List, [], ◌∷◌, ◌++◌, length, codes, decimal, ⊤}
+use Rattle.std.specs.Prelude.{ℕ, ◌≢◌, ◌<◌, ◌≤◌, ◌^◌, List, [], ◌∷◌, ◌++◌, length, codes, decimal, ⊤}
 use Rattle.std.specs.Str.{IsUtf8}
 use Rattle.site_ids.specs.Ids.{IsNode}
 use Rattle.site_ids.specs.declared.Ticket.{Ticket}

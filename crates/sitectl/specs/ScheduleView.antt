@@ -1,5 +1,5 @@
 -- What the code's lines stand for.
-use Rattle.std.specs.Prelude.{ℕ, ◌≡◌, List, ◌∷◌, ◌++◌}
+use Rattle.std.specs.Prelude.{ℕ, ◌≡◌, List, ◌++◌}
 use Rattle.site_ids.specs.Ids.{IsNode}
 use Rattle.sitectl.specs.declared.schedule.Line.{Line as Code}
 use Rattle.sitectl.specs.declared.schedule.Line.TheVariants as code

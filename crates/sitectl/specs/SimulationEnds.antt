@@ -1,11 +1,11 @@
 -- How a run of the simulator ends.
-use Rattle.std.specs.Prelude.{ℕ, ◌≡◌, ◌≢◌, ◌⊎◌, ◌+◌, List, [], ◌∷◌, ◌++◌, length, codes, decimal}
+use Rattle.std.specs.Prelude.{ℕ, ◌≡◌, ◌≢◌, ◌⊎◌, ◌+◌, List, [], ◌++◌, length, codes, decimal}
 use Rattle.std.specs.List.{flat_map, AllByRecursion}
 use Rattle.std.specs.Io.KnownBytes.{Consumes, IsAtEnd}
-use Rattle.http_read.specs.Bytes.{End, HasFailed, IsRead, IsSound, IsSilent, IsWritten, IsBroken, IsGiven}
+use Rattle.http_read.specs.Bytes.{End, HasFailed, IsRead, IsSilent, IsWritten, IsBroken, IsGiven}
 use Rattle.site_ids.specs.Ids.{IsNode}
 use Rattle.sitectl.specs.Schedule.{Line, spelled, Fits, HasNoLine, GetsNoLine, spelled_nodes, HasNoNodes, GetsNoNodes}
-use Rattle.sitectl.specs.Simulation.{Moment, IsMoment, Does, DoesAll, AsksNone, IsBadEvent}
+use Rattle.sitectl.specs.Simulation.{Moment, IsMoment, DoesAll, AsksNone, IsBadEvent}
 
 -- the nodes, each opened over an empty record
 pub record IsStart (n : ℕ) (m : Moment) : Type 0 where

@@ -1,5 +1,5 @@
 -- What the simulator's calls make of a world and of the bytes that were read.
-use Rattle.std.specs.Prelude.{ℕ, ◌≡◌, ◌≢◌, ◌⊎◌, ◌<◌, List, [], ◌∷◌, ◌++◌, length, Bool, true, false, Option, Some, None, Result, Ok, Err, String, string_bytes, codes, ⊤}
+use Rattle.std.specs.Prelude.{ℕ, ◌≡◌, ◌≢◌, ◌⊎◌, ◌<◌, List, [], ◌++◌, length, Bool, true, false, Option, Some, None, Result, Ok, Err, String, string_bytes, codes, ⊤}
 use Rattle.std.specs.declared.alloc.Global.{Global}
 use Rattle.std.specs.Io.KnownBytes.{Consumes, IsAtEnd}
 use Rattle.http_read.specs.Bytes.{End, HasFailed, IsSound}

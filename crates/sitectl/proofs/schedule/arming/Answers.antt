@@ -1,8 +1,7 @@
-use Rattle.std.proofs.Common.{◌≡◌, ◌≢◌, ◌<◌, ◌≤◌, ◌^◌, ◌+◌, ◌++◌, ◌∷◌, [], ◌∙◌, ℕ, List, sym, ap, arith, rules, true, false, is_ok, codes, decimal, length, refl, Option, Some, None, MatchOption, Bor}
+use Rattle.std.proofs.Common.{◌≡◌, ◌∙◌, arith, true, is_ok, codes, decimal}
 use Rattle.std.proofs.lemmas.Bool.{false≢true}
 use Rattle.std.proofs.lemmas.Result.{OkIff-decides}
 use Rattle.std.proofs.lemmas.Fmt.{decimal_injective}
-use Rattle.site_ids.specs.Ids.{IsNode}
 use Rattle.sitectl.proofs.LineLemmas.{one_word}
 use Rattle.sitectl.proofs.Frames.{lacks-decimal}
 use Rattle.sitectl.proofs.schedule.arming.Goals as goal

@@ -1,8 +1,4 @@
-use Rattle.std.proofs.Common.{◌≡◌, ◌≢◌, ◌<◌, ◌≤◌, ◌^◌, ◌+◌, ◌++◌, ◌∷◌, [], ◌∙◌, ℕ, List, sym, ap, ap₂, arith, rules, true, false, is_ok, codes, decimal, length, refl, Option, Some, None, MatchOption, Bor}
-use Rattle.std.proofs.lemmas.Bool.{false≢true}
-use Rattle.std.proofs.lemmas.Result.{OkIff-decides}
-use Rattle.std.proofs.lemmas.Fmt.{decimal_injective}
-use Rattle.site_ids.specs.Ids.{IsNode}
+use Rattle.std.proofs.Common.{◌≡◌, ◌++◌, ◌∷◌, ◌∙◌, sym, ap, ap₂, arith, codes, decimal}
 use Rattle.sitectl.proofs.LineLemmas.{one_word, no_word_behind, no_number_cut, one_number_cut, holds_space, lacks_space, lacks-path}
 use Rattle.sitectl.proofs.schedule.getting.Goals as goal
 

@@ -1,6 +1,4 @@
-use Rattle.std.proofs.Common.{◌≡◌, ◌≢◌, ◌<◌, ◌≤◌, ◌^◌, ◌+◌, ◌++◌, ◌∷◌, [], ◌∙◌, ℕ, List, sym, ap, arith, rules, true, false, is_ok, codes, decimal, length, refl, Option, Some, None, MatchOption, Bor}
-use Rattle.site_ids.specs.Ids.{IsNode}
-use Rattle.sitectl.proofs.ScheduleLemmas.{no_line_yet, bad_head, plain_whole}
+use Rattle.sitectl.proofs.ScheduleLemmas.{no_line_yet, bad_head}
 use Rattle.sitectl.proofs.schedule.line_in.Goals as goal
 
 pub returns-in_default : goal.returns-in_default

@@ -1,5 +1,3 @@
-use Rattle.std.proofs.Common.{◌≡◌, ◌≢◌, ◌<◌, ◌≤◌, ◌^◌, ◌+◌, ◌++◌, ◌∷◌, [], ◌∙◌, ℕ, List, sym, ap, arith, rules, true, false, is_ok, codes, decimal, length, refl, Option, Some, None, MatchOption, Bor}
-use Rattle.site_ids.specs.Ids.{IsNode}
 use Rattle.sitectl.proofs.ScheduleLemmas.{no_nodes_yet, bad_nodes}
 use Rattle.sitectl.proofs.schedule.nodes_in.Goals as goal
 

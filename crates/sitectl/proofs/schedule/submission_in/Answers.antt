@@ -1,8 +1,7 @@
-use Rattle.std.proofs.Common.{◌≡◌, ◌≢◌, ◌<◌, ◌≤◌, ◌^◌, ◌+◌, ◌++◌, ◌∷◌, [], ◌∙◌, ℕ, List, sym, ap, ap₂, arith, rules, true, false, is_ok, codes, decimal, length, refl, Option, Some, None, MatchOption, Bor}
+use Rattle.std.proofs.Common.{◌≡◌, ◌++◌, ◌∷◌, ◌∙◌, sym, ap, ap₂, arith, rules, true, is_ok, codes, decimal}
 use Rattle.std.proofs.lemmas.Bool.{false≢true}
 use Rattle.std.proofs.lemmas.Result.{OkIff-decides}
 use Rattle.std.proofs.lemmas.Fmt.{decimal_injective}
-use Rattle.site_ids.specs.Ids.{IsNode}
 use Rattle.sitectl.proofs.LineLemmas.{no_word_behind, no_number_cut, behind_node, behind_editor, same_submission, fitted}
 use Rattle.sitectl.proofs.schedule.submission_in.Goals as goal
 

@@ -1,5 +1,4 @@
-use Rattle.std.proofs.Common.{◌≡◌, ◌≢◌, ◌<◌, ◌≤◌, ◌^◌, ◌+◌, ◌++◌, ◌∷◌, [], ◌∙◌, ℕ, List, sym, ap, ap₂, take-append-drop, arith, rules, true, false, is_ok, codes, decimal, length, refl, Option, Some, None, MatchOption, Bor}
-use Rattle.site_ids.specs.Ids.{IsNode}
+use Rattle.std.proofs.Common.{◌≡◌, ◌++◌, ◌∷◌, ◌∙◌, sym, ap, ap₂, take-append-drop, arith}
 use Rattle.sitectl.proofs.ScheduleLemmas.{short_text, bad_end}
 use Rattle.sitectl.proofs.schedule.submitted.Goals as goal
 

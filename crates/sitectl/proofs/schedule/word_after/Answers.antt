@@ -1,8 +1,4 @@
-use Rattle.std.proofs.Common.{◌≡◌, ◌≢◌, ◌<◌, ◌≤◌, ◌^◌, ◌+◌, ◌++◌, ◌∷◌, [], ◌∙◌, ℕ, List, sym, ap, arith, rules, true, false, is_ok, codes, decimal, length, refl, Option, Some, None, MatchOption, Bor}
-use Rattle.std.proofs.lemmas.Bool.{false≢true}
-use Rattle.std.proofs.lemmas.Result.{OkIff-decides}
-use Rattle.std.proofs.lemmas.Fmt.{decimal_injective}
-use Rattle.site_ids.specs.Ids.{IsNode}
+use Rattle.std.proofs.Common.{◌≡◌, ◌≢◌, ◌++◌, ◌∷◌, ◌∙◌, ℕ, List, ap, Option, Some, None, MatchOption, Bor}
 use Rattle.sitectl.proofs.LineLemmas.{behind}
 use Rattle.sitectl.proofs.Cutting.{no_cut}
 use Rattle.sitectl.specs.Words.{Lacks, IsCut}

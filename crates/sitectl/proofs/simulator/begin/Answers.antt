@@ -1,4 +1,4 @@
-use Rattle.std.proofs.Common.{◌∙◌, sym, ap, Err, inl, codes, decimal, ◌++◌, ◌∷◌, []}
+use Rattle.std.proofs.Common.{◌∙◌, sym, ap, Err, inl}
 use Rattle.std.proofs.lemmas.Result.{err_from_is_err_and}
 use Rattle.sitectl.specs.Schedule.{spelled_nodes}
 use Rattle.sitectl.proofs.Simulating.{begin_fault_then, grown_then, ended, used_front}

@@ -1,4 +1,4 @@
-use Rattle.std.proofs.Common.{◌≡◌, ◌-◌, ◌^◌, length}
+use Rattle.std.proofs.Common.{◌-◌, ◌^◌, length}
 use Rattle.http_read.specs.Bytes.{end_of, IsSound}
 use Rattle.sitectl.specs.Stepping.{Grown}
 use Rattle.sitectl.proofs.simulator.fill.Given as goal

@@ -1,6 +1,6 @@
 use Rattle.std.proofs.Common.{refl, sym, subst, ◌∙◌}
 use Rattle.http_read.specs.Bytes.{end_of, IsSilent, IsGiven}
-use Rattle.sitectl.proofs.Simulated.{so_far_first, so_far_more, stepped, at_the_end, on_err, on_ok, silent, finished, stopped, endless, broken, not_begun}
+use Rattle.sitectl.proofs.Simulated.{so_far_first, so_far_more, stepped, at_the_end, on_err, on_ok, silent, finished, stopped, endless, broken}
 use Rattle.sitectl.proofs.simulator.sitesim.Goals as goal
 
 pub loop-k-init : goal.loop-k-init

@@ -1,4 +1,4 @@
-use Rattle.std.proofs.Common.{◌≡◌, ◌∙◌, sym, ap, Err, suc, arith}
+use Rattle.std.proofs.Common.{◌≡◌, ◌∙◌, ap, Err, suc, arith}
 use Rattle.std.proofs.lemmas.Result.{err_from_is_err_and}
 use Rattle.sitectl.proofs.Simulating.{one_more_told, not_bad, same_fault}
 use Rattle.sitectl.proofs.simulator.Simulation.deliver_to_all.Goals as goal

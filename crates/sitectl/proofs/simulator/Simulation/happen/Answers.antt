@@ -1,4 +1,4 @@
-use Rattle.std.proofs.Common.{◌∙◌, ap, sym, subst, Err, Ok, refl, rules}
+use Rattle.std.proofs.Common.{◌∙◌, ap, sym, subst, Err, Ok, rules}
 use Rattle.std.proofs.lemmas.Result.{err_from_is_err_and}
 use Rattle.sitectl.specs.ScheduleView.{line_view}
 use Rattle.sitectl.specs.Stepping.{HappenEnds}

@@ -1,4 +1,4 @@
-use Rattle.std.proofs.Common.{◌≡◌, ◌∙◌, ap, Err, suc, arith, refl}
+use Rattle.std.proofs.Common.{ap, Err, suc, arith, refl}
 use Rattle.std.proofs.lemmas.Result.{err_from_is_err_and}
 use Rattle.sitectl.proofs.Simulating.{same_fault, settled_more}
 use Rattle.sitectl.proofs.simulator.Simulation.settle.Goals as goal
