@@ -13,3 +13,4 @@ pub mod LineLemmas
 pub mod ScheduleLemmas
 pub mod Simulating
 pub mod Simulated
+pub mod OneLine

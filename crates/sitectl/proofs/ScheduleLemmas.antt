@@ -55,10 +55,10 @@ lacks-words (get_line p n path) ok = lacks-behind (codes "get ") _ refl (lacks-n
 
 -- ---- the words before the first newline are those of any line there
 
-head_cut : (line : Line) (rest : List ℕ) → Fits line → IsCut 10 (spelled line ++ rest) (joined (words line)) (body line ++ rest)
+pub head_cut : (line : Line) (rest : List ℕ) → Fits line → IsCut 10 (spelled line ++ rest) (joined (words line)) (body line ++ rest)
 head_cut line rest ok = record { whole = append_assoc (joined (words line)) (10 ∷ body line) rest; first = lacks-words line ok }
 
-one_head : (bytes head after : List ℕ) (line : Line) (rest : List ℕ) → IsCut 10 bytes head after → Fits line → bytes ≡ spelled line ++ rest → Same head after (joined (words line)) (body line ++ rest)
+pub one_head : (bytes head after : List ℕ) (line : Line) (rest : List ℕ) → IsCut 10 bytes head after → Fits line → bytes ≡ spelled line ++ rest → Same head after (joined (words line)) (body line ++ rest)
 one_head bytes head after line rest cut ok is = one_cut 10 bytes head after (joined (words line)) (body line ++ rest) cut (rw is (head_cut line rest ok))
 
 pub no_line_yet : (bytes : List ℕ) → Lacks 10 bytes → HasNoLine bytes
@@ -96,7 +96,7 @@ plain_whole bytes head after line cut bare is =
 
 -- ---- submissions
 
-one_length : (p q : ℕ) (t u : Ticket) (len n : ℕ) → FitsSubmission p t len → FitsSubmission q u n → joined (submit_words p t len) ≡ joined (submit_words q u n) → len ≡ n
+pub one_length : (p q : ℕ) (t u : Ticket) (len n : ℕ) → FitsSubmission p t len → FitsSubmission q u n → joined (submit_words p t len) ≡ joined (submit_words q u n) → len ≡ n
 one_length p q t u len n hp hq is =
     let same = same_submission (joined (submit_words p t len)) (decimal p) _ (decimal t.editor) _ (decimal t.number) (decimal len) q u n (lacks-decimal 32 p (omega arith) (omega arith)) hq refl is (number_cut t.editor _ (omega arith)) (number_cut t.number (decimal len) (omega arith)) in
     decimal_injective len n (omega arith) (omega arith) same.length_is
@@ -108,7 +108,7 @@ pub record HasText (after rest : List ℕ) (len : ℕ) : Type 0 where
   pub whole : after ≡ text ++ (10 ∷ rest)
 
 -- words that begin otherwise
-begins_so : (xs ys : List ℕ) → xs ≡ ys → (get_or xs 0 0 ≡ get_or ys 0 0) × (get_or xs 1 0 ≡ get_or ys 1 0)
+pub begins_so : (xs ys : List ℕ) → xs ≡ ys → (get_or xs 0 0 ≡ get_or ys 0 0) × (get_or xs 1 0 ≡ get_or ys 1 0)
 begins_so xs ys e = (ap (λ zs. get_or zs 0 0) e, ap (λ zs. get_or zs 1 0) e)
 
 text_of : (p : ℕ) (ticket : Ticket) (len : ℕ) (after : List ℕ) (line : Line) (rest : List ℕ) → FitsSubmission p ticket len → Fits line → joined (submit_words p ticket len) ≡ joined (words line) → after ≡ body line ++ rest → HasText after rest len

@@ -54,10 +54,7 @@ impl Feed {
     }
 
     /// Reads once, behind what is held; false where the input has ended.
-    pub(crate) fn read_more<R: Read>(
-        &mut self,
-        reader: &mut Counted<R>,
-    ) -> Result<bool, InputFault>
+    pub(crate) fn read_more<R: Read>(&mut self, reader: &mut Counted<R>) -> Result<bool, InputFault>
         ensures { ReadEnds (end_of R.remaining reader.old reader.new) self.old self.new result }
     {
         drop_front(&mut self.bytes, self.used);

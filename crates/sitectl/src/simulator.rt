@@ -123,19 +123,13 @@ fn page_text(
     ensures { IfOk result (λ text. string_bytes text ≡ got number release path.now (page_lines (answer_view answer.now))) }
 {
     let (status, len) = (answer.status, answer.body.len());
-    let mut text =
-        format!(in alloc; "node {number} release {release} {path}: {status} {len}\n")?;
+    let mut text = format!(in alloc; "node {number} release {release} {path}: {status} {len}\n")?;
     text.push_str(answer.body.as_str())?;
     Ok(text)
 }
 
 /// What `get` prints where there is none.
-fn no_page_text(
-    alloc: Global,
-    number: u8,
-    release: u64,
-    path: &str,
-) -> Result<String, AllocError>
+fn no_page_text(alloc: Global, number: u8, release: u64, path: &str) -> Result<String, AllocError>
     ensures { IfOk result (λ text. string_bytes text ≡ got number release path.now (codes "none\n")) }
 {
     format!(in alloc; "node {number} release {release} {path}: none\n")
@@ -217,13 +211,7 @@ impl Simulation {
     }
 
     /// The line of `get`, and the body behind it.
-    fn got(
-        &self,
-        alloc: Global,
-        node: NodeId,
-        release: u64,
-        path: &str,
-    ) -> Result<String, SimFault>
+    fn got(&self, alloc: Global, node: NodeId, release: u64, path: &str) -> Result<String, SimFault>
         ensures ok { IfOk result (λ text. IsNode self.now.world.cluster node × ((n : ℕ) (events : List AbstractEvent) → IsMoment n (moment_of self.now events)
             → IsPage (moment_of self.now events) node release path.now (string_bytes text) ⊎ IsNoPage (moment_of self.now events) node release path.now (string_bytes text))) }
         ensures bad { IsErrOf result SimFault.BadLine → ¬ IsNode self.now.world.cluster node }

@@ -37,8 +37,7 @@ pub returns : goal.returns
 returns c =
     let path = c.in-Ok.ensures.cases.0 in
     let rest = c.in_ok-number.ensures.whole in
-    let whole : c.args.head.now ≡ codes "get " ++ (c.in_ok-word.word.now ++ (32 ∷ (c.in_ok-number.number.now ++ (32 ∷ c.in_ok-number.path.now)))) = c.in_ok-word.ensures.1 ∙ ap (λ t. codes "get " ++ (c.in_ok-word.word.now ++ (32 ∷ t))) rest in
-    (
+    let whole : c.args.head.now ≡ codes "get " ++ (c.in_ok-word.word.now ++ (32 ∷ (c.in_ok-number.number.now ++ (32 ∷ c.in_ok-number.path.now)))) = c.in_ok-word.ensures.1 ∙ ap (λ t. codes "get " ++ (c.in_ok-word.word.now ++ (32 ∷ t))) rest in (
       c.in_ok-node.ensures.0,
       c.in_ok-release.ensures.0,
       record {

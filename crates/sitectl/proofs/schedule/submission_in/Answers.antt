@@ -50,8 +50,7 @@ returns c =
     let same : c.in_ok-editor-2.editor ≡ c.in_ok-read_number.field-0 = fitted c.try_from.result _ c.in_ok-read_number.field-0 c.in_ok-editor-2.editor c.try_from.ensures c.in_ok-editor-2.ensures.value in
     let editor : c.in_ok-editor.editor.now ≡ decimal c.in_ok-editor-2.editor = c.in_ok-read_number.ensures.1 ∙ ap decimal (sym same) in
     let last : c.in_ok-editor.rest.now ≡ decimal c.in_ok-number-2.number ++ (32 ∷ decimal c.in_ok-text_len.text_len) = k ∙ ap₂ (λ a b. a ++ (32 ∷ b)) c.in_ok-number-2.ensures.1 c.in_ok-text_len.ensures.1 in
-    let rest : c.in_ok-word.rest.now ≡ decimal c.in_ok-editor-2.editor ++ (32 ∷ (decimal c.in_ok-number-2.number ++ (32 ∷ decimal c.in_ok-text_len.text_len))) = e ∙ ap₂ (λ a b. a ++ (32 ∷ b)) editor last in
-    (
+    let rest : c.in_ok-word.rest.now ≡ decimal c.in_ok-editor-2.editor ++ (32 ∷ (decimal c.in_ok-number-2.number ++ (32 ∷ decimal c.in_ok-text_len.text_len))) = e ∙ ap₂ (λ a b. a ++ (32 ∷ b)) editor last in (
       (c.in_ok-node.ensures.0, search rules, c.in_ok-number-2.ensures.0, omega (arith, c.if-text_len-gt-MAX_TEXT.false)),
       c.in_ok-word.ensures.1 ∙ ap₂ (λ a b. codes "submit " ++ (a ++ (32 ∷ b))) c.in_ok-node.ensures.1 rest,
     )

@@ -9,7 +9,7 @@ loop-k-init g c = (so_far_first _ _ _ _ _ _ c.in-Ok.simulation _ c.begin.new.fee
 pub loop-k-preserved : goal.loop-k-preserved
 loop-k-preserved g c = (
   so_far_more _ _ _ _ _ _ _ _ _ _ _ _ c.loop-k.k _ c.loop-k.simulation c.next.new.self c.loop-k.feed c.next.new.feed _ _ refl c.as_bytes.ensures.value c.loop-k.invariant.0
-  (stepped _ _ _ _ _ _ c.in-Ok-Some.text c.in-Ok-Some.field-0-is c.in-Ok-Some.ensures) (on_ok c.write_all.result _ c.write_all.ensures.ok (sym c.is_err.ensures.value ∙ c.if-is_err.false)),
+      (stepped _ _ _ _ _ _ c.in-Ok-Some.text c.in-Ok-Some.field-0-is c.in-Ok-Some.ensures) (on_ok c.write_all.result _ c.write_all.ensures.ok (sym c.is_err.ensures.value ∙ c.if-is_err.false)),
   c.loop-k.invariant.1,
 )
 
