@@ -1,6 +1,6 @@
 //! The renderer: framed commands in, one page out.
 ghost use Rattle.std.specs.Prelude.{◌≡◌, ◌==◌, IfOk, if◌then◌else◌};
-ghost use Rattle.http_read.specs.Bytes.{end_of, IsGiven};
+ghost use Rattle.http_read.specs.Bytes.{end_of};
 ghost use Rattle.release.specs.Page.{answer, asked};
 ghost use Rattle.sitectl.specs.Ends.{HasRun};
 ghost use Rattle.sitectl.specs.View.{verdict_view};
@@ -8,6 +8,7 @@ ghost use Rattle.sitectl.specs.Verdict.{IsVerdict, or_no_release};
 
 use crate::ends::{InputFault, read_all};
 use crate::input::{Input, fed};
+use crate::saying::say;
 use http_read::{Counted, write_all};
 use release::{Answer, AnswerFault, Releases};
 use std::alloc::{AllocError, Global};
@@ -52,15 +53,6 @@ fn outcome_of(
         Input::Fault(line) => Ok(Outcome::Says(line)),
         Input::Fed(releases) => answered(alloc, &releases, release, path),
     }
-}
-
-/// Writes a line on the other writer, and gives status 1.
-fn say<E: Write>(err: &mut Counted<E>, line: &str) -> u8
-    ensures status { result ≡ 1 }
-    ensures said { IsGiven (end_of E.contents err.old err.new) line.now }
-{
-    let _ = write_all(err, line.as_bytes());
-    1
 }
 
 fn exit_status(page_status: u16) -> u8
