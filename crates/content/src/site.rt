@@ -83,13 +83,13 @@ impl Site {
         ensures err { OnErr result (self.new ≡ self.old) }
     {
         match read(self.alloc, value) {
-            Ok(command) => self.take(command),
+            Ok(command) => self.apply_command(command),
             Err(fault) => no_command(fault),
         }
     }
 
-    /// Takes a value by the command that was read of it, unless its ticket stands in an earlier one. Where memory is short the site stays as it is.
-    fn take(&mut self, command: Command) -> Result<Applied, AllocError>
+    /// Takes the next value by the command that was read of it, unless its ticket stands in an earlier one. Where memory is short the site stays as it is.
+    pub fn apply_command(&mut self, command: Command) -> Result<Applied, AllocError>
         ensures ok { IfOk result (λ a. (values : List (List ℕ)) (v : List ℕ) (order : Order) → value_reading v ≡ Ok order → StandsFor command order
             → IsSiteOf self.old values → IsSiteOf self.new (values ++ (v ∷ [])) × (a ≡ applied values v)) }
         ensures err { OnErr result (self.new ≡ self.old) }

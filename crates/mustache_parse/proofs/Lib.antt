@@ -16,3 +16,10 @@ pub mod SpreadTagLemmas
 pub mod SpreadReadingLemmas
 pub mod IndentingLemmas
 pub mod BlankLemmas
+pub mod MarginTextLemmas
+pub mod MarginLineLemmas
+pub mod MarginAloneLemmas
+pub mod MarginLevelLemmas
+pub mod MarginWalkLemmas
+pub mod MarginTreeLemmas
+pub mod ParseLemmas

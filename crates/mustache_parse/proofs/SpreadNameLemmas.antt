@@ -214,3 +214,34 @@ changed-solid d s (Some e) is h = named-solid (before_first is_padding s) (unpad
 pub after-solid : (d : Pair) (kind : TokenKind) (s : List ℕ) → Solid d → Solid (delimiters_after d kind s)
 after-solid d Delimiters s h = changed-solid d s (delimiters_in s) refl h
 after-solid d _ s h = h
+
+-- delimiters that may be named
+pub record Sequences (d : Pair) : Type 0 where
+  pub opening : is_sequence d.opening ≡ true
+  pub closing : is_sequence d.closing ≡ true
+
+pub sequences-solid : (d : Pair) → Sequences d → Solid d
+sequences-solid d h =
+    let before = solid-sequence d.opening h.opening in
+    let after = solid-sequence d.closing h.closing in
+    record { opens = before.0; closes = after.0; opening = before.1; closing = after.1 }
+
+sequence-pair : (a b : Bool) (first second : List ℕ) (e : Pair) → is_sequence first ≡ a → is_sequence second ≡ b
+    → (if a && b then Some (record { opening = first; closing = second }) else None) ≡ Some e → Sequences e
+sequence-pair true true first second e one two h =
+    let same : record { opening = first; closing = second } ≡ e = cc in
+    subst Sequences same (record { opening = one; closing = two })
+sequence-pair true false first second e one two h = absurd (cc)
+sequence-pair false b first second e one two h = absurd (cc)
+
+named-sequences : (first second : List ℕ) (e : Pair) → named first second ≡ Some e → Sequences e
+unfolding named
+named-sequences first second e h = sequence-pair (is_sequence first) (is_sequence second) first second e refl refl h
+
+changed-sequences : (d : Pair) (s : List ℕ) (r : Option Pair) → delimiters_in s ≡ r → Sequences d → Sequences (changed d r)
+changed-sequences d s None is h = h
+changed-sequences d s (Some e) is h = named-sequences (before_first is_padding s) (unpadded (from_first s)) e (sym (named_in s) ∙ is)
+
+pub after-sequences : (d : Pair) (kind : TokenKind) (s : List ℕ) → Sequences d → Sequences (delimiters_after d kind s)
+after-sequences d Delimiters s h = changed-sequences d s (delimiters_in s) refl h
+after-sequences d _ s h = h

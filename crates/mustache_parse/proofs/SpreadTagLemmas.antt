@@ -8,7 +8,7 @@ use Rattle.mustache_scan.specs.Cutting.{cut, is_padding, is_blank, unpadded, str
 use Rattle.mustache_scan.specs.Reading.{Opened, opened_as, signed, tag_in, tag_after, kind_of_sign, partner, wrong_inside, name_of, tag}
 use Rattle.mustache_scan.specs.Standalone.{is_literal}
 use Rattle.mustache_scan.specs.declared.token.TokenKind.{TokenKind}
-use Rattle.mustache_scan.specs.declared.token.TokenKind.TheVariants.{Variable, Raw, Section, Inverted, End, Comment, Partial, Delimiters}
+use Rattle.mustache_scan.specs.declared.token.TokenKind.TheVariants.{Variable}
 use Rattle.mustache_scan.proofs.ReadingLemmas.{cut_parts}
 use Rattle.mustache_scan.proofs.TakenLemmas.{sign_no_literal}
 use Rattle.mustache_parse.specs.Indenting.{spread, after_each, spread_inner}
@@ -110,6 +110,10 @@ whole closing t o h =
 
 pub tag_kind : (closing t : List ℕ) (o : Opened) → tag_after closing t ≡ Some o → is_literal o.kind ≡ false
 tag_kind closing t o h = (whole closing t o h).is_tag
+
+-- the text from a tag's inside on, to its closing delimiter and behind it
+pub tag_parts : (closing t : List ℕ) (o : Opened) → tag_after closing t ≡ Some o → (first : List ℕ) × (t ≡ first ++ (closing ++ o.rest))
+tag_parts closing t o h = let k = whole closing t o h in (k.first, k.parts)
 
 -- what stands before the end of a text
 front-of : (xs ys t : List ℕ) → t ≡ xs ++ ys → take (length t - length ys) t ≡ xs

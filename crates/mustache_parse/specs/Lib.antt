@@ -8,3 +8,4 @@ pub mod Template
 pub mod Laws
 pub mod Indenting
 pub mod BlankIndents
+pub mod Margin

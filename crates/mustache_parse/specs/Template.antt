@@ -1,18 +1,20 @@
 -- What a template stands for, and which text it was read from.
-use Rattle.std.specs.Prelude.{◌≡◌, ℕ, List, Ok}
+use Rattle.std.specs.Prelude.{◌≡◌, ℕ, List, [], Ok}
+use Rattle.mustache_parse.specs.Indent.{indented}
+use Rattle.mustache_parse.specs.Indenting.{AreBlank}
 use Rattle.mustache_parse.specs.Tree.{Tree, tree_of}
 use Rattle.mustache_parse.specs.View.{tree_view}
 use Rattle.mustache_parse.specs.declared.node.Node.{Node}
 
--- A template as its callers see it: its source and its nodes.
+-- A template as its callers see it: its nodes.
 pub record TemplateSeen : Type 0 where
-  pub source : List ℕ
   pub nodes : List Node
 
-abbrev pub template_tree : TemplateSeen → Tree
-template_tree t = tree_view t.nodes
+-- its tree under a margin; without one it is the tree of its text
+abbrev pub template_tree : List ℕ → TemplateSeen → Tree
+template_tree w t = tree_view w t.nodes
 
--- a template of a text: it was read from this text, and holds its tree
+-- A template of a text: it holds the text's tree, and under each margin that of the text indented by it.
 pub record IsTemplateOf (t : TemplateSeen) (x : List ℕ) : Type 0 where
-  pub from : t.source ≡ x
-  pub holds : tree_of x ≡ Ok (template_tree t)
+  pub holds : tree_of x ≡ Ok (template_tree [] t)
+  pub under : (w : List ℕ) → AreBlank w → tree_of (indented w x) ≡ Ok (template_tree w t)

@@ -1,6 +1,8 @@
--- The tree that the code's nodes stand for.
-use Rattle.std.specs.Prelude.{List, [], ◌∷◌, map, string_bytes}
-use Rattle.mustache_parse.specs.Tree.{Tree, nothing, text, variable, raw, partial, section, inverted}
+-- The tree that the code's nodes stand for under a margin `w`: blanks that stand before each line of their text.
+use Rattle.std.specs.Prelude.{ℕ, List, [], ◌∷◌, ◌++◌, map, Option, Some, None, String, string_bytes}
+use Rattle.std.specs.Global.{Global}
+use Rattle.mustache_parse.specs.Margin.{literal_under, text_onto}
+use Rattle.mustache_parse.specs.Tree.{Tree, nothing, variable, raw, partial, section, inverted}
 use Rattle.mustache_parse.specs.declared.node.Node.{Node, fold-Node}
 use Rattle.mustache_parse.specs.declared.node.Node.TheOpen.{Node-F}
 
@@ -9,17 +11,22 @@ abbrev pub joined : List (Tree → Tree) → Tree
 joined [] = nothing
 joined (n ∷ ns) = n (joined ns)
 
+-- the indentation of a partial: the margin and its own, where its tag is standalone
+abbrev pub own_under : List ℕ → Option (String Global) → List ℕ
+own_under w None = []
+own_under w (Some own) = w ++ string_bytes own
+
 -- a node in front of a tree, with each node of its block already seen so
-abbrev pub view_step : Node-F (Tree → Tree) → Tree → Tree
-view_step (Node-F.Text t) rest = text (string_bytes t) rest
-view_step (Node-F.Variable name) rest = variable (string_bytes name) rest
-view_step (Node-F.Raw name) rest = raw (string_bytes name) rest
-view_step (Node-F.Section name block) rest = section (string_bytes name) (joined block.items) rest
-view_step (Node-F.Inverted name block) rest = inverted (string_bytes name) (joined block.items) rest
-view_step (Node-F.Partial name indent) rest = partial (string_bytes name) (string_bytes indent) rest
+abbrev pub view_step : List ℕ → Node-F (Tree → Tree) → Tree → Tree
+view_step w (Node-F.Text t leads trails) rest = text_onto (literal_under w leads trails (string_bytes t)) rest
+view_step w (Node-F.Variable name) rest = variable (string_bytes name) rest
+view_step w (Node-F.Raw name) rest = raw (string_bytes name) rest
+view_step w (Node-F.Section name block) rest = section (string_bytes name) (joined block.items) rest
+view_step w (Node-F.Inverted name block) rest = inverted (string_bytes name) (joined block.items) rest
+view_step w (Node-F.Partial name own) rest = partial (string_bytes name) (own_under w own) rest
 
-abbrev pub node_onto : Node → Tree → Tree
-node_onto = fold-Node (Tree → Tree) view_step
+abbrev pub node_onto : List ℕ → Node → Tree → Tree
+node_onto w = fold-Node (Tree → Tree) (view_step w)
 
-abbrev pub tree_view : List Node → Tree
-tree_view ns = joined (map node_onto ns)
+abbrev pub tree_view : List ℕ → List Node → Tree
+tree_view w ns = joined (map (node_onto w) ns)

@@ -1,5 +1,6 @@
 ghost use Rattle.mustache_parse.specs.BlankIndents.{IndentsAreBlank};
 ghost use Rattle.mustache_parse.specs.Indenting.{IndentsPieces, KeepsTrees, NothingToIndent};
+ghost use Rattle.mustache_parse.specs.Margin.{MarginMakesTree};
 
 /// Blanks before the lines of a text neither give it a tree nor take one away: they come beside its tags, or beside padding within them.
 pub fn indenting_keeps_trees()
@@ -11,4 +12,9 @@ pub fn indenting_keeps_trees()
 /// A partial in a tree is indented by blanks alone, so its text has a tree indented, too.
 pub fn indents_are_blank()
     ensures { IndentsAreBlank }
+{}
+
+/// The tree of an indented text is that of the text's own tokens under a margin: nothing has to be read again.
+pub fn margin_makes_tree()
+    ensures { MarginMakesTree }
 {}

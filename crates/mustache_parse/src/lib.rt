@@ -8,7 +8,7 @@ mod node;
 mod parser;
 mod template;
 
-pub use indenting::{indenting_keeps_trees, indents_are_blank};
+pub use indenting::{indenting_keeps_trees, indents_are_blank, margin_makes_tree};
 pub use laws::{faults_are_first, trees_are_made};
 pub use mustache_scan::{FaultKind, TemplateFault};
 pub use node::Node;

@@ -1,11 +1,13 @@
-ghost use Rattle.std.specs.Prelude.{◌≡◌, ◌≢◌, ◌++◌, [], ◌∷◌, IfOk, IfErr, OnOk, MatchResult, IsTrue, Err, Some, string_bytes};
+ghost use Rattle.std.specs.Prelude.{◌≡◌, ◌≢◌, ◌++◌, ℕ, List, [], ◌∷◌, map, true, false, not, ◌&&◌, IfOk, IfErr, OnOk, MatchResult, IsTrue, Err, Some, string_bytes};
 ghost use Rattle.mustache_scan.specs.Faults.{memory_wanted};
+ghost use Rattle.mustache_scan.specs.Standalone.{is_literal};
 ghost use Rattle.mustache_scan.specs.View.{token_view, tokens_view};
 ghost use Rattle.mustache_scan.specs.declared.fault.FaultKind.TheVariants.{OutOfMemory};
 ghost use Rattle.mustache_parse.specs.Nesting.{is_opening};
-ghost use Rattle.mustache_parse.specs.Stack.{made_by, opens_view, Reads};
-ghost use Rattle.mustache_parse.specs.Tree.{nest, opening, ending, left_open, nested};
-ghost use Rattle.mustache_parse.specs.View.{node_onto, tree_view};
+ghost use Rattle.mustache_parse.specs.Margin.{literal_under, text_onto, indent_under, goes_on};
+ghost use Rattle.mustache_parse.specs.Stack.{made_by, opens_view, levels_with, marked_view, tag_makes, token_makes, Reads, AreNodesOf};
+ghost use Rattle.mustache_parse.specs.Tree.{nest, opening, ending, left_open, Levels, onto, nested};
+ghost use Rattle.mustache_parse.specs.View.{node_onto, tree_view, own_under};
 
 use crate::node::Node;
 use mustache_scan::{FaultKind, TemplateFault, Token, TokenKind};
@@ -34,13 +36,32 @@ struct Nesting {
 
 /// The node of a section with its block.
 fn ended(name: String, is_inverted: bool, block: Vec<Node>) -> Node
-    ensures { node_onto result ≡ made_by is_inverted (string_bytes name) (tree_view block.items) }
+    ensures { (w : List ℕ) → node_onto w result ≡ made_by is_inverted (string_bytes name) (tree_view w block.items) }
 {
     if is_inverted {
         Node::Inverted { name, block }
     } else {
         Node::Section { name, block }
     }
+}
+
+/// The blanks before a standalone partial.
+fn own_of(alloc: Global, token: &Token) -> Result<Option<String>, TemplateFault>
+    ensures ok { IfOk result (λ own. (w : List ℕ) → own_under w own ≡ indent_under w token.now.is_alone token.now.indent.now) }
+    ensures fault { IfErr result (λ f. f ≡ memory_wanted) }
+{
+    if token.is_alone {
+        Ok(Some(String::from_str(alloc, token.indent)?))
+    } else {
+        Ok(None)
+    }
+}
+
+/// Whether a tag begins a line, and leaves it.
+fn stands_first(leads: bool, token: &Token) -> bool
+    ensures { result ≡ (leads && not token.now.is_alone) }
+{
+    leads && !token.is_alone
 }
 
 impl Nesting {
@@ -67,7 +88,7 @@ impl Nesting {
     /// Opens the section of a tag.
     fn open(&mut self, alloc: Global, token: &Token) -> Result<(), TemplateFault>
         requires { IsTrue (is_opening token.now.kind) }
-        ensures ok { OnOk result (Reads (token_view token.now) self.old self.new) }
+        ensures ok { OnOk result (Reads (token_view token.now) (tag_makes token.now) self.old self.new) }
         ensures fault { IfErr result (λ f. f.kind ≢ OutOfMemory → opening token.now.inside.now token.now.place (opens_view self.old) ≡ Err f) }
         ensures memory { IfErr result (λ f. f.kind ≡ OutOfMemory → f.place ≡ 0) }
     {
@@ -92,7 +113,7 @@ impl Nesting {
     /// Ends the innermost section.
     fn end(&mut self, token: &Token) -> Result<(), TemplateFault>
         requires { token.now.kind ≡ TokenKind.End }
-        ensures ok { OnOk result (Reads (token_view token.now) self.old self.new) }
+        ensures ok { OnOk result (Reads (token_view token.now) (tag_makes token.now) self.old self.new) }
         ensures fault { IfErr result (λ f. f.kind ≢ OutOfMemory → ending token.now.inside.now token.now.place (opens_view self.old) ≡ Err f) }
         ensures memory { IfErr result (λ f. f.kind ≡ OutOfMemory → f.place ≡ 0) }
     {
@@ -118,24 +139,69 @@ impl Nesting {
         self.add(ended(name, is_inverted, block))
     }
 
-    /// Reads one more token.
-    fn read(&mut self, alloc: Global, token: &Token) -> Result<(), TemplateFault>
-        ensures ok { OnOk result (Reads (token_view token.now) self.old self.new) }
+    /// Reads a tag.
+    fn read_tag(&mut self, alloc: Global, token: &Token) -> Result<(), TemplateFault>
+        requires { is_literal token.now.kind ≡ false }
+        ensures ok { OnOk result (Reads (token_view token.now) (tag_makes token.now) self.old self.new) }
         ensures fault { IfErr result (λ f. f.kind ≢ OutOfMemory → nest token.now.kind token.now.inside.now token.now.place (opens_view self.old) ≡ Err f) }
         ensures memory { IfErr result (λ f. f.kind ≡ OutOfMemory → f.place ≡ 0) }
     {
         match token.kind {
-            TokenKind::Literal => self.add(Node::Text(String::from_str(alloc, token.text)?)),
             TokenKind::Variable => self.add(Node::Variable(String::from_str(alloc, token.inside)?)),
             TokenKind::Raw => self.add(Node::Raw(String::from_str(alloc, token.inside)?)),
             TokenKind::Partial => {
                 let name = String::from_str(alloc, token.inside)?;
-                let indent = String::from_str(alloc, token.indent)?;
-                self.add(Node::Partial { name, indent })
+                let own = own_of(alloc, token)?;
+                self.add(Node::Partial { name, own })
             }
             TokenKind::Section | TokenKind::Inverted => self.open(alloc, token),
             TokenKind::End => self.end(token),
-            TokenKind::Comment | TokenKind::Delimiters => Ok(()),
+            TokenKind::Literal | TokenKind::Comment | TokenKind::Delimiters => Ok(()),
+        }
+    }
+
+    /// Puts the beginning of a line before a tag, unless the tag takes its lines away.
+    fn begin_line(&mut self, alloc: Global, leads: bool) -> Result<(), TemplateFault>
+        ensures opened { OnOk result (self.new.opened.items ≡ self.old.opened.items) }
+        ensures levels { OnOk result ((w : List ℕ) (ls : Levels) → levels_with w self.old (onto (text_onto (literal_under w leads true [])) ls) ≡ levels_with w self.new ls) }
+        ensures fault { IfErr result (λ f. f ≡ memory_wanted) }
+    {
+        if leads {
+            self.add(Node::Text {
+                text: String::new(alloc),
+                leads: true,
+                trails: true,
+            })
+        } else {
+            Ok(())
+        }
+    }
+
+    /// Reads one more token. It `leads` where it begins a line, and `trails` where a tag comes next that isn't standalone.
+    fn read(
+        &mut self,
+        alloc: Global,
+        token: &Token,
+        leads: bool,
+        trails: bool,
+    ) -> Result<(), TemplateFault>
+        ensures ok { OnOk result (Reads (token_view token.now) (token_makes token.now leads trails) self.old self.new) }
+        ensures fault { IfErr result (λ f. f.kind ≢ OutOfMemory → nest token.now.kind token.now.inside.now token.now.place (opens_view self.old) ≡ Err f) }
+        ensures memory { IfErr result (λ f. f.kind ≡ OutOfMemory → f.place ≡ 0) }
+    {
+        match token.kind {
+            TokenKind::Literal => {
+                let text = String::from_str(alloc, token.text)?;
+                self.add(Node::Text {
+                    text,
+                    leads,
+                    trails,
+                })
+            }
+            _ => {
+                self.begin_line(alloc, stands_first(leads, token))?;
+                self.read_tag(alloc, token)
+            }
         }
     }
 
@@ -155,15 +221,28 @@ impl Nesting {
     }
 }
 
+/// Whether a tag comes next that isn't standalone.
+fn goes_on(left: &[Token]) -> bool
+    ensures { result ≡ goes_on (map marked_view left.now) }
+{
+    match left.first() {
+        Some(next) => !next.is_alone,
+        None => false,
+    }
+}
+
 /// The nodes of the tree that the tokens nest into.
 pub(crate) fn nodes_of(alloc: Global, tokens: &[Token]) -> Result<Vec<Node>, TemplateFault>
-    ensures ok { IfOk result (λ ns. nested (tokens_view tokens.now) ≡ Ok (tree_view ns.items)) }
+    ensures ok { IfOk result (λ ns. AreNodesOf tokens.now ns.items) }
     ensures fault { IfErr result (λ f. f.kind ≢ OutOfMemory → nested (tokens_view tokens.now) ≡ Err f) }
     ensures memory { IfErr result (λ f. f.kind ≡ OutOfMemory → f.place ≡ 0) }
 {
     let mut nesting = Nesting::new(alloc);
-    for token in tokens {
-        nesting.read(alloc, token)?;
+    let mut leads = true;
+    for (index, token) in tokens.iter().enumerate() {
+        let trails = goes_on(&tokens[index + 1..]);
+        nesting.read(alloc, token, leads, trails)?;
+        leads = token.is_alone;
     }
     nesting.finish()
 }

@@ -16,5 +16,5 @@ pub fn parse(alloc: Global, source: &str) -> Result<Template, TemplateFault>
 {
     let tokens = scan(alloc, source)?;
     let nodes = nodes_of(alloc, &tokens)?;
-    Ok(Template::new(String::from_str(alloc, source)?, nodes))
+    Ok(Template::new(nodes))
 }

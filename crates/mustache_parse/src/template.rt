@@ -1,17 +1,16 @@
-ghost use Rattle.std.specs.Prelude.{◌≡◌, Ok, string_bytes};
-ghost use Rattle.mustache_parse.specs.Tree.{tree_of};
+ghost use Rattle.std.specs.Prelude.{◌≡◌, []};
+ghost use Rattle.mustache_parse.specs.BlankIndents.{HasBlankIndents};
 ghost use Rattle.mustache_parse.specs.View.{tree_view};
-ghost use Rattle.mustache_parse.specs.Template.{TemplateSeen, IsTemplateOf};
+ghost use Rattle.mustache_parse.specs.Template.{TemplateSeen, template_tree};
 ghost use Rattle.mustache_parse.specs.contracts.node.Node as node_type;
 ghost use Rattle.std.specs.Coded.{codes};
 
 use crate::node::Node;
 use std::marker::Model;
 
-/// A template that was read: its source, and the nodes of its tree.
+/// A template that was read: the nodes of its tree, which know where its lines begin.
 #[derive(Debug, Drop)]
 pub struct Template {
-    source: String,
     nodes: Vec<Node>,
 }
 
@@ -20,29 +19,23 @@ impl Model for Template {
 
     ghost coded = { Prim.hlevel (codes, node_type.the_row.coded) };
 
-    ghost view = { λ t. record { source = string_bytes t.source; nodes = t.nodes.items } };
+    ghost view = { λ t. record { nodes = t.nodes.items } };
 
-    ghost invariant = { λ t. tree_of (string_bytes t.source) ≡ Ok (tree_view t.nodes.items) };
+    ghost invariant = { λ t. HasBlankIndents (tree_view [] t.nodes.items) };
 }
 
 impl Template {
-    pub(crate) fn new(source: String, nodes: Vec<Node>) -> Template
-        requires { tree_of (string_bytes source) ≡ Ok (tree_view nodes.items) }
-        ensures { IsTemplateOf result (string_bytes source) }
+    pub(crate) fn new(nodes: Vec<Node>) -> Template
+        requires { HasBlankIndents (tree_view [] nodes.items) }
+        ensures { result.nodes ≡ nodes.items }
     {
-        Template { source, nodes }
-    }
-
-    /// The text that the template was read from.
-    pub fn source(&self) -> &str
-        ensures { IsTemplateOf self.now result.now }
-    {
-        &self.source
+        Template { nodes }
     }
 
     /// The nodes of its tree, outermost ones in order.
     pub fn nodes(&self) -> &[Node]
-        ensures { result.now ≡ self.now.nodes }
+        ensures nodes { result.now ≡ self.now.nodes }
+        ensures blanks { HasBlankIndents (template_tree [] self.now) }
     {
         &self.nodes
     }

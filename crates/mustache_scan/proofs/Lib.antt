@@ -11,3 +11,4 @@ pub mod SignLemmas
 pub mod StepLemmas
 pub mod TagLemmas
 pub mod TakenLemmas
+pub mod MarksLemmas

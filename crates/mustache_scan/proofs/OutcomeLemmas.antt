@@ -3,7 +3,7 @@ use Rattle.std.proofs.Common.{◌≡◌, ℕ, ◌+◌, ◌-◌, ◌<◌, ◌≤�
 use Rattle.std.proofs.Math.Seq.{drop-append_seam}
 use Rattle.std.proofs.lemmas.Grind.{flat_map-append}
 use Rattle.std.proofs.lemmas.List.Elements.{filter_map-append}
-use Rattle.std.proofs.lemmas.Str.{IsCharBoundary-start, IsCharBoundary-from_rest}
+use Rattle.std.proofs.lemmas.Str.{IsCharBoundary-from_rest}
 use Rattle.std.specs.List.{flat_map}
 use Rattle.std.specs.Str.{IsUtf8, IsCharBoundary}
 use Rattle.mustache_scan.specs.Cutting.{cut, stripped}
@@ -16,7 +16,7 @@ use Rattle.mustache_scan.specs.declared.fault.FaultKind.{FaultKind}
 use Rattle.mustache_scan.specs.declared.fault.FaultKind.TheVariants.{UnclosedTag}
 use Rattle.mustache_scan.proofs.KeptLemmas.{TakesEnds, lt_false, le_false}
 use Rattle.mustache_scan.proofs.ProgressLemmas.{IsReadTo, covered-append, placed_from, text-append, literal_text, literal_lines, literal_between, slices-append, literal_sliced}
-use Rattle.mustache_scan.proofs.StepLemmas.{place, reads_on, order, seam_after, goes_on}
+use Rattle.mustache_scan.proofs.StepLemmas.{place, reads_on, order, seam_after, goes_on, next_seam}
 use Rattle.mustache_scan.proofs.TagLemmas.{at_cut}
 use Rattle.mustache_scan.proofs.TakenLemmas.{sequence_opens}
 
@@ -25,15 +25,14 @@ unfolding scanned
 scanned_is t = refl
 
 -- nothing is read at first
-pub begins : (t : List ℕ) → IsUtf8 t → IsReadTo t t braces 0 []
-begins t u = record {
+pub begins : (t : List ℕ) → IsReadTo t t braces 0 []
+begins t = record {
   pieces = [];
   text = refl;
   read = refl;
   covers = λ k le. sym (lt_false k 0 (omega arith));
   settled = λ ls later. refl;
   past = omega arith;
-  seam = IsCharBoundary-start t u;
   slices = tt;
   ended = omega arith;
 }
@@ -152,9 +151,19 @@ module _ (t rest : List ℕ) (d : Pair) (from : ℕ) (xs : List TokenSeen) (so_f
       Next at o = IsReadTo t o.rest (delimiters_after d o.kind o.inside) (max from (taken t o.kind at (length t - length o.rest)).1)
           (xs ++ (literal_at from (slice_range t from (taken t o.kind at (length t - length o.rest)).0) ++ tag_at t o.kind o.inside at (length t - length o.rest) ∷ []))
 
-      pub continues : IsUtf8 t → IsUtf8 v.rest → Next (length t - length rest + length before) v
-      continues u w =
+      pub continues : Next (length t - length rest + length before) v
+      continues =
           subst (Next (length t - length rest + length before)) tag_right.same
           (subst (λ n. Next n (record { kind = tag_right.tag.kind; inside = stripped tag_right.tag.inside; rest = tag_right.tag.rest })) at
-          (goes_on t rest d from xs so_far before after is opens tag_right.tag tag_right.opened tag_right.right u
+          (goes_on t rest d from xs so_far before after is opens tag_right.tag tag_right.opened tag_right.right))
+
+      -- and where the next literal may begin
+      abbrev Seam : ℕ → Opened → Type 0
+      Seam at o = IsCharBoundary t (max from (taken t o.kind at (length t - length o.rest)).1)
+
+      pub continues_seam : IsUtf8 t → IsUtf8 v.rest → IsCharBoundary t from → Seam (length t - length rest + length before) v
+      continues_seam u w seam =
+          subst (Seam (length t - length rest + length before)) tag_right.same
+          (subst (λ n. Seam n (record { kind = tag_right.tag.kind; inside = stripped tag_right.tag.inside; rest = tag_right.tag.rest })) at
+          (next_seam t rest d from xs so_far before after is opens tag_right.tag tag_right.opened u seam
           (seam_after t rest d from xs so_far before after is opens tag_right.tag tag_right.opened (subst IsUtf8 (sym rest_same) w))))

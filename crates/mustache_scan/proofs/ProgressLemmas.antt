@@ -7,7 +7,6 @@ use Rattle.std.proofs.lemmas.Grind.{flat_map-append}
 use Rattle.std.proofs.lemmas.List.{take-append-le, drop-append-le}
 use Rattle.std.proofs.lemmas.List.Folds.{list_any-append}
 use Rattle.std.specs.List.{flat_map}
-use Rattle.std.specs.Str.{IsCharBoundary}
 use Rattle.mustache_scan.specs.Cutting.{is_blank}
 use Rattle.mustache_scan.specs.Names.{Pair, braces}
 use Rattle.mustache_scan.specs.Progress.{literal_at}
@@ -33,7 +32,6 @@ pub record IsReadTo (t rest : List ℕ) (d : Pair) (from : ℕ) (xs : List Token
   pub covers : (k : ℕ) → length (text_of pieces) ≤ k → is_covered (standalone_lines_of t (placed 0 pieces)) k ≡ nat_lt k from
   pub settled : (ls : List (ℕ × ℕ)) → AreLater t (length (text_of pieces)) ls → flat_map (tokens_at t (standalone_lines_of t (placed 0 pieces) ++ ls)) (placed 0 pieces) ≡ xs
   pub past : length (text_of pieces) ≤ from
-  pub seam : IsCharBoundary t from
   pub slices : AreSlices t 0 xs
   pub ended : end_of 0 xs ≤ length (text_of pieces)
 

@@ -195,15 +195,18 @@ module _ (t rest : List ℕ) (d : Pair) (from : ℕ) (xs : List TokenSeen) (so_f
     ended_is : end_of 0 (xs ++ added) ≤ length (text_of ps)
     ended_is = omega (arith, end-append 0 xs added, end-append (end_of 0 xs) (literal_at from (slice_range t from part.0)) (tag_at t o.kind (stripped o.inside) place past ∷ []), text_self, ps_length)
 
-    pub goes_on : wrong_inside o.kind (stripped o.inside) ≡ None → IsUtf8 t → IsCharBoundary t past → IsReadTo t o.rest (delimiters_after d o.kind (stripped o.inside)) (max from part.1) (xs ++ added)
-    goes_on right u boundary = record {
+    pub goes_on : wrong_inside o.kind (stripped o.inside) ≡ None → IsReadTo t o.rest (delimiters_after d o.kind (stripped o.inside)) (max from part.1) (xs ++ added)
+    goes_on right = record {
       pieces = ps;
       text = text_is;
       read = read_is right;
       covers = covers_is;
       settled = settled_is;
       past = omega (arith, ps_length, taken_end t o.kind place past (omega (arith, order)) within);
-      seam = max_boundary t from part.1 so_far.seam (taken_end_boundary t o.kind place past (omega (arith, order)) within u boundary);
       slices = slices_is;
       ended = ended_is;
     }
+
+    -- where a literal may begin after the tag
+    pub next_seam : IsUtf8 t → IsCharBoundary t from → IsCharBoundary t past → IsCharBoundary t (max from part.1)
+    next_seam u seam boundary = max_boundary t from part.1 seam (taken_end_boundary t o.kind place past (omega (arith, order)) within u boundary)

@@ -6,4 +6,5 @@ pub mod Slices
 pub mod Faults
 pub mod Progress
 pub mod View
+pub mod Marks
 pub mod Laws

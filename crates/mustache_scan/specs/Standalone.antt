@@ -1,5 +1,5 @@
 -- Standalone tags, and what is left of the literals round them.
-use Rattle.std.specs.Prelude.{ℕ, ◌+◌, ◌-◌, Bool, true, false, ◌&&◌, ◌==◌, nat_lt, nat_le, List, [], ◌∷◌, map, Option, None, Some, Result, Ok, Err, length, take, drop}
+use Rattle.std.specs.Prelude.{ℕ, ◌+◌, ◌-◌, Bool, true, false, ◌&&◌, ◌==◌, nat_lt, nat_le, List, [], ◌∷◌, map, Option, None, Some, Result, Ok, Err, length, take, drop, is_some}
 use Rattle.std.specs.List.{list_any, list_all, after_last, take_while, filter_map, flat_map}
 use Rattle.mustache_scan.specs.Cutting.{is_blank, is_newline}
 use Rattle.mustache_scan.specs.Names.{braces}
@@ -61,6 +61,10 @@ pub record TokenSeen : Type 0 where
   pub place : ℕ
   pub text : List ℕ
   pub indent : List ℕ
+
+-- whether a token is a standalone tag
+abbrev pub is_alone : List ℕ → TokenSeen → Bool
+is_alone t x = is_some (standalone t (x.place, record { kind = x.kind; inside = x.inside; bytes = x.text }))
 
 -- the bytes that no such line covers, with their places
 abbrev pub kept : List (ℕ × ℕ) → ℕ → List ℕ → List (ℕ × ℕ)

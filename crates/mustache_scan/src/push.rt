@@ -2,9 +2,10 @@ ghost use Rattle.std.specs.Prelude.{◌≡◌, ◌++◌, ◌-◌, ◌≤◌, OnO
 ghost use Rattle.std.specs.Str.{IsCharBoundary};
 ghost use Rattle.mustache_scan.specs.Faults.{memory_wanted};
 ghost use Rattle.mustache_scan.specs.Progress.{literal_at, tag_at, taken};
+ghost use Rattle.mustache_scan.specs.Marks.{AreMarked};
 ghost use Rattle.mustache_scan.specs.View.{tokens_view};
 
-use crate::standalone::taken;
+use crate::standalone::lines_of;
 use crate::tag::{Tag, name_of};
 use crate::{TemplateFault, Token, TokenKind};
 
@@ -18,6 +19,7 @@ pub(crate) fn push_literal<'a>(
     requires from { IsCharBoundary source.now from }
     requires to { IsCharBoundary source.now to }
     ensures ok { OnOk result (tokens_view tokens.new.items ≡ tokens_view tokens.old.items ++ literal_at from (slice_range source.now from to)) }
+    ensures marks { OnOk result (AreMarked source.now tokens.old.items → AreMarked source.now tokens.new.items) }
     ensures err { IfErr result (λ f. f ≡ memory_wanted) }
 {
     if from < to {
@@ -27,6 +29,7 @@ pub(crate) fn push_literal<'a>(
             place: from,
             text: &source[from..to],
             indent: "",
+            is_alone: false,
         })?;
     }
     Ok(())
@@ -49,10 +52,12 @@ pub(crate) fn push_tag<'a>(
         let part = taken source.now tag.entry.kind place past in
         IfOk result (λ next. (next ≡ max from part.1)
         × (tokens_view tokens.new.items ≡ tokens_view tokens.old.items ++ (literal_at from (slice_range source.now from part.0) ++ tag_at source.now tag.entry.kind tag.entry.inside.now place past ∷ []))) }
+    ensures marks { OnOk result (AreMarked source.now tokens.old.items → AreMarked source.now tokens.new.items) }
     ensures err { IfErr result (λ f. f ≡ memory_wanted) }
 {
     let past = source.len() - tag.rest.len();
-    let (start, end) = taken(source.as_bytes(), tag.kind, place, past);
+    let lines = lines_of(source.as_bytes(), tag.kind, place, past);
+    let (start, end) = lines.unwrap_or((place, past));
     push_literal(tokens, source, from, start)?;
     let indent = match tag.kind {
         TokenKind::Partial => &source[start..place],
@@ -64,6 +69,7 @@ pub(crate) fn push_tag<'a>(
         place,
         text: &source[place..past],
         indent,
+        is_alone: lines.is_some(),
     })?;
     Ok(from.max(end))
 }

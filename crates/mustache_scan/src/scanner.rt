@@ -1,4 +1,5 @@
 ghost use Rattle.std.specs.Prelude.{◌≡◌, ◌≢◌, IfOk, IfErr, Ok, Err};
+ghost use Rattle.mustache_scan.specs.Marks.{AreMarked};
 ghost use Rattle.mustache_scan.specs.Reading.{delimiters_after};
 ghost use Rattle.mustache_scan.specs.Slices.{AreSlices};
 ghost use Rattle.mustache_scan.specs.Standalone.{scanned};
@@ -33,6 +34,7 @@ pub fn scan<'a>(alloc: Global, source: &'a str) -> Result<Vec<Token<'a>>, Templa
     ensures tokens { IfOk result (λ ts. scanned source.now ≡ Ok (tokens_view ts.items)) }
     ensures fault { IfErr result (λ f. f.kind ≢ OutOfMemory → scanned source.now ≡ Err f) }
     ensures memory { IfErr result (λ f. f.kind ≡ OutOfMemory → f.place ≡ 0) }
+    ensures marks { IfOk result (λ ts. AreMarked source.now ts.items) }
     ensures slices { IfOk result (λ ts. AreSlices source.now 0 (tokens_view ts.items)) }
 {
     let mut tokens = Vec::new(alloc);

@@ -1,7 +1,7 @@
 ghost use Rattle.std.specs.Prelude.{◌≡◌, ◌+◌, ◌≤◌, IfSome, length, take, drop};
 ghost use Rattle.std.specs.List.{prefix_len, suffix_len};
 ghost use Rattle.mustache_scan.specs.Cutting.{is_blank};
-ghost use Rattle.mustache_scan.specs.Progress.{taken};
+ghost use Rattle.mustache_scan.specs.Progress.{standalone_of};
 ghost use Rattle.mustache_scan.specs.Standalone.{line_end, standalone_lines, may_be_standalone};
 
 use crate::TokenKind;
@@ -78,14 +78,20 @@ fn may_be_standalone(kind: TokenKind) -> bool
     )
 }
 
-/// What a tag takes of its text, from place to place: its lines where it is standalone, else its own bytes.
-pub(crate) fn taken(text: &[u8], kind: TokenKind, first: usize, past: usize) -> (usize, usize)
+/// The lines that a tag takes of its text where it is standalone.
+pub(crate) fn lines_of(
+    text: &[u8],
+    kind: TokenKind,
+    first: usize,
+    past: usize,
+) -> Option<(usize, usize)>
     requires order { first ≤ past }
     requires within { past ≤ length text.now }
-    ensures { result ≡ taken text.now kind first past }
+    ensures { result ≡ standalone_of text.now kind first past }
 {
-    if !may_be_standalone(kind) {
-        return (first, past);
+    if may_be_standalone(kind) {
+        standalone_lines(text, first, past)
+    } else {
+        None
     }
-    standalone_lines(text, first, past).unwrap_or((first, past))
 }

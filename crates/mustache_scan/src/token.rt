@@ -14,7 +14,8 @@ pub enum TokenKind {
 
 /// A token of a source, whose text stands at the byte `place`.
 ///
-/// `inside` is a tag's name, and `indent` the blanks before a standalone partial's tag; else both are empty.
+/// `inside` is a tag's name, and `indent` the blanks before a standalone partial's tag; else both are empty. `is_alone` says of a tag that it
+/// is standalone: its lines are no part of the literals round it.
 #[derive(Clone, Copy, Debug, PartialEq, Eq)]
 pub struct Token<'a> {
     pub kind: TokenKind,
@@ -22,4 +23,5 @@ pub struct Token<'a> {
     pub place: usize,
     pub text: &'a str,
     pub indent: &'a str,
+    pub is_alone: bool,
 }

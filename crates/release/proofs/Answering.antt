@@ -7,7 +7,10 @@ use Rattle.command.specs.Effective.{effective}
 use Rattle.command.specs.Releases.{is_release, release_count, through}
 use Rattle.command.proofs.EffectiveLemmas.{effective_grows}
 use Rattle.command.proofs.ReleaseLemmas.{next_begins, release_stays}
-use Rattle.release.specs.Page.{page_of, released}
+use Rattle.content.specs.View.{SiteSeen}
+use Rattle.content.specs.Standing.{IsSiteOf}
+use Rattle.release.specs.Page.{Page, page_of, released, answer}
+use Rattle.release.specs.ReleaseSite.{IsSiteOfRelease}
 use Rattle.release.specs.Laws.{ListBegins, AnswerStays, ReleasesStay, AnswerIsNone}
 
 is_there : (n newest : ℕ) → 0 < n → n ≤ newest → (nat_lt 0 n && nat_le n newest) ≡ true
@@ -15,6 +18,21 @@ is_there n newest some below = let first : nat_lt 0 n ≡ true = grind (arith, n
 
 pub released_is : (os : List Order) (n : ℕ) (path : List ℕ) → 0 < n → n ≤ release_count os → released os n path ≡ Some (page_of (through os n) path)
 released_is os n path some below = rw (is_there n (release_count os) some below)
+
+there_is : (n newest : ℕ) → ¬ ((n ≡ 0) ⊎ (newest < n)) → (0 < n) × (n ≤ newest)
+there_is zero newest not = absurd (not (inl refl))
+there_is (suc n) newest not = (omega arith, by (leb_tells (suc n) newest))
+  where
+    by : ((nat_le (suc n) newest ≡ true) × (suc n ≤ newest)) ⊎ ((nat_le (suc n) newest ≡ false) × (newest < suc n)) → suc n ≤ newest
+    by (inl there) = there.1
+    by (inr past) = absurd (not (inr past.1))
+
+-- the page of a release's site is what the values answer for it
+pub site_answers : (values : List (List ℕ)) (n : ℕ) (path : List ℕ) (site : SiteSeen) (page : Page) → IsSiteOfRelease values n site → ((n ≡ 0) ⊎ (release_count (effective values) < n) → true ≡ false)
+    → ((shown : List (List ℕ)) → IsSiteOf site shown → page ≡ page_of (effective shown) path) → answer values n path ≡ Some page
+site_answers values n path site page is not gives =
+    let there = there_is n (release_count (effective values)) (λ h. let never : true ≡ false = not h in cc) in
+    released_is (effective values) n path there.0 there.1 ∙ sym (ap Some (gives is.shown is.stands ∙ ap (λ os. page_of os path) is.list))
 
 -- ---- laws
 

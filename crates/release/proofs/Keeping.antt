@@ -1,24 +1,32 @@
--- What releases keep, after one more value.
-use Rattle.std.proofs.Common.{◌≡◌, ℕ, ◌+◌, ◌<◌, ◌≤◌, List, [], ◌∷◌, ◌++◌, length, map, Vec, Global, Bool, true, false, cond, Some, Ok, Err, refl, sym, ap, ◌∙◌, arith}
-use Rattle.std.proofs.lemmas.List.{length-map, length-append, map-append}
-use Rattle.std.specs.BTreeMap.{BTreeMap, get, Updates}
-use Rattle.std.specs.Option.{is_some}
+-- What is kept beside the values, after one more value.
+use Rattle.std.proofs.Common.{◌≡◌, ◌≢◌, ◌⊎◌, inl, inr, ℕ, zero, suc, ◌+◌, ◌<◌, ◌≤◌, List, [], ◌∷◌, ◌++◌, length, map, Vec, Global, Bool, true, false, cond, Some, Result, Ok, Err, refl, sym, ap, subst, ◌∙◌, arith, append-nil, append_assoc}
+use Rattle.std.proofs.lemmas.List.{length-append, length-map, map-append}
+use Rattle.std.proofs.lemmas.Option.{none-some, same_Some, slice_get_within}
+use Rattle.std.specs.BTreeMap.{BTreeMap, get, is_at, Updates}
+use Rattle.std.specs.List.{slice_get}
+use Rattle.std.specs.Map.{lookup}
 use Rattle.site_ids.specs.declared.TheConstants.{MAX_INSTANCE}
 use Rattle.site_ids.specs.declared.Ticket.{Ticket}
 use Rattle.command.specs.Action.{Action, put_template, put_partial, put_data, put_route, remove, release, Order}
-use Rattle.command.specs.Effective.{is_same_ticket, commands_of, effective}
+use Rattle.command.specs.Effective.{is_same_ticket, commands_of, has_ticket, effective}
 use Rattle.command.specs.Reading.{value_reading}
-use Rattle.command.specs.Releases.{is_release, release_count}
+use Rattle.command.specs.Releases.{release_count, through}
 use Rattle.command.specs.declared.fault.CommandFault.{CommandFault}
+use Rattle.command.proofs.EffectiveLemmas.{effective_grows}
+use Rattle.command.proofs.ReleaseLemmas.{release_stays}
 use Rattle.content.specs.Answered.{applied, applied_after, answered}
+use Rattle.content.specs.View.{SiteSeen}
+use Rattle.content.specs.Standing.{IsSiteOf}
 use Rattle.content.specs.declared.applied.Applied.{Applied}
 use Rattle.content.specs.declared.applied.Applied.TheVariants.{Changed, Released, Repeat, NotACommand}
-use Rattle.release.specs.Receipts.{receipt_of}
-use Rattle.release.specs.Standing.{ticket_cmp, values_fed, IsKept}
-use Rattle.release.specs.declared.releases.Releases.TheInside.{Inside}
-use Rattle.release.proofs.MoreValues.{one_if_released, counts}
-use Rattle.release.proofs.Receipts.{has_receipt, no_command_keeps, repeat_keeps, new_receipt}
 use Rattle.content.proofs.Tickets.{same_by_order}
+use Rattle.content.proofs.Values.{effective_more, not_a_command, repeated}
+use Rattle.release.specs.Receipts.{receipt_of}
+use Rattle.release.specs.ReleaseSite.{IsSiteOfRelease}
+use Rattle.release.specs.Keeping.{Keeps, ticket_cmp}
+use Rattle.release.specs.declared.kept.Kept.{Kept}
+use Rattle.release.proofs.MoreValues.{one_if_released, counts, through_last}
+use Rattle.release.proofs.Receipts.{has_receipt, no_command_keeps, repeat_keeps, new_receipt}
 
 abbrev pub bytes : Vec ℕ Global → List ℕ
 bytes v = v.items
@@ -28,74 +36,200 @@ fed_more old new v is = ap (map bytes) is ∙ map-append bytes old (v ∷ [])
 
 -- ---- what a value is answered with
 
-pub not_a_command : (values : List (List ℕ)) (v : List ℕ) (fault : CommandFault) → value_reading v ≡ Err fault → NotACommand ≡ applied values v
-not_a_command values v fault reads = sym (ap (applied_after (commands_of values)) reads)
+-- a command that has an effect is no repeat, and does what its action does
+pub is_new : (values : List (List ℕ)) (v : List ℕ) (o : Order) → value_reading v ≡ Ok o → applied values v ≢ Repeat → has_ticket o.ticket (commands_of values) ≡ false
+is_new values v o reads new = by (has_ticket o.ticket (commands_of values)) refl
+  where
+    by : (b : Bool) → has_ticket o.ticket (commands_of values) ≡ b → b ≡ false
+    by false has = refl
+    by true has = absurd (new (ap (applied_after (commands_of values)) reads ∙ ap (λ b. cond b Repeat (answered o.action)) has))
 
-pub repeated : (values : List (List ℕ)) (v : List ℕ) (o : Order) → value_reading v ≡ Ok o → is_some (receipt_of o.ticket values) ≡ true → Repeat ≡ applied values v
-repeated values v o reads had = sym (ap (applied_after (commands_of values)) reads ∙ ap (λ b. cond b Repeat (answered o.action)) (has_receipt o.ticket values ∙ had))
+-- what is no command has no effect
+pub passes : (values : List (List ℕ)) (v : List ℕ) (fault : CommandFault) → value_reading v ≡ Err fault → (applied values v ≢ Changed) × (applied values v ≢ Released)
+passes values v fault reads =
+    let is : applied values v ≡ NotACommand = ap (applied_after (commands_of values)) reads in
+    (λ e. let never : NotACommand ≡ Changed = sym is ∙ e in cc, λ e. let never : NotACommand ≡ Released = sym is ∙ e in cc)
 
-new_command : (values : List (List ℕ)) (v : List ℕ) (o : Order) → value_reading v ≡ Ok o → is_some (receipt_of o.ticket values) ≡ false → applied values v ≡ answered o.action
-new_command values v o reads had = ap (applied_after (commands_of values)) reads ∙ ap (λ b. cond b Repeat (answered o.action)) (has_receipt o.ticket values ∙ had)
+-- ---- the sites of releases
 
-a_release : (a : Action) → is_release a ≡ true → Released ≡ answered a
-a_release (put_template n b) is = cc
-a_release (put_partial n b) is = cc
-a_release (put_data n w) is = cc
-a_release (put_route p s f) is = cc
-a_release (remove k n) is = cc
-a_release release is = refl
-
-a_change : (a : Action) → is_release a ≡ false → Changed ≡ answered a
-a_change (put_template n b) is = refl
-a_change (put_partial n b) is = refl
-a_change (put_data n w) is = refl
-a_change (put_route p s f) is = refl
-a_change (remove k n) is = refl
-a_change release is = cc
-
-pub new_release : (values : List (List ℕ)) (v : List ℕ) (o : Order) → value_reading v ≡ Ok o → is_some (receipt_of o.ticket values) ≡ false → is_release o.action ≡ true → Released ≡ applied values v
-new_release values v o reads had is = a_release o.action is ∙ sym (new_command values v o reads had)
-
-pub new_change : (values : List (List ℕ)) (v : List ℕ) (o : Order) → value_reading v ≡ Ok o → is_some (receipt_of o.ticket values) ≡ false → is_release o.action ≡ false → Changed ≡ applied values v
-new_change values v o reads had is = a_change o.action is ∙ sym (new_command values v o reads had)
-
--- ---- the invariant
-
-one_at_most : (a : Applied) → one_if_released a ≤ 1
-one_at_most Changed = omega arith
-one_at_most Released = omega arith
-one_at_most Repeat = omega arith
-one_at_most NotACommand = omega arith
-
-pub kept : (r new : Inside) (v : Vec ℕ Global) → IsKept r → length (values_fed r) < MAX_INSTANCE → new.fed.items ≡ r.fed.items ++ v ∷ []
-    → new.newest ≡ r.newest + one_if_released (applied (values_fed r) v.items)
-    → ((t : Ticket) → get ticket_cmp new.receipts t ≡ receipt_of t (values_fed r ++ v.items ∷ [])) → IsKept new
-kept r new v is few fed newest receipts =
-    let more : values_fed new ≡ values_fed r ++ v.items ∷ [] = fed_more r.fed.items new.fed.items v fed in
-    let long : length new.fed.items ≡ length r.fed.items + 1 = ap length fed ∙ length-append r.fed.items (v ∷ []) in
-    let old : length (values_fed r) ≡ length r.fed.items = length-map r.fed.items bytes in
+-- further values leave the site of a release that of it
+pub still : (values more : List (List ℕ)) (n : ℕ) (site : SiteSeen) → n ≤ release_count (effective values) → IsSiteOfRelease values n site → IsSiteOfRelease (values ++ more) n site
+still values more n site below is =
+    let grows = effective_grows values more in
     record {
-      few = omega (arith, long, old, few);
-      receipts = λ t. receipts t ∙ sym (ap (receipt_of t) more);
-      bounded = omega (arith, newest, long, is.bounded, one_at_most (applied (values_fed r) v.items));
-      newest = newest ∙ ap (λ n. n + one_if_released (applied (values_fed r) v.items)) is.newest ∙ sym (counts (values_fed r) v.items) ∙ sym (ap (λ vs. release_count (effective vs)) more);
+      shown = is.shown;
+      begins = (is.begins.0 ++ more, ap (λ vs. vs ++ more) is.begins.1 ∙ append_assoc is.shown is.begins.0 more);
+      list = is.list ∙ sym (ap (λ os. through os n) grows.1 ∙ release_stays (effective values) grows.0 n below);
+      stands = is.stands;
     }
 
--- the receipts after a command with a new ticket was put into their map
-pub receipts_more : (r : Inside) (m : BTreeMap Ticket ℕ) (v : List ℕ) (o : Order) (i : ℕ) → IsKept r → value_reading v ≡ Ok o → is_some (receipt_of o.ticket (values_fed r)) ≡ false
-    → i ≡ 1 + length (values_fed r) → Updates ticket_cmp r.receipts m o.ticket (Some i) → (t : Ticket) → get ticket_cmp m t ≡ receipt_of t (values_fed r ++ v ∷ [])
-receipts_more r m v o i is reads had place updates t =
-    updates.0 t ∙ ap (λ b. cond b (Some i) (get ticket_cmp r.receipts t)) (same_by_order o.ticket t)
-    ∙ ap (λ n. cond (is_same_ticket o.ticket t) (Some n) (get ticket_cmp r.receipts t)) place ∙ ap (cond (is_same_ticket o.ticket t) (Some (1 + length (values_fed r)))) (is.receipts t)
-    ∙ sym (new_receipt t (values_fed r) v o reads had)
+abbrev AreKept : List (List ℕ) → List SiteSeen → Type 0
+AreKept values kept = (place : ℕ) (site : SiteSeen) → slice_get kept place ≡ Some site → IsSiteOfRelease values (suc place) site
 
-pub receipts_after_none : (r : Inside) (v : List ℕ) (fault : CommandFault) → IsKept r → value_reading v ≡ Err fault → (t : Ticket) → get ticket_cmp r.receipts t ≡ receipt_of t (values_fed r ++ v ∷ [])
-receipts_after_none r v fault is reads t = is.receipts t ∙ sym (no_command_keeps t (values_fed r) v fault reads)
+all_still : (values : List (List ℕ)) (v : List ℕ) (kept : List SiteSeen) → length kept ≡ release_count (effective values) → AreKept values kept → AreKept (values ++ v ∷ []) kept
+all_still values v kept count each place site at =
+    let within : place < length kept = slice_get_within kept place site at in
+    still values (v ∷ []) (suc place) site (omega (arith, within, count)) (each place site at)
 
-pub receipts_after_repeat : (r : Inside) (v : List ℕ) (o : Order) → IsKept r → value_reading v ≡ Ok o → is_some (receipt_of o.ticket (values_fed r)) ≡ true
-    → (t : Ticket) → get ticket_cmp r.receipts t ≡ receipt_of t (values_fed r ++ v ∷ [])
-receipts_after_repeat r v o is reads had t = is.receipts t ∙ sym (repeat_keeps t (values_fed r) v o reads had)
+one_more : (kept : List SiteSeen) (site : SiteSeen) (place : ℕ) (found : SiteSeen) → slice_get (kept ++ site ∷ []) place ≡ Some found → (slice_get kept place ≡ Some found) ⊎ ((place ≡ length kept) × (site ≡ found))
+one_more [] site zero found at = inr (refl, same_Some site found at)
+one_more [] site (suc place) found at = absurd (none-some found at)
+one_more (s ∷ kept) site zero found at = inl at
+one_more (s ∷ kept) site (suc place) found at = next (one_more kept site place found at)
+  where
+    next : (slice_get kept place ≡ Some found) ⊎ ((place ≡ length kept) × (site ≡ found)) → (slice_get kept place ≡ Some found) ⊎ ((suc place ≡ suc (length kept)) × (site ≡ found))
+    next (inl there) = inl there
+    next (inr last) = inr (ap suc last.0, last.1)
 
--- what the map says of a ticket, its receipt says
-pub had_receipt : (r : Inside) (t u : Ticket) (b : Bool) → IsKept r → t ≡ u → is_some (get ticket_cmp r.receipts t) ≡ b → is_some (receipt_of u (values_fed r)) ≡ b
-had_receipt r t u b is same has = ap (λ x. is_some (receipt_of x (values_fed r))) (sym same) ∙ sym (ap is_some (is.receipts t)) ∙ has
+-- the site that a release leaves is that of it
+newest_site : (values : List (List ℕ)) (v : List ℕ) (o : Order) (n : ℕ) (site : SiteSeen) → value_reading v ≡ Ok o → applied values v ≢ Repeat → release_count (effective values) < n
+    → IsSiteOf site (values ++ v ∷ []) → IsSiteOfRelease (values ++ v ∷ []) n site
+newest_site values v o n site reads new fewer stands =
+    let is : effective (values ++ v ∷ []) ≡ effective values ++ o ∷ [] = effective_more values v o false reads (is_new values v o reads new) in
+    record {
+      shown = values ++ v ∷ [];
+      begins = ([], sym (append-nil (values ++ v ∷ [])));
+      list = is ∙ sym (through_last (effective values) o n fewer) ∙ sym (ap (λ os. through os n) is);
+      stands = stands;
+    }
+
+-- ---- how many releases
+
+no_more : (values : List (List ℕ)) (v : List ℕ) → applied values v ≢ Released → release_count (effective (values ++ v ∷ [])) ≡ release_count (effective values)
+no_more values v none = counts values v ∙ by (applied values v) none
+  where
+    by : (a : Applied) → a ≢ Released → release_count (effective values) + one_if_released a ≡ release_count (effective values)
+    by Changed none = omega arith
+    by Released none = absurd (none refl)
+    by Repeat none = omega arith
+    by NotACommand none = omega arith
+
+-- ---- one more value
+
+longer : (values : List (List ℕ)) (v : List ℕ) → length values < MAX_INSTANCE → length (values ++ v ∷ []) ≤ MAX_INSTANCE
+longer values v few = omega (arith, length-append values (v ∷ []), few)
+
+-- a value that has no effect
+pub passed : (values : List (List ℕ)) (v : List ℕ) (live : SiteSeen) (kept : List SiteSeen) (receipts : BTreeMap Ticket ℕ) → Keeps values live kept receipts → length values < MAX_INSTANCE
+    → applied values v ≢ Changed → applied values v ≢ Released → Keeps (values ++ v ∷ []) live kept receipts
+passed values v live kept receipts is few unchanged none = by (value_reading v) refl
+  where
+    more : IsSiteOf live (values ++ v ∷ []) → ((t : Ticket) → receipt_of t (values ++ v ∷ []) ≡ receipt_of t values) → Keeps (values ++ v ∷ []) live kept receipts
+    more stands same = record {
+      few = longer values v few;
+      stands = stands;
+      count = is.count ∙ sym (no_more values v none);
+      each = all_still values v kept is.count is.each;
+      found = λ t. is.found t ∙ sym (same t);
+    }
+
+    effect : (a : Action) → (answered a ≡ Changed) ⊎ (answered a ≡ Released)
+    effect (put_template n b) = inl refl
+    effect (put_partial n b) = inl refl
+    effect (put_data n w) = inl refl
+    effect (put_route p s f) = inl refl
+    effect (remove k n) = inl refl
+    effect release = inr refl
+
+    with : (o : Order) (b : Bool) → value_reading v ≡ Ok o → has_ticket o.ticket (commands_of values) ≡ b → Keeps (values ++ v ∷ []) live kept receipts
+    with o true reads has = more (repeated live values v o reads has is.stands).0 (λ t. repeat_keeps t values v o reads (sym (has_receipt o.ticket values) ∙ has))
+    with o false reads has =
+        let done : applied values v ≡ answered o.action = ap (applied_after (commands_of values)) reads ∙ ap (λ b. cond b Repeat (answered o.action)) has in
+        either (effect o.action) done
+      where
+        either : (answered o.action ≡ Changed) ⊎ (answered o.action ≡ Released) → applied values v ≡ answered o.action → Keeps (values ++ v ∷ []) live kept receipts
+        either (inl changed) done = absurd (unchanged (done ∙ changed))
+        either (inr released) done = absurd (none (done ∙ released))
+
+    by : (r : Result Order CommandFault) → value_reading v ≡ r → Keeps (values ++ v ∷ []) live kept receipts
+    by (Err fault) reads = more (not_a_command live values v fault reads is.stands).0 (λ t. no_command_keeps t values v fault reads)
+    by (Ok o) reads = with o (has_ticket o.ticket (commands_of values)) reads refl
+
+-- the receipts with that of a new command
+receipts_more : (values : List (List ℕ)) (v : List ℕ) (o : Order) (i : ℕ) (receipts new : BTreeMap Ticket ℕ) → ((t : Ticket) → get ticket_cmp receipts t ≡ receipt_of t values) → value_reading v ≡ Ok o
+    → applied values v ≢ Repeat → i ≡ 1 + length values → Updates ticket_cmp receipts new o.ticket (Some i) → (t : Ticket) → get ticket_cmp new t ≡ receipt_of t (values ++ v ∷ [])
+receipts_more values v o i receipts new are reads first place updates t =
+    updates.0 t ∙ ap (λ b. cond b (Some i) (get ticket_cmp receipts t)) (same_by_order o.ticket t)
+    ∙ ap (λ n. cond (is_same_ticket o.ticket t) (Some n) (get ticket_cmp receipts t)) place ∙ ap (cond (is_same_ticket o.ticket t) (Some (1 + length values))) (are t)
+    ∙ sym (new_receipt t values v o reads (sym (has_receipt o.ticket values) ∙ is_new values v o reads first))
+
+-- a value that puts or removes a name
+pub changed : (values : List (List ℕ)) (v : List ℕ) (o : Order) (i : ℕ) (live site : SiteSeen) (kept : List SiteSeen) (receipts new : BTreeMap Ticket ℕ) → Keeps values live kept receipts
+    → length values < MAX_INSTANCE → value_reading v ≡ Ok o → applied values v ≡ Changed → IsSiteOf site (values ++ v ∷ []) → i ≡ 1 + length values → Updates ticket_cmp receipts new o.ticket (Some i)
+    → Keeps (values ++ v ∷ []) site kept new
+changed values v o i live site kept receipts new is few reads done stands place updates =
+    let none : applied values v ≢ Released = λ e. let never : Changed ≡ Released = sym done ∙ e in cc in
+    let first : applied values v ≢ Repeat = λ e. let never : Changed ≡ Repeat = sym done ∙ e in cc in
+    record {
+      few = longer values v few;
+      stands = stands;
+      count = is.count ∙ sym (no_more values v none);
+      each = all_still values v kept is.count is.each;
+      found = receipts_more values v o i receipts new is.found reads first place updates;
+    }
+
+-- a value that is a release, whose site is kept
+pub released : (values : List (List ℕ)) (v : List ℕ) (o : Order) (i : ℕ) (live site : SiteSeen) (kept : List SiteSeen) (receipts new : BTreeMap Ticket ℕ) → Keeps values live kept receipts
+    → length values < MAX_INSTANCE → value_reading v ≡ Ok o → applied values v ≡ Released → IsSiteOf site (values ++ v ∷ []) → i ≡ 1 + length values → Updates ticket_cmp receipts new o.ticket (Some i)
+    → Keeps (values ++ v ∷ []) site (kept ++ site ∷ []) new
+released values v o i live site kept receipts new is few reads done stands place updates =
+    let first : applied values v ≢ Repeat = λ e. let never : Released ≡ Repeat = sym done ∙ e in cc in
+    record {
+      few = longer values v few;
+      stands = stands;
+      count =
+          length-append kept (site ∷ []) ∙ ap (λ n. n + 1) is.count ∙ ap (λ a. release_count (effective values) + one_if_released a) (sym done) ∙ sym (counts values v);
+      each = λ at found there. which at found (one_more kept site at found there);
+      found = receipts_more values v o i receipts new is.found reads first place updates;
+    }
+  where
+    which : (at : ℕ) (found : SiteSeen) → (slice_get kept at ≡ Some found) ⊎ ((at ≡ length kept) × (site ≡ found)) → IsSiteOfRelease (values ++ v ∷ []) (suc at) found
+    which at found (inl there) = all_still values v kept is.count is.each at found there
+    which at found (inr last) =
+        let first : applied values v ≢ Repeat = λ e. let never : Released ≡ Repeat = sym done ∙ e in cc in
+        newest_site values v o (suc at) found reads first (omega (arith, last.0, is.count)) (subst (λ s. IsSiteOf s (values ++ v ∷ [])) last.1 stands)
+
+-- ---- the same of what is kept in memory, whatever room is made in it
+
+abbrev pub IsWhole : Kept SiteSeen → Type 0
+IsWhole k = Keeps (map bytes k.fed.items) k.live k.sites.items k.receipts
+
+abbrev Fed : Kept SiteSeen → Kept SiteSeen → Vec ℕ Global → Type 0
+Fed old new v = new.fed.items ≡ old.fed.items ++ v ∷ []
+
+pub whole_still : (old new : Kept SiteSeen) → new.fed.items ≡ old.fed.items → new.live ≡ old.live → new.sites.items ≡ old.sites.items → new.receipts.entries ≡ old.receipts.entries → IsWhole old → IsWhole new
+whole_still old new fed live sites receipts is =
+    let found : Keeps (map bytes old.fed.items) old.live old.sites.items new.receipts = record {
+      few = is.few;
+      stands = is.stands;
+      count = is.count;
+      each = is.each;
+      found = λ t. ap (λ es. lookup (is_at (ticket_cmp t)) es) receipts ∙ is.found t;
+    } in
+    rw (fed, live, sites) found
+
+pub whole_passed : (old new : Kept SiteSeen) (v : Vec ℕ Global) (values : List (List ℕ)) → map bytes old.fed.items ≡ values → new.live ≡ old.live → new.sites.items ≡ old.sites.items → new.receipts ≡ old.receipts → Fed old new v
+    → IsWhole old → length values < MAX_INSTANCE → applied values v.items ≢ Changed → applied values v.items ≢ Released → IsWhole new
+whole_passed old new v values are live sites receipts fed is few unchanged none =
+    let more = fed_more old.fed.items new.fed.items v fed ∙ ap (λ vs. vs ++ v.items ∷ []) are in
+    rw (more, live, sites, receipts) (passed values v.items old.live old.sites.items old.receipts (subst (λ vs. Keeps vs old.live old.sites.items old.receipts) are is) few unchanged none)
+
+pub whole_changed : (old new : Kept SiteSeen) (v : Vec ℕ Global) (values : List (List ℕ)) (o : Order) (ticket : Ticket) (site : SiteSeen) → map bytes old.fed.items ≡ values → Fed old new v
+    → new.live ≡ site → new.sites.items ≡ old.sites.items ++ [] → Updates ticket_cmp old.receipts new.receipts ticket (Some (length old.fed.items + 1)) → o.ticket ≡ ticket
+    → IsWhole old → length values < MAX_INSTANCE → value_reading v.items ≡ Ok o → Changed ≡ applied values v.items → IsSiteOf site (values ++ v.items ∷ []) → IsWhole new
+whole_changed old new v values o ticket site are fed live sites updates same is few reads done stands =
+    let more = fed_more old.fed.items new.fed.items v fed ∙ ap (λ vs. vs ++ v.items ∷ []) are in
+    let long : length old.fed.items ≡ length values = sym (length-map old.fed.items bytes) ∙ ap length are in
+    rw (more, live, sites ∙ append-nil old.sites.items)
+    (changed values v.items o (length old.fed.items + 1) old.live site old.sites.items old.receipts new.receipts (subst (λ vs. Keeps vs old.live old.sites.items old.receipts) are is) few reads (sym done) stands
+    (omega (arith, long)) (subst (λ t. Updates ticket_cmp old.receipts new.receipts t (Some (length old.fed.items + 1))) (sym same) updates))
+
+pub whole_released : (old new : Kept SiteSeen) (v : Vec ℕ Global) (values : List (List ℕ)) (o : Order) (ticket : Ticket) (site copy : SiteSeen) → map bytes old.fed.items ≡ values → Fed old new v
+    → new.live ≡ site → new.sites.items ≡ old.sites.items ++ copy ∷ [] → copy ≡ site → Updates ticket_cmp old.receipts new.receipts ticket (Some (length old.fed.items + 1)) → o.ticket ≡ ticket
+    → IsWhole old → length values < MAX_INSTANCE → value_reading v.items ≡ Ok o → Released ≡ applied values v.items → IsSiteOf site (values ++ v.items ∷ []) → IsWhole new
+whole_released old new v values o ticket site copy are fed live sites alike updates same is few reads done stands =
+    let more = fed_more old.fed.items new.fed.items v fed ∙ ap (λ vs. vs ++ v.items ∷ []) are in
+    let long : length old.fed.items ≡ length values = sym (length-map old.fed.items bytes) ∙ ap length are in
+    rw (more, live, sites ∙ ap (λ s. old.sites.items ++ s ∷ []) alike)
+    (released values v.items o (length old.fed.items + 1) old.live site old.sites.items old.receipts new.receipts (subst (λ vs. Keeps vs old.live old.sites.items old.receipts) are is) few reads (sym done) stands
+    (omega (arith, long)) (subst (λ t. Updates ticket_cmp old.receipts new.receipts t (Some (length old.fed.items + 1))) (sym same) updates))

@@ -3,4 +3,5 @@ pub mod Places
 pub mod Receipts
 pub mod Answering
 mod Keeping
+mod LookUps
 mod Examples

@@ -1,18 +1,15 @@
 -- A list of values with one more at its end: its commands, and its releases.
-use Rattle.std.proofs.Common.{◌≡◌, ℕ, zero, suc, ◌+◌, ◌<◌, List, [], ◌∷◌, ◌++◌, take, drop, Bool, true, false, cond, Result, Ok, Err, refl, sym, ap, ◌∙◌, append-nil, arith}
-use Rattle.std.proofs.lemmas.List.{take-append-drop}
+use Rattle.std.proofs.Common.{◌≡◌, ℕ, zero, suc, ◌+◌, ◌<◌, List, [], ◌∷◌, ◌++◌, Bool, true, false, cond, Result, Ok, Err, refl, sym, ap, ◌∙◌, append-nil, arith}
 use Rattle.command.specs.Action.{Action, put_template, put_partial, put_data, put_route, remove, release, Order}
 use Rattle.command.specs.Effective.{commands_of, has_ticket, firsts, effective}
 use Rattle.command.specs.Reading.{value_reading}
 use Rattle.command.specs.Releases.{is_release, release_count, through}
 use Rattle.command.specs.declared.fault.CommandFault.{CommandFault}
-use Rattle.command.proofs.EffectiveLemmas.{effective_grows}
 use Rattle.command.proofs.OneMoreLemmas.{count_more}
-use Rattle.command.proofs.ReleaseLemmas.{release_stays}
 use Rattle.content.proofs.Values.{with_none, effective_more}
 use Rattle.content.specs.Answered.{applied, applied_after, answered}
 use Rattle.content.specs.declared.applied.Applied.{Applied}
-use Rattle.content.specs.declared.applied.Applied.TheVariants.{Changed, Released, Repeat, NotACommand}
+use Rattle.content.specs.declared.applied.Applied.TheVariants.{Released, Repeat}
 
 pub repeat_more : (values : List (List ℕ)) (v : List ℕ) (o : Order) → value_reading v ≡ Ok o → has_ticket o.ticket (commands_of values) ≡ true → effective (values ++ v ∷ []) ≡ effective values
 repeat_more values v o reads has = effective_more values v o true reads has ∙ append-nil (effective values)
@@ -22,12 +19,6 @@ repeat_more values v o reads has = effective_more values v o true reads has ∙ 
 abbrev pub one_if_released : Applied → ℕ
 one_if_released Released = 1
 one_if_released _ = 0
-
-pub no_release : (a : Applied) → ¬ (a ≡ Released) → one_if_released a ≡ 0
-no_release Changed none = refl
-no_release Released none = absurd (none refl)
-no_release Repeat none = refl
-no_release NotACommand none = refl
 
 -- what a value was applied as, and whether it adds a release
 pub counts : (values : List (List ℕ)) (v : List ℕ) → release_count (effective (values ++ v ∷ [])) ≡ release_count (effective values) + one_if_released (applied values v)
@@ -53,7 +44,7 @@ counts values v = by (value_reading v) refl
 -- ---- up to a release
 
 -- with fewer releases than n all commands stand in the list of release n, and so does one more
-through_last : (os : List Order) (o : Order) (n : ℕ) → release_count os < n → through (os ++ o ∷ []) n ≡ os ++ o ∷ []
+pub through_last : (os : List Order) (o : Order) (n : ℕ) → release_count os < n → through (os ++ o ∷ []) n ≡ os ++ o ∷ []
 through_last os o zero less = absurd (omega arith)
 through_last [] o (suc n) less = refl
 through_last (x ∷ os) o (suc n) less = step (is_release x.action) (λ m. through_last os o m) less
@@ -62,31 +53,3 @@ through_last (x ∷ os) o (suc n) less = step (is_release x.action) (λ m. throu
         → x ∷ through (os ++ o ∷ []) (cond b n (suc n)) ≡ x ∷ os ++ o ∷ []
     step true later l = ap (λ xs. x ∷ xs) (later n (omega arith))
     step false later l = ap (λ xs. x ∷ xs) (later (suc n) l)
-
--- the values have no more releases than n, and end at the nth if they have it
-abbrev pub IsUpTo : List (List ℕ) → ℕ → ℕ → Type 0
-IsUpTo values n left = (release_count (effective values) + left ≡ n) × (through (effective values) n ≡ effective values)
-
-pub up_to_more : (values : List (List ℕ)) (v : List ℕ) (n left less : ℕ) → IsUpTo values n left → 0 < left → less + one_if_released (applied values v) ≡ left → IsUpTo (values ++ v ∷ []) n less
-up_to_more values v n left less up some takes = (omega (arith, counts values v, up.0, takes), by (value_reading v) refl)
-  where
-    fewer : release_count (effective values) < n
-    fewer = omega (arith, up.0, some)
-
-    new : (o : Order) (b : Bool) → value_reading v ≡ Ok o → has_ticket o.ticket (commands_of values) ≡ b → through (effective (values ++ v ∷ [])) n ≡ effective (values ++ v ∷ [])
-    new o true reads has = ap (λ os. through os n) (repeat_more values v o reads has) ∙ up.1 ∙ sym (repeat_more values v o reads has)
-    new o false reads has =
-        let is : effective (values ++ v ∷ []) ≡ effective values ++ o ∷ [] = effective_more values v o false reads has in
-        ap (λ os. through os n) is ∙ through_last (effective values) o n fewer ∙ sym is
-
-    by : (r : Result Order CommandFault) → value_reading v ≡ r → through (effective (values ++ v ∷ [])) n ≡ effective (values ++ v ∷ [])
-    by (Err fault) reads = let same : effective (values ++ v ∷ []) ≡ effective values = ap firsts (with_none values v fault reads) in ap (λ os. through os n) same ∙ up.1 ∙ sym same
-    by (Ok o) reads = new o (has_ticket o.ticket (commands_of values)) reads refl
-
--- the first k values that end at the nth release leave its list
-pub ends_at : (values : List (List ℕ)) (k n : ℕ) → IsUpTo (take k values) n 0 → effective (take k values) ≡ through (effective values) n
-ends_at values k n up =
-    let front = take k values in
-    let grows = effective_grows front (drop k values) in
-    let is : effective values ≡ effective front ++ grows.0 = ap effective (sym (take-append-drop k values)) ∙ grows.1 in
-    sym up.1 ∙ sym (release_stays (effective front) grows.0 n (omega (arith, up.0))) ∙ ap (λ os. through os n) (sym is)

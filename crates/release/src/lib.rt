@@ -3,10 +3,11 @@
 
 mod answer;
 mod fault;
+mod kept;
 mod laws;
 mod page;
 mod releases;
-mod site_of_release;
+mod step;
 
 pub use answer::Answer;
 pub use fault::AnswerFault;

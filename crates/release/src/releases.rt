@@ -1,33 +1,34 @@
-ghost use Rattle.std.specs.Prelude.{◌≡◌, ◌≢◌, ◌⊎◌, ◌<◌, ◌≤◌, ◌↔◌, ℕ, List, [], ◌∷◌, ◌++◌, length, Some, Ok, IfOk, OnErr, IsErrOf};
+ghost use Rattle.std.specs.Prelude.{◌≡◌, ◌≢◌, ◌⊎◌, ◌<◌, ◌≤◌, ◌↔◌, ℕ, List, [], ◌∷◌, ◌++◌, length, Some, Ok, IfOk, IfSome, IsNone, OnOk, OnErr, IsErrOf};
 ghost use Rattle.site_ids.specs.declared.TheConstants.{MAX_INSTANCE};
 ghost use Rattle.command.specs.Action.{Order};
 ghost use Rattle.command.specs.Effective.{effective};
 ghost use Rattle.command.specs.Reading.{value_reading};
-ghost use Rattle.command.specs.Releases.{is_release as is_release_of, release_count};
+ghost use Rattle.command.specs.Releases.{release_count};
 ghost use Rattle.command.specs.Standing.{StandsFor};
 ghost use Rattle.content.specs.Answered.{applied};
 ghost use Rattle.release.specs.Page.{answer};
 ghost use Rattle.release.specs.Receipts.{receipt_of};
+ghost use Rattle.release.specs.ReleaseSite.{IsSiteOfRelease};
 ghost use Rattle.release.specs.Standing.{answer_view};
 
 use crate::answer::Answer;
 use crate::fault::AnswerFault;
+use crate::kept::{Effect, Kept};
 use crate::page::page;
-use crate::site_of_release::site_of_release;
-use command::{Action, Command, CommandFault, read};
-use content::Applied;
+use crate::step::{Step, step_of};
+use command::{Command, CommandFault, read};
+use content::{Applied, Site};
 use site_ids::{Instance, Ticket};
 use std::alloc::{AllocError, Global};
 use std::collections::BTreeMap;
 use std::marker::Model;
 
-/// The values of a log from its first instance on, and the releases that they make.
+/// The values of a log from its first instance on, and the releases that they make. Each value is applied once, and the
+/// site of each release is kept; kept sites share what they have in common.
 #[derive(Drop)]
 pub struct Releases {
     alloc: Global,
-    fed: Vec<Vec<u8>>,
-    receipts: BTreeMap<Ticket, Instance>,
-    newest: u64,
+    kept: Kept<Site>,
 }
 
 impl Model for Releases {
@@ -55,12 +56,6 @@ fn no_command(fault: CommandFault) -> Result<(), AllocError>
     }
 }
 
-fn is_release(command: &Command) -> bool
-    ensures { (order : Order) → StandsFor command.now order → result ≡ is_release_of order.action }
-{
-    matches!(command.action, Action::Release)
-}
-
 impl Releases {
     /// No values, and no releases.
     pub fn new(alloc: Global) -> Releases
@@ -68,9 +63,12 @@ impl Releases {
     {
         Releases {
             alloc,
-            fed: Vec::new(alloc),
-            receipts: BTreeMap::new(alloc),
-            newest: 0,
+            kept: Kept {
+                fed: Vec::new(alloc),
+                live: Site::new(alloc),
+                sites: Vec::new(alloc),
+                receipts: BTreeMap::new(alloc),
+            },
         }
     }
 
@@ -79,7 +77,7 @@ impl Releases {
         ensures is { result ≡ length self.now }
         ensures range { result ≤ MAX_INSTANCE }
     {
-        self.fed.len()
+        self.kept.fed.len()
     }
 
     /// Takes the value of the next instance.
@@ -90,62 +88,91 @@ impl Releases {
     {
         let kept = Vec::from_slice(self.alloc, value)?;
         match read(self.alloc, value) {
-            Ok(command) => self.take_command(kept, &command),
+            Ok(command) => self.take_command(kept, command),
             Err(fault) => {
                 no_command(fault)?;
-                self.fed.push(kept)?;
+                self.pass(kept)?;
                 Ok(Applied::NotACommand)
             }
         }
     }
 
     /// Takes a value that is a command.
-    fn take_command(&mut self, value: Vec<u8>, command: &Command) -> Result<Applied, AllocError>
+    fn take_command(&mut self, value: Vec<u8>, command: Command) -> Result<Applied, AllocError>
         requires few { length self.old < MAX_INSTANCE }
-        requires reads { (order : Order) × (value_reading value.items ≡ Ok order) × StandsFor command.now order }
+        requires reads { (order : Order) × (value_reading value.items ≡ Ok order) × StandsFor command order }
         ensures ok { IfOk result (λ a. (self.new ≡ self.old ++ (value.items ∷ [])) × (a ≡ applied self.old value.items)) }
         ensures err { OnErr result (self.new ≡ self.old) }
     {
-        if self.receipts.contains_key(&command.ticket) {
-            self.fed.push(value)?;
-            return Ok(Applied::Repeat);
+        let ticket = command.ticket;
+        match step_of(&self.kept.live, command)? {
+            Step::Pass(done) => {
+                self.pass(value)?;
+                Ok(done)
+            }
+            Step::Change(site) => {
+                self.kept.take(Effect {
+                    value,
+                    ticket,
+                    site,
+                    release: None,
+                })?;
+                Ok(Applied::Changed)
+            }
+            Step::Release(site, copy) => {
+                self.kept.take(Effect {
+                    value,
+                    ticket,
+                    site,
+                    release: Some(copy),
+                })?;
+                Ok(Applied::Released)
+            }
         }
-        let Some(instance) = Instance::new(self.fed.len() as u32 + 1) else {
-            unreachable!()
-        };
-        self.fed.reserve(1)?;
-        self.receipts.insert(command.ticket, instance)?;
-        self.fed.push(value)?;
-        if is_release(command) {
-            self.newest += 1;
-            return Ok(Applied::Released);
-        }
-        Ok(Applied::Changed)
+    }
+
+    /// Takes a value that has no effect.
+    fn pass(&mut self, value: Vec<u8>) -> Result<(), AllocError>
+        requires few { length self.old < MAX_INSTANCE }
+        requires passes { (applied self.old value.items ≢ Applied.Changed) × (applied self.old value.items ≢ Applied.Released) }
+        ensures ok { OnOk result (self.new ≡ self.old ++ (value.items ∷ [])) }
+        ensures err { OnErr result (self.new ≡ self.old) }
+    {
+        self.kept.fed.push(value)?;
+        Ok(())
     }
 
     /// The number of the newest release; 0 where there is none.
     pub fn newest(&self) -> u64
         ensures { result ≡ release_count (effective self.now) }
     {
-        self.newest
+        self.kept.sites.len() as u64
     }
 
-    /// The page of release n for a path: its site is computed from the values at each call.
+    /// The site of release n, if there is such a release.
+    pub fn site(&self, n: u64) -> Option<&Site>
+        ensures stands { IfSome result (λ s. IsSiteOfRelease self.now n s.now) }
+        ensures none { IsNone result ↔ ((n ≡ 0) ⊎ (release_count (effective self.now) < n)) }
+    {
+        let place = n.checked_sub(1)?;
+        self.kept.sites.get(place as usize)
+    }
+
+    /// The page of release n for a path.
     pub fn answer(&self, n: u64, path: &str) -> Result<Answer, AnswerFault>
         ensures ok { IfOk result (λ a. answer self.now n path.now ≡ Some (answer_view a)) }
         ensures none { IsErrOf result AnswerFault.NoSuchRelease ↔ ((n ≡ 0) ⊎ (release_count (effective self.now) < n)) }
     {
-        if n == 0 || self.newest < n {
+        let Some(site) = self.site(n) else {
             return Err(AnswerFault::NoSuchRelease);
-        }
-        let site = site_of_release(self.alloc, self.fed.as_slice(), n)?;
-        Ok(page(self.alloc, &site, path)?)
+        };
+        Ok(page(self.alloc, site, path)?)
     }
 
     /// The instance of the first value that is a command with that ticket.
     pub fn receipt(&self, ticket: Ticket) -> Option<Instance>
         ensures { result ≡ receipt_of ticket self.now }
     {
-        self.receipts.get(&ticket).copied()
+        self.kept.receipts.get(&ticket).copied()
     }
 }

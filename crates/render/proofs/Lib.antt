@@ -1,7 +1,8 @@
-pub mod Lines
+pub mod LineLemmas
 pub mod Escapes
 pub mod Rendered
 pub mod NodeMeanings
+pub mod Blanks
 pub mod Examples
 pub mod TagExamples
 pub mod PublicExamples

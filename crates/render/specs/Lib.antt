@@ -1,3 +1,4 @@
 pub mod Printed
 pub mod Meaning
 pub mod Rendering
+pub mod Margin

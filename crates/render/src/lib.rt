@@ -3,7 +3,8 @@
 
 mod escape;
 mod fault;
-mod indent;
+mod lines;
+mod margin;
 mod nodes;
 mod output;
 mod page;

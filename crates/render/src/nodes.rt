@@ -1,27 +1,30 @@
-ghost use Rattle.std.specs.Prelude.{◌≡◌, ◌≤◌, ◌∷◌, map, OnOk};
+ghost use Rattle.std.specs.Prelude.{◌≡◌, ◌≤◌, [], ◌∷◌, map, OnOk};
 ghost use Rattle.context.specs.View.{data_view};
 ghost use Rattle.context.specs.Stack.{stack_of};
 ghost use Rattle.context.specs.LookUp.{look_up, items_of};
 ghost use Rattle.mustache_parse.specs.Tree.{nothing};
-ghost use Rattle.mustache_parse.specs.View.{node_onto, tree_view};
+ghost use Rattle.mustache_parse.specs.View.{node_onto, tree_view, own_under};
+ghost use Rattle.mustache_parse.specs.BlankIndents.{HasBlankIndents};
+ghost use Rattle.mustache_parse.specs.Indenting.{AreBlank};
+ghost use Rattle.render.specs.Margin.{margin_text};
 ghost use Rattle.render.specs.Printed.{printed, escaped};
 ghost use Rattle.render.specs.Meaning.{and_then, costs_one, prints, for_each, where_none, Partials as Texts, meaning_to};
 ghost use Rattle.render.specs.Rendering.{Adds, called_at};
 
 use crate::fault::RenderFault;
-use crate::indent::indented;
+use crate::lines::print_text;
+use crate::margin::{Margin, margin_within};
 use crate::output::Output;
 use crate::partials::Partials;
 use crate::printed::printed;
 use context::{Data, Frame, items, resolve};
 use itoa::Buffer;
-use mustache_parse::{FaultKind, Node, parse};
-use std::alloc::Global;
+use mustache_parse::Node;
 
-/// Where nodes are printed: over which frame, with which partials, and how many more of these may nest.
+/// Where nodes are printed: under which margin, over which frame, with which partials, and how many more of these may nest.
 #[derive(Drop)]
 pub(crate) struct Place<'a, P: Partials> {
-    pub alloc: Global,
+    pub margin: &'a Margin<'a>,
     pub frame: &'a Frame<'a>,
     pub partials: &'a P,
     pub depth: u32,
@@ -60,8 +63,8 @@ pub(crate) fn render_nodes<P: Partials>(
     place: &Place<'_, P>,
     out: &mut Output,
 ) -> Result<(), RenderFault>
-    ensures adds { (texts : Texts) → P.stands place.now.partials.now texts
-        → Adds out.old out.new (meaning_to place.now.depth texts (tree_view nodes.now) (stack_of place.now.frame.now)) result }
+    ensures adds { (texts : Texts) → P.stands place.now.partials.now texts → AreBlank (margin_text place.now.margin.now) → HasBlankIndents (tree_view [] nodes.now)
+        → Adds out.old out.new (meaning_to place.now.depth texts (tree_view (margin_text place.now.margin.now) nodes.now) (stack_of place.now.frame.now)) result }
     ensures spent { OnOk result (out.new.left ≤ out.old.left) }
 {
     for node in nodes {
@@ -76,12 +79,16 @@ fn render_node<P: Partials>(
     place: &Place<'_, P>,
     out: &mut Output,
 ) -> Result<(), RenderFault>
-    ensures adds { (texts : Texts) → P.stands place.now.partials.now texts
-        → Adds out.old out.new (meaning_to place.now.depth texts (node_onto node.now nothing) (stack_of place.now.frame.now)) result }
+    ensures adds { (texts : Texts) → P.stands place.now.partials.now texts → AreBlank (margin_text place.now.margin.now) → HasBlankIndents (node_onto [] node.now nothing)
+        → Adds out.old out.new (meaning_to place.now.depth texts (node_onto (margin_text place.now.margin.now) node.now nothing) (stack_of place.now.frame.now)) result }
     ensures spent { OnOk result (out.new.left ≤ out.old.left) }
 {
     match node {
-        Node::Text(text) => out.print(text.as_str()),
+        Node::Text {
+            text,
+            leads,
+            trails,
+        } => print_text(text.as_str(), *leads, *trails, place.margin, out),
         Node::Variable(name) => render_variable(name.as_str(), place.frame, out),
         Node::Raw(name) => render_raw(name.as_str(), place.frame, out),
         Node::Section { name, block } => {
@@ -94,9 +101,9 @@ fn render_node<P: Partials>(
             let found = items_named(name.as_str(), place.frame);
             render_where_none(block, found, place, out)
         }
-        Node::Partial { name, indent } => {
+        Node::Partial { name, own } => {
             out.charge(1)?;
-            render_partial(name.as_str(), indent.as_str(), place, out)
+            render_partial(name.as_str(), own, place, out)
         }
     }
 }
@@ -109,8 +116,8 @@ fn render_items<P: Partials>(
     place: &Place<'_, P>,
     out: &mut Output,
 ) -> Result<(), RenderFault>
-    ensures adds { (texts : Texts) → P.stands place.now.partials.now texts
-        → Adds out.old out.new (for_each (λ v. meaning_to place.now.depth texts (tree_view block.now) (v ∷ stack_of place.now.frame.now)) (map data_view pushed.now)) result }
+    ensures adds { (texts : Texts) → P.stands place.now.partials.now texts → AreBlank (margin_text place.now.margin.now) → HasBlankIndents (tree_view [] block.now)
+        → Adds out.old out.new (for_each (λ v. meaning_to place.now.depth texts (tree_view (margin_text place.now.margin.now) block.now) (v ∷ stack_of place.now.frame.now)) (map data_view pushed.now)) result }
     ensures spent { OnOk result (out.new.left ≤ out.old.left) }
 {
     for item in pushed {
@@ -136,8 +143,8 @@ fn render_where_none<P: Partials>(
     place: &Place<'_, P>,
     out: &mut Output,
 ) -> Result<(), RenderFault>
-    ensures adds { (texts : Texts) → P.stands place.now.partials.now texts
-        → Adds out.old out.new (where_none (meaning_to place.now.depth texts (tree_view block.now) (stack_of place.now.frame.now)) (map data_view found.now)) result }
+    ensures adds { (texts : Texts) → P.stands place.now.partials.now texts → AreBlank (margin_text place.now.margin.now) → HasBlankIndents (tree_view [] block.now)
+        → Adds out.old out.new (where_none (meaning_to place.now.depth texts (tree_view (margin_text place.now.margin.now) block.now) (stack_of place.now.frame.now)) (map data_view found.now)) result }
     ensures spent { OnOk result (out.new.left ≤ out.old.left) }
 {
     if found.is_empty() {
@@ -147,31 +154,29 @@ fn render_where_none<P: Partials>(
     }
 }
 
-/// Prints a partial, whose text is indented and then read; nothing where it is missing.
+/// Prints a partial: under a longer margin where its tag is standalone, else under none; nothing where it is missing.
 #[cycle(nodes)]
 fn render_partial<P: Partials>(
     name: &str,
-    indent: &str,
+    own: &Option<String>,
     place: &Place<'_, P>,
     out: &mut Output,
 ) -> Result<(), RenderFault>
-    ensures adds { (texts : Texts) → P.stands place.now.partials.now texts
-        → Adds out.old out.new (called_at place.now.depth texts name.now indent.now (stack_of place.now.frame.now)) result }
+    ensures adds { (texts : Texts) → P.stands place.now.partials.now texts → AreBlank (margin_text place.now.margin.now) → AreBlank (own_under (margin_text place.now.margin.now) own.now)
+        → Adds out.old out.new (called_at place.now.depth texts name.now (own_under (margin_text place.now.margin.now) own.now) (stack_of place.now.frame.now)) result }
     ensures spent { OnOk result (out.new.left ≤ out.old.left) }
 {
     let Some(found) = place.partials.find(name) else {
         return Ok(());
     };
-    let text = indented(place.alloc, indent, found.source())?;
-    match parse(place.alloc, text.as_str()) {
-        Ok(template) => match place.depth.checked_sub(1) {
-            Some(depth) => render_nodes(template.nodes(), &Place { depth, ..*place }, out),
-            None => Err(RenderFault::OverLimit),
-        },
-        Err(fault) => match fault.kind {
-            FaultKind::OutOfMemory => Err(RenderFault::OutOfMemory),
-            // This never comes, as indenting keeps trees (a law of mustache_parse).
-            _ => Ok(()),
-        },
-    }
+    let Some(depth) = place.depth.checked_sub(1) else {
+        return Err(RenderFault::OverLimit);
+    };
+    let margin = margin_within(&*own, &*place.margin);
+    let within = Place {
+        depth,
+        margin: &margin,
+        ..*place
+    };
+    render_nodes(found.nodes(), &within, out)
 }

@@ -1,9 +1,10 @@
-ghost use Rattle.std.specs.Prelude.{◌≡◌, IfOk, IsErrOf, Some, None, string_bytes};
+ghost use Rattle.std.specs.Prelude.{◌≡◌, [], IfOk, IsErrOf, Some, None, string_bytes};
 ghost use Rattle.context.specs.View.{data_view};
 ghost use Rattle.mustache_parse.specs.Template.{template_tree};
 ghost use Rattle.render.specs.Meaning.{Partials as Texts, rendering};
 
 use crate::fault::RenderFault;
+use crate::margin::Margin;
 use crate::nodes::{Place, render_nodes};
 use crate::output::Output;
 use crate::partials::Partials;
@@ -22,17 +23,21 @@ pub fn render<P: Partials>(
     partials: &P,
 ) -> Result<String, RenderFault>
     ensures text { IfOk result (λ s. (texts : Texts) → P.stands partials.now texts
-        → rendering texts (template_tree template.now) (data_view page_data.now) ≡ Some (string_bytes s)) }
+        → rendering texts (template_tree [] template.now) (data_view page_data.now) ≡ Some (string_bytes s)) }
     ensures over { IsErrOf result RenderFault.OverLimit → (texts : Texts) → P.stands partials.now texts
-        → rendering texts (template_tree template.now) (data_view page_data.now) ≡ None }
+        → rendering texts (template_tree [] template.now) (data_view page_data.now) ≡ None }
 {
     let mut out = Output::new(alloc);
     let frame = Frame {
         data: page_data,
         below: None,
     };
+    let margin = Margin {
+        own: "",
+        outer: None,
+    };
     let place = Place {
-        alloc,
+        margin: &margin,
         frame: &frame,
         partials,
         depth: MAX_NESTED,

@@ -1,5 +1,5 @@
-//! Rows of sites: each call of the crates from the scanner to the releases once with ample memory, releases by number, maps whose copies share; and
-//! each call with one growth refused.
+//! Rows of sites: each call of the crates from the scanner to the releases once with ample memory, a site by its values, releases by number, maps whose
+//! copies share; and each call with one growth refused.
 #![tactic(auto)]
 
 #[cfg(test)]
@@ -10,3 +10,5 @@ mod maps;
 mod refusals;
 #[cfg(test)]
 mod releases;
+#[cfg(test)]
+mod sites;

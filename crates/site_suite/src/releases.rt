@@ -4,6 +4,7 @@ use content::Applied;
 use release::{AnswerFault, Releases};
 use site_ids::{MAX_INSTANCE, Ticket};
 use std::alloc::{AllocError, Global};
+use std::process::Abort;
 use std::test::Fail;
 
 /// Commands by ticket number, and what each is answered with: the sixth repeats the first one's ticket.
@@ -39,14 +40,17 @@ fn receipt(releases: &Releases, number: u64) -> Option<u32> {
     Some(instance.number())
 }
 
-#[test]
-fn eight_commands(rt: HostRuntime) -> Result<(), Fail> {
-    let alloc = rt.alloc();
-    let mut releases = Releases::new(alloc);
+/// Whether the kept site of a release has the template.
+fn has_template(releases: &Releases, n: u64) -> Option<bool> {
+    let site = releases.site(n)?;
+    Some(site.template("t").is_some())
+}
+
+fn eight(rt: &impl Abort, alloc: Global, releases: &mut Releases) -> Result<(), Fail> {
     assert_eq!(rt; releases.newest(), 0);
     for (number, text, applied) in COMMANDS {
         let value = value_of(alloc, number, text)?;
-        assert_eq!(rt; feed(&mut releases, &value)?, applied, "{text}");
+        assert_eq!(rt; feed(releases, &value)?, applied, "{text}");
     }
     assert_eq!(rt; releases.newest(), 2);
     let pages = [
@@ -62,25 +66,35 @@ fn eight_commands(rt: HostRuntime) -> Result<(), Fail> {
     for n in [0, 3, u64::MAX] {
         let refused = releases.answer(n, "/");
         assert!(rt; matches!(refused, Err(AnswerFault::NoSuchRelease)), "{n}");
+        assert!(rt; releases.site(n).is_none(), "{n}");
     }
-    assert_eq!(rt; receipt(&releases, 1), Some(1));
-    assert_eq!(rt; receipt(&releases, 7), Some(8));
-    assert_eq!(rt; receipt(&releases, 8), None);
+    assert_eq!(rt; has_template(releases, 1), Some(true));
+    assert_eq!(rt; has_template(releases, 2), Some(false));
+    assert_eq!(rt; receipt(releases, 1), Some(1));
+    assert_eq!(rt; receipt(releases, 7), Some(8));
+    assert_eq!(rt; receipt(releases, 8), None);
+    Ok(())
+}
+
+#[test]
+fn eight_commands(rt: HostRuntime) -> Result<(), Fail> {
+    eight(&rt, rt.alloc(), &mut Releases::new(rt.alloc()))
+}
+
+fn no_commands(rt: &impl Abort, alloc: Global, releases: &mut Releases) -> Result<(), Fail> {
+    assert_eq!(rt; feed(releases, b"")?, Applied::NotACommand);
+    let unread = value_of(alloc, 1, "put template t\n{{")?;
+    assert_eq!(rt; feed(releases, &unread)?, Applied::NotACommand);
+    assert_eq!(rt; receipt(releases, 1), None);
+    let release = value_of(alloc, 1, "release\n")?;
+    assert_eq!(rt; feed(releases, &release)?, Applied::Released);
+    assert_eq!(rt; feed(releases, &release)?, Applied::Repeat);
+    assert_eq!(rt; releases.newest(), 1);
+    assert_eq!(rt; receipt(releases, 1), Some(3));
     Ok(())
 }
 
 #[test]
 fn values_that_are_no_commands(rt: HostRuntime) -> Result<(), Fail> {
-    let alloc = rt.alloc();
-    let mut releases = Releases::new(alloc);
-    assert_eq!(rt; feed(&mut releases, b"")?, Applied::NotACommand);
-    let unread = value_of(alloc, 1, "put template t\n{{")?;
-    assert_eq!(rt; feed(&mut releases, &unread)?, Applied::NotACommand);
-    assert_eq!(rt; receipt(&releases, 1), None);
-    let release = value_of(alloc, 1, "release\n")?;
-    assert_eq!(rt; feed(&mut releases, &release)?, Applied::Released);
-    assert_eq!(rt; feed(&mut releases, &release)?, Applied::Repeat);
-    assert_eq!(rt; releases.newest(), 1);
-    assert_eq!(rt; receipt(&releases, 1), Some(3));
-    Ok(())
+    no_commands(&rt, rt.alloc(), &mut Releases::new(rt.alloc()))
 }

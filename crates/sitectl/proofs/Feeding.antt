@@ -1,5 +1,5 @@
 -- The reading of an input, from what each value was answered with as it was fed.
-use Rattle.std.proofs.Common.{◌≡◌, ◌≤◌, ℕ, List, [], ◌∷◌, ◌++◌, Bool, true, false, cond, map, length, Option, Some, None, unwrap_or, Result, Ok, Err, refl, sym, ap, ◌∙◌, arith}
+use Rattle.std.proofs.Common.{◌≡◌, ◌==◌, ◌<◌, ◌≤◌, ℕ, List, [], ◌∷◌, ◌++◌, Bool, true, false, cond, map, length, Option, Some, None, unwrap_or, Result, Ok, Err, refl, sym, ap, ◌∙◌, arith}
 use Rattle.std.proofs.lemmas.List.{map-append}
 use Rattle.command.specs.Action.{Action, put_template, put_partial, put_data, put_route, remove, release, Order}
 use Rattle.command.specs.Effective.{has_ticket, effective}
@@ -41,3 +41,7 @@ asked_is values (Some k) newest n count is = is
 pub nothing_left : (rest : List ℕ) → length rest ≤ 0 → rest ≡ []
 nothing_left [] empty = refl
 nothing_left (b ∷ rest) empty = absurd (omega arith)
+
+pub some_left : (rest : List ℕ) → (length rest == 0) ≡ false → 0 < length rest
+some_left [] none = absurd (let never : true ≡ false = none in cc)
+some_left (b ∷ rest) none = omega arith

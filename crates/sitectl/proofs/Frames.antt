@@ -7,7 +7,7 @@ use Rattle.sitectl.specs.Words.{Lacks, Words, HasWords}
 use Rattle.sitectl.proofs.Cutting.{lacks-append, lacks-cons, one_words}
 
 -- no digit is below 48
-lacks-decimal : (b n : ℕ) → b < 48 → n < 2 ^ 64 → Lacks b (decimal n)
+pub lacks-decimal : (b n : ℕ) → b < 48 → n < 2 ^ 64 → Lacks b (decimal n)
 lacks-decimal b n low small i l = let digit = digit_at (decimal n) i (decimal_is_IsNumeral n small).0.1 l in λ e. omega arith
 
 abbrev line : FramedCommand → List ℕ

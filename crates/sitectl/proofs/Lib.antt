@@ -9,3 +9,8 @@ pub mod OptionValues
 pub mod TwoArguments
 pub mod OptionLemmas
 pub mod Feeding
+pub mod LineLemmas
+pub mod ScheduleLemmas
+pub mod Simulating
+pub mod Simulated
+pub mod OneLine

@@ -8,7 +8,7 @@ use Rattle.sitectl.specs.Framed.{FramedCommand, frame, Fits, HasNoFrame, Splits}
 use Rattle.sitectl.proofs.Cutting.{one_words}
 use Rattle.sitectl.proofs.Frames.{framed_words, frame_has_words}
 
-one_text : (xs us ys vs : List ℕ) → length xs ≡ length us → xs ++ ys ≡ us ++ vs → (xs ≡ us) × (ys ≡ vs)
+pub one_text : (xs us ys vs : List ℕ) → length xs ≡ length us → xs ++ ys ≡ us ++ vs → (xs ≡ us) × (ys ≡ vs)
 one_text xs us ys vs len e = (
   sym (take-append_seam xs ys) ∙ ap₂ take len e ∙ take-append_seam us vs,
   sym (drop-append_seam xs ys) ∙ ap₂ drop len e ∙ drop-append_seam us vs,

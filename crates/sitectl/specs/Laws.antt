@@ -4,6 +4,7 @@ use Rattle.command.specs.Action.{Order}
 use Rattle.sitectl.specs.Framed.{FramedCommand, frame, Fits, Splits}
 use Rattle.sitectl.specs.Reading.{HasReading}
 use Rattle.sitectl.specs.Verdict.{Verdict, IsVerdict}
+use Rattle.sitectl.specs.Schedule.{Line, spelled, Fits as FitsLine}
 
 -- no frame is the beginning of another
 abbrev pub OneFrame : Type 0
@@ -27,3 +28,7 @@ OneVerdict = (input : List ℕ) (release : Option ℕ) (path : List ℕ) (one ot
 
 abbrev pub SomeVerdict : Type 0
 SomeVerdict = (input : List ℕ) (release : Option ℕ) (path : List ℕ) → (verdict : Verdict) × IsVerdict input release path verdict
+
+-- no two lines of a schedule spell the same bytes, and none is the beginning of another
+abbrev pub OneLine : Type 0
+OneLine = (line other : Line) (rest others : List ℕ) → FitsLine line → FitsLine other → spelled line ++ rest ≡ spelled other ++ others → (line ≡ other) × (rest ≡ others)

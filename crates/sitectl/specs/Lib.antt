@@ -7,3 +7,9 @@ pub mod Standing
 pub mod Laws
 pub mod Ends
 pub mod Options
+pub mod Schedule
+pub mod ScheduleView
+pub mod Simulation
+pub mod SimOptions
+pub mod SimulationEnds
+pub mod Stepping

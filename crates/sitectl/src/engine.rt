@@ -1,14 +1,16 @@
 //! The renderer: framed commands in, one page out.
 ghost use Rattle.std.specs.Prelude.{◌≡◌, ◌==◌, IfOk, if◌then◌else◌};
-ghost use Rattle.http_read.specs.Bytes.{end_of, IsGiven};
+ghost use Rattle.http_read.specs.Bytes.{end_of};
+ghost use Rattle.release.specs.Page.{answer, asked};
 ghost use Rattle.sitectl.specs.Ends.{HasRun};
 ghost use Rattle.sitectl.specs.View.{verdict_view};
-ghost use Rattle.sitectl.specs.Verdict.{IsVerdict};
+ghost use Rattle.sitectl.specs.Verdict.{IsVerdict, or_no_release};
 
 use crate::ends::{InputFault, read_all};
 use crate::input::{Input, fed};
+use crate::saying::say;
 use http_read::{Counted, write_all};
-use release::{Answer, AnswerFault};
+use release::{Answer, AnswerFault, Releases};
 use std::alloc::{AllocError, Global};
 use std::io::{Read, Write};
 
@@ -17,6 +19,25 @@ use std::io::{Read, Write};
 pub(crate) enum Outcome {
     Shows(Answer),
     Says(String),
+}
+
+/// The page of the release that is asked for, the newest where none is named; or the line that there is no such release.
+fn answered(
+    alloc: Global,
+    releases: &Releases,
+    release: Option<u64>,
+    path: &str,
+) -> Result<Outcome, AllocError>
+    ensures { IfOk result (λ o. verdict_view o ≡ or_no_release (answer releases.now (asked releases.now release) path.now)) }
+{
+    let n = release.unwrap_or(releases.newest());
+    match releases.answer(n, path) {
+        Ok(answer) => Ok(Outcome::Shows(answer)),
+        Err(AnswerFault::NoSuchRelease) => {
+            Ok(Outcome::Says(String::from_str(alloc, "no release\n")?))
+        }
+        Err(AnswerFault::OutOfMemory) => Err(AllocError),
+    }
 }
 
 /// What the input is answered with.
@@ -30,26 +51,8 @@ fn outcome_of(
 {
     match fed(alloc, input)? {
         Input::Fault(line) => Ok(Outcome::Says(line)),
-        Input::Fed(releases) => {
-            let n = release.unwrap_or(releases.newest());
-            match releases.answer(n, path) {
-                Ok(answer) => Ok(Outcome::Shows(answer)),
-                Err(AnswerFault::NoSuchRelease) => {
-                    Ok(Outcome::Says(String::from_str(alloc, "no release\n")?))
-                }
-                Err(AnswerFault::OutOfMemory) => Err(AllocError),
-            }
-        }
+        Input::Fed(releases) => answered(alloc, &releases, release, path),
     }
-}
-
-/// Writes a line on the other writer, and gives status 1.
-fn say<E: Write>(err: &mut Counted<E>, line: &str) -> u8
-    ensures status { result ≡ 1 }
-    ensures said { IsGiven (end_of E.contents err.old err.new) line.now }
-{
-    let _ = write_all(err, line.as_bytes());
-    1
 }
 
 fn exit_status(page_status: u16) -> u8

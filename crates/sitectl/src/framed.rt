@@ -9,7 +9,7 @@ use memchr::memchr;
 use site_ids::Ticket;
 
 /// The most bytes of a command text.
-const MAX_TEXT: u64 = 1_000_000;
+pub(crate) const MAX_TEXT: u64 = 1_000_000;
 
 #[derive(Clone, Copy)]
 pub(crate) struct Line<'a> {
@@ -28,7 +28,7 @@ pub(crate) struct Framed<'a> {
 }
 
 /// What stands before the first such byte, and after it.
-fn cut(bytes: &[u8], at: u8) -> Option<(&[u8], &[u8])>
+pub(crate) fn cut(bytes: &[u8], at: u8) -> Option<(&[u8], &[u8])>
     ensures { MatchOption result (Lacks at bytes.now) (λ p. IsCut at bytes.now p.0.now p.1.now) }
 {
     let i = memchr(at, bytes)?;
@@ -36,7 +36,7 @@ fn cut(bytes: &[u8], at: u8) -> Option<(&[u8], &[u8])>
 }
 
 /// A number as it is printed: no sign, and no zero in front of another digit.
-fn read_number(word: &[u8]) -> Option<u64>
+pub(crate) fn read_number(word: &[u8]) -> Option<u64>
     ensures { MatchOption result ((n : ℕ) → n < 2 ^ 64 → word.now ≢ decimal n) (λ n. (n < 2 ^ 64) × (word.now ≡ decimal n)) }
 {
     let Ok(text) = str::from_utf8(word) else {

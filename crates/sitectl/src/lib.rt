@@ -3,15 +3,22 @@
 
 mod ends;
 mod engine;
+mod feed;
 mod framed;
 mod input;
 mod laws;
 mod options;
+mod saying;
+mod schedule;
+mod schedule_file;
+mod simulator;
 
 pub use engine::siterender;
 pub use http_read::Counted;
-pub use laws::an_input_has_one_verdict;
+pub use laws::{a_schedule_has_one_reading, an_input_has_one_verdict};
 pub use options::{RenderOptions, render_options};
+pub use schedule_file::{SimOptions, sim_options};
+pub use simulator::sitesim;
 
 #[cfg(test)]
 mod tests;

@@ -2,7 +2,7 @@
 use Rattle.std.proofs.Common.{◌≡◌, ◌≢◌, ◌⊎◌, inl, inr, ⊎_elim, ℕ, zero, suc, ◌+◌, ◌<◌, ◌≤◌, nat_lt, true, false, Result, Ok, Err, Some, List, [], ◌∷◌, ◌++◌, take, length, refl, sym, ap, subst, ◌∙◌, arith, append-nil, append_assoc}
 use Rattle.std.specs.Prelude.{slice_get}
 use Rattle.std.proofs.lemmas.Bool.Decides.{nat_tests}
-use Rattle.site_ids.specs.Majorities.{In}
+use Rattle.site_ids.specs.Lists.{In}
 use Rattle.site_ids.proofs.MemberLemmas.{in_push}
 use Rattle.node.specs.Standing.{OnlyGrows}
 use Rattle.world.specs.declared.event.Event.{Event}

@@ -12,7 +12,7 @@ use Rattle.world.specs.declared.event.Event.{Event}
 use Rattle.world.specs.declared.event.Event.TheVariants.{Submit, Tick, Ask, Deliver, Arm, Crash, Restart}
 use Rattle.world.specs.declared.places.Place.{Place}
 use Rattle.world.specs.Taking.{node_of, IsUnsent}
-use Rattle.world.specs.Places.{Handed, NodeTakes, Settled, Turns, Wants, CallTurns, EventTurns, EventWants}
+use Rattle.world.specs.Places.{Handed, NodeTakes, Settled, Turns, Wants, IsUp, CallTurns, CallWants, EventTurns, EventWants}
 use Rattle.world.proofs.Turning.{on_ok, on_err}
 
 -- what hands out nothing, beside a longer list
@@ -83,17 +83,17 @@ module _ {T E : Type 0} (r : Result T E) (n : ℕ) (event : Event) (old new : Pl
       }))
       told
 
-  pub submit_wants : (q : ℕ) (v : List ℕ) → event ≡ Submit q v → OnErr r ((k p : ℕ) → Wants k p old new [] []) → OnErr r (EventWants n (node_of event) event old new before before)
-  submit_wants q v is told =
+  pub submit_wants : (q : ℕ) (v w : List ℕ) → event ≡ Submit q v → w ≡ v → OnErr r ((k p : ℕ) → CallWants k p (submit w) old new [] []) → OnErr r (EventWants n (node_of event) event old new before before)
+  submit_wants q v w is same told =
       on_err r
-      (λ wants. wants_for n event (Submit q v) old new before before is (record { leads = λ s at. let w = (wants n q).leads s at in (w.0, w.1, refl, w.3) }))
+      (λ wants. wants_for n event (Submit q v) old new before before is (record { leads = λ s at. let x = (subst (λ (y : List ℕ). CallWants n q (submit y) old new [] []) same (wants n q)).leads s at in (x.0, x.1, refl, x.3) }))
       told
 
-  pub tick_wants : (q : ℕ) → event ≡ Tick q → OnErr r ((k p : ℕ) → Wants k p old new before after) → OnErr r (EventWants n (node_of event) event old new before after)
+  pub tick_wants : (q : ℕ) → event ≡ Tick q → OnErr r ((k p : ℕ) → CallWants k p tick old new before after) → OnErr r (EventWants n (node_of event) event old new before after)
   tick_wants q is told = on_err r (λ wants. wants_for n event (Tick q) old new before after is (wants n q)) told
 
-  pub ask_wants : (q : ℕ) → event ≡ Ask q → OnErr r ((k p : ℕ) → Wants k p old new before after) → OnErr r (EventWants n (node_of event) event old new before after)
+  pub ask_wants : (q : ℕ) → event ≡ Ask q → OnErr r ((k p : ℕ) → CallWants k p ask old new before after) → OnErr r (EventWants n (node_of event) event old new before after)
   ask_wants q is told = on_err r (λ wants. wants_for n event (Ask q) old new before after is (wants n q)) told
 
-  pub deliver_wants : (q index : ℕ) → event ≡ Deliver q index → OnErr r ((k p : ℕ) → Wants k p old new before after) → OnErr r (EventWants n (node_of event) event old new before after)
+  pub deliver_wants : (q index : ℕ) → event ≡ Deliver q index → OnErr r ((k p : ℕ) → Wants k p IsUp old new before after) → OnErr r (EventWants n (node_of event) event old new before after)
   deliver_wants q index is told = on_err r (λ wants. wants_for n event (Deliver q index) old new before after is (wants n q)) told

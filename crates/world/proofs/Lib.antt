@@ -30,3 +30,4 @@ pub mod Moving
 pub mod Following
 pub mod Beginning
 pub mod Asked
+pub mod Answering

@@ -3,8 +3,7 @@ use Rattle.std.proofs.Common.{◌≡◌, ◌≢◌, ◌⊎◌, inl, inr, ⊎_eli
 use Rattle.std.specs.Prelude.{slice_get, slice_set}
 use Rattle.std.proofs.lemmas.Bool.Decides.{nat_tests}
 use Rattle.site_ids.specs.Ids.{IsNode}
-use Rattle.site_ids.specs.Majorities.{In}
-use Rattle.site_ids.specs.Maps.{put_at}
+use Rattle.site_ids.specs.Lists.{In, put_at}
 use Rattle.site_ids.proofs.MapLemmas.{put_here, put_other}
 use Rattle.site_ids.proofs.MemberLemmas.{in_split}
 use Rattle.wire.specs.declared.message.Message.{Message}
@@ -12,6 +11,8 @@ use Rattle.wire.specs.Messages.{IsMessage}
 use Rattle.node.specs.Nodes.{Up, Down, Node, opened}
 use Rattle.node.specs.Effects.{messages_of}
 use Rattle.node.specs.Calls.{Call, submit, tick, ask, deliver}
+use Rattle.node.specs.declared.fault.NodeFault.TheVariants.{OutOfMemory}
+use Rattle.node.specs.Endings.{Refuses}
 use Rattle.world.specs.declared.event.Event.{Event}
 use Rattle.world.specs.declared.event.Event.TheVariants.{Submit, Tick, Ask, Deliver, Arm, Crash, Restart}
 use Rattle.world.specs.declared.places.Place.{Place}
@@ -20,7 +21,7 @@ use Rattle.world.specs.declared.whole.World.{World as Code}
 use Rattle.world.specs.Worlds.{World, Moves, Becomes, Calls}
 use Rattle.world.specs.Taking.{node_of, IsTaken, Takes, IsUnsent, IsBad, IsRefused}
 use Rattle.world.specs.Standing.{IsPlaceOf, HasPublished, IsWorldOf, IsPublishedAt, IsUnpublishedAt}
-use Rattle.world.specs.Places.{Handed, AtNode, NodeTakes, Wants, RefusesOpening, EventTurns, EventWants, AreMessages}
+use Rattle.world.specs.Places.{Handed, AtNode, NodeTakes, Wants, IsUp, RefusesOpening, EventTurns, EventWants, AreMessages}
 use Rattle.world.specs.Steps.{LeadsTo, KeepsPublished}
 use Rattle.world.proofs.Turning.{not_down}
 
@@ -188,8 +189,8 @@ module _ (old new : Code) (p k : ℕ) (place x : Place) (here : p ≡ suc k) (be
   mine_of : (w : World) → IsWorldOf old w → IsPlaceOf old.cluster p place (w.node p)
   mine_of w stands = subst (λ (q : ℕ). IsPlaceOf old.cluster q place (w.node q)) (sym here) (stands.places k place got)
 
-  pub step_wanted : Wants old.cluster p place x old.sent.items new.sent.items → LeadsTo old new (λ w after. (((w.node p).mode ≡ Up) × (after ≡ w)) × Kept old new w after)
-  step_wanted wants = record {
+  pub step_wanted : (May : Node → Type 0) → Wants old.cluster p May place x old.sent.items new.sent.items → LeadsTo old new (λ w after. (May (w.node p) × (after ≡ w)) × Kept old new w after)
+  step_wanted May wants = record {
     leads = λ w stands.
         let led = wants.leads (w.node p) (mine_of w stands) in
         let mv : Moves old.cluster w p (messages_of []) (w.node p) w = record { in_cluster = at; at = refl; others = λ q apart. refl; sent = sym (append-nil w.sent) } in
@@ -235,10 +236,10 @@ module _ (old new : Code) (p k : ℕ) (place x : Place) (here : p ≡ suc k) (be
 
 pub step_not_taken : (old new : Code) (event : Event) (k : ℕ) (place x : Place) → node_of event ≡ suc k → k < length old.places.items → new.places.items ≡ slice_set old.places.items k x → new.cluster ≡ old.cluster
     → IsNode old.cluster (node_of event) → slice_get old.places.items k ≡ Some place → EventWants old.cluster (node_of event) event place x old.sent.items new.sent.items → LeadsTo old new (λ w after. IsRefused old.cluster w event after × Kept old new w after)
-step_not_taken old new (Submit p v) k place x here below places same at got wants = step_wanted old new p k place x here below places same at got wants
-step_not_taken old new (Tick p) k place x here below places same at got wants = step_wanted old new p k place x here below places same at got wants
-step_not_taken old new (Ask p) k place x here below places same at got wants = step_wanted old new p k place x here below places same at got wants
-step_not_taken old new (Deliver p index) k place x here below places same at got wants = step_wanted old new p k place x here below places same at got wants
+step_not_taken old new (Submit p v) k place x here below places same at got wants = step_wanted old new p k place x here below places same at got (λ s. Refuses s (submit v) OutOfMemory) wants
+step_not_taken old new (Tick p) k place x here below places same at got wants = step_wanted old new p k place x here below places same at got (λ s. Refuses s tick OutOfMemory) wants
+step_not_taken old new (Ask p) k place x here below places same at got wants = step_wanted old new p k place x here below places same at got (λ s. Refuses s ask OutOfMemory) wants
+step_not_taken old new (Deliver p index) k place x here below places same at got wants = step_wanted old new p k place x here below places same at got IsUp wants
 step_not_taken old new (Arm p calls) k place x here below places same at got wants = absurd wants
 step_not_taken old new (Crash p choice) k place x here below places same at got wants = absurd wants
 step_not_taken old new (Restart p) k place x here below places same at got wants = step_refused old new p k place x here below places same at got wants.0 wants.1

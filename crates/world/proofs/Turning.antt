@@ -5,7 +5,7 @@ use Rattle.std.specs.Result.{OnOk, OnErr}
 use Rattle.site_disk.specs.Model.{DiskState, MayLeave, moment, at_rest, after_sync}
 use Rattle.site_disk.specs.Memory.{MemoryStandsFor}
 use Rattle.site_disk.specs.declared.memory.MemDisk.{MemDisk}
-use Rattle.site_ids.specs.Majorities.{In}
+use Rattle.site_ids.specs.Lists.{In}
 use Rattle.wire.specs.declared.message.Message.{Message}
 use Rattle.wire.specs.Messages.{IsMessage}
 use Rattle.durable.specs.Append.{IsSettled}
@@ -26,7 +26,7 @@ use Rattle.world.specs.declared.places.Place.{Place}
 use Rattle.world.specs.declared.places.Place.TheVariants.{Open, Bare}
 use Rattle.world.specs.Taking.{IsTaken}
 use Rattle.world.specs.Standing.{IsOpen, IsPlaceOf}
-use Rattle.world.specs.Places.{Handed, AtNode, Turns, Wants, RefusesOpening, CallTurns, NodeTakes, Settled}
+use Rattle.world.specs.Places.{Handed, AtNode, Turns, Wants, IsUp, RefusesOpening, CallTurns, CallWants, NodeTakes, Settled}
 
 abbrev pub Stands : MemDisk → DiskState → Type 0
 Stands m d = MemoryStandsFor m d
@@ -63,14 +63,13 @@ turned n p call old new ending before after event others taken = record {
 
 -- a call that is refused for memory
 pub wanted : (n p : ℕ) (call : Call) (old new : Running MemDisk) (ending : Ending) (before after : Handed) → IsEvent Stands old new call ending before after → KeepsOthers old new → ending ≡ Refused OutOfMemory
-    → Wants n p (Open old) (Open new) before after
+    → CallWants n p call (Open old) (Open new) before after
 wanted n p call old new ending before after event others is = record {
   leads = λ s here.
       let led = event.leads s here.stands in
       let ends : Ends old.cluster old.me s call (Refused OutOfMemory) led.out led.next = subst (λ (e : Ending). Ends old.cluster old.me s call e led.out led.next) is led.ends in
-      let up : s.mode ≡ Up = ends.refuses.0 in
       let disk = led.on_disk here.state here.on_disk in (
-        up,
+        ends.refuses,
         record {
           me = others.me ∙ here.me;
           cluster = others.cluster ∙ here.cluster;
@@ -112,9 +111,9 @@ taken_at r call here old new ending before after is event others told =
     on_ok r (λ taken n p. subst (λ (x : Place). CallTurns n p call x (Open new) before after) (sym is) (turned n p call old new ending before after event others taken)) told
 
 pub wanted_at : {T E : Type 0} (r : Result T E) (call : Call) (here : Place) (old new : Running MemDisk) (ending : Ending) (before after : Handed) → here ≡ Open old → IsEvent Stands old new call ending before after → KeepsOthers old new
-    → OnErr r (ending ≡ Refused OutOfMemory) → OnErr r ((n p : ℕ) → Wants n p here (Open new) before after)
+    → OnErr r (ending ≡ Refused OutOfMemory) → OnErr r ((n p : ℕ) → CallWants n p call here (Open new) before after)
 wanted_at r call here old new ending before after is event others told =
-    on_err r (λ refused n p. subst (λ (x : Place). Wants n p x (Open new) before after) (sym is) (wanted n p call old new ending before after event others refused)) told
+    on_err r (λ refused n p. subst (λ (x : Place). CallWants n p call x (Open new) before after) (sym is) (wanted n p call old new ending before after event others refused)) told
 
 -- ---- an arming
 
@@ -240,9 +239,13 @@ stopped_at message here node before is stops n p = subst (λ (x : Place). Turns 
   };
 })
 
+-- what may want memory runs
+pub up_wanting : (n p : ℕ) (call : Call) (old new : Place) (before after : Handed) → CallWants n p call old new before after → Wants n p IsUp old new before after
+up_wanting n p call old new before after wants = record { leads = λ s at. let w = wants.leads s at in (w.0.0, w.1, w.2, w.3) }
+
 -- memory for the copy is wanted where the node runs
-pub copy_wanted : (here : Place) (node : Running MemDisk) (before : Handed) → here ≡ Open node → ((s : Node) → IsNodeOf node s → ¬ (s.mode ≡ Stopped)) → (n p : ℕ) → Wants n p here (Open node) before before
-copy_wanted here node before is runs n p = subst (λ (x : Place). Wants n p x (Open node) before before) (sym is) (record {
+pub copy_wanted : (here : Place) (node : Running MemDisk) (before : Handed) → here ≡ Open node → ((s : Node) → IsNodeOf node s → ¬ (s.mode ≡ Stopped)) → (n p : ℕ) → Wants n p IsUp here (Open node) before before
+copy_wanted here node before is runs n p = subst (λ (x : Place). Wants n p IsUp x (Open node) before before) (sym is) (record {
   leads = λ s stands. (is_running node.store.stopped s.mode stands.stands.parts.on_record.mode_is (runs s stands.stands), stands, refl, (λ published. published));
 })
 

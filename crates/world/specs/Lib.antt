@@ -7,3 +7,4 @@ pub mod Standing
 pub mod Places
 pub mod Steps
 pub mod Telling
+pub mod Answering

@@ -1,6 +1,6 @@
 -- What a call makes of one node's place.
 use Rattle.std.specs.Prelude.{◌≡◌, ◌≢◌, ◌⊎◌, ℕ, List, Some, None, true, [], ◌++◌, slice_get}
-use Rattle.site_ids.specs.Majorities.{In}
+use Rattle.site_ids.specs.Lists.{In}
 use Rattle.wire.specs.declared.message.Message.{Message}
 use Rattle.wire.specs.Messages.{IsMessage}
 use Rattle.durable.specs.Entries.{Entry}
@@ -9,13 +9,15 @@ use Rattle.node.specs.declared.to.To.{To}
 use Rattle.node.specs.Nodes.{Mode, Up, Down, Node, opened}
 use Rattle.node.specs.Effects.{messages_of}
 use Rattle.node.specs.Calls.{Call, submit, tick, ask, deliver}
-use Rattle.node.specs.Endings.{Ending, Ends}
+use Rattle.node.specs.declared.fault.NodeFault.TheVariants.{OutOfMemory}
+use Rattle.node.specs.Endings.{Ending, Refuses, Ends}
 use Rattle.world.specs.declared.event.Event.{Event}
 use Rattle.world.specs.declared.event.Event.TheVariants.{Submit, Tick, Ask, Deliver, Arm, Crash, Restart}
 use Rattle.world.specs.declared.places.Place.{Place}
 use Rattle.world.specs.Taking.{IsTaken, node_of}
 use Rattle.world.specs.Standing.{IsPlaceOf, HasPublished}
 
+-- what is handed out, and to whom
 abbrev pub Handed : Type 0
 Handed = List (To × Message)
 
@@ -52,9 +54,9 @@ pub record Turned (n p : ℕ) (Does : Node → Handed → Node → Type 0) (new 
 pub record Turns (n p : ℕ) (Does : Node → Handed → Node → Type 0) (old new : Place) (before after : Handed) : Type 0 where
   pub leads : (s : Node) → IsPlaceOf n p old s → Turned n p Does new before after s
 
--- memory is wanted at a node that runs, and nothing happens; what was published stays
-pub record Wants (n p : ℕ) (old new : Place) (before after : Handed) : Type 0 where
-  pub leads : (s : Node) → IsPlaceOf n p old s → (s.mode ≡ Up) × IsPlaceOf n p new s × (after ≡ before) × (HasPublished old s → HasPublished new s)
+-- memory is wanted at a node that may want it, and nothing happens; what was published stays
+pub record Wants (n p : ℕ) (May : Node → Type 0) (old new : Place) (before after : Handed) : Type 0 where
+  pub leads : (s : Node) → IsPlaceOf n p old s → May s × IsPlaceOf n p new s × (after ≡ before) × (HasPublished old s → HasPublished new s)
 
 -- the opening is refused: the node is down, with its disk as it was
 pub record RefusesOpening (n p : ℕ) (old new : Place) : Type 0 where
@@ -64,15 +66,28 @@ pub record RefusesOpening (n p : ℕ) (old new : Place) : Type 0 where
 abbrev pub CallTurns : ℕ → ℕ → Call → Place → Place → Handed → Handed → Type 0
 CallTurns n p call old new before after = Turns n p (λ s out next. AtNode n p s call out next) old new before after
 
+-- it isn't taken, and want of memory is a cause to refuse it
+abbrev pub CallWants : ℕ → ℕ → Call → Place → Place → Handed → Handed → Type 0
+CallWants n p call old new before after = Wants n p (λ s. Refuses s call OutOfMemory) old new before after
+
+-- the node runs
+abbrev pub IsUp : Node → Type 0
+IsUp s = s.mode ≡ Up
+
 -- the event isn't taken for want of memory
 abbrev pub EventWants : ℕ → ℕ → Event → Place → Place → Handed → Handed → Type 0
 EventWants n p (Restart q) old new before after = RefusesOpening n p old new × (after ≡ before)
 EventWants n p (Arm q calls) old new before after = ⊥
 EventWants n p (Crash q choice) old new before after = ⊥
-EventWants n p _ old new before after = Wants n p old new before after
+EventWants n p (Submit q v) old new before after = CallWants n p (submit v) old new before after
+EventWants n p (Tick q) old new before after = CallWants n p tick old new before after
+EventWants n p (Ask q) old new before after = CallWants n p ask old new before after
+EventWants n p (Deliver q index) old new before after = Wants n p IsUp old new before after
 
+-- all of them are messages of the cluster
 abbrev pub AreMessages : ℕ → Handed → Type 0
 AreMessages n sent = (m : Message) → In (messages_of sent) m → IsMessage n m
 
+-- the event is taken at its node, but for the publication behind it
 abbrev pub EventTurns : ℕ → Event → Place → Place → Handed → Handed → Type 0
 EventTurns n event old new before after = AreMessages n before → Turns n (node_of event) (λ s out next. NodeTakes n (node_of event) (messages_of before) s event out next) old new before after

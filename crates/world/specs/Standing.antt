@@ -3,7 +3,7 @@ use Rattle.std.specs.Prelude.{◌≡◌, ◌≢◌, ℕ, suc, Some, slice_get, �
 use Rattle.site_disk.specs.Model.{DiskState}
 use Rattle.site_disk.specs.Memory.{MemoryStandsFor}
 use Rattle.site_disk.specs.declared.memory.MemDisk.{MemDisk}
-use Rattle.site_ids.specs.Majorities.{In}
+use Rattle.site_ids.specs.Lists.{In}
 use Rattle.wire.specs.declared.message.Message.{Message}
 use Rattle.wire.specs.Messages.{IsMessage}
 use Rattle.durable.specs.Keeping.{Keeps}
@@ -31,6 +31,7 @@ pub record IsBare (n p : ℕ) (disk : MemDisk) (s : Node) : Type 0 where
   pub stands : MemoryStandsFor disk state
   pub keeps : Keeps p n s.entries s.in_flight state
 
+-- the place is that of node p of n
 abbrev pub IsPlaceOf : ℕ → ℕ → Place → Node → Type 0
 IsPlaceOf n p (Open code) s = IsOpen n p code s
 IsPlaceOf n p (Bare disk) s = IsBare n p disk s
@@ -50,7 +51,7 @@ pub record IsWorldOf (code : Code) (w : World) : Type 0 where
 abbrev pub IsPublishedAt : Code → World → ℕ → Type 0
 IsPublishedAt code w p = (k : ℕ) (place : Place) → p ≡ suc k → slice_get code.places.items k ≡ Some place → HasPublished place (w.node p)
 
--- and so it has not, where it isn't down
+-- the node isn't down, and has not
 pub record IsUnpublishedAt (code : Code) (w : World) (p : ℕ) : Type 0 where
   pub up : (w.node p).mode ≢ Down
   pub lacks : ¬ IsPublishedAt code w p

@@ -1,7 +1,7 @@
 -- How a step of a run ends, and a run.
 use Rattle.std.specs.Prelude.{◌≡◌, ◌≢◌, ◌⊎◌, ℕ, suc, Some, Result, Ok, Err, List, [], ◌∷◌, ◌++◌, take, slice_get}
 use mathlib.Core.Logic.{inl, inr}
-use Rattle.site_ids.specs.Majorities.{In}
+use Rattle.site_ids.specs.Lists.{In}
 use Rattle.node.specs.Nodes.{Value}
 use Rattle.node.specs.Effects.{messages_of}
 use Rattle.release.specs.Page.{Page, answer}
@@ -57,6 +57,13 @@ abbrev pub RunEnds : Code → Code → List Event → Result (Unit {0}) WorldFau
 RunEnds old new events (Ok x) = LeadsTo old new (λ w after. TakesAll old.cluster w events after × ArePublished new after events)
 RunEnds old new events (Err (OutOfMemory k)) = LeadsTo old new (λ w after. (wants : WantsMemory old.cluster w events k after) × PublishedAsFar old.cluster events k wants.taken after new wants.ended)
 RunEnds old new events (Err (BadEvent k)) = LeadsTo old new (λ w after. MeetsBadEvent old.cluster w events k after × ArePublished new after (take k events))
+
+-- ---- from one value to a later one
+
+-- a schedule leads from each world that the old value stands for to one that the new value stands for
+pub record Follows (old new : Code) : Type 0 where
+  pub cluster : new.cluster ≡ old.cluster
+  pub leads : (w : World) → IsWorldOf old w → (events : List Event) × (after : World) × Runs old.cluster w events after × IsWorldOf new after
 
 -- ---- since the start
 

@@ -13,6 +13,8 @@ mod whole;
 
 pub use event::Event;
 pub use fault::{AskFault, WorldFault};
-pub use laws::{every_schedule_agrees, runs_are_schedules, worked_schedules_are_taken};
+pub use laws::{
+    every_schedule_agrees, runs_are_schedules, worked_schedules_are_taken, worlds_answer_as_one,
+};
 pub use state::NodeState;
 pub use whole::World;

@@ -33,7 +33,7 @@ impl Place {
     ghost use Rattle.world.specs.declared.event.Event.TheVariants.{Arm};
     ghost use Rattle.world.specs.Standing.{IsPlaceOf, HasPublished};
     ghost use Rattle.world.specs.Taking.{node_of, IsUnsent};
-    ghost use Rattle.world.specs.Places.{EventTurns, EventWants, Turns, Wants, RefusesOpening, CallTurns, NodeTakes, Settled};
+    ghost use Rattle.world.specs.Places.{EventTurns, EventWants, Turns, Wants, IsUp, RefusesOpening, CallTurns, CallWants, NodeTakes, Settled};
 
     /// A node opened over an empty record.
     pub(crate) fn fresh(alloc: Global, cluster: Cluster, me: NodeId) -> Result<Place, AllocError>
@@ -52,7 +52,7 @@ impl Place {
 
     pub(crate) fn submit(&mut self, value: &[u8]) -> Result<(), AllocError>
         ensures ok { OnOk result ((n p : ℕ) → CallTurns n p (submission value.now) self.old self.new [] []) }
-        ensures err { OnErr result ((n p : ℕ) → Wants n p self.old self.new [] []) }
+        ensures err { OnErr result ((n p : ℕ) → CallWants n p (submission value.now) self.old self.new [] []) }
     {
         match self {
             Place::Bare(_) => Ok(()),
@@ -62,7 +62,7 @@ impl Place {
 
     pub(crate) fn tick(&mut self, sent: &mut Outbox) -> Result<(), AllocError>
         ensures ok { OnOk result ((n p : ℕ) → CallTurns n p ticking self.old self.new sent.old.items sent.new.items) }
-        ensures err { OnErr result ((n p : ℕ) → Wants n p self.old self.new sent.old.items sent.new.items) }
+        ensures err { OnErr result ((n p : ℕ) → CallWants n p ticking self.old self.new sent.old.items sent.new.items) }
         ensures grows { OnlyGrows sent.old.items sent.new.items }
     {
         match self {
@@ -73,7 +73,7 @@ impl Place {
 
     pub(crate) fn ask(&mut self, sent: &mut Outbox) -> Result<(), AllocError>
         ensures ok { OnOk result ((n p : ℕ) → CallTurns n p asking self.old self.new sent.old.items sent.new.items) }
-        ensures err { OnErr result ((n p : ℕ) → Wants n p self.old self.new sent.old.items sent.new.items) }
+        ensures err { OnErr result ((n p : ℕ) → CallWants n p asking self.old self.new sent.old.items sent.new.items) }
         ensures grows { OnlyGrows sent.old.items sent.new.items }
     {
         match self {
@@ -92,7 +92,7 @@ impl Place {
         requires { index < length sent.old.items }
         ensures ok { OnOk result ((message : AbstractMessage) → slice_get (messages_of sent.old.items) index ≡ Some message
             → (n p : ℕ) → IsMessage n message → CallTurns n p (delivery message) self.old self.new sent.old.items sent.new.items) }
-        ensures err { OnErr result ((n p : ℕ) → Wants n p self.old self.new sent.old.items sent.new.items) }
+        ensures err { OnErr result ((n p : ℕ) → Wants n p IsUp self.old self.new sent.old.items sent.new.items) }
         ensures grows { OnlyGrows sent.old.items sent.new.items }
     {
         match self {

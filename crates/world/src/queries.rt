@@ -68,7 +68,7 @@ impl World {
         }
     }
 
-    /// How many values a node knows from the first instance on without a gap.
+    /// How many values a node knows from the first instance on without a gap; 0 where it is down.
     pub fn known(&self, node: NodeId) -> u32
         requires { node ≤ self.now.cluster }
         ensures is { (w : AbstractWorld) → IsWorldOf self.now w → (values : List Bytes) × IsKnownPrefix (w.node node) values × (result ≡ length values) }

@@ -27,9 +27,10 @@ impl World {
     ghost use Rattle.world.specs.declared.event.Event.{Event as AbstractEvent};
     ghost use Rattle.world.specs.Worlds.{start};
     ghost use Rattle.world.specs.Standing.{IsWorldOf};
-    ghost use Rattle.world.specs.Steps.{StepEnds, RunEnds, Reached, Reaches};
+    ghost use Rattle.world.specs.Steps.{StepEnds, RunEnds, Follows, Reached, Reaches};
 
-    /// The nodes of a cluster, each opened over an empty record. No message was handed out.
+    /// The nodes of a cluster, each opened over an empty record. No message was handed out. Where a disk or a node finds
+    /// no memory there is no world.
     pub fn new(alloc: Global, cluster: Cluster) -> Result<World, AllocError>
         ensures start { IfOk result (λ world. IsWorldOf world start) }
         ensures whose { IfOk result (λ world. world.cluster ≡ cluster) }
@@ -48,9 +49,13 @@ impl World {
         })
     }
 
-    /// Takes the events in order, until one is a bad one or memory is wanted.
+    /// Takes the events in order, each at its node, which then publishes all that it knows without a gap. It stops at a
+    /// bad event, or where memory is wanted; the fault tells how many events were taken, and a run over those that are
+    /// left goes on from there. A call at a node that is down or stopped does nothing, and so does one that is refused
+    /// for another cause than memory.
     pub fn run(&mut self, events: &[Event]) -> Result<(), WorldFault>
         ensures ends { RunEnds self.old self.new events.now result }
+        ensures follows { Follows self.old self.new }
         ensures reached { (earlier : List AbstractEvent) → Reached self.old earlier → Reaches self.new earlier events.now result }
         ensures grows { OnlyGrows self.old.sent.items self.new.sent.items }
         ensures whose { self.new.cluster ≡ self.old.cluster }

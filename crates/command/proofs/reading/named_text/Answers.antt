@@ -1,4 +1,4 @@
-use Rattle.std.proofs.Common.{◌≡◌, true, arith}
+use Rattle.std.proofs.Common.{◌≡◌, [], true, arith}
 use Rattle.command.specs.Action.{put_template, put_partial}
 use Rattle.command.specs.Reading.{is_name}
 use Rattle.mustache_parse.specs.Template.{template_tree}
@@ -10,7 +10,7 @@ returns-in_ok-from_str-in-Ok-clause-template_put c =
     let named : is_name c.args.of.now ≡ true = grind arith in
     let parsed = c.in-Ok.ensures.ok in (
       put_template c.args.of.now c.args.body.now,
-      template_reads c.args.of.now c.args.body.now (template_tree c.in-Ok.template) named parsed.holds,
+      template_reads c.args.of.now c.args.body.now (template_tree [] c.in-Ok.template) named parsed.holds,
       (c.in_ok-from_str-in-Ok.ensures.ok, parsed),
     )
 
@@ -19,6 +19,6 @@ returns-in_ok-from_str-in-Ok-clause-partial_put c =
     let named : is_name c.args.of.now ≡ true = grind arith in
     let parsed = c.in-Ok.ensures.ok in (
       put_partial c.args.of.now c.args.body.now,
-      partial_reads c.args.of.now c.args.body.now (template_tree c.in-Ok.template) named parsed.holds,
+      partial_reads c.args.of.now c.args.body.now (template_tree [] c.in-Ok.template) named parsed.holds,
       (c.in_ok-from_str-in-Ok.ensures.ok, parsed),
     )

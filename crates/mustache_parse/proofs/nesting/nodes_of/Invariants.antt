@@ -1,7 +1,6 @@
 use Rattle.std.proofs.Common.{drop}
-use Rattle.mustache_scan.specs.View.{tokens_view}
 use Rattle.mustache_parse.proofs.NestedLemmas.{StandsFor}
 use Rattle.mustache_parse.proofs.nesting.nodes_of.Given as goal
 
-abbrev pub invariant-loop-token : goal.invariant-loop-token
-invariant-loop-token l = StandsFor (tokens_view l.tokens) l.nesting (tokens_view (drop l.token-index l.tokens))
+abbrev pub invariant-loop-index : goal.invariant-loop-index
+invariant-loop-index l = StandsFor l.tokens l.nesting l.leads (drop l.index l.tokens)

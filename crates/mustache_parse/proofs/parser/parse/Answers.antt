@@ -1,8 +1,9 @@
-use Rattle.std.proofs.Common.{Ok, Err, sym, ap, ◌∙◌}
+use Rattle.std.proofs.Common.{Err, sym, ap, ◌∙◌, subst}
 use Rattle.std.proofs.lemmas.Result.{err_from_is_err_and}
 use Rattle.mustache_scan.specs.View.{tokens_view}
+use Rattle.mustache_parse.specs.Stack.{AreNodesOf}
 use Rattle.mustache_parse.specs.Tree.{nested}
-use Rattle.mustache_parse.specs.View.{tree_view}
+use Rattle.mustache_parse.proofs.ParseLemmas.{nodes-of_text, blank-nodes, template-of}
 use Rattle.mustache_parse.proofs.TextLemmas.{tree_is, scan_fault}
 use Rattle.mustache_parse.proofs.parser.parse.Goals as goal
 
@@ -20,5 +21,10 @@ returns-in_err-nodes-clause-fault c =
 
 pub new-requires : goal.new-requires
 new-requires c =
-    rw c.in_ok-from_str.ensures.ok (tree_is c.args.source.now (tokens_view c.in_ok-tokens.tokens.items) (Ok (tree_view c.in_ok-nodes.nodes.items)) c.in_ok-tokens.ensures.tokens
-    (ap (λ ts. nested (tokens_view ts)) (sym c.deref.ensures.value) ∙ c.in_ok-nodes.ensures.ok))
+    blank-nodes c.args.source.now c.in_ok-nodes.nodes.items
+    (nodes-of_text c.args.source.now c.in_ok-tokens.tokens.items c.in_ok-nodes.nodes.items c.in_ok-tokens.ensures.tokens c.in_ok-tokens.ensures.marks (subst (λ ts. AreNodesOf ts c.in_ok-nodes.nodes.items) c.deref.ensures.value c.in_ok-nodes.ensures.ok))
+
+pub returns-clause-ok : goal.returns-clause-ok
+returns-clause-ok c =
+    template-of c.args.source.now c.in_ok-nodes.nodes.items c.new.result c.new.ensures
+    (nodes-of_text c.args.source.now c.in_ok-tokens.tokens.items c.in_ok-nodes.nodes.items c.in_ok-tokens.ensures.tokens c.in_ok-tokens.ensures.marks (subst (λ ts. AreNodesOf ts c.in_ok-nodes.nodes.items) c.deref.ensures.value c.in_ok-nodes.ensures.ok))

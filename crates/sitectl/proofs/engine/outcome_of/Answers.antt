@@ -1,16 +1,9 @@
-use Rattle.std.proofs.Common.{◌≡◌, None, Err, ◌∙◌, sym, ap, inr, subst}
-use Rattle.release.specs.Page.{answer, asked}
-use Rattle.release.proofs.Answering.{answer_is_none}
+use Rattle.std.proofs.Common.{inr, subst}
+use Rattle.std.proofs.lemmas.Result.{IfOk-weaker}
 use Rattle.sitectl.specs.Standing.{IsInput}
-use Rattle.sitectl.specs.Verdict.{says, or_no_release}
-use Rattle.sitectl.proofs.Feeding.{asked_is}
 use Rattle.sitectl.proofs.engine.outcome_of.Goals as goal
 
-pub returns-in-Err-NoSuchRelease : goal.returns-in-Err-NoSuchRelease
-returns-in-Err-NoSuchRelease c =
-    let values = c.in-Fed.releases in
+pub returns-in-Fed : goal.returns-in-Fed
+returns-in-Fed c =
     let whole = subst (IsInput c.args.input.now) c.in-Fed.is c.in_ok-line.ensures in
-    let n : c.unwrap_or-n.result ≡ asked values c.args.release = asked_is values c.args.release _ _ c.newest.ensures c.unwrap_or-n.ensures in
-    let none : answer values (asked values c.args.release) c.args.path.now ≡ None =
-    subst (λ k. answer values k c.args.path.now ≡ None) n ((answer_is_none values c.unwrap_or-n.result c.args.path.now).1 (c.in-Err-NoSuchRelease.ensures.none.0 (ap Err c.in-Err-NoSuchRelease.field-0-is))) in
-    inr (values, whole, ap says c.in_ok-from_str-in-Err-NoSuchRelease.ensures.ok ∙ sym (ap or_no_release none))
+    IfOk-weaker c.answered.result _ _ (λ o is. inr (c.in-Fed.releases, whole, is)) c.answered.ensures

@@ -8,7 +8,7 @@ use Rattle.sitectl.specs.Framed.{HasNoFrame}
 use Rattle.sitectl.specs.View.{framed_view}
 use Rattle.sitectl.specs.Reading.{fault_at}
 use Rattle.sitectl.specs.Verdict.{framed_value}
-use Rattle.sitectl.proofs.Feeding.{no_order, some_order, values_more, nothing_left}
+use Rattle.sitectl.proofs.Feeding.{no_order, some_order, values_more, nothing_left, some_left}
 use Rattle.sitectl.proofs.Inputs.{begins_with_frame, begins_more}
 use Rattle.sitectl.proofs.input.fed.Goals as goal
 use Rattle.sitectl.proofs.input.fed.Goals.{in_default-via-in-Some+else-place-le-MAX_COMMANDS, in_default-via-in_default, in-NotACommand, in_default-matches}
@@ -36,7 +36,7 @@ returns-in_default c =
       rest = c.loop-rest.rest.now;
       begins = i.begins;
       few = i.few;
-      some = search rules;
+      some = some_left c.loop-rest.rest.now (sym c.is_empty.ensures ∙ c.loop-rest-test.true);
       stops = stops;
       line_is = c.in_ok-line_at-in_default.ensures ∙ ap (λ k. fault_at (k + 1) (codes "framing")) count;
     })

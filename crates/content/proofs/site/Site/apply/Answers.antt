@@ -6,7 +6,7 @@ use Rattle.content.proofs.site.Site.apply.Goals as goal
 pub returns-in-Ok-clause-ok : goal.returns-in-Ok-clause-ok
 returns-in-Ok-clause-ok c =
     let order = c.in-Ok.ensures.ok in
-    IfOk-weaker c.take.result _ _ (λ a done values is. done values c.args.value.now order.0 order.1 order.2 is) c.take.ensures.ok
+    IfOk-weaker c.apply_command.result _ _ (λ a done values is. done values c.args.value.now order.0 order.1 order.2 is) c.apply_command.ensures.ok
 
 pub returns-in-Err-clause-ok : goal.returns-in-Err-clause-ok
 returns-in-Err-clause-ok c =

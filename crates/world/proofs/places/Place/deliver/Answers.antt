@@ -1,5 +1,5 @@
 use Rattle.node.specs.Calls.{deliver as delivery}
-use Rattle.world.proofs.Turning.{passed_at, stopped_at, copy_wanted, not_passed, taken_at, wanted_at, on_ok, copy_at, turns_of, alien, not_both, err_given}
+use Rattle.world.proofs.Turning.{passed_at, stopped_at, copy_wanted, not_passed, taken_at, wanted_at, up_wanting, on_ok, on_err, copy_at, turns_of, alien, not_both, err_given}
 use Rattle.world.proofs.places.Place.deliver.Goals as goal
 
 pub returns-in-Bare-clause-ok : goal.returns-in-Bare-clause-ok
@@ -25,4 +25,6 @@ returns-else-not-is_of-clause-ok g =
     (taken_at _ (delivery copy) _ _ _ _ _ _ g.in-Open.is g.deliver.ensures.event g.deliver.ensures.others g.passed.ensures.ok)
 
 pub returns-else-not-is_of-clause-err : goal.returns-else-not-is_of-clause-err
-returns-else-not-is_of-clause-err g = wanted_at _ (delivery _) _ _ _ _ _ _ g.in-Open.is g.deliver.ensures.event g.deliver.ensures.others g.passed.ensures.err
+returns-else-not-is_of-clause-err g =
+    let copy = g.in_ok-message-in-Open.message in
+    on_err g.passed.result (λ wants n p. up_wanting n p (delivery copy) _ _ _ _ (wants n p)) (wanted_at _ (delivery copy) _ _ _ _ _ _ g.in-Open.is g.deliver.ensures.event g.deliver.ensures.others g.passed.ensures.err)

@@ -3,6 +3,7 @@ use Rattle.world.specs.declared.fault.WorldFault.TheVariants.{OutOfMemory, BadEv
 use Rattle.world.specs.declared.halt.Halt.{Halt}
 use Rattle.world.specs.Steps.{StepEnds, RunEnds}
 use Rattle.world.proofs.Moving.{got_at}
+use Rattle.world.proofs.Answering.{run_follows}
 use Rattle.world.proofs.Following.{SoFar, one_more, below_of, past_of, none_yet, follow_ok, follow_wanted, follow_unpublished, follow_bad, all_followed, grows_none, grows_on, reaches}
 use Rattle.world.proofs.whole.World.run.Goals as goal
 
@@ -82,3 +83,15 @@ returns-in-Err-Unpublished-clause-grows c = grows_on _ _ _ c.loop-event.invarian
 
 pub returns-in-Err-Bad-clause-grows : goal.returns-in-Err-Bad-clause-grows
 returns-in-Err-Bad-clause-grows c = grows_on _ _ _ c.loop-event.invariant.grows c.step.ensures.grows
+
+pub returns-in-Err-Wanted-clause-follows : goal.returns-in-Err-Wanted-clause-follows
+returns-in-Err-Wanted-clause-follows c = run_follows c.args.self.now c.step.new.self c.args.events.now (Err (OutOfMemory c.loop-event.taken)) (returns-in-Err-Wanted-clause-whose c) (returns-in-Err-Wanted-clause-ends c)
+
+pub returns-in-Err-Unpublished-clause-follows : goal.returns-in-Err-Unpublished-clause-follows
+returns-in-Err-Unpublished-clause-follows c = run_follows c.args.self.now c.step.new.self c.args.events.now (Err (OutOfMemory (c.loop-event.taken + 1))) (returns-in-Err-Unpublished-clause-whose c) (returns-in-Err-Unpublished-clause-ends c)
+
+pub returns-in-Err-Bad-clause-follows : goal.returns-in-Err-Bad-clause-follows
+returns-in-Err-Bad-clause-follows c = run_follows c.args.self.now c.step.new.self c.args.events.now (Err (BadEvent c.loop-event.taken)) (returns-in-Err-Bad-clause-whose c) (returns-in-Err-Bad-clause-ends c)
+
+pub returns-clause-follows : goal.returns-clause-follows
+returns-clause-follows c = run_follows c.args.self.now c.loop-event.self c.args.events.now (Ok tt) (returns-clause-whose c) (returns-clause-ends c)

@@ -1,0 +1,76 @@
+-- What is written on a connection: the responses to its requests, one after another.
+use Rattle.std.specs.Prelude.{◌≡◌, ℕ, zero, suc, ◌+◌, ◌⊎◌, Bool, true, false, List, [], ◌++◌, codes, bytes_eq, Option, Some, Result, Ok, Err}
+use Rattle.http_read.specs.Input.{StopsAt}
+use Rattle.http_read.specs.Requests.{Asked, asks, refuses, stops, Answers}
+use Rattle.http_serve.specs.declared.fault.ServeFault.{ServeFault}
+use Rattle.http_serve.specs.declared.fault.ServeFault.TheVariants.{Read, Write, OutOfMemory, EndedEarly}
+use Rattle.http_serve.specs.Paths.{Place, Names}
+use Rattle.http_serve.specs.Replies.{Reply, print_reply}
+use Rattle.http_serve.specs.Responses.{RepliesTo, refusal}
+use Rattle.http_serve.specs.Services.{Offered, Refuses}
+
+-- whether a connection stays after the response to its n-th request: each is closed after its first
+abbrev pub may_stay : ℕ → Asked → Reply → Bool
+may_stay n request reply = false
+
+-- the response to a request: what its path names, its reply, and the service as it leaves it
+pub record IsResponse {S : Type 0} (service : Offered S) (now : S) (request : Asked) (after : S) (reply : Reply) (text : List ℕ) : Type 0 where
+  pub place : Place
+  pub names : Names request.path place
+  pub replies : RepliesTo service now request place after reply
+  pub spelled : text ≡ print_reply (bytes_eq request.method (codes "HEAD")) reply
+
+-- the n-th request stands at the front of the input, left is what follows it, and this is its response
+pub record IsExchange {S : Type 0} (service : Offered S) (n : ℕ) (now : S) (input left : List ℕ) (after : S) (stays : Bool) (text : List ℕ) : Type 0 where
+  pub request : Asked
+  pub reply : Reply
+  pub asked : Answers input (asks request left)
+  pub answered : IsResponse service now request after reply text
+  pub stays_is : stays ≡ may_stay n request reply
+
+-- the n-th response is the last: to a request, or a refusal
+abbrev pub IsLast : {S : Type 0} → Offered S → ℕ → S → List ℕ → S → List ℕ → Type 0
+IsLast service n now input after text =
+    ((left : List ℕ) × IsExchange service n now input left after false text)
+    ⊎ ((status : ℕ) × (to_head : Bool) × Answers input (refuses status to_head) × (after ≡ now)
+    × (text ≡ print_reply to_head (refusal status)))
+
+-- n whole exchanges, after each of which the connection stays: the service, the input behind them, and all that was written
+abbrev pub HasServed : {S : Type 0} → Offered S → ℕ → S → List ℕ → S → List ℕ → List ℕ → Type 0
+HasServed service zero now input after left text = (after ≡ now) × (left ≡ input) × (text ≡ [])
+HasServed {S} service (suc n) now input after left text =
+    (mid : S) × (between : List ℕ) × (earlier : List ℕ) × (response : List ℕ)
+    × HasServed service n now input mid between earlier × IsExchange service (suc n) mid between left after true response
+    × (text ≡ earlier ++ response)
+
+-- exchanges, and then a last response, which is whole
+abbrev pub IsServed : {S : Type 0} → Offered S → S → List ℕ → S → List ℕ → Type 0
+IsServed {S} service now input after text =
+    (n : ℕ) × (mid : S) × (left : List ℕ) × (earlier : List ℕ) × (response : List ℕ)
+    × HasServed service n now input mid left earlier × IsLast service (n + 1) mid left after response
+    × (text ≡ earlier ++ response)
+
+-- exchanges, and then a beginning of the next response
+abbrev pub IsCutOff : {S : Type 0} → Offered S → S → List ℕ → S → List ℕ → Type 0
+IsCutOff {S} service now input after text =
+    (n : ℕ) × (mid : S) × (left : List ℕ) × (earlier : List ℕ) × (front : List ℕ) × (rest : List ℕ)
+    × HasServed service n now input mid left earlier × (text ≡ earlier ++ front)
+    × (IsLast service (n + 1) mid left after (front ++ rest)
+    ⊎ ((behind : List ℕ) × IsExchange service (n + 1) mid left behind after true (front ++ rest)))
+
+-- exchanges, and nothing behind them, with P of the input that was left and of the service before and after
+abbrev pub IsGivenUp : {S : Type 0} → Offered S → (List ℕ → S → S → Type 0) → S → List ℕ → S → List ℕ → Type 0
+IsGivenUp {S} service P now input after text =
+    (n : ℕ) × (mid : S) × (left : List ℕ) × HasServed service n now input mid left text × P left mid after
+
+-- What comes of a connection with this input, of which the reader has rest: the text that is written, and the service.
+-- Read: what was taken of the next request ends within it. OutOfMemory: a submission was refused at most.
+abbrev pub Serves : {S T : Type 0} → Offered S → S → List ℕ → Option (List ℕ) → S → List ℕ → Result T ServeFault → Type 0
+Serves service now input rest after text (Ok _) = IsServed service now input after text
+Serves service now input rest after text (Err Read) =
+    IsGivenUp service (λ left s t. StopsAt (Some left) rest (λ taken. Answers taken stops) × (t ≡ s)) now input after text
+Serves service now input rest after text (Err Write) = IsCutOff service now input after text
+Serves service now input rest after text (Err OutOfMemory) =
+    IsGivenUp service (λ left s t. (t ≡ s) ⊎ Refuses service s t) now input after text
+Serves service now input rest after text (Err EndedEarly) =
+    IsGivenUp service (λ left s t. Answers left stops × (t ≡ s)) now input after text

@@ -1,0 +1,9 @@
+pub mod Paths
+pub mod Places
+pub mod Replies
+pub mod Shown
+pub mod Services
+pub mod Responses
+pub mod Connections
+pub mod Faults
+pub mod Laws

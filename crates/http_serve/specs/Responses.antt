@@ -1,0 +1,75 @@
+-- Which reply a request has.
+use Rattle.std.specs.Prelude.{◌≡◌, ℕ, ◌⊎◌, false, ◌==◌, if◌then◌else◌, List, [], ◌∷◌, ◌++◌, codes, Option, Some, None, Ok, Err}
+use Rattle.std.specs.Fmt.{decimal}
+use Rattle.command.specs.Written.{line_of}
+use Rattle.release.specs.Page.{Page}
+use Rattle.http_read.specs.Requests.{Asked}
+use Rattle.http_serve.specs.declared.submission.Submission.TheVariants.{Queued, Already}
+use Rattle.http_serve.specs.declared.submission.SubmitFault.TheVariants.{Command, Busy, Stopped, OutOfMemory}
+use Rattle.http_serve.specs.Replies.{Reply}
+use Rattle.http_serve.specs.Paths.{Place, submission, receipt, newest, release, unknown, page}
+use Rattle.http_serve.specs.Services.{Outcome, Offered, Submits}
+
+-- a text, and a line feed behind it
+abbrev pub line : List ℕ → List ℕ
+line text = text ++ 10 ∷ []
+
+-- a plain response
+abbrev pub plain : ℕ → List ℕ → Reply
+plain status text = record { status = status; is_page = false; allowed = None; body = line text }
+
+-- a request that is refused as it is read
+abbrev pub refusal : ℕ → Reply
+refusal status = plain status (
+    if status == 413 then codes "too large"
+    else (if status == 414 then codes "uri too long"
+    else (if status == 431 then codes "head too large"
+    else (if status == 501 then codes "not implemented"
+    else codes "bad request"))))
+
+-- the method isn't one of the place's
+abbrev pub wrong_method : List ℕ → Reply
+wrong_method methods =
+    record { status = 405; is_page = false; allowed = Some methods; body = line (codes "method not allowed") }
+
+-- the receipt of a ticket
+abbrev pub receipt_reply : Option ℕ → Reply
+receipt_reply None = plain 404 (codes "unknown")
+receipt_reply (Some n) = plain 200 (decimal n)
+
+-- the page of a release, or that there is no such release
+abbrev pub page_reply : Option Page → Reply
+page_reply None = plain 404 (codes "no release")
+page_reply (Some p) = record { status = p.status; is_page = p.status == 200; allowed = None; body = p.body }
+
+-- what GET and HEAD are answered at a place
+abbrev pub asked_reply : {S : Type 0} → Offered S → S → List ℕ → Place → Reply
+asked_reply service now path (submission ticket) = wrong_method (codes "POST")
+asked_reply service now path (receipt ticket) = receipt_reply (service.receipt_is now ticket)
+asked_reply service now path newest = plain 200 (decimal (service.newest_is now))
+asked_reply service now path (release n rest) = page_reply (service.page_is now n rest)
+asked_reply service now path unknown = plain 404 (codes "not found")
+asked_reply service now path page =
+    if service.newest_is now == 0 then page_reply None else page_reply (service.page_is now (service.newest_is now) path)
+
+-- what the outcome of a submission is answered; where memory was missing, nothing
+abbrev pub outcome_reply : Outcome → Option Reply
+outcome_reply (Ok Queued) = Some (plain 202 (codes "queued"))
+outcome_reply (Ok Already) = Some (plain 200 (codes "already"))
+outcome_reply (Err (Command fault)) = Some (plain 422 (line_of fault))
+outcome_reply (Err Busy) = Some (plain 503 (codes "busy"))
+outcome_reply (Err Stopped) = Some (plain 503 (codes "stopped"))
+outcome_reply (Err OutOfMemory) = None
+
+-- what POST is answered at a place, and the service as it leaves it: only a submission changes it
+abbrev pub RepliesToPost : {S : Type 0} → Offered S → S → List ℕ → Place → S → Reply → Type 0
+RepliesToPost service now body (submission ticket) after reply =
+    (done : Outcome) × Submits service now ticket body done after × (outcome_reply done ≡ Some reply)
+RepliesToPost service now body unknown after reply = (after ≡ now) × (reply ≡ plain 404 (codes "not found"))
+RepliesToPost service now body place after reply = (after ≡ now) × (reply ≡ wrong_method (codes "GET, HEAD"))
+
+-- the reply to a request at a place, and the service as it leaves it
+abbrev pub RepliesTo : {S : Type 0} → Offered S → S → Asked → Place → S → Reply → Type 0
+RepliesTo service now request place after reply =
+    ((request.method ≡ codes "POST") × RepliesToPost service now request.body place after reply)
+    ⊎ (¬ (request.method ≡ codes "POST") × (after ≡ now) × (reply ≡ asked_reply service now request.path place))

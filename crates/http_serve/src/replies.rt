@@ -1,0 +1,87 @@
+//! The bytes of a response.
+ghost use Rattle.std.specs.Prelude.{◌≡◌, IfOk, string_bytes};
+ghost use Rattle.http_serve.specs.Shown.{reply_of};
+ghost use Rattle.http_serve.specs.Replies.{reply_head, print_reply, reason, media_type};
+
+use std::alloc::{AllocError, Global};
+
+/// A response before it is written.
+#[derive(Drop)]
+pub(crate) struct Response {
+    pub status: u16,
+    /// Whether the body is a page.
+    pub is_page: bool,
+    /// The methods that are allowed, where another was used.
+    pub allowed: Option<&'static str>,
+    pub body: Vec<u8>,
+}
+
+/// The reason phrase of a status; a status without one has none.
+#[tactic(auto, unfolding(crate::specs::Replies::reason))]
+fn reason_of(status: u16) -> &'static str
+    ensures { result.now ≡ reason status }
+{
+    match status {
+        200 => "OK",
+        202 => "Accepted",
+        400 => "Bad Request",
+        404 => "Not Found",
+        405 => "Method Not Allowed",
+        413 => "Content Too Large",
+        414 => "URI Too Long",
+        422 => "Unprocessable Content",
+        431 => "Request Header Fields Too Large",
+        500 => "Internal Server Error",
+        501 => "Not Implemented",
+        503 => "Service Unavailable",
+        _ => "",
+    }
+}
+
+/// The media type of a page, or of a plain text.
+fn media_of(is_page: bool) -> &'static str
+    ensures { result.now ≡ media_type is_page }
+{
+    if is_page {
+        "text/html; charset=utf-8"
+    } else {
+        "text/plain; charset=utf-8"
+    }
+}
+
+/// The head of a response.
+fn head_of(alloc: Global, response: &Response) -> Result<String, AllocError>
+    ensures { IfOk result (λ text. string_bytes text ≡ reply_head (reply_of response.now)) }
+{
+    let status = response.status;
+    let reason = reason_of(status);
+    let media = media_of(response.is_page);
+    let size = response.body.len();
+    match response.allowed {
+        None => {
+            format!(in alloc;
+                "HTTP/1.1 {status} {reason}\r\nContent-Type: {media}\r\nContent-Length: {size}\r\nConnection: close\r\n\r\n"
+            )
+        }
+        Some(methods) => {
+            format!(in alloc;
+                "HTTP/1.1 {status} {reason}\r\nContent-Type: {media}\r\nAllow: {methods}\r\nContent-Length: {size}\r\nConnection: close\r\n\r\n"
+            )
+        }
+    }
+}
+
+/// The whole response; to a HEAD request its head alone.
+pub(crate) fn text_of(
+    alloc: Global,
+    to_head: bool,
+    response: &Response,
+) -> Result<Vec<u8>, AllocError>
+    ensures { IfOk result (λ text. text.items ≡ print_reply to_head (reply_of response.now)) }
+{
+    let mut text = head_of(alloc, response)?.into_bytes();
+    if !to_head {
+        text.extend_from_slice(response.body.as_slice())?;
+    }
+    Ok(text)
+}

@@ -1,0 +1,15 @@
+//! Nodes over disks in memory: worked rows of one node, devices that fail at each call of a put, and each growth refused.
+#![tactic(auto)]
+
+#[cfg(test)]
+mod devices;
+#[cfg(test)]
+mod halt;
+#[cfg(test)]
+mod peer;
+#[cfg(test)]
+mod refusals;
+#[cfg(test)]
+mod rows;
+#[cfg(test)]
+mod samples;

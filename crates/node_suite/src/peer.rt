@@ -1,0 +1,166 @@
+//! A node over a disk in memory, lent to the rows: a row that owned one would have to be proved to let it go at each of its ends.
+ghost use Rattle.std.specs.Prelude.{◌≡◌, IfOk};
+ghost use Rattle.site_ids.specs.Ids.{IsNode};
+
+use crate::halt::Halt;
+use durable::{Record, RecordFault};
+use node::{Node, NodeFault, Outbox, Submitted};
+use site_disk::MemDisk;
+use site_ids::{Cluster, Instance, NodeId, Ticket};
+use std::alloc::Global;
+use wire::Message;
+
+/// Node 1 of a cluster, and what it handed out.
+#[derive(Drop)]
+pub(crate) struct Peer {
+    alloc: Global,
+    cluster: Cluster,
+    me: NodeId,
+    node: Node<MemDisk>,
+    out: Outbox,
+    ghost same: { node.cluster ≡ cluster },
+    ghost of_cluster: { IsNode cluster me },
+}
+
+/// A record that was just made. A growth that was refused leaves a beginning of it behind, so it is made on another disk then.
+fn formatted(alloc: Global, cluster: Cluster, me: NodeId) -> Result<MemDisk, Halt> {
+    let mut disk = MemDisk::new(alloc);
+    match Record::format(cluster, me, &mut disk) {
+        Ok(()) => return Ok(disk),
+        Err(RecordFault::Device) => {}
+        Err(fault) => return Err(Halt::Record(fault)),
+    }
+    let mut disk = MemDisk::new(alloc);
+    Record::format(cluster, me, &mut disk)?;
+    Ok(disk)
+}
+
+/// An opening that was refused memory is tried once more.
+fn opened(alloc: Global, cluster: Cluster, me: NodeId, disk: MemDisk) -> Result<Node<MemDisk>, Halt>
+    requires { IsNode cluster me }
+    ensures { IfOk result (λ node. node.cluster ≡ cluster) }
+{
+    let disk = match Node::open(alloc, cluster, me, disk) {
+        Ok(node) => return Ok(node),
+        Err((RecordFault::OutOfMemory | RecordFault::Device, disk)) => disk,
+        Err((fault, _disk)) => return Err(Halt::Record(fault)),
+    };
+    match Node::open(alloc, cluster, me, disk) {
+        Ok(node) => Ok(node),
+        Err((fault, _disk)) => Err(Halt::Record(fault)),
+    }
+}
+
+impl Peer {
+    /// Node 1 of so many, over a record that was just made.
+    pub(crate) fn fresh(alloc: Global, size: u8) -> Result<Peer, Halt> {
+        let cluster = Cluster::new(size).ok_or(Halt::NotThere)?;
+        let Some(me) = cluster.node(1) else {
+            return Err(Halt::NotThere);
+        };
+        let disk = formatted(alloc, cluster, me)?;
+        let node = opened(alloc, cluster, me, disk)?;
+        Ok(Peer {
+            alloc,
+            cluster,
+            me,
+            node,
+            out: Vec::new(alloc),
+        })
+    }
+
+    /// Closed and opened again, behind a crash by that choice, or without one.
+    pub(crate) fn again(self, crash: Option<u8>) -> Result<Peer, Halt> {
+        let Peer {
+            alloc,
+            cluster,
+            me,
+            node,
+            out,
+        } = self;
+        let mut disk = node.close();
+        match crash {
+            Some(choice) => disk.crash(choice),
+            None => disk.disarm(),
+        }
+        let node = opened(alloc, cluster, me, disk)?;
+        Ok(Peer {
+            alloc,
+            cluster,
+            me,
+            node,
+            out,
+        })
+    }
+
+    pub(crate) fn alloc(&self) -> Global {
+        self.alloc
+    }
+
+    /// A node of the cluster.
+    pub(crate) fn other(&self, number: u8) -> Result<NodeId, Halt> {
+        self.cluster.node(number).ok_or(Halt::NotThere)
+    }
+
+    pub(crate) fn out(&self) -> &Outbox {
+        &self.out
+    }
+
+    pub(crate) fn hand(&mut self, message: &Message) -> Result<(), Halt> {
+        if !message.is_of(self.cluster) {
+            return Err(Halt::NotThere);
+        }
+        match self.node.deliver(message, &mut self.out) {
+            Ok(()) => Ok(()),
+            Err(fault) => Err(Halt::Node(fault)),
+        }
+    }
+
+    pub(crate) fn arm(&mut self, calls: u32) {
+        self.node.arm(calls);
+    }
+
+    pub(crate) fn tick(&mut self) -> Result<(), NodeFault> {
+        self.node.tick(&mut self.out)
+    }
+
+    pub(crate) fn ask(&mut self) -> Result<(), NodeFault> {
+        self.node.ask(&mut self.out)
+    }
+
+    pub(crate) fn submit(&mut self, value: &[u8]) -> Result<Submitted, NodeFault> {
+        self.node.submit(value)
+    }
+
+    pub(crate) fn publish(&mut self) -> Result<u64, NodeFault> {
+        self.node.publish()
+    }
+
+    pub(crate) fn known(&self) -> u32 {
+        self.node.known()
+    }
+
+    pub(crate) fn wants_tick(&self) -> bool {
+        self.node.wants_tick()
+    }
+
+    pub(crate) fn is_stopped(&self) -> bool {
+        self.node.is_stopped()
+    }
+
+    pub(crate) fn newest(&self) -> u64 {
+        self.node.newest()
+    }
+
+    pub(crate) fn receipt(&self, ticket: Ticket) -> Option<Instance> {
+        self.node.receipt(ticket)
+    }
+
+    /// The status of the newest release's page.
+    pub(crate) fn status(&self, path: &str) -> Option<u16> {
+        match self.node.answer(self.node.newest(), path) {
+            Ok(answer) => Some(answer.status),
+            Err(_) => None,
+        }
+    }
+}

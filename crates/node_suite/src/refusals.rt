@@ -1,0 +1,182 @@
+//! Each call with one growth refused, as `tools/refuse-growths` runs this: it answers as ever, or that memory was refused, and then the next try
+//! answers as ever. Where the disk in memory found none its call failed, so the node is opened again; an opening is tried twice.
+use crate::halt::Halt;
+use crate::peer::Peer;
+use crate::samples::{
+    accepted, asked_instance, ballot, chosen, prepare, prepared_round, promise, propose, proposes,
+    question, told_vote, value,
+};
+use node::NodeFault;
+use std::alloc::Global;
+use std::process::Abort;
+use std::test::Fail;
+use wire::Message;
+
+#[derive(Clone, Copy, Debug)]
+enum Step {
+    Submit,
+    Ask,
+    Tick,
+    Publish,
+    Hear(Said),
+}
+
+/// A message about instance 1.
+#[derive(Clone, Copy, Debug)]
+enum Said {
+    /// Of node 3.
+    Propose,
+    Prepare,
+    Question,
+    Chosen,
+    /// Of a node, to the last prepare: it voted for `v` in an earlier round.
+    Promise(u8),
+    /// Of a node, for a release.
+    Vote(u8),
+}
+
+fn promise_of(node: &Peer, from: u8) -> Result<Message, Halt> {
+    let round = prepared_round(node.out()).ok_or(Halt::NotThere)?;
+    let at = ballot(round, node.other(1)?)?;
+    let prior = ballot(1, node.other(2)?)?;
+    promise(node.alloc(), node.other(from)?, at, prior, b"v")
+}
+
+fn vote_of(node: &Peer, from: u8) -> Result<Message, Halt> {
+    let release = value(node.alloc(), 1, "release\n")?;
+    let at = ballot(1, node.other(1)?)?;
+    accepted(node.alloc(), node.other(from)?, at, release.as_slice())
+}
+
+fn message(node: &Peer, said: Said) -> Result<Message, Halt> {
+    let three = node.other(3)?;
+    match said {
+        Said::Propose => propose(node.alloc(), three, 1, b"v"),
+        Said::Prepare => prepare(three, 2),
+        Said::Question => question(three, 1),
+        Said::Chosen => chosen(node.alloc(), three, 1, b"v"),
+        Said::Promise(from) => promise_of(node, from),
+        Said::Vote(from) => vote_of(node, from),
+    }
+}
+
+fn act(node: &mut Peer, step: Step) -> Result<(), Halt> {
+    match step {
+        Step::Submit => {
+            let release = value(node.alloc(), 1, "release\n")?;
+            let _ = node.submit(release.as_slice())?;
+            Ok(())
+        }
+        Step::Ask => Ok(node.ask()?),
+        Step::Tick => Ok(node.tick()?),
+        Step::Publish => {
+            let _ = node.publish()?;
+            Ok(())
+        }
+        Step::Hear(said) => {
+            let message = message(node, said)?;
+            node.hand(&message)
+        }
+    }
+}
+
+/// Whether the step took. One that was refused hands out nothing and makes nothing known.
+fn takes(rt: &impl Abort, node: &mut Peer, step: Step) -> bool {
+    let before = (node.out().len(), node.known());
+    let fault = match act(node, step) {
+        Ok(()) => return true,
+        Err(fault) => fault,
+    };
+    let cause = if node.is_stopped() {
+        NodeFault::Device
+    } else {
+        NodeFault::OutOfMemory
+    };
+    assert_eq!(rt; fault, Halt::Node(cause), "{step:?}");
+    assert!(rt; before == (node.out().len(), node.known()));
+    false
+}
+
+/// The node after the step.
+fn stepped(rt: &impl Abort, node: Peer, step: Step) -> Result<Peer, Halt> {
+    let mut node = node;
+    if takes(rt, &mut node, step) {
+        return Ok(node);
+    }
+    let mut node = if node.is_stopped() {
+        node.again(None)?
+    } else {
+        node
+    };
+    match act(&mut node, step) {
+        Ok(()) => Ok(node),
+        Err(fault) => Err(fault),
+    }
+}
+
+/// Node 1 of three after the steps.
+fn after(rt: &impl Abort, alloc: Global, steps: &[Step]) -> Result<Peer, Halt> {
+    let mut node = Peer::fresh(alloc, 3)?;
+    for step in steps {
+        node = stepped(rt, node, *step)?;
+    }
+    Ok(node)
+}
+
+#[test]
+fn submissions(rt: HostRuntime) -> Result<(), Fail> {
+    let node = after(&rt, rt.alloc(), &[Step::Submit, Step::Ask])?;
+    assert!(rt; node.wants_tick() && asked_instance(node.out()) == Some(1));
+    Ok(())
+}
+
+#[test]
+fn ticks(rt: HostRuntime) -> Result<(), Fail> {
+    let steps = [
+        Step::Tick,
+        Step::Hear(Said::Promise(2)),
+        Step::Hear(Said::Promise(3)),
+    ];
+    let node = after(&rt, rt.alloc(), &steps)?;
+    assert!(rt; proposes(node.out(), b"v"));
+    Ok(())
+}
+
+#[test]
+fn requests(rt: HostRuntime) -> Result<(), Fail> {
+    let steps = [Step::Hear(Said::Propose), Step::Hear(Said::Prepare)];
+    let node = after(&rt, rt.alloc(), &steps)?;
+    assert!(rt; node.out().len() == 2 && told_vote(node.out()) == Some(true));
+    Ok(())
+}
+
+#[test]
+fn openings(rt: HostRuntime) -> Result<(), Fail> {
+    let steps = [Step::Tick, Step::Hear(Said::Propose)];
+    let node = after(&rt, rt.alloc(), &steps)?.again(None)?;
+    let node = stepped(&rt, node, Step::Hear(Said::Prepare))?;
+    assert_eq!(rt; told_vote(node.out()), Some(true));
+    let node = stepped(&rt, node, Step::Tick)?;
+    assert!(rt; prepared_round(node.out()).is_some_and(|round| 1 < round));
+    Ok(())
+}
+
+#[test]
+fn votes_told(rt: HostRuntime) -> Result<(), Fail> {
+    let steps = [
+        Step::Hear(Said::Vote(2)),
+        Step::Hear(Said::Vote(3)),
+        Step::Publish,
+    ];
+    let node = after(&rt, rt.alloc(), &steps)?;
+    assert!(rt; node.known() == 1 && node.newest() == 1);
+    Ok(())
+}
+
+#[test]
+fn values_told(rt: HostRuntime) -> Result<(), Fail> {
+    let steps = [Step::Hear(Said::Chosen), Step::Hear(Said::Question)];
+    let node = after(&rt, rt.alloc(), &steps)?;
+    assert!(rt; node.known() == 1 && node.out().len() == 1);
+    Ok(())
+}

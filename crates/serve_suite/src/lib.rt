@@ -1,0 +1,20 @@
+//! Requests served from a service in memory, as tables: each path with each method, submissions with each outcome, refusals; responses cut in
+//! every way, over readers and writers that fail; a connection with one growth refused.
+#![tactic(auto)]
+
+#[cfg(test)]
+mod cuts;
+#[cfg(test)]
+mod desk;
+#[cfg(test)]
+mod ends;
+#[cfg(test)]
+mod paths;
+#[cfg(test)]
+mod refusals;
+#[cfg(test)]
+mod rows;
+#[cfg(test)]
+mod speed;
+#[cfg(test)]
+mod submissions;

@@ -1,0 +1,148 @@
+//! Each path with each method.
+use crate::desk::{Desk, open_desk};
+use crate::ends::{HTML, PLAIN, Row, check, response};
+use site_ids::Instance;
+use std::alloc::{AllocError, Global};
+use std::process::Abort;
+use std::test::Fail;
+
+const NOT_FOUND: Row = ("404 Not Found", PLAIN, "", "not found\n");
+
+const NO_RELEASE: Row = ("404 Not Found", PLAIN, "", "no release\n");
+
+const UNKNOWN: Row = ("404 Not Found", PLAIN, "", "unknown\n");
+
+const FIRST: Row = ("200 OK", HTML, "", "Hi\n");
+
+const LATER: Row = ("200 OK", HTML, "", "later\n");
+
+const SEVEN: Row = ("200 OK", PLAIN, "", "7\n");
+
+const WANTS_POST: Row = (
+    "405 Method Not Allowed",
+    PLAIN,
+    "Allow: POST\r\n",
+    "method not allowed\n",
+);
+
+const WANTS_GET: Row = (
+    "405 Method Not Allowed",
+    PLAIN,
+    "Allow: GET, HEAD\r\n",
+    "method not allowed\n",
+);
+
+/// Paths of two releases, and what GET answers; HEAD answers the same without the body, and POST wants GET or HEAD.
+const PATHS: [(&str, Row); 18] = [
+    ("/h", LATER),
+    ("/@1/h", FIRST),
+    ("/@2/h", LATER),
+    ("/@0/h", NO_RELEASE),
+    ("/@3/h", NO_RELEASE),
+    ("/@18446744073709551615/", NO_RELEASE),
+    ("/@1/", NOT_FOUND),
+    ("/@1/%C3%A9/@2/h", NOT_FOUND),
+    (
+        "/lost",
+        ("500 Internal Server Error", PLAIN, "", "template missing\n"),
+    ),
+    ("/", NOT_FOUND),
+    ("*", NOT_FOUND),
+    ("/H", NOT_FOUND),
+    ("/h/", NOT_FOUND),
+    ("//h", NOT_FOUND),
+    ("http://a/h", LATER),
+    ("/_newest", ("200 OK", PLAIN, "", "2\n")),
+    ("/_ticket/1/5", UNKNOWN),
+    ("/_ticket/4294967295/18446744073709551615", UNKNOWN),
+];
+
+/// Paths that are kept for the server, and name nothing, whatever the method.
+const RESERVED: [&str; 27] = [
+    "/_",
+    "/_submit",
+    "/_submit/1",
+    "/_submit/1/",
+    "/_submit//5",
+    "/_submit/1/5/",
+    "/_submit/01/5",
+    "/_submit/1/05",
+    "/_submit/+1/5",
+    "/_submit/1/+5",
+    "/_submit/1/%205",
+    "/_submit/-1/5",
+    "/_submit/1/x",
+    "/_submit/4294967296/5",
+    "/_submit/1/18446744073709551616",
+    "/_submits/1/5",
+    "/_ticket/00/0",
+    "/_ticket/1",
+    "/_newest/",
+    "/_newest2",
+    "/%5Fother",
+    "/@",
+    "/@1",
+    "/@01/h",
+    "/@+1/h",
+    "/@x/h",
+    "/@18446744073709551616/",
+];
+
+fn check_path(
+    rt: &impl Abort,
+    alloc: Global,
+    desk: &mut Desk<'_>,
+    path: &str,
+    asked: Row,
+    posted: Row,
+) -> Result<(), AllocError> {
+    for (method, row) in [("GET", asked), ("HEAD", asked), ("POST", posted)] {
+        let request = format!(in alloc; "{method} {path} HTTP/1.1\r\nHost: a\r\n\r\n")?;
+        let expected = response(alloc, row, method == "HEAD")?;
+        check(rt, alloc, desk, request.as_str(), expected.as_str());
+    }
+    Ok(())
+}
+
+fn check_paths(rt: &impl Abort, alloc: Global, desk: &mut Desk<'_>) -> Result<(), AllocError> {
+    for (path, row) in PATHS {
+        check_path(rt, alloc, desk, path, row, WANTS_GET)?;
+    }
+    for path in RESERVED {
+        check_path(rt, alloc, desk, path, NOT_FOUND, NOT_FOUND)?;
+    }
+    for method in ["GET", "HEAD"] {
+        for path in ["/_submit/1/5", "/_submit/0/0"] {
+            let request = format!(in alloc; "{method} {path} HTTP/1.1\r\nHost: a\r\n\r\n")?;
+            let expected = response(alloc, WANTS_POST, method == "HEAD")?;
+            check(rt, alloc, desk, request.as_str(), expected.as_str());
+        }
+    }
+    Ok(())
+}
+
+#[test]
+fn each_path_with_each_method(rt: HostRuntime) -> Result<(), Fail> {
+    let alloc = rt.alloc();
+    let mut desk = open_desk(alloc, "Hi\n", 2);
+    check_paths(&rt, alloc, &mut desk)?;
+    assert!(rt; desk.values.is_empty());
+    Ok(())
+}
+
+#[test]
+fn without_a_release_and_with_a_receipt(rt: HostRuntime) -> Result<(), Fail> {
+    let alloc = rt.alloc();
+    let mut desk = open_desk(alloc, "Hi\n", 0);
+    desk.receipt = Instance::new(7);
+    for (path, row) in [
+        ("/h", NO_RELEASE),
+        ("/@0/h", NO_RELEASE),
+        ("/@1/h", NO_RELEASE),
+        ("/_newest", ("200 OK", PLAIN, "", "0\n")),
+        ("/_ticket/1/5", SEVEN),
+    ] {
+        check_path(&rt, alloc, &mut desk, path, row, WANTS_GET)?;
+    }
+    Ok(())
+}

@@ -1,0 +1,122 @@
+//! Single requests, with the whole bytes of their responses.
+use crate::desk::{Desk, open_desk};
+use crate::ends::{PLAIN, Row, check, response};
+use std::alloc::{AllocError, Global};
+use std::process::Abort;
+use std::test::Fail;
+
+const PAGE: &str =
+    "HTTP/1.1 200 OK\r\nContent-Type: text/html; charset=utf-8\r\nContent-Length: 3\r\nConnection: close\r\n\r\nHi\n";
+
+const PAGE_HEAD: &str =
+    "HTTP/1.1 200 OK\r\nContent-Type: text/html; charset=utf-8\r\nContent-Length: 3\r\nConnection: close\r\n\r\n";
+
+const BAD: &str =
+    "HTTP/1.1 400 Bad Request\r\nContent-Type: text/plain; charset=utf-8\r\nContent-Length: 12\r\nConnection: close\r\n\r\nbad request\n";
+
+const BAD_HEAD: &str =
+    "HTTP/1.1 400 Bad Request\r\nContent-Type: text/plain; charset=utf-8\r\nContent-Length: 12\r\nConnection: close\r\n\r\n";
+
+const ROWS: [(&str, &str); 9] = [
+    ("GET /%68?x HTTP/1.1\r\nHost: a\r\n\r\n", PAGE),
+    ("HEAD /%68?x HTTP/1.1\r\nHost: a\r\n\r\n", PAGE_HEAD),
+    ("GET /h HTTP/1.0\r\n\r\n", PAGE),
+    // What follows a request is left.
+    (
+        "GET /h HTTP/1.1\r\nHost: a\r\n\r\nGET /lost HTTP/1.1\r\n",
+        PAGE,
+    ),
+    ("GET /%68?x HTTP/1.1\r\n\r\n", BAD),
+    ("HEAD /%68?x HTTP/1.1\r\n\r\n", BAD_HEAD),
+    ("HEAD /h HTTP/1.1\r\nHost : a\r\n\r\n", BAD),
+    (
+        "POST /h HTTP/1.1\r\nHost: a\r\n\r\n",
+        "HTTP/1.1 405 Method Not Allowed\r\nContent-Type: text/plain; charset=utf-8\r\nAllow: GET, HEAD\r\nContent-Length: 19\r\nConnection: close\r\n\r\nmethod not allowed\n",
+    ),
+    (
+        "HEAD /_submit/1/5 HTTP/1.1\r\nHost: a\r\n\r\n",
+        "HTTP/1.1 405 Method Not Allowed\r\nContent-Type: text/plain; charset=utf-8\r\nAllow: POST\r\nContent-Length: 19\r\nConnection: close\r\n\r\n",
+    ),
+];
+
+/// What stands behind `GET /h HTTP/1.1` and a Host line, and its refusal.
+const REFUSED: [(&str, Row); 5] = [
+    (
+        "Transfer-Encoding: gzip\r\n\r\n",
+        ("400 Bad Request", PLAIN, "", "bad request\n"),
+    ),
+    (
+        "Transfer-Encoding: gzip, chunked\r\n\r\n",
+        ("501 Not Implemented", PLAIN, "", "not implemented\n"),
+    ),
+    (
+        "Content-Length: 0\r\nTransfer-Encoding: chunked\r\n\r\n",
+        ("400 Bad Request", PLAIN, "", "bad request\n"),
+    ),
+    (
+        "Content-Length: 40001\r\n\r\n",
+        ("413 Content Too Large", PLAIN, "", "too large\n"),
+    ),
+    (
+        "Transfer-Encoding: chunked\r\n\r\n9C41\r\n",
+        ("413 Content Too Large", PLAIN, "", "too large\n"),
+    ),
+];
+
+fn check_rows(rt: &impl Abort, alloc: Global, desk: &mut Desk<'_>) -> Result<(), AllocError> {
+    for (request, expected) in ROWS {
+        check(rt, alloc, desk, request, expected);
+    }
+    for (behind, row) in REFUSED {
+        let request = format!(in alloc; "GET /h HTTP/1.1\r\nHost: a\r\n{behind}")?;
+        let expected = response(alloc, row, false)?;
+        check(rt, alloc, desk, request.as_str(), expected.as_str());
+    }
+    Ok(())
+}
+
+#[test]
+fn single_requests(rt: HostRuntime) -> Result<(), Fail> {
+    let alloc = rt.alloc();
+    let mut desk = open_desk(alloc, "Hi\n", 1);
+    check_rows(&rt, alloc, &mut desk)?;
+    assert!(rt; desk.values.is_empty());
+    Ok(())
+}
+
+/// Heads that are too long, for 414 and for 431.
+fn check_long(rt: &impl Abort, alloc: Global, desk: &mut Desk<'_>) -> Result<(), AllocError> {
+    let mut letters = String::new(alloc);
+    for _ in 0..8_188 {
+        letters.push('a')?;
+    }
+    let letters = letters.as_str();
+    let request = format!(in alloc; "GET /{letters}")?;
+    let expected = response(
+        alloc,
+        ("414 URI Too Long", PLAIN, "", "uri too long\n"),
+        false,
+    )?;
+    check(rt, alloc, desk, request.as_str(), expected.as_str());
+    let request = format!(in alloc; "GET / HTTP/1.1\r\nHost: a\r\nX: {letters}\r\n\r\n")?;
+    let expected = response(
+        alloc,
+        (
+            "431 Request Header Fields Too Large",
+            PLAIN,
+            "",
+            "head too large\n",
+        ),
+        false,
+    )?;
+    check(rt, alloc, desk, request.as_str(), expected.as_str());
+    Ok(())
+}
+
+#[test]
+fn long_heads(rt: HostRuntime) -> Result<(), Fail> {
+    let alloc = rt.alloc();
+    let mut desk = open_desk(alloc, "Hi\n", 1);
+    check_long(&rt, alloc, &mut desk)?;
+    Ok(())
+}

@@ -1,0 +1,118 @@
+//! A site, by the values that it takes, and a copy of it. A site is lent to what is told of it: what owns one is proved to let it go at each of its ends.
+use command::write;
+use content::{Applied, Site};
+use context::Data;
+use mustache_parse::{Node, Template};
+use site_ids::Ticket;
+use std::alloc::{AllocError, Global};
+use std::process::Abort;
+use std::test::Fail;
+
+/// Takes a command text with that number.
+fn take(alloc: Global, site: &mut Site, number: u64, text: &str) -> Result<Applied, AllocError> {
+    let ticket = Ticket { editor: 1, number };
+    let value = write(alloc, ticket, text.as_bytes())?;
+    site.apply(&value)
+}
+
+/// Puts what greets.
+fn greet(alloc: Global, site: &mut Site) -> Result<(), AllocError> {
+    for (number, text) in [
+        (1, "put template t\nHello, {{subject}}!\n"),
+        (2, "put partial t\n{{x}}"),
+        (3, "put data d\n[null,true,{\"a\":[7,\"x\"],\"b\":-1}]"),
+        (4, "put route / t d\n"),
+    ] {
+        let _ = take(alloc, site, number, text)?;
+    }
+    Ok(())
+}
+
+/// The template begins with that text.
+fn prints(template: &Template, first: &str) -> bool {
+    matches!(template.nodes().first(), Some(Node::Text { text, .. }) if text.as_str() == first)
+}
+
+/// The template ends with that variable.
+fn names(template: &Template, last: &str) -> bool {
+    matches!(template.nodes().last(), Some(Node::Variable(name)) if name.as_str() == last)
+}
+
+fn check_answers(rt: &impl Abort, alloc: Global, site: &mut Site) -> Result<(), AllocError> {
+    for (number, text, applied) in [
+        (1, "put template t\na", Applied::Changed),
+        (1, "put template t\nb", Applied::Repeat),
+        (2, "remove data absent\n", Applied::Changed),
+        (3, "put template t\n{{#a}}", Applied::NotACommand),
+        (3, "release\n", Applied::Released),
+    ] {
+        assert_eq!(rt; take(alloc, site, number, text)?, applied, "{text}");
+    }
+    assert_eq!(rt; site.apply(b"")?, Applied::NotACommand);
+    assert!(rt; matches!(site.template("t"), Some(t) if prints(t, "a")));
+    Ok(())
+}
+
+#[test]
+fn answers_of_values(rt: HostRuntime) -> Result<(), Fail> {
+    let mut site = Site::new(rt.alloc());
+    Ok(check_answers(&rt, rt.alloc(), &mut site)?)
+}
+
+fn check_greeting(rt: &impl Abort, site: &Site) {
+    assert!(rt; matches!(site.template("t"), Some(t) if prints(t, "Hello, ")));
+    assert!(rt; matches!(site.partial("t"), Some(t) if names(t, "x")));
+    assert!(rt; matches!(site.route("/"), Some((t, d)) if t == "t" && d == "d"));
+    let Some(Data::List(items)) = site.data("d") else {
+        panic!(rt; "no list");
+    };
+    assert_eq!(rt; items.len(), 3);
+    assert!(rt; matches!(items.last(), Some(Data::Hash(members)) if members.len() == 2));
+}
+
+fn check_contents(rt: &impl Abort, alloc: Global, site: &mut Site) -> Result<(), AllocError> {
+    greet(alloc, site)?;
+    check_greeting(rt, site);
+    assert!(rt;
+        site.template("d").is_none() && site.data("t").is_none() && site.route("t").is_none()
+    );
+    let _ = take(alloc, site, 5, "remove template t\n")?;
+    assert!(rt; site.template("t").is_none() && site.partial("t").is_some());
+    let _ = take(alloc, site, 6, "remove route /\n")?;
+    assert!(rt; site.route("/").is_none());
+    Ok(())
+}
+
+#[test]
+fn contents_by_name(rt: HostRuntime) -> Result<(), Fail> {
+    let mut site = Site::new(rt.alloc());
+    Ok(check_contents(&rt, rt.alloc(), &mut site)?)
+}
+
+/// Either of two takes its own commands.
+fn check_apart(
+    rt: &impl Abort,
+    alloc: Global,
+    site: &mut Site,
+    copy: &mut Site,
+) -> Result<(), AllocError> {
+    let _ = take(alloc, site, 5, "remove template t\n")?;
+    check_greeting(rt, copy);
+    assert_eq!(rt; take(alloc, copy, 4, "remove data d\n")?, Applied::Repeat);
+    assert_eq!(rt; take(alloc, copy, 5, "remove data d\n")?, Applied::Changed);
+    assert!(rt; copy.data("d").is_none() && site.data("d").is_some());
+    assert!(rt; site.template("t").is_none());
+    Ok(())
+}
+
+fn check_copy(rt: &impl Abort, alloc: Global, site: &mut Site) -> Result<(), AllocError> {
+    greet(alloc, site)?;
+    let mut copy = site.copy()?;
+    check_apart(rt, alloc, site, &mut copy)
+}
+
+#[test]
+fn a_copy_is_its_own(rt: HostRuntime) -> Result<(), Fail> {
+    let mut site = Site::new(rt.alloc());
+    Ok(check_copy(&rt, rt.alloc(), &mut site)?)
+}

@@ -1,0 +1,154 @@
+-- Steps of the simulator.
+use Rattle.std.proofs.Common.{◌≡◌, ◌≢◌, ◌⊎◌, ◌==◌, ◌-◌, drop, String, Global, string_bytes, ℕ, zero, suc, ◌<◌, ◌≤◌, ◌+◌, List, [], ◌∷◌, ◌++◌, length, Some, refl, sym, ap, ◌∙◌, subst, arith, append_assoc, length-append, Option, Bool, Result, Ok, Err, inl, inr, false, true}
+use Rattle.std.proofs.Math.Seq.{drop-append_seam}
+use Rattle.std.proofs.KnownBytes.{Consumes-trans}
+use Rattle.std.specs.Io.KnownBytes.{IsAtEnd}
+use Rattle.http_read.specs.Bytes.{End, IsSound}
+use Rattle.node.specs.Effects.{messages_of}
+use Rattle.world.specs.declared.event.Event.{Event}
+use Rattle.world.specs.declared.event.Event.TheVariants.{Deliver}
+use Rattle.world.specs.declared.fault.WorldFault.{WorldFault}
+use Rattle.world.specs.declared.fault.WorldFault.TheVariants.{BadEvent}
+use Rattle.world.specs.Taking.{IsBad, MeetsBadEvent}
+use Rattle.world.specs.Worlds.{World}
+use Rattle.http_read.specs.Counted.{RoseByOne}
+use Rattle.site_ids.specs.Ids.{IsNode}
+use Rattle.world.specs.declared.whole.World.{World as Code}
+use Rattle.world.specs.Standing.{IsWorldOf}
+use Rattle.world.specs.Steps.{Reached, RunEnds}
+use Rattle.sitectl.specs.declared.ends.InputFault.{InputFault}
+use Rattle.sitectl.specs.declared.ends.InputFault.TheVariants as input
+use Rattle.sitectl.specs.declared.simulator.SimFault.{SimFault}
+use Rattle.sitectl.specs.declared.simulator.Simulation.{Simulation}
+use Rattle.sitectl.specs.declared.simulator.SimFault.TheVariants as sim
+use Rattle.sitectl.specs.Schedule.{Line, submit_line, tick_line, ask_line, restart_line, deliver_line, arm_line, crash_line, settle_line, show_line, get_line}
+use Rattle.sitectl.specs.Simulation.{Moment, IsMoment, to_each, deliveries, event_of, Does, TakesOne}
+use Rattle.sitectl.specs.Stepping.{Grown, HasTaken, ReadEnds, FillEnds, BeginEnds, HappenEnds, moment_of, sim_fault}
+
+-- a run of one event meets no other
+pub met_bad : (n k : ℕ) (w after : World) (event : Event) → MeetsBadEvent n w (event ∷ []) k after → IsBad n w.sent event
+met_bad n zero w after event m =
+    let same : event ≡ m.event = cc in
+    let there : after ≡ w = m.takes in
+    subst (λ u. IsBad n u.sent event) there (subst (λ e. IsBad n after.sent e) (sym same) m.bad)
+met_bad n (suc k) w after event m = let none = m.next in cc
+
+pub bad_run : (old new : Code) (event : Event) (events : List Event) (fault : WorldFault) (k : ℕ) (w : World) → RunEnds old new events (Err fault) → fault ≡ BadEvent k → events ≡ event ∷ [] → IsWorldOf old w → IsBad old.cluster w.sent event
+bad_run old new event events fault k w ends is one stands =
+    let led : RunEnds old new (event ∷ []) (Err (BadEvent k)) = subst (λ es. RunEnds old new es (Err (BadEvent k))) one (subst (λ f. RunEnds old new events (Err f)) is ends) in
+    let l = led.leads w stands in met_bad old.cluster k w l.after event l.how.0
+
+-- the fault that a call passes on
+pub same_fault : {T : Type 0} (r : Result T SimFault) (y e f : SimFault) → r ≡ Err y → y ≡ e → r ≡ Err f → e ≡ f
+same_fault r y e f is from other = let same : Err y ≡ Err f = sym is ∙ other in let one : y ≡ f = cc in sym from ∙ one
+
+-- ---- bytes
+
+-- the reader is at its end
+pub ended : (reader : End) (old new : List ℕ) (b : Bool) → b ≡ false → ReadEnds reader old new (Ok b) → Grown reader old new × IsSound reader × IsAtEnd reader.after × (new ≡ old)
+ended reader old new true is h = cc
+ended reader old new false is h = h
+
+pub some_held : (xs held : List ℕ) (b : Bool) → b ≡ false → b ≡ (length held == 0) → held ≡ xs → xs ≢ []
+some_held xs held b other is same empty = let none : length held ≡ 0 = ap length (same ∙ empty) in grind (arith, none, is, other)
+
+pub grown_then : (a b d : Option (List ℕ)) (f g h : ℕ) (old mid new : List ℕ) → Grown (record { before = a; after = b; failures = f; failures_after = g }) old mid
+    → Grown (record { before = b; after = d; failures = g; failures_after = h }) mid new → Grown (record { before = a; after = d; failures = f; failures_after = h }) old new
+grown_then a b d f g h old mid new p q = record {
+  more = p.more ++ q.more;
+  taken = Consumes-trans a b d p.more q.more p.taken q.taken;
+  longer = q.longer ∙ (ap (λ t. t ++ q.more) p.longer ∙ append_assoc old p.more q.more);
+}
+
+pub taken_then : (a b d : Option (List ℕ)) (f g h k : ℕ) (old mid : List ℕ) → Grown (record { before = a; after = b; failures = f; failures_after = g }) old mid
+    → HasTaken (record { before = b; after = d; failures = g; failures_after = h }) → HasTaken (record { before = a; after = d; failures = f; failures_after = k })
+taken_then a b d f g h k old mid p q = (p.more ++ q.0, Consumes-trans a b d p.more q.0 p.taken q.1)
+
+-- a call that fails behind sound ones
+pub fault_then : (a b d : Option (List ℕ)) (f g h : ℕ) (old mid new : List ℕ) (e : InputFault) (r : Result Bool SimFault) → r ≡ Err (sim_fault e)
+    → Grown (record { before = a; after = b; failures = f; failures_after = g }) old mid → g ≡ f → ReadEnds (record { before = b; after = d; failures = g; failures_after = h }) mid new (Err e)
+    → FillEnds (record { before = a; after = d; failures = f; failures_after = h }) old new r
+fault_then a b d f g h old mid new input.Read r is p sound q = rw is (taken_then a b d f g h h old mid p q.0, subst (λ n. RoseByOne n h) sound q.1)
+fault_then a b d f g h old mid new input.OutOfMemory r is p sound q = rw is (taken_then a b d f g h h old mid p q)
+
+pub begin_fault_then : (a b d : Option (List ℕ)) (f g h : ℕ) (old mid new : List ℕ) (e : InputFault) (r : Result Simulation SimFault) → r ≡ Err (sim_fault e)
+    → Grown (record { before = a; after = b; failures = f; failures_after = g }) old mid → g ≡ f → ReadEnds (record { before = b; after = d; failures = g; failures_after = h }) mid new (Err e)
+    → BeginEnds (record { before = a; after = d; failures = f; failures_after = h }) old new r
+begin_fault_then a b d f g h old mid new input.Read r is p sound q = rw is (taken_then a b d f g h h old mid p q.0, subst (λ n. RoseByOne n h) sound q.1)
+begin_fault_then a b d f g h old mid new input.OutOfMemory r is p sound q = rw is (taken_then a b d f g h h old mid p q)
+
+-- what is left behind a front that was used
+pub used_front : (front rest feed held new : List ℕ) → held ≡ front ++ rest → held ≡ feed → new ≡ drop (length held - length rest) feed → feed ≡ front ++ new
+used_front front rest feed held new whole same left =
+    let long : length held ≡ length front + length rest = ap length whole ∙ length-append front rest in
+    let used : length held - length rest ≡ length front = omega (arith, long) in
+    let back : new ≡ rest = left ∙ (ap (λ n. drop n feed) used ∙ (ap (drop (length front)) (sym same ∙ whole) ∙ drop-append_seam front rest)) in
+    sym same ∙ (whole ∙ ap (λ t. front ++ t) (sym back))
+
+-- ---- lines
+
+-- the fault of a settle
+pub settle_fault : (old new : Simulation) (line : Line) (e : SimFault) (r : Result (String Global) SimFault) → r ≡ Err e → (e ≡ sim.BadEvent) ⊎ (e ≡ sim.OutOfMemory)
+    → (e ≡ sim.BadEvent → (n : ℕ) (events : List Event) → ¬ IsMoment n (moment_of old events)) → HappenEnds old new line r
+settle_fault old new line sim.BadLine r is (inl k) bad = cc
+settle_fault old new line sim.BadLine r is (inr k) bad = cc
+settle_fault old new line sim.BadEvent r is k bad = rw is (λ n events m. absurd (bad refl n events m))
+settle_fault old new line sim.OutOfMemory r is k bad = rw is tt
+settle_fault old new line sim.Read r is (inl k) bad = cc
+settle_fault old new line sim.Read r is (inr k) bad = cc
+
+-- the fault of an event
+pub take_fault : (old new : Simulation) (line : Line) (event : Event) (e : SimFault) (r : Result (String Global) SimFault) → r ≡ Err e → event_of line ≡ Some event → (e ≡ sim.BadEvent) ⊎ (e ≡ sim.OutOfMemory)
+    → (e ≡ sim.BadEvent → (w : World) → IsWorldOf old.world w → IsBad old.world.cluster w.sent event) → HappenEnds old new line r
+take_fault old new line event sim.BadLine r is at (inl k) bad = cc
+take_fault old new line event sim.BadLine r is at (inr k) bad = cc
+take_fault old new line event sim.BadEvent r is at k bad = rw is (λ n events m. record { event = event; is = at; bad = λ w stands. subst (λ c. IsBad c w.sent event) m.whose (bad refl w stands) })
+take_fault old new line event sim.OutOfMemory r is at k bad = rw is tt
+take_fault old new line event sim.Read r is at (inl k) bad = cc
+take_fault old new line event sim.Read r is at (inr k) bad = cc
+
+does_one : (n : ℕ) (old new : Moment) (line : Line) (event : Event) (printed : List ℕ) → event_of line ≡ Some event → TakesOne n old line printed new → Does n old line printed new
+does_one n old new (submit_line p ticket text) event printed is t = t
+does_one n old new (tick_line p) event printed is t = t
+does_one n old new (ask_line p) event printed is t = t
+does_one n old new (restart_line p) event printed is t = t
+does_one n old new (deliver_line p index) event printed is t = t
+does_one n old new (arm_line p calls) event printed is t = t
+does_one n old new (crash_line p choice) event printed is t = t
+does_one n old new settle_line event printed is t = cc
+does_one n old new (show_line p) event printed is t = cc
+does_one n old new (get_line p r path) event printed is t = cc
+
+pub happened_one : (old new : Simulation) (line : Line) (event : Event) (text : String Global) → event_of line ≡ Some event → string_bytes text ≡ [] → new.settled ≡ old.settled
+    → ((n : ℕ) (events : List Event) → IsMoment n (moment_of old events) → IsMoment n (moment_of new (events ++ event ∷ []))) → HappenEnds old new line (Ok text)
+happened_one old new line event text is none same ok = λ n events m.
+    let after = ok n events m in
+    (events ++ event ∷ [], after, does_one n _ _ line event _ is (record { event = event; is = is; takes = record { events_are = refl; moment = after }; settled = same; silent = none }))
+
+pub happened_settle : (old new : Simulation) (text : String Global) → string_bytes text ≡ [] → length (messages_of new.world.sent.items) ≤ new.settled
+    → ((n : ℕ) (events : List Event) → IsMoment n (moment_of old events) → (count : ℕ) × (new.settled ≡ old.settled + count) × IsMoment n (moment_of new (events ++ deliveries n old.settled count)))
+    → HappenEnds old new settle_line (Ok text)
+happened_settle old new text none all ok = λ n events m.
+    let s = ok n events m in
+    (events ++ deliveries n old.settled s.0, s.2, (record { count = s.0; takes = record { events_are = refl; moment = s.2 }; settled = s.1; none_left = all }, none))
+
+-- ---- messages to all nodes
+
+pub one_more_told : (n p node index : ℕ) (world : Code) (settled : ℕ) (events : List Event) → node ≡ suc p → IsMoment n (record { world = world; events = (events ++ to_each p index) ++ Deliver node index ∷ []; settled = settled })
+    → IsMoment n (record { world = world; events = events ++ to_each (suc p) index; settled = settled })
+one_more_told n p node index world settled events is m = record {
+  whose = m.whose;
+  reached = subst (λ es. Reached world es) (append_assoc events (to_each p index) (Deliver node index ∷ []) ∙ ap (λ q. events ++ (to_each p index ++ Deliver q index ∷ [])) is) m.reached;
+}
+
+pub settled_more : (n from count index : ℕ) (world : Code) (s t : ℕ) (events : List Event) → index ≡ from + count → IsMoment n (record { world = world; events = (events ++ deliveries n from count) ++ to_each n index; settled = s })
+    → IsMoment n (record { world = world; events = events ++ deliveries n from (suc count); settled = t })
+settled_more n from count index world s t events is m = record {
+  whose = m.whose;
+  reached = subst (λ es. Reached world es) (append_assoc events (deliveries n from count) (to_each n index) ∙ ap (λ i. events ++ (deliveries n from count ++ to_each n i)) is) m.reached;
+}
+
+-- a message that was handed out, to a node of the cluster, is no bad event
+pub not_bad : (n node index : ℕ) (world : Code) (w : World) → IsNode n node → index < length (messages_of world.sent.items) → IsWorldOf world w → ¬ IsBad n w.sent (Deliver node index)
+not_bad n node index world w ok there stands (inl none) = none ok
+not_bad n node index world w ok there stands (inr unsent) = let same : length w.sent ≡ length (messages_of world.sent.items) = ap length stands.sent in omega (arith, same, unsent, there)

@@ -1,0 +1,271 @@
+//! The lines of a schedule.
+ghost use Rattle.std.specs.Prelude.{◌≡◌, ◌≢◌, ℕ, List, ◌∷◌, ◌++◌, ◌<◌, ◌≤◌, ◌^◌, MatchOption, codes, decimal, [], Some, None};
+ghost use Rattle.site_ids.specs.Ids.{IsNode};
+ghost use Rattle.sitectl.specs.Words.{Lacks, IsCut};
+ghost use Rattle.site_ids.specs.declared.Ticket.{Ticket as AbstractTicket};
+ghost use Rattle.sitectl.specs.Schedule.{Line as AbstractLine, joined, words, submit_words, FitsSubmission, Fits, IsPath, body, arm_line, crash_line, get_line};
+ghost use Rattle.sitectl.specs.ScheduleView.{line_view, submission_fits, submission_words, IsFound, IsFoundNodes};
+
+use crate::framed::{MAX_TEXT, cut, read_number};
+use site_ids::{Cluster, MAX_NODES, NodeId, Ticket};
+
+/// A line behind the first, with the words of it that vary. A node of it need not be one of the schedule's nodes.
+#[derive(Clone, Copy, Debug)]
+pub(crate) enum Line<'a> {
+    Submit {
+        node: NodeId,
+        ticket: Ticket,
+        text: &'a [u8],
+    },
+    Tick {
+        node: NodeId,
+    },
+    Ask {
+        node: NodeId,
+    },
+    Restart {
+        node: NodeId,
+    },
+    Deliver {
+        node: NodeId,
+        index: u64,
+    },
+    Arm {
+        node: NodeId,
+        calls: u32,
+    },
+    Crash {
+        node: NodeId,
+        choice: u8,
+    },
+    Settle,
+    Show {
+        node: NodeId,
+    },
+    Get {
+        node: NodeId,
+        release: u64,
+        path: &'a str,
+    },
+}
+
+/// What stands at the front of the bytes that were read so far.
+#[derive(Clone, Copy, Debug)]
+pub(crate) enum Found<'a> {
+    /// A line, and what follows it.
+    Line(Line<'a>, &'a [u8]),
+    /// No line yet.
+    Short,
+    /// No line, whatever follows.
+    Bad,
+}
+
+/// The same for the first line.
+#[derive(Clone, Copy, Debug)]
+pub(crate) enum FoundNodes<'a> {
+    Nodes(Cluster, &'a [u8]),
+    Short,
+    Bad,
+}
+
+/// The words of a submission's line.
+#[derive(Clone, Copy)]
+pub(crate) struct Submission {
+    pub node: NodeId,
+    pub ticket: Ticket,
+    pub text_len: usize,
+}
+
+fn after<'a>(bytes: &'a [u8], front: &str) -> Option<&'a [u8]>
+    ensures { MatchOption result ((rest : List ℕ) → bytes.now ≢ front.now ++ rest) (λ rest. bytes.now ≡ front.now ++ rest.now) }
+{
+    bytes.strip_prefix(front.as_bytes())
+}
+
+/// The number of a node of any cluster.
+fn read_node(word: &[u8]) -> Option<NodeId>
+    ensures { MatchOption result ((p : ℕ) → IsNode 9 p → word.now ≢ decimal p) (λ p. IsNode 9 p × (word.now ≡ decimal p)) }
+{
+    let number = u8::try_from(read_number(word)?).ok()?;
+    let largest = Cluster::new(MAX_NODES)?;
+    largest.node(number)
+}
+
+/// The node of a line of two words.
+fn node_after(head: &[u8], front: &str) -> Option<NodeId>
+    ensures { MatchOption result ((p : ℕ) → IsNode 9 p → head.now ≢ front.now ++ decimal p) (λ p. IsNode 9 p × (head.now ≡ front.now ++ decimal p)) }
+{
+    read_node(after(head, front)?)
+}
+
+/// The word behind a front, and what follows its space.
+fn word_after<'a>(head: &'a [u8], front: &str) -> Option<(&'a [u8], &'a [u8])>
+    ensures { MatchOption result ((word rest : List ℕ) → Lacks 32 word → head.now ≢ front.now ++ (word ++ (32 ∷ rest)))
+        (λ p. Lacks 32 p.0.now × (head.now ≡ front.now ++ (p.0.now ++ (32 ∷ p.1.now)))) }
+{
+    cut(after(head, front)?, b' ')
+}
+
+/// The node and the number of a line of three words.
+fn number_at_node(head: &[u8], front: &str) -> Option<(NodeId, u64)>
+    ensures { MatchOption result ((p n : ℕ) → IsNode 9 p → n < 2 ^ 64 → head.now ≢ front.now ++ (decimal p ++ (32 ∷ decimal n)))
+        (λ r. IsNode 9 r.0 × (r.1 < 2 ^ 64) × (head.now ≡ front.now ++ (decimal r.0 ++ (32 ∷ decimal r.1)))) }
+{
+    let (word, number) = word_after(head, front)?;
+    let node = read_node(word)?;
+    Some((node, read_number(number)?))
+}
+
+/// The words of a submission.
+fn submission_in(head: &[u8]) -> Option<Submission>
+    ensures { MatchOption result ((p : ℕ) (ticket : AbstractTicket) (len : ℕ) → FitsSubmission p ticket len → head.now ≢ joined (submit_words p ticket len))
+        (λ s. submission_fits s × (head.now ≡ joined (submission_words s))) }
+{
+    let (word, rest) = word_after(head, "submit ")?;
+    let (editor, rest) = cut(rest, b' ')?;
+    let (number, length_word) = cut(rest, b' ')?;
+    let node = read_node(word)?;
+    let editor = u32::try_from(read_number(editor)?).ok()?;
+    let number = read_number(number)?;
+    let text_len = read_number(length_word)?;
+    if text_len > MAX_TEXT {
+        return None;
+    }
+    Some(Submission {
+        node,
+        ticket: Ticket { editor, number },
+        text_len: text_len as usize,
+    })
+}
+
+fn arming(head: &[u8]) -> Option<(NodeId, u32)>
+    ensures { MatchOption result ((p calls : ℕ) → IsNode 9 p → calls < 2 ^ 32 → head.now ≢ joined (words (arm_line p calls)))
+        (λ r. IsNode 9 r.0 × (r.1 < 2 ^ 32) × (head.now ≡ joined (words (arm_line r.0 r.1)))) }
+{
+    let (node, calls) = number_at_node(head, "arm ")?;
+    Some((node, u32::try_from(calls).ok()?))
+}
+
+fn crashing(head: &[u8]) -> Option<(NodeId, u8)>
+    ensures { MatchOption result ((p choice : ℕ) → IsNode 9 p → choice < 2 ^ 8 → head.now ≢ joined (words (crash_line p choice)))
+        (λ r. IsNode 9 r.0 × (r.1 < 2 ^ 8) × (head.now ≡ joined (words (crash_line r.0 r.1)))) }
+{
+    let (node, choice) = number_at_node(head, "crash ")?;
+    Some((node, u8::try_from(choice).ok()?))
+}
+
+fn getting(head: &[u8]) -> Option<(NodeId, u64, &str)>
+    requires { Lacks 10 head.now }
+    ensures { MatchOption result ((p n : ℕ) (path : List ℕ) → IsNode 9 p → n < 2 ^ 64 → IsPath path → head.now ≢ joined (words (get_line p n path)))
+        (λ r. IsNode 9 r.0 × (r.1 < 2 ^ 64) × IsPath r.2.now × (head.now ≡ joined (words (get_line r.0 r.1 r.2.now)))) }
+{
+    let (word, rest) = word_after(head, "get ")?;
+    let (number, path) = cut(rest, b' ')?;
+    let node = read_node(word)?;
+    let release = read_number(number)?;
+    if cut(path, b' ').is_some() {
+        return None;
+    }
+    let Ok(path) = str::from_utf8(path) else {
+        return None;
+    };
+    Some((node, release, path))
+}
+
+/// A line that is no submission, without its newline.
+fn plain_line(head: &[u8]) -> Option<Line<'_>>
+    requires { Lacks 10 head.now }
+    ensures { MatchOption result ((line : AbstractLine) → Fits line → body line ≡ [] → head.now ≢ joined (words line))
+        (λ l. Fits (line_view l) × (body (line_view l) ≡ []) × (head.now ≡ joined (words (line_view l)))) }
+{
+    if let Some(node) = node_after(head, "tick ") {
+        return Some(Line::Tick { node });
+    }
+    if let Some(node) = node_after(head, "ask ") {
+        return Some(Line::Ask { node });
+    }
+    if let Some(node) = node_after(head, "restart ") {
+        return Some(Line::Restart { node });
+    }
+    if let Some(node) = node_after(head, "show ") {
+        return Some(Line::Show { node });
+    }
+    if let Some((node, index)) = number_at_node(head, "deliver ") {
+        return Some(Line::Deliver { node, index });
+    }
+    if let Some((node, calls)) = arming(head) {
+        return Some(Line::Arm { node, calls });
+    }
+    if let Some((node, choice)) = crashing(head) {
+        return Some(Line::Crash { node, choice });
+    }
+    if let Some((node, release, path)) = getting(head) {
+        return Some(Line::Get {
+            node,
+            release,
+            path,
+        });
+    }
+    if head == b"settle".as_slice() {
+        return Some(Line::Settle);
+    }
+    None
+}
+
+/// The submission, by what follows the newline behind its words.
+fn submitted(submission: Submission, after: &[u8]) -> Found<'_>
+    requires { submission_fits submission }
+    ensures { IsFound (joined (submission_words submission) ++ (10 ∷ after.now)) result }
+{
+    let Some((text, rest)) = after.split_at_checked(submission.text_len) else {
+        return Found::Short;
+    };
+    let Some((end, rest)) = rest.split_first() else {
+        return Found::Short;
+    };
+    if *end != b'\n' {
+        return Found::Bad;
+    }
+    let line = Line::Submit {
+        node: submission.node,
+        ticket: submission.ticket,
+        text,
+    };
+    Found::Line(line, rest)
+}
+
+/// The line at the front of the bytes.
+pub(crate) fn line_in(bytes: &[u8]) -> Found<'_>
+    ensures { IsFound bytes.now result }
+{
+    let Some((head, after)) = cut(bytes, b'\n') else {
+        return Found::Short;
+    };
+    if let Some(submission) = submission_in(head) {
+        return submitted(submission, after);
+    }
+    match plain_line(head) {
+        Some(line) => Found::Line(line, after),
+        None => Found::Bad,
+    }
+}
+
+fn cluster_in(head: &[u8]) -> Option<Cluster>
+    ensures { MatchOption result ((n : ℕ) → IsNode 9 n → head.now ≢ codes "nodes " ++ decimal n) (λ n. IsNode 9 n × (head.now ≡ codes "nodes " ++ decimal n)) }
+{
+    let number = u8::try_from(read_number(after(head, "nodes ")?)?).ok()?;
+    Cluster::new(number)
+}
+
+/// The first line of a schedule.
+pub(crate) fn nodes_in(bytes: &[u8]) -> FoundNodes<'_>
+    ensures { IsFoundNodes bytes.now result }
+{
+    let Some((head, after)) = cut(bytes, b'\n') else {
+        return FoundNodes::Short;
+    };
+    match cluster_in(head) {
+        Some(cluster) => FoundNodes::Nodes(cluster, after),
+        None => FoundNodes::Bad,
+    }
+}
