@@ -27,12 +27,13 @@ module _ {D : Type 0} (stands_for : D → DiskState → Type 0) (old new : Runni
       → IsEvent stands_for old new call ending before after → Called ending after
   called call ending before after empty last event = record {
     leads = λ s stands.
-      let h = event.leads s stands in
-      let out : h.out ≡ after = sym (h.outbox ∙ ap (λ l. l ++ h.out) empty) in
-      (h.next,
-      (call, last s stands, subst (λ l. Ends old.cluster old.me s call ending l h.next) out h.ends, λ x k. (h.messages x (subst (λ l. In l x) (sym out) k)).fits),
-      h.stands,
-      λ d on. let e = h.on_disk d on in (e.0, e.1));
+        let h = event.leads s stands in
+        let out : h.out ≡ after = sym (h.outbox ∙ ap (λ l. l ++ h.out) empty) in (
+          h.next,
+          (call, last s stands, subst (λ l. Ends old.cluster old.me s call ending l h.next) out h.ends, λ x k. (h.messages x (subst (λ l. In l x) (sym out) k)).fits),
+          h.stands,
+          λ d on. let e = h.on_disk d on in (e.0, e.1),
+        );
   }
 
   pub whole : (after : List (To × Message)) → Called Whole after
@@ -52,32 +53,34 @@ module _ {D : Type 0} (stands_for : D → DiskState → Type 0) (old new : Runni
 module _ {D L : Type 0} (stands_for : D → DiskState → Type 0) (received : L → List (List ℕ) → Type 0) (given : L → List (ℕ × List ℕ) → Type 0)
     (old new : Running D) (before after : L) (n p : ℕ) (out : List (To × Message))
     (keeps_received : (ds : List (List ℕ)) → received before ds → received after ds)
-    where
-  pub closes : NodeLeads stands_for old new (λ s next. EndsTurns n p s out next × ((x : To × Message) → In out x → Fits x.1))
-      → (((x : To × Message) → In out x → Fits x.1) → (gs : List (ℕ × List ℕ)) → given before gs → given after (gs ++ sent_of n out))
-      → LeadsTo stands_for received given old new before after (Closes n p)
-  closes ended sends = record {
-    leads = λ x at.
-      let r = ended.leads x.node at.node in
-      (record { node = r.0; received = x.received; given = x.given ++ sent_of n out },
-      record { out = out; ends = r.1.0; received = refl; given = refl },
-      record { node = r.2; heard = keeps_received x.received at.heard; told = sends r.1.1 x.given at.told },
-      r.3);
-  }
+  where
+    pub closes : NodeLeads stands_for old new (λ s next. EndsTurns n p s out next × ((x : To × Message) → In out x → Fits x.1))
+        → (((x : To × Message) → In out x → Fits x.1) → (gs : List (ℕ × List ℕ)) → given before gs → given after (gs ++ sent_of n out))
+        → LeadsTo stands_for received given old new before after (Closes n p)
+    closes ended sends = record {
+      leads = λ x at.
+          let r = ended.leads x.node at.node in (
+            record { node = r.0; received = x.received; given = x.given ++ sent_of n out },
+            record { out = out; ends = r.1.0; received = refl; given = refl },
+            record { node = r.2; heard = keeps_received x.received at.heard; told = sends r.1.1 x.given at.told },
+            r.3,
+          );
+    }
 
-  pub closes_short : (why : NodeFault) → why ≡ OutOfMemory
-      → NodeLeads stands_for old new (λ s next. EndsTurns n p s out next × ((x : To × Message) → In out x → Fits x.1))
-      → (((x : To × Message) → In out x → Fits x.1) → (gs : List (ℕ × List ℕ)) → given before gs → (k : ℕ) × given after (gs ++ take k (sent_of n out)))
-      → LeadsTo stands_for received given old new before after (GivesUpLast n p why)
-  closes_short why is ended sends = record {
-    leads = λ x at.
-      let r = ended.leads x.node at.node in
-      let sent = sends r.1.1 x.given at.told in
-      (record { node = r.0; received = x.received; given = x.given ++ take sent.0 (sent_of n out) },
-      record { out = out; ends = inr (is, r.1.0); received = refl; given = (sent.0, refl) },
-      record { node = r.2; heard = keeps_received x.received at.heard; told = sent.1 },
-      r.3);
-  }
+    pub closes_short : (why : NodeFault) → why ≡ OutOfMemory
+        → NodeLeads stands_for old new (λ s next. EndsTurns n p s out next × ((x : To × Message) → In out x → Fits x.1))
+        → (((x : To × Message) → In out x → Fits x.1) → (gs : List (ℕ × List ℕ)) → given before gs → (k : ℕ) × given after (gs ++ take k (sent_of n out)))
+        → LeadsTo stands_for received given old new before after (GivesUpLast n p why)
+    closes_short why is ended sends = record {
+      leads = λ x at.
+          let r = ended.leads x.node at.node in
+          let sent = sends r.1.1 x.given at.told in (
+            record { node = r.0; received = x.received; given = x.given ++ take sent.0 (sent_of n out) },
+            record { out = out; ends = inr (is, r.1.0); received = refl; given = (sent.0, refl) },
+            record { node = r.2; heard = keeps_received x.received at.heard; told = sent.1 },
+            r.3,
+          );
+    }
 
 pub not_closed : {D L : Type 0} (stands_for : D → DiskState → Type 0) (received : L → List (List ℕ) → Type 0) (given : L → List (ℕ × List ℕ) → Type 0)
     (old new : Running D) (link : L) (n p : ℕ) (why : NodeFault)
@@ -85,11 +88,12 @@ pub not_closed : {D L : Type 0} (stands_for : D → DiskState → Type 0) (recei
     → LeadsTo stands_for received given old new link link (GivesUpLast n p why)
 not_closed stands_for received given old new link n p why ended = record {
   leads = λ x at.
-    let r = ended.leads x.node at.node in
-    (record { node = r.0; received = x.received; given = x.given },
-    record { out = []; ends = inl r.1; received = refl; given = (0, sym (append-nil x.given)) },
-    record { node = r.2; heard = at.heard; told = at.told },
-    r.3);
+      let r = ended.leads x.node at.node in (
+        record { node = r.0; received = x.received; given = x.given },
+        record { out = []; ends = inl r.1; received = refl; given = (0, sym (append-nil x.given)) },
+        record { node = r.2; heard = at.heard; told = at.told },
+        r.3,
+      );
 }
 
 -- ---- a drive
@@ -120,23 +124,23 @@ drives n p turns malformed fed x y z first last = record {
 module _ {D L : Type 0} (stands_for : D → DiskState → Type 0) (received : L → List (List ℕ) → Type 0) (given : L → List (ℕ × List ℕ) → Type 0)
     (old mid new : Running D) (before between after : L) (whose : StaysWhose old mid) (turns malformed : ℕ) (fed : List (List ℕ))
     (first : LeadsTo stands_for received given old mid before between (Exchanges old.cluster old.me turns malformed fed))
-    where
-  of_same : (How : ℕ → ℕ → Scene → Scene → Type 0) → LeadsTo stands_for received given mid new between after (How mid.cluster mid.me)
-      → LeadsTo stands_for received given mid new between after (How old.cluster old.me)
-  of_same How h =
-      subst (λ p. LeadsTo stands_for received given mid new between after (How old.cluster p)) whose.me
+  where
+    of_same : (How : ℕ → ℕ → Scene → Scene → Type 0) → LeadsTo stands_for received given mid new between after (How mid.cluster mid.me)
+        → LeadsTo stands_for received given mid new between after (How old.cluster old.me)
+    of_same How h =
+        subst (λ p. LeadsTo stands_for received given mid new between after (How old.cluster p)) whose.me
         (subst (λ n. LeadsTo stands_for received given mid new between after (How n mid.me)) whose.cluster h)
 
-  pub driven : LeadsTo stands_for received given mid new between after (Closes mid.cluster mid.me)
-      → LeadsTo stands_for received given old new before after (Drives old.cluster old.me turns malformed fed)
-  driven last =
-      leads_on stands_for received given old mid new before between after (Exchanges old.cluster old.me turns malformed fed) (Closes old.cluster old.me) (Drives old.cluster old.me turns malformed fed)
+    pub driven : LeadsTo stands_for received given mid new between after (Closes mid.cluster mid.me)
+        → LeadsTo stands_for received given old new before after (Drives old.cluster old.me turns malformed fed)
+    driven last =
+        leads_on stands_for received given old mid new before between after (Exchanges old.cluster old.me turns malformed fed) (Closes old.cluster old.me) (Drives old.cluster old.me turns malformed fed)
         first (of_same Closes last) (λ x y z. drives old.cluster old.me turns malformed fed x y z)
 
-  pub given_up_last : (why : NodeFault) → LeadsTo stands_for received given mid new between after (GivesUpLast mid.cluster mid.me why)
-      → LeadsTo stands_for received given old new before after (GivesUpDriving old.cluster old.me turns why)
-  given_up_last why last =
-      leads_on stands_for received given old mid new before between after (Exchanges old.cluster old.me turns malformed fed) (GivesUpLast old.cluster old.me why) (GivesUpDriving old.cluster old.me turns why)
+    pub given_up_last : (why : NodeFault) → LeadsTo stands_for received given mid new between after (GivesUpLast mid.cluster mid.me why)
+        → LeadsTo stands_for received given old new before after (GivesUpDriving old.cluster old.me turns why)
+    given_up_last why last =
+        leads_on stands_for received given old mid new before between after (Exchanges old.cluster old.me turns malformed fed) (GivesUpLast old.cluster old.me why) (GivesUpDriving old.cluster old.me turns why)
         first (of_same (λ n p. GivesUpLast n p why) last) (λ x y z exchanged gave. inr (y, malformed, fed, exchanged, gave))
 
 pub given_up_first : {D L : Type 0} (stands_for : D → DiskState → Type 0) (received : L → List (List ℕ) → Type 0) (given : L → List (ℕ × List ℕ) → Type 0)

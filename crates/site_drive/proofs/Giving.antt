@@ -51,7 +51,7 @@ next_given n items i x gs below got =
 pub given_begins : (n : ℕ) (items : List (To × Message)) (i : ℕ) → sent_of n (take i items) ≡ take (length (sent_of n (take i items))) (sent_of n items)
 given_begins n items i =
     let split : sent_of n items ≡ sent_of n (take i items) ++ sent_of n (drop i items) =
-      ap (sent_of n) (sym (take-append-drop i items)) ∙ flat_map-append (addressed n) (take i items) (drop i items)
+    ap (sent_of n) (sym (take-append-drop i items)) ∙ flat_map-append (addressed n) (take i items) (drop i items)
     in
     sym (ap (take (length (sent_of n (take i items)))) split ∙ take-append_seam (sent_of n (take i items)) (sent_of n (drop i items)))
 

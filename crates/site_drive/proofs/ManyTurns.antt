@@ -17,7 +17,7 @@ takes_on : (n p : ℕ) (s mid next : Node) (hs ks : List Heard) (a b : ℕ) (fir
     → TakesAll n p s hs a first mid → TakesAll n p mid ks b later next → TakesAll n p s (hs ++ ks) (a + b) (first ++ later) next
 takes_on n p s mid next [] ks a b first later (none, empty, same) more =
     subst (λ k. TakesAll n p s ks (k + b) (first ++ later) next) (sym none)
-      (subst (λ l. TakesAll n p s ks (0 + b) (l ++ later) next) (sym empty) (subst (λ u. TakesAll n p u ks (0 + b) later next) same (subst (λ k. TakesAll n p mid ks k later next) (plus b) more)))
+    (subst (λ l. TakesAll n p s ks (0 + b) (l ++ later) next) (sym empty) (subst (λ u. TakesAll n p u ks (0 + b) later next) same (subst (λ k. TakesAll n p mid ks k later next) (plus b) more)))
   where
     plus : (k : ℕ) → k ≡ 0 + k
     plus k = omega arith
@@ -65,13 +65,20 @@ module _ (n p a malformed : ℕ) (fed : List (List ℕ)) (x y : Scene) (earlier 
     taken = takes_on n p x.node y.node last.mid earlier.heard last.heard malformed last.malformed earlier.out last.out earlier.takes last.taken;
     given = (length (sent_of n earlier.out) + last.given.0, partly_on n x.given y.given earlier.out last.out earlier.given z.given last.given.0 last.given.1);
     how = ⊎_elim
-      (λ off. inl (off.0, off.1,
-        subst (λ l. z.received ≡ x.received ++ datagrams l) (sym (append_assoc earlier.heard last.heard (Some off.0 ∷ [])))
-          (received_on x.received y.received z.received earlier.heard (last.heard ++ Some off.0 ∷ []) earlier.received off.2),
-        omega (arith, length-append earlier.heard last.heard, earlier.turns_are, off.3, below)))
-      (λ short. inr (short.0, short.1, received_on x.received y.received z.received earlier.heard last.heard earlier.received short.2,
-        omega (arith, length-append earlier.heard last.heard, earlier.turns_are, short.3, below)))
-      last.how;
+        (λ off. inl (
+          off.0,
+          off.1,
+          subst (λ l. z.received ≡ x.received ++ datagrams l) (sym (append_assoc earlier.heard last.heard (Some off.0 ∷ [])))
+              (received_on x.received y.received z.received earlier.heard (last.heard ++ Some off.0 ∷ []) earlier.received off.2),
+          omega (arith, length-append earlier.heard last.heard, earlier.turns_are, off.3, below),
+        ))
+        (λ short. inr (
+          short.0,
+          short.1,
+          received_on x.received y.received z.received earlier.heard last.heard earlier.received short.2,
+          omega (arith, length-append earlier.heard last.heard, earlier.turns_are, short.3, below),
+        ))
+        last.how;
   }
 
 module _ {D L : Type 0} (stands_for : D → DiskState → Type 0) (received : L → List (List ℕ) → Type 0) (given : L → List (ℕ × List ℕ) → Type 0) where
@@ -81,15 +88,15 @@ module _ {D L : Type 0} (stands_for : D → DiskState → Type 0) (received : L 
       → LeadsTo stands_for received given old new before after All
   leads_on old mid new before between after First Then All first then all = record {
     leads = λ x at.
-      let r = first.leads x at in
-      let q = then.leads r.0 r.2 in
-      (q.0, all x r.0 q.0 r.1 q.1, q.2, λ d on. let e = r.3 d on in q.3 e.0 e.1);
+        let r = first.leads x at in
+        let q = then.leads r.0 r.2 in
+        (q.0, all x r.0 q.0 r.1 q.1, q.2, λ d on. let e = r.3 d on in q.3 e.0 e.1);
   }
 
   pub none_yet : (code : Running D) (link : L) (n p : ℕ) → LeadsTo stands_for received given code code link link (Exchanges n p 0 0 code.releases)
   none_yet code link n p = record {
-    leads = λ x at.
-      (x,
+    leads = λ x at. (
+      x,
       record {
         heard = [];
         out = [];
@@ -99,30 +106,32 @@ module _ {D L : Type 0} (stands_for : D → DiskState → Type 0) (received : L 
         given = sym (append-nil x.given);
         fed_is = λ some. absurd (some refl);
       },
-      at, λ d on. (d, on));
+      at,
+      λ d on. (d, on),
+    );
   }
 
   -- one turn more, of the same node
   module _ (old mid new : Running D) (before between after : L) (whose : StaysWhose old mid) (a malformed : ℕ) (fed : List (List ℕ))
       (earlier : LeadsTo stands_for received given old mid before between (Exchanges old.cluster old.me a malformed fed))
-      where
-    of_same : (How : ℕ → ℕ → Scene → Scene → Type 0) → LeadsTo stands_for received given mid new between after (How mid.cluster mid.me)
-        → LeadsTo stands_for received given mid new between after (How old.cluster old.me)
-    of_same How h =
-        subst (λ p. LeadsTo stands_for received given mid new between after (How old.cluster p)) whose.me
+    where
+      of_same : (How : ℕ → ℕ → Scene → Scene → Type 0) → LeadsTo stands_for received given mid new between after (How mid.cluster mid.me)
+          → LeadsTo stands_for received given mid new between after (How old.cluster old.me)
+      of_same How h =
+          subst (λ p. LeadsTo stands_for received given mid new between after (How old.cluster p)) whose.me
           (subst (λ n. LeadsTo stands_for received given mid new between after (How n mid.me)) whose.cluster h)
 
-    pub one_turn_more : (one : ℕ) (fed_then : List (List ℕ)) → LeadsTo stands_for received given mid new between after (Exchanges mid.cluster mid.me 1 one fed_then)
-        → LeadsTo stands_for received given old new before after (Exchanges old.cluster old.me (a + 1) (malformed + one) fed_then)
-    one_turn_more one fed_then h =
-        leads_on old mid new before between after (Exchanges old.cluster old.me a malformed fed) (Exchanges old.cluster old.me 1 one fed_then) (Exchanges old.cluster old.me (a + 1) (malformed + one) fed_then)
+      pub one_turn_more : (one : ℕ) (fed_then : List (List ℕ)) → LeadsTo stands_for received given mid new between after (Exchanges mid.cluster mid.me 1 one fed_then)
+          → LeadsTo stands_for received given old new before after (Exchanges old.cluster old.me (a + 1) (malformed + one) fed_then)
+      one_turn_more one fed_then h =
+          leads_on old mid new before between after (Exchanges old.cluster old.me a malformed fed) (Exchanges old.cluster old.me 1 one fed_then) (Exchanges old.cluster old.me (a + 1) (malformed + one) fed_then)
           earlier (of_same (λ n p. Exchanges n p 1 one fed_then) h)
           (λ x y z first last. exchanged_on old.cluster old.me a malformed fed x y first one fed_then z last)
 
-    pub one_turn_too_many : (turns : ℕ) (why : NodeFault) → a < turns → LeadsTo stands_for received given mid new between after (GivesUp mid.cluster mid.me 1 why)
-        → LeadsTo stands_for received given old new before after (GivesUp old.cluster old.me turns why)
-    one_turn_too_many turns why below h =
-        leads_on old mid new before between after (Exchanges old.cluster old.me a malformed fed) (GivesUp old.cluster old.me 1 why) (GivesUp old.cluster old.me turns why)
+      pub one_turn_too_many : (turns : ℕ) (why : NodeFault) → a < turns → LeadsTo stands_for received given mid new between after (GivesUp mid.cluster mid.me 1 why)
+          → LeadsTo stands_for received given old new before after (GivesUp old.cluster old.me turns why)
+      one_turn_too_many turns why below h =
+          leads_on old mid new before between after (Exchanges old.cluster old.me a malformed fed) (GivesUp old.cluster old.me 1 why) (GivesUp old.cluster old.me turns why)
           earlier (of_same (λ n p. GivesUp n p 1 why) h)
           (λ x y z first last. gave_up_on old.cluster old.me a malformed fed x y first turns why z below last)
 
@@ -137,8 +146,8 @@ stays_on old mid new first then = record {
 pub none_taken : {D L : Type 0} (stands_for : D → DiskState → Type 0) (received : L → List (List ℕ) → Type 0) (given : L → List (ℕ × List ℕ) → Type 0) (code : Running D) (link : L) (n p turns : ℕ)
     → LeadsTo stands_for received given code code link link (GivesUp n p turns fault.OutOfMemory)
 none_taken stands_for received given code link n p turns = record {
-  leads = λ x at.
-    (x,
+  leads = λ x at. (
+    x,
     record {
       heard = [];
       malformed = 0;
@@ -148,5 +157,7 @@ none_taken stands_for received given code link n p turns = record {
       given = (0, sym (append-nil x.given));
       how = inr (refl, refl, sym (append-nil x.received), omega arith);
     },
-    at, λ d on. (d, on));
+    at,
+    λ d on. (d, on),
+  );
 }

@@ -48,7 +48,8 @@ module _ (n k : ℕ) (d : List ℕ) (room : k ≡ MAX_MESSAGE + 1) where
   cut_or_whole : (take k d ≡ d) ⊎ ((MAX_MESSAGE < length d) × (MAX_MESSAGE < length (take k d)))
   cut_or_whole = elim (le_or_above (length d) k) [
     | inl fits ↦ inl (take_past d k fits)
-    | inr long ↦ inr (omega (arith, long, room), omega (arith, length-take k d, long, room)) ]
+    | inr long ↦ inr (omega (arith, long, room), omega (arith, length-take k d, long, room))
+  ]
 
   pub spells_whole : (m : Message) → Spells n (take k d) m → Spells n d m
   spells_whole m spells = ⊎_elim (λ same. subst (λ b. Spells n b m) same spells) (λ long. absurd (too_long n (take k d) m long.1 spells)) cut_or_whole
@@ -73,24 +74,28 @@ module _ {D : Type 0} (stands_for : D → DiskState → Type 0) (old new : Runni
       → NodeLeads stands_for old new (λ s next. Takes old.cluster old.me s (Some bytes) 0 after next × ((x : To × Message) → In after x → Fits x.1))
   taken event = record {
     leads = λ s stands.
-      let h = event.leads s stands in
-      let out : h.out ≡ after = sym (h.outbox ∙ ap (λ l. l ++ h.out) empty) in
-      (h.next,
-      (inl (m, spells, subst (λ l. Ends old.cluster old.me s (deliver m) Whole l h.next) out h.ends, refl),
-      λ x k. (h.messages x (subst (λ l. In l x) (sym out) k)).fits),
-      h.stands,
-      λ d on. let e = h.on_disk d on in (e.0, e.1));
+        let h = event.leads s stands in
+        let out : h.out ≡ after = sym (h.outbox ∙ ap (λ l. l ++ h.out) empty) in (
+          h.next,
+          (
+            inl (m, spells, subst (λ l. Ends old.cluster old.me s (deliver m) Whole l h.next) out h.ends, refl),
+            λ x k. (h.messages x (subst (λ l. In l x) (sym out) k)).fits,
+          ),
+          h.stands,
+          λ d on. let e = h.on_disk d on in (e.0, e.1),
+        );
   }
 
   pub broken : (why : NodeFault) → IsEvent stands_for old new (deliver m) (ending_by why) before after
       → NodeLeads stands_for old new (λ s next. BreaksOff old.cluster old.me s bytes why next)
   broken why event = record {
     leads = λ s stands.
-      let h = event.leads s stands in
-      (h.next,
-      (m, spells, inl (none_out old.cluster old.me s h.next (deliver m) h.out why h.ends)),
-      h.stands,
-      λ d on. let e = h.on_disk d on in (e.0, e.1));
+        let h = event.leads s stands in (
+          h.next,
+          (m, spells, inl (none_out old.cluster old.me s h.next (deliver m) h.out why h.ends)),
+          h.stands,
+          λ d on. let e = h.on_disk d on in (e.0, e.1),
+        );
   }
 
 -- nothing was delivered
@@ -118,8 +123,8 @@ module _ {D : Type 0} (stands_for : D → DiskState → Type 0) (old new : Runni
   took_some malformed out leads None is = absurd is
   took_some malformed out leads (Some d) is = record {
     leads = λ s stands.
-      let r = leads.leads s stands in
-      (r.0, (takes_heard s r.0 d malformed out is r.1.0, r.1.1), r.2, r.3);
+        let r = leads.leads s stands in
+        (r.0, (takes_heard s r.0 d malformed out is r.1.0, r.1.1), r.2, r.3);
   }
 
   pub broke_some : (why : NodeFault) → NodeLeads stands_for old new (λ s next. BreaksOff n p s (take k buffer) why next)
@@ -127,9 +132,9 @@ module _ {D : Type 0} (stands_for : D → DiskState → Type 0) (old new : Runni
   broke_some why leads None is = absurd is
   broke_some why leads (Some d) is = record {
     leads = λ s stands.
-      let r = leads.leads s stands in
-      let o = r.1 in
-      (r.0, (d, refl, (o.0, spells_whole n (length buffer) d room o.0 (subst (λ b. Spells n b o.0) is o.1), o.2)), r.2, r.3);
+        let r = leads.leads s stands in
+        let o = r.1 in
+        (r.0, (d, refl, (o.0, spells_whole n (length buffer) d room o.0 (subst (λ b. Spells n b o.0) is o.1), o.2)), r.2, r.3);
   }
 
 pub took_none : {D : Type 0} (stands_for : D → DiskState → Type 0) (old : Running D) (n p : ℕ) (out : List (To × Message)) (buffer : List ℕ) → out ≡ [] → (h : Heard) → IsHeldAs None buffer h
@@ -143,77 +148,80 @@ module _ {D L : Type 0} (stands_for : D → DiskState → Type 0) (received : L 
     (old mid : Running D) (before heard_by : L) (n p : ℕ) (malformed : ℕ) (out : List (To × Message)) (came : Option ℕ) (buffer : List ℕ)
     (hears : (ds : List (List ℕ)) → received before ds → (h : Heard) × received heard_by (ds ++ datagrams (h ∷ [])) × IsHeldAs came buffer h)
     (keeps_given : (gs : List (ℕ × List ℕ)) → given before gs → given heard_by gs)
-    where
-  abbrev Took : Type 0
-  Took = (h : Heard) → IsHeldAs came buffer h → NodeLeads stands_for old mid (λ s next. Takes n p s h malformed out next × ((x : To × Message) → In out x → Fits x.1))
+  where
+    abbrev Took : Type 0
+    Took = (h : Heard) → IsHeldAs came buffer h → NodeLeads stands_for old mid (λ s next. Takes n p s h malformed out next × ((x : To × Message) → In out x → Fits x.1))
 
-  -- the node publishes, and this is sent
-  module _ (took : Took) (new : Running D) (after : L) (same : (s : Node) → IsNodeOf mid s → IsNodeOf new s)
-      (same_disk : (s : Node) (d : DiskState) → IsOnDisk stands_for mid s d → IsOnDisk stands_for new s d)
-      (keeps_received : (ds : List (List ℕ)) → received heard_by ds → received after ds)
+    -- the node publishes, and this is sent
+    module _ (took : Took) (new : Running D) (after : L) (same : (s : Node) → IsNodeOf mid s → IsNodeOf new s)
+        (same_disk : (s : Node) (d : DiskState) → IsOnDisk stands_for mid s d → IsOnDisk stands_for new s d)
+        (keeps_received : (ds : List (List ℕ)) → received heard_by ds → received after ds)
       where
-    pub turned : ((s : Node) → IsNodeOf mid s → IsKnownPrefix s new.releases)
-        → (((x : To × Message) → In out x → Fits x.1) → (gs : List (ℕ × List ℕ)) → given heard_by gs → given after (gs ++ sent_of n out))
-        → LeadsTo stands_for received given old new before after (Exchanges n p 1 malformed new.releases)
-    turned fed sends = record {
-      leads = λ x at.
-        let heard = hears x.received at.heard in
-        let r = (took heard.0 heard.2).leads x.node at.node in
-        (record { node = r.0; received = x.received ++ datagrams (heard.0 ∷ []); given = x.given ++ sent_of n out },
-        record {
-          heard = heard.0 ∷ [];
-          out = out;
-          turns_are = refl;
-          takes = (r.0, malformed, 0, out, [], r.1.0, (refl, refl, refl), omega arith, sym (append-nil out));
-          received = refl;
-          given = refl;
-          fed_is = λ some. fed r.0 r.2;
-        },
-        record { node = same r.0 r.2; heard = keeps_received _ heard.1; told = sends r.1.1 x.given (keeps_given x.given at.told) },
-        λ d on. let e = r.3 d on in (e.0, same_disk r.0 e.0 e.1));
-    }
+        pub turned : ((s : Node) → IsNodeOf mid s → IsKnownPrefix s new.releases)
+            → (((x : To × Message) → In out x → Fits x.1) → (gs : List (ℕ × List ℕ)) → given heard_by gs → given after (gs ++ sent_of n out))
+            → LeadsTo stands_for received given old new before after (Exchanges n p 1 malformed new.releases)
+        turned fed sends = record {
+          leads = λ x at.
+              let heard = hears x.received at.heard in
+              let r = (took heard.0 heard.2).leads x.node at.node in (
+                record { node = r.0; received = x.received ++ datagrams (heard.0 ∷ []); given = x.given ++ sent_of n out },
+                record {
+                  heard = heard.0 ∷ [];
+                  out = out;
+                  turns_are = refl;
+                  takes = (r.0, malformed, 0, out, [], r.1.0, (refl, refl, refl), omega arith, sym (append-nil out));
+                  received = refl;
+                  given = refl;
+                  fed_is = λ some. fed r.0 r.2;
+                },
+                record { node = same r.0 r.2; heard = keeps_received _ heard.1; told = sends r.1.1 x.given (keeps_given x.given at.told) },
+                λ d on. let e = r.3 d on in (e.0, same_disk r.0 e.0 e.1),
+              );
+        }
 
-    -- or memory is wanted for it
-    pub turned_short : (why : NodeFault) → why ≡ fault.OutOfMemory
-        → (((x : To × Message) → In out x → Fits x.1) → (gs : List (ℕ × List ℕ)) → given heard_by gs → (k : ℕ) × given after (gs ++ take k (sent_of n out)))
-        → LeadsTo stands_for received given old new before after (GivesUp n p 1 why)
-    turned_short why is sends = record {
-      leads = λ x at.
-        let heard = hears x.received at.heard in
-        let r = (took heard.0 heard.2).leads x.node at.node in
-        let sent = sends r.1.1 x.given (keeps_given x.given at.told) in
-        (record { node = r.0; received = x.received ++ datagrams (heard.0 ∷ []); given = x.given ++ take sent.0 (sent_of n out) },
-        record {
-          heard = heard.0 ∷ [];
-          malformed = malformed;
-          out = out;
-          mid = r.0;
-          taken = (r.0, malformed, 0, out, [], r.1.0, (refl, refl, refl), omega arith, sym (append-nil out));
-          given = (sent.0, refl);
-          how = inr (is, refl, refl, omega arith);
-        },
-        record { node = same r.0 r.2; heard = keeps_received _ heard.1; told = sent.1 },
-        λ d on. let e = r.3 d on in (e.0, same_disk r.0 e.0 e.1));
-    }
+        -- or memory is wanted for it
+        pub turned_short : (why : NodeFault) → why ≡ fault.OutOfMemory
+            → (((x : To × Message) → In out x → Fits x.1) → (gs : List (ℕ × List ℕ)) → given heard_by gs → (k : ℕ) × given after (gs ++ take k (sent_of n out)))
+            → LeadsTo stands_for received given old new before after (GivesUp n p 1 why)
+        turned_short why is sends = record {
+          leads = λ x at.
+              let heard = hears x.received at.heard in
+              let r = (took heard.0 heard.2).leads x.node at.node in
+              let sent = sends r.1.1 x.given (keeps_given x.given at.told) in (
+                record { node = r.0; received = x.received ++ datagrams (heard.0 ∷ []); given = x.given ++ take sent.0 (sent_of n out) },
+                record {
+                  heard = heard.0 ∷ [];
+                  malformed = malformed;
+                  out = out;
+                  mid = r.0;
+                  taken = (r.0, malformed, 0, out, [], r.1.0, (refl, refl, refl), omega arith, sym (append-nil out));
+                  given = (sent.0, refl);
+                  how = inr (is, refl, refl, omega arith);
+                },
+                record { node = same r.0 r.2; heard = keeps_received _ heard.1; told = sent.1 },
+                λ d on. let e = r.3 d on in (e.0, same_disk r.0 e.0 e.1),
+              );
+        }
 
-  -- the delivery broke off
-  pub turned_off : (why : NodeFault)
-      → ((h : Heard) → IsHeldAs came buffer h → NodeLeads stands_for old mid (λ s next. (d : List ℕ) × (h ≡ Some d) × BreaksOff n p s d why next))
-      → LeadsTo stands_for received given old mid before heard_by (GivesUp n p 1 why)
-  turned_off why off = record {
-    leads = λ x at.
-      let heard = hears x.received at.heard in
-      let r = (off heard.0 heard.2).leads x.node at.node in
-      (record { node = r.0; received = x.received ++ datagrams (heard.0 ∷ []); given = x.given },
-      record {
-        heard = [];
-        malformed = 0;
-        out = [];
-        mid = x.node;
-        taken = (refl, refl, refl);
-        given = (0, sym (append-nil x.given));
-        how = inl (r.1.0, r.1.2, ap (λ h. x.received ++ datagrams (h ∷ [])) r.1.1, omega arith);
-      },
-      record { node = r.2; heard = heard.1; told = keeps_given x.given at.told },
-      r.3);
-  }
+    -- the delivery broke off
+    pub turned_off : (why : NodeFault)
+        → ((h : Heard) → IsHeldAs came buffer h → NodeLeads stands_for old mid (λ s next. (d : List ℕ) × (h ≡ Some d) × BreaksOff n p s d why next))
+        → LeadsTo stands_for received given old mid before heard_by (GivesUp n p 1 why)
+    turned_off why off = record {
+      leads = λ x at.
+          let heard = hears x.received at.heard in
+          let r = (off heard.0 heard.2).leads x.node at.node in (
+            record { node = r.0; received = x.received ++ datagrams (heard.0 ∷ []); given = x.given },
+            record {
+              heard = [];
+              malformed = 0;
+              out = [];
+              mid = x.node;
+              taken = (refl, refl, refl);
+              given = (0, sym (append-nil x.given));
+              how = inl (r.1.0, r.1.2, ap (λ h. x.received ++ datagrams (h ∷ [])) r.1.1, omega arith);
+            },
+            record { node = r.2; heard = heard.1; told = keeps_given x.given at.told },
+            r.3,
+          );
+    }

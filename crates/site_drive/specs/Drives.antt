@@ -116,15 +116,15 @@ pub record GivesUp (n p turns : ℕ) (fault : NodeFault) (before after : Scene) 
   pub taken : TakesAll n p before.node heard malformed out mid
   pub given : IsPartlyGiven n out before after
   pub how :
-    ((bytes : List ℕ) × BreaksOff n p mid bytes fault after.node × (after.received ≡ before.received ++ datagrams (heard ++ Some bytes ∷ [])) × (suc (length heard) ≤ turns))
-    ⊎ ((fault ≡ OutOfMemory) × (after.node ≡ mid) × (after.received ≡ before.received ++ datagrams heard) × (length heard ≤ turns))
+      ((bytes : List ℕ) × BreaksOff n p mid bytes fault after.node × (after.received ≡ before.received ++ datagrams (heard ++ Some bytes ∷ [])) × (suc (length heard) ≤ turns))
+      ⊎ ((fault ≡ OutOfMemory) × (after.node ≡ mid) × (after.received ≡ before.received ++ datagrams heard) × (length heard ≤ turns))
 
 -- given up at the last call: it ended by this fault, or memory was wanted to send what it handed out
 pub record GivesUpLast (n p : ℕ) (fault : NodeFault) (before after : Scene) : Type 0 where
   pub out : List (To × Message)
   pub ends :
-    ((call : Call) × IsLastCall before.node call × Ends n p before.node call (ending_by fault) out after.node)
-    ⊎ ((fault ≡ OutOfMemory) × EndsTurns n p before.node out after.node)
+      ((call : Call) × IsLastCall before.node call × Ends n p before.node call (ending_by fault) out after.node)
+      ⊎ ((fault ≡ OutOfMemory) × EndsTurns n p before.node out after.node)
   pub received : after.received ≡ before.received
   pub given : IsPartlyGiven n out before after
 

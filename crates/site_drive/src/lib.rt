@@ -2,8 +2,8 @@
 #![tactic(auto)]
 
 mod desk;
-mod driving;
 mod driven;
+mod driving;
 mod link;
 mod memory;
 mod queues;
@@ -11,8 +11,8 @@ mod sending;
 mod turns;
 mod udp;
 
-pub use driving::{drive, exchange};
 pub use driven::Driven;
+pub use driving::{drive, exchange};
 pub use link::{Link, LinkFailed};
 pub use memory::MemLink;
 pub use udp::UdpLink;

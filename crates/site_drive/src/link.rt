@@ -13,10 +13,12 @@ pub struct LinkFailed;
 pub trait Link {
     // these may be the datagrams received so far, and these what was given to send so far: to whom, and the bytes
     ghost received: { Self → List (List ℕ) → Type 0 };
+
     ghost given: { Self → List (ℕ × List ℕ) → Type 0 };
 
     // how many receives were tried, and how many calls failed
     ghost tried: { Self → ℕ };
+
     ghost failed: { Self → ℕ };
 
     /// Receives one datagram, of which as much is given as the slice holds: how many bytes. `None`: none is there.

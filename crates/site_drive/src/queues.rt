@@ -58,8 +58,11 @@ impl Link for MemLink {
     ghost use Rattle.site_drive.specs.Memory.{kept_of, received_of};
 
     ghost received = { λ l ds. ds ≡ received_of l };
+
     ghost given = { λ l gs. ¬ (l.lost ≡ true) → gs ≡ kept_of l };
+
     ghost tried = { λ l. l.tries };
+
     ghost failed = { λ l. l.failures };
 
     fn receive(&mut self, buf: &mut [u8]) -> Result<Option<usize>, LinkFailed> {

@@ -12,9 +12,9 @@ ghost use Rattle.site_drive.specs.Sending.{Counted};
 ghost use Rattle.site_drive.specs.Drives.{Heard, datagrams, Takes, BreaksOff, Exchanges, GivesUp};
 ghost use Rattle.site_drive.specs.Leading.{LeadsTo, NodeLeads, StaysWhose, IsHeldAs};
 
-use crate::{Link, LinkFailed};
 use crate::desk::Desk;
 use crate::sending::send_all;
+use crate::{Link, LinkFailed};
 use node::{Node, NodeFault};
 use site_disk::Disk;
 use wire::{WireFault, decode};
@@ -39,7 +39,11 @@ impl Desk {
     }
 
     /// Delivers what came: how many datagrams were malformed, one or none.
-    fn take_in<D: Disk>(&mut self, node: &mut Node<D>, came: Option<usize>) -> Result<u32, NodeFault>
+    fn take_in<D: Disk>(
+        &mut self,
+        node: &mut Node<D>,
+        came: Option<usize>,
+    ) -> Result<u32, NodeFault>
         requires bound { IfSome came (λ n. n ≤ length self.old.datagram.items) }
         requires empty { self.old.outbox.items ≡ [] }
         ensures one { IfOk result (λ malformed. malformed ≤ 1) }

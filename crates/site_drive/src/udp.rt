@@ -34,8 +34,11 @@ impl Link for UdpLink {
     ghost use Rattle.std.specs.Prelude.{⊤};
 
     ghost received = { λ _ _. ⊤ };
+
     ghost given = { λ _ _. ⊤ };
+
     ghost tried = { λ l. l.tries };
+
     ghost failed = { λ l. l.failures };
 
     fn receive(&mut self, buf: &mut [u8]) -> Result<Option<usize>, LinkFailed> {

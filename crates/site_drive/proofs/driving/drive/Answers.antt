@@ -12,23 +12,23 @@ use Rattle.site_drive.proofs.driving.drive.Goals as goal
 pub returns-in_err-desk-clause-fault : goal.returns-in_err-desk-clause-fault
 returns-in_err-desk-clause-fault g c = err_gives c.from_residual.result c.from_residual.ensures.1 λ e is.
     given_up_first g.D.Disk.stands_for g.L.Link.received g.L.Link.given c.args.node.now c.args.node.now c.args.link.now c.args.link.now c.args.node.now.cluster c.args.node.now.me c.args.turns e
-      (subst (λ w. LeadsTo g.D.Disk.stands_for g.L.Link.received g.L.Link.given c.args.node.now c.args.node.now c.args.link.now c.args.link.now (GivesUp c.args.node.now.cluster c.args.node.now.me c.args.turns w)) (sym is)
-        (none_taken g.D.Disk.stands_for g.L.Link.received g.L.Link.given c.args.node.now c.args.link.now c.args.node.now.cluster c.args.node.now.me c.args.turns))
+    (subst (λ w. LeadsTo g.D.Disk.stands_for g.L.Link.received g.L.Link.given c.args.node.now c.args.node.now c.args.link.now c.args.link.now (GivesUp c.args.node.now.cluster c.args.node.now.me c.args.turns w)) (sym is)
+    (none_taken g.D.Disk.stands_for g.L.Link.received g.L.Link.given c.args.node.now c.args.link.now c.args.node.now.cluster c.args.node.now.me c.args.turns))
 
 -- src/driving.rt:147:21
 pub returns-in_err-malformed-clause-fault : goal.returns-in_err-malformed-clause-fault
 returns-in_err-malformed-clause-fault g c = err_gives c.from_residual-in_err-malformed.result c.from_residual-in_err-malformed.ensures.1 λ e is.
     given_up_first g.D.Disk.stands_for g.L.Link.received g.L.Link.given c.args.node.now c.take_turns.new.node c.args.link.now c.take_turns.new.link c.args.node.now.cluster c.args.node.now.me c.args.turns e
-      (subst (λ w. LeadsTo g.D.Disk.stands_for g.L.Link.received g.L.Link.given c.args.node.now c.take_turns.new.node c.args.link.now c.take_turns.new.link (GivesUp c.args.node.now.cluster c.args.node.now.me c.args.turns w)) (sym is)
-        c.in_err-malformed.ensures.fault)
+    (subst (λ w. LeadsTo g.D.Disk.stands_for g.L.Link.received g.L.Link.given c.args.node.now c.take_turns.new.node c.args.link.now c.take_turns.new.link (GivesUp c.args.node.now.cluster c.args.node.now.me c.args.turns w)) (sym is)
+    c.in_err-malformed.ensures.fault)
 
 -- src/driving.rt:148:5
 pub returns-in_err-close-clause-fault : goal.returns-in_err-close-clause-fault
 returns-in_err-close-clause-fault g c = err_gives c.from_residual-in_err-close.result c.from_residual-in_err-close.ensures.1 λ e is.
     given_up_last g.D.Disk.stands_for g.L.Link.received g.L.Link.given c.args.node.now c.take_turns.new.node c.close.new.node c.args.link.now c.take_turns.new.link c.close.new.link
-      c.take_turns.ensures.whose c.args.turns c.in_ok-malformed.malformed c.take_turns.new.node.releases c.in_ok-malformed.ensures.ok e
-      (subst (λ w. LeadsTo g.D.Disk.stands_for g.L.Link.received g.L.Link.given c.take_turns.new.node c.close.new.node c.take_turns.new.link c.close.new.link (GivesUpLast c.take_turns.new.node.cluster c.take_turns.new.node.me w)) (sym is)
-        c.in_err-close.ensures.fault)
+    c.take_turns.ensures.whose c.args.turns c.in_ok-malformed.malformed c.take_turns.new.node.releases c.in_ok-malformed.ensures.ok e
+    (subst (λ w. LeadsTo g.D.Disk.stands_for g.L.Link.received g.L.Link.given c.take_turns.new.node c.close.new.node c.take_turns.new.link c.close.new.link (GivesUpLast c.take_turns.new.node.cluster c.take_turns.new.node.me w)) (sym is)
+    c.in_err-close.ensures.fault)
 
 -- src/driving.rt:148:5
 pub returns-in_err-close-clause-failed_too : goal.returns-in_err-close-clause-failed_too
@@ -39,8 +39,8 @@ returns-in_err-close-clause-failed_too g c = on_err c.from_residual-in_err-close
 pub returns-clause-ok : goal.returns-clause-ok
 returns-clause-ok g c =
     driven g.D.Disk.stands_for g.L.Link.received g.L.Link.given c.args.node.now c.take_turns.new.node c.close.new.node c.args.link.now c.take_turns.new.link c.close.new.link
-      c.take_turns.ensures.whose c.args.turns c.in_ok-malformed.malformed c.close.new.node.releases
-      (subst (λ fed. LeadsTo g.D.Disk.stands_for g.L.Link.received g.L.Link.given c.args.node.now c.take_turns.new.node c.args.link.now c.take_turns.new.link
-          (Exchanges c.args.node.now.cluster c.args.node.now.me c.args.turns c.in_ok-malformed.malformed fed))
-        (sym c.close.ensures.others.releases) c.in_ok-malformed.ensures.ok)
-      c.in_ok-close.ensures.ok
+    c.take_turns.ensures.whose c.args.turns c.in_ok-malformed.malformed c.close.new.node.releases
+    (subst (λ fed. LeadsTo g.D.Disk.stands_for g.L.Link.received g.L.Link.given c.args.node.now c.take_turns.new.node c.args.link.now c.take_turns.new.link
+    (Exchanges c.args.node.now.cluster c.args.node.now.me c.args.turns c.in_ok-malformed.malformed fed))
+    (sym c.close.ensures.others.releases) c.in_ok-malformed.ensures.ok)
+    c.in_ok-close.ensures.ok

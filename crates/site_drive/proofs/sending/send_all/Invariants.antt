@@ -11,7 +11,7 @@ abbrev pub invariant-loop-to : goal.invariant-loop-to
 invariant-loop-to g l = record {
   received : (ds : List (List ℕ)) → g.L.Link.received l.fn.link ds → g.L.Link.received l.link ds;
   given : ((x : To × Message) → In l.to-items x → Fits x.1) → (gs : List (ℕ × List ℕ)) → g.L.Link.given l.fn.link gs
-    → g.L.Link.given l.link (gs ++ sent_of l.cluster (take l.to-index l.to-items));
+      → g.L.Link.given l.link (gs ++ sent_of l.cluster (take l.to-index l.to-items));
   tried : g.L.Link.tried l.link ≡ g.L.Link.tried l.fn.link;
   counted : Counted l.fn.failed l.failed (g.L.Link.failed l.fn.link) (g.L.Link.failed l.link);
 }

@@ -16,23 +16,23 @@ use Rattle.site_drive.proofs.desk.Desk.close.Goals as goal
 pub returns-in_err-last_call-clause-fault : goal.returns-in_err-last_call-clause-fault
 returns-in_err-last_call-clause-fault g c = err_gives c.from_residual.result c.from_residual.ensures.1 λ e is.
     not_closed g.D.Disk.stands_for g.L.Link.received g.L.Link.given c.args.node.now c.last_call.new.node c.args.link.now c.args.node.now.cluster c.args.node.now.me e
-      (subst (λ w. NodeLeads g.D.Disk.stands_for c.args.node.now c.last_call.new.node (λ s next. (call : Call) × IsLastCall s call × Ends c.args.node.now.cluster c.args.node.now.me s call (ending_by w) [] next)) (sym is)
-        c.in_err-last_call.ensures.fault)
+    (subst (λ w. NodeLeads g.D.Disk.stands_for c.args.node.now c.last_call.new.node (λ s next. (call : Call) × IsLastCall s call × Ends c.args.node.now.cluster c.args.node.now.me s call (ending_by w) [] next)) (sym is)
+    c.in_err-last_call.ensures.fault)
 
 -- src/driving.rt:120:9
 pub returns-in_err-send_all-clause-fault : goal.returns-in_err-send_all-clause-fault
 returns-in_err-send_all-clause-fault g c = err_gives c.from_residual-in_err-send_all.result c.from_residual-in_err-send_all.ensures.1 λ e is.
     closes_short g.D.Disk.stands_for g.L.Link.received g.L.Link.given c.args.node.now c.last_call.new.node c.args.link.now c.send_all.new.link c.args.node.now.cluster c.args.node.now.me c.last_call.new.self.outbox.items
-      c.send_all.ensures.received e is c.in_ok-last_call.ensures.ok
-      (subst (λ k. ((x : To × Message) → In c.last_call.new.self.outbox.items x → Fits x.1) → (gs : List (ℕ × List ℕ)) → g.L.Link.given c.args.link.now gs
-          → (i : ℕ) × g.L.Link.given c.send_all.new.link (gs ++ take i (sent_of k c.last_call.new.self.outbox.items)))
-        (c.cluster.ensures ∙ c.last_call.ensures.others.cluster) c.in_err-send_all.ensures.refused)
+    c.send_all.ensures.received e is c.in_ok-last_call.ensures.ok
+    (subst (λ k. ((x : To × Message) → In c.last_call.new.self.outbox.items x → Fits x.1) → (gs : List (ℕ × List ℕ)) → g.L.Link.given c.args.link.now gs
+    → (i : ℕ) × g.L.Link.given c.send_all.new.link (gs ++ take i (sent_of k c.last_call.new.self.outbox.items)))
+    (c.cluster.ensures ∙ c.last_call.ensures.others.cluster) c.in_err-send_all.ensures.refused)
 
 -- src/driving.rt:110:5
 pub returns-clause-ok : goal.returns-clause-ok
 returns-clause-ok g c =
     closes g.D.Disk.stands_for g.L.Link.received g.L.Link.given c.args.node.now c.last_call.new.node c.args.link.now c.send_all.new.link c.args.node.now.cluster c.args.node.now.me c.last_call.new.self.outbox.items
-      c.send_all.ensures.received c.in_ok-last_call.ensures.ok
-      (subst (λ k. ((x : To × Message) → In c.last_call.new.self.outbox.items x → Fits x.1) → (gs : List (ℕ × List ℕ)) → g.L.Link.given c.args.link.now gs
-          → g.L.Link.given c.send_all.new.link (gs ++ sent_of k c.last_call.new.self.outbox.items))
-        (c.cluster.ensures ∙ c.last_call.ensures.others.cluster) c.in_ok-send_all.ensures.given)
+    c.send_all.ensures.received c.in_ok-last_call.ensures.ok
+    (subst (λ k. ((x : To × Message) → In c.last_call.new.self.outbox.items x → Fits x.1) → (gs : List (ℕ × List ℕ)) → g.L.Link.given c.args.link.now gs
+    → g.L.Link.given c.send_all.new.link (gs ++ sent_of k c.last_call.new.self.outbox.items))
+    (c.cluster.ensures ∙ c.last_call.ensures.others.cluster) c.in_ok-send_all.ensures.given)

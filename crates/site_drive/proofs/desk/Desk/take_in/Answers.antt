@@ -10,24 +10,24 @@ pub returns-in-Ok-deliver-clause-taken : goal.returns-in-Ok-deliver-clause-taken
 returns-in-Ok-deliver-clause-taken g c = λ h is.
     let buffer = c.args.self.now.datagram.items in
     let spells = subst (λ k. Spells k (take c.in-Some.n buffer) c.in-Ok.message) c.cluster.ensures
-      (subst (λ b. Spells c.cluster.result (take c.in-Some.n b) c.in-Ok.message) c.deref.ensures.value c.in-Ok.ensures)
+    (subst (λ b. Spells c.cluster.result (take c.in-Some.n b) c.in-Ok.message) c.deref.ensures.value c.in-Ok.ensures)
     in
     took_some g.D.Disk.stands_for c.args.node.now c.deliver.new.self buffer c.args.self.now.room c.in-Some.n c.args.node.now.cluster c.args.node.now.me 0 c.deliver.new.outbox.items
-      (taken g.D.Disk.stands_for c.args.node.now c.deliver.new.self (take c.in-Some.n buffer) c.in-Ok.message c.args.self.now.outbox.items c.deliver.new.outbox.items
-        spells c.requires.empty c.in-Ok-deliver.ensures.event)
-      h (subst (λ k. IsHeldAs k buffer h) c.in-Some.is is)
+    (taken g.D.Disk.stands_for c.args.node.now c.deliver.new.self (take c.in-Some.n buffer) c.in-Ok.message c.args.self.now.outbox.items c.deliver.new.outbox.items
+    spells c.requires.empty c.in-Ok-deliver.ensures.event)
+    h (subst (λ k. IsHeldAs k buffer h) c.in-Some.is is)
 
 -- src/turns.rt:52:5
 pub returns-in-Ok-clause-broken : goal.returns-in-Ok-clause-broken
 returns-in-Ok-clause-broken g c = λ h is.
     let buffer = c.args.self.now.datagram.items in
     let spells = subst (λ k. Spells k (take c.in-Some.n buffer) c.in-Ok.message) c.cluster.ensures
-      (subst (λ b. Spells c.cluster.result (take c.in-Some.n b) c.in-Ok.message) c.deref.ensures.value c.in-Ok.ensures)
+    (subst (λ b. Spells c.cluster.result (take c.in-Some.n b) c.in-Ok.message) c.deref.ensures.value c.in-Ok.ensures)
     in
     broke_some g.D.Disk.stands_for c.args.node.now c.deliver.new.self buffer c.args.self.now.room c.in-Some.n c.args.node.now.cluster c.args.node.now.me c.in-Err.fault
-      (broken g.D.Disk.stands_for c.args.node.now c.deliver.new.self (take c.in-Some.n buffer) c.in-Ok.message c.args.self.now.outbox.items c.deliver.new.outbox.items
-        spells c.requires.empty c.in-Err.fault c.in-Err.ensures.event)
-      h (subst (λ k. IsHeldAs k buffer h) c.in-Some.is is)
+    (broken g.D.Disk.stands_for c.args.node.now c.deliver.new.self (take c.in-Some.n buffer) c.in-Ok.message c.args.self.now.outbox.items c.deliver.new.outbox.items
+    spells c.requires.empty c.in-Err.fault c.in-Err.ensures.event)
+    h (subst (λ k. IsHeldAs k buffer h) c.in-Some.is is)
 
 -- src/turns.rt:42:5
 pub returns-clause-broken : goal.returns-clause-broken
@@ -35,7 +35,7 @@ returns-clause-broken g c = λ h is.
     let buffer = c.args.self.now.datagram.items in
     let decodes = subst (λ f. Decodes c.cluster.result (take c.in-Some.n c.deref.result.now) (Err f)) c.in-Err-OutOfMemory.field-0-is c.in-Err-OutOfMemory.ensures in
     let spells = subst (λ k. Spells k (take c.in-Some.n buffer) decodes.0) c.cluster.ensures
-      (subst (λ b. Spells c.cluster.result (take c.in-Some.n b) decodes.0) c.deref.ensures.value decodes.1)
+    (subst (λ b. Spells c.cluster.result (take c.in-Some.n b) decodes.0) c.deref.ensures.value decodes.1)
     in
     broke_some g.D.Disk.stands_for c.args.node.now c.args.node.now buffer c.args.self.now.room c.in-Some.n c.args.node.now.cluster c.args.node.now.me fault.OutOfMemory
-      (unread g.D.Disk.stands_for c.args.node.now (take c.in-Some.n buffer) (decodes.0, spells)) h (subst (λ k. IsHeldAs k buffer h) c.in-Some.is is)
+    (unread g.D.Disk.stands_for c.args.node.now (take c.in-Some.n buffer) (decodes.0, spells)) h (subst (λ k. IsHeldAs k buffer h) c.in-Some.is is)

@@ -11,9 +11,9 @@ use Rattle.site_drive.proofs.desk.Desk.take_turns.Goals as goal
 pub returns-in_err-malformed-clause-fault : goal.returns-in_err-malformed-clause-fault
 returns-in_err-malformed-clause-fault g c = err_gives c.from_residual.result c.from_residual.ensures.1 λ e is.
     one_turn_too_many g.D.Disk.stands_for g.L.Link.received g.L.Link.given c.args.node.now c.loop-made.node c.turn.new.node c.args.link.now c.loop-made.link c.turn.new.link
-      c.loop-made.invariant.whose c.loop-made.made c.loop-made.malformed c.loop-made.node.releases c.loop-made.invariant.leads c.args.turns e c.loop-made-test.true
-      (subst (λ w. LeadsTo g.D.Disk.stands_for g.L.Link.received g.L.Link.given c.loop-made.node c.turn.new.node c.loop-made.link c.turn.new.link (GivesUp c.loop-made.node.cluster c.loop-made.node.me 1 w))
-        (sym is) c.in_err-malformed.ensures.fault)
+    c.loop-made.invariant.whose c.loop-made.made c.loop-made.malformed c.loop-made.node.releases c.loop-made.invariant.leads c.args.turns e c.loop-made-test.true
+    (subst (λ w. LeadsTo g.D.Disk.stands_for g.L.Link.received g.L.Link.given c.loop-made.node c.turn.new.node c.loop-made.link c.turn.new.link (GivesUp c.loop-made.node.cluster c.loop-made.node.me 1 w))
+    (sym is) c.in_err-malformed.ensures.fault)
 
 -- src/driving.rt:43:26
 pub returns-in_err-malformed-clause-tried_fewer : goal.returns-in_err-malformed-clause-tried_fewer
@@ -31,7 +31,7 @@ loop-made-preserved g c = record {
   few = omega (arith, c.loop-made.invariant.few, c.in_ok-malformed.ensures.one);
   empty = c.in_ok-malformed.ensures.empty;
   leads =
-    one_turn_more g.D.Disk.stands_for g.L.Link.received g.L.Link.given c.args.node.now c.loop-made.node c.turn.new.node c.args.link.now c.loop-made.link c.turn.new.link
+      one_turn_more g.D.Disk.stands_for g.L.Link.received g.L.Link.given c.args.node.now c.loop-made.node c.turn.new.node c.args.link.now c.loop-made.link c.turn.new.link
       c.loop-made.invariant.whose c.loop-made.made c.loop-made.malformed c.loop-made.node.releases c.loop-made.invariant.leads
       c.in_ok-malformed.field-0 c.turn.new.node.releases c.in_ok-malformed.ensures.ok;
   whose = stays_on c.args.node.now c.loop-made.node c.turn.new.node c.loop-made.invariant.whose c.turn.ensures.whose;

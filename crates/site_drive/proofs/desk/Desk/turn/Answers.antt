@@ -16,48 +16,48 @@ use Rattle.site_drive.proofs.desk.Desk.turn.Goals as goal
 pub returns-in_err-malformed-clause-fault : goal.returns-in_err-malformed-clause-fault
 returns-in_err-malformed-clause-fault g c = err_gives c.from_residual.result c.from_residual.ensures.1 λ e is.
     turned_off g.D.Disk.stands_for g.L.Link.received g.L.Link.given c.args.node.now c.take_in.new.node c.args.link.now c.hear-came.new.link c.args.node.now.cluster c.args.node.now.me 0 []
-      c.hear-came.result c.hear-came.new.self.datagram.items c.hear-came.ensures.heard c.hear-came.ensures.given e
-      (λ h held. subst (λ w. NodeLeads g.D.Disk.stands_for c.args.node.now c.take_in.new.node (λ s next. (d : List ℕ) × (h ≡ Some d) × BreaksOff c.args.node.now.cluster c.args.node.now.me s d w next)) (sym is)
-        (c.in_err-malformed.ensures.broken h held))
+    c.hear-came.result c.hear-came.new.self.datagram.items c.hear-came.ensures.heard c.hear-came.ensures.given e
+    (λ h held. subst (λ w. NodeLeads g.D.Disk.stands_for c.args.node.now c.take_in.new.node (λ s next. (d : List ℕ) × (h ≡ Some d) × BreaksOff c.args.node.now.cluster c.args.node.now.me s d w next)) (sym is)
+    (c.in_err-malformed.ensures.broken h held))
 
 -- src/turns.rt:83:9
 pub returns-in_err-publish-clause-fault : goal.returns-in_err-publish-clause-fault
 returns-in_err-publish-clause-fault g c = err_gives c.from_residual-in_err-publish.result c.from_residual-in_err-publish.ensures.1 λ e is.
     turned_short g.D.Disk.stands_for g.L.Link.received g.L.Link.given c.args.node.now c.take_in.new.node c.args.link.now c.hear-came.new.link c.args.node.now.cluster c.args.node.now.me
-      c.in_ok-malformed.malformed c.take_in.new.self.outbox.items
-      c.hear-came.result c.hear-came.new.self.datagram.items c.hear-came.ensures.heard c.hear-came.ensures.given c.in_ok-malformed.ensures.taken
-      c.publish.new.self c.hear-came.new.link c.publish.ensures.same c.publish.ensures.on_disk (λ ds h. h) e (is ∙ same_err c.in_err-publish.ensures.err) (λ fits gs h. (0, subst (g.L.Link.given c.hear-came.new.link) (sym (append-nil gs)) h))
+    c.in_ok-malformed.malformed c.take_in.new.self.outbox.items
+    c.hear-came.result c.hear-came.new.self.datagram.items c.hear-came.ensures.heard c.hear-came.ensures.given c.in_ok-malformed.ensures.taken
+    c.publish.new.self c.hear-came.new.link c.publish.ensures.same c.publish.ensures.on_disk (λ ds h. h) e (is ∙ same_err c.in_err-publish.ensures.err) (λ fits gs h. (0, subst (g.L.Link.given c.hear-came.new.link) (sym (append-nil gs)) h))
 
 -- src/turns.rt:84:9
 pub returns-in_err-send_all-clause-fault : goal.returns-in_err-send_all-clause-fault
 returns-in_err-send_all-clause-fault g c = err_gives c.from_residual-in_err-send_all.result c.from_residual-in_err-send_all.ensures.1 λ e is.
     turned_short g.D.Disk.stands_for g.L.Link.received g.L.Link.given c.args.node.now c.take_in.new.node c.args.link.now c.hear-came.new.link c.args.node.now.cluster c.args.node.now.me
-      c.in_ok-malformed.malformed c.take_in.new.self.outbox.items
-      c.hear-came.result c.hear-came.new.self.datagram.items c.hear-came.ensures.heard c.hear-came.ensures.given c.in_ok-malformed.ensures.taken
-      c.publish.new.self c.send_all.new.link c.publish.ensures.same c.publish.ensures.on_disk c.send_all.ensures.received e is
-      (subst (λ k. ((x : To × Message) → In c.take_in.new.self.outbox.items x → Fits x.1) → (gs : List (ℕ × List ℕ)) → g.L.Link.given c.hear-came.new.link gs
-          → (i : ℕ) × g.L.Link.given c.send_all.new.link (gs ++ take i (sent_of k c.take_in.new.self.outbox.items)))
-        (c.cluster.ensures ∙ c.publish.ensures.whose.1 ∙ c.take_in.ensures.others.cluster) c.in_err-send_all.ensures.refused)
+    c.in_ok-malformed.malformed c.take_in.new.self.outbox.items
+    c.hear-came.result c.hear-came.new.self.datagram.items c.hear-came.ensures.heard c.hear-came.ensures.given c.in_ok-malformed.ensures.taken
+    c.publish.new.self c.send_all.new.link c.publish.ensures.same c.publish.ensures.on_disk c.send_all.ensures.received e is
+    (subst (λ k. ((x : To × Message) → In c.take_in.new.self.outbox.items x → Fits x.1) → (gs : List (ℕ × List ℕ)) → g.L.Link.given c.hear-came.new.link gs
+    → (i : ℕ) × g.L.Link.given c.send_all.new.link (gs ++ take i (sent_of k c.take_in.new.self.outbox.items)))
+    (c.cluster.ensures ∙ c.publish.ensures.whose.1 ∙ c.take_in.ensures.others.cluster) c.in_err-send_all.ensures.refused)
 
 -- src/turns.rt:84:9
 pub returns-in_err-send_all-clause-counted : goal.returns-in_err-send_all-clause-counted
 returns-in_err-send_all-clause-counted g c =
     counted_on _ _ _ _ _ _ c.hear-came.ensures.counted
-      (subst (λ k. Counted k c.send_all.new.failed (g.L.Link.failed c.hear-came.new.link) (g.L.Link.failed c.send_all.new.link)) c.take_in.ensures.counted c.send_all.ensures.counted)
+    (subst (λ k. Counted k c.send_all.new.failed (g.L.Link.failed c.hear-came.new.link) (g.L.Link.failed c.send_all.new.link)) c.take_in.ensures.counted c.send_all.ensures.counted)
 
 -- src/turns.rt:67:5
 pub returns-clause-ok : goal.returns-clause-ok
 returns-clause-ok g c =
     turned g.D.Disk.stands_for g.L.Link.received g.L.Link.given c.args.node.now c.take_in.new.node c.args.link.now c.hear-came.new.link c.args.node.now.cluster c.args.node.now.me
-      c.in_ok-malformed.malformed c.take_in.new.self.outbox.items
-      c.hear-came.result c.hear-came.new.self.datagram.items c.hear-came.ensures.heard c.hear-came.ensures.given c.in_ok-malformed.ensures.taken
-      c.publish.new.self c.send_all.new.link c.publish.ensures.same c.publish.ensures.on_disk c.send_all.ensures.received c.in_ok-publish.ensures.ok.1
-      (subst (λ k. ((x : To × Message) → In c.take_in.new.self.outbox.items x → Fits x.1) → (gs : List (ℕ × List ℕ)) → g.L.Link.given c.hear-came.new.link gs
-          → g.L.Link.given c.send_all.new.link (gs ++ sent_of k c.take_in.new.self.outbox.items))
-        (c.cluster.ensures ∙ c.publish.ensures.whose.1 ∙ c.take_in.ensures.others.cluster) c.in_ok-send_all.ensures.given)
+    c.in_ok-malformed.malformed c.take_in.new.self.outbox.items
+    c.hear-came.result c.hear-came.new.self.datagram.items c.hear-came.ensures.heard c.hear-came.ensures.given c.in_ok-malformed.ensures.taken
+    c.publish.new.self c.send_all.new.link c.publish.ensures.same c.publish.ensures.on_disk c.send_all.ensures.received c.in_ok-publish.ensures.ok.1
+    (subst (λ k. ((x : To × Message) → In c.take_in.new.self.outbox.items x → Fits x.1) → (gs : List (ℕ × List ℕ)) → g.L.Link.given c.hear-came.new.link gs
+    → g.L.Link.given c.send_all.new.link (gs ++ sent_of k c.take_in.new.self.outbox.items))
+    (c.cluster.ensures ∙ c.publish.ensures.whose.1 ∙ c.take_in.ensures.others.cluster) c.in_ok-send_all.ensures.given)
 
 -- src/turns.rt:67:5
 pub returns-clause-counted : goal.returns-clause-counted
 returns-clause-counted g c =
     counted_on _ _ _ _ _ _ c.hear-came.ensures.counted
-      (subst (λ k. Counted k c.send_all.new.failed (g.L.Link.failed c.hear-came.new.link) (g.L.Link.failed c.send_all.new.link)) c.take_in.ensures.counted c.send_all.ensures.counted)
+    (subst (λ k. Counted k c.send_all.new.failed (g.L.Link.failed c.hear-came.new.link) (g.L.Link.failed c.send_all.new.link)) c.take_in.ensures.counted c.send_all.ensures.counted)
