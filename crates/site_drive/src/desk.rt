@@ -21,7 +21,7 @@ pub(crate) struct Desk {
 }
 
 impl Desk {
-    pub fn new(alloc: Global) -> Result<Desk, AllocError>
+    pub(crate) fn new(alloc: Global) -> Result<Desk, AllocError>
         ensures { IfOk result (λ desk. (desk.outbox.items ≡ []) × (desk.failed ≡ 0)) }
     {
         let mut datagram = Vec::new(alloc);

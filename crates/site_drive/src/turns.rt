@@ -68,7 +68,7 @@ impl Desk {
     }
 
     /// One turn: how many datagrams were malformed, one or none.
-    pub fn turn<D: Disk, L: Link>(
+    pub(crate) fn turn<D: Disk, L: Link>(
         &mut self,
         node: &mut Node<D>,
         link: &mut L,
