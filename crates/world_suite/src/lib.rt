@@ -1,0 +1,20 @@
+//! Worlds over disks in memory: worked schedules, runs that stop at an event or go on over a refusal, each growth refused; and the simulator's lines
+//! of fault, over ends that fail at each byte.
+#![tactic(auto)]
+
+#[cfg(test)]
+mod group;
+#[cfg(test)]
+mod halt;
+#[cfg(test)]
+mod records;
+#[cfg(test)]
+mod refusals;
+#[cfg(test)]
+mod runs;
+#[cfg(test)]
+mod schedules;
+#[cfg(test)]
+mod simulator;
+#[cfg(test)]
+mod step;

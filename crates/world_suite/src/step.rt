@@ -1,0 +1,35 @@
+//! A schedule's steps, as tables have them.
+use world::NodeState;
+
+/// What happens at a node, by its number, or what is seen there.
+#[derive(Clone, Copy, Debug)]
+pub(crate) enum Step {
+    /// A command of editor 1, with the number of its ticket.
+    Submit(u8, u64, &'static str),
+    Tick(u8),
+    Ask(u8),
+    Deliver(u8, usize),
+    Arm(u8, u32),
+    Crash(u8, u8),
+    Restart(u8),
+    /// Each message that no such step has taken reaches all nodes, and so do those that come of it.
+    Settle,
+    /// Its state, how many values it knows, and its newest release.
+    Shows(u8, NodeState, u32, u64),
+    /// The page of a release and a path: its status and body.
+    Page(u8, u64, &'static str, u16, &'static str),
+    /// So many messages were handed out, and the last one was of that kind.
+    Last(usize, Kind),
+}
+
+#[derive(Clone, Copy, Debug, PartialEq, Eq)]
+pub(crate) enum Kind {
+    Prepare,
+    /// Whether it tells a vote.
+    Promise(bool),
+    Propose,
+    Accepted,
+    Nack,
+    Ask,
+    Chosen,
+}
