@@ -26,8 +26,12 @@ fn push_frame(
     input.push_str(text)
 }
 
-fn input_of(alloc: Global, case: &Case) -> Result<String, AllocError> {
-    let (_, template, page_data, partials, _) = case;
+fn input_of(
+    alloc: Global,
+    template: &str,
+    page_data: &str,
+    partials: &[(&str, &str)],
+) -> Result<String, AllocError> {
     let mut input = String::new(alloc);
     for (number, (partial, text)) in partials.iter().enumerate() {
         let command = format!(in alloc; "put partial {partial}\n{text}")?;
@@ -50,7 +54,7 @@ fn input_of(alloc: Global, case: &Case) -> Result<String, AllocError> {
 /// Compares the page of each case.
 pub(crate) fn check(rt: &impl Abort, alloc: Global, cases: &[Case]) -> Result<(), Fail> {
     for case in cases {
-        let input = input_of(alloc, case)?;
+        let input = input_of(alloc, case.1, case.2, case.3)?;
         let mut reader = Counted::new(input.as_bytes());
         let mut out = Counted::new(Vec::<u8>::new(alloc));
         let mut err = Counted::new(Vec::<u8>::new(alloc));
@@ -61,4 +65,21 @@ pub(crate) fn check(rt: &impl Abort, alloc: Global, cases: &[Case]) -> Result<()
         assert_eq!(rt; status, 0, "{name}");
     }
     Ok(())
+}
+
+/// What is printed for a page that has to be there.
+pub(crate) fn page_of(
+    rt: &impl Abort,
+    alloc: Global,
+    template: &str,
+    page_data: &str,
+    partials: &[(&str, &str)],
+) -> Result<Vec<u8>, Fail> {
+    let input = input_of(alloc, template, page_data, partials)?;
+    let mut reader = Counted::new(input.as_bytes());
+    let mut out = Counted::new(Vec::<u8>::new(alloc));
+    let mut err = Counted::new(Vec::<u8>::new(alloc));
+    let status = siterender(alloc, &mut reader, &mut out, &mut err, None, "/");
+    assert_eq!(rt; status, 0);
+    Ok(out.into_inner())
 }

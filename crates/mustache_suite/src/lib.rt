@@ -14,6 +14,8 @@ mod interpolation;
 #[cfg(test)]
 mod inverted;
 #[cfg(test)]
+mod margins;
+#[cfg(test)]
 mod partials;
 #[cfg(test)]
 mod sections;
