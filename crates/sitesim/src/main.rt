@@ -43,6 +43,10 @@ fn main(rt: HostRuntime) -> io::Result<ExitCode> {
     match sim_options(alloc, words.as_slice()) {
         Ok(options) => shown(rt, options),
         Err(e) if e.kind() == ErrorKind::OutOfMemory => out_of_memory(rt),
+        Err(e) if !e.use_stderr() => {
+            print!(rt; "{e}")?;
+            Ok(ExitCode::from(0))
+        }
         Err(e) => {
             eprint!(rt; "{e}")?;
             Ok(ExitCode::from(2))
