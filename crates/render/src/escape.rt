@@ -15,6 +15,9 @@ struct Special<'a> {
 fn entity_of(byte: u8) -> Option<&'static str>
     ensures { MatchOption result (escaped_byte byte ≡ byte ∷ []) (λ x. (escaped_byte byte ≡ x.now) × (byte < 128)) }
 {
+    if byte > b'&' && byte < b'<' {
+        return None;
+    }
     match byte {
         b'&' => Some("&amp;"),
         b'"' => Some("&quot;"),

@@ -14,11 +14,12 @@ pub(crate) struct Margin<'a> {
     pub outer: Option<&'a Margin<'a>>,
 }
 
-/// The margin of a partial under another: longer by its own blanks where its tag is standalone, else none.
+/// The margin of a partial under another: longer by its own blanks where its tag is standalone, the same where it has none, else none.
 pub(crate) fn margin_within<'a>(own: &'a Option<String>, outer: &'a Margin<'a>) -> Margin<'a>
     ensures { margin_text result ≡ own_under (margin_text outer.now) own.now }
 {
     match own {
+        Some(own) if own.is_empty() => *outer,
         Some(own) => Margin {
             own: own.as_str(),
             outer: Some(outer),
