@@ -1,10 +1,11 @@
 -- Faults of the layers below, told by a node.
-use Rattle.std.specs.Prelude.{◌≡◌, Err}
+use Rattle.std.specs.Prelude.{◌≡◌, Err, ⊤}
 use Rattle.durable.specs.declared.fault.RecordFault.{RecordFault}
 use Rattle.durable.specs.declared.fault.RecordFault.TheVariants as stored
 use Rattle.command.specs.declared.fault.CommandFault.{CommandFault}
 use Rattle.command.specs.declared.fault.CommandFault.TheVariants as command
 use Rattle.command.specs.Reading.{value_reading, TakesMemory}
+use Rattle.command.specs.Written.{HasLine}
 use Rattle.node.specs.declared.fault.NodeFault.{NodeFault}
 use Rattle.node.specs.declared.fault.NodeFault.TheVariants.{OutOfMemory, Device, Stopped, NotACommand}
 use Rattle.node.specs.Nodes.{Value}
@@ -27,6 +28,11 @@ of_command (command.Data why) = NotACommand (command.Data why)
 
 -- why a value that is submitted was not read
 abbrev pub IsUnread : Value → NodeFault → Type 0
-IsUnread v (NotACommand why) = value_reading v ≡ Err why
+IsUnread v (NotACommand why) = (value_reading v ≡ Err why) × HasLine why
 IsUnread v OutOfMemory = TakesMemory v
 IsUnread v _ = ⊥
+
+-- a command's fault that is told has a line: it is no want of memory
+abbrev pub IsTold : NodeFault → Type 0
+IsTold (NotACommand why) = HasLine why
+IsTold _ = ⊤

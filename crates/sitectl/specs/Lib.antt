@@ -13,3 +13,4 @@ pub mod Simulation
 pub mod SimOptions
 pub mod SimulationEnds
 pub mod Stepping
+pub mod Served

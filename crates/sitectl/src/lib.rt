@@ -11,12 +11,15 @@ mod options;
 mod saying;
 mod schedule;
 mod schedule_file;
+mod served;
+mod serving_node;
 mod simulator;
 
 pub use engine::siterender;
 pub use http_read::Counted;
 pub use laws::{a_schedule_has_one_reading, an_input_has_one_verdict};
 pub use options::{RenderOptions, render_options};
+pub use served::Served;
 pub use schedule_file::{SimOptions, sim_options};
 pub use simulator::sitesim;
 
