@@ -13,7 +13,7 @@ use Rattle.learner.specs.Votes.{tallies_at, IsTold, IsToldWith}
 use Rattle.learner.proofs.Counting.{quorum_reached, counted_by}
 
 -- tallies that say one vote more, at its instance, make a set with that vote
-pub vote_added : (old new : Learner) (p i : ℕ) (b : BallotOf) (v : List ℕ) → AddsTold (tallies_at old i) (tallies_at new i) p b v
+vote_added : (old new : Learner) (p i : ℕ) (b : BallotOf) (v : List ℕ) → AddsTold (tallies_at old i) (tallies_at new i) p b v
     → ((j : ℕ) → j ≢ i → tallies_at new j ≡ tallies_at old j) → (t : ToldVote) → IsTold new t ↔ IsToldWith old (told_vote p i b v) t
 vote_added old new p i b v adds others t = ⊎_elim here elsewhere (cases_eq t.instance i)
   where
@@ -35,20 +35,24 @@ vote_added old new p i b v adds others t = ⊎_elim here elsewhere (cases_eq t.i
         )
 
 -- the same tallies make the same set
-pub votes_kept : (old new : Learner) (i : ℕ) → tallies_at new i ≡ tallies_at old i → ((j : ℕ) → j ≢ i → tallies_at new j ≡ tallies_at old j) → (t : ToldVote) → IsTold new t ↔ IsTold old t
+votes_kept : (old new : Learner) (i : ℕ) → tallies_at new i ≡ tallies_at old i → ((j : ℕ) → j ≢ i → tallies_at new j ≡ tallies_at old j) → (t : ToldVote) → IsTold new t ↔ IsTold old t
 votes_kept old new i here others t =
     let same : tallies_at new t.instance ≡ tallies_at old t.instance = ⊎_elim (λ (e : t.instance ≡ i). ap (tallies_at new) e ∙ (here ∙ ap (tallies_at old) (sym e))) (others t.instance) (cases_eq t.instance i) in (
       λ h. subst (λ (xs : List Tally). HasTold xs t.voter t.ballot t.value) same h,
       λ h. subst (λ (xs : List Tally). HasTold xs t.voter t.ballot t.value) (sym same) h,
     )
 
--- both of what may be refused, at the instance's number
-pub added_or_refused : {E : Type 0} (old new : Learner) (p at i : ℕ) (b : BallotOf) (v : List ℕ) (r : Result (Unit {0}) E) → at ≡ i
-    → OnOk r (AddsTold (tallies_at old at) (tallies_at new at) p b v) → OnErr r (tallies_at new at ≡ tallies_at old at) → ((j : ℕ) → j ≢ at → tallies_at new j ≡ tallies_at old j)
-    → OnOk r ((t : ToldVote) → IsTold new t ↔ IsToldWith old (told_vote p i b v) t) × OnErr r ((t : ToldVote) → IsTold new t ↔ IsTold old t)
-added_or_refused old new p at i b v (Err e) is adds keeps others = (tt, votes_kept old new at keeps others)
-added_or_refused old new p at i b v (Ok u) is adds keeps others =
-    (vote_added old new p i b v (subst (λ (k : ℕ). AddsTold (tallies_at old k) (tallies_at new k) p b v) is adds) (λ j apart. others j (λ e. apart (e ∙ is))), tt)
+-- the same for what may be refused, at the instance's number
+pub added : {E : Type 0} (old new : Learner) (p at i : ℕ) (b : BallotOf) (v : List ℕ) (r : Result (Unit {0}) E) → at ≡ i
+    → OnOk r (AddsTold (tallies_at old at) (tallies_at new at) p b v) → ((j : ℕ) → j ≢ at → tallies_at new j ≡ tallies_at old j)
+    → OnOk r ((t : ToldVote) → IsTold new t ↔ IsToldWith old (told_vote p i b v) t)
+added old new p at i b v (Err e) is adds others = tt
+added old new p at i b v (Ok u) is adds others = vote_added old new p i b v (subst (λ (k : ℕ). AddsTold (tallies_at old k) (tallies_at new k) p b v) is adds) (λ j apart. others j (λ e. apart (e ∙ is)))
+
+pub refused : {E : Type 0} (old new : Learner) (at : ℕ) (r : Result (Unit {0}) E) → OnErr r (tallies_at new at ≡ tallies_at old at) → ((j : ℕ) → j ≢ at → tallies_at new j ≡ tallies_at old j)
+    → OnErr r ((t : ToldVote) → IsTold new t ↔ IsTold old t)
+refused old new at (Err e) keeps others = votes_kept old new at keeps others
+refused old new at (Ok u) keeps others = tt
 
 -- the nodes that told a value, and the one whose vote comes, reach the quorum where there is a majority in the set with that vote
 pub completes_by : (learner : Learner) (tallies : List Tally) (nodes more : NodeMask) (q i : ℕ) (b : BallotOf) (v : List ℕ) (quorum c : ℕ) → tallies ≡ tallies_at learner i

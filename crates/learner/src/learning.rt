@@ -1,4 +1,4 @@
-ghost use Rattle.std.specs.Prelude.{◌≡◌, ◌≢◌, ◌↔◌, ℕ, [], OnOk, OnErr, IfOk, IsTrue, MatchOption};
+ghost use Rattle.std.specs.Prelude.{◌≡◌, ◌≢◌, ◌↔◌, ℕ, OnOk, OnErr, IfOk, IsTrue, MatchOption};
 ghost use Rattle.learner.specs.ToldVotes.{ToldVote, told_vote, HasMajority};
 ghost use Rattle.learner.specs.Tallies.{AddsTold};
 ghost use Rattle.learner.specs.Votes.{tallies_in, tallies_at, IsTold, IsToldWith};

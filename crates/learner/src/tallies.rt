@@ -1,6 +1,6 @@
 //! Votes for one value at one ballot: one copy of the value, and a mask of the nodes that told it.
 
-ghost use Rattle.std.specs.Prelude.{◌≡◌, ◌↔◌, ◌⊎◌, ℕ, OnOk, OnErr, IfOk, IsTrue, MatchOption};
+ghost use Rattle.std.specs.Prelude.{◌≡◌, ◌↔◌, ℕ, OnOk, OnErr, IfOk, IsTrue, MatchOption};
 ghost use Rattle.learner.specs.Masks.{HasNode};
 ghost use Rattle.learner.specs.Tallies.{IsOf, HasTold, AddsTold, IsFirstOf, HasNoneOf};
 
@@ -18,7 +18,7 @@ pub(crate) struct Tally {
 
 impl Tally {
     /// The tally of one vote.
-    pub(crate) fn started(
+    fn started(
         alloc: Global,
         from: NodeId,
         ballot: Ballot,
