@@ -1,8 +1,5 @@
 -- Faults of the layers below, told by a node; a fault's number and name.
-use Rattle.std.specs.Prelude.{◌≡◌, ℕ, List, Err, codes}
-
--- Faults of the layers below, told by a node.
-use Rattle.std.specs.Prelude.{◌≡◌, Err, ⊤}
+use Rattle.std.specs.Prelude.{◌≡◌, ℕ, List, Err, codes, ⊤}
 use Rattle.durable.specs.declared.fault.RecordFault.{RecordFault}
 use Rattle.durable.specs.declared.fault.RecordFault.TheVariants as stored
 use Rattle.command.specs.declared.fault.CommandFault.{CommandFault}
@@ -11,8 +8,6 @@ use Rattle.command.specs.Reading.{value_reading, TakesMemory}
 use Rattle.command.specs.Written.{HasLine}
 use Rattle.node.specs.declared.fault.NodeFault.{NodeFault}
 use Rattle.node.specs.declared.fault.NodeFault.TheVariants.{OutOfMemory, Device, Stopped, QueueFull, NotACommand, InstancesUsedUp, RoundsUsedUp, Conflict}
-
-use Rattle.node.specs.declared.fault.NodeFault.TheVariants.{OutOfMemory, Device, Stopped, QueueFull, NotACommand}
 use Rattle.node.specs.Nodes.{Value}
 
 -- a put that is refused as full is a growth refused
