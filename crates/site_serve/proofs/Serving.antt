@@ -1,5 +1,5 @@
 -- What a submission comes to, from the node's event.
-use Rattle.std.proofs.Common.{◌≡◌, List, [], Result, Ok, Err, refl, sym, subst, ℕ}
+use Rattle.std.proofs.Common.{◌≡◌, List, [], Ok, Err, refl, sym, subst, ℕ}
 use Rattle.std.specs.Prelude.{OnErr}
 use Rattle.std.specs.Result.{IsErrAnd}
 use Rattle.command.specs.Written.{value_of}
