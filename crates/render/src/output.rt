@@ -10,9 +10,6 @@ use std::alloc::Global;
 /// What a page may cost: 1 for each tag rendered, each item pushed and each byte printed.
 const MAX_COST: usize = 1_000_000;
 
-/// Room for the bytes of a page from its start, so that few pages move as they grow.
-const FIRST_ROOM: usize = 4096;
-
 /// The text of a page so far, and what the rest of it may cost.
 #[derive(Drop)]
 pub(crate) struct Output {
@@ -21,17 +18,12 @@ pub(crate) struct Output {
 }
 
 impl Output {
-    /// An empty page. Where its first room is refused, it has none until something is printed.
     pub fn new(alloc: Global) -> Output
         ensures empty { string_bytes result.text ≡ [] }
         ensures all { result.left ≡ max_cost }
     {
-        let text = match String::with_capacity(alloc, FIRST_ROOM) {
-            Ok(text) => text,
-            Err(_) => String::new(alloc),
-        };
         Output {
-            text,
+            text: String::new(alloc),
             left: MAX_COST,
         }
     }

@@ -1,4 +1,4 @@
-use Rattle.std.proofs.Common.{◌≡◌, [], ◌∷◌, Err, refl, subst, ◌∙◌}
+use Rattle.std.proofs.Common.{◌≡◌, [], ◌∷◌, Err, subst, ◌∙◌}
 use Rattle.mustache_parse.specs.Template.{template_tree}
 use Rattle.context.specs.View.{data_view}
 use Rattle.render.specs.Rendering.{Adds, IsPaid}
