@@ -1,0 +1,43 @@
+//! Serves an accepted connection, and closes it.
+
+use crate::halt::Halt;
+use http_read::Counted;
+use http_serve::{ServeFault, Service, serve};
+use std::alloc::Global;
+use std::io::Read;
+use std::net::{Shutdown, TcpStream};
+
+/// How much of what a client still sends is read before its connection is closed.
+const LINGER: usize = 65_536;
+
+/// Closes a connection whose client may have sent more than was read: where that is left unread, the system resets the connection, and the client
+/// may lose its response.
+fn close(stream: TcpStream) {
+    if stream.shutdown(Shutdown::Write).is_err() || stream.set_nonblocking(true).is_err() {
+        return;
+    }
+    let mut buffer = [0; 4096];
+    let mut left = LINGER;
+    while left > 0 {
+        match (&stream).read(&mut buffer) {
+            Ok(n) if n > 0 => left -= n.min(left),
+            _ => return,
+        }
+    }
+}
+
+/// Serves one request of a connection. That the connection fails is passed over.
+pub(crate) fn serve_connection<S: Service>(
+    alloc: Global,
+    stream: TcpStream,
+    service: &mut S,
+) -> Result<(), Halt> {
+    let mut reader = Counted::new(&stream);
+    let mut writer = Counted::new(&stream);
+    match serve(alloc, &mut reader, &mut writer, service) {
+        Err(ServeFault::OutOfMemory) => return Err(Halt::OutOfMemory),
+        Ok(()) | Err(ServeFault::Read | ServeFault::Write | ServeFault::EndedEarly) => {}
+    }
+    close(stream);
+    Ok(())
+}

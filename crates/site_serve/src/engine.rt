@@ -1,0 +1,71 @@
+//! A server: its parts opened in order, and its rounds.
+
+use crate::ServeOptions;
+use crate::addresses::read_addresses;
+use crate::halt::Halt;
+use crate::openings::open_node;
+use crate::rounds::{take_rounds, turns_of};
+use crate::saying::{say, say_done, say_ready};
+use crate::served::Served;
+use crate::sockets::open_sockets;
+use crate::watch::Watch;
+use http_read::Counted;
+use site_disk::FileDisk;
+use std::alloc::Global;
+use std::fs::File;
+use std::io::Write;
+use std::net::{Net, TcpListener, TcpStream};
+use std::rt::Files;
+
+/// Opens the record and then the sockets.
+fn open<R: Net<Listener = TcpListener, Stream = TcpStream> + Files<File = File>>(
+    rt: &R,
+    alloc: Global,
+    options: &ServeOptions<'_>,
+) -> Result<(Served<FileDisk>, Watch), Halt> {
+    let addresses = read_addresses(alloc, options)?;
+    let (cluster, me) = (addresses.cluster, addresses.me);
+    let served = open_node(rt, alloc, cluster, me, options.record, options.format)?;
+    let watch = open_sockets(rt, addresses)?;
+    Ok((served, watch))
+}
+
+/// Opens a node, says that it is ready, and takes its rounds.
+fn run<R: Net<Listener = TcpListener, Stream = TcpStream> + Files<File = File>, W: Write>(
+    rt: &R,
+    alloc: Global,
+    out: &mut Counted<W>,
+    options: &ServeOptions<'_>,
+) -> Result<(), Halt> {
+    let (mut served, mut watch) = open(rt, alloc, options)?;
+    say_ready(alloc, out, options.id)?;
+    take_rounds(
+        alloc,
+        &mut served,
+        &mut watch,
+        turns_of(options.id),
+        options.rounds,
+    )?;
+    say_done(out)
+}
+
+/// Runs a node for its rounds. The answer is the exit status.
+pub fn serve_node<
+    R: Net<Listener = TcpListener, Stream = TcpStream> + Files<File = File>,
+    W: Write,
+    E: Write,
+>(
+    rt: &R,
+    alloc: Global,
+    out: &mut Counted<W>,
+    err: &mut Counted<E>,
+    options: &ServeOptions<'_>,
+) -> u8 {
+    match run(rt, alloc, out, options) {
+        Ok(()) => 0,
+        Err(halt) => {
+            say(alloc, err, halt);
+            1
+        }
+    }
+}
