@@ -1,5 +1,9 @@
 //! The addresses of a server and its peers.
 
+ghost use Rattle.std.specs.Prelude.{◌≡◌, ◌⊎◌, length, IfOk, IfErr, IfSome, IfNone, OnOk};
+ghost use Rattle.site_ids.specs.Ids.{IsNode};
+ghost use Rattle.site_serve.specs.Placing.{IsAddress, IsPlaced, AreAddresses};
+
 use crate::ServeOptions;
 use crate::halt::Halt;
 use site_ids::{Cluster, MAX_NODES, NodeId};
@@ -17,7 +21,10 @@ pub(crate) struct Addresses {
 }
 
 /// Reads one address.
-fn address(text: &str) -> Result<SocketAddr, Halt> {
+fn address(text: &str) -> Result<SocketAddr, Halt>
+    ensures ok { OnOk result (IsAddress text.now) }
+    ensures bad { IfErr result (λ why. (why ≡ Halt.BadAddress) × ¬ IsAddress text.now) }
+{
     match text.parse::<SocketAddr>() {
         Ok(address) => Ok(address),
         Err(_) => Err(Halt::BadAddress),
@@ -25,7 +32,10 @@ fn address(text: &str) -> Result<SocketAddr, Halt> {
 }
 
 /// Reads each of these addresses.
-fn all(alloc: Global, texts: &[&str]) -> Result<Vec<SocketAddr>, Halt> {
+fn all(alloc: Global, texts: &[&str]) -> Result<Vec<SocketAddr>, Halt>
+    ensures ok { IfOk result (λ found. (length found.items ≡ length texts.now) × AreAddresses texts.now (λ t. t.now)) }
+    ensures bad { IfErr result (λ why. ((why ≡ Halt.BadAddress) × ¬ AreAddresses texts.now (λ t. t.now)) ⊎ (why ≡ Halt.OutOfMemory)) }
+{
     let mut found = Vec::with_capacity(alloc, texts.len())?;
     for text in texts {
         if found.push(address(text)?).is_err() {
@@ -36,7 +46,10 @@ fn all(alloc: Global, texts: &[&str]) -> Result<Vec<SocketAddr>, Halt> {
 }
 
 /// The cluster of so many nodes, and the node of that number.
-fn placed(size: usize, id: u8) -> Option<(Cluster, NodeId)> {
+fn placed(size: usize, id: u8) -> Option<(Cluster, NodeId)>
+    ensures some { IfSome result (λ p. (p.0 ≡ size) × (p.1 ≡ id) × IsNode 9 size × IsNode size id) }
+    ensures none { IfNone result (¬ (IsNode 9 size × IsNode size id)) }
+{
     if size > MAX_NODES as usize {
         return None;
     }
@@ -45,7 +58,10 @@ fn placed(size: usize, id: u8) -> Option<(Cluster, NodeId)> {
 }
 
 /// The addresses of the options: one to nine of nodes, with the server among them.
-pub(crate) fn read_addresses(alloc: Global, options: &ServeOptions<'_>) -> Result<Addresses, Halt> {
+pub(crate) fn read_addresses(alloc: Global, options: &ServeOptions<'_>) -> Result<Addresses, Halt>
+    ensures ok { IfOk result (λ a. IsPlaced options.now × IsNode a.cluster a.me × (length a.peers.items ≡ a.cluster)) }
+    ensures bad { IfErr result (λ why. ((why ≡ Halt.BadAddress) × ¬ IsPlaced options.now) ⊎ (why ≡ Halt.OutOfMemory)) }
+{
     let Some((cluster, me)) = placed(options.peers.len(), options.id) else {
         return Err(Halt::BadAddress);
     };

@@ -1,5 +1,7 @@
 //! Serves an accepted connection, and closes it.
 
+ghost use Rattle.std.specs.Prelude.{◌≡◌, IfErr};
+
 use crate::halt::Halt;
 use http_read::Counted;
 use http_serve::{ServeFault, Service, serve};
@@ -7,8 +9,8 @@ use std::alloc::Global;
 use std::io::Read;
 use std::net::{Shutdown, TcpStream};
 
-/// How much of what a client still sends is read before its connection is closed.
-const LINGER: usize = 65_536;
+/// How many reads of what a client still sends come before its connection is closed, each of at most 4,096 bytes.
+const LINGER: u8 = 16;
 
 /// Closes a connection whose client may have sent more than was read: where that is left unread, the system resets the connection, and the client
 /// may lose its response.
@@ -17,10 +19,9 @@ fn close(stream: TcpStream) {
         return;
     }
     let mut buffer = [0; 4096];
-    let mut left = LINGER;
-    while left > 0 {
+    for _ in 0..LINGER {
         match (&stream).read(&mut buffer) {
-            Ok(n) if n > 0 => left -= n.min(left),
+            Ok(n) if n > 0 => {}
             _ => return,
         }
     }
@@ -31,7 +32,9 @@ pub(crate) fn serve_connection<S: Service>(
     alloc: Global,
     stream: TcpStream,
     service: &mut S,
-) -> Result<(), Halt> {
+) -> Result<(), Halt>
+    ensures { IfErr result (λ why. why ≡ Halt.OutOfMemory) }
+{
     let mut reader = Counted::new(&stream);
     let mut writer = Counted::new(&stream);
     match serve(alloc, &mut reader, &mut writer, service) {

@@ -1,5 +1,10 @@
 //! A server: its parts opened in order, and its rounds.
 
+ghost use Rattle.std.specs.Prelude.{OnOk, IfErr};
+ghost use Rattle.http_read.specs.Bytes.{end_of};
+ghost use Rattle.site_serve.specs.Placing.{IsPlaced};
+ghost use Rattle.site_serve.specs.Running.{EndsBefore, RunEnds, HasServed};
+
 use crate::ServeOptions;
 use crate::addresses::read_addresses;
 use crate::halt::Halt;
@@ -22,7 +27,10 @@ fn open<R: Net<Listener = TcpListener, Stream = TcpStream> + Files<File = File>>
     rt: &R,
     alloc: Global,
     options: &ServeOptions<'_>,
-) -> Result<(Served<FileDisk>, Watch), Halt> {
+) -> Result<(Served<FileDisk>, Watch), Halt>
+    ensures ok { OnOk result (IsPlaced options.now) }
+    ensures err { IfErr result (λ why. EndsBefore options.now why) }
+{
     let addresses = read_addresses(alloc, options)?;
     let (cluster, me) = (addresses.cluster, addresses.me);
     let served = open_node(rt, alloc, cluster, me, options.record, options.format)?;
@@ -36,7 +44,9 @@ fn run<R: Net<Listener = TcpListener, Stream = TcpStream> + Files<File = File>, 
     alloc: Global,
     out: &mut Counted<W>,
     options: &ServeOptions<'_>,
-) -> Result<(), Halt> {
+) -> Result<(), Halt>
+    ensures { RunEnds (end_of W.contents out.old out.new) options.now result }
+{
     let (mut served, mut watch) = open(rt, alloc, options)?;
     say_ready(alloc, out, options.id)?;
     take_rounds(
@@ -60,12 +70,11 @@ pub fn serve_node<
     out: &mut Counted<W>,
     err: &mut Counted<E>,
     options: &ServeOptions<'_>,
-) -> u8 {
+) -> u8
+    ensures { HasServed (end_of W.contents out.old out.new) (end_of E.contents err.old err.new) options.now result }
+{
     match run(rt, alloc, out, options) {
         Ok(()) => 0,
-        Err(halt) => {
-            say(alloc, err, halt);
-            1
-        }
+        Err(halt) => say(alloc, err, halt),
     }
 }

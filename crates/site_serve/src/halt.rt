@@ -10,13 +10,14 @@ use thiserror::Error;
 pub(crate) enum Halt {
     #[error("bad address")]
     BadAddress,
-    #[error("the record was refused")]
+    #[error("the record was refused: {0}")]
     Record(RecordFault),
     #[error("a socket failed")]
     Socket,
     #[error("out of memory")]
     OutOfMemory,
-    #[error("the record's device failed")]
+    /// The record's device failed.
+    #[error("stopped")]
     Stopped,
     #[error("rounds used up")]
     RoundsUsedUp,
@@ -27,12 +28,22 @@ pub(crate) enum Halt {
 }
 
 impl From<AllocError> for Halt {
+    ghost use Rattle.std.specs.Prelude.{◌≡◌};
+    ghost use Rattle.site_serve.specs.declared.halt.Halt.TheVariants.{OutOfMemory};
+
+    ghost from_gives = { λ _ h. h ≡ OutOfMemory };
+
     fn from(_refused: AllocError) -> Halt {
         Halt::OutOfMemory
     }
 }
 
 impl From<RecordFault> for Halt {
+    ghost use Rattle.std.specs.Prelude.{◌≡◌};
+    ghost use Rattle.site_serve.specs.Halts.{of_record};
+
+    ghost from_gives = { λ fault h. h ≡ of_record fault };
+
     fn from(fault: RecordFault) -> Halt {
         match fault {
             RecordFault::OutOfMemory => Halt::OutOfMemory,
@@ -43,50 +54,17 @@ impl From<RecordFault> for Halt {
 
 /// A drive ends by no other fault of a node than these.
 impl From<NodeFault> for Halt {
+    ghost use Rattle.std.specs.Prelude.{◌≡◌};
+    ghost use Rattle.site_serve.specs.Halts.{of_node};
+
+    ghost from_gives = { λ fault h. h ≡ of_node fault };
+
     fn from(fault: NodeFault) -> Halt {
         match fault {
             NodeFault::Device | NodeFault::Stopped => Halt::Stopped,
             NodeFault::RoundsUsedUp => Halt::RoundsUsedUp,
             NodeFault::Conflict => Halt::Conflict,
             _ => Halt::OutOfMemory,
-        }
-    }
-}
-
-/// The number and the name of a record's fault.
-fn label(fault: RecordFault) -> &'static str {
-    match fault {
-        RecordFault::Device => "1 Device",
-        RecordFault::OutOfMemory => "2 OutOfMemory",
-        RecordFault::NotARecord => "3 NotARecord",
-        RecordFault::WrongNode => "4 WrongNode",
-        RecordFault::Full => "5 Full",
-        RecordFault::Damaged => "6 Damaged",
-        RecordFault::Stopped => "7 Stopped",
-    }
-}
-
-impl Halt {
-    /// What stands in its line before the label.
-    pub(crate) fn front(self) -> &'static str {
-        match self {
-            Halt::BadAddress => "bad address",
-            Halt::Record(_) => "record: ",
-            Halt::Socket => "socket failed",
-            Halt::OutOfMemory => "out of memory",
-            Halt::Stopped => "stopped",
-            Halt::RoundsUsedUp | Halt::Conflict => "node: ",
-            Halt::Write => "write failed",
-        }
-    }
-
-    /// The number and the name of the fault below it, where the line has them.
-    pub(crate) fn label(self) -> &'static str {
-        match self {
-            Halt::Record(fault) => label(fault),
-            Halt::RoundsUsedUp => "7 RoundsUsedUp",
-            Halt::Conflict => "8 Conflict",
-            _ => "",
         }
     }
 }

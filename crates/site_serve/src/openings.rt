@@ -1,5 +1,9 @@
 //! Opens a node over a record's file.
 
+ghost use Rattle.std.specs.Prelude.{IfErr};
+ghost use Rattle.site_ids.specs.Ids.{IsNode};
+ghost use Rattle.site_serve.specs.Halts.{EndsOpening};
+
 use crate::halt::Halt;
 use crate::served::Served;
 use durable::{Record, RecordFault};
@@ -13,7 +17,9 @@ use std::path::Path;
 use std::rt::Files;
 
 /// The record's file, made where it is absent and that was asked.
-fn file<R: Files<File = File>>(rt: &R, path: &str, make: bool) -> Result<File, Halt> {
+fn file<R: Files<File = File>>(rt: &R, path: &str, make: bool) -> Result<File, Halt>
+    ensures { IfErr result EndsOpening }
+{
     let opened = OpenOptions::new()
         .read(true)
         .write(true)
@@ -27,7 +33,9 @@ fn file<R: Files<File = File>>(rt: &R, path: &str, make: bool) -> Result<File, H
 }
 
 /// Syncs the folder of a file, so that a crash leaves the file in it.
-fn sync_folder<R: Files<File = File>>(rt: &R, path: &str) -> Result<(), Halt> {
+fn sync_folder<R: Files<File = File>>(rt: &R, path: &str) -> Result<(), Halt>
+    ensures { IfErr result EndsOpening }
+{
     let folder = match Path::new(path).parent() {
         Some(folder) if !folder.as_str().is_empty() => folder.as_str(),
         _ => ".",
@@ -46,7 +54,10 @@ pub(crate) fn open_node<R: Files<File = File>>(
     me: NodeId,
     path: &str,
     format: bool,
-) -> Result<Served<FileDisk>, Halt> {
+) -> Result<Served<FileDisk>, Halt>
+    requires { IsNode cluster me }
+    ensures { IfErr result EndsOpening }
+{
     let mut disk = FileDisk::new(file(rt, path, format)?);
     if format && is_empty(&mut disk)? {
         Record::format(cluster, me, &mut disk)?;

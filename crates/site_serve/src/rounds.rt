@@ -1,5 +1,8 @@
 //! The rounds of a server.
 
+ghost use Rattle.std.specs.Prelude.{◌≡◌, ◌+◌, ◌*◌, IfErr};
+ghost use Rattle.site_serve.specs.Halts.{EndsRounds};
+
 use crate::connections::serve_connection;
 use crate::halt::Halt;
 use crate::served::Served;
@@ -9,7 +12,9 @@ use site_drive::drive;
 use std::alloc::Global;
 
 /// How many turns the drives of a node's rounds have.
-pub(crate) fn turns_of(node: u8) -> u32 {
+pub(crate) fn turns_of(node: u8) -> u32
+    ensures { result ≡ 40 + 10 * node }
+{
     40 + 10 * node as u32
 }
 
@@ -21,7 +26,9 @@ fn take_round<D: Disk>(
     served: &mut Served<D>,
     watch: &mut Watch,
     turns: u32,
-) -> Result<(), Halt> {
+) -> Result<(), Halt>
+    ensures { IfErr result EndsRounds }
+{
     drive(alloc, &mut served.node, watch, turns)?;
     if let Some(stream) = watch.connection() {
         serve_connection(alloc, stream, served)?;
@@ -37,7 +44,9 @@ pub(crate) fn take_rounds<D: Disk>(
     watch: &mut Watch,
     turns: u32,
     rounds: u32,
-) -> Result<(), Halt> {
+) -> Result<(), Halt>
+    ensures { IfErr result EndsRounds }
+{
     for _ in 0..rounds {
         take_round(alloc, served, watch, turns)?;
     }

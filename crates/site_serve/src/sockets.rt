@@ -1,5 +1,9 @@
 //! The sockets of a server.
 
+ghost use Rattle.std.specs.Prelude.{◌≡◌, IfErr, length};
+ghost use Rattle.site_ids.specs.Ids.{IsNode};
+ghost use Rattle.site_serve.specs.Halts.{EndsBinding};
+
 use crate::addresses::Addresses;
 use crate::halt::Halt;
 use crate::watch::Watch;
@@ -32,7 +36,9 @@ fn connections<R: Net<Listener = TcpListener, Stream = TcpStream>>(
 fn open<R: Net<Listener = TcpListener, Stream = TcpStream>>(
     rt: &R,
     addresses: Addresses,
-) -> io::Result<Watch> {
+) -> io::Result<Watch>
+    requires { IsNode addresses.cluster addresses.me × (length addresses.peers.items ≡ addresses.cluster) }
+{
     let Addresses {
         cluster: _,
         me,
@@ -54,7 +60,10 @@ fn open<R: Net<Listener = TcpListener, Stream = TcpStream>>(
 pub(crate) fn open_sockets<R: Net<Listener = TcpListener, Stream = TcpStream>>(
     rt: &R,
     addresses: Addresses,
-) -> Result<Watch, Halt> {
+) -> Result<Watch, Halt>
+    requires { IsNode addresses.cluster addresses.me × (length addresses.peers.items ≡ addresses.cluster) }
+    ensures { IfErr result EndsBinding }
+{
     match open(rt, addresses) {
         Ok(watch) => Ok(watch),
         Err(e) if e.kind() == io::ErrorKind::OutOfMemory => Err(Halt::OutOfMemory),

@@ -1,5 +1,7 @@
 //! A link over UDP that watches for a connection as it receives.
 
+ghost use Rattle.std.specs.Prelude.{◌≡◌};
+
 use crate::calm::Calm;
 use site_drive::{Link, LinkFailed, UdpLink};
 use site_ids::NodeId;
@@ -53,7 +55,9 @@ impl Watch {
     }
 
     /// Holds a connection, where one is there. One that fails at once is passed over.
-    fn accept(&mut self) {
+    fn accept(&mut self)
+        ensures { self.new.link ≡ self.old.link }
+    {
         if self.held.is_some() {
             return;
         }
@@ -73,7 +77,9 @@ impl Watch {
     }
 
     /// Tells the socket whether to wait, where that changes.
-    fn choose_waiting(&mut self) {
+    fn choose_waiting(&mut self)
+        ensures { self.new.link ≡ self.old.link }
+    {
         let waits = !self.is_calm() || (self.held.is_none() && !self.hurry);
         if waits != self.waits && self.link.set_waiting(waits).is_ok() {
             self.waits = waits;
@@ -81,7 +87,9 @@ impl Watch {
     }
 
     /// Notes what a receive gave.
-    fn note(&mut self, came: Option<usize>) {
+    fn note(&mut self, came: Option<usize>)
+        ensures { self.new.link ≡ self.old.link }
+    {
         match came {
             Some(ASK) => {}
             Some(_) => self.calm.stir(),
@@ -98,9 +106,9 @@ impl Link for Watch {
 
     ghost given = { λ _ _. ⊤ };
 
-    ghost tried = { λ l. l.link.tries };
+    ghost tried = { λ w. ⟦<UdpLink as Link>⟧.tried w.link };
 
-    ghost failed = { λ l. l.link.failures };
+    ghost failed = { λ w. ⟦<UdpLink as Link>⟧.failed w.link };
 
     fn receive(&mut self, buf: &mut [u8]) -> Result<Option<usize>, LinkFailed> {
         self.accept();
