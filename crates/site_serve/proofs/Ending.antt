@@ -1,5 +1,5 @@
 -- Whole runs of a server.
-use Rattle.std.proofs.Common.{◌≡◌, ℕ, List, ◌++◌, Option, Result, Ok, Err, Unit, sym, ap, subst, ◌∙◌, inl, inr, append_assoc}
+use Rattle.std.proofs.Common.{◌≡◌, ℕ, List, ◌++◌, Option, Result, Ok, Err, sym, ap, subst, ◌∙◌, inl, inr, append_assoc}
 use Rattle.std.proofs.KnownBytes.{Appends-trans, Keeps-trans}
 use Rattle.http_read.specs.Bytes.{End, IsSilent, IsWritten, IsBroken, IsGiven}
 use Rattle.http_read.specs.Counted.{RoseByOne}
@@ -11,7 +11,7 @@ use Rattle.site_serve.specs.declared.halt.Halt.TheVariants as halt
 use Rattle.site_serve.specs.declared.serve_options.ServeOptions.{ServeOptions}
 
 -- it was not ready, as memory was wanted or the writer failed
-pub not_ready : (out : End) (o : ServeOptions) (why : Halt) → IsPlaced o → ReadyEnds out o.id (Err why) → HaltsAt out o why
+pub not_ready : {T : Type 0} (out : End) (o : ServeOptions) (why : Halt) → IsPlaced o → ReadyEnds {T} out o.id (Err why) → HaltsAt out o why
 not_ready out o why placed (inl (same, silent)) = inl (inr (inr same), silent)
 not_ready out o why placed (inr (same, broken)) = inr (inr (
   placed,
@@ -23,7 +23,7 @@ not_ready out o why placed (inr (same, broken)) = inr (inr (
 ))
 
 -- it was ready, and its last line was written or not
-pub ends_done : (a b c : Option (List ℕ)) (f g h : ℕ) (o : ServeOptions) (r : Result Unit Halt) → IsPlaced o
+pub ends_done : {T : Type 0} (a b c : Option (List ℕ)) (f g h : ℕ) (o : ServeOptions) (r : Result T Halt) → IsPlaced o
     → IsWritten (record { before = a; after = b; failures = f; failures_after = g }) (ready_line o.id)
     → DoneEnds (record { before = b; after = c; failures = g; failures_after = h }) r
     → RunEnds (record { before = a; after = c; failures = f; failures_after = h }) o r

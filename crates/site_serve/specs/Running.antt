@@ -1,5 +1,5 @@
 -- How a run of a server ends.
-use Rattle.std.specs.Prelude.{ℕ, ◌≡◌, ◌⊎◌, List, ◌++◌, codes, decimal, Result, Ok, Err, Unit}
+use Rattle.std.specs.Prelude.{ℕ, ◌≡◌, ◌⊎◌, List, ◌++◌, codes, decimal, Result, Ok, Err}
 use Rattle.http_read.specs.Bytes.{End, IsSilent, IsWritten, IsBroken, IsGiven}
 use Rattle.site_serve.specs.Halts.{IsSaid, EndsOpening, EndsBinding, EndsRounds, line_of}
 use Rattle.site_serve.specs.Placing.{IsPlaced}
@@ -68,14 +68,14 @@ HaltsAt out o why =
     ⊎ (IsPlaced o × EndsRounds why × IsWritten out (ready_line o.id))
     ⊎ (IsPlaced o × (why ≡ halt.Write) × IsBroken out (printed o.id))
 
-abbrev pub ReadyEnds : End → ℕ → Result Unit Halt → Type 0
+abbrev pub ReadyEnds : {T : Type 0} → End → ℕ → Result T Halt → Type 0
 ReadyEnds out p (Ok _) = IsWritten out (ready_line p)
 ReadyEnds out p (Err why) = ((why ≡ halt.OutOfMemory) × IsSilent out) ⊎ ((why ≡ halt.Write) × IsBroken out (ready_line p))
 
-abbrev pub DoneEnds : End → Result Unit Halt → Type 0
+abbrev pub DoneEnds : {T : Type 0} → End → Result T Halt → Type 0
 DoneEnds out (Ok _) = IsWritten out done_line
 DoneEnds out (Err why) = (why ≡ halt.Write) × IsBroken out done_line
 
-abbrev pub RunEnds : End → ServeOptions → Result Unit Halt → Type 0
+abbrev pub RunEnds : {T : Type 0} → End → ServeOptions → Result T Halt → Type 0
 RunEnds out o (Ok _) = IsPlaced o × IsWritten out (printed o.id)
 RunEnds out o (Err why) = HaltsAt out o why
