@@ -1,22 +1,21 @@
 -- Addresses read one after the other.
-use Rattle.std.proofs.Common.{◌≡◌, ◌<◌, ◌≤◌, ℕ, zero, suc, ◌+◌, List, [], ◌∷◌, length, take, slice_index_or, sym, subst, ◌∙◌, absurd, inl, inr, arith}
+use Rattle.std.proofs.Common.{◌≡◌, ◌<◌, ◌≤◌, ℕ, zero, suc, List, [], ◌∷◌, length, take, get_or, refl, subst, inl, inr, arith}
 use Rattle.site_ids.specs.Lists.{In}
 use Rattle.site_serve.specs.Placing.{IsAddress, AreAddresses}
 
-pub in_at : {X : Type 0} (xs : List X) (k : ℕ) (x : X) → k < length xs → x ≡ slice_index_or xs k x → In xs x
-in_at [] k x below got = absurd (omega (arith, below))
-in_at (y ∷ ys) zero x below got = inl (sym got)
-in_at (y ∷ ys) (suc k) x below got = inr (in_at ys k x (omega (arith, below)) got)
+pub in_at : {X : Type 0} (xs : List X) (k : ℕ) (d : X) → k < length xs → In xs (get_or xs k d)
+in_at [] k d below = absurd (omega (arith, below))
+in_at (y ∷ ys) zero d below = inl refl
+in_at (y ∷ ys) (suc k) d below = inr (in_at ys k d (omega (arith, below)))
 
 -- the next one too
-pub next_address : {X : Type 0} (text_of : X → List ℕ) (xs : List X) (i : ℕ) (x : X) → i < length xs → x ≡ slice_index_or xs i x
-    → AreAddresses (take i xs) text_of → IsAddress (text_of x) → AreAddresses (take (i + 1) xs) text_of
-next_address text_of [] i x below got each one = absurd (omega (arith, below))
-next_address text_of (y ∷ ys) zero x below got each one z (inl same) = subst (λ w. IsAddress (text_of w)) (got ∙ same) one
-next_address text_of (y ∷ ys) zero x below got each one z (inr none) = absurd none
-next_address text_of (y ∷ ys) (suc k) x below got each one z (inl same) = each z (inl same)
-next_address text_of (y ∷ ys) (suc k) x below got each one z (inr there) =
-    next_address text_of ys k x (omega (arith, below)) got (λ w h. each w (inr h)) one z there
+pub next_address : {X : Type 0} (text_of : X → List ℕ) (xs : List X) (i : ℕ) (d : X) → i < length xs
+    → AreAddresses (take i xs) text_of → IsAddress (text_of (get_or xs i d)) → AreAddresses (take (suc i) xs) text_of
+next_address text_of [] i d below each one z there = absurd (omega (arith, below))
+next_address text_of (y ∷ ys) zero d below each one z (inl same) = subst (λ w. IsAddress (text_of w)) same one
+next_address text_of (y ∷ ys) zero d below each one z (inr none) = absurd none
+next_address text_of (y ∷ ys) (suc k) d below each one z (inl same) = each z (inl same)
+next_address text_of (y ∷ ys) (suc k) d below each one z (inr there) = next_address text_of ys k d (omega (arith, below)) (λ w h. each w (inr h)) one z there
 
 -- all of them
 pub all_addresses : {X : Type 0} (text_of : X → List ℕ) (xs : List X) (i : ℕ) → length xs ≤ i → AreAddresses (take i xs) text_of → AreAddresses xs text_of

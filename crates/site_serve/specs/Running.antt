@@ -76,6 +76,14 @@ abbrev pub DoneEnds : {T : Type 0} → End → Result T Halt → Type 0
 DoneEnds out (Ok _) = IsWritten out done_line
 DoneEnds out (Err why) = (why ≡ halt.Write) × IsBroken out done_line
 
+-- its work once it is opened: ready, rounds, done
+abbrev pub WorkEnds : {T : Type 0} → End → ℕ → Result T Halt → Type 0
+WorkEnds out p (Ok _) = IsWritten out (printed p)
+WorkEnds out p (Err why) =
+    ((why ≡ halt.OutOfMemory) × IsSilent out)
+    ⊎ (EndsRounds why × IsWritten out (ready_line p))
+    ⊎ ((why ≡ halt.Write) × IsBroken out (printed p))
+
 abbrev pub RunEnds : {T : Type 0} → End → ServeOptions → Result T Halt → Type 0
 RunEnds out o (Ok _) = IsPlaced o × IsWritten out (printed o.id)
 RunEnds out o (Err why) = HaltsAt out o why

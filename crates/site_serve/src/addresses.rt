@@ -38,8 +38,9 @@ fn all(alloc: Global, texts: &[&str]) -> Result<Vec<SocketAddr>, Halt>
 {
     let mut found = Vec::with_capacity(alloc, texts.len())?;
     for text in texts {
-        if found.push(address(text)?).is_err() {
-            return Err(Halt::OutOfMemory);
+        match found.push(address(text)?) {
+            Ok(()) => {}
+            Err(_) => return Err(Halt::OutOfMemory),
         }
     }
     Ok(found)

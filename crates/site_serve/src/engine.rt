@@ -3,7 +3,7 @@
 ghost use Rattle.std.specs.Prelude.{OnOk, IfErr};
 ghost use Rattle.http_read.specs.Bytes.{end_of};
 ghost use Rattle.site_serve.specs.Placing.{IsPlaced};
-ghost use Rattle.site_serve.specs.Running.{EndsBefore, RunEnds, HasServed};
+ghost use Rattle.site_serve.specs.Running.{EndsBefore, WorkEnds, RunEnds, HasServed};
 
 use crate::ServeOptions;
 use crate::addresses::read_addresses;
@@ -38,7 +38,23 @@ fn open<R: Net<Listener = TcpListener, Stream = TcpStream> + Files<File = File>>
     Ok((served, watch))
 }
 
-/// Opens a node, says that it is ready, and takes its rounds.
+/// Says that the node is ready, takes its rounds, and says that they are done.
+fn work<W: Write>(
+    alloc: Global,
+    out: &mut Counted<W>,
+    served: &mut Served<FileDisk>,
+    watch: &mut Watch,
+    id: u8,
+    rounds: u32,
+) -> Result<(), Halt>
+    ensures { WorkEnds (end_of W.contents out.old out.new) id result }
+{
+    say_ready(alloc, out, id)?;
+    take_rounds(alloc, served, watch, turns_of(id), rounds)?;
+    say_done(out)
+}
+
+/// Opens a node, and does its work.
 fn run<R: Net<Listener = TcpListener, Stream = TcpStream> + Files<File = File>, W: Write>(
     rt: &R,
     alloc: Global,
@@ -48,15 +64,14 @@ fn run<R: Net<Listener = TcpListener, Stream = TcpStream> + Files<File = File>, 
     ensures { RunEnds (end_of W.contents out.old out.new) options.now result }
 {
     let (mut served, mut watch) = open(rt, alloc, options)?;
-    say_ready(alloc, out, options.id)?;
-    take_rounds(
+    work(
         alloc,
+        out,
         &mut served,
         &mut watch,
-        turns_of(options.id),
+        options.id,
         options.rounds,
-    )?;
-    say_done(out)
+    )
 }
 
 /// Runs a node for its rounds. The answer is the exit status.
