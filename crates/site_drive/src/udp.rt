@@ -4,7 +4,7 @@ ghost use Rattle.std.specs.Prelude.{◌≡◌};
 
 use crate::{Link, LinkFailed};
 use site_ids::NodeId;
-use std::io::ErrorKind;
+use std::io::{self, ErrorKind};
 use std::net::{SocketAddr, UdpSocket};
 
 /// A socket, and the addresses of nodes 1 to n. Nothing is known of what it carries.
@@ -27,6 +27,11 @@ impl UdpLink {
             tries: 0,
             failures: 0,
         }
+    }
+
+    /// Whether a receive waits for the socket's read timeout, as at first, or not at all.
+    pub fn set_waiting(&self, waits: bool) -> io::Result<()> {
+        self.socket.set_nonblocking(!waits)
     }
 }
 

@@ -1,1 +1,4 @@
 pub mod Served
+pub mod Halts
+pub mod Placing
+pub mod Running

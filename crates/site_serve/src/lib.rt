@@ -1,9 +1,23 @@
-//! A node that is served: asked by HTTP as a service.
+//! A server: a node as a service, and one node on UDP and TCP, for so many rounds.
 #![tactic(auto)]
 
+mod addresses;
+mod calm;
+mod connections;
+mod engine;
+mod halt;
+mod openings;
 mod requests;
+mod rounds;
+mod saying;
+mod serve_options;
 mod served;
 mod serving_node;
+mod sockets;
+mod watch;
 
+pub use engine::sited;
+pub use http_read::Counted;
 pub use requests::serve_request;
+pub use serve_options::ServeOptions;
 pub use served::Served;

@@ -1,0 +1,64 @@
+-- Whole runs of a server.
+use Rattle.std.proofs.Common.{◌≡◌, ℕ, List, ◌++◌, Option, Result, Ok, Err, sym, ap, subst, ◌∙◌, inl, inr, append_assoc}
+use Rattle.std.specs.Result.{IsErrAnd}
+use Rattle.std.proofs.KnownBytes.{Appends-trans}
+use Rattle.http_read.specs.Bytes.{End, IsWritten, IsGiven}
+use Rattle.http_read.specs.Counted.{RoseByOne}
+use Rattle.site_serve.specs.Halts.{IsSaid}
+use Rattle.site_serve.specs.Placing.{IsPlaced}
+use Rattle.site_serve.specs.Running.{ready_line, done_line, HaltsAt, ReadyEnds, DoneEnds, WorkEnds, RunEnds, HasServed}
+use Rattle.site_serve.specs.declared.halt.Halt.{Halt}
+use Rattle.site_serve.specs.declared.serve_options.ServeOptions.{ServeOptions}
+
+-- it was not ready, as memory was wanted or the writer failed
+pub not_ready : {T U : Type 0} (out : End) (p : ℕ) (why : Halt) → ReadyEnds {T = T} out p (Err why) → WorkEnds {T = U} out p (Err why)
+not_ready out p why (inl both) = inl both
+not_ready out p why (inr (same, broken)) = inr (inr (
+  same,
+  record {
+    part = (broken.part.0, broken.part.1 ++ done_line, ap (λ t. t ++ done_line) broken.part.2 ∙ append_assoc broken.part.0 broken.part.1 done_line, broken.part.3);
+    failed = broken.failed;
+  },
+))
+
+-- it was ready, and its last line was written or not
+pub ends_done : {T : Type 0} (a b c : Option (List ℕ)) (f g h : ℕ) (p : ℕ) (r : Result T Halt)
+    → IsWritten (record { before = a; after = b; failures = f; failures_after = g }) (ready_line p)
+    → DoneEnds (record { before = b; after = c; failures = g; failures_after = h }) r
+    → WorkEnds (record { before = a; after = c; failures = f; failures_after = h }) p r
+ends_done a b c f g h p (Ok u) ready done = record {
+  whole = Appends-trans a b c (ready_line p) done_line ready.whole done.whole;
+  sound = done.sound ∙ ready.sound;
+}
+ends_done a b c f g h p (Err why) ready (same, broken) =
+    let front = broken.part.0 in
+    let rest = broken.part.1 in
+    inr (inr (
+      same,
+      record {
+        part = (ready_line p ++ front, rest, ap (λ t. ready_line p ++ t) broken.part.2 ∙ sym (append_assoc (ready_line p) front rest), Appends-trans a b c (ready_line p) front ready.whole broken.part.3);
+        failed = subst (λ u. RoseByOne u h) ready.sound broken.failed;
+      },
+    ))
+
+-- the halt that a `?` passes on
+pub passed_on : {T U : Type 0} (out : End) (p : ℕ) (r : Result T Halt) (why : Halt) → IsErrAnd r (λ y. y ≡ why) → WorkEnds {T = U} out p (Err why) → WorkEnds out p r
+passed_on out p (Ok x) why none ends = absurd none
+passed_on {U = U} out p (Err y) why same ends = subst (λ w. WorkEnds {T = U} out p (Err w)) (sym same) ends
+
+-- a placed server's work is its run
+pub has_worked : {T : Type 0} (out : End) (o : ServeOptions) (r : Result T Halt) → IsPlaced o → WorkEnds out o.id r → RunEnds out o r
+has_worked out o (Ok u) placed written = (placed, written)
+has_worked out o (Err why) placed (inl (same, silent)) = inl (inr (inr same), silent)
+has_worked out o (Err why) placed (inr (inl (ends, written))) = inr (inl (placed, ends, written))
+has_worked out o (Err why) placed (inr (inr (same, broken))) = inr (inr (placed, same, broken))
+
+-- what was said is the line of the halt, at its place
+pub has_halted : (out err : End) (o : ServeOptions) (why : Halt) (said : List ℕ) (status : ℕ) → HaltsAt out o why → IsSaid why said → IsGiven err said → status ≡ 1 → HasServed out err o status
+has_halted out err o why said status (inl (before, silent)) is given one =
+    inr (inl (record { why = why; ends = before; silent = silent; said = said; is_said = is; given = given; status_is = one }))
+has_halted out err o why said status (inr (inl (placed, ends, written))) is given one =
+    inr (inr (inl (record { placed = placed; why = why; ends = ends; written = written; said = said; is_said = is; given = given; status_is = one })))
+has_halted out err o why said status (inr (inr (placed, same, broken))) is given one =
+    let line = subst (λ w. IsSaid w said) same is in
+    inr (inr (inr (record { placed = placed; broken = broken; given = subst (IsGiven err) line given; status_is = one })))

@@ -1,0 +1,6 @@
+use Rattle.std.proofs.Common.{inl, refl}
+use Rattle.std.proofs.KnownBytes.{Keeps-refl}
+use Rattle.site_serve.proofs.engine.sited.Goals as goal
+
+pub returns-in-Ok : goal.returns-in-Ok
+returns-in-Ok g c = inl (record { placed = c.in-Ok.ensures.0; written = c.in-Ok.ensures.1; silent = record { kept = Keeps-refl _; sound = refl }; status_is = refl })

@@ -1,0 +1,89 @@
+-- How a run of a server ends.
+use Rattle.std.specs.Prelude.{ℕ, ◌≡◌, ◌⊎◌, List, ◌++◌, codes, decimal, Result, Ok, Err}
+use Rattle.http_read.specs.Bytes.{End, IsSilent, IsWritten, IsBroken, IsGiven}
+use Rattle.site_serve.specs.Halts.{IsSaid, EndsOpening, EndsBinding, EndsRounds, line_of}
+use Rattle.site_serve.specs.Placing.{IsPlaced}
+use Rattle.site_serve.specs.declared.halt.Halt.{Halt}
+use Rattle.site_serve.specs.declared.halt.Halt.TheVariants as halt
+use Rattle.site_serve.specs.declared.serve_options.ServeOptions.{ServeOptions}
+
+abbrev pub ready_line : ℕ → List ℕ
+ready_line p = codes "node " ++ (decimal p ++ codes " ready\n")
+
+abbrev pub done_line : List ℕ
+done_line = codes "rounds done\n"
+
+-- what a whole run prints
+abbrev pub printed : ℕ → List ℕ
+printed p = ready_line p ++ done_line
+
+-- before it is ready: the options are no place; or they are one, and record or sockets are not opened; or memory is wanted
+abbrev pub EndsBefore : ServeOptions → Halt → Type 0
+EndsBefore o why = ((why ≡ halt.BadAddress) × ¬ IsPlaced o) ⊎ (IsPlaced o × (EndsOpening why ⊎ EndsBinding why)) ⊎ (why ≡ halt.OutOfMemory)
+
+-- it was ready, and did all its rounds
+pub record Finished (out err : End) (o : ServeOptions) (status : ℕ) : Type 0 where
+  pub placed : IsPlaced o
+  pub written : IsWritten out (printed o.id)
+  pub silent : IsSilent err
+  pub status_is : status ≡ 0
+
+-- one line alone, before it was ready
+pub record Refused (out err : End) (o : ServeOptions) (status : ℕ) : Type 0 where
+  pub why : Halt
+  pub ends : EndsBefore o why
+  pub silent : IsSilent out
+  pub said : List ℕ
+  pub is_said : IsSaid why said
+  pub given : IsGiven err said
+  pub status_is : status ≡ 1
+
+-- it was ready, and one line says what ended its rounds
+pub record Halted (out err : End) (o : ServeOptions) (status : ℕ) : Type 0 where
+  pub placed : IsPlaced o
+  pub why : Halt
+  pub ends : EndsRounds why
+  pub written : IsWritten out (ready_line o.id)
+  pub said : List ℕ
+  pub is_said : IsSaid why said
+  pub given : IsGiven err said
+  pub status_is : status ≡ 1
+
+-- the writer failed, and a beginning of what a whole run prints was written
+pub record Broken (out err : End) (o : ServeOptions) (status : ℕ) : Type 0 where
+  pub placed : IsPlaced o
+  pub broken : IsBroken out (printed o.id)
+  pub given : IsGiven err (codes "write failed\n")
+  pub status_is : status ≡ 1
+
+abbrev pub HasServed : End → End → ServeOptions → ℕ → Type 0
+HasServed out err o status = Finished out err o status ⊎ Refused out err o status ⊎ Halted out err o status ⊎ Broken out err o status
+
+-- ---- the parts of a run
+
+-- a halt's place: before it is ready, in its rounds, or where it writes
+abbrev pub HaltsAt : End → ServeOptions → Halt → Type 0
+HaltsAt out o why =
+    (EndsBefore o why × IsSilent out)
+    ⊎ (IsPlaced o × EndsRounds why × IsWritten out (ready_line o.id))
+    ⊎ (IsPlaced o × (why ≡ halt.Write) × IsBroken out (printed o.id))
+
+abbrev pub ReadyEnds : {T : Type 0} → End → ℕ → Result T Halt → Type 0
+ReadyEnds out p (Ok _) = IsWritten out (ready_line p)
+ReadyEnds out p (Err why) = ((why ≡ halt.OutOfMemory) × IsSilent out) ⊎ ((why ≡ halt.Write) × IsBroken out (ready_line p))
+
+abbrev pub DoneEnds : {T : Type 0} → End → Result T Halt → Type 0
+DoneEnds out (Ok _) = IsWritten out done_line
+DoneEnds out (Err why) = (why ≡ halt.Write) × IsBroken out done_line
+
+-- its work once it is opened: ready, rounds, done
+abbrev pub WorkEnds : {T : Type 0} → End → ℕ → Result T Halt → Type 0
+WorkEnds out p (Ok _) = IsWritten out (printed p)
+WorkEnds out p (Err why) =
+    ((why ≡ halt.OutOfMemory) × IsSilent out)
+    ⊎ (EndsRounds why × IsWritten out (ready_line p))
+    ⊎ ((why ≡ halt.Write) × IsBroken out (printed p))
+
+abbrev pub RunEnds : {T : Type 0} → End → ServeOptions → Result T Halt → Type 0
+RunEnds out o (Ok _) = IsPlaced o × IsWritten out (printed o.id)
+RunEnds out o (Err why) = HaltsAt out o why

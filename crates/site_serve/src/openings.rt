@@ -1,0 +1,74 @@
+//! Opens a node over a record's file.
+
+ghost use Rattle.std.specs.Prelude.{IfErr};
+ghost use Rattle.site_ids.specs.Ids.{IsNode};
+ghost use Rattle.site_serve.specs.Halts.{EndsOpening};
+
+use crate::halt::Halt;
+use crate::served::Served;
+use durable::{Record, RecordFault};
+use node::Node;
+use site_disk::{Disk, FileDisk};
+use site_ids::{Cluster, NodeId};
+use std::alloc::Global;
+use std::fs::{File, OpenOptions};
+use std::io;
+use std::path::Path;
+use std::rt::Files;
+
+/// The record's file, made where it is absent and that was asked.
+fn file<R: Files<File = File>>(rt: &R, path: &str, make: bool) -> Result<File, Halt>
+    ensures { IfErr result EndsOpening }
+{
+    let opened = OpenOptions::new()
+        .read(true)
+        .write(true)
+        .create(make)
+        .open(rt, path);
+    match opened {
+        Ok(file) => Ok(file),
+        Err(e) if e.kind() == io::ErrorKind::OutOfMemory => Err(Halt::OutOfMemory),
+        Err(_) => Err(Halt::Record(RecordFault::Device)),
+    }
+}
+
+/// Syncs the folder of a file, so that a crash leaves the file in it.
+fn sync_folder<R: Files<File = File>>(rt: &R, path: &str) -> Result<(), Halt>
+    ensures { IfErr result EndsOpening }
+{
+    let folder = match Path::new(path).parent() {
+        Some(folder) if !folder.as_str().is_empty() => folder.as_str(),
+        _ => ".",
+    };
+    match File::open(rt, folder) {
+        Ok(folder) if folder.sync_all().is_ok() => Ok(()),
+        _ => Err(Halt::Record(RecordFault::Device)),
+    }
+}
+
+/// Opens a node over the record at a path. Where that is asked, an empty or absent file becomes an empty record first.
+pub(crate) fn open_node<R: Files<File = File>>(
+    rt: &R,
+    alloc: Global,
+    cluster: Cluster,
+    me: NodeId,
+    path: &str,
+    format: bool,
+) -> Result<Served<FileDisk>, Halt>
+    requires { IsNode cluster me }
+    ensures { IfErr result EndsOpening }
+{
+    let mut disk = FileDisk::new(file(rt, path, format)?);
+    if format && is_empty(&mut disk)? {
+        Record::format(cluster, me, &mut disk)?;
+        sync_folder(rt, path)?;
+    }
+    match Node::open(alloc, cluster, me, disk) {
+        Ok(node) => Ok(Served { node }),
+        Err((fault, _disk)) => Err(fault.into()),
+    }
+}
+
+fn is_empty(disk: &mut FileDisk) -> Result<bool, RecordFault> {
+    Ok(disk.len()? == 0)
+}
