@@ -1,12 +1,13 @@
 -- Faults of the layers below, told by a node.
-use Rattle.std.specs.Prelude.{◌≡◌, Err}
+use Rattle.std.specs.Prelude.{◌≡◌, Err, ⊤}
 use Rattle.durable.specs.declared.fault.RecordFault.{RecordFault}
 use Rattle.durable.specs.declared.fault.RecordFault.TheVariants as stored
 use Rattle.command.specs.declared.fault.CommandFault.{CommandFault}
 use Rattle.command.specs.declared.fault.CommandFault.TheVariants as command
 use Rattle.command.specs.Reading.{value_reading, TakesMemory}
+use Rattle.command.specs.Written.{HasLine}
 use Rattle.node.specs.declared.fault.NodeFault.{NodeFault}
-use Rattle.node.specs.declared.fault.NodeFault.TheVariants.{OutOfMemory, Device, Stopped, NotACommand}
+use Rattle.node.specs.declared.fault.NodeFault.TheVariants.{OutOfMemory, Device, Stopped, QueueFull, NotACommand}
 use Rattle.node.specs.Nodes.{Value}
 
 -- a put that is refused as full is a growth refused
@@ -27,6 +28,14 @@ of_command (command.Data why) = NotACommand (command.Data why)
 
 -- why a value that is submitted was not read
 abbrev pub IsUnread : Value → NodeFault → Type 0
-IsUnread v (NotACommand why) = value_reading v ≡ Err why
+IsUnread v (NotACommand why) = (value_reading v ≡ Err why) × HasLine why
 IsUnread v OutOfMemory = TakesMemory v
 IsUnread v _ = ⊥
+
+-- why a submission is refused: for no other cause, and a command's fault is no want of memory
+abbrev pub IsSubmitCause : NodeFault → Type 0
+IsSubmitCause (NotACommand why) = HasLine why
+IsSubmitCause Stopped = ⊤
+IsSubmitCause QueueFull = ⊤
+IsSubmitCause OutOfMemory = ⊤
+IsSubmitCause _ = ⊥

@@ -3,8 +3,11 @@
 ghost use Rattle.std.specs.Prelude.{◌≡◌, IfErr};
 
 use crate::halt::Halt;
+use crate::requests::serve_request;
+use crate::served::Served;
 use http_read::Counted;
-use http_serve::{ServeFault, Service, serve};
+use http_serve::ServeFault;
+use site_disk::Disk;
 use std::alloc::Global;
 use std::io::Read;
 use std::net::{Shutdown, TcpStream};
@@ -28,16 +31,16 @@ fn close(stream: TcpStream) {
 }
 
 /// Serves one request of a connection. That the connection fails is passed over.
-pub(crate) fn serve_connection<S: Service>(
+pub(crate) fn serve_connection<D: Disk>(
     alloc: Global,
     stream: TcpStream,
-    service: &mut S,
+    served: &mut Served<D>,
 ) -> Result<(), Halt>
     ensures { IfErr result (λ why. why ≡ Halt.OutOfMemory) }
 {
     let mut reader = Counted::new(&stream);
     let mut writer = Counted::new(&stream);
-    match serve(alloc, &mut reader, &mut writer, service) {
+    match serve_request(alloc, &mut reader, &mut writer, served) {
         Err(ServeFault::OutOfMemory) => return Err(Halt::OutOfMemory),
         Ok(()) | Err(ServeFault::Read | ServeFault::Write | ServeFault::EndedEarly) => {}
     }

@@ -1,4 +1,4 @@
-//! The engine of a server: one node on UDP and TCP, for so many rounds.
+//! The engine of a server: a node that is asked by HTTP as a service, on UDP and TCP, for so many rounds.
 #![tactic(auto)]
 
 mod addresses;
@@ -7,6 +7,7 @@ mod connections;
 mod engine;
 mod halt;
 mod openings;
+mod requests;
 mod rounds;
 mod saying;
 mod serve_options;
@@ -17,5 +18,6 @@ mod watch;
 
 pub use engine::serve_node;
 pub use http_read::Counted;
+pub use requests::serve_request;
 pub use serve_options::ServeOptions;
 pub use served::Served;
