@@ -6,12 +6,12 @@ use Rattle.http_read.specs.Bytes.{End, IsWritten, IsGiven}
 use Rattle.http_read.specs.Counted.{RoseByOne}
 use Rattle.site_serve.specs.Halts.{IsSaid}
 use Rattle.site_serve.specs.Placing.{IsPlaced}
-use Rattle.site_serve.specs.Running.{ready_line, done_line, HaltsAt, ReadyEnds, DoneEnds, WorkEnds, RunEnds, HasServed}
+use Rattle.site_serve.specs.Running.{ready_line, done_line, HaltsAt, HaltsReady, DoneEnds, HaltsWork, WorkEnds, RunEnds, HasServed}
 use Rattle.site_serve.specs.declared.halt.Halt.{Halt}
 use Rattle.site_serve.specs.declared.serve_options.ServeOptions.{ServeOptions}
 
 -- it was not ready, as memory was wanted or the writer failed
-pub not_ready : {T U : Type 0} (out : End) (p : ℕ) (why : Halt) → ReadyEnds {T = T} out p (Err why) → WorkEnds {T = U} out p (Err why)
+pub not_ready : (out : End) (p : ℕ) (why : Halt) → HaltsReady out p why → HaltsWork out p why
 not_ready out p why (inl both) = inl both
 not_ready out p why (inr (same, broken)) = inr (inr (
   same,
@@ -42,9 +42,9 @@ ends_done a b c f g h p (Err why) ready (same, broken) =
     ))
 
 -- the halt that a `?` passes on
-pub passed_on : {T U : Type 0} (out : End) (p : ℕ) (r : Result T Halt) (why : Halt) → IsErrAnd r (λ y. y ≡ why) → WorkEnds {T = U} out p (Err why) → WorkEnds out p r
+pub passed_on : {T : Type 0} (out : End) (p : ℕ) (r : Result T Halt) (why : Halt) → IsErrAnd r (λ y. y ≡ why) → HaltsWork out p why → WorkEnds out p r
 passed_on out p (Ok x) why none ends = absurd none
-passed_on {U = U} out p (Err y) why same ends = subst (λ w. WorkEnds {T = U} out p (Err w)) (sym same) ends
+passed_on out p (Err y) why same ends = subst (HaltsWork out p) (sym same) ends
 
 -- a placed server's work is its run
 pub has_worked : {T : Type 0} (out : End) (o : ServeOptions) (r : Result T Halt) → IsPlaced o → WorkEnds out o.id r → RunEnds out o r

@@ -68,21 +68,28 @@ HaltsAt out o why =
     ⊎ (IsPlaced o × EndsRounds why × IsWritten out (ready_line o.id))
     ⊎ (IsPlaced o × (why ≡ halt.Write) × IsBroken out (printed o.id))
 
+-- `node P ready` could not be made, or not be written whole
+abbrev pub HaltsReady : End → ℕ → Halt → Type 0
+HaltsReady out p why = ((why ≡ halt.OutOfMemory) × IsSilent out) ⊎ ((why ≡ halt.Write) × IsBroken out (ready_line p))
+
 abbrev pub ReadyEnds : {T : Type 0} → End → ℕ → Result T Halt → Type 0
 ReadyEnds out p (Ok _) = IsWritten out (ready_line p)
-ReadyEnds out p (Err why) = ((why ≡ halt.OutOfMemory) × IsSilent out) ⊎ ((why ≡ halt.Write) × IsBroken out (ready_line p))
+ReadyEnds out p (Err why) = HaltsReady out p why
 
 abbrev pub DoneEnds : {T : Type 0} → End → Result T Halt → Type 0
 DoneEnds out (Ok _) = IsWritten out done_line
 DoneEnds out (Err why) = (why ≡ halt.Write) × IsBroken out done_line
 
--- its work once it is opened: ready, rounds, done
-abbrev pub WorkEnds : {T : Type 0} → End → ℕ → Result T Halt → Type 0
-WorkEnds out p (Ok _) = IsWritten out (printed p)
-WorkEnds out p (Err why) =
+-- the work of a server that is opened: ready, rounds, done
+abbrev pub HaltsWork : End → ℕ → Halt → Type 0
+HaltsWork out p why =
     ((why ≡ halt.OutOfMemory) × IsSilent out)
     ⊎ (EndsRounds why × IsWritten out (ready_line p))
     ⊎ ((why ≡ halt.Write) × IsBroken out (printed p))
+
+abbrev pub WorkEnds : {T : Type 0} → End → ℕ → Result T Halt → Type 0
+WorkEnds out p (Ok _) = IsWritten out (printed p)
+WorkEnds out p (Err why) = HaltsWork out p why
 
 abbrev pub RunEnds : {T : Type 0} → End → ServeOptions → Result T Halt → Type 0
 RunEnds out o (Ok _) = IsPlaced o × IsWritten out (printed o.id)
