@@ -1,6 +1,7 @@
 //! The engines of the programs.
 #![tactic(auto)]
 
+mod commands;
 mod ends;
 mod engine;
 mod feed;
