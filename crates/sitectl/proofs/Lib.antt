@@ -8,6 +8,9 @@ pub mod OneVerdict
 pub mod OptionValues
 pub mod TwoArguments
 pub mod OptionLemmas
+pub mod SimpleCommands
+pub mod Chains
+pub mod ServeLemmas
 pub mod Feeding
 pub mod LineLemmas
 pub mod ScheduleLemmas

@@ -11,5 +11,7 @@ pub mod Schedule
 pub mod ScheduleView
 pub mod Simulation
 pub mod SimOptions
+pub mod ServeOptions
+pub mod ClusterOptions
 pub mod SimulationEnds
 pub mod Stepping

@@ -1,23 +1,31 @@
 //! The engines of the programs.
 #![tactic(auto)]
 
+mod cluster_line;
+mod commands;
 mod ends;
 mod engine;
 mod feed;
 mod framed;
 mod input;
 mod laws;
+mod matched;
 mod options;
 mod saying;
 mod schedule;
 mod schedule_file;
+mod serve_line;
+mod serve_options;
 mod simulator;
 
+pub use cluster_line::cluster_options;
 pub use engine::siterender;
 pub use http_read::Counted;
 pub use laws::{a_schedule_has_one_reading, an_input_has_one_verdict};
 pub use options::{RenderOptions, render_options};
 pub use schedule_file::{SimOptions, sim_options};
+pub use serve_line::sited_options;
+pub use serve_options::ServeOptions;
 pub use simulator::sitesim;
 
 #[cfg(test)]

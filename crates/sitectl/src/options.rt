@@ -5,8 +5,9 @@ ghost use Rattle.clap.specs.Words.{found_of, first_value, one_text, rows_of, rul
 ghost use Rattle.clap.specs.declared.builder.value_parser.ValueParser.TheVariants.{Unsigned};
 ghost use Rattle.sitectl.specs.Options.{render_app, release_rule, path_rule, words_of, Gives};
 
+use crate::commands::described;
 use clap::error::ErrorKind;
-use clap::{Arg, ArgAction, ArgMatches, Command, Error};
+use clap::{Arg, ArgAction, ArgMatches, Error};
 use std::alloc::Global;
 
 /// What a command line of `siterender` names: a release, or the newest where it names none, and a path.
@@ -26,7 +27,7 @@ fn release_option<'a>(alloc: Global) -> Arg<'a>
     Arg::new(alloc, "release")
         .long("release")
         .value_name("N")
-        .help("Shows this release in place of the newest")
+        .help("Shows release N, from 1, in place of the newest")
         .value_parser(clap::value_parser!(u64))
         .action(ArgAction::Set)
 }
@@ -40,7 +41,7 @@ fn path_argument<'a>(alloc: Global) -> Arg<'a>
 {
     Arg::new(alloc, "path")
         .value_name("PATH")
-        .help("The path of the page")
+        .help("The path of the page, as a route names it: /status")
         .required(true)
         .action(ArgAction::Set)
 }
@@ -53,7 +54,10 @@ fn render_matches<'a>(alloc: Global, words: &'a [String]) -> Result<ArgMatches<'
     ensures path { IfOk result (λ m. is_some (first_value (found_of m) (codes "path")) ≡ true) }
     ensures release { IfOk result (λ m. (t : List ℕ) → one_text (found_of m) (codes "release") ≡ Some t → IsUnsignedIn 0 18446744073709551615 t) }
 {
-    let command = Command::new(alloc, "siterender")
+    let does =
+        "Prints the page for a path, of the newest release of a site that comes on standard input as framed commands";
+    let example = "Example:\n  tools/frame examples/status/1 | siterender /status";
+    let command = described(alloc, "siterender", does, example)
         .arg(release_option(alloc))?
         .arg(path_argument(alloc))?;
     command.try_get_matches_from(words)

@@ -5,8 +5,9 @@ ghost use Rattle.clap.specs.Words.{found_of, first_value, rows_of, rule_of, matc
 ghost use Rattle.sitectl.specs.Options.{words_of};
 ghost use Rattle.sitectl.specs.SimOptions.{sim_app, file_rule, NamesFile};
 
+use crate::commands::described;
 use clap::error::ErrorKind;
-use clap::{Arg, ArgAction, ArgMatches, Command, Error};
+use clap::{Arg, ArgAction, ArgMatches, Error};
 use std::alloc::Global;
 
 /// What a command line of `sitesim` names: the file of a schedule.
@@ -36,7 +37,11 @@ fn sim_matches<'a>(alloc: Global, words: &'a [String]) -> Result<ArgMatches<'a>,
     ensures refused { FailsBy (fault_of sim_app (words_of words.entry.now)) result }
     ensures file { IfOk result (λ m. is_some (first_value (found_of m) (codes "file")) ≡ true) }
 {
-    let command = Command::new(alloc, "sitesim").arg(file_argument(alloc))?;
+    let does =
+        "Runs one to nine servers in memory by a written schedule, and shows what each publishes";
+    let example =
+        "Example, a file of these lines:\n  nodes 3\n  submit 1 7 1 8\n  release\n\n  tick 1\n  settle\n  show 3";
+    let command = described(alloc, "sitesim", does, example).arg(file_argument(alloc))?;
     command.try_get_matches_from(words)
 }
 

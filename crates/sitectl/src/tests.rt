@@ -4,6 +4,7 @@ mod faults;
 mod options;
 mod pages;
 mod refusals;
+mod serve_options;
 
 use crate::{Counted, siterender};
 use std::alloc::{AllocError, Global};

@@ -24,12 +24,12 @@ own : (a : Arg) (word : List ℕ) → a.id.now ≡ word → (slice_index word 0 
 own a word is help version (inl h) = help (ap (λ t. slice_index t 0) (sym is ∙ h))
 own a word is help version (inr h) = version (ap (λ t. slice_index t 0) (sym is ∙ h))
 
-made : (c : goal.After-try_get_matches_from) → IsMade c.new.result c.in_ok-arg.field-0 c.in_ok-command.command c.release_option.result c.path_argument.result
+made : (c : goal.After-try_get_matches_from) → IsMade c.described.result c.in_ok-arg.field-0 c.in_ok-command.command c.release_option.result c.path_argument.result
 made c =
     let release = c.release_option.ensures in
     let path = c.path_argument.ensures in
     record {
-      bare = record { args = c.new.ensures.empty.0; groups = c.new.ensures.empty.1; globals = c.new.ensures.local; negates = c.new.ensures.negates };
+      bare = record { args = c.described.ensures.empty.0; groups = c.described.ensures.empty.1; globals = c.described.ensures.local; negates = c.described.ensures.negates };
       first = c.in_ok-arg.ensures;
       second = c.in_ok-command.ensures;
       fits = (release.plain, release.local, named c.release_option.result.id.now (codes "release") release.id (λ e. omega arith), own c.release_option.result (codes "release") release.id (λ e. omega arith) (λ e. omega arith));
@@ -39,7 +39,7 @@ made c =
 
 app_is : (c : goal.After-try_get_matches_from) → app_of c.in_ok-command.command ≡ render_app
 app_is c = c.in_ok-command.ensures.shape c.path_argument.ensures.local
-    ∙ ap₂ with_rule (c.in_ok-arg.ensures.shape c.release_option.ensures.local ∙ ap₂ with_rule c.new.ensures.app c.release_option.ensures.rule) c.path_argument.ensures.rule
+    ∙ ap₂ with_rule (c.in_ok-arg.ensures.shape c.release_option.ensures.local ∙ ap₂ with_rule c.described.ensures.app c.release_option.ensures.rule) c.path_argument.ensures.rule
 
 pub returns : goal.returns
 returns c =

@@ -40,7 +40,7 @@ fits c =
     (file.plain, file.local, named c.file_argument.result.id.now (codes "file") file.id (λ e. omega arith), own c.file_argument.result (codes "file") file.id (λ e. omega arith) (λ e. omega arith))
 
 app_is : (c : goal.After-try_get_matches_from) → app_of c.in_ok-command.command ≡ sim_app
-app_is c = c.in_ok-command.ensures.shape c.file_argument.ensures.local ∙ ap₂ with_rule c.new.ensures.app c.file_argument.ensures.rule
+app_is c = c.in_ok-command.ensures.shape c.file_argument.ensures.local ∙ ap₂ with_rule c.described.ensures.app c.file_argument.ensures.rule
 
 pub returns : goal.returns
 returns c =
@@ -50,6 +50,6 @@ returns c =
       taken = λ t. IfErr-weaker parse.result _ _ (λ e h. h (ap₂ takes (app_is c) refl ∙ t)) parse.ensures.passes;
       refused = subst (λ (a : App). FailsBy (fault_of a (words_of c.args.words.now)) parse.result) (app_is c) (parse.ensures.kinds (ap is_simple_and_free (app_is c) ∙ free));
       file = IfOk-weaker parse.result _ _ (λ m h. subst (λ (id : List ℕ). is_some (first_value (found_of m) id) ≡ true) c.file_argument.ensures.id
-          (required_in_chain c.new.result c.in_ok-command.command (c.file_argument.result ∷ []) 0 c.file_argument.result m (c.in_ok-command.command, c.in_ok-command.ensures, refl)
-          c.new.ensures.empty.0 c.new.ensures.empty.1 c.new.ensures.local c.new.ensures.negates (one FitsChain c.file_argument.result (fits c)) (alone c.file_argument.result) (omega arith) c.file_argument.ensures.takes h)) parse.ensures.parsed;
+          (required_in_chain c.described.result c.in_ok-command.command (c.file_argument.result ∷ []) 0 c.file_argument.result m (c.in_ok-command.command, c.in_ok-command.ensures, refl)
+          c.described.ensures.empty.0 c.described.ensures.empty.1 c.described.ensures.local c.described.ensures.negates (one FitsChain c.file_argument.result (fits c)) (alone c.file_argument.result) (omega arith) c.file_argument.ensures.takes h)) parse.ensures.parsed;
     }

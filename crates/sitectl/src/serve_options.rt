@@ -1,0 +1,17 @@
+//! What a server is asked to be.
+
+/// What a command line of `sited` names, each text as it was written.
+#[derive(Debug, Drop)]
+pub struct ServeOptions<'a> {
+    /// This server's number.
+    pub id: u8,
+    /// The record's file.
+    pub record: &'a str,
+    /// The address of requests.
+    pub http: &'a str,
+    pub rounds: u32,
+    /// Whether an empty or missing file becomes an empty record first.
+    pub format: bool,
+    /// The addresses of servers 1 to n, in order.
+    pub peers: Vec<&'a str>,
+}

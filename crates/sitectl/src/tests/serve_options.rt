@@ -1,0 +1,165 @@
+//! Command lines of `sited` and `sitecluster`, and what `--help` shows.
+use super::options::words;
+use crate::{ServeOptions, cluster_options, render_options, sim_options, sited_options};
+use clap::Error;
+use clap::error::ErrorKind;
+use std::alloc::{AllocError, Global};
+use std::test::Fail;
+
+/// The fields of what a line names, with a space behind each address.
+fn shown(alloc: Global, o: &ServeOptions<'_>) -> Result<String, AllocError> {
+    let id = o.id;
+    let rounds = o.rounds;
+    let format = o.format;
+    let mut text = format!(in alloc; "{id} {} {} {rounds} {format}: ", o.record, o.http)?;
+    for peer in o.peers.as_slice() {
+        text.push_str(peer)?;
+        text.push_str(" ")?;
+    }
+    Ok(text)
+}
+
+#[test]
+fn lines_that_name_a_server(rt: HostRuntime) -> Result<(), Fail> {
+    let alloc = rt.alloc();
+    let lines = [
+        (
+            "sited --id 1 --record r --http h --rounds 2",
+            "1 r h 2 false: ",
+        ),
+        (
+            "sited a:1 --format --id=+3 b:2 --record=/x --http 127.0.0.1:0 --rounds 4294967295 c:3",
+            "3 /x 127.0.0.1:0 4294967295 true: a:1 b:2 c:3 ",
+        ),
+        (
+            "other --rounds 00 --http h --record r --id 255 -- --format",
+            "255 r h 0 false: --format ",
+        ),
+        (
+            "sited --id=-0 --record --http --http h --rounds 1 not-an-address",
+            "",
+        ),
+    ];
+    for (line, expected) in lines {
+        let words = words(alloc, line)?;
+        let given = match sited_options(alloc, words.as_slice()) {
+            Ok(options) => shown(alloc, &options)?,
+            Err(_) => String::new(alloc),
+        };
+        assert_eq!(rt; given.as_str(), expected, "{line}");
+    }
+    Ok(())
+}
+
+#[test]
+fn lines_that_name_no_server(rt: HostRuntime) -> Result<(), Fail> {
+    let alloc = rt.alloc();
+    let lines = [
+        ("sited", ErrorKind::MissingRequiredArgument),
+        (
+            "sited --record r --http h --rounds 2",
+            ErrorKind::MissingRequiredArgument,
+        ),
+        (
+            "sited --id 1 --http h --rounds 2",
+            ErrorKind::MissingRequiredArgument,
+        ),
+        (
+            "sited --id 1 --record r --rounds 2",
+            ErrorKind::MissingRequiredArgument,
+        ),
+        (
+            "sited --id 1 --record r --http h",
+            ErrorKind::MissingRequiredArgument,
+        ),
+        (
+            "sited --id 256 --record r --http h --rounds 2",
+            ErrorKind::ValueValidation,
+        ),
+        (
+            "sited --id=-1 --record r --http h --rounds 2",
+            ErrorKind::ValueValidation,
+        ),
+        (
+            "sited --id x --record r --http h --rounds 2",
+            ErrorKind::ValueValidation,
+        ),
+        (
+            "sited --id 1 --record r --http h --rounds 4294967296",
+            ErrorKind::ValueValidation,
+        ),
+        (
+            "sited --id 1 --record r --http h --rounds 2 --id 1",
+            ErrorKind::ArgumentConflict,
+        ),
+        (
+            "sited --format --id 1 --format",
+            ErrorKind::ArgumentConflict,
+        ),
+        ("sited --format=yes", ErrorKind::TooManyValues),
+        (
+            "sited --id 1 --http h --rounds 2 --record",
+            ErrorKind::InvalidValue,
+        ),
+        ("sited --port 80", ErrorKind::UnknownArgument),
+        ("sited --help", ErrorKind::DisplayHelp),
+    ];
+    for (line, kind) in lines {
+        let words = words(alloc, line)?;
+        let refused = sited_options(alloc, words.as_slice());
+        assert!(rt; matches!(&refused, Err(e) if e.kind() == kind), "{line}");
+    }
+    Ok(())
+}
+
+#[test]
+fn lines_of_sitecluster(rt: HostRuntime) -> Result<(), Fail> {
+    let alloc = rt.alloc();
+    let lines = [
+        ("sitecluster", None),
+        ("other", None),
+        ("sitecluster x", Some(ErrorKind::UnknownArgument)),
+        ("sitecluster --nodes", Some(ErrorKind::UnknownArgument)),
+        ("sitecluster --help", Some(ErrorKind::DisplayHelp)),
+    ];
+    for (line, kind) in lines {
+        let words = words(alloc, line)?;
+        let refused = cluster_options(alloc, words.as_slice()).err();
+        assert!(rt; refused.map(|e| e.kind()) == kind, "{line}");
+    }
+    Ok(())
+}
+
+fn help_of(alloc: Global, refused: Option<Error>) -> Result<String, AllocError> {
+    match refused {
+        Some(e) => format!(in alloc; "{e}"),
+        None => Ok(String::new(alloc)),
+    }
+}
+
+#[test]
+fn help_shows_an_example(rt: HostRuntime) -> Result<(), Fail> {
+    let alloc = rt.alloc();
+    let words = words(alloc, "program --help")?;
+    let words = words.as_slice();
+    let helps = [
+        (
+            render_options(alloc, words).err(),
+            "\n\nExample:\n  tools/frame examples/status/1 | siterender /status\n",
+        ),
+        (sim_options(alloc, words).err(), "  settle\n  show 3\n"),
+        (
+            cluster_options(alloc, words).err(),
+            "\n\nExample:\n  sitecluster < script\n",
+        ),
+        (
+            sited_options(alloc, words).err(),
+            " 127.0.0.1:7001 127.0.0.1:7002 127.0.0.1:7003\n",
+        ),
+    ];
+    for (refused, end) in helps {
+        let text = help_of(alloc, refused)?;
+        assert!(rt; text.as_str().ends_with(end), "{text}");
+    }
+    Ok(())
+}
