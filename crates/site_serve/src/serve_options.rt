@@ -1,17 +1,18 @@
 //! What a server is asked to be.
 
-/// The words of a command line, read.
-#[derive(Drop)]
+/// What a command line of `sited` names, each text as it was written.
+#[derive(Debug, Drop)]
 pub struct ServeOptions<'a> {
-    /// The node's number.
+    /// This server's number.
     pub id: u8,
     /// The record's file.
     pub record: &'a str,
     /// The address of requests.
     pub http: &'a str,
+    /// How many rounds it takes.
     pub rounds: u32,
-    /// Whether an empty or absent file becomes an empty record first.
+    /// Whether an empty or missing file becomes an empty record first.
     pub format: bool,
-    /// The UDP addresses of nodes 1 to n, in order.
+    /// The addresses of servers 1 to n, in order.
     pub peers: Vec<&'a str>,
 }

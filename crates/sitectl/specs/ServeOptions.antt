@@ -6,7 +6,7 @@ use Rattle.clap.specs.Words.{App, Rule, Row, Text, new_app, new_rule, with_rule,
 use Rattle.clap.specs.declared.builder.value_parser.ValueParser.TheVariants.{Signed}
 use Rattle.clap.specs.declared.builder.action.ArgAction.TheVariants.{Set, SetTrue, Append}
 use Rattle.sitectl.specs.Options.{IsNumberOf}
-use Rattle.sitectl.specs.declared.serve_options.ServeOptions.{ServeOptions}
+use Rattle.site_serve.specs.declared.serve_options.ServeOptions.{ServeOptions}
 
 -- `--NAME VALUE`, which has to be there
 abbrev pub required_rule : Text → Rule

@@ -15,7 +15,6 @@ mod saying;
 mod schedule;
 mod schedule_file;
 mod serve_line;
-mod serve_options;
 mod simulator;
 
 pub use cluster_line::cluster_options;
@@ -25,8 +24,8 @@ pub use laws::{a_schedule_has_one_reading, an_input_has_one_verdict};
 pub use options::{RenderOptions, render_options};
 pub use schedule_file::{SimOptions, sim_options};
 pub use serve_line::sited_options;
-pub use serve_options::ServeOptions;
 pub use simulator::sitesim;
+pub use site_serve::{ServeOptions, Served, sited};
 
 #[cfg(test)]
 mod tests;

@@ -8,7 +8,7 @@ ghost use Rattle.sitectl.specs.ServeOptions.{serve_app, required_rule, id_rule, 
 
 use crate::commands::described;
 use crate::matched::{addresses_in, byte_in, flag_in, number_in, text_in};
-use crate::serve_options::ServeOptions;
+use site_serve::ServeOptions;
 use clap::error::ErrorKind;
 use clap::{Arg, ArgAction, ArgMatches, Error};
 use std::alloc::Global;
@@ -66,7 +66,7 @@ fn format_flag<'a>(alloc: Global) -> Arg<'a>
 {
     Arg::new(alloc, "format")
         .long("format")
-        .help("Makes a new record in FILE first; FILE has to be empty or missing")
+        .help("Makes a new record first, where FILE is empty or missing")
         .action(ArgAction::SetTrue)
 }
 
@@ -79,7 +79,7 @@ fn address_arguments<'a>(alloc: Global) -> Arg<'a>
     Arg::new(alloc, "address")
         .value_name("ADDRESS")
         .help(
-            "Where each server hears the others, HOST:PORT: that of server 1, of server 2, and so on, this one's among them",
+            "Where each server hears the others, IP:PORT: that of server 1, of server 2, and so on, this one's among them",
         )
         .action(ArgAction::Append)
 }
@@ -108,7 +108,7 @@ fn serve_matches<'a>(alloc: Global, words: &'a [String]) -> Result<ArgMatches<'a
             alloc,
             "http",
             "ADDRESS",
-            "Where this server answers HTTP requests, HOST:PORT",
+            "Where this server answers HTTP requests, IP:PORT",
         ))?
         .arg(rounds_option(alloc))?
         .arg(format_flag(alloc))?
