@@ -8,9 +8,9 @@ ghost use Rattle.sitectl.specs.ServeOptions.{serve_app, required_rule, id_rule, 
 
 use crate::commands::described;
 use crate::matched::{addresses_in, byte_in, flag_in, number_in, text_in};
-use site_serve::ServeOptions;
 use clap::error::ErrorKind;
 use clap::{Arg, ArgAction, ArgMatches, Error};
+use site_serve::ServeOptions;
 use std::alloc::Global;
 
 fn required_option<'a>(alloc: Global, name: &'a str, value: &'a str, help: &'a str) -> Arg<'a>
