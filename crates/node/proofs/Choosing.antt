@@ -7,7 +7,7 @@ use Rattle.site_ids.specs.Lists.{In}
 use Rattle.proposer.specs.Attempts.{Attempt}
 use Rattle.proposer.specs.declared.TheConstants.{MAX_ATTEMPTS}
 use Rattle.node.specs.declared.queue.Waiting.{Waiting}
-use Rattle.node.specs.Nodes.{Value, Node, IsFirstUnknown}
+use Rattle.node.specs.Nodes.{Value, Node, IsUnknown, IsFirstUnknown}
 use Rattle.node.specs.Calls.{IsFree, IsNextFree, IsTried, IsNextValue}
 use Rattle.node.specs.Tidy.{IsTidy}
 use Rattle.node.specs.Waiting.{IsWaiting, AreWaiting}
@@ -51,6 +51,13 @@ no_next s first past is none short i next =
 pub past_last : (first past : ℕ) → IsInstance first → ¬ IsInstance (first + past) → (j : ℕ) → IsInstance j → j < first + 8 → j < first + past
 past_last first past is none j instance near = ⊎_elim (λ less. less) (λ far. absurd (none (omega (arith, is.0), omega (arith, far, instance.1)))) (order j (first + past))
 
+-- no such instance is there, by the number that was added to
+pub not_there : (n first past : ℕ) → n ≡ first → ¬ IsInstance (n + past) → ¬ IsInstance (first + past)
+not_there n first past is none = subst (λ (m : ℕ). ¬ IsInstance (m + past)) is none
+
+pub all_seen : (first past : ℕ) → past ≤ 8 → 8 ≤ past → (j : ℕ) → IsInstance j → j < first + 8 → j < first + past
+all_seen first past within done j instance near = omega (arith, within, done, near)
+
 -- ---- a value
 
 -- no attempt at so many instances from the first on has the value as its own
@@ -80,7 +87,7 @@ own_there (Some a) v e = (a, (λ _. Some a), inside v a.own e)
     inside x y e = cc
 
 pub own_other : (o : Option Attempt) (u v : Value) → Some u ≡ own_of o → u ≢ v → (a : Attempt) → o ≡ Some a → a.own ≢ v
-own_other None u v e apart a is = absurd (cc)
+own_other None u v e apart a is own = absurd (cc)
 own_other (Some c) u v e apart a is own = apart (inside u c.own e ∙ ap (λ (x : Attempt). x.own) (same c a is) ∙ own)
   where
     inside : (x y : Value) → Some x ≡ Some y → x ≡ y
@@ -93,13 +100,38 @@ pub own_none : (o : Option Attempt) (v : Value) → None ≡ own_of o → (a : A
 own_none None v e a is own = absurd (cc)
 own_none (Some c) v e a is own = absurd (cc)
 
+-- ---- what is looked up at an instance
+
+known_or_not : (o : Option Value) (copied : Option Value) → copied ≡ o → copied ≡ None → o ≡ None
+known_or_not o copied is none = sym is ∙ none
+
+none_own : (o : Option Attempt) → None ≡ own_of o → o ≡ None
+none_own None e = λ _. None
+none_own (Some a) e = absurd (cc)
+
+some_own : (o : Option Attempt) (v : Value) → Some v ≡ own_of o → o ≡ None → ⊥
+some_own None v e is = cc
+some_own (Some a) v e is = cc
+
+pub free_there : (s : Node) (i : ℕ) (copied own : Option Value) → copied ≡ s.known i → own ≡ own_of (s.attempts i) → copied ≡ None → own ≡ None → IsUnknown s i × (s.attempts i ≡ None)
+free_there s i copied own known tried none untried = (known_or_not (s.known i) copied known none, none_own (s.attempts i) (sym untried ∙ tried))
+
+pub not_unknown : (s : Node) (i : ℕ) (copied : Option Value) (v : Value) → copied ≡ s.known i → copied ≡ Some v → ¬ IsUnknown s i
+not_unknown s i copied v known some none = clash v (sym (sym some ∙ known ∙ none))
+  where
+    clash : (v : Value) → ◌≡◌ {A = Option Value} None (Some v) → ⊥
+    clash v e = cc
+
+pub not_untried : (s : Node) (i : ℕ) (own : Option Value) (v : Value) → own ≡ own_of (s.attempts i) → own ≡ Some v → ¬ (s.attempts i ≡ None)
+not_untried s i own v tried some none = some_own (s.attempts i) v (sym some ∙ tried) none
+
 -- ---- the oldest untried value
 
 -- all of what is kept of the oldest values is tried
 abbrev pub AllTried : Node → List Waiting → Type 0
 AllTried s ws = (w : Waiting) → In ws w → IsTried s w.value
 
-take_more : (ws : List Waiting) (n : ℕ) (x w : Waiting) → slice_get ws n ≡ Some x → In (take (n + 1) ws) w → In (take n ws) w ⊎ (x ≡ w)
+take_more : (ws : List Waiting) (n : ℕ) (x w : Waiting) → slice_get ws n ≡ Some x → In (take (suc n) ws) w → In (take n ws) w ⊎ (x ≡ w)
 take_more [] n x w got k = absurd (cc)
 take_more (y ∷ ws) zero x w got k = ⊎_elim (λ (e : y ≡ w). inr (first x y got ∙ e)) (λ none. absurd (no_member ws none)) k
   where
@@ -112,7 +144,10 @@ take_more (y ∷ ws) zero x w got k = ⊎_elim (λ (e : y ≡ w). inr (first x y
 take_more (y ∷ ws) (suc n) x w got k = ⊎_elim (λ e. inl (inl e)) (λ later. ⊎_elim (λ a. inl (inr a)) (λ b. inr b) (take_more ws n x w got later)) k
 
 pub one_more_tried : (s : Node) (ws : List Waiting) (n : ℕ) (x : Waiting) → slice_get ws n ≡ Some x → AllTried s (take n ws) → IsTried s x.value → AllTried s (take (n + 1) ws)
-one_more_tried s ws n x got all here w k = ⊎_elim (λ earlier. all w earlier) (λ (e : x ≡ w). subst (λ (y : Waiting). IsTried s y.value) e here) (take_more ws n x w got k)
+one_more_tried s ws n x got all here =
+    let next : n + 1 ≡ suc n = omega arith in
+    subst (λ (k : ℕ). AllTried s (take k ws)) (sym next)
+    (λ w k. ⊎_elim (λ earlier. all w earlier) (λ (e : x ≡ w). subst (λ (y : Waiting). IsTried s y.value) e here) (take_more ws n x w got k))
 
 -- what waits at a place splits the values
 record IsSplit (ws : List Waiting) (vs : List Value) (n : ℕ) (x : Waiting) : Type 0 where

@@ -9,7 +9,7 @@ use Rattle.proposer.specs.Attempts.{Attempt, latest}
 use Rattle.node.specs.declared.to.To.{To}
 use Rattle.node.specs.declared.to.To.TheVariants.{All}
 use Rattle.node.specs.Nodes.{Node, IsFirstUnknown}
-use Rattle.node.specs.Again.{IsSentAgain}
+use Rattle.node.specs.Again.{IsSentAgain, with_latest}
 use Rattle.node.specs.Calls.{RisesFrom, AreOpenElsewhere, resent}
 use Rattle.node.specs.Tidy.{IsTidy}
 use Rattle.node.proofs.Windows.{from_first, within_window}
@@ -45,7 +45,7 @@ module _ (attempts : ℕ → Option Attempt) (first : ℕ) where
       (λ (e : (first + suc k, a) ≡ x). subst (λ (y : ℕ × Attempt). IsPast attempts first (suc k) y) e (record { above = omega arith; most = omega arith; there = is }))
       (in_push xs (first + suc k, a) x h)
 
-  pub all_past : (k : ℕ) (x : ℕ × Attempt) → In (open_past attempts first k) x → IsPast attempts first k x
+  all_past : (k : ℕ) (x : ℕ × Attempt) → In (open_past attempts first k) x → IsPast attempts first k x
   all_past zero x h = absurd h
   all_past (suc k) x h = past_with k (open_past attempts first k) (attempts (first + suc k)) refl (λ y m. all_past k y m) x h
 
@@ -108,24 +108,28 @@ abbrev pub latest_of : ℕ → ℕ → Option Attempt → Option Message
 latest_of p i o = option_map (λ a. latest p i a.ballot a.proposal) o
 
 -- the message of an attempt that is open
-pub one_sent : (p i : ℕ) (xs : List (ℕ × Attempt)) (out : List (To × Message)) (o : Option Attempt) (m : Message) → out ≡ map (resent p) xs → Some m ≡ latest_of p i o → out ++ (All, m) ∷ [] ≡ map (resent p) (with_open xs i o)
-one_sent p i xs out None m is told = absurd (clash m told)
+pub one_sent : (p i : ℕ) (out : List (To × Message)) (o : Option Attempt) (m : Message) → Some m ≡ latest_of p i o → out ++ (All, m) ∷ [] ≡ with_latest p out i o
+one_sent p i out None m told = absurd (clash m told)
   where
     clash : (m : Message) → ◌≡◌ {A = Option Message} (Some m) None → ⊥
     clash m e = cc
-one_sent p i xs out (Some a) m is told =
-    ap (λ (l : List (To × Message)). l ++ (All, m) ∷ []) is ∙ ap (λ (x : Message). map (resent p) xs ++ (All, x) ∷ []) (inside m (latest p i a.ballot a.proposal) told) ∙ map_push p xs (i, a)
+one_sent p i out (Some a) m told = ap (λ (x : Message). out ++ (All, x) ∷ []) (inside m (latest p i a.ballot a.proposal) told)
   where
     inside : (x y : Message) → Some x ≡ Some y → x ≡ y
     inside x y e = cc
 
 -- or none
-pub none_sent : (p i : ℕ) (xs : List (ℕ × Attempt)) (out : List (To × Message)) (o : Option Attempt) → out ≡ map (resent p) xs → None ≡ latest_of p i o → out ≡ map (resent p) (with_open xs i o)
-none_sent p i xs out None is told = is
-none_sent p i xs out (Some a) is told = absurd (clash (latest p i a.ballot a.proposal) told)
+pub none_sent : (p i : ℕ) (out : List (To × Message)) (o : Option Attempt) → None ≡ latest_of p i o → out ≡ with_latest p out i o
+none_sent p i out None told = refl
+none_sent p i out (Some a) told = absurd (clash (latest p i a.ballot a.proposal) told)
   where
     clash : (m : Message) → ◌≡◌ {A = Option Message} None (Some m) → ⊥
     clash m e = cc
+
+-- so one instance more was looked at
+pub sent_more : (p i : ℕ) (xs : List (ℕ × Attempt)) (out : List (To × Message)) (o : Option Attempt) → out ≡ map (resent p) xs → with_latest p out i o ≡ map (resent p) (with_open xs i o)
+sent_more p i xs out None is = is
+sent_more p i xs out (Some a) is = ap (λ (l : List (To × Message)). l ++ resent p (i, a) ∷ []) is ∙ map_push p xs (i, a)
 
 -- so many instances were looked at, and there is no further one
 pub sent_short : (p : ℕ) (s : Node) (i past k : ℕ) (out : List (To × Message)) → IsTidy s → IsFirstUnknown s.known i → past ≡ suc k → ¬ IsInstance (i + past) → out ≡ map (resent p) (open_past s.attempts i k) → IsSentAgain p s i out

@@ -1,5 +1,5 @@
 -- What a tick sends again.
-use Rattle.std.specs.Prelude.{◌≡◌, ℕ, List, map}
+use Rattle.std.specs.Prelude.{◌≡◌, ℕ, Option, Some, None, List, [], ◌∷◌, ◌++◌, map}
 use Rattle.wire.specs.declared.message.Message.{Message}
 use Rattle.proposer.specs.Attempts.{Attempt}
 use Rattle.node.specs.declared.to.To.{To}
@@ -11,3 +11,8 @@ pub record IsSentAgain (p : ℕ) (s : Node) (i : ℕ) (again : List (To × Messa
   pub elsewhere : List (ℕ × Attempt)
   pub are : AreOpenElsewhere s i elsewhere
   pub is : again ≡ map (resent p) elsewhere
+
+-- messages, and behind them the latest one of the attempt at an instance, if one is open
+abbrev pub with_latest : ℕ → List (To × Message) → ℕ → Option Attempt → List (To × Message)
+with_latest p out i None = out
+with_latest p out i (Some a) = out ++ resent p (i, a) ∷ []

@@ -1,6 +1,6 @@
 //! A widening: a fresh attempt at the least free instance.
 
-ghost use Rattle.std.specs.Prelude.{◌≡◌, ◌↔◌, ℕ, IfOk, IsErrOf, IsTrue, MatchOption};
+ghost use Rattle.std.specs.Prelude.{◌≡◌, ◌↔◌, ℕ, None, IfOk, IsErrOf, IsTrue, MatchOption};
 
 use crate::{Node, NodeFault, Outbox, To, WINDOW};
 use site_disk::Disk;
@@ -8,8 +8,8 @@ use site_ids::{Instance, Value};
 use wire::Message;
 
 impl<D: Disk> Node<D> {
-    ghost use Rattle.node.specs.Nodes.{Node as AbstractNode, Value as Bytes, IsFirstUnknown};
-    ghost use Rattle.node.specs.Calls.{IsTried, IsFree, IsNextFree, IsNextValue, MayWiden, widen as widening};
+    ghost use Rattle.node.specs.Nodes.{Node as AbstractNode, Value as Bytes, IsUnknown, IsFirstUnknown};
+    ghost use Rattle.node.specs.Calls.{IsTried, IsNextFree, IsNextValue, MayWiden, widen as widening};
     ghost use Rattle.node.specs.Standing.{IsNodeOf, IsEvent, TakesRound, OnlyGrows, KeepsOthers, CountsDevice, ending_of};
 
     /// A fresh round goes on record, and an attempt at the least free instance begins with it, for the oldest value that
@@ -69,10 +69,17 @@ impl<D: Disk> Node<D> {
         None
     }
 
+    /// It is unknown, and has no attempt.
     fn is_free(&self, instance: Instance) -> bool
-        ensures { (s : AbstractNode) → IsNodeOf self.now s → IsTrue result ↔ IsFree s instance }
+        ensures { (s : AbstractNode) → IsNodeOf self.now s → IsTrue result ↔ (IsUnknown s instance × (s.attempts instance ≡ None)) }
     {
-        self.known.log.get(instance).is_none() && self.proposer.own_value(instance).is_none()
+        match self.known.log.get(instance) {
+            Some(_) => false,
+            None => match self.proposer.own_value(instance) {
+                Some(_) => false,
+                None => true,
+            },
+        }
     }
 
     /// The oldest pending value that no attempt has as its own.

@@ -6,6 +6,7 @@ use Rattle.site_disk.specs.Model.{DiskState}
 use Rattle.wire.specs.declared.message.Message.{Message}
 use Rattle.wire.specs.Messages.{Fits}
 use Rattle.node.specs.declared.fault.NodeFault.{NodeFault}
+use Rattle.node.specs.declared.fault.NodeFault.TheVariants as fault
 use Rattle.node.specs.declared.fault.NodeFault.TheVariants.{OutOfMemory, InstancesUsedUp}
 use Rattle.node.specs.declared.to.To.{To}
 use Rattle.node.specs.declared.running.Node.{Node as Running}
@@ -102,6 +103,16 @@ quiet_out n p s next out none how =
     (λ (x : Begins p s how.effect). absurd (none ((x.instance, x.free), (x.value, x.next))))
     (λ (x : (¬ MayWiden s) × (how.effect ≡ quiet s)). how.handed_out ∙ ap (λ (e : Effect). e.out) x.1)
     how.does
+
+pub not_whole : (why : NodeFault) → ending_by why ≢ Whole
+not_whole fault.OutOfMemory e = cc
+not_whole fault.Device e = cc
+not_whole fault.Stopped e = cc
+not_whole fault.QueueFull e = cc
+not_whole (fault.NotACommand why) e = cc
+not_whole fault.InstancesUsedUp e = cc
+not_whole fault.RoundsUsedUp e = cc
+not_whole fault.Conflict e = cc
 
 -- ---- the calls behind the last turn
 

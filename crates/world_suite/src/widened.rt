@@ -120,6 +120,9 @@ fn a_crash_with_three_attempts_open(rt: HostRuntime) -> Result<(), Fail> {
         Step::Shows(3, NodeState::Up, 3, 3),
         Step::Ask(1),
         Step::Settle,
+        Step::Shows(1, NodeState::Up, 1, 1),
+        Step::Ask(1),
+        Step::Settle,
         Step::Shows(1, NodeState::Up, 3, 3),
     ];
     Ok(play(&rt, rt.alloc(), 3, &steps)?)

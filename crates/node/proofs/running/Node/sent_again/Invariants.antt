@@ -1,4 +1,4 @@
-use Rattle.std.proofs.Common.{◌≡◌, ◌≤◌, ℕ, suc, Option, map}
+use Rattle.std.proofs.Common.{◌≡◌, ◌≤◌, ◌-◌, ℕ, suc, Option, map}
 use Rattle.proposer.specs.Attempts.{Attempt}
 use Rattle.proposer.specs.Standing.{Attempting}
 use Rattle.node.specs.Calls.{resent}
@@ -13,3 +13,6 @@ invariant-loop-past g l = record {
   counted : l.past ≡ suc count;
   sent : (attempts : ℕ → Option Attempt) → Attempting l.self.proposer attempts → l.again.items ≡ map (resent l.self.me) (open_past attempts l.first count);
 }
+
+abbrev pub decreases-loop-past : goal.decreases-loop-past
+decreases-loop-past g l = 8 - l.past
