@@ -1,6 +1,7 @@
 //! A widening: a fresh attempt at the least free instance.
 
-ghost use Rattle.std.specs.Prelude.{◌≡◌, ◌↔◌, ℕ, None, IfOk, IsErrOf, IsTrue, MatchOption};
+ghost use Rattle.std.specs.Prelude.{◌≡◌, ◌↔◌, ℕ, None, Some, IfOk, IsErrOf, IsTrue, MatchOption};
+ghost use Rattle.proposer.specs.Attempts.{Attempt};
 
 use crate::{Node, NodeFault, Outbox, To, WINDOW};
 use site_disk::Disk;
@@ -103,13 +104,21 @@ impl<D: Disk> Node<D> {
             let Some(instance) = Instance::new(first.number() + past) else {
                 return false;
             };
-            if let Some(own) = self.proposer.own_value(instance) {
-                if own.as_bytes() == value {
-                    return true;
-                }
+            if self.tries(instance, value) {
+                return true;
             }
             past += 1;
         }
         false
+    }
+
+    /// The attempt at an instance has the value as its own.
+    fn tries(&self, instance: Instance, value: &[u8]) -> bool
+        ensures { (s : AbstractNode) → IsNodeOf self.now s → IsTrue result ↔ ((a : Attempt) × (s.attempts instance ≡ Some a) × (a.own ≡ value.now)) }
+    {
+        match self.proposer.own_value(instance) {
+            Some(own) => own.as_bytes() == value,
+            None => false,
+        }
     }
 }

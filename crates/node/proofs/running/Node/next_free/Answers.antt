@@ -1,4 +1,5 @@
 use Rattle.std.proofs.Common.{◌≡◌, ◌+◌, ℕ, None, true, false, sym, ap, subst, ◌∙◌, arith}
+use Rattle.site_ids.specs.Ids.{IsInstance}
 use Rattle.node.specs.Nodes.{Node, IsUnknown}
 use Rattle.node.specs.Calls.{IsFree}
 use Rattle.node.proofs.Choosing.{one_more_not_free, next_found, no_next, past_last, not_there, all_seen}
@@ -18,7 +19,7 @@ returns-then-is_free g c s stands first =
     let l = c.loop-past in
     next_found s c.args.first l.past c.in_ok-instance.instance first (l.invariant.none s stands) c.loop-past-test.true
     (c.in_ok-instance.ensures.0 ∙ ap (λ (n : ℕ). n + l.past) c.number.ensures.is)
-    (let free = (c.is_free.ensures s stands).0 (is_true c.is_free.result c.if-is_free.true) in record { instance = c.in_ok-instance.ensures.1; unknown = free.0; untried = free.1 })
+    (let free = (c.is_free.ensures s stands).0 (is_true c.is_free.result c.if-is_free.true) in record { instance = subst IsInstance (sym c.in_ok-instance.ensures.0) c.in_ok-instance.ensures.1; unknown = free.0; untried = free.1 })
 
 pub returns : goal.returns
 returns g c s stands first =
