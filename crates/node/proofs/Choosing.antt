@@ -86,9 +86,9 @@ own_there (Some a) v e = (a, (λ _. Some a), inside v a.own e)
     inside : (x y : Value) → Some x ≡ Some y → y ≡ x
     inside x y e = cc
 
-pub own_other : (o : Option Attempt) (u v : Value) → Some u ≡ own_of o → u ≢ v → (a : Attempt) → o ≡ Some a → a.own ≢ v
-own_other None u v e apart a is own = absurd (cc)
-own_other (Some c) u v e apart a is own = apart (inside u c.own e ∙ ap (λ (x : Attempt). x.own) (same c a is) ∙ own)
+pub own_same : (o : Option Attempt) (u v : Value) → Some u ≡ own_of o → (a : Attempt) → o ≡ Some a → a.own ≡ v → u ≡ v
+own_same None u v e a is own = absurd (cc)
+own_same (Some c) u v e a is own = inside u c.own e ∙ ap (λ (x : Attempt). x.own) (same c a is) ∙ own
   where
     inside : (x y : Value) → Some x ≡ Some y → x ≡ y
     inside x y e = cc
