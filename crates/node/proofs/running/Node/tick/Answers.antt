@@ -117,7 +117,7 @@ returns-clause-event g c =
     let next : ℕ → BallotOf = λ r. record { round = max r old.proposer.heard + 1; node = old.proposer.me } in
     let out : Handed = (All, Prepare old.me i b) ∷ c.in_ok-again.again.items in
     let low : max old.store.recorded.round old.proposer.heard < MAX_ROUND = omega (arith, ap (λ r. max r old.proposer.heard) c.round.ensures, c.in-Ok.ensures.1) in
-    whole g.D.Disk.stands_for old _ ticking _ _ out (record { me = refl; cluster = refl; releases = refl }) runs tt (many_more c.args.outbox.now.items _ _ _ _ _ c.reserve.ensures.items c.push_reserved.ensures.items (when_ok c.append.result _ _ _ (c.append.ensures.succeeds ?) c.append.ensures.items))
+    whole g.D.Disk.stands_for old _ ticking _ _ out (record { me = refl; cluster = refl; releases = refl }) runs tt (many_more c.args.outbox.now.items _ _ _ _ _ c.reserve.ensures.items c.push_reserved.ensures.items (when_ok c.append.result _ _ _ (c.append.ensures.succeeds (omega (arith, c.in_ok-reserve.ensures.ok, c.push_reserved.ensures.len, c.push_reserved.ensures.capacity, c.len.ensures))) c.append.ensures.items))
     (λ s stands. started g.D.Disk.stands_for g.D.Disk.failed old _ s ticking i b c.in_ok-own.own c.in_ok-again.again.items stands runs (record { me = refl; cluster = refl; releases = refl })
     (ticks_so old s i b c.in_ok-own.own c.in_ok-again.again.items stands c.in-Some.ensures low (c.in-Ok.ensures.0 ∙ ap next c.round.ensures) (c.in_ok-own.ensures ∙ c.oldest.ensures s.pending stands.parts.pending)
     (c.in_ok-again.ensures s stands (first_unknown old.known.log s.known i stands.parts.known.values c.in-Some.ensures)))
@@ -133,4 +133,4 @@ returns-clause-event g c =
     }))
 
 pub returns-clause-grows : goal.returns-clause-grows
-returns-clause-grows g c = (_, many_more c.args.outbox.now.items _ _ _ _ _ c.reserve.ensures.items c.push_reserved.ensures.items (when_ok c.append.result _ _ _ (c.append.ensures.succeeds ?) c.append.ensures.items))
+returns-clause-grows g c = (_, many_more c.args.outbox.now.items _ _ _ _ _ c.reserve.ensures.items c.push_reserved.ensures.items (when_ok c.append.result _ _ _ (c.append.ensures.succeeds (omega (arith, c.in_ok-reserve.ensures.ok, c.push_reserved.ensures.len, c.push_reserved.ensures.capacity, c.len.ensures))) c.append.ensures.items))
