@@ -102,7 +102,20 @@ returns-in_err-put_round-clause-event g c =
     (λ s stands. (
       begun old.me s i b c.in_ok-own.own c.in_ok-again.again.items,
       ticks_so old s i b c.in_ok-own.own c.in_ok-again.again.items stands c.in-Some.ensures low (c.in-Ok.ensures.0 ∙ ap next c.round.ensures) (c.in_ok-own.ensures ∙ c.oldest.ensures s.pending stands.parts.pending)
-          (c.in_ok-again.ensures s stands (first_unknown old.known.log s.known i stands.parts.known.values c.in-Some.ensures)),
+          (c.in_ok-again.ensures s (record {
+            parts = record {
+              on_record = stands.parts.on_record;
+              votes = stands.parts.votes;
+              known = stands.parts.known;
+              attempts = stands.parts.attempts;
+              pending = stands.parts.pending;
+              heard = stands.parts.heard;
+              reached = stands.parts.reached;
+            };
+            tidy = stands.tidy;
+            ranges = stands.ranges;
+            fed = stands.fed;
+          }) (first_unknown old.known.log s.known i stands.parts.known.values c.in-Some.ensures)),
       ap (λ r. Some (Round r)) (sym c.round-2.ensures.is),
     ))
     (λ s stands. wants_it old s i stands runs c.in-Some.ensures low)
@@ -120,7 +133,20 @@ returns-clause-event g c =
     whole g.D.Disk.stands_for old _ ticking _ _ out (record { me = refl; cluster = refl; releases = refl }) runs tt (many_more c.args.outbox.now.items _ _ _ _ _ c.reserve.ensures.items c.push_reserved.ensures.items (when_ok c.append.result _ _ _ (c.append.ensures.succeeds (omega (arith, c.in_ok-reserve.ensures.ok, c.push_reserved.ensures.len, c.push_reserved.ensures.capacity, c.len.ensures))) c.append.ensures.items))
     (λ s stands. started g.D.Disk.stands_for g.D.Disk.failed old _ s ticking i b c.in_ok-own.own c.in_ok-again.again.items stands runs (record { me = refl; cluster = refl; releases = refl })
     (ticks_so old s i b c.in_ok-own.own c.in_ok-again.again.items stands c.in-Some.ensures low (c.in-Ok.ensures.0 ∙ ap next c.round.ensures) (c.in_ok-own.ensures ∙ c.oldest.ensures s.pending stands.parts.pending)
-    (c.in_ok-again.ensures s stands (first_unknown old.known.log s.known i stands.parts.known.values c.in-Some.ensures)))
+    (c.in_ok-again.ensures s (record {
+      parts = record {
+        on_record = stands.parts.on_record;
+        votes = stands.parts.votes;
+        known = stands.parts.known;
+        attempts = stands.parts.attempts;
+        pending = stands.parts.pending;
+        heard = stands.parts.heard;
+        reached = stands.parts.reached;
+      };
+      tidy = stands.tidy;
+      ranges = stands.ranges;
+      fed = stands.fed;
+    }) (first_unknown old.known.log s.known i stands.parts.known.values c.in-Some.ensures)))
     (record {
       put = subst (λ (r : ℕ). IsPut g.D.Disk.failed old.store c.put_round.new.self (Round r)) c.round-2.ensures.is put.put;
       acknowledged = subst (λ (r : ℕ). Acknowledges g.D.Disk.stands_for old.store c.put_round.new.self (Round r)) c.round-2.ensures.is put.acknowledged;
