@@ -98,7 +98,7 @@ plain_whole bytes head after line cut bare is =
 
 pub one_length : (p q : ℕ) (t u : Ticket) (len n : ℕ) → FitsSubmission p t len → FitsSubmission q u n → joined (submit_words p t len) ≡ joined (submit_words q u n) → len ≡ n
 one_length p q t u len n hp hq is =
-    let same = same_submission (joined (submit_words p t len)) (decimal p) _ (decimal t.editor) _ (decimal t.number) (decimal len) q u n (lacks-decimal 32 p (omega arith) (omega arith)) hq refl is (number_cut t.editor _ (omega arith)) (number_cut t.number (decimal len) (omega arith)) in
+    let same = same_submission (codes "submit ") (joined (submit_words p t len)) (decimal p) _ (decimal t.editor) _ (decimal t.number) (decimal len) q u n (lacks-decimal 32 p (omega arith) (omega arith)) hq refl is (number_cut t.editor _ (omega arith)) (number_cut t.number (decimal len) (omega arith)) in
     decimal_injective len n (omega arith) (omega arith) same.length_is
 
 -- the text that follows a submission's words

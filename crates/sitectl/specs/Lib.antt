@@ -13,3 +13,8 @@ pub mod Simulation
 pub mod SimOptions
 pub mod SimulationEnds
 pub mod Stepping
+pub mod Script
+pub mod ScriptView
+pub mod Client
+pub mod Running
+pub mod RunSteps

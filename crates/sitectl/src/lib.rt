@@ -1,6 +1,8 @@
 //! The engines of the programs.
 #![tactic(auto)]
 
+mod client;
+mod cluster;
 mod ends;
 mod engine;
 mod feed;
@@ -11,8 +13,13 @@ mod options;
 mod saying;
 mod schedule;
 mod schedule_file;
+mod script;
+mod server_fault;
+mod servers;
 mod simulator;
+mod words;
 
+pub use cluster::sitecluster;
 pub use engine::siterender;
 pub use http_read::Counted;
 pub use laws::{a_schedule_has_one_reading, an_input_has_one_verdict};

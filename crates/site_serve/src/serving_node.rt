@@ -1,0 +1,46 @@
+//! What a node is asked as a service.
+
+use crate::Served;
+use command::write;
+use http_serve::{Service, Submission, SubmitFault};
+use node::{NodeFault, Submitted};
+use release::{Answer, AnswerFault};
+use site_disk::Disk;
+use site_ids::{Instance, Ticket};
+use std::alloc::Global;
+
+impl<D: Disk> Service for Served<D> {
+    ghost use Rattle.site_serve.specs.Served.{offered};
+
+    ghost offered = { offered };
+
+    fn newest(&self) -> u64 {
+        self.node.newest()
+    }
+
+    fn answer(&self, _alloc: Global, n: u64, path: &str) -> Result<Answer, AnswerFault> {
+        self.node.answer(n, path)
+    }
+
+    fn receipt(&self, ticket: Ticket) -> Option<Instance> {
+        self.node.receipt(ticket)
+    }
+
+    fn submit(
+        &mut self,
+        alloc: Global,
+        ticket: Ticket,
+        text: &[u8],
+    ) -> Result<Submission, SubmitFault> {
+        let value = write(alloc, ticket, text)?;
+        match self.node.submit(value.as_slice()) {
+            Ok(Submitted::Queued) => Ok(Submission::Queued),
+            Ok(Submitted::Already) => Ok(Submission::Already),
+            Err(NodeFault::NotACommand(fault)) => Err(SubmitFault::Command(fault)),
+            Err(NodeFault::QueueFull) => Err(SubmitFault::Busy),
+            Err(NodeFault::Stopped) => Err(SubmitFault::Stopped),
+            // No other fault comes of a submission.
+            Err(_) => Err(SubmitFault::OutOfMemory),
+        }
+    }
+}
