@@ -14,3 +14,5 @@ pub mod ScheduleLemmas
 pub mod Simulating
 pub mod Simulated
 pub mod OneLine
+pub mod ScriptLemmas
+pub mod RunLemmas

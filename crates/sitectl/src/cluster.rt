@@ -154,12 +154,7 @@ fn say_fault<E: Write>(alloc: Global, err: &mut Counted<E>, k: u64, fault: Scrip
 /// Does a script line by line over three servers, and prints what its requests are answered with.
 ///
 /// A request's connection lives within its line, and no server works but where a line lets it. What sockets carry is not said.
-pub fn sitecluster<
-    N: Net<Listener = TcpListener, Stream = TcpStream>,
-    R: Read,
-    W: Write,
-    E: Write,
->(
+pub fn sitecluster<N: Net<Listener = TcpListener, Stream = TcpStream>, R: Read, W: Write, E: Write>(
     net: &N,
     alloc: Global,
     reader: &mut Counted<R>,

@@ -22,7 +22,7 @@ mod words;
 pub use cluster::sitecluster;
 pub use engine::siterender;
 pub use http_read::Counted;
-pub use laws::{a_schedule_has_one_reading, an_input_has_one_verdict};
+pub use laws::{a_schedule_has_one_reading, a_script_has_one_reading, an_input_has_one_verdict};
 pub use options::{RenderOptions, render_options};
 pub use schedule_file::{SimOptions, sim_options};
 pub use simulator::sitesim;

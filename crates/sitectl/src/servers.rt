@@ -79,13 +79,18 @@ impl Server {
     fn open<N: Net<Listener = TcpListener, Stream = TcpStream>>(
         net: &N,
         alloc: Global,
-        cluster: Cluster,
-        me: NodeId,
+        number: u8,
         socket: UdpSocket,
         peers: &[SocketAddr],
     ) -> Result<Server, ServerFault>
-        requires { IsNode cluster me }
+        requires { IsNode SERVERS number }
     {
+        let Some(cluster) = Cluster::new(SERVERS) else {
+            unreachable!()
+        };
+        let Some(me) = cluster.node(number) else {
+            unreachable!()
+        };
         let mut disk = MemDisk::new(alloc);
         Record::format(cluster, me, &mut disk)?;
         let Ok(node) = Node::open(alloc, cluster, me, disk) else {
@@ -124,20 +129,12 @@ impl Servers {
         net: &N,
         alloc: Global,
     ) -> Result<Servers, ServerFault> {
-        let Some(cluster) = Cluster::new(SERVERS) else {
-            unreachable!()
-        };
-        let (Some(one), Some(two), Some(three)) =
-            (cluster.node(1), cluster.node(2), cluster.node(3))
-        else {
-            unreachable!()
-        };
         let (a, b, c) = (datagrams(net)?, datagrams(net)?, datagrams(net)?);
         let peers = [a.local_addr()?, b.local_addr()?, c.local_addr()?];
         Ok(Servers {
-            first: Server::open(net, alloc, cluster, one, a, &peers)?,
-            second: Server::open(net, alloc, cluster, two, b, &peers)?,
-            third: Server::open(net, alloc, cluster, three, c, &peers)?,
+            first: Server::open(net, alloc, 1, a, &peers)?,
+            second: Server::open(net, alloc, 2, b, &peers)?,
+            third: Server::open(net, alloc, 3, c, &peers)?,
         })
     }
 
