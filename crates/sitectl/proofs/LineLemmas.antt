@@ -75,10 +75,13 @@ pub lacks-back : (b : ℕ) (xs ys : List ℕ) → Lacks b (xs ++ ys) → Lacks b
 lacks-back b [] ys h = h
 lacks-back b (x ∷ xs) ys h = lacks-back b xs ys (lacks-tail b x (xs ++ ys) h)
 
--- what stands last in a line without a newline has none
+-- what follows a word of a line without a newline has none
+pub lacks-target : (front head word rest : List ℕ) → Lacks 10 head → head ≡ front ++ (word ++ (32 ∷ rest)) → Lacks 10 rest
+lacks-target front head word rest h is = lacks-tail 10 32 rest (lacks-back 10 word (32 ∷ rest) (lacks-back 10 front _ (rw is at h)))
+
+-- nor has what follows two words of it
 pub lacks-path : (front head word number path : List ℕ) → Lacks 10 head → head ≡ front ++ (word ++ (32 ∷ (number ++ (32 ∷ path)))) → Lacks 10 path
-lacks-path front head word number path h is =
-    lacks-tail 10 32 path (lacks-back 10 number (32 ∷ path) (lacks-tail 10 32 _ (lacks-back 10 word _ (lacks-back 10 front _ (rw is at h)))))
+lacks-path front head word number path h is = lacks-tail 10 32 path (lacks-back 10 number (32 ∷ path) (lacks-target front head word (number ++ (32 ∷ path)) h is))
 
 -- ---- submissions
 

@@ -134,7 +134,7 @@ short_text p ticket len after hp short line rest ok is =
     let total : length after ≡ length t.text + suc (length rest) = ap length t.whole ∙ length-append t.text (10 ∷ rest) in
     omega (arith, total, t.long, short)
 
-behind_text : (text other rest later : List ℕ) (e : ℕ) → length text ≡ length other → text ++ (e ∷ rest) ≡ other ++ (10 ∷ later) → e ≡ 10
+pub behind_text : (text other rest later : List ℕ) (e : ℕ) → length text ≡ length other → text ++ (e ∷ rest) ≡ other ++ (10 ∷ later) → e ≡ 10
 behind_text text other rest later e long is =
     sym (get_or-append_seam text e rest 0) ∙ (ap (λ xs. get_or xs (length text) 0) is ∙ (ap (λ n. get_or (other ++ (10 ∷ later)) n 0) long ∙ get_or-append_seam other 10 later 0))
 

@@ -5,14 +5,19 @@ use Rattle.sitectl.proofs.RunLemmas.{so_far_first, so_far_more, stepped, at_the_
 use Rattle.sitectl.proofs.cluster.sitecluster.Goals as goal
 
 pub loop-k-init : goal.loop-k-init
-loop-k-init g c = (so_far_first _ _ _ _ _ c.new.ensures, refl)
+loop-k-init g c = (so_far_first _ _ _ _ _ c.new-feed.ensures, refl)
 
 pub loop-k-preserved : goal.loop-k-preserved
 loop-k-preserved g c = (
-  so_far_more _ _ _ _ _ _ _ _ _ _ _ _ c.loop-k.k _ c.loop-k.feed c.next.new.feed _ _ refl refl c.loop-k.invariant.0
+  so_far_more _ _ _ _ _ _ _ _ _ _ _ _ c.loop-k.k _ c.loop-k.feed c.next.new.feed _ _ refl c.as_slice.ensures.value c.loop-k.invariant.0
       (stepped _ _ _ _ c.in-Ok-Some.text c.in-Ok-Some.field-0-is c.in-Ok-Some.ensures) (on_ok c.write_all.result _ c.write_all.ensures.ok (sym c.is_err.ensures.value ∙ c.if-is_err.false)),
   c.loop-k.invariant.1,
 )
+
+pub returns-in-Err : goal.returns-in-Err
+returns-in-Err g c =
+    let s = c.say_fault.ensures.said in
+    not_begun _ _ _ _ _ _ s.0 c.in-Err.fault c.from.result c.from.ensures s.1 s.2 c.say_fault.ensures.status
 
 pub returns-in-Ok-None : goal.returns-in-Ok-None
 returns-in-Ok-None g c =
@@ -21,7 +26,7 @@ returns-in-Ok-None g c =
 
 pub returns-then-is_err : goal.returns-then-is_err
 returns-then-is_err g c =
-    broken _ _ _ _ _ _ _ _ _ _ _ _ _ c.loop-k.k _ c.loop-k.feed c.next.new.feed _ _ refl c.loop-k.invariant.0
+    broken _ _ _ _ _ _ _ _ _ _ _ _ _ c.loop-k.k _ c.loop-k.feed c.next.new.feed _ _ c.as_slice.ensures.value c.loop-k.invariant.0
     (stepped _ _ _ _ c.in-Ok-Some.text c.in-Ok-Some.field-0-is c.in-Ok-Some.ensures) (on_err c.write_all.result _ c.write_all.ensures.err (sym c.is_err.ensures.value ∙ c.if-is_err.true))
     (subst (λ x. IsGiven (end_of g.E.Write.contents x c.say.new.err) _) c.loop-k.invariant.1 c.say.ensures.said) c.say.ensures.status
 
