@@ -31,6 +31,10 @@ fn cut_at_dot(path: &str) -> Option<(&str, &str)>
         (λ x. parts path.now ≡ x.0.now ∷ parts x.1.now) }
     ensures shorter { IfSome result (λ x. length x.1.now < length path.now) }
 {
+    // Most names have none, which bytes tell sooner than characters.
+    if !path.as_bytes().contains(&b'.') {
+        return None;
+    }
     path.split_once('.')
 }
 

@@ -9,3 +9,4 @@ pub mod Reading
 pub mod Ready
 pub mod Puts
 pub mod Laws
+pub mod Faults

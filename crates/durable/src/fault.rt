@@ -1,3 +1,6 @@
+ghost use Rattle.std.specs.Prelude.{◌≡◌};
+ghost use Rattle.durable.specs.Faults.{label};
+
 use site_disk::DiskFailed;
 use std::alloc::AllocError;
 use thiserror::Error;
@@ -20,6 +23,23 @@ pub enum RecordFault {
     /// From a failure of the device until it is opened again.
     #[error("the record has stopped")]
     Stopped,
+}
+
+impl RecordFault {
+    /// The fault's number and name, as programs print them.
+    pub fn label(&self) -> &'static str
+        ensures { result.now ≡ label self.now }
+    {
+        match self {
+            RecordFault::Device => "1 Device",
+            RecordFault::OutOfMemory => "2 OutOfMemory",
+            RecordFault::NotARecord => "3 NotARecord",
+            RecordFault::WrongNode => "4 WrongNode",
+            RecordFault::Full => "5 Full",
+            RecordFault::Damaged => "6 Damaged",
+            RecordFault::Stopped => "7 Stopped",
+        }
+    }
 }
 
 impl From<AllocError> for RecordFault {

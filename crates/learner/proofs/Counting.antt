@@ -1,19 +1,12 @@
 -- The nodes that pass a test, counted one after the other.
-use Rattle.std.proofs.Common.{◌≡◌, ◌⊎◌, inl, inr, ℕ, ◌+◌, ◌/◌, ◌≤◌, List, [], ◌∷◌, length, refl, sym, subst, ⊎_elim, arith}
+use Rattle.std.proofs.Common.{◌≡◌, ◌⊎◌, inl, inr, ℕ, ◌+◌, ◌/◌, ◌≤◌, List, [], ◌∷◌, refl, sym, subst, ⊎_elim, arith}
 use Rattle.std.specs.Prelude.{◌↔◌, IsTrue, nat_le}
 use Rattle.std.proofs.lemmas.Bool.Decides.{nat_tests}
 use Rattle.site_ids.specs.Ids.{IsNode, BallotOf}
-use Rattle.site_ids.specs.Lists.{In, Distinct}
+use Rattle.site_ids.specs.Lists.{In}
 use Rattle.site_ids.proofs.MemberLemmas.{distinct_within}
+use Rattle.learner.specs.Masks.{Counted}
 use Rattle.learner.specs.ToldVotes.{ToldVote, told_vote, HasMajority}
-
--- c of the nodes 1 to k pass
-pub record Counted (P : ℕ → Type 0) (k c : ℕ) : Type 0 where
-  pub nodes : List ℕ
-  pub distinct : Distinct nodes
-  pub each : (p : ℕ) → In nodes p → IsNode k p × P p
-  pub all : (p : ℕ) → IsNode k p → P p → In nodes p
-  pub number : length nodes ≡ c
 
 pub counted_none : (P : ℕ → Type 0) → Counted P 0 0
 counted_none P = record { nodes = []; distinct = tt; each = λ p h. absurd h; all = λ p is pass. absurd (omega (arith, is.0, is.1)); number = refl }
@@ -50,18 +43,27 @@ majority_counted n c IsVote i b v h m =
     let all_counted = distinct_within m.0 h.nodes m.1.distinct (λ p k. h.all p (m.1.nodes p k) (m.2 p k)) in
     omega (arith, m.1.enough, all_counted, h.number)
 
--- the nodes counted up to the last one reach the quorum where there is a majority, and only there
-pub quorum_reached : (n k quorum c : ℕ) (IsVote : ToldVote → Type 0) (i : ℕ) (b : BallotOf) (v : List ℕ) → k ≡ n → quorum ≡ n / 2 + 1
-    → Counted (λ p. IsVote (told_vote p i b v)) k c → IsTrue (nat_le quorum c) ↔ HasMajority n IsVote i b v
-quorum_reached n k quorum c IsVote i b v last is h =
-    let all : Counted (λ p. IsVote (told_vote p i b v)) n c = subst (λ (m : ℕ). Counted (λ p. IsVote (told_vote p i b v)) m c) last h in
-    (λ t. enough_counted n c IsVote i b v all (subst (λ (q : ℕ). q ≤ c) is (reached quorum c t)), λ m. reaches quorum c (subst (λ (q : ℕ). q ≤ c) (sym is) (majority_counted n c IsVote i b v all m)))
+-- a count reaches the quorum where there is a majority, and only there
+pub quorum_reached : (n quorum c : ℕ) (IsVote : ToldVote → Type 0) (i : ℕ) (b : BallotOf) (v : List ℕ) → quorum ≡ n / 2 + 1
+    → Counted (λ p. IsVote (told_vote p i b v)) n c → IsTrue (nat_le quorum c) ↔ HasMajority n IsVote i b v
+quorum_reached n quorum c IsVote i b v is h =
+    (λ t. enough_counted n c IsVote i b v h (subst (λ (q : ℕ). q ≤ c) is (reached quorum c t)), λ m. reaches quorum c (subst (λ (q : ℕ). q ≤ c) (sym is) (majority_counted n c IsVote i b v h m)))
   where
     reached : (q c : ℕ) → IsTrue (nat_le q c) → q ≤ c
     reached q c t = grind (arith, nat_tests)
 
     reaches : (q c : ℕ) → q ≤ c → IsTrue (nat_le q c)
     reaches q c le = grind (arith, nat_tests)
+
+-- what passes alike is counted alike
+pub counted_by : (P Q : ℕ → Type 0) (n c : ℕ) → ((p : ℕ) → P p ↔ Q p) → Counted P n c → Counted Q n c
+counted_by P Q n c same h = record {
+  nodes = h.nodes;
+  distinct = h.distinct;
+  each = λ p i. let r = h.each p i in (r.0, (same p).0 r.1);
+  all = λ p is q. h.all p is ((same p).1 q);
+  number = h.number;
+}
 
 -- of two sets with the same votes both have a majority or none
 pub same_majority : (n : ℕ) (IsVote IsOther : ToldVote → Type 0) (i : ℕ) (b : BallotOf) (v : List ℕ) → ((t : ToldVote) → IsVote t → IsOther t) → HasMajority n IsVote i b v → HasMajority n IsOther i b v

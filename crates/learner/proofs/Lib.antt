@@ -1,3 +1,5 @@
 pub mod Counting
+pub mod MaskLemmas
+pub mod TallyLemmas
 pub mod Adding
 pub mod Examples

@@ -1,2 +1,4 @@
 pub mod ToldVotes
+pub mod Masks
+pub mod Tallies
 pub mod Votes

@@ -1,27 +1,20 @@
-ghost use Rattle.std.specs.Prelude.{◌≡◌, ◌≢◌, ◌↔◌, ◌⊎◌, ℕ, ◌++◌, [], ◌∷◌, OnOk, OnErr, IfOk, IsTrue, MatchOption};
-ghost use Rattle.site_ids.specs.Lists.{In};
+ghost use Rattle.std.specs.Prelude.{◌≡◌, ◌≢◌, ◌↔◌, ℕ, OnOk, OnErr, IfOk, IsTrue, MatchOption};
 ghost use Rattle.learner.specs.ToldVotes.{ToldVote, told_vote, HasMajority};
-ghost use Rattle.learner.specs.Votes.{told, told_at, votes_at, IsTold, IsToldWith};
+ghost use Rattle.learner.specs.Tallies.{AddsTold};
+ghost use Rattle.learner.specs.Votes.{tallies_in, tallies_at, IsTold, IsToldWith};
 
+use crate::tallies::{Tally, add_to, nodes_of};
 use site_ids::{Ballot, Cluster, Instance, NodeId, Value};
 use std::alloc::{AllocError, Global};
 use std::collections::BTreeMap;
-
-/// What a node told: its vote.
-#[derive(Debug, Drop)]
-struct Told {
-    voter: NodeId,
-    ballot: Ballot,
-    value: Value,
-}
 
 /// A set of votes.
 #[derive(Debug, Drop)]
 pub struct Learner {
     alloc: Global,
     cluster: Cluster,
-    /// By instance, each vote once.
-    votes: BTreeMap<u32, Vec<Told>>,
+    /// By instance, a tally for each ballot and value.
+    tallies: BTreeMap<u32, Vec<Tally>>,
 }
 
 impl Learner {
@@ -32,7 +25,7 @@ impl Learner {
         Learner {
             alloc,
             cluster,
-            votes: BTreeMap::new(alloc),
+            tallies: BTreeMap::new(alloc),
         }
     }
 
@@ -62,15 +55,8 @@ impl Learner {
     pub fn completes(&self, from: NodeId, instance: Instance, ballot: Ballot, value: &[u8]) -> bool
         ensures { IsTrue result ↔ HasMajority self.now.cluster (IsToldWith self.now (told_vote from instance ballot value.now)) instance ballot value.now }
     {
-        let votes = self.at(instance);
-        let mut voters = 0;
-        for below in 0..self.cluster.size() {
-            let voter = below + 1;
-            if is_voter(votes, from, voter, ballot, value) {
-                voters += 1;
-            }
-        }
-        self.cluster.quorum() <= voters
+        let nodes = nodes_of(self.at(instance), ballot, value).with(from);
+        u32::from(self.cluster.quorum()) <= nodes.count_in(self.cluster)
     }
 
     /// Drops the votes at an instance.
@@ -78,19 +64,18 @@ impl Learner {
         ensures cluster { self.new.cluster ≡ self.old.cluster }
         ensures dropped { (t : ToldVote) → IsTold self.new t ↔ (IsTold self.old t × (t.instance ≢ instance)) }
     {
-        self.votes.remove(&instance.number());
+        self.tallies.remove(&instance.number());
     }
 
-    fn at(&self, instance: Instance) -> &[Told]
-        ensures { result.now ≡ votes_at self.now instance }
+    fn at(&self, instance: Instance) -> &[Tally]
+        ensures { result.now ≡ tallies_at self.now instance }
     {
-        match self.votes.get(&instance.number()) {
-            Some(votes) => votes.as_slice(),
+        match self.tallies.get(&instance.number()) {
+            Some(tallies) => tallies.as_slice(),
             None => &[],
         }
     }
 
-    // A vote that is there is not added again.
     fn add(
         &mut self,
         from: NodeId,
@@ -102,60 +87,30 @@ impl Learner {
         ensures added { OnOk result ((t : ToldVote) → IsTold self.new t ↔ IsToldWith self.old (told_vote from instance ballot value.now) t) }
         ensures refused { OnErr result ((t : ToldVote) → IsTold self.new t ↔ IsTold self.old t) }
     {
-        if has_vote(self.at(instance), from.number(), ballot, value) {
-            return Ok(());
-        }
-        let vote = Told {
-            voter: from,
-            ballot,
-            value: Value::copied_from(self.alloc, value)?,
-        };
-        push_at(self.alloc, &mut self.votes, instance.number(), vote)
+        let at = instance.number();
+        add_at(self.alloc, &mut self.tallies, at, from, ballot, value)
     }
 }
 
-impl Told {
-    fn is(&self, voter: u8, ballot: Ballot, value: &[u8]) -> bool
-        ensures { IsTrue result ↔ (self.now ≡ told voter ballot value.now) }
-    {
-        self.voter.number() == voter && self.ballot == ballot && self.value.as_bytes() == value
-    }
-}
-
-fn push_at(
+fn add_at(
     alloc: Global,
-    votes: &mut BTreeMap<u32, Vec<Told>>,
+    tallies: &mut BTreeMap<u32, Vec<Tally>>,
     at: u32,
-    vote: Told,
+    from: NodeId,
+    ballot: Ballot,
+    value: &[u8],
 ) -> Result<(), AllocError>
-    ensures pushed { OnOk result (told_at votes.new at ≡ told_at votes.old at ++ vote ∷ []) }
-    ensures others { (other : ℕ) → other ≢ at → told_at votes.new other ≡ told_at votes.old other }
-    ensures err { OnErr result (told_at votes.new at ≡ told_at votes.old at) }
+    ensures added { OnOk result (AddsTold (tallies_in tallies.old at) (tallies_in tallies.new at) from ballot value.now) }
+    ensures others { (other : ℕ) → other ≢ at → tallies_in tallies.new other ≡ tallies_in tallies.old other }
+    ensures refused { OnErr result (tallies_in tallies.new at ≡ tallies_in tallies.old at) }
 {
-    match votes.get_mut(&at) {
-        Some(votes) => votes.push(vote)?,
+    match tallies.get_mut(&at) {
+        Some(here) => add_to(alloc, here, from, ballot, value),
         None => {
-            let first = vec![in alloc; vote]?;
-            votes.insert(at, first)?;
+            let mut here = Vec::new(alloc);
+            add_to(alloc, &mut here, from, ballot, value)?;
+            tallies.insert(at, here)?;
+            Ok(())
         }
     }
-    Ok(())
-}
-
-fn has_vote(votes: &[Told], voter: u8, ballot: Ballot, value: &[u8]) -> bool
-    ensures { IsTrue result ↔ In votes.now (told voter ballot value.now) }
-{
-    for vote in votes {
-        if vote.is(voter, ballot, value) {
-            return true;
-        }
-    }
-    false
-}
-
-// Whether the vote is there, or the voter is the one whose vote comes.
-fn is_voter(votes: &[Told], from: NodeId, voter: u8, ballot: Ballot, value: &[u8]) -> bool
-    ensures { IsTrue result ↔ ((voter ≡ from) ⊎ In votes.now (told voter ballot value.now)) }
-{
-    voter == from.number() || has_vote(votes, voter, ballot, value)
 }

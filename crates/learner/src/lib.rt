@@ -2,5 +2,7 @@
 #![tactic(auto)]
 
 mod learning;
+mod masks;
+mod tallies;
 
 pub use learning::Learner;

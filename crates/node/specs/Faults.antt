@@ -1,12 +1,13 @@
--- Faults of the layers below, told by a node.
-use Rattle.std.specs.Prelude.{◌≡◌, Err}
+-- Faults of the layers below, told by a node; a fault's number and name.
+use Rattle.std.specs.Prelude.{◌≡◌, ℕ, List, Err, codes, ⊤}
 use Rattle.durable.specs.declared.fault.RecordFault.{RecordFault}
 use Rattle.durable.specs.declared.fault.RecordFault.TheVariants as stored
 use Rattle.command.specs.declared.fault.CommandFault.{CommandFault}
 use Rattle.command.specs.declared.fault.CommandFault.TheVariants as command
 use Rattle.command.specs.Reading.{value_reading, TakesMemory}
+use Rattle.command.specs.Written.{HasLine}
 use Rattle.node.specs.declared.fault.NodeFault.{NodeFault}
-use Rattle.node.specs.declared.fault.NodeFault.TheVariants.{OutOfMemory, Device, Stopped, NotACommand}
+use Rattle.node.specs.declared.fault.NodeFault.TheVariants.{OutOfMemory, Device, Stopped, QueueFull, NotACommand, InstancesUsedUp, RoundsUsedUp, Conflict}
 use Rattle.node.specs.Nodes.{Value}
 
 -- a put that is refused as full is a growth refused
@@ -27,6 +28,25 @@ of_command (command.Data why) = NotACommand (command.Data why)
 
 -- why a value that is submitted was not read
 abbrev pub IsUnread : Value → NodeFault → Type 0
-IsUnread v (NotACommand why) = value_reading v ≡ Err why
+IsUnread v (NotACommand why) = (value_reading v ≡ Err why) × HasLine why
 IsUnread v OutOfMemory = TakesMemory v
 IsUnread v _ = ⊥
+
+-- the number and name of a fault, as programs print them
+abbrev pub label : NodeFault → List ℕ
+label OutOfMemory = codes "1 OutOfMemory"
+label Device = codes "2 Device"
+label Stopped = codes "3 Stopped"
+label QueueFull = codes "4 QueueFull"
+label (NotACommand _) = codes "5 NotACommand"
+label InstancesUsedUp = codes "6 InstancesUsedUp"
+label RoundsUsedUp = codes "7 RoundsUsedUp"
+label Conflict = codes "8 Conflict"
+
+-- why a submission is refused: for no other cause, and a command's fault is no want of memory
+abbrev pub IsSubmitCause : NodeFault → Type 0
+IsSubmitCause (NotACommand why) = HasLine why
+IsSubmitCause Stopped = ⊤
+IsSubmitCause QueueFull = ⊤
+IsSubmitCause OutOfMemory = ⊤
+IsSubmitCause _ = ⊥

@@ -1,9 +1,9 @@
 //! A submission.
 
-ghost use Rattle.std.specs.Prelude.{◌≡◌, ◌↔◌, ◌<◌, [], Ok, IsTrue, IfOk, IsErrOf, MatchResult};
+ghost use Rattle.std.specs.Prelude.{◌≡◌, ◌↔◌, ◌<◌, [], Ok, IsTrue, IfOk, IfErr, IsErrOf, MatchResult};
 ghost use Rattle.command.specs.Action.{Order};
 ghost use Rattle.command.specs.Reading.{value_reading};
-ghost use Rattle.node.specs.Faults.{IsUnread};
+ghost use Rattle.node.specs.Faults.{IsUnread, IsSubmitCause};
 
 use crate::{Node, NodeFault, Submitted};
 use command::read;
@@ -29,6 +29,7 @@ impl<D: Disk> Node<D> {
     pub fn submit(&mut self, value: &[u8]) -> Result<Submitted, NodeFault>
         ensures event { IsEvent D.stands_for self.old self.new (submission value.now) (ending_of result) [] [] }
         ensures answered { IfOk result (λ answer. (s : AbstractNode) → IsNodeOf self.old s → IsAnswered s value.now answer) }
+        ensures cause { IfErr result IsSubmitCause }
         ensures no_put { (¬ IsErrOf result NodeFault.Device) × (self.new.store ≡ self.old.store) }
         ensures others { KeepsOthers self.old self.new }
     {

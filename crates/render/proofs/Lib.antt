@@ -1,3 +1,4 @@
+pub mod Margins
 pub mod LineLemmas
 pub mod Escapes
 pub mod Rendered

@@ -15,8 +15,6 @@ use Rattle.mustache_parse.specs.Tree.{Tree}
 use Rattle.mustache_parse.specs.View.{tree_view}
 use Rattle.mustache_parse.specs.declared.node.Node.{Node}
 use Rattle.std.specs.Prelude.{string_bytes}
-use Rattle.render.specs.Margin.{margin_step, margin_text}
-use Rattle.render.specs.declared.margin.Margin.{roll-Margin, fold-roll-Margin}
 use Rattle.render.specs.Meaning.{Meaning, Over, Costs, Partials, and_then, meaning_to, max_cost, within_limit, rendering}
 use Rattle.render.specs.Rendering.{Adds, IsPaid, Exceeds}
 use Rattle.render.specs.declared.output.Output.{Output}
@@ -92,18 +90,10 @@ paid_page old new (Costs t c) none all p =
 stack_of-one : (d : Bor Data) → stack_of (roll-Frame (record { «data» = d; below = None })) ≡ data_view d.now ∷ []
 stack_of-one d = fold-roll-Frame (List Whole) stack_step _
 
--- the margin of a page is none
-margin_text-none : (own : Bor (List ℕ)) → own.now ≡ [] → margin_text (roll-Margin (record { own = own; outer = None })) ≡ []
-margin_text-none own none = fold-roll-Margin (List ℕ) margin_step _ ∙ none
-
 -- what holds of the nodes of a page, with no margin and one frame, holds of its tree over its data
-pub page_holds : (own : Bor (List ℕ)) (d : Bor Data) (ns ms : List Node) (texts : Partials) (P : Meaning → Type 0) → own.now ≡ [] → ns ≡ ms → HasBlankIndents (tree_view [] ms)
-    → (AreBlank (margin_text (roll-Margin (record { own = own; outer = None }))) → HasBlankIndents (tree_view [] ns)
-    → P (meaning_to 32 texts (tree_view (margin_text (roll-Margin (record { own = own; outer = None }))) ns) (stack_of (roll-Frame (record { «data» = d; below = None })))))
+pub page_holds : (d : Bor Data) (ns ms : List Node) (texts : Partials) (P : Meaning → Type 0) → ns ≡ ms → HasBlankIndents (tree_view [] ms)
+    → (AreBlank [] → HasBlankIndents (tree_view [] ns) → P (meaning_to 32 texts (tree_view [] ns) (stack_of (roll-Frame (record { «data» = d; below = None })))))
     → P (meaning_to 32 texts (tree_view [] ms) (data_view d.now ∷ []))
-page_holds own d ns ms texts P empty same indents h =
-    let none = margin_text-none own empty in
+page_holds d ns ms texts P same indents h =
     subst (λ ns. P (meaning_to 32 texts (tree_view [] ns) (data_view d.now ∷ []))) same
-    (subst (λ stack. P (meaning_to 32 texts (tree_view [] ns) stack)) (stack_of-one d)
-    (subst (λ w. P (meaning_to 32 texts (tree_view w ns) (stack_of (roll-Frame (record { «data» = d; below = None }))))) none
-    (h (subst AreBlank (sym none) refl) (subst (λ ns. HasBlankIndents (tree_view [] ns)) (sym same) indents))))
+    (subst (λ stack. P (meaning_to 32 texts (tree_view [] ns) stack)) (stack_of-one d) (h refl (subst (λ ns. HasBlankIndents (tree_view [] ns)) (sym same) indents)))

@@ -1,5 +1,5 @@
 -- The blanks that a margin stands for.
-use Rattle.std.specs.Prelude.{ℕ, Bool, true, false, List, [], ◌++◌, Option, None, Some}
+use Rattle.std.specs.Prelude.{ℕ, Bool, true, false, List, [], ◌++◌, Option, None, Some, option_copied}
 use Rattle.std.specs.Borrow.{Bor}
 use Rattle.render.specs.declared.margin.Margin.{Margin, fold-Margin}
 use Rattle.render.specs.declared.margin.Margin.TheOpen.{Margin-F}
@@ -14,6 +14,15 @@ margin_step m = outer_of m.outer ++ m.own.now
 -- the outer ones before its own
 abbrev pub margin_text : Margin → List ℕ
 margin_text = fold-Margin (List ℕ) margin_step
+
+-- none where there is no margin
+abbrev pub margin_of : Option Margin → List ℕ
+margin_of None = []
+margin_of (Some m) = margin_text m
+
+-- and of one that is lent
+abbrev pub margin_at : Option (Bor Margin) → List ℕ
+margin_at m = margin_of (option_copied m)
 
 -- a margin stands before what begins a line
 abbrev pub lead : List ℕ → Bool → List ℕ

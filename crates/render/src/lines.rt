@@ -1,11 +1,11 @@
 ghost use Rattle.std.specs.Prelude.{◌≡◌, ◌<◌, ◌||◌, ◌&&◌, ◌==◌, not, true, Bool, List, ℕ, IfSome, MatchOption, ◌∷◌, ◌++◌, length};
 ghost use Rattle.mustache_parse.specs.Margin.{literal_under};
-ghost use Rattle.render.specs.Margin.{lead, margin_text};
+ghost use Rattle.render.specs.Margin.{lead, margin_text, margin_at};
 ghost use Rattle.render.specs.Meaning.{prints};
 ghost use Rattle.render.specs.Rendering.{Adds};
 
 use crate::fault::RenderFault;
-use crate::margin::{Margin, is_none, print_line};
+use crate::margin::{Margin, print_line};
 use crate::output::Output;
 
 /// The first line, without its newline, and what follows it; nothing where the text has no newline.
@@ -44,13 +44,13 @@ pub(crate) fn print_text(
     text: &str,
     leads: bool,
     trails: bool,
-    margin: &Margin<'_>,
+    margin: Option<&Margin<'_>>,
     out: &mut Output,
 ) -> Result<(), RenderFault>
-    ensures { Adds out.old out.new (prints (literal_under (margin_text margin.now) leads trails text.now)) result }
+    ensures { Adds out.old out.new (prints (literal_under (margin_at margin.entry) leads trails text.now)) result }
 {
-    if is_none(margin) {
-        return out.print(text);
+    match margin {
+        None => out.print(text),
+        Some(margin) => print_lines(text, leads, trails, margin, out),
     }
-    print_lines(text, leads, trails, margin, out)
 }

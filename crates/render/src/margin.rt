@@ -1,6 +1,6 @@
-ghost use Rattle.std.specs.Prelude.{◌≡◌, true, [], ◌++◌};
+ghost use Rattle.std.specs.Prelude.{◌≡◌, ◌++◌};
 ghost use Rattle.mustache_parse.specs.View.{own_under};
-ghost use Rattle.render.specs.Margin.{lead, margin_text};
+ghost use Rattle.render.specs.Margin.{lead, margin_text, margin_of, margin_at};
 ghost use Rattle.render.specs.Meaning.{prints};
 ghost use Rattle.render.specs.Rendering.{Adds};
 
@@ -15,27 +15,21 @@ pub(crate) struct Margin<'a> {
 }
 
 /// The margin of a partial under another: longer by its own blanks where its tag is standalone, the same where it has none, else none.
-pub(crate) fn margin_within<'a>(own: &'a Option<String>, outer: &'a Margin<'a>) -> Margin<'a>
-    ensures { margin_text result ≡ own_under (margin_text outer.now) own.now }
+#[tactic(auto, using(crate::proofs::Margins::longer))]
+pub(crate) fn margin_within<'a>(
+    own: &'a Option<String>,
+    outer: Option<&'a Margin<'a>>,
+) -> Option<Margin<'a>>
+    ensures { margin_of result ≡ own_under (margin_at outer.entry) own.now }
 {
     match own {
-        Some(own) if own.is_empty() => *outer,
-        Some(own) => Margin {
+        Some(own) if own.is_empty() => outer.copied(),
+        Some(own) => Some(Margin {
             own: own.as_str(),
-            outer: Some(outer),
-        },
-        None => Margin {
-            own: "",
-            outer: None,
-        },
+            outer,
+        }),
+        None => None,
     }
-}
-
-/// Whether a margin is that of a page or of an inline partial. One of empty parts may be taken for longer.
-pub(crate) fn is_none(margin: &Margin<'_>) -> bool
-    ensures { result ≡ true → margin_text margin.now ≡ [] }
-{
-    margin.own.is_empty() && margin.outer.is_none()
 }
 
 /// Prints a margin, the outermost blanks first. It is paid for by its bytes, and no deeper than partials nest.

@@ -6,7 +6,7 @@ ghost use Rattle.mustache_parse.specs.Tree.{nothing};
 ghost use Rattle.mustache_parse.specs.View.{node_onto, tree_view, own_under};
 ghost use Rattle.mustache_parse.specs.BlankIndents.{HasBlankIndents};
 ghost use Rattle.mustache_parse.specs.Indenting.{AreBlank};
-ghost use Rattle.render.specs.Margin.{margin_text};
+ghost use Rattle.render.specs.Margin.{margin_at};
 ghost use Rattle.render.specs.Printed.{printed, escaped};
 ghost use Rattle.render.specs.Meaning.{and_then, costs_one, prints, for_each, where_none, Partials as Texts, meaning_to};
 ghost use Rattle.render.specs.Rendering.{Adds, called_at};
@@ -24,7 +24,7 @@ use mustache_parse::Node;
 /// Where nodes are printed: under which margin, over which frame, with which partials, and how many more of these may nest.
 #[derive(Drop)]
 pub(crate) struct Place<'a, P: Partials> {
-    pub margin: &'a Margin<'a>,
+    pub margin: Option<&'a Margin<'a>>,
     pub frame: &'a Frame<'a>,
     pub partials: &'a P,
     pub depth: u32,
@@ -63,8 +63,8 @@ pub(crate) fn render_nodes<P: Partials>(
     place: &Place<'_, P>,
     out: &mut Output,
 ) -> Result<(), RenderFault>
-    ensures adds { (texts : Texts) → P.stands place.now.partials.now texts → AreBlank (margin_text place.now.margin.now) → HasBlankIndents (tree_view [] nodes.now)
-        → Adds out.old out.new (meaning_to place.now.depth texts (tree_view (margin_text place.now.margin.now) nodes.now) (stack_of place.now.frame.now)) result }
+    ensures adds { (texts : Texts) → P.stands place.now.partials.now texts → AreBlank (margin_at place.now.margin) → HasBlankIndents (tree_view [] nodes.now)
+        → Adds out.old out.new (meaning_to place.now.depth texts (tree_view (margin_at place.now.margin) nodes.now) (stack_of place.now.frame.now)) result }
     ensures spent { OnOk result (out.new.left ≤ out.old.left) }
 {
     for node in nodes {
@@ -79,8 +79,8 @@ fn render_node<P: Partials>(
     place: &Place<'_, P>,
     out: &mut Output,
 ) -> Result<(), RenderFault>
-    ensures adds { (texts : Texts) → P.stands place.now.partials.now texts → AreBlank (margin_text place.now.margin.now) → HasBlankIndents (node_onto [] node.now nothing)
-        → Adds out.old out.new (meaning_to place.now.depth texts (node_onto (margin_text place.now.margin.now) node.now nothing) (stack_of place.now.frame.now)) result }
+    ensures adds { (texts : Texts) → P.stands place.now.partials.now texts → AreBlank (margin_at place.now.margin) → HasBlankIndents (node_onto [] node.now nothing)
+        → Adds out.old out.new (meaning_to place.now.depth texts (node_onto (margin_at place.now.margin) node.now nothing) (stack_of place.now.frame.now)) result }
     ensures spent { OnOk result (out.new.left ≤ out.old.left) }
 {
     match node {
@@ -116,8 +116,8 @@ fn render_items<P: Partials>(
     place: &Place<'_, P>,
     out: &mut Output,
 ) -> Result<(), RenderFault>
-    ensures adds { (texts : Texts) → P.stands place.now.partials.now texts → AreBlank (margin_text place.now.margin.now) → HasBlankIndents (tree_view [] block.now)
-        → Adds out.old out.new (for_each (λ v. meaning_to place.now.depth texts (tree_view (margin_text place.now.margin.now) block.now) (v ∷ stack_of place.now.frame.now)) (map data_view pushed.now)) result }
+    ensures adds { (texts : Texts) → P.stands place.now.partials.now texts → AreBlank (margin_at place.now.margin) → HasBlankIndents (tree_view [] block.now)
+        → Adds out.old out.new (for_each (λ v. meaning_to place.now.depth texts (tree_view (margin_at place.now.margin) block.now) (v ∷ stack_of place.now.frame.now)) (map data_view pushed.now)) result }
     ensures spent { OnOk result (out.new.left ≤ out.old.left) }
 {
     for item in pushed {
@@ -143,8 +143,8 @@ fn render_where_none<P: Partials>(
     place: &Place<'_, P>,
     out: &mut Output,
 ) -> Result<(), RenderFault>
-    ensures adds { (texts : Texts) → P.stands place.now.partials.now texts → AreBlank (margin_text place.now.margin.now) → HasBlankIndents (tree_view [] block.now)
-        → Adds out.old out.new (where_none (meaning_to place.now.depth texts (tree_view (margin_text place.now.margin.now) block.now) (stack_of place.now.frame.now)) (map data_view found.now)) result }
+    ensures adds { (texts : Texts) → P.stands place.now.partials.now texts → AreBlank (margin_at place.now.margin) → HasBlankIndents (tree_view [] block.now)
+        → Adds out.old out.new (where_none (meaning_to place.now.depth texts (tree_view (margin_at place.now.margin) block.now) (stack_of place.now.frame.now)) (map data_view found.now)) result }
     ensures spent { OnOk result (out.new.left ≤ out.old.left) }
 {
     if found.is_empty() {
@@ -162,8 +162,8 @@ fn render_partial<P: Partials>(
     place: &Place<'_, P>,
     out: &mut Output,
 ) -> Result<(), RenderFault>
-    ensures adds { (texts : Texts) → P.stands place.now.partials.now texts → AreBlank (margin_text place.now.margin.now) → AreBlank (own_under (margin_text place.now.margin.now) own.now)
-        → Adds out.old out.new (called_at place.now.depth texts name.now (own_under (margin_text place.now.margin.now) own.now) (stack_of place.now.frame.now)) result }
+    ensures adds { (texts : Texts) → P.stands place.now.partials.now texts → AreBlank (margin_at place.now.margin) → AreBlank (own_under (margin_at place.now.margin) own.now)
+        → Adds out.old out.new (called_at place.now.depth texts name.now (own_under (margin_at place.now.margin) own.now) (stack_of place.now.frame.now)) result }
     ensures spent { OnOk result (out.new.left ≤ out.old.left) }
 {
     let Some(found) = place.partials.find(name) else {
@@ -172,10 +172,10 @@ fn render_partial<P: Partials>(
     let Some(depth) = place.depth.checked_sub(1) else {
         return Err(RenderFault::OverLimit);
     };
-    let margin = margin_within(&*own, &*place.margin);
+    let margin = margin_within(&*own, place.margin);
     let within = Place {
         depth,
-        margin: &margin,
+        margin: margin.as_ref(),
         ..*place
     };
     render_nodes(found.nodes(), &within, out)

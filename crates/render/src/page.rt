@@ -4,7 +4,6 @@ ghost use Rattle.mustache_parse.specs.Template.{template_tree};
 ghost use Rattle.render.specs.Meaning.{Partials as Texts, rendering};
 
 use crate::fault::RenderFault;
-use crate::margin::Margin;
 use crate::nodes::{Place, render_nodes};
 use crate::output::Output;
 use crate::partials::Partials;
@@ -32,12 +31,8 @@ pub fn render<P: Partials>(
         data: page_data,
         below: None,
     };
-    let margin = Margin {
-        own: "",
-        outer: None,
-    };
     let place = Place {
-        margin: &margin,
+        margin: None,
         frame: &frame,
         partials,
         depth: MAX_NESTED,

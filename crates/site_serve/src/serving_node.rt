@@ -39,8 +39,11 @@ impl<D: Disk> Service for Served<D> {
             Err(NodeFault::NotACommand(fault)) => Err(SubmitFault::Command(fault)),
             Err(NodeFault::QueueFull) => Err(SubmitFault::Busy),
             Err(NodeFault::Stopped) => Err(SubmitFault::Stopped),
-            // No other fault comes of a submission.
-            Err(_) => Err(SubmitFault::OutOfMemory),
+            Err(NodeFault::OutOfMemory) => Err(SubmitFault::OutOfMemory),
+            Err(NodeFault::Device) => unreachable!(),
+            Err(NodeFault::InstancesUsedUp) => unreachable!(),
+            Err(NodeFault::RoundsUsedUp) => unreachable!(),
+            Err(NodeFault::Conflict) => unreachable!(),
         }
     }
 }

@@ -1,4 +1,4 @@
-use Rattle.std.proofs.Common.{◌≡◌, ◌≢◌, ℕ, ◌<◌, false, List, [], ◌∷◌, ◌++◌, length, get_or, nat_eq, Option, Some, None, Bor, MatchOption, IfSome, refl, ap, ◌∙◌, arith, lit<, length-append}
+use Rattle.std.proofs.Common.{◌≡◌, ◌≢◌, ℕ, ◌<◌, false, List, [], ◌∷◌, ◌++◌, length, get_or, nat_eq, Option, Some, None, Bor, MatchOption, IfSome, refl, sym, ap, ◌∙◌, arith, lit<, length-append}
 use Rattle.std.proofs.lemmas.List.{get_or_default}
 use Rattle.std.proofs.lemmas.List.Splits.{slice_split_none, slice_split_at}
 use Rattle.std.proofs.lemmas.Str.Pattern.{split_parts}
@@ -31,3 +31,6 @@ returns-clause-parts c = in_parts c.args.path.now c.split_once.result (cuts c)
 
 pub returns-clause-shorter : goal.returns-clause-shorter
 returns-clause-shorter c = shorter c.args.path.now c.split_once.result (cuts c)
+
+pub returns-then-not-contains-clause-parts : goal.returns-then-not-contains-clause-parts
+returns-then-not-contains-clause-parts c = rw (sym c.as_bytes.ensures.value) (slice_split_none (λ b. nat_eq b 46) c.as_bytes.result.now (λ k d below. c.if-not-contains.ensures.cases k d (omega arith) below))

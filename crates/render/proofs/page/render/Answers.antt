@@ -1,4 +1,4 @@
-use Rattle.std.proofs.Common.{◌≡◌, [], ◌∷◌, Err, refl, subst, ◌∙◌}
+use Rattle.std.proofs.Common.{◌≡◌, [], ◌∷◌, Err, subst, ◌∙◌}
 use Rattle.mustache_parse.specs.Template.{template_tree}
 use Rattle.context.specs.View.{data_view}
 use Rattle.render.specs.Rendering.{Adds, IsPaid}
@@ -17,7 +17,7 @@ returns-in-Err-clause-over g c e texts stands =
     rendering-is texts (template_tree [] c.args.template.now) (data_view c.args.page_data.now)
     ∙ exceeds_page old.left m c.new-out.ensures.all
     (subst (λ f. Adds old new m (Err f)) is
-    (page_holds _ c.args.page_data c.nodes.result.now c.args.template.now.nodes texts (λ m. Adds old new m (Err c.in-Err.fault)) refl c.nodes.ensures.nodes c.nodes.ensures.blanks (c.in-Err.ensures.adds texts stands)))
+    (page_holds c.args.page_data c.nodes.result.now c.args.template.now.nodes texts (λ m. Adds old new m (Err c.in-Err.fault)) c.nodes.ensures.nodes c.nodes.ensures.blanks (c.in-Err.ensures.adds texts stands)))
 
 pub returns-in-Ok-clause-text : goal.returns-in-Ok-clause-text
 returns-in-Ok-clause-text g c texts stands =
@@ -25,4 +25,4 @@ returns-in-Ok-clause-text g c texts stands =
     let new = c.render_nodes.new.out in
     rendering-is texts (template_tree [] c.args.template.now) (data_view c.args.page_data.now)
     ∙ paid_page old new _ c.new-out.ensures.empty c.new-out.ensures.all
-    (page_holds _ c.args.page_data c.nodes.result.now c.args.template.now.nodes texts (λ m. IsPaid old new m) refl c.nodes.ensures.nodes c.nodes.ensures.blanks (c.in-Ok.ensures.adds texts stands))
+    (page_holds c.args.page_data c.nodes.result.now c.args.template.now.nodes texts (λ m. IsPaid old new m) c.nodes.ensures.nodes c.nodes.ensures.blanks (c.in-Ok.ensures.adds texts stands))

@@ -9,7 +9,7 @@ use Rattle.node.specs.Tickets.{IsHeld, HoldsTicket}
 use Rattle.node.specs.Waiting.{AreWaiting}
 use Rattle.node.proofs.Queueing.{is_true, true_is, held_by}
 use Rattle.node.proofs.Stepping.{is_up, same_store, stays_there, whole, refused, wants_memory}
-use Rattle.node.proofs.Unread.{not_submitted}
+use Rattle.node.proofs.Unread.{not_submitted, is_cause}
 use Rattle.node.proofs.running.Node.submit.Goals as goal
 
 off : true ≡ false → ⊥
@@ -123,3 +123,6 @@ returns-clause-event g c =
       };
       on_disk = stays_there stands_for old _ s (queued s v) (record { me = refl; cluster = refl; releases = refl }) (same_store old.store old.store refl) refl refl;
     })
+
+pub returns-in_err-ticket-clause-cause : goal.returns-in_err-ticket-clause-cause
+returns-in_err-ticket-clause-cause g c = is_cause c.args.value.now c.in_err-ticket.field-0.0 c.from_residual.result c.from_residual.ensures.1 c.in_err-ticket.ensures

@@ -1,0 +1,27 @@
+-- Tallies: what each says, and what one vote more makes of them.
+use Rattle.std.specs.Prelude.{◌≡◌, ◌↔◌, ◌⊎◌, ℕ, Some, List, [], ◌∷◌, slice_get, take}
+use Rattle.site_ids.specs.Ids.{BallotOf}
+use Rattle.site_ids.specs.Lists.{In}
+use Rattle.learner.specs.declared.tallies.Tally.{Tally}
+use Rattle.learner.specs.Masks.{HasNode}
+
+-- the tally is of v at ballot b
+abbrev pub IsOf : Tally → BallotOf → List ℕ → Type 0
+IsOf tally b v = (tally.ballot ≡ b) × (tally.value ≡ v)
+
+-- none is of v at b
+abbrev pub HasNoneOf : List Tally → BallotOf → List ℕ → Type 0
+HasNoneOf tallies b v = (x : Tally) → In tallies x → ¬ IsOf x b v
+
+-- the first of v at b has place k
+abbrev pub IsFirstOf : List Tally → ℕ → BallotOf → List ℕ → Type 0
+IsFirstOf tallies k b v = (x : Tally) × (slice_get tallies k ≡ Some x) × IsOf x b v × HasNoneOf (take k tallies) b v
+
+-- node p told v at b: it is one of those that the first tally of them has
+abbrev pub HasTold : List Tally → ℕ → BallotOf → List ℕ → Type 0
+HasTold [] p b v = ⊥
+HasTold (x ∷ xs) p b v = (IsOf x b v × HasNode x.nodes p) ⊎ ((¬ IsOf x b v) × HasTold xs p b v)
+
+-- what the old tallies say, and that p told v at b
+abbrev pub AddsTold : List Tally → List Tally → ℕ → BallotOf → List ℕ → Type 0
+AddsTold old new p b v = (q : ℕ) (c : BallotOf) (w : List ℕ) → HasTold new q c w ↔ (HasTold old q c w ⊎ ((q ≡ p) × (c ≡ b) × (w ≡ v)))

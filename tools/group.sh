@@ -1,0 +1,62 @@
+# A group of nodes on loopback, for bash scripts that source it: `group=FOLDER; sited=PROGRAM; make_group 3`, then `start_node P`, `url P`,
+# `kill_node P`, `end_group`. Record files, logs and process numbers lie in FOLDER.
+
+# a port that the system picks, and that nobody has now
+free_port() {
+    local inode port
+    exec 9<> /dev/udp/127.0.0.1/9
+    inode=$(readlink "/proc/$BASHPID/fd/9")
+    inode=${inode#socket:[}
+    port=$(awk -v inode="${inode%]}" '$10 == inode { split($2, local, ":"); print local[2] }' /proc/net/udp)
+    exec 9>&-
+    echo $((16#$port))
+}
+
+# addresses for so many nodes: N
+make_group() {
+    local p
+    udp=()
+    http=()
+    for ((p = 1; p <= $1; p++)); do
+        udp+=("127.0.0.1:$(free_port)")
+        http+=("127.0.0.1:$(free_port)")
+    done
+}
+
+url() { echo "http://${http[$1 - 1]}"; }
+
+# the number of a node's process: P
+process() { cat "$group/$1.pid"; }
+
+# is it there still: P
+runs() { [ -e "$group/$1.pid" ] && kill -0 "$(process "$1")" 2> /dev/null; }
+
+# starts a node over its record file, which is formatted where it is empty or absent, and waits until it is ready: P
+start_node() {
+    local p=$1 k
+    : > "$group/$p.out"
+    "$sited" --id "$p" --record "$group/$p.record" --http "${http[p - 1]}" --rounds 4294967295 --format ${options:-} "${udp[@]}" > "$group/$p.out" 2> "$group/$p.err" < /dev/null &
+    echo $! > "$group/$p.pid"
+    for ((k = 0; k < 100; k++)); do
+        grep -q "^node $p ready" "$group/$p.out" && return
+        runs "$p" || break
+        sleep 0.1
+    done
+    echo "node $p: $(cat "$group/$p.err")" >&2
+    return 1
+}
+
+# ends a node at once, as a crash of its machine does but for the disk: P
+kill_node() {
+    kill -KILL "$(process "$1")" 2> /dev/null || true
+    wait "$(process "$1")" 2> /dev/null || true
+    rm -f "$group/$1.pid"
+}
+
+# ends every node
+end_group() {
+    local p
+    for ((p = 1; p <= ${#udp[@]}; p++)); do
+        if [ -e "$group/$p.pid" ]; then kill_node "$p"; fi
+    done
+}
