@@ -1,8 +1,8 @@
 -- Whole runs of a script.
-use Rattle.std.proofs.Common.{◌≡◌, ℕ, ◌+◌, List, [], ◌∷◌, ◌++◌, length, Option, Some, None, Bool, true, false, Result, Ok, Err, Vec, Global, codes, refl, sym, ap, ◌∙◌, subst, inl, inr, arith, append_assoc, append-nil, length-append}
+use Rattle.std.proofs.Common.{◌≡◌, ℕ, ◌+◌, List, [], ◌∷◌, ◌++◌, length, Option, Some, None, Bool, Result, Ok, Err, Vec, Global, codes, refl, sym, ap, ◌∙◌, subst, inl, inr, arith, append_assoc, append-nil, length-append}
 use Rattle.std.specs.List.{flat_map, AllByRecursion}
 use Rattle.std.specs.Io.KnownBytes.{Consumes, Appends, IsAtEnd}
-use Rattle.std.proofs.KnownBytes.{Consumes-trans, Consumes-nil, Appends-trans, Appends-nil, Keeps-refl}
+use Rattle.std.proofs.KnownBytes.{Consumes-trans, Consumes-nil, Appends-trans, Appends-nil}
 use Rattle.std.proofs.lemmas.List.Concat.{flat_map-append}
 use Rattle.http_read.specs.Bytes.{End, IsSound, IsSilent, IsWritten, IsBroken, IsGiven}
 use Rattle.http_read.specs.Counted.{RoseByOne}
@@ -12,10 +12,10 @@ use Rattle.sitectl.specs.declared.ends.InputFault.{InputFault}
 use Rattle.sitectl.specs.declared.ends.InputFault.TheVariants as input
 use Rattle.sitectl.specs.declared.server_fault.ServerFault.{ServerFault}
 use Rattle.sitectl.specs.declared.server_fault.ServerFault.TheVariants as server
-use Rattle.sitectl.specs.Running.{Prints, PrintsAll, HasDone, HasRun, HasBadLine, IsFault}
+use Rattle.sitectl.specs.Running.{Prints, PrintsAll, HasDone, HasRun, IsFault}
 use Rattle.sitectl.specs.RunSteps.{HasStepped, FillEnds, NextEnds, IsSaid, of_input, of_servers}
 use Rattle.sitectl.specs.Script.{Line, spelled, Fits}
-use Rattle.sitectl.specs.Stepping.{Grown, HasTaken, ReadEnds}
+use Rattle.sitectl.specs.Stepping.{Grown, ReadEnds}
 use Rattle.sitectl.proofs.Simulating.{taken_then}
 
 -- ---- one line more

@@ -8,7 +8,7 @@ use Rattle.sitectl.specs.Words.{IsCut, Lacks}
 use Rattle.sitectl.specs.Schedule.{joined}
 use Rattle.sitectl.specs.Laws.{OneScriptLine}
 use Rattle.sitectl.specs.Script.{Line, post_line, get_line, turns_line, drive_line, post_words, words, body, spelled, FitsPost, Fits, HasNoLine, GetsNoLine}
-use Rattle.sitectl.proofs.Cutting.{Same, lacks-append, lacks-cons, no_cut, one_cut}
+use Rattle.sitectl.proofs.Cutting.{Same, no_cut, one_cut}
 use Rattle.sitectl.proofs.Frames.{lacks-decimal}
 use Rattle.sitectl.proofs.LineLemmas.{same_submission, number_cut, one_word}
 use Rattle.sitectl.proofs.ScheduleLemmas.{lacks-last, lacks-number, lacks-behind, begins_so, behind_text, cut_more, HasText}

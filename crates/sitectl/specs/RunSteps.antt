@@ -1,5 +1,5 @@
 -- What the steps of a script's run make of the bytes that were read.
-use Rattle.std.specs.Prelude.{ℕ, ◌≡◌, ◌≢◌, ◌⊎◌, List, [], ◌++◌, Bool, true, false, Option, Some, None, Result, Ok, Err, Vec, codes}
+use Rattle.std.specs.Prelude.{ℕ, ◌≡◌, ◌⊎◌, List, [], ◌++◌, Bool, true, false, Option, Some, None, Result, Ok, Err, Vec, codes}
 use Rattle.std.specs.declared.alloc.Global.{Global}
 use Rattle.std.specs.Io.KnownBytes.{IsAtEnd}
 use Rattle.http_read.specs.Bytes.{End, HasFailed, IsSound}
@@ -10,7 +10,7 @@ use Rattle.sitectl.specs.declared.ends.InputFault.TheVariants as input
 use Rattle.sitectl.specs.declared.server_fault.ServerFault.{ServerFault}
 use Rattle.sitectl.specs.declared.server_fault.ServerFault.TheVariants as server
 use Rattle.sitectl.specs.Running.{Prints, HasBadLine}
-use Rattle.sitectl.specs.Script.{Line, spelled, Fits, HasNoLine, GetsNoLine}
+use Rattle.sitectl.specs.Script.{Line, spelled, Fits}
 use Rattle.sitectl.specs.SimulationEnds.{fault_at}
 use Rattle.sitectl.specs.Stepping.{Grown, HasTaken}
 
