@@ -37,7 +37,7 @@ start_node() {
     : > "$group/$p.out"
     "$sited" --id "$p" --record "$group/$p.record" --http "${http[p - 1]}" --rounds 4294967295 --format ${options:-} "${udp[@]}" > "$group/$p.out" 2> "$group/$p.err" < /dev/null &
     echo $! > "$group/$p.pid"
-    for ((k = 0; k < 100; k++)); do
+    for ((k = 0; k < 300; k++)); do
         grep -q "^node $p ready" "$group/$p.out" && return
         runs "$p" || break
         sleep 0.1
