@@ -1,6 +1,6 @@
 -- Whole runs of a server.
-use Rattle.std.proofs.Common.{◌≡◌, ℕ, List, ◌++◌, Option, Result, Ok, Err, sym, ap, subst, ◌∙◌, inl, inr, append_assoc}
-use Rattle.std.specs.Result.{IsErrAnd}
+use Rattle.std.proofs.Common.{◌≡◌, ◌⊎◌, ℕ, List, ◌++◌, Option, Result, Ok, Err, sym, ap, subst, ◌∙◌, inl, inr, append_assoc}
+use Rattle.std.specs.Result.{IsErrAnd, IfErr}
 use Rattle.std.proofs.KnownBytes.{Appends-trans}
 use Rattle.http_read.specs.Bytes.{End, IsWritten, IsGiven}
 use Rattle.http_read.specs.Counted.{RoseByOne}
@@ -8,6 +8,7 @@ use Rattle.site_serve.specs.Halts.{IsSaid}
 use Rattle.site_serve.specs.Placing.{IsPlaced}
 use Rattle.site_serve.specs.Running.{ready_line, done_line, HaltsAt, HaltsReady, DoneEnds, HaltsWork, WorkEnds, RunEnds, HasServed}
 use Rattle.site_serve.specs.declared.halt.Halt.{Halt}
+use Rattle.site_serve.specs.declared.halt.Halt.TheVariants as halt
 use Rattle.site_serve.specs.declared.serve_options.ServeOptions.{ServeOptions}
 
 -- it was not ready, as memory was wanted or the writer failed
@@ -40,6 +41,16 @@ ends_done a b c f g h p (Err why) ready (same, broken) =
         failed = subst (λ u. RoseByOne u h) ready.sound broken.failed;
       },
     ))
+
+-- memory or the writer keeps the first line from being written
+pub ready_halts : (out : End) (p : ℕ) (why : Halt) → HaltsReady out p why → (why ≡ halt.OutOfMemory) ⊎ (why ≡ halt.Write)
+ready_halts out p why (inl (same, silent)) = inl same
+ready_halts out p why (inr (same, broken)) = inr same
+
+-- only the writer keeps the last line from being written
+pub done_halts : {T : Type 0} (out : End) (r : Result T Halt) → DoneEnds out r → IfErr r (λ why. why ≡ halt.Write)
+done_halts out (Ok u) done = tt
+done_halts out (Err why) (same, broken) = same
 
 -- the halt that a `?` passes on
 pub passed_on : {T : Type 0} (out : End) (p : ℕ) (r : Result T Halt) (why : Halt) → IsErrAnd r (λ y. y ≡ why) → HaltsWork out p why → WorkEnds out p r

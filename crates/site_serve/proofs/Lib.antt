@@ -1,3 +1,4 @@
 pub mod Serving
 pub mod Placed
+pub mod ManyRounds
 pub mod Ending

@@ -1,5 +1,5 @@
 -- Addresses read one after the other.
-use Rattle.std.proofs.Common.{◌≡◌, ◌<◌, ◌≤◌, ℕ, zero, suc, List, [], ◌∷◌, length, take, get_or, refl, subst, inl, inr, arith}
+use Rattle.std.proofs.Common.{◌<◌, ◌≤◌, ℕ, zero, suc, List, [], ◌∷◌, length, take, get_or, refl, subst, inl, inr, arith}
 use Rattle.site_ids.specs.Lists.{In}
 use Rattle.site_serve.specs.Placing.{IsAddress, AreAddresses}
 

@@ -1,4 +1,5 @@
 pub mod Served
 pub mod Halts
 pub mod Placing
+pub mod Rounds
 pub mod Running

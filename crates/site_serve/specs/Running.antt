@@ -1,7 +1,7 @@
 -- How a run of a server ends.
 use Rattle.std.specs.Prelude.{ℕ, ◌≡◌, ◌⊎◌, List, ◌++◌, codes, decimal, Result, Ok, Err}
 use Rattle.http_read.specs.Bytes.{End, IsSilent, IsWritten, IsBroken, IsGiven}
-use Rattle.site_serve.specs.Halts.{IsSaid, EndsOpening, EndsBinding, EndsRounds, line_of}
+use Rattle.site_serve.specs.Halts.{IsSaid, EndsOpening, EndsBinding, EndsRounds}
 use Rattle.site_serve.specs.Placing.{IsPlaced}
 use Rattle.site_serve.specs.declared.halt.Halt.{Halt}
 use Rattle.site_serve.specs.declared.halt.Halt.TheVariants as halt

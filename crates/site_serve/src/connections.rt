@@ -1,6 +1,8 @@
 //! Serves an accepted connection, and closes it.
 
 ghost use Rattle.std.specs.Prelude.{◌≡◌, IfErr};
+ghost use Rattle.http_serve.specs.Services.{MaySubmit};
+ghost use Rattle.site_serve.specs.Served.{offered};
 
 use crate::halt::Halt;
 use crate::requests::serve_request;
@@ -36,7 +38,8 @@ pub(crate) fn serve_connection<D: Disk>(
     stream: TcpStream,
     served: &mut Served<D>,
 ) -> Result<(), Halt>
-    ensures { IfErr result (λ why. why ≡ Halt.OutOfMemory) }
+    ensures taken { MaySubmit offered served.old served.new }
+    ensures fault { IfErr result (λ why. why ≡ Halt.OutOfMemory) }
 {
     let mut reader = Counted::new(&stream);
     let mut writer = Counted::new(&stream);

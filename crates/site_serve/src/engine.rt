@@ -1,8 +1,10 @@
 //! A server: its parts opened in order, and its rounds.
 
-ghost use Rattle.std.specs.Prelude.{OnOk, IfErr};
+ghost use Rattle.std.specs.Prelude.{OnOk, IfErr, ◌+◌, ◌*◌};
 ghost use Rattle.http_read.specs.Bytes.{end_of};
+ghost use Rattle.site_drive.specs.Leading.{LeadsTo};
 ghost use Rattle.site_serve.specs.Placing.{IsPlaced};
+ghost use Rattle.site_serve.specs.Rounds.{TakesRounds, BreaksWork};
 ghost use Rattle.site_serve.specs.Running.{EndsBefore, WorkEnds, RunEnds, HasServed};
 
 use crate::ServeOptions;
@@ -15,7 +17,8 @@ use crate::served::Served;
 use crate::sockets::open_sockets;
 use crate::watch::Watch;
 use http_read::Counted;
-use site_disk::FileDisk;
+use site_disk::{Disk, FileDisk};
+use site_drive::Link;
 use std::alloc::Global;
 use std::fs::File;
 use std::io::Write;
@@ -47,7 +50,9 @@ fn work<W: Write>(
     id: u8,
     rounds: u32,
 ) -> Result<(), Halt>
-    ensures { WorkEnds (end_of W.contents out.old out.new) id result }
+    ensures said { WorkEnds (end_of W.contents out.old out.new) id result }
+    ensures rounds { OnOk result (LeadsTo ⟦<FileDisk as Disk>⟧.stands_for ⟦<Watch as Link>⟧.received ⟦<Watch as Link>⟧.given served.old.node served.new.node watch.old watch.new (TakesRounds served.old.node.cluster served.old.node.me (40 + 10 * id) rounds served.new.node.releases)) }
+    ensures halted { IfErr result (λ why. LeadsTo ⟦<FileDisk as Disk>⟧.stands_for ⟦<Watch as Link>⟧.received ⟦<Watch as Link>⟧.given served.old.node served.new.node watch.old watch.new (BreaksWork served.old.node.cluster served.old.node.me (40 + 10 * id) rounds why)) }
 {
     say_ready(alloc, out, id)?;
     take_rounds(alloc, served, watch, turns_of(id), rounds)?;

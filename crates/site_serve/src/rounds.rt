@@ -1,14 +1,19 @@
 //! The rounds of a server.
 
-ghost use Rattle.std.specs.Prelude.{◌≡◌, ◌+◌, ◌*◌, IfErr};
+ghost use Rattle.std.specs.Prelude.{◌≡◌, ◌≤◌, ◌+◌, ◌*◌, ℕ, IfErr, OnOk, OnErr};
+ghost use Rattle.http_serve.specs.Services.{MaySubmit};
+ghost use Rattle.site_drive.specs.Leading.{LeadsTo, StaysWhose};
+ghost use Rattle.site_drive.specs.Links.{RoseBy};
 ghost use Rattle.site_serve.specs.Halts.{EndsRounds};
+ghost use Rattle.site_serve.specs.Rounds.{TakesRound, TakesRounds, BreaksRound, BreaksRounds};
+ghost use Rattle.site_serve.specs.Served.{offered};
 
 use crate::connections::serve_connection;
 use crate::halt::Halt;
 use crate::served::Served;
 use crate::watch::Watch;
 use site_disk::Disk;
-use site_drive::drive;
+use site_drive::{Link, drive};
 use std::alloc::Global;
 
 /// How many turns the drives of a node's rounds have.
@@ -18,24 +23,38 @@ pub(crate) fn turns_of(node: u8) -> u32
     40 + 10 * node as u32
 }
 
-/// One drive, and then one connection served, where one is there.
+/// One connection served, where one is there.
 ///
 /// A submission that was taken while nothing waited hurries the next drive, so that its tick comes at once.
-fn take_round<D: Disk>(
-    alloc: Global,
-    served: &mut Served<D>,
-    watch: &mut Watch,
-    turns: u32,
-) -> Result<(), Halt>
-    ensures { IfErr result EndsRounds }
+fn serve_one<D: Disk>(alloc: Global, served: &mut Served<D>, watch: &mut Watch) -> Result<(), Halt>
+    ensures taken { MaySubmit offered served.old served.new }
+    ensures link { watch.new.link ≡ watch.old.link }
+    ensures fault { IfErr result (λ why. why ≡ Halt.OutOfMemory) }
 {
-    drive(alloc, &mut served.node, watch, turns)?;
     let wanted = served.node.wants_tick();
     if let Some(stream) = watch.connection() {
         serve_connection(alloc, stream, served)?;
     }
     watch.set_hurry(!wanted && served.node.wants_tick());
     Ok(())
+}
+
+/// One drive, and then one connection served, where one is there.
+fn take_round<D: Disk>(
+    alloc: Global,
+    served: &mut Served<D>,
+    watch: &mut Watch,
+    turns: u32,
+) -> Result<(), Halt>
+    ensures ok { OnOk result (LeadsTo D.stands_for ⟦<Watch as Link>⟧.received ⟦<Watch as Link>⟧.given served.old.node served.new.node watch.old watch.new (TakesRound served.old.node.cluster served.old.node.me turns served.new.node.releases)) }
+    ensures fault { IfErr result (λ why. LeadsTo D.stands_for ⟦<Watch as Link>⟧.received ⟦<Watch as Link>⟧.given served.old.node served.new.node watch.old watch.new (BreaksRound served.old.node.cluster served.old.node.me turns why)) }
+    ensures ends { IfErr result EndsRounds }
+    ensures whose { StaysWhose served.old.node served.new.node }
+    ensures tried { OnOk result (RoseBy turns (⟦<Watch as Link>⟧.tried watch.old) (⟦<Watch as Link>⟧.tried watch.new)) }
+    ensures tried_fewer { OnErr result ((made : ℕ) × (made ≤ turns) × RoseBy made (⟦<Watch as Link>⟧.tried watch.old) (⟦<Watch as Link>⟧.tried watch.new)) }
+{
+    drive(alloc, &mut served.node, watch, turns)?;
+    serve_one(alloc, served, watch)
 }
 
 /// So many rounds.
@@ -46,7 +65,12 @@ pub(crate) fn take_rounds<D: Disk>(
     turns: u32,
     rounds: u32,
 ) -> Result<(), Halt>
-    ensures { IfErr result EndsRounds }
+    ensures ok { OnOk result (LeadsTo D.stands_for ⟦<Watch as Link>⟧.received ⟦<Watch as Link>⟧.given served.old.node served.new.node watch.old watch.new (TakesRounds served.old.node.cluster served.old.node.me turns rounds served.new.node.releases)) }
+    ensures fault { IfErr result (λ why. LeadsTo D.stands_for ⟦<Watch as Link>⟧.received ⟦<Watch as Link>⟧.given served.old.node served.new.node watch.old watch.new (BreaksRounds served.old.node.cluster served.old.node.me turns rounds why)) }
+    ensures ends { IfErr result EndsRounds }
+    ensures whose { StaysWhose served.old.node served.new.node }
+    ensures tried { OnOk result (RoseBy (rounds * turns) (⟦<Watch as Link>⟧.tried watch.old) (⟦<Watch as Link>⟧.tried watch.new)) }
+    ensures tried_fewer { OnErr result ((made : ℕ) × (made ≤ rounds * turns) × RoseBy made (⟦<Watch as Link>⟧.tried watch.old) (⟦<Watch as Link>⟧.tried watch.new)) }
 {
     for _ in 0..rounds {
         take_round(alloc, served, watch, turns)?;

@@ -50,7 +50,9 @@ impl Watch {
     }
 
     /// Whether receives wait for nothing, as long as no exchange may be in flight.
-    pub(crate) fn set_hurry(&mut self, hurry: bool) {
+    pub(crate) fn set_hurry(&mut self, hurry: bool)
+        ensures { self.new.link ≡ self.old.link }
+    {
         self.hurry = hurry;
     }
 
@@ -71,7 +73,9 @@ impl Watch {
     }
 
     /// The connection to serve, if there is one.
-    pub(crate) fn connection(&mut self) -> Option<TcpStream> {
+    pub(crate) fn connection(&mut self) -> Option<TcpStream>
+        ensures { self.new.link ≡ self.old.link }
+    {
         self.accept();
         self.held.take()
     }

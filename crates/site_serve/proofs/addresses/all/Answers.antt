@@ -1,4 +1,4 @@
-use Rattle.std.proofs.Common.{◌≡◌, ℕ, suc, ◌+◌, ◌∙◌, ap, subst, length, take, length-append, inl, arith}
+use Rattle.std.proofs.Common.{◌≡◌, suc, ◌+◌, ◌∙◌, ap, subst, length, take, length-append, inl, arith}
 use Rattle.site_drive.proofs.Results.{err_gives}
 use Rattle.site_serve.specs.Placing.{AreAddresses}
 use Rattle.site_serve.proofs.Placed.{in_at, next_address, all_addresses}

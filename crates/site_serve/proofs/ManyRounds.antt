@@ -1,0 +1,252 @@
+-- A server's rounds, one after another.
+use Rattle.std.proofs.Common.{◌≡◌, ◌⊎◌, inl, inr, ⊎_elim, ℕ, suc, ◌+◌, ◌*◌, ◌<◌, ◌≤◌, Some, None, List, [], ◌∷◌, ◌++◌, length, Result, Ok, Err, refl, sym, ap, subst, ◌∙◌, arith, false}
+use Rattle.std.specs.Result.{IfErr}
+use Rattle.std.proofs.lemmas.List.{length-append}
+use Rattle.site_disk.specs.Model.{DiskState}
+use Rattle.command.specs.Written.{value_of}
+use Rattle.http_serve.specs.Services.{Outcome, MaySubmit}
+use Rattle.http_serve.specs.declared.submission.Submission.TheVariants.{Queued, Already}
+use Rattle.http_serve.specs.declared.submission.SubmitFault.TheVariants.{Command, Busy, Stopped, OutOfMemory}
+use Rattle.durable.specs.Keeping.{Keeps}
+use Rattle.durable.specs.Ready.{IsStored}
+use Rattle.node.specs.Calls.{submit}
+use Rattle.node.specs.Effects.{recorded}
+use Rattle.node.specs.Endings.{EndsWhole}
+use Rattle.node.specs.Nodes.{Node, Value, IsKnownPrefix}
+use Rattle.node.specs.Standing.{IsNodeOf, KeepsOthers}
+use Rattle.node.specs.declared.fault.NodeFault.{NodeFault}
+use Rattle.node.specs.declared.running.Node.{Node as Running}
+use Rattle.site_drive.specs.Drives.{Scene, Drives, GivesUpDriving}
+use Rattle.site_drive.specs.Leading.{LeadsTo, KeepsRecord, StaysWhose}
+use Rattle.site_drive.proofs.ManyTurns.{leads_on}
+use Rattle.site_drive.proofs.Counting.{rose_on}
+use Rattle.site_drive.specs.Links.{RoseBy}
+use Rattle.std.proofs.Math.Nat.{mul-le-mul_left}
+use Rattle.site_serve.specs.Halts.{of_node}
+use Rattle.site_serve.specs.Rounds.{MayServe, Serves, TakesRound, AreSteps, last_of, TakesSteps, TakesRounds, BreaksRound, BreaksRounds, BreaksWork}
+use Rattle.site_serve.specs.Served.{ComesTo, offered}
+use Rattle.site_serve.specs.declared.halt.Halt.{Halt}
+use Rattle.site_serve.specs.declared.halt.Halt.TheVariants as halt
+use Rattle.site_serve.specs.declared.served.Served.{Served}
+
+pub if_err_gives : {T E : Type 0} {P Q : E → Type 0} (r : Result T E) → IfErr r P → ((e : E) → P e → Q e) → IfErr r Q
+if_err_gives (Ok x) h f = tt
+if_err_gives (Err e) h f = f e h
+
+-- ---- a connection
+
+-- what a submission leaves
+abbrev Leaves : Node → Node → Type 0
+Leaves s next = (next.entries ≡ s.entries) × (next.in_flight ≡ s.in_flight) × (next.known ≡ s.known)
+
+alike : (s next : Node) → next ≡ s → Leaves s next
+alike s next same = subst (Leaves s) (sym same) (refl, refl, refl)
+
+whole_leaves : (n p : ℕ) (s next : Node) (v : Value) → EndsWhole n p s (submit v) [] next → Leaves s next
+whole_leaves n p s next v w =
+    subst (Leaves s) (sym w.node)
+    (⊎_elim
+    (λ held. subst (λ e. Leaves s (recorded s e)) (sym held.2) (refl, refl, refl))
+    (λ waits. subst (λ e. Leaves s (recorded s e)) (sym waits.3) (refl, refl, refl))
+    w.does)
+
+submission_leaves : (n p : ℕ) (s next : Node) (v : Value) (done : Outcome) → ComesTo n p s v done next → Leaves s next
+submission_leaves n p s next v (Ok Queued) h = whole_leaves n p s next v h.0
+submission_leaves n p s next v (Ok Already) h = whole_leaves n p s next v h.0
+submission_leaves n p s next v (Err (Command why)) h = alike s next h.node
+submission_leaves n p s next v (Err Busy) h = alike s next h.node
+submission_leaves n p s next v (Err Stopped) h = alike s next h.node
+submission_leaves n p s next v (Err OutOfMemory) h = alike s next h
+
+serving_leaves : (n p : ℕ) (s next : Node) → MayServe n p s next → Leaves s next
+serving_leaves n p s next (inl same) = alike s next same
+serving_leaves n p s next (inr one) = submission_leaves n p s next (value_of one.0 one.1) one.2 one.3
+
+still_published : (n p : ℕ) (s next : Node) (fed : List (List ℕ)) → MayServe n p s next → IsKnownPrefix s fed → IsKnownPrefix next fed
+still_published n p s next fed serves h =
+    let known = (serving_leaves n p s next serves).2 in
+    record {
+      begins = λ k v is. subst (λ f. f (suc k) ≡ Some v) (sym known) (h.begins k v is);
+      gap = subst (λ f. f (suc (length fed)) ≡ None) (sym known) h.gap;
+    }
+
+module _ {D : Type 0} (stands_for : D → DiskState → Type 0) where
+  still_on_disk : (old new : Running D) (s next : Node) → KeepsOthers old new → new.store ≡ old.store → Leaves s next → KeepsRecord stands_for old new s next
+  still_on_disk old new s next others store left d on = (
+    d,
+    record {
+      stands = subst (λ r. stands_for r.disk d) (sym store) on.stands;
+      keeps =
+          subst (λ e. Keeps new.me new.cluster e next.in_flight d) (sym left.0)
+          (subst (λ i. Keeps new.me new.cluster s.entries i d) (sym left.1)
+          (subst (λ n. Keeps new.me n s.entries s.in_flight d) (sym others.cluster)
+          (subst (λ p. Keeps p old.cluster s.entries s.in_flight d) (sym others.me) on.keeps)));
+      stored = λ running.
+          subst (λ e. IsStored stands_for new.store d e) (sym left.0)
+          (subst (λ r. r.stopped ≡ false → IsStored stands_for r d s.entries) (sym store) on.stored running);
+    },
+  )
+
+  -- from each node that the old value stands for, serving leads to one that the new value stands for
+  serves_on : (old new : Served D) → MaySubmit offered old new → (s : Node) → IsNodeOf old.node s
+      → (next : Node) × MayServe old.node.cluster old.node.me s next × IsNodeOf new.node next × KeepsRecord stands_for old.node new.node s next
+  serves_on old new (inl same) s stands =
+      subst (λ (t : Served D). (next : Node) × MayServe old.node.cluster old.node.me s next × IsNodeOf t.node next × KeepsRecord stands_for old.node t.node s next) (sym same)
+      (s, inl refl, stands, λ d on. (d, on))
+  serves_on old new (inr (ticket, text, done, one)) s stands =
+      let l = one.taken.leads s stands in
+      let serves : MayServe old.node.cluster old.node.me s l.0 = inr (ticket, text, done, l.1) in
+      (l.0, serves, l.2, still_on_disk old.node new.node s l.0 one.taken.others one.taken.record_is (serving_leaves old.node.cluster old.node.me s l.0 serves))
+
+pub stays_others : {D : Type 0} (old new : Served D) → MaySubmit offered old new → KeepsOthers old.node new.node
+stays_others old new (inl same) = subst (λ (t : Served _). KeepsOthers old.node t.node) (sym same) (record { me = refl; cluster = refl; releases = refl })
+stays_others old new (inr (ticket, text, done, one)) = one.taken.others
+
+-- ---- one round
+
+round_of : (n p turns malformed : ℕ) (fed : List (List ℕ)) (x y z : Scene) → Drives n p turns malformed fed x y → Serves n p y z → TakesRound n p turns fed x z
+round_of n p turns malformed fed x y z drives s = record { driven = y; malformed = malformed; drives = drives; serves = s }
+
+-- ---- rounds one after another
+
+steps_on : (Step : Scene → Scene → Type 0) (x : Scene) (ys : List Scene) (z : Scene) → AreSteps Step x ys → Step (last_of x ys) z → AreSteps Step x (ys ++ z ∷ [])
+steps_on Step x [] z each one = (one, tt)
+steps_on Step x (y ∷ ys) z each one = (each.0, steps_on Step y ys z each.1 one)
+
+last_on : (x : Scene) (ys : List Scene) (z : Scene) → z ≡ last_of x (ys ++ z ∷ [])
+last_on x [] z = refl
+last_on x (y ∷ ys) z = last_on y ys z
+
+pub no_steps : (Step : Scene → Scene → Type 0) (x : Scene) → TakesSteps Step 0 x x
+no_steps Step x = record { scenes = []; as_many = refl; each = tt; last = refl }
+
+pub one_step_more : (Step : Scene → Scene → Type 0) (k : ℕ) (x y z : Scene) → TakesSteps Step k x y → Step y z → TakesSteps Step (k + 1) x z
+one_step_more Step k x y z earlier last = record {
+  scenes = earlier.scenes ++ z ∷ [];
+  as_many = length-append earlier.scenes (z ∷ []) ∙ ap (λ m. m + 1) earlier.as_many;
+  each = steps_on Step x earlier.scenes z earlier.each (subst (λ w. Step w z) earlier.last last);
+  last = last_on x earlier.scenes z;
+}
+
+rounds_on : (n p turns k : ℕ) (fed then : List (List ℕ)) (x y z : Scene) → TakesRounds n p turns k fed x y → TakesRound n p turns then y z → TakesRounds n p turns (k + 1) then x z
+rounds_on n p turns k fed then x y z earlier last = record {
+  steps = one_step_more _ k x y z earlier.steps (then, last);
+  fed_is = λ some _. still_published n p last.driven.node z.node then last.serves.node (last.drives.fed_is some);
+}
+
+pub whose_round : {D : Type 0} (old mid new : Running D) → StaysWhose old mid → KeepsOthers mid new → StaysWhose old new
+whose_round old mid new first then = record {
+  me = then.me ∙ first.me;
+  cluster = then.cluster ∙ first.cluster;
+  more = (first.more.0, then.releases ∙ first.more.1);
+}
+
+module _ {D L : Type 0} (stands_for : D → DiskState → Type 0) (received : L → List (List ℕ) → Type 0) (given : L → List (ℕ × List ℕ) → Type 0) where
+  abbrev Leads : Running D → Running D → L → L → (Scene → Scene → Type 0) → Type 0
+  Leads old new before after How = LeadsTo stands_for received given old new before after How
+
+  -- what the one link may have received and been given, the other may too
+  abbrev StaysLink : L → L → Type 0
+  StaysLink before after = ((ds : List (List ℕ)) → received before ds → received after ds) × ((gs : List (ℕ × List ℕ)) → given before gs → given after gs)
+
+  serving_leads : (old new : Served D) (before after : L) → StaysLink before after → MaySubmit offered old new → Leads old.node new.node before after (Serves old.node.cluster old.node.me)
+  serving_leads old new before after link may = record {
+    leads = λ x at.
+        let l = serves_on stands_for old new may x.node at.node in (
+          record { node = l.0; received = x.received; given = x.given },
+          record { node = l.1; received = refl; given = refl },
+          record { node = l.2; heard = link.0 x.received at.heard; told = link.1 x.given at.told },
+          l.3,
+        );
+  }
+
+  of_same : (old mid new : Running D) (before after : L) → StaysWhose old mid → (How : ℕ → ℕ → Scene → Scene → Type 0) → Leads mid new before after (How mid.cluster mid.me) → Leads mid new before after (How old.cluster old.me)
+  of_same old mid new before after whose How h =
+      subst (λ p. Leads mid new before after (How old.cluster p)) whose.me
+      (subst (λ n. Leads mid new before after (How n mid.me)) whose.cluster h)
+
+  -- a drive, and then at most one connection
+  pub round_leads : (old mid new : Served D) (before between after : L) → StaysWhose old.node mid.node → (turns malformed : ℕ)
+      → Leads old.node mid.node before between (Drives old.node.cluster old.node.me turns malformed mid.node.releases)
+      → StaysLink between after → MaySubmit offered mid new
+      → Leads old.node new.node before after (TakesRound old.node.cluster old.node.me turns new.node.releases)
+  round_leads old mid new before between after whose turns malformed drives link may =
+      let n = old.node.cluster in
+      let p = old.node.me in
+      let fed = new.node.releases in
+      leads_on stands_for received given old.node mid.node new.node before between after (Drives n p turns malformed fed) (Serves n p) (TakesRound n p turns fed)
+      (subst (λ vs. Leads old.node mid.node before between (Drives n p turns malformed vs)) (sym (stays_others mid new may).releases) drives)
+      (of_same old.node mid.node new.node between after whose Serves (serving_leads mid new between after link may))
+      (round_of n p turns malformed fed)
+
+  -- leads by one relation, so by a wider one
+  pub widened : (old new : Running D) (before after : L) (How Wider : Scene → Scene → Type 0) → ((x y : Scene) → How x y → Wider x y) → Leads old new before after How → Leads old new before after Wider
+  widened old new before after How Wider wider h = record {
+    leads = λ x at. let l = h.leads x at in (l.0, wider x l.0 l.1, l.2, l.3);
+  }
+
+  pub drive_broke : (old new : Running D) (before after : L) (n p turns : ℕ) (fault : NodeFault) (why : Halt) → why ≡ of_node fault
+      → Leads old new before after (GivesUpDriving n p turns fault) → Leads old new before after (BreaksRound n p turns why)
+  drive_broke old new before after n p turns fault why is h = widened old new before after (GivesUpDriving n p turns fault) (BreaksRound n p turns why) (λ x y g. inl (fault, is, g)) h
+
+  pub round_wanted : (old new : Running D) (before after : L) (n p turns : ℕ) (fed : List (List ℕ)) (why : Halt) → why ≡ halt.OutOfMemory
+      → Leads old new before after (TakesRound n p turns fed) → Leads old new before after (BreaksRound n p turns why)
+  round_wanted old new before after n p turns fed why is h = widened old new before after (TakesRound n p turns fed) (BreaksRound n p turns why) (λ x y r. inr (is, fed, r)) h
+
+  -- ---- rounds
+
+  pub no_rounds : (code : Running D) (link : L) (n p turns : ℕ) (fed : List (List ℕ)) → Leads code code link link (TakesRounds n p turns 0 fed)
+  no_rounds code link n p turns fed = record {
+    leads = λ x at. (x, record { steps = no_steps _ x; fed_is = λ _ some. absurd (some refl) }, at, λ d on. (d, on));
+  }
+
+  pub one_round_more : (old mid new : Running D) (before between after : L) → StaysWhose old mid → (turns k : ℕ) (fed fed_then : List (List ℕ))
+      → Leads old mid before between (TakesRounds old.cluster old.me turns k fed) → Leads mid new between after (TakesRound mid.cluster mid.me turns fed_then)
+      → Leads old new before after (TakesRounds old.cluster old.me turns (k + 1) fed_then)
+  one_round_more old mid new before between after whose turns k fed fed_then earlier last =
+      leads_on stands_for received given old mid new before between after (TakesRounds old.cluster old.me turns k fed) (TakesRound old.cluster old.me turns fed_then) (TakesRounds old.cluster old.me turns (k + 1) fed_then)
+      earlier (of_same old mid new between after whose (λ n p. TakesRound n p turns fed_then) last)
+      (rounds_on old.cluster old.me turns k fed fed_then)
+
+  pub one_round_breaks : (old mid new : Running D) (before between after : L) → StaysWhose old mid → (turns k rounds : ℕ) (fed : List (List ℕ)) (why told : Halt) → told ≡ why → k < rounds
+      → Leads old mid before between (TakesRounds old.cluster old.me turns k fed) → Leads mid new between after (BreaksRound mid.cluster mid.me turns why)
+      → Leads old new before after (BreaksRounds old.cluster old.me turns rounds told)
+  one_round_breaks old mid new before between after whose turns k rounds fed why told is below earlier last =
+      leads_on stands_for received given old mid new before between after (TakesRounds old.cluster old.me turns k fed) (BreaksRound old.cluster old.me turns told) (BreaksRounds old.cluster old.me turns rounds told)
+      earlier (of_same old mid new between after whose (λ n p. BreaksRound n p turns told)
+      (subst (λ w. Leads mid new between after (BreaksRound mid.cluster mid.me turns w)) (sym is) last))
+      (λ x y z taken breaks. record { whole = k; fewer = below; mid = y; fed = fed; taken = taken; breaks = breaks })
+
+  -- ---- a server's work
+
+  pub not_begun : (code : Running D) (link : L) (n p turns rounds : ℕ) (why told : Halt) → told ≡ why → (why ≡ halt.OutOfMemory) ⊎ (why ≡ halt.Write) → Leads code code link link (BreaksWork n p turns rounds told)
+  not_begun code link n p turns rounds why told is cause =
+      subst (λ w. Leads code code link link (BreaksWork n p turns rounds w)) (sym is) (record { leads = λ x at. (x, inl (cause, refl), at, λ d on. (d, on)) })
+
+  module _ (old new : Running D) (before after : L) (n p turns rounds wanted : ℕ) (same : turns ≡ wanted) where
+    of_turns : (How : ℕ → Scene → Scene → Type 0) → Leads old new before after (How turns) → Leads old new before after (How wanted)
+    of_turns How h = subst (λ t. Leads old new before after (How t)) same h
+
+    pub all_taken : (fed : List (List ℕ)) → Leads old new before after (TakesRounds n p turns rounds fed) → Leads old new before after (TakesRounds n p wanted rounds fed)
+    all_taken fed h = of_turns (λ t. TakesRounds n p t rounds fed) h
+
+    pub broken_off : (why told : Halt) → told ≡ why → Leads old new before after (BreaksRounds n p turns rounds why) → Leads old new before after (BreaksWork n p wanted rounds told)
+    broken_off why told is h =
+        widened old new before after (BreaksRounds n p wanted rounds told) (BreaksWork n p wanted rounds told) (λ x y b. inr (inl b))
+        (subst (λ w. Leads old new before after (BreaksRounds n p wanted rounds w)) (sym is) (of_turns (λ t. BreaksRounds n p t rounds why) h))
+
+    pub not_told : (fed : List (List ℕ)) (why : Halt) → why ≡ halt.Write → Leads old new before after (TakesRounds n p turns rounds fed) → Leads old new before after (BreaksWork n p wanted rounds why)
+    not_told fed why is h =
+        widened old new before after (TakesRounds n p wanted rounds fed) (BreaksWork n p wanted rounds why) (λ x y r. inr (inr (is, fed, r))) (all_taken fed h)
+
+-- ---- receives
+
+pub tried_more : (k turns a b c : ℕ) → RoseBy (k * turns) a b → RoseBy turns b c → RoseBy ((k + 1) * turns) a c
+tried_more k turns a b c first then =
+    let sum : k * turns + turns ≡ (k + 1) * turns = omega arith in
+    subst (λ m. RoseBy m a c) sum (rose_on (k * turns) turns a b c first then)
+
+pub tried_last : (k rounds turns a b c : ℕ) → k < rounds → RoseBy (k * turns) a b → (made : ℕ) × (made ≤ turns) × RoseBy made b c → (all : ℕ) × (all ≤ rounds * turns) × RoseBy all a c
+tried_last k rounds turns a b c below first (made, few, then) =
+    let up : k + 1 ≤ rounds = omega (arith, below) in
+    (k * turns + made, omega (arith, few, mul-le-mul_left turns up), rose_on (k * turns) made a b c first then)

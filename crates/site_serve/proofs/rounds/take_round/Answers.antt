@@ -1,0 +1,19 @@
+use Rattle.durable.proofs.Results.{on_ok}
+use Rattle.site_drive.proofs.Results.{err_gives}
+use Rattle.site_serve.proofs.ManyRounds.{round_leads, round_wanted, drive_broke, if_err_gives}
+use Rattle.site_serve.proofs.rounds.take_round.Goals as goal
+
+pub returns-in_err-drive-clause-fault : goal.returns-in_err-drive-clause-fault
+returns-in_err-drive-clause-fault g c = err_gives c.from_residual.result c.from_residual.ensures.1 λ e is.
+    drive_broke g.D.Disk.stands_for _ _ _ _ _ _ _ _ c.args.turns _ e is c.in_err-drive.ensures.fault
+
+pub returns-clause-ok : goal.returns-clause-ok
+returns-clause-ok g c = on_ok c.serve_one.result
+    (round_leads g.D.Disk.stands_for _ _ c.args.served.now (record { node = c.drive.new.node }) c.serve_one.new.served c.args.watch.now c.drive.new.link c.serve_one.new.watch
+    c.drive.ensures.whose c.args.turns _ c.in_ok-drive.ensures.ok (λ ds h. tt, λ gs h. tt) c.serve_one.ensures.taken)
+
+pub returns-clause-fault : goal.returns-clause-fault
+returns-clause-fault g c = if_err_gives c.serve_one.result c.serve_one.ensures.fault λ e is.
+    round_wanted g.D.Disk.stands_for _ _ _ _ _ _ _ _ c.args.turns _ e is
+    (round_leads g.D.Disk.stands_for _ _ c.args.served.now (record { node = c.drive.new.node }) c.serve_one.new.served c.args.watch.now c.drive.new.link c.serve_one.new.watch
+    c.drive.ensures.whose c.args.turns _ c.in_ok-drive.ensures.ok (λ ds h. tt, λ gs h. tt) c.serve_one.ensures.taken)

@@ -1,0 +1,14 @@
+use Rattle.std.proofs.Common.{◌≤◌, ◌*◌}
+use Rattle.std.specs.Bool.{⊤}
+use Rattle.site_drive.specs.Leading.{LeadsTo, StaysWhose}
+use Rattle.site_drive.specs.Links.{RoseBy}
+use Rattle.site_serve.specs.Rounds.{TakesRounds}
+use Rattle.site_serve.proofs.rounds.take_rounds.Given as goal
+
+abbrev pub invariant-loop : goal.invariant-loop
+invariant-loop g l = record {
+  within : l.counter ≤ l.rounds;
+  leads : LeadsTo g.D.Disk.stands_for (λ w ds. ⊤) (λ w gs. ⊤) l.fn.served.node l.served.node l.fn.watch l.watch (TakesRounds l.fn.served.node.cluster l.fn.served.node.me l.turns l.counter l.served.node.releases);
+  whose : StaysWhose l.fn.served.node l.served.node;
+  tried : RoseBy (l.counter * l.turns) l.fn.watch.link.tries l.watch.link.tries;
+}
