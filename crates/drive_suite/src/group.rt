@@ -80,12 +80,20 @@ fn member(rt: &impl Abort, alloc: Global, number: u8) -> Server<Looped> {
     Server::new(rt, alloc, 3, number, Looped::new(alloc, number))
 }
 
+fn three(rt: &impl Abort, alloc: Global, one: &mut Server<Looped>, two: &mut Server<Looped>) {
+    let mut three = member(rt, alloc, 3);
+    drive_all(rt, one, two, &mut three);
+    assert!(rt; three.shows("/", 200, "Hello, world!\n"));
+}
+
+fn two_more(rt: &impl Abort, alloc: Global, one: &mut Server<Looped>) {
+    let mut two = member(rt, alloc, 2);
+    three(rt, alloc, one, &mut two);
+}
+
 #[test]
 fn three_nodes_agree_on_a_page(rt: HostRuntime) {
     let mut one = member(&rt, rt.alloc(), 1);
-    let mut two = member(&rt, rt.alloc(), 2);
-    let mut three = member(&rt, rt.alloc(), 3);
     submit_all(&rt, &mut one);
-    drive_all(&rt, &mut one, &mut two, &mut three);
-    assert!(rt; three.shows("/", 200, "Hello, world!\n"));
+    two_more(&rt, rt.alloc(), &mut one);
 }

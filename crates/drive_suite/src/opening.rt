@@ -1,4 +1,4 @@
-//! Nodes over disks in memory. What memory was refused is tried once more.
+//! Nodes over disks in memory, boxed: what owns one is proved to let it go, and a box is let go of in one step.
 ghost use Rattle.site_ids.specs.Ids.{IsNode};
 
 use durable::Record;
@@ -8,67 +8,45 @@ use site_ids::{Cluster, NodeId};
 use std::alloc::Global;
 use std::process::Abort;
 
-/// A record that was just made.
-fn formatted(alloc: Global, cluster: Cluster, me: NodeId) -> Option<MemDisk> {
+/// None where memory was refused.
+fn open(alloc: Global, cluster: Cluster, me: NodeId, disk: MemDisk) -> Option<Box<Node<MemDisk>>>
+    requires { IsNode cluster me }
+{
+    match Node::open(alloc, cluster, me, disk) {
+        Ok(node) => Box::new(alloc, node).ok(),
+        Err(_) => None,
+    }
+}
+
+/// A node over a record that was just made. None where memory was refused.
+fn format(alloc: Global, cluster: Cluster, me: NodeId) -> Option<Box<Node<MemDisk>>>
+    requires { IsNode cluster me }
+{
     let mut disk = MemDisk::new(alloc);
     if Record::format(cluster, me, &mut disk).is_ok() {
-        Some(disk)
+        open(alloc, cluster, me, disk)
     } else {
         None
     }
 }
 
-/// A growth that was refused leaves a beginning of the record behind, so the second one is made on another disk.
-fn record(rt: &impl Abort, alloc: Global, cluster: Cluster, me: NodeId) -> MemDisk {
-    match formatted(alloc, cluster, me) {
-        Some(disk) => disk,
-        None => formatted(alloc, cluster, me).expect(rt, "a record"),
-    }
-}
-
-fn opened(
-    rt: &impl Abort,
-    alloc: Global,
-    cluster: Cluster,
-    me: NodeId,
-    disk: MemDisk,
-) -> Node<MemDisk>
-    requires { IsNode cluster me }
-{
-    match Node::open(alloc, cluster, me, disk) {
-        Ok(node) => node,
-        Err((fault, _disk)) => panic!(rt; "{fault}"),
-    }
-}
-
-fn reopened(
-    rt: &impl Abort,
-    alloc: Global,
-    cluster: Cluster,
-    me: NodeId,
-    disk: MemDisk,
-) -> Node<MemDisk>
-    requires { IsNode cluster me }
-{
-    match Node::open(alloc, cluster, me, disk) {
-        Ok(node) => node,
-        Err((_fault, disk)) => opened(rt, alloc, cluster, me, disk),
-    }
-}
-
-/// The node of that number among so many, over a disk, or over a record that was just made.
-pub(crate) fn open(
-    rt: &impl Abort,
-    alloc: Global,
-    size: u8,
-    number: u8,
-    disk: Option<MemDisk>,
-) -> Node<MemDisk> {
+/// The node of that number among so many, over a record that was just made. Where memory was refused another one is made.
+pub(crate) fn fresh(rt: &impl Abort, alloc: Global, size: u8, number: u8) -> Box<Node<MemDisk>> {
     let cluster = Cluster::new(size).expect(rt, "a cluster");
     let me = cluster.node(number).expect(rt, "a node");
-    let disk = match disk {
-        Some(disk) => disk,
-        None => record(rt, alloc, cluster, me),
-    };
-    reopened(rt, alloc, cluster, me, disk)
+    match format(alloc, cluster, me) {
+        Some(node) => node,
+        None => format(alloc, cluster, me).expect(rt, "memory"),
+    }
+}
+
+/// Node 1 of three, closed and opened again.
+pub(crate) fn again(
+    rt: &impl Abort,
+    alloc: Global,
+    node: Box<Node<MemDisk>>,
+) -> Box<Node<MemDisk>> {
+    let cluster = Cluster::new(3).expect(rt, "a cluster");
+    let me = cluster.node(1).expect(rt, "a node");
+    open(alloc, cluster, me, Box::into_inner(node).close()).expect(rt, "memory")
 }

@@ -1,5 +1,5 @@
 //! A node with its link.
-use crate::opening::open;
+use crate::opening::{again, fresh};
 use command::write;
 use node::{Node, NodeFault, Submitted};
 use site_disk::MemDisk;
@@ -12,7 +12,7 @@ use wire::decode;
 #[derive(Drop)]
 pub(crate) struct Server<L> {
     pub alloc: Global,
-    pub node: Node<MemDisk>,
+    pub node: Box<Node<MemDisk>>,
     pub link: L,
 }
 
@@ -35,7 +35,7 @@ pub(crate) fn bytes(rt: &impl Abort, alloc: Global, text: &str) -> Vec<u8> {
 impl<L: Link + Drop> Server<L> {
     /// The node of that number among so many, over a record that was just made.
     pub(crate) fn new(rt: &impl Abort, alloc: Global, size: u8, number: u8, link: L) -> Server<L> {
-        let node = open(rt, alloc, size, number, None);
+        let node = fresh(rt, alloc, size, number);
         Server { alloc, node, link }
     }
 
@@ -77,7 +77,7 @@ impl Server<MemLink> {
     /// Node 1 of three, closed and opened again.
     pub(crate) fn again(self, rt: &impl Abort) -> Server<MemLink> {
         let Server { alloc, node, link } = self;
-        let node = open(rt, alloc, 3, 1, Some(node.close()));
+        let node = again(rt, alloc, node);
         Server { alloc, node, link }
     }
 
