@@ -1,0 +1,99 @@
+//! Three nodes over queues in memory agree on a page.
+use crate::looped::Looped;
+use crate::server::{Server, passed_over};
+use std::alloc::Global;
+use std::process::Abort;
+
+const COMMANDS: [(u64, &str); 4] = [
+    (1, "put template t\nHello, {{subject}}!\n"),
+    (2, "put data d\n{\"subject\":\"world\"}"),
+    (3, "put route / t d\n"),
+    (4, "release\n"),
+];
+
+/// Drives of a node with so many turns, and how often the list of them comes.
+const DRIVES: [(usize, &[(u8, u32)]); 3] = [
+    (2, &[(1, 0)]),
+    (8, &[(2, 99), (1, 99)]),
+    (1, &[(3, 99)]),
+];
+
+/// What a node sent from a place on reaches another one's queue, where it is for that.
+fn carry(rt: &impl Abort, from: &Looped, first: usize, to: &mut Looped) {
+    for (node, datagram) in from.link.sent().iter().skip(first) {
+        if node.number() == to.me {
+            to.link.push(datagram.as_slice()).expect(rt, "a place");
+        }
+    }
+}
+
+/// Drives a node, and carries what it sends to the two others.
+fn drive(
+    rt: &impl Abort,
+    from: &mut Server<Looped>,
+    turns: u32,
+    one: &mut Server<Looped>,
+    other: &mut Server<Looped>,
+) {
+    let first = from.link.link.sent().len();
+    assert_eq!(rt; from.drive(turns), passed_over(0));
+    carry(rt, &from.link, first, &mut one.link);
+    carry(rt, &from.link, first, &mut other.link);
+}
+
+fn drive_each(
+    rt: &impl Abort,
+    drives: &[(u8, u32)],
+    one: &mut Server<Looped>,
+    two: &mut Server<Looped>,
+    three: &mut Server<Looped>,
+) {
+    for (number, turns) in drives {
+        match *number {
+            1 => drive(rt, one, *turns, two, three),
+            2 => drive(rt, two, *turns, one, three),
+            _ => drive(rt, three, *turns, one, two),
+        }
+    }
+}
+
+fn drive_all(
+    rt: &impl Abort,
+    one: &mut Server<Looped>,
+    two: &mut Server<Looped>,
+    three: &mut Server<Looped>,
+) {
+    for (times, drives) in DRIVES {
+        for _ in 0..times {
+            drive_each(rt, drives, one, two, three);
+        }
+    }
+}
+
+fn submit_all(rt: &impl Abort, server: &mut Server<Looped>) {
+    for (number, text) in COMMANDS {
+        server.submit(rt, number, text);
+    }
+}
+
+fn member(rt: &impl Abort, alloc: Global, number: u8) -> Server<Looped> {
+    Server::new(rt, alloc, 3, number, Looped::new(alloc, number))
+}
+
+fn three(rt: &impl Abort, alloc: Global, one: &mut Server<Looped>, two: &mut Server<Looped>) {
+    let mut three = member(rt, alloc, 3);
+    drive_all(rt, one, two, &mut three);
+    assert!(rt; three.shows("/", 200, "Hello, world!\n"));
+}
+
+fn two_more(rt: &impl Abort, alloc: Global, one: &mut Server<Looped>) {
+    let mut two = member(rt, alloc, 2);
+    three(rt, alloc, one, &mut two);
+}
+
+#[test]
+fn three_nodes_agree_on_a_page(rt: HostRuntime) {
+    let mut one = member(&rt, rt.alloc(), 1);
+    submit_all(&rt, &mut one);
+    two_more(&rt, rt.alloc(), &mut one);
+}

@@ -1,0 +1,102 @@
+//! A node with its link.
+use crate::opening::{again, fresh};
+use command::write;
+use node::{Node, NodeFault, Submitted};
+use site_disk::MemDisk;
+use site_drive::{Driven, Link, MemLink, drive, exchange};
+use site_ids::Ticket;
+use std::alloc::Global;
+use std::process::Abort;
+use wire::decode;
+
+#[derive(Drop)]
+pub(crate) struct Server<L> {
+    pub alloc: Global,
+    pub node: Box<Node<MemDisk>>,
+    pub link: L,
+}
+
+/// A drive that passed over so many malformed datagrams, and no failure.
+pub(crate) fn passed_over(malformed: u32) -> Result<Driven, NodeFault> {
+    Ok(Driven {
+        malformed,
+        failed: 0,
+    })
+}
+
+/// Bytes that are given in hexadecimal. Where memory was refused they are read once more.
+pub(crate) fn bytes(rt: &impl Abort, alloc: Global, text: &str) -> Vec<u8> {
+    match hex::decode(alloc, text) {
+        Ok(bytes) => bytes,
+        Err(_) => hex::decode(alloc, text).expect(rt, "bytes"),
+    }
+}
+
+impl<L: Link + Drop> Server<L> {
+    /// The node of that number among so many, over a record that was just made.
+    pub(crate) fn new(rt: &impl Abort, alloc: Global, size: u8, number: u8, link: L) -> Server<L> {
+        let node = fresh(rt, alloc, size, number);
+        Server { alloc, node, link }
+    }
+
+    pub(crate) fn drive(&mut self, turns: u32) -> Result<Driven, NodeFault> {
+        drive(self.alloc, &mut self.node, &mut self.link, turns)
+    }
+
+    pub(crate) fn exchange(&mut self, turns: u32) -> Result<Driven, NodeFault> {
+        exchange(self.alloc, &mut self.node, &mut self.link, turns)
+    }
+
+    /// A command of editor 1, by the number of its ticket.
+    pub(crate) fn submit(&mut self, rt: &impl Abort, number: u64, text: &str) {
+        let ticket = Ticket { editor: 1, number };
+        let value = write(self.alloc, ticket, text.as_bytes()).expect(rt, "a command");
+        let submitted = self.node.submit(value.as_slice());
+        assert_eq!(rt; submitted, Ok(Submitted::Queued));
+    }
+
+    /// Delivers a message that is given in hexadecimal, and drops what the node hands out.
+    pub(crate) fn deliver(&mut self, rt: &impl Abort, text: &str) {
+        let datagram = bytes(rt, self.alloc, text);
+        let decoded = decode(self.alloc, datagram.as_slice(), self.node.cluster());
+        let message = decoded.expect(rt, "a message");
+        let mut out = Vec::new(self.alloc);
+        assert_eq!(rt; self.node.deliver(&message, &mut out), Ok(()));
+    }
+
+    /// Whether the page of the newest release is this one.
+    pub(crate) fn shows(&self, path: &str, status: u16, body: &str) -> bool {
+        match self.node.answer(self.node.newest(), path) {
+            Ok(answer) => answer.status == status && answer.body.as_str() == body,
+            Err(_) => false,
+        }
+    }
+}
+
+impl Server<MemLink> {
+    /// Node 1 of three, closed and opened again.
+    pub(crate) fn again(self, rt: &impl Abort) -> Server<MemLink> {
+        let Server { alloc, node, link } = self;
+        let node = again(rt, alloc, node);
+        Server { alloc, node, link }
+    }
+
+    /// Queues a datagram that is given in hexadecimal. Where memory was refused it is queued once more.
+    pub(crate) fn queue(&mut self, rt: &impl Abort, text: &str) {
+        let datagram = bytes(rt, self.alloc, text);
+        if self.link.push(datagram.as_slice()).is_err() {
+            self.link.push(datagram.as_slice()).expect(rt, "a place");
+        }
+    }
+
+    /// Whether the datagram sent at a place is this one, in hexadecimal, and went to that node.
+    pub(crate) fn sent(&self, rt: &impl Abort, at: usize, to: u8, text: &str) -> bool {
+        let expected = bytes(rt, self.alloc, text);
+        match self.link.sent().get(at) {
+            Some((node, datagram)) => {
+                node.number() == to && datagram.as_slice() == expected.as_slice()
+            }
+            None => false,
+        }
+    }
+}

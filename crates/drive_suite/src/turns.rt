@@ -1,0 +1,128 @@
+//! What node 1 of three sends for what it hears, datagram by datagram; and `exchange` beside `drive`.
+use crate::server::{Server, passed_over};
+use site_drive::MemLink;
+use std::alloc::Global;
+use std::process::Abort;
+
+/// What is heard, and what is sent for it, to whom.
+const TURNS: [(&str, &[(u8, &str)]); 9] = [
+    // A prepare of node 2, and a promise to it.
+    (
+        "010102000000010000000102",
+        &[(2, "01020100000001000000010200")],
+    ),
+    // Its proposal, and a vote to all.
+    (
+        "0103020000000100000001020000000107",
+        &[
+            (1, "0104010000000100000001020000000107"),
+            (2, "0104010000000100000001020000000107"),
+            (3, "0104010000000100000001020000000107"),
+        ],
+    ),
+    // A prepare of node 3 in the next round, and a promise that tells the vote.
+    (
+        "010103000000010000000203",
+        &[(3, "0102010000000100000002030100000001020000000107")],
+    ),
+    // The first prepare once more, and a refusal to its node.
+    (
+        "010102000000010000000102",
+        &[(2, "0105010000000100000001020000000203")],
+    ),
+    // A question about an instance that isn't known yet.
+    ("01060300000001", &[]),
+    // Votes of a majority.
+    ("0104020000000100000001020000000107", &[]),
+    ("0104030000000100000001020000000107", &[]),
+    // The question again, and the value to the asker.
+    ("01060300000001", &[(3, "010701000000010000000107")]),
+    ("ff", &[]),
+];
+
+/// After so many of these turns, how many datagrams were malformed, and the last call: a tick where the instance was reached and isn't known, and else a
+/// question about the next one.
+const LAST_CALLS: [(u8, u32, &str); 3] = [
+    (0, 0, "01060100000001"),
+    (6, 0, "010101000000010000000101"),
+    (9, 1, "01060100000002"),
+];
+
+fn hear(rt: &impl Abort, server: &mut Server<MemLink>, turns: usize) {
+    for (text, _) in TURNS.iter().take(turns) {
+        server.queue(rt, text);
+    }
+}
+
+/// What one turn sends stands from that place on: where it ends.
+fn sent_for(rt: &impl Abort, server: &Server<MemLink>, first: usize, sent: &[(u8, &str)]) -> usize {
+    let mut at = first;
+    for (to, text) in sent {
+        assert!(rt; server.sent(rt, at, *to, text), "{text} to {to}");
+        at = at.saturating_add(1);
+    }
+    at
+}
+
+/// What the turns send, in order, is all or the first of what was sent: how many datagrams.
+fn sent_in_turns(rt: &impl Abort, server: &Server<MemLink>, turns: usize) -> usize {
+    let mut at = 0;
+    for (_, sent) in TURNS.iter().take(turns) {
+        at = sent_for(rt, server, at, sent);
+    }
+    at
+}
+
+/// The last datagrams, from that place on, are one for all of so many nodes, in order.
+fn last_to_all(rt: &impl Abort, server: &Server<MemLink>, first: usize, size: u8, text: &str) {
+    let mut at = first;
+    for to in 1..=size {
+        assert!(rt; server.sent(rt, at, to, text), "{text} to {to}");
+        at = at.saturating_add(1);
+    }
+    assert_eq!(rt; server.link.sent().len(), at);
+}
+
+fn server(rt: &impl Abort, alloc: Global, size: u8) -> Server<MemLink> {
+    Server::new(rt, alloc, size, 1, MemLink::new(alloc))
+}
+
+/// The turns alone, and then a drive of none.
+fn exchange(rt: &impl Abort, alloc: Global, turns: u8, malformed: u32, last: &str) {
+    let mut server = server(rt, alloc, 3);
+    hear(rt, &mut server, usize::from(turns));
+    assert_eq!(rt; server.exchange(u32::from(turns)), passed_over(malformed));
+    let sent = sent_in_turns(rt, &server, usize::from(turns));
+    assert_eq!(rt; server.link.sent().len(), sent);
+    assert_eq!(rt; server.drive(0), passed_over(0));
+    last_to_all(rt, &server, sent, 3, last);
+}
+
+fn drive(rt: &impl Abort, alloc: Global, turns: u8, malformed: u32, last: &str) {
+    let mut server = server(rt, alloc, 3);
+    hear(rt, &mut server, usize::from(turns));
+    assert_eq!(rt; server.drive(u32::from(turns)), passed_over(malformed));
+    let sent = sent_in_turns(rt, &server, usize::from(turns));
+    last_to_all(rt, &server, sent, 3, last);
+}
+
+#[test]
+fn a_drive_is_an_exchange_and_a_last_call(rt: HostRuntime) {
+    for (turns, malformed, last) in LAST_CALLS {
+        exchange(&rt, rt.alloc(), turns, malformed, last);
+        drive(&rt, rt.alloc(), turns, malformed, last);
+    }
+}
+
+fn one_for_all(rt: &impl Abort, alloc: Global, size: u8) {
+    let mut server = server(rt, alloc, size);
+    assert_eq!(rt; server.drive(0), passed_over(0));
+    last_to_all(rt, &server, 0, size, "01060100000001");
+}
+
+#[test]
+fn one_for_all_goes_to_each_node_in_order(rt: HostRuntime) {
+    for size in 1..=9 {
+        one_for_all(&rt, rt.alloc(), size);
+    }
+}
