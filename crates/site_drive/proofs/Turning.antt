@@ -59,15 +59,18 @@ module _ (n k : ℕ) (d : List ℕ) (room : k ≡ MAX_MESSAGE + 1) where
 
 -- ---- a delivery
 
+pub nothing_out : (n p : ℕ) (s next : Node) (call : Call) (out : List (To × Message)) (why : NodeFault) → Ends n p s call (ending_by why) out next → out ≡ []
+nothing_out n p s next call out fault.OutOfMemory h = h.nothing
+nothing_out n p s next call out fault.Device h = h.nothing
+nothing_out n p s next call out fault.Stopped h = h.nothing
+nothing_out n p s next call out fault.QueueFull h = h.nothing
+nothing_out n p s next call out (fault.NotACommand why) h = h.nothing
+nothing_out n p s next call out fault.InstancesUsedUp h = h.nothing
+nothing_out n p s next call out fault.RoundsUsedUp h = h.nothing
+nothing_out n p s next call out fault.Conflict h = h.nothing
+
 pub none_out : (n p : ℕ) (s next : Node) (call : Call) (out : List (To × Message)) (why : NodeFault) → Ends n p s call (ending_by why) out next → Ends n p s call (ending_by why) [] next
-none_out n p s next call out fault.OutOfMemory h = subst (λ l. Ends n p s call (ending_by fault.OutOfMemory) l next) h.nothing h
-none_out n p s next call out fault.Device h = subst (λ l. Ends n p s call (ending_by fault.Device) l next) h.nothing h
-none_out n p s next call out fault.Stopped h = subst (λ l. Ends n p s call (ending_by fault.Stopped) l next) h.nothing h
-none_out n p s next call out fault.QueueFull h = subst (λ l. Ends n p s call (ending_by fault.QueueFull) l next) h.nothing h
-none_out n p s next call out (fault.NotACommand why) h = subst (λ l. Ends n p s call (ending_by (fault.NotACommand why)) l next) h.nothing h
-none_out n p s next call out fault.InstancesUsedUp h = subst (λ l. Ends n p s call (ending_by fault.InstancesUsedUp) l next) h.nothing h
-none_out n p s next call out fault.RoundsUsedUp h = subst (λ l. Ends n p s call (ending_by fault.RoundsUsedUp) l next) h.nothing h
-none_out n p s next call out fault.Conflict h = subst (λ l. Ends n p s call (ending_by fault.Conflict) l next) h.nothing h
+none_out n p s next call out why h = subst (λ l. Ends n p s call (ending_by why) l next) (nothing_out n p s next call out why h) h
 
 module _ {D : Type 0} (stands_for : D → DiskState → Type 0) (old new : Running D) (bytes : List ℕ) (m : Message) (before after : List (To × Message)) (spells : Spells old.cluster bytes m) (empty : before ≡ []) where
   pub taken : IsEvent stands_for old new (deliver m) Whole before after
