@@ -353,9 +353,9 @@ abbrev pub untried_in : (t : NodeBy) (us : List Value) → Option (Untried t us)
 untried_in t [] = None
 untried_in t (u ∷ us) = elim (tried t u) [
   | inr none ↦ Some (u, [], us, refl, (λ x k. absurd k), none)
-  | inl yes ↦ elim (untried_in t us) [
+  | inl so ↦ elim (untried_in t us) [
     | None ↦ None
-    | Some r ↦ Some (r.0, u ∷ r.1, r.2, ap (λ l. u ∷ l) r.3, (λ x k. ⊎_elim (λ (e : u ≡ x). subst (λ y. IsTried (node_by t) y) e yes) (λ h. r.4 x h) k), r.5)
+    | Some r ↦ Some (r.0, u ∷ r.1, r.2, ap (λ l. u ∷ l) r.3, (λ x k. ⊎_elim (λ (e : u ≡ x). subst (λ y. IsTried (node_by t) y) e so) (λ h. r.4 x h) k), r.5)
   ]
 ]
 
