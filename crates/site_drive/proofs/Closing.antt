@@ -12,7 +12,7 @@ use Rattle.node.specs.declared.to.To.{To}
 use Rattle.node.specs.declared.running.Node.{Node as Running}
 use Rattle.node.specs.Nodes.{Node, WantsTick, IsKnownPrefix}
 use Rattle.node.specs.Calls.{Call, tick, widen, ask, Begins, MayWiden, Does}
-use Rattle.node.specs.Effects.{Effect, quiet, recorded}
+use Rattle.node.specs.Effects.{Effect, quiet}
 use Rattle.node.specs.Endings.{Ending, Whole, Refused, Failed, Ends}
 use Rattle.node.specs.Standing.{IsNodeOf, IsEvent, KeepsOthers, ending_by}
 use Rattle.site_drive.specs.Drives.{Begin, Widens, TicksAndWidens, EndsLast, EndsTurns, sent_of, Scene, Exchanges, GivesUp, Closes, GivesUpLast, Drives, GivesUpDriving}

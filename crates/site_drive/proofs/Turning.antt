@@ -1,6 +1,6 @@
 -- One turn: what was heard, what the node does with it, and what is sent.
-use Rattle.std.proofs.Common.{◌≡◌, ◌≢◌, ◌⊎◌, inl, inr, ⊎_elim, ℕ, zero, suc, ◌+◌, ◌≤◌, ◌<◌, Option, Some, None, Result, Ok, Err, List, [], ◌∷◌, ◌++◌, length, take, refl, sym, ap, subst, ◌∙◌, append-nil, append_assoc, arith}
-use Rattle.std.specs.Prelude.{IfSome, IfNone, ⊤}
+use Rattle.std.proofs.Common.{◌≡◌, ◌⊎◌, inl, inr, ⊎_elim, ℕ, zero, suc, ◌+◌, ◌≤◌, ◌<◌, Option, Some, None, List, [], ◌∷◌, ◌++◌, length, take, refl, sym, ap, subst, ◌∙◌, append-nil, arith}
+use Rattle.std.specs.Prelude.{IfSome, IfNone}
 use Rattle.std.proofs.lemmas.List.{length-take}
 use Rattle.std.proofs.Math.Seq.{take-append_seam}
 use Rattle.site_ids.specs.Lists.{In}
@@ -8,7 +8,6 @@ use Rattle.site_disk.specs.Model.{DiskState}
 use Rattle.wire.specs.declared.TheConstants.{MAX_MESSAGE}
 use Rattle.wire.specs.declared.message.Message.{Message}
 use Rattle.wire.specs.Messages.{Fits}
-use Rattle.wire.specs.Spelling.{spelled}
 use Rattle.wire.specs.Decoding.{Spells}
 use Rattle.wire.proofs.LengthLemmas.{longest_spelling}
 use Rattle.node.specs.declared.fault.NodeFault.{NodeFault}
@@ -20,8 +19,8 @@ use Rattle.node.specs.Calls.{Call, deliver}
 use Rattle.node.specs.Endings.{Whole, Ends}
 use Rattle.node.specs.Standing.{IsNodeOf, IsOnDisk, IsEvent, ending_by}
 use Rattle.site_drive.proofs.Giving.{take_past}
-use Rattle.site_drive.specs.Drives.{Heard, Takes, datagrams, sent_of, Scene, Exchanges, BreaksOff, GivesUp}
-use Rattle.site_drive.specs.Leading.{KeepsRecord, NodeLeads, IsAt, LeadsTo, IsHeldAs}
+use Rattle.site_drive.specs.Drives.{Heard, Takes, datagrams, sent_of, Exchanges, BreaksOff, GivesUp}
+use Rattle.site_drive.specs.Leading.{NodeLeads, LeadsTo, IsHeldAs}
 
 -- ---- what was heard
 

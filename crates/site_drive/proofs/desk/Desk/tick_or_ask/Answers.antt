@@ -1,6 +1,5 @@
-use Rattle.std.proofs.Common.{◌≡◌, true, false, refl, sym, subst, ◌∙◌}
-use Rattle.node.specs.Calls.{tick as ticking}
-use Rattle.node.specs.Standing.{IsEvent, ending_of, ending_by}
+use Rattle.std.proofs.Common.{◌≡◌, true, false, sym, subst, ◌∙◌}
+use Rattle.node.specs.Standing.{ending_of, ending_by}
 use Rattle.node.proofs.Stepping.{ending_err}
 use Rattle.site_drive.proofs.Closing.{Called, asked, tick_short, not_whole, ticked}
 use Rattle.site_drive.proofs.desk.Desk.tick_or_ask.Goals as goal
@@ -12,7 +11,7 @@ returns-then-not-wants_tick-clause-event g c =
 
 pub returns-in_err-tick-clause-event : goal.returns-in_err-tick-clause-event
 returns-in_err-tick-clause-event g c =
-    let why = c.in_err-tick.field-0 in
+    let why = c.in_err-tick.field-0.0 in
     subst (λ ending. Called g.D.Disk.stands_for c.args.node.now c.tick.new.self ending c.tick.new.outbox.items) (sym (ending_err c.from_residual.result why c.from_residual.ensures.1))
     (tick_short g.D.Disk.stands_for c.args.node.now c.tick.new.self (ending_by why) c.args.self.now.outbox.items c.tick.new.outbox.items (not_whole why) c.requires
     (λ s stands. (c.wants_tick.ensures s stands).0 c.if-not-wants_tick.false) c.in_err-tick.ensures.event)
