@@ -53,11 +53,8 @@ impl Desk {
         ensures others { KeepsOthers node.old node.new }
         ensures counted { self.new.failed ≡ self.old.failed }
     {
-        'widening: loop {
-            if !node.widen(&mut self.outbox)? {
-                return Ok(());
-            }
-        }
+        'widening: while node.widen(&mut self.outbox)? {}
+        Ok(())
     }
 
     /// Ticks and then widens where a tick is wanted, and else asks.

@@ -16,18 +16,18 @@ returns-in_err-widen-clause-event g c =
     (ended g.D.Disk.stands_for c.args.node.now c.widening.node c.widen.new.self c.args.self.now.outbox.items c.widening.self.outbox.items c.widen.new.outbox.items c.widening.invariant.others c.widening.invariant.so_far
     (ending_by why) c.in_err-widen.ensures.event (λ n p s next out stands ends. nothing_out n p s next widen out why ends))
 
-pub returns-then-not-branch-clause-event : goal.returns-then-not-branch-clause-event
-returns-then-not-branch-clause-event g c =
+pub returns-clause-event : goal.returns-clause-event
+returns-clause-event g c =
     ended g.D.Disk.stands_for c.args.node.now c.widening.node c.widen.new.self c.args.self.now.outbox.items c.widening.self.outbox.items c.widen.new.outbox.items c.widening.invariant.others c.widening.invariant.so_far
     Whole c.in_ok-widen.ensures.event
     (λ n p s next out stands ends.
-    quiet_out n p s next out (λ may. let yet : true ≡ false = sym ((c.in_ok-widen.ensures.widened s stands).1 may) ∙ c.if-not-branch.true in absurd (cc)) ends)
+    quiet_out n p s next out (λ may. let yet : true ≡ false = sym ((c.in_ok-widen.ensures.widened s stands).1 may) ∙ c.if-branch.false in absurd (cc)) ends)
 
 pub widening-preserved : goal.widening-preserved
 widening-preserved g c = record {
   so_far =
       begun_more g.D.Disk.stands_for c.args.node.now c.widening.node c.widen.new.self c.args.self.now.outbox.items c.widening.self.outbox.items c.widen.new.outbox.items c.widening.invariant.others c.widening.invariant.so_far
-      c.in_ok-widen.ensures.event (λ s stands. (c.in_ok-widen.ensures.widened s stands).0 c.if-not-branch.false);
+      c.in_ok-widen.ensures.event (λ s stands. (c.in_ok-widen.ensures.widened s stands).0 c.if-branch.true);
   others = record {
     me = c.widen.ensures.others.me ∙ c.widening.invariant.others.me;
     cluster = c.widen.ensures.others.cluster ∙ c.widening.invariant.others.cluster;
