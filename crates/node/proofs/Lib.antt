@@ -1,10 +1,12 @@
 pub mod Knowing
 pub mod Sharing
+pub mod Windows
 pub mod Tidying
 pub mod Gaps
 pub mod Saying
 pub mod Ranging
 pub mod Verdicts
+pub mod SendingAgain
 pub mod FreshAttempts
 pub mod Moving
 pub mod Examples
@@ -15,6 +17,8 @@ pub mod KnownValues
 pub mod Queueing
 pub mod LearnedParts
 pub mod Starting
+pub mod Choosing
+pub mod Widened
 pub mod Promising
 pub mod Unread
 pub mod Counting

@@ -26,11 +26,12 @@ use Rattle.node.specs.Nodes.{Value, Node, IsKnown, IsFirstUnknown, AllKnown}
 use Rattle.node.specs.Tickets.{IsHeld}
 use Rattle.node.specs.Effects.{quiet, learned}
 use Rattle.node.specs.Deliveries.{reached_by, with_vote}
-use Rattle.node.specs.Calls.{submit, tick, ask, deliver, HasRound, queued}
+use Rattle.node.specs.Calls.{submit, tick, widen, ask, deliver, fresh_ballot, HasRound, oldest, resent, MayWiden, queued}
 use Rattle.node.specs.Tidy.{IsTidy}
 use Rattle.node.specs.Stuck.{IsStuck, NeverStuck}
 use Rattle.node.proofs.Gaps.{not_all_known}
-use Rattle.node.proofs.FreshAttempts.{ticks, tick_effect}
+use Rattle.node.proofs.SendingAgain.{open_past, all_in_window}
+use Rattle.node.proofs.FreshAttempts.{ticks, begins}
 use Rattle.node.proofs.Verdicts.{prepares, proposes}
 
 -- against a contradiction anything holds or does not
@@ -256,6 +257,13 @@ never_stuck n p s (submit v) runs tidy stuck = on_value n p s v tidy stuck (valu
 never_stuck n p s tick runs tidy stuck =
     at_gap s (λ full. stuck.no_cause fault.InstancesUsedUp (λ e. cc) full)
     (λ i first. cases (λ (round : HasRound s ⊎ (¬ HasRound s)).
-    ⊎_elim (λ yes. stuck.no_effect (tick_effect p s i) (ticks p s i tidy.attempted first yes)) (λ no. stuck.no_cause fault.RoundsUsedUp (λ e. cc) (not_all_known s i first, no)) round))
+    ⊎_elim (λ yes. stuck.no_effect _ (ticks p s i (fresh_ballot p s) (oldest s.pending) (open_past s.attempts i 7) (all_in_window s i tidy first) first yes refl refl)) (λ no. stuck.no_cause fault.RoundsUsedUp (λ e. cc) (not_all_known s i first, no)) round))
+never_stuck n p s widen runs tidy stuck =
+    cases (λ (may : MayWiden s ⊎ (¬ MayWiden s)).
+    ⊎_elim
+    (λ (at : MayWiden s). cases (λ (round : HasRound s ⊎ (¬ HasRound s)).
+    ⊎_elim (λ yes. stuck.no_effect _ (inl (begins p s at.0.0 (fresh_ballot p s) at.1.0 at.0.1 at.1.1 yes refl))) (λ no. stuck.no_cause fault.RoundsUsedUp (λ e. cc) (at, no)) round))
+    (λ none. stuck.no_effect (quiet s) (inr (none, refl)))
+    may)
 never_stuck n p s ask runs tidy stuck = at_gap s (λ full. stuck.no_cause fault.InstancesUsedUp (λ e. cc) full) (λ i first. stuck.no_effect _ (record { instance = i; first = first; is = refl }))
 never_stuck n p s (deliver m) runs tidy stuck = on_message n p s m stuck

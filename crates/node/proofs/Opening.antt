@@ -39,7 +39,7 @@ module _ {D : Type 0} (stands_for : D → DiskState → Type 0) (disk : D) (code
         reached = reached;
       };
       tidy = opens_tidy Up entries None;
-      ranges = opens_in_range Up entries None;
+      ranges = opens_in_range _ Up entries None;
       fed = λ k v is. absurd (none k v (subst (λ (vs : List Value). slice_get vs k ≡ Some v) releases is));
     };
     on_disk = λ d stands.

@@ -25,18 +25,18 @@ use Rattle.command.specs.declared.fault.CommandFault.{CommandFault}
 use Rattle.command.specs.declared.fault.CommandFault.TheVariants.{TooLong, Form}
 use Rattle.command.specs.Action.{Order}
 use Rattle.command.specs.Reading.{read_row, with_ticket, ticket_of, text_row}
-use Rattle.proposer.specs.Attempts.{Answer, Attempt, opened, senders, Chooses, Counts, with_answer, waiting, proposing, TakesPromise}
+use Rattle.proposer.specs.Attempts.{Answer, Attempt, opened, latest, senders, Chooses, Counts, with_answer, waiting, proposing, TakesPromise}
 use Rattle.node.specs.declared.to.To.{To}
 use Rattle.node.specs.declared.to.To.TheVariants.{One, All}
 use Rattle.node.specs.Nodes.{Value, Node, IsKnown, IsUnknown}
 use Rattle.node.specs.Tickets.{IsCommand, IsHeld, has_same_ticket}
 use Rattle.node.specs.Effects.{Effect, quiet, says, learned}
 use Rattle.node.specs.Deliveries.{prepare_out, propose_out, promise_out, with_vote, Counted, ByKind}
-use Rattle.node.specs.Calls.{Call, submit, tick, ask, deliver, queued, oldest, fresh_ballot, resent, Does}
+use Rattle.node.specs.Calls.{Call, submit, tick, widen, ask, deliver, queued, oldest, fresh_ballot, HasRound, resent, Begins, MayWiden, Does}
 use Rattle.node.specs.Endings.{Whole, Refused, Failed}
 use Rattle.node.specs.Tidy.{IsTidy}
 use Rattle.node.specs.Ranges.{IsAttemptInRange, HasRanges, IsCallInRange, OpensInRange, StaysInRange, SaysMessages}
-use Rattle.node.proofs.Saying.{none_sent_again}
+use Rattle.node.proofs.Windows.{next_in}
 
 same_some : {X : Type 0} (x y : X) → Some x ≡ Some y → x ≡ y
 same_some x y e = cc
@@ -77,35 +77,54 @@ oldest_short (v ∷ vs) h = h v (inl refl)
 
 -- ---- ranges are kept
 
-put_attempt : (attempts : ℕ → Option Attempt) (i : ℕ) (a : Attempt) → ((j : ℕ) (b : Attempt) → attempts j ≡ Some b → IsAttemptInRange b) → IsAttemptInRange a
-    → (j : ℕ) (b : Attempt) → put_at attempts i (Some a) j ≡ Some b → IsAttemptInRange b
-put_attempt attempts i a h is j b e =
-    ⊎_elim (λ (at : j ≡ i). subst IsAttemptInRange (same_some a b (sym (put_here attempts i (Some a) j at) ∙ e)) is)
+put_attempt : (n : ℕ) (attempts : ℕ → Option Attempt) (i : ℕ) (a : Attempt) → ((j : ℕ) (b : Attempt) → attempts j ≡ Some b → IsAttemptInRange n b) → IsAttemptInRange n a
+    → (j : ℕ) (b : Attempt) → put_at attempts i (Some a) j ≡ Some b → IsAttemptInRange n b
+put_attempt n attempts i a h is j b e =
+    ⊎_elim (λ (at : j ≡ i). subst (IsAttemptInRange n) (same_some a b (sym (put_here attempts i (Some a) j at) ∙ e)) is)
     (λ apart. h j b (sym (put_other attempts i (Some a) j apart) ∙ e)) (cases_eq j i)
 
 prior_short : (prior : Option Vote) (w : Vote) → IfSome prior (λ vote. length vote.value ≤ MAX_VALUE) → prior ≡ Some w → length w.value ≤ MAX_VALUE
 prior_short None w h e = cc
 prior_short (Some x) w h e = subst (λ (y : Vote). length y.value ≤ MAX_VALUE) (same_some x w e) h
 
-with_one : (a : Attempt) (q : ℕ) (prior : Option Vote) → IsAttemptInRange a → IfSome prior (λ vote. length vote.value ≤ MAX_VALUE)
+with_one : (n : ℕ) (a : Attempt) (q : ℕ) (prior : Option Vote) → IsAttemptInRange n a → IfSome prior (λ vote. length vote.value ≤ MAX_VALUE)
     → (x : Answer) (w : Vote) → In (with_answer a q prior) x → x.prior ≡ Some w → length w.value ≤ MAX_VALUE
-with_one a q prior h fits x w k e =
+with_one n a q prior h fits x w k e =
     ⊎_elim (λ m. h.told x w m e) (λ (is : record { sender = q; prior = prior } ≡ x). prior_short prior w fits (ap (λ (y : Answer). y.prior) is ∙ e))
     (in_push a.answers (record { sender = q; prior = prior }) x k)
 
+chosen_short : (own : Value) (answers : List Answer) (v : Value) → length own ≤ MAX_VALUE → ((x : Answer) (w : Vote) → In answers x → x.prior ≡ Some w → length w.value ≤ MAX_VALUE) → Chooses own answers v → length v ≤ MAX_VALUE
+chosen_short own answers v fits told chooses =
+    ⊎_elim
+    (λ none. subst (λ (x : Value). length x ≤ MAX_VALUE) (sym none.1) fits)
+    (λ (h : (x : Answer) × (c : BallotOf) × In answers x × (x.prior ≡ Some (record { ballot = c; value = v })) × _). told h.0 (record { ballot = h.1; value = v }) h.2 h.3)
+    chooses
+
+waiting_in_range : (n : ℕ) (a : Attempt) (q : ℕ) (prior : Option Vote) → IsAttemptInRange n a → IfSome prior (λ vote. length vote.value ≤ MAX_VALUE) → IsAttemptInRange n (waiting a q prior)
+waiting_in_range n a q prior h fits = record { ballot = h.ballot; own = h.own; proposed = h.proposed; told = with_one n a q prior h fits }
+
+proposing_in_range : (n : ℕ) (a : Attempt) (q : ℕ) (prior : Option Vote) (v : Value) → IsAttemptInRange n a → IfSome prior (λ vote. length vote.value ≤ MAX_VALUE) → Chooses a.own (with_answer a q prior) v
+    → IsAttemptInRange n (proposing a q prior v)
+proposing_in_range n a q prior v h fits chooses = record {
+  ballot = h.ballot;
+  own = h.own;
+  proposed = λ u e. subst (λ (x : Value). length x ≤ MAX_VALUE) (same_some v u e) (chosen_short a.own (with_answer a q prior) v h.own (with_one n a q prior h fits) chooses);
+  told = with_one n a q prior h fits;
+}
+
 taken_ranges : (n : ℕ) (attempts : ℕ → Option Attempt) (q i : ℕ) (b : BallotOf) (prior : Option Vote) (after : ℕ → Option Attempt) (proposed : Option Value) → TakesPromise n attempts q i b prior after proposed
-    → IfSome prior (λ vote. length vote.value ≤ MAX_VALUE) → ((j : ℕ) (a : Attempt) → attempts j ≡ Some a → IsAttemptInRange a) → (j : ℕ) (a : Attempt) → after j ≡ Some a → IsAttemptInRange a
+    → IfSome prior (λ vote. length vote.value ≤ MAX_VALUE) → ((j : ℕ) (a : Attempt) → attempts j ≡ Some a → IsAttemptInRange n a) → (j : ℕ) (a : Attempt) → after j ≡ Some a → IsAttemptInRange n a
 taken_ranges n attempts q i b prior after None step fits h =
     ⊎_elim
     (λ (x : ((a : Attempt) → attempts i ≡ Some a → ¬ Counts a q b) × (after ≡ attempts)). λ j a e. h j a (ap (λ (f : ℕ → Option Attempt). f j) (sym x.1) ∙ e))
     (λ (x : (a : Attempt) × (attempts i ≡ Some a) × Counts a q b × (¬ Majority n (senders (with_answer a q prior))) × (after ≡ put_at attempts i (Some (waiting a q prior)))).
-    λ j a e. put_attempt attempts i (waiting x.0 q prior) h (record { own = (h i x.0 x.1).own; told = with_one x.0 q prior (h i x.0 x.1) fits }) j a (ap (λ (f : ℕ → Option Attempt). f j) (sym x.4) ∙ e))
+    λ j a e. put_attempt n attempts i (waiting x.0 q prior) h (waiting_in_range n x.0 q prior (h i x.0 x.1) fits) j a (ap (λ (f : ℕ → Option Attempt). f j) (sym x.4) ∙ e))
     step
 taken_ranges n attempts q i b prior after (Some v) step fits h = λ j a e.
-    put_attempt attempts i (proposing step.0 q prior v) h (record { own = (h i step.0 step.1).own; told = with_one step.0 q prior (h i step.0 step.1) fits }) j a (ap (λ (f : ℕ → Option Attempt). f j) (sym step.5) ∙ e)
+    put_attempt n attempts i (proposing step.0 q prior v) h (proposing_in_range n step.0 q prior v (h i step.0 step.1) fits step.4) j a (ap (λ (f : ℕ → Option Attempt). f j) (sym step.5) ∙ e)
 
-learned_ranges : (s : Node) (i : ℕ) (v : Value) → HasRanges s → IsInstance i → length v ≤ MAX_VALUE → HasRanges (learned s i v)
-learned_ranges s i v h instance fits = record {
+learned_ranges : (n : ℕ) (s : Node) (i : ℕ) (v : Value) → HasRanges n s → IsInstance i → length v ≤ MAX_VALUE → HasRanges n (learned s i v)
+learned_ranges n s i v h instance fits = record {
   known = λ j u e. ⊎_elim (λ (at : j ≡ i). (subst IsInstance (sym at) instance, subst (λ (x : Value). length x ≤ MAX_VALUE) (same_some v u (sym (put_here s.known i (Some v) j at) ∙ e)) fits))
       (λ apart. h.known j u (sym (put_other s.known i (Some v) j apart) ∙ e)) (cases_eq j i);
   pending = λ u k. h.pending u (kept_in (λ u. not (has_same_ticket u v)) s.pending u k);
@@ -113,34 +132,34 @@ learned_ranges s i v h instance fits = record {
       (λ apart. h.attempts j a (sym (put_other s.attempts i None j apart) ∙ e)) (cases_eq j i);
 }
 
-same_ranges : (s t : Node) → HasRanges s → t.known ≡ s.known → t.pending ≡ s.pending → t.attempts ≡ s.attempts → HasRanges t
-same_ranges s t h known pending attempts = record {
+same_ranges : (n : ℕ) (s t : Node) → HasRanges n s → t.known ≡ s.known → t.pending ≡ s.pending → t.attempts ≡ s.attempts → HasRanges n t
+same_ranges n s t h known pending attempts = record {
   known = λ i v e. h.known i v (ap (λ (f : ℕ → Option Value). f i) (sym known) ∙ e);
   pending = λ v k. h.pending v (subst (λ (vs : List Value). In vs v) pending k);
   attempts = λ i a e. h.attempts i a (ap (λ (f : ℕ → Option Attempt). f i) (sym attempts) ∙ e);
 }
 
-by_effect : (effect e : Effect) → effect ≡ e → HasRanges e.after → HasRanges effect.after
-by_effect effect e is h = subst (λ (x : Effect). HasRanges x.after) (sym is) h
+by_effect : {n : ℕ} (effect e : Effect) → effect ≡ e → HasRanges n e.after → HasRanges n effect.after
+by_effect {n = n} effect e is h = subst (λ (x : Effect). HasRanges n x.after) (sym is) h
 
-delivery_ranges : (n p : ℕ) (s : Node) (m : Message) (effect : Effect) → HasRanges s → IsMessage n m → ByKind n p s m effect → HasRanges effect.after
+delivery_ranges : (n p : ℕ) (s : Node) (m : Message) (effect : Effect) → HasRanges n s → IsMessage n m → ByKind n p s m effect → HasRanges n effect.after
 delivery_ranges n p s (Prepare q i b) effect h m how = by_effect effect (record { entry = how.entry; after = s; out = _ }) how.is h
 delivery_ranges n p s (Propose q i b v) effect h m how = by_effect effect (record { entry = how.entry; after = s; out = _ }) how.is h
 delivery_ranges n p s (Promise q i b prior) effect h m how =
     by_effect effect (record { entry = None; after = record s { attempts = how.attempts }; out = _ }) how.is
     (record { known = h.known; pending = h.pending; attempts = taken_ranges n s.attempts q i b prior how.attempts how.proposed how.step m.fits h.attempts })
 delivery_ranges n p s (Accepted q i b v) effect h m how =
-    let told : HasRanges (with_vote s (told_vote q i b v)) = same_ranges s (with_vote s (told_vote q i b v)) h refl refl refl in
+    let told : HasRanges n (with_vote s (told_vote q i b v)) = same_ranges n s (with_vote s (told_vote q i b v)) h refl refl refl in
     ⊎_elim
     (λ (x : IsUnknown s i × Counted n (with_vote s (told_vote q i b v)) i b v effect).
     ⊎_elim
     (λ (few : (¬ HasMajority n (In (with_vote s (told_vote q i b v)).votes) i b v) × (effect ≡ quiet (with_vote s (told_vote q i b v)))). by_effect effect (quiet (with_vote s (told_vote q i b v))) few.1 told)
     (λ (enough : HasMajority n (In (with_vote s (told_vote q i b v)).votes) i b v × (effect ≡ quiet (learned (with_vote s (told_vote q i b v)) i v))).
-    by_effect effect (quiet (learned (with_vote s (told_vote q i b v)) i v)) enough.1 (learned_ranges (with_vote s (told_vote q i b v)) i v told m.instance m.fits))
+    by_effect effect (quiet (learned (with_vote s (told_vote q i b v)) i v)) enough.1 (learned_ranges n (with_vote s (told_vote q i b v)) i v told m.instance m.fits))
     x.1)
     (λ (x : IsKnown s i × (effect ≡ quiet s)). by_effect effect (quiet s) x.1 h)
     how
-delivery_ranges n p s (Nack q i b c) effect h m how = by_effect effect (quiet (record s { heard = max s.heard c.round })) how (same_ranges s (record s { heard = max s.heard c.round }) h refl refl refl)
+delivery_ranges n p s (Nack q i b c) effect h m how = by_effect effect (quiet (record s { heard = max s.heard c.round })) how (same_ranges n s (record s { heard = max s.heard c.round }) h refl refl refl)
 delivery_ranges n p s (Ask q i) effect h m how =
     ⊎_elim
     (λ (x : (v : Value) × (s.known i ≡ Some v) × (effect ≡ says s (One q) (Chosen p i v))). by_effect effect (says s (One q) (Chosen p i x.0)) x.2 h)
@@ -148,12 +167,20 @@ delivery_ranges n p s (Ask q i) effect h m how =
     how
 delivery_ranges n p s (Chosen q i v) effect h m how =
     ⊎_elim
-    (λ (x : IsUnknown s i × (effect ≡ quiet (learned s i v))). by_effect effect (quiet (learned s i v)) x.1 (learned_ranges s i v h m.instance m.fits))
+    (λ (x : IsUnknown s i × (effect ≡ quiet (learned s i v))). by_effect effect (quiet (learned s i v)) x.1 (learned_ranges n s i v h m.instance m.fits))
     (λ (x : (s.known i ≡ Some v) × (effect ≡ quiet s)). by_effect effect (quiet s) x.1 h)
     how
 
-call_ranges : (n p : ℕ) (s : Node) (call : Call) (effect : Effect) → HasRanges s → IsCallInRange n call → Does n p s call effect → HasRanges effect.after
-call_ranges n p s (submit v) effect h m how =
+-- a fresh attempt of a value within the limit
+begun_ranges : (n p : ℕ) (s : Node) (i : ℕ) (v : Value) → IsNode n p → HasRanges n s → HasRound s → length v ≤ MAX_VALUE → HasRanges n (record s { attempts = put_at s.attempts i (Some (opened (fresh_ballot p s) v)) })
+begun_ranges n p s i v node h round fits = record {
+  known = h.known;
+  pending = h.pending;
+  attempts = put_attempt n s.attempts i (opened (fresh_ballot p s) v) h.attempts (record { ballot = (omega arith, round, node); own = fits; proposed = λ u e. absurd (no_value u e); told = λ x w k e. absurd k });
+}
+
+call_ranges : (n p : ℕ) (s : Node) (call : Call) (effect : Effect) → IsNode n p → HasRanges n s → IsCallInRange n call → Does n p s call effect → HasRanges n effect.after
+call_ranges n p s (submit v) effect node h m how =
     ⊎_elim
     (λ (x : IsCommand v × IsHeld s v × (effect ≡ quiet s)). by_effect effect (quiet s) x.2 h)
     (λ (x : IsCommand v × (¬ IsHeld s v) × (length s.pending < 64) × (effect ≡ quiet (queued s v))). by_effect effect (quiet (queued s v)) x.3 (record {
@@ -162,20 +189,26 @@ call_ranges n p s (submit v) effect h m how =
       attempts = h.attempts;
     }))
     how
-call_ranges n p s tick effect h m how =
-    let a : Attempt = opened (fresh_ballot p s) (oldest s.pending) in
-    by_effect effect (record { entry = _; after = record s { attempts = put_at s.attempts how.instance (Some a) }; out = _ }) how.is
-    (record { known = h.known; pending = h.pending; attempts = put_attempt s.attempts how.instance a h.attempts (record { own = oldest_short s.pending h.pending; told = λ x w k e. absurd k }) })
-call_ranges n p s ask effect h m how = by_effect effect (says s _ _) how.is h
-call_ranges n p s (deliver m) effect h is how = delivery_ranges n p (record s { reached = _ }) m effect (same_ranges s (record s { reached = _ }) h refl refl refl) is how
+call_ranges n p s tick effect node h m how =
+    by_effect effect (record { entry = _; after = record s { attempts = put_at s.attempts how.instance (Some (opened (fresh_ballot p s) (oldest s.pending))) }; out = _ }) how.is
+    (begun_ranges n p s how.instance (oldest s.pending) node h how.round (oldest_short s.pending h.pending))
+call_ranges n p s widen effect node h m how =
+    ⊎_elim
+    (λ (x : Begins p s effect).
+    by_effect effect (record { entry = _; after = record s { attempts = put_at s.attempts x.instance (Some (opened (fresh_ballot p s) x.value)) }; out = _ }) x.is
+    (begun_ranges n p s x.instance x.value node h x.round (h.pending x.value (next_in s x.value x.next))))
+    (λ (x : (¬ MayWiden s) × (effect ≡ quiet s)). by_effect effect (quiet s) x.1 h)
+    how
+call_ranges n p s ask effect node h m how = by_effect effect (says s _ _) how.is h
+call_ranges n p s (deliver m) effect node h is how = delivery_ranges n p (record s { reached = _ }) m effect (same_ranges n s (record s { reached = _ }) h refl refl refl) is how
 
 pub opens_in_range : OpensInRange
-opens_in_range mode entries in_flight = record { known = λ i v e. absurd (no_value v e); pending = λ v k. absurd k; attempts = λ i a e. absurd (no_attempt a e) }
+opens_in_range n mode entries in_flight = record { known = λ i v e. absurd (no_value v e); pending = λ v k. absurd k; attempts = λ i a e. absurd (no_attempt a e) }
 
 pub stays_in_range : StaysInRange
-stays_in_range n p s new call Whole out h m how = let after = call_ranges n p s call how.effect h m how.does in subst HasRanges (sym how.node) (record { known = after.known; pending = after.pending; attempts = after.attempts })
-stays_in_range n p s new call (Refused cause) out h m how = subst HasRanges (sym how.node) h
-stays_in_range n p s new call Failed out h m how = subst HasRanges (sym how.node) (record { known = h.known; pending = h.pending; attempts = h.attempts })
+stays_in_range n p s new call Whole out node h m how = let after = call_ranges n p s call how.effect node h m how.does in subst (HasRanges n) (sym how.node) (record { known = after.known; pending = after.pending; attempts = after.attempts })
+stays_in_range n p s new call (Refused cause) out node h m how = subst (HasRanges n) (sym how.node) h
+stays_in_range n p s new call Failed out node h m how = subst (HasRanges n) (sym how.node) (record { known = h.known; pending = h.pending; attempts = h.attempts })
 
 -- ---- what is on record is in its ranges
 
@@ -258,24 +291,17 @@ propose_says n p i b v es slot after (nack c) node instance ballot fits history 
 propose_says n p i b v es slot after (promise prior) node instance ballot fits history is step = no_message n
 propose_says n p i b v es slot after no_answer node instance ballot fits history is step = no_message n
 
-chosen_short : (own : Value) (answers : List Answer) (v : Value) → length own ≤ MAX_VALUE → ((x : Answer) (w : Vote) → In answers x → x.prior ≡ Some w → length w.value ≤ MAX_VALUE) → Chooses own answers v → length v ≤ MAX_VALUE
-chosen_short own answers v fits told chooses =
-    ⊎_elim
-    (λ none. subst (λ (x : Value). length x ≤ MAX_VALUE) (sym none.1) fits)
-    (λ (h : (x : Answer) × (c : BallotOf) × In answers x × (x.prior ≡ Some (record { ballot = c; value = v })) × _). told h.0 (record { ballot = h.1; value = v }) h.2 h.3)
-    chooses
-
 by_out : (n : ℕ) (effect e : Effect) → effect ≡ e → Says n e.out → Says n effect.out
 by_out n effect e is h = subst (λ (x : Effect). Says n x.out) (sym is) h
 
 promise_says : (n p : ℕ) (s : Node) (q i : ℕ) (b : BallotOf) (prior : Option Vote) (after : ℕ → Option Attempt) (proposed : Option Value) → IsNode n p → IsInstance i → IsBallot n b
-    → IfSome prior (λ vote. length vote.value ≤ MAX_VALUE) → HasRanges s → TakesPromise n s.attempts q i b prior after proposed → Says n (promise_out p i b proposed)
+    → IfSome prior (λ vote. length vote.value ≤ MAX_VALUE) → HasRanges n s → TakesPromise n s.attempts q i b prior after proposed → Says n (promise_out p i b proposed)
 promise_says n p s q i b prior after None node instance ballot fits h step = no_message n
 promise_says n p s q i b prior after (Some v) node instance ballot fits h step =
     let a = h.attempts i step.0 step.1 in
-    one_message n All (Propose p i b v) (record { sender = node; instance = instance; ballots = ballot; fits = chosen_short step.0.own (with_answer step.0 q prior) v a.own (with_one step.0 q prior a fits) step.4 })
+    one_message n All (Propose p i b v) (record { sender = node; instance = instance; ballots = ballot; fits = chosen_short step.0.own (with_answer step.0 q prior) v a.own (with_one n step.0 q prior a fits) step.4 })
 
-delivery_says : (n p : ℕ) (s : Node) (m : Message) (effect : Effect) → IsNode n p → IsHistory n s.entries → HasRanges s → IsMessage n m → ByKind n p s m effect → Says n effect.out
+delivery_says : (n p : ℕ) (s : Node) (m : Message) (effect : Effect) → IsNode n p → IsHistory n s.entries → HasRanges n s → IsMessage n m → ByKind n p s m effect → Says n effect.out
 delivery_says n p s (Prepare q i b) effect node history h m how =
     by_out n effect (record { entry = how.entry; after = s; out = prepare_out p i b how.answer }) how.is (prepare_says n p i b s.entries how.slot how.after how.answer node m.instance m.ballots history how.on_record how.step)
 delivery_says n p s (Propose q i b v) effect node history h m how =
@@ -306,11 +332,23 @@ delivery_says n p s (Chosen q i v) effect node history h m how =
     (λ (x : (s.known i ≡ Some v) × (effect ≡ quiet s)). by_out n effect (quiet s) x.1 (no_message n))
     how
 
-none_in : (p : ℕ) (s : Node) (i : ℕ) (elsewhere : List (ℕ × Attempt)) → length (map (resent p) elsewhere) ≡ 0 → (x : To × Message) → In (map (resent p) elsewhere) x → ⊥
-none_in p s i [] none x k = k
-none_in p s i (y ∷ ys) none x k = omega (arith, none)
+-- the latest message of an attempt in range
+latest_says : (n p i : ℕ) (a : Attempt) → IsNode n p → IsInstance i → IsAttemptInRange n a → (made : Option Value) → a.proposal ≡ made → IsMessage n (latest p i a.ballot made)
+latest_says n p i a node instance range None is = record { sender = node; instance = instance; ballots = range.ballot; fits = tt }
+latest_says n p i a node instance range (Some v) is = record { sender = node; instance = instance; ballots = range.ballot; fits = range.proposed v is }
 
-call_says : (n p : ℕ) (s : Node) (call : Call) (effect : Effect) → IsNode n p → IsHistory n s.entries → IsTidy s → HasRanges s → IsCallInRange n call → Does n p s call effect → Says n effect.out
+again_says : (n p : ℕ) (xs : List (ℕ × Attempt)) → IsNode n p → ((x : ℕ × Attempt) → In xs x → IsInstance x.0 × IsAttemptInRange n x.1) → Says n (map (resent p) xs)
+again_says n p [] node each x k = absurd k
+again_says n p (y ∷ ys) node each x k =
+    let here = each y (inl refl) in
+    ⊎_elim
+    (λ (e : resent p y ≡ x). subst (λ (z : To × Message). IsMessage n z.1) e (latest_says n p y.0 y.1 node here.0 here.1 y.1.proposal refl))
+    (λ later. again_says n p ys node (λ z m. each z (inr m)) x later) k
+
+fresh_says : (n p : ℕ) (s : Node) (i : ℕ) → IsNode n p → IsInstance i → HasRound s → IsMessage n (Prepare p i (fresh_ballot p s))
+fresh_says n p s i node instance round = record { sender = node; instance = instance; ballots = (omega arith, round, node); fits = tt }
+
+call_says : (n p : ℕ) (s : Node) (call : Call) (effect : Effect) → IsNode n p → IsHistory n s.entries → IsTidy s → HasRanges n s → IsCallInRange n call → Does n p s call effect → Says n effect.out
 call_says n p s (submit v) effect node history tidy h m how =
     ⊎_elim
     (λ (x : IsCommand v × IsHeld s v × (effect ≡ quiet s)). by_out n effect (quiet s) x.2 (no_message n))
@@ -319,13 +357,19 @@ call_says n p s (submit v) effect node history tidy h m how =
 call_says n p s tick effect node history tidy h m how =
     let i = how.instance in
     let b = fresh_ballot p s in
-    let none = none_sent_again p s i how.elsewhere tidy how.first how.open_elsewhere in
-    let first : IsMessage n (Prepare p i b) = record { sender = node; instance = how.first.instance; ballots = (omega arith, how.round, node); fits = tt } in
+    let again = again_says n p how.elsewhere node (λ x k. let at = (how.open_elsewhere.each x k).1 in ((tidy.attempted x.0 x.1 at).instance, h.attempts x.0 x.1 at)) in
     by_out n effect (record { entry = _; after = record s { attempts = _ }; out = (All, Prepare p i b) ∷ map (resent p) how.elsewhere }) how.is
-    (λ x k. ⊎_elim (λ (e : (All, Prepare p i b) ≡ x). subst (λ (y : To × Message). IsMessage n y.1) e first) (λ again. absurd (none_in p s i how.elsewhere none x again)) k)
+    (λ x k. ⊎_elim (λ (e : (All, Prepare p i b) ≡ x). subst (λ (y : To × Message). IsMessage n y.1) e (fresh_says n p s i node how.first.instance how.round)) (λ later. again x later) k)
+call_says n p s widen effect node history tidy h m how =
+    ⊎_elim
+    (λ (x : Begins p s effect).
+    by_out n effect (record { entry = _; after = record s { attempts = _ }; out = (All, Prepare p x.instance (fresh_ballot p s)) ∷ [] }) x.is
+    (one_message n All (Prepare p x.instance (fresh_ballot p s)) (fresh_says n p s x.instance node x.free.free.instance x.round)))
+    (λ (x : (¬ MayWiden s) × (effect ≡ quiet s)). by_out n effect (quiet s) x.1 (no_message n))
+    how
 call_says n p s ask effect node history tidy h m how =
     by_out n effect (says s All (Ask p how.instance)) how.is (one_message n All (Ask p how.instance) (record { sender = node; instance = how.first.instance; ballots = tt; fits = tt }))
-call_says n p s (deliver m) effect node history tidy h is how = delivery_says n p (record s { reached = _ }) m effect node history (same_ranges s (record s { reached = _ }) h refl refl refl) is how
+call_says n p s (deliver m) effect node history tidy h is how = delivery_says n p (record s { reached = _ }) m effect node history (same_ranges n s (record s { reached = _ }) h refl refl refl) is how
 
 pub says_messages : SaysMessages
 says_messages n p s new call Whole out node history tidy h m how x k =

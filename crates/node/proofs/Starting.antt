@@ -1,10 +1,11 @@
--- A tick: the ballot that it takes, and its whole ending.
-use Rattle.std.proofs.Common.{◌≡◌, ℕ, suc, ◌+◌, ◌<◌, max, false, Option, Some, [], ◌∷◌, ◌++◌, refl, sym, ap, subst, ◌∙◌, arith}
+-- A fresh attempt: the ballot that it takes, and the whole ending of a call that begins it.
+use Rattle.std.proofs.Common.{◌≡◌, ℕ, suc, ◌+◌, ◌<◌, max, false, Option, Some, List, [], ◌∷◌, ◌++◌, refl, sym, ap, subst, ◌∙◌, arith}
 use Rattle.std.specs.Prelude.{◌↔◌}
 use Rattle.site_ids.specs.declared.TheConstants.{MAX_ROUND}
 use Rattle.site_disk.specs.Model.{DiskState}
 use Rattle.site_ids.specs.Ids.{BallotOf}
 use Rattle.site_ids.specs.Lists.{In, put_at}
+use Rattle.wire.specs.declared.message.Message.{Message}
 use Rattle.wire.specs.declared.message.Message.TheVariants.{Prepare}
 use Rattle.durable.specs.Entries.{Round, last_round}
 use Rattle.durable.specs.Puts.{IsPut, Acknowledges}
@@ -15,13 +16,14 @@ use Rattle.proposer.specs.Standing.{Attempting}
 use Rattle.node.specs.declared.known.Known.{Known}
 use Rattle.node.specs.declared.queue.Queue.{Queue}
 use Rattle.node.specs.declared.running.Node.{Node as Running}
+use Rattle.node.specs.declared.to.To.{To}
 use Rattle.node.specs.declared.to.To.TheVariants.{All}
-use Rattle.node.specs.Nodes.{Value, Node, IsFirstUnknown}
-use Rattle.node.specs.Calls.{tick, fresh_ballot, HasRound, oldest}
+use Rattle.node.specs.Nodes.{Value, Node}
+use Rattle.node.specs.Calls.{Call, fresh_ballot, HasRound, Does}
 use Rattle.node.specs.Knowing.{AreKnown}
 use Rattle.node.specs.Standing.{HasParts, IsNodeOf, KeepsOthers}
 use Rattle.node.specs.Waiting.{AreWaiting}
-use Rattle.node.proofs.FreshAttempts.{begun, begins}
+use Rattle.node.proofs.FreshAttempts.{begun}
 use Rattle.node.proofs.Stepping.{Done, put_record, put_stays}
 
 module _ {D : Type 0} where
@@ -56,14 +58,14 @@ module _ {D : Type 0} where
     pub queue : new.queue ≡ old.queue
     pub reached : new.reached ≡ old.reached
 
-  pub started : (stands_for : D → DiskState → Type 0) (failed : D → ℕ) (old new : Running D) (s : Node) (i : ℕ) (b : BallotOf) (own : Value) → IsNodeOf old s → old.store.stopped ≡ false → KeepsOthers old new → IsFirstUnknown s.known i
-      → b ≡ next_of old → max old.store.recorded.round old.proposer.heard < MAX_ROUND → own ≡ oldest s.pending → Starts stands_for failed old new i b own → Done stands_for old new tick ((All, Prepare old.me i b) ∷ []) s
-  started stands_for failed old new s i b own stands runs others first next low oldest_is starts =
+  pub started : (stands_for : D → DiskState → Type 0) (failed : D → ℕ) (old new : Running D) (s : Node) (call : Call) (i : ℕ) (b : BallotOf) (own : Value) (again : List (To × Message)) → IsNodeOf old s → old.store.stopped ≡ false → KeepsOthers old new
+      → Does old.cluster old.me s call (begun old.me s i b own again) → Starts stands_for failed old new i b own → Done stands_for old new call ((All, Prepare old.me i b) ∷ again) s
+  started stands_for failed old new s call i b own again stands runs others does starts =
       let parts = stands.parts in
       let t : Node = record s { entries = s.entries ++ Round b.round ∷ []; attempts = put_at s.attempts i (Some (opened b own)) } in
       record {
-        effect = begun old.me s i b own;
-        does = begins old.me s i b own stands.tidy.attempted first (has_round old s parts low) (next ∙ next_is_fresh old s parts) oldest_is;
+        effect = begun old.me s i b own again;
+        does = does;
         handed = refl;
         parts = record {
           on_record = put_record stands_for failed old new (Round b.round) others runs s parts starts.put;

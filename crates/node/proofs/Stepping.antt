@@ -37,7 +37,7 @@ use Rattle.node.specs.Effects.{Effect, recorded}
 use Rattle.node.specs.Endings.{Ending, Whole, Refused, Failed, Ends, EndsWhole, EndsRefused, EndsFailed, Contradicts, Refuses}
 use Rattle.node.specs.Faults.{of_record}
 use Rattle.node.specs.Knowing.{AreKnown}
-use Rattle.node.specs.Ranges.{IsCallInRange}
+use Rattle.node.specs.Ranges.{HasRanges, IsCallInRange}
 use Rattle.node.specs.Standing.{ending_by, ending_of, IsOnRecord, HasParts, IsNodeOf, IsOnDisk, IsEither, StaysOnDisk, Leads, IsEvent, KeepsOthers, CountsDevice}
 use Rattle.node.specs.Waiting.{AreWaiting}
 use Rattle.node.proofs.Knowing.{beginning_stays}
@@ -190,7 +190,7 @@ module _ {D : Type 0} where
     stands_after old new call ending out s t others in_range stands ends parts = record {
       parts = parts;
       tidy = stays_tidy old.cluster old.me s t call ending out ends stands.tidy;
-      ranges = stays_in_range old.cluster old.me s t call ending out stands.ranges in_range ends;
+      ranges = subst (λ (n : ℕ). HasRanges n t) (sym others.cluster) (stays_in_range old.cluster old.me s t call ending out old.of_cluster stands.ranges in_range ends);
       fed = subst (λ (vs : List Value). BeginsKnown vs t) (sym others.releases) (beginning_stays old.cluster old.me s t call ending out ends old.releases stands.fed);
     }
 

@@ -3,6 +3,7 @@ pub mod Tickets
 pub mod Effects
 pub mod Deliveries
 pub mod Calls
+pub mod Again
 pub mod Endings
 pub mod Laws
 pub mod Tidy

@@ -49,7 +49,7 @@ pub record HasParts {D : Type 0} (code : Running D) (s : Node) : Type 0 where
 pub record IsNodeOf {D : Type 0} (code : Running D) (s : Node) : Type 0 where
   pub parts : HasParts code s
   pub tidy : IsTidy s
-  pub ranges : HasRanges s
+  pub ranges : HasRanges code.cluster s
   pub fed : BeginsKnown code.releases s
 
 -- ---- on the disk
@@ -103,6 +103,11 @@ pub record KeepsOthers {D : Type 0} (old new : Running D) : Type 0 where
   pub me : new.me ≡ old.me
   pub cluster : new.cluster ≡ old.cluster
   pub releases : new.releases ≡ old.releases
+
+-- a round above the last one is on record
+pub record TakesRound {D : Type 0} (old new : Running D) : Type 0 where
+  pub above : old.store.recorded.round < new.store.recorded.round
+  pub fits : new.store.recorded.round < 2 ^ 32
 
 -- a failure of the device is told where its count rose, or stands at its last value, and else nothing was counted
 pub record CountsDevice {T : Type 0} (result : Result T NodeFault) (before now : ℕ) : Type 0 where

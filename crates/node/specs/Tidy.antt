@@ -1,13 +1,15 @@
 -- What stands in a node beside its record, whatever calls it has taken since it opened.
-use Rattle.std.specs.Prelude.{◌≡◌, ℕ, ◌≤◌, true, false, Option, Some, None, List, [], ◌∷◌, length, ⊤}
+use Rattle.std.specs.Prelude.{◌≡◌, ℕ, ◌+◌, ◌≤◌, true, false, Option, Some, None, List, [], ◌∷◌, length, ⊤}
 use Rattle.site_ids.specs.declared.TheConstants.{MAX_PENDING}
+use Rattle.site_ids.specs.Ids.{IsInstance}
 use Rattle.site_ids.specs.Lists.{In}
 use Rattle.wire.specs.declared.message.Message.{Message}
 use Rattle.durable.specs.Entries.{Entry}
 use Rattle.learner.specs.ToldVotes.{ToldVote}
 use Rattle.proposer.specs.Attempts.{Attempt}
+use Rattle.proposer.specs.declared.TheConstants.{MAX_ATTEMPTS}
 use Rattle.node.specs.declared.to.To.{To}
-use Rattle.node.specs.Nodes.{Value, Mode, Node, opened, IsFirstUnknown}
+use Rattle.node.specs.Nodes.{Value, Mode, Node, opened}
 use Rattle.node.specs.Tickets.{IsCommand, has_same_ticket}
 use Rattle.node.specs.Calls.{Call}
 use Rattle.node.specs.Endings.{Ending, Ends}
@@ -17,10 +19,16 @@ abbrev pub AreApart : List Value → Type 0
 AreApart [] = ⊤
 AreApart (v ∷ vs) = ((u : Value) → In vs u → has_same_ticket u v ≡ false) × AreApart vs
 
--- Votes stand at unknown instances. What is pending are commands, 64 at most, each of a ticket of its own that no known value has. While a node has one
--- attempt, it stands at the first unknown instance
+-- an unknown instance at most 7 past the first unknown one: all instances further below it are known
+pub record IsInWindow (known : ℕ → Option Value) (i : ℕ) : Type 0 where
+  pub instance : IsInstance i
+  pub unknown : known i ≡ None
+  pub before : (j : ℕ) → IsInstance j → j + MAX_ATTEMPTS ≤ i → (v : Value) × (known j ≡ Some v)
+
+-- Attempts stand in the window of unknown instances, votes at unknown ones. What is pending are commands, 64 at most, each of a ticket of its own that no
+-- known value has
 pub record AreTidy (votes : List ToldVote) (known : ℕ → Option Value) (attempts : ℕ → Option Attempt) (pending : List Value) : Type 0 where
-  pub attempted : (i : ℕ) (a : Attempt) → attempts i ≡ Some a → IsFirstUnknown known i
+  pub attempted : (i : ℕ) (a : Attempt) → attempts i ≡ Some a → IsInWindow known i
   pub voted : (t : ToldVote) → In votes t → known t.instance ≡ None
   pub commands : (v : Value) → In pending v → IsCommand v
   pub few : length pending ≤ MAX_PENDING

@@ -2,6 +2,7 @@
 #![tactic(auto)]
 
 mod accepted;
+mod again;
 mod asked;
 mod asking;
 mod chosen;
@@ -23,9 +24,14 @@ mod submitting;
 mod tickets;
 mod ticking;
 mod to;
+mod widening;
 
 pub use fault::NodeFault;
 pub use laws::{calls_forget_nothing, no_call_is_stuck, nodes_stay_in_range, nodes_stay_tidy};
+use proposer::MAX_ATTEMPTS;
 pub use running::Node;
 pub use submitted::Submitted;
 pub use to::{Outbox, To};
+
+/// Attempts stand at so many instances, from the first unknown one on.
+pub(crate) const WINDOW: u32 = MAX_ATTEMPTS as u32;

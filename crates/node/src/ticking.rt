@@ -1,4 +1,4 @@
-//! A tick: a fresh attempt at the first unknown instance.
+//! A tick: a fresh attempt at the first unknown instance, and the other attempts' messages once more.
 
 ghost use Rattle.std.specs.Prelude.{◌≡◌, IsErrOf};
 
@@ -12,7 +12,7 @@ impl<D: Disk> Node<D> {
     ghost use Rattle.node.specs.Standing.{IsEvent, OnlyGrows, KeepsOthers, CountsDevice, ending_of};
 
     /// A fresh round goes on record, and an attempt at the first unknown instance begins with it, for the oldest value
-    /// that is pending.
+    /// that is pending. The latest messages of the other attempts are sent again behind its prepare, by instance.
     pub fn tick(&mut self, outbox: &mut Outbox) -> Result<(), NodeFault>
         ensures event { IsEvent D.stands_for self.old self.new ticking (ending_of result) outbox.old.items outbox.new.items }
         ensures counts { CountsDevice result (D.failed self.old.store.disk) (D.failed self.new.store.disk) }
@@ -28,7 +28,8 @@ impl<D: Disk> Node<D> {
         let Ok(ballot) = self.proposer.next_ballot(self.store.round()) else {
             return Err(NodeFault::RoundsUsedUp);
         };
-        outbox.reserve(1)?;
+        let mut again = self.sent_again(instance)?;
+        outbox.reserve(1 + again.len())?;
         self.proposer.make_room(instance)?;
         let own = Value::copied_from(self.alloc, self.queue.oldest())?;
         self.store.put_round(ballot.round())?;
@@ -41,6 +42,7 @@ impl<D: Disk> Node<D> {
                 ballot,
             },
         ));
+        let _ = outbox.append(&mut again);
         Ok(())
     }
 }

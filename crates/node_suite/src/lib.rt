@@ -13,3 +13,5 @@ mod refusals;
 mod rows;
 #[cfg(test)]
 mod samples;
+#[cfg(test)]
+mod widening;

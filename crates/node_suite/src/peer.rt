@@ -124,6 +124,15 @@ impl Peer {
         self.node.tick(&mut self.out)
     }
 
+    pub(crate) fn widen(&mut self) -> Result<bool, NodeFault> {
+        self.node.widen(&mut self.out)
+    }
+
+    /// Empties what was handed out.
+    pub(crate) fn forget_said(&mut self) {
+        self.out.clear();
+    }
+
     pub(crate) fn ask(&mut self) -> Result<(), NodeFault> {
         self.node.ask(&mut self.out)
     }

@@ -17,6 +17,7 @@ enum Step {
     Submit,
     Ask,
     Tick,
+    Widen,
     Publish,
     Hear(Said),
 }
@@ -69,6 +70,10 @@ fn act(node: &mut Peer, step: Step) -> Result<(), Halt> {
         }
         Step::Ask => Ok(node.ask()?),
         Step::Tick => Ok(node.tick()?),
+        Step::Widen => {
+            let _ = node.widen()?;
+            Ok(())
+        }
         Step::Publish => {
             let _ = node.publish()?;
             Ok(())
@@ -139,6 +144,14 @@ fn ticks(rt: HostRuntime) -> Result<(), Fail> {
     ];
     let node = after(&rt, rt.alloc(), &steps)?;
     assert!(rt; proposes(node.out(), b"v"));
+    Ok(())
+}
+
+#[test]
+fn widenings(rt: HostRuntime) -> Result<(), Fail> {
+    let steps = [Step::Submit, Step::Widen, Step::Tick];
+    let node = after(&rt, rt.alloc(), &steps)?;
+    assert!(rt; prepared_round(node.out()).is_some_and(|round| 1 < round));
     Ok(())
 }
 

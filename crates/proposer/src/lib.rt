@@ -11,4 +11,4 @@ pub use laws::attempts_propose_once;
 pub use proposing::{Proposal, Proposer};
 
 /// The most attempts that a node keeps open.
-pub const MAX_ATTEMPTS: usize = 1;
+pub const MAX_ATTEMPTS: usize = 8;

@@ -1,6 +1,6 @@
 -- One turn: what was heard, what the node does with it, and what is sent.
-use Rattle.std.proofs.Common.{◌≡◌, ◌≢◌, ◌⊎◌, inl, inr, ⊎_elim, ℕ, zero, suc, ◌+◌, ◌≤◌, ◌<◌, Option, Some, None, Result, Ok, Err, List, [], ◌∷◌, ◌++◌, length, take, refl, sym, ap, subst, ◌∙◌, append-nil, append_assoc, arith}
-use Rattle.std.specs.Prelude.{IfSome, IfNone, ⊤}
+use Rattle.std.proofs.Common.{◌≡◌, ◌⊎◌, inl, inr, ⊎_elim, ℕ, zero, suc, ◌+◌, ◌≤◌, ◌<◌, Option, Some, None, List, [], ◌∷◌, ◌++◌, length, take, refl, sym, ap, subst, ◌∙◌, append-nil, arith}
+use Rattle.std.specs.Prelude.{IfSome, IfNone}
 use Rattle.std.proofs.lemmas.List.{length-take}
 use Rattle.std.proofs.Math.Seq.{take-append_seam}
 use Rattle.site_ids.specs.Lists.{In}
@@ -8,7 +8,6 @@ use Rattle.site_disk.specs.Model.{DiskState}
 use Rattle.wire.specs.declared.TheConstants.{MAX_MESSAGE}
 use Rattle.wire.specs.declared.message.Message.{Message}
 use Rattle.wire.specs.Messages.{Fits}
-use Rattle.wire.specs.Spelling.{spelled}
 use Rattle.wire.specs.Decoding.{Spells}
 use Rattle.wire.proofs.LengthLemmas.{longest_spelling}
 use Rattle.node.specs.declared.fault.NodeFault.{NodeFault}
@@ -20,8 +19,8 @@ use Rattle.node.specs.Calls.{Call, deliver}
 use Rattle.node.specs.Endings.{Whole, Ends}
 use Rattle.node.specs.Standing.{IsNodeOf, IsOnDisk, IsEvent, ending_by}
 use Rattle.site_drive.proofs.Giving.{take_past}
-use Rattle.site_drive.specs.Drives.{Heard, Takes, datagrams, sent_of, Scene, Exchanges, BreaksOff, GivesUp}
-use Rattle.site_drive.specs.Leading.{KeepsRecord, NodeLeads, IsAt, LeadsTo, IsHeldAs}
+use Rattle.site_drive.specs.Drives.{Heard, Takes, datagrams, sent_of, Exchanges, BreaksOff, GivesUp}
+use Rattle.site_drive.specs.Leading.{NodeLeads, LeadsTo, IsHeldAs}
 
 -- ---- what was heard
 
@@ -59,15 +58,18 @@ module _ (n k : ℕ) (d : List ℕ) (room : k ≡ MAX_MESSAGE + 1) where
 
 -- ---- a delivery
 
+pub nothing_out : (n p : ℕ) (s next : Node) (call : Call) (out : List (To × Message)) (why : NodeFault) → Ends n p s call (ending_by why) out next → out ≡ []
+nothing_out n p s next call out fault.OutOfMemory h = h.nothing
+nothing_out n p s next call out fault.Device h = h.nothing
+nothing_out n p s next call out fault.Stopped h = h.nothing
+nothing_out n p s next call out fault.QueueFull h = h.nothing
+nothing_out n p s next call out (fault.NotACommand why) h = h.nothing
+nothing_out n p s next call out fault.InstancesUsedUp h = h.nothing
+nothing_out n p s next call out fault.RoundsUsedUp h = h.nothing
+nothing_out n p s next call out fault.Conflict h = h.nothing
+
 pub none_out : (n p : ℕ) (s next : Node) (call : Call) (out : List (To × Message)) (why : NodeFault) → Ends n p s call (ending_by why) out next → Ends n p s call (ending_by why) [] next
-none_out n p s next call out fault.OutOfMemory h = subst (λ l. Ends n p s call (ending_by fault.OutOfMemory) l next) h.nothing h
-none_out n p s next call out fault.Device h = subst (λ l. Ends n p s call (ending_by fault.Device) l next) h.nothing h
-none_out n p s next call out fault.Stopped h = subst (λ l. Ends n p s call (ending_by fault.Stopped) l next) h.nothing h
-none_out n p s next call out fault.QueueFull h = subst (λ l. Ends n p s call (ending_by fault.QueueFull) l next) h.nothing h
-none_out n p s next call out (fault.NotACommand why) h = subst (λ l. Ends n p s call (ending_by (fault.NotACommand why)) l next) h.nothing h
-none_out n p s next call out fault.InstancesUsedUp h = subst (λ l. Ends n p s call (ending_by fault.InstancesUsedUp) l next) h.nothing h
-none_out n p s next call out fault.RoundsUsedUp h = subst (λ l. Ends n p s call (ending_by fault.RoundsUsedUp) l next) h.nothing h
-none_out n p s next call out fault.Conflict h = subst (λ l. Ends n p s call (ending_by fault.Conflict) l next) h.nothing h
+none_out n p s next call out why h = subst (λ l. Ends n p s call (ending_by why) l next) (nothing_out n p s next call out why h) h
 
 module _ {D : Type 0} (stands_for : D → DiskState → Type 0) (old new : Running D) (bytes : List ℕ) (m : Message) (before after : List (To × Message)) (spells : Spells old.cluster bytes m) (empty : before ≡ []) where
   pub taken : IsEvent stands_for old new (deliver m) Whole before after

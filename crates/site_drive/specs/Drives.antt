@@ -1,4 +1,4 @@
--- What a drive does with its node: turn after turn, and then a tick or a question.
+-- What a drive does with its node: turn after turn, and then a tick with widenings, or a question.
 use Rattle.std.specs.Prelude.{◌≡◌, ◌≢◌, ◌⊎◌, ℕ, zero, suc, ◌+◌, ◌≤◌, Option, Some, None, List, [], ◌∷◌, ◌++◌, length, map, take, flat_map}
 use Rattle.wire.specs.declared.message.Message.{Message}
 use Rattle.wire.specs.Decoding.{Spells}
@@ -8,8 +8,8 @@ use Rattle.node.specs.declared.fault.NodeFault.TheVariants.{OutOfMemory, Instanc
 use Rattle.node.specs.declared.to.To.{To}
 use Rattle.node.specs.declared.to.To.TheVariants.{One, All}
 use Rattle.node.specs.Nodes.{Node, WantsTick, IsKnownPrefix}
-use Rattle.node.specs.Calls.{Call, tick, ask, deliver}
-use Rattle.node.specs.Endings.{Whole, Refused, Ends}
+use Rattle.node.specs.Calls.{tick, widen, ask, deliver, MayWiden}
+use Rattle.node.specs.Endings.{Ending, Whole, Refused, Ends}
 use Rattle.node.specs.Standing.{ending_by}
 
 -- ---- turns
@@ -72,15 +72,40 @@ pub record Exchanges (n p turns malformed : ℕ) (fed : List (List ℕ)) (before
   pub given : after.given ≡ before.given ++ sent_of n out
   pub fed_is : turns ≢ 0 → IsKnownPrefix after.node fed
 
--- behind the last turn a tick where one is wanted, and else a question
-abbrev pub IsLastCall : Node → Call → Type 0
-IsLastCall s tick = WantsTick s
-IsLastCall s ask = ¬ WantsTick s
-IsLastCall s _ = ⊥
+-- ---- behind the last turn
 
--- that call is whole, or it is passed over, as every instance is known
+-- so many widenings, one after the other, each of which begins an attempt
+abbrev pub Begin : ℕ → ℕ → ℕ → Node → List (To × Message) → Node → Type 0
+Begin n p zero s out next = (out ≡ []) × (next ≡ s)
+Begin n p (suc k) s out next =
+    (mid : Node) × (first : List (To × Message)) × (then : List (To × Message))
+    × Begin n p k s first mid × MayWiden mid × Ends n p mid widen Whole then next × (out ≡ first ++ then)
+
+-- and a last one, which ends so and hands out nothing
+pub record Widens (n p : ℕ) (s : Node) (ending : Ending) (out : List (To × Message)) (next : Node) : Type 0 where
+  pub count : ℕ
+  pub mid : Node
+  pub begin : Begin n p count s out mid
+  pub last : Ends n p mid widen ending [] next
+
+-- a tick, and then widenings
+pub record TicksAndWidens (n p : ℕ) (s : Node) (ending : Ending) (out : List (To × Message)) (next : Node) : Type 0 where
+  pub mid : Node
+  pub ticked : List (To × Message)
+  pub widened : List (To × Message)
+  pub ticks : Ends n p s tick Whole ticked mid
+  pub widens : Widens n p mid ending widened next
+  pub out_is : out ≡ ticked ++ widened
+
+-- Where a tick is wanted, it ends so and isn't whole, or widenings follow it, of which the last ends so. Else a question does
+abbrev pub EndsLast : ℕ → ℕ → Node → Ending → List (To × Message) → Node → Type 0
+EndsLast n p s ending out next =
+    (WantsTick s × (((ending ≢ Whole) × Ends n p s tick ending out next) ⊎ TicksAndWidens n p s ending out next))
+    ⊎ ((¬ WantsTick s) × Ends n p s ask ending out next)
+
+-- the last call is whole, or it is passed over, as every instance is known
 abbrev pub EndsTurns : ℕ → ℕ → Node → List (To × Message) → Node → Type 0
-EndsTurns n p s out next = (call : Call) × IsLastCall s call × (Ends n p s call Whole out next ⊎ Ends n p s call (Refused InstancesUsedUp) out next)
+EndsTurns n p s out next = EndsLast n p s Whole out next ⊎ EndsLast n p s (Refused InstancesUsedUp) out next
 
 pub record Closes (n p : ℕ) (before after : Scene) : Type 0 where
   pub out : List (To × Message)
@@ -88,7 +113,7 @@ pub record Closes (n p : ℕ) (before after : Scene) : Type 0 where
   pub received : after.received ≡ before.received
   pub given : after.given ≡ before.given ++ sent_of n out
 
--- a drive is its turns and the last call
+-- a drive is its turns and what is behind the last one
 pub record Drives (n p turns malformed : ℕ) (fed : List (List ℕ)) (before after : Scene) : Type 0 where
   pub mid : Scene
   pub turns_first : Exchanges n p turns malformed fed before mid
@@ -119,16 +144,14 @@ pub record GivesUp (n p turns : ℕ) (fault : NodeFault) (before after : Scene) 
       ((bytes : List ℕ) × BreaksOff n p mid bytes fault after.node × (after.received ≡ before.received ++ datagrams (heard ++ Some bytes ∷ [])) × (suc (length heard) ≤ turns))
       ⊎ ((fault ≡ OutOfMemory) × (after.node ≡ mid) × (after.received ≡ before.received ++ datagrams heard) × (length heard ≤ turns))
 
--- given up at the last call: it ended by this fault, or memory was wanted to send what it handed out
+-- given up behind the last turn: the last call ended by this fault, or memory was wanted to send what was handed out
 pub record GivesUpLast (n p : ℕ) (fault : NodeFault) (before after : Scene) : Type 0 where
   pub out : List (To × Message)
-  pub ends :
-      ((call : Call) × IsLastCall before.node call × Ends n p before.node call (ending_by fault) out after.node)
-      ⊎ ((fault ≡ OutOfMemory) × EndsTurns n p before.node out after.node)
+  pub ends : EndsLast n p before.node (ending_by fault) out after.node ⊎ ((fault ≡ OutOfMemory) × EndsTurns n p before.node out after.node)
   pub received : after.received ≡ before.received
   pub given : IsPartlyGiven n out before after
 
--- given up in a turn, or at the last call behind all of them
+-- given up in a turn, or behind all of them
 abbrev pub GivesUpDriving : ℕ → ℕ → ℕ → NodeFault → Scene → Scene → Type 0
 GivesUpDriving n p turns fault before after =
     GivesUp n p turns fault before after

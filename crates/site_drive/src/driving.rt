@@ -1,16 +1,14 @@
-//! Turns, and the call behind the last one.
+//! Turns, and the calls behind the last one.
 
-ghost use Rattle.std.specs.Prelude.{◌≡◌, ◌≤◌, ◌≢◌, [], ℕ, List, IfOk, IfErr, OnOk, OnErr};
+ghost use Rattle.std.specs.Prelude.{◌≡◌, ◌≤◌, ◌≢◌, ◌++◌, [], ℕ, List, IfOk, IfErr, OnOk, OnErr};
 ghost use Rattle.site_ids.specs.Lists.{In};
 ghost use Rattle.wire.specs.declared.message.Message.{Message};
 ghost use Rattle.wire.specs.Messages.{Fits};
-ghost use Rattle.node.specs.Calls.{Call};
-ghost use Rattle.node.specs.Endings.{Ends};
 ghost use Rattle.node.specs.Standing.{KeepsOthers, ending_by, ending_of};
 ghost use Rattle.node.specs.declared.to.To.{To};
 ghost use Rattle.site_drive.specs.Links.{RoseBy};
 ghost use Rattle.site_drive.specs.Sending.{Counted};
-ghost use Rattle.site_drive.specs.Drives.{Exchanges, GivesUp, IsLastCall, EndsTurns, Closes, GivesUpLast, Drives, GivesUpDriving};
+ghost use Rattle.site_drive.specs.Drives.{Exchanges, GivesUp, Widens, EndsLast, EndsTurns, Closes, GivesUpLast, Drives, GivesUpDriving};
 ghost use Rattle.site_drive.specs.Leading.{LeadsTo, NodeLeads, StaysWhose};
 
 use crate::desk::Desk;
@@ -48,26 +46,37 @@ impl Desk {
 }
 
 impl Desk {
-    /// Ticks where a tick is wanted, and else asks.
+    /// Widens until no attempt more begins.
+    fn widen_all<D: Disk>(&mut self, node: &mut Node<D>) -> Result<(), NodeFault>
+        ensures event { NodeLeads D.stands_for node.old node.new (λ s next. (out : List (To × Message)) × (self.new.outbox.items ≡ self.old.outbox.items ++ out)
+            × Widens node.old.cluster node.old.me s (ending_of result) out next × ((x : To × Message) → In out x → Fits x.1)) }
+        ensures others { KeepsOthers node.old node.new }
+        ensures counted { self.new.failed ≡ self.old.failed }
+    {
+        'widening: while node.widen(&mut self.outbox)? {}
+        Ok(())
+    }
+
+    /// Ticks and then widens where a tick is wanted, and else asks.
     fn tick_or_ask<D: Disk>(&mut self, node: &mut Node<D>) -> Result<(), NodeFault>
         requires { self.old.outbox.items ≡ [] }
-        ensures event { NodeLeads D.stands_for node.old node.new (λ s next. (call : Call) × IsLastCall s call × Ends node.old.cluster node.old.me s call (ending_of result) self.new.outbox.items next
+        ensures event { NodeLeads D.stands_for node.old node.new (λ s next. EndsLast node.old.cluster node.old.me s (ending_of result) self.new.outbox.items next
             × ((x : To × Message) → In self.new.outbox.items x → Fits x.1)) }
         ensures others { KeepsOthers node.old node.new }
         ensures counted { self.new.failed ≡ self.old.failed }
     {
-        if node.wants_tick() {
-            node.tick(&mut self.outbox)
-        } else {
-            node.ask(&mut self.outbox)
+        if !node.wants_tick() {
+            return node.ask(&mut self.outbox);
         }
+        node.tick(&mut self.outbox)?;
+        self.widen_all(node)
     }
 
-    /// The call behind the last turn. That every instance is known is passed over.
+    /// The calls behind the last turn. That every instance is known is passed over.
     fn last_call<D: Disk>(&mut self, node: &mut Node<D>) -> Result<(), NodeFault>
         requires { self.old.outbox.items ≡ [] }
         ensures ok { OnOk result (NodeLeads D.stands_for node.old node.new (λ s next. EndsTurns node.old.cluster node.old.me s self.new.outbox.items next × ((x : To × Message) → In self.new.outbox.items x → Fits x.1))) }
-        ensures fault { IfErr result (λ fault. NodeLeads D.stands_for node.old node.new (λ s next. (call : Call) × IsLastCall s call × Ends node.old.cluster node.old.me s call (ending_by fault) [] next)) }
+        ensures fault { IfErr result (λ fault. NodeLeads D.stands_for node.old node.new (λ s next. (out : List (To × Message)) × EndsLast node.old.cluster node.old.me s (ending_by fault) out next)) }
         ensures other { IfErr result (λ fault. fault ≢ NodeFault.InstancesUsedUp) }
         ensures others { KeepsOthers node.old node.new }
         ensures counted { self.new.failed ≡ self.old.failed }
@@ -106,7 +115,7 @@ pub fn exchange<D: Disk, L: Link>(
 }
 
 impl Desk {
-    /// The call behind the last turn, and what it hands out is sent.
+    /// The calls behind the last turn, and what they hand out is sent.
     fn close<D: Disk, L: Link>(&mut self, node: &mut Node<D>, link: &mut L) -> Result<(), NodeFault>
         requires { self.old.outbox.items ≡ [] }
         ensures ok { OnOk result (LeadsTo D.stands_for L.received L.given node.old node.new link.old link.new (Closes node.old.cluster node.old.me)) }
@@ -128,7 +137,7 @@ impl Desk {
     }
 }
 
-/// Turns as those of `exchange`, and then a tick where one is wanted, and else a question.
+/// Turns as those of `exchange`, and then a tick and widenings where a tick is wanted, and else a question.
 pub fn drive<D: Disk, L: Link>(
     alloc: Global,
     node: &mut Node<D>,

@@ -6,7 +6,7 @@ use Rattle.std.proofs.Math.Seq.{get_or-append_seam}
 use Rattle.site_ids.specs.Ids.{IsNode}
 use Rattle.site_ids.specs.declared.Ticket.{Ticket}
 use Rattle.sitectl.specs.Words.{Lacks, IsCut}
-use Rattle.sitectl.specs.Schedule.{Line, submit_line, tick_line, ask_line, restart_line, deliver_line, arm_line, crash_line, settle_line, show_line, get_line, submit_words, words, joined, body, spelled, FitsSubmission, Fits, HasNoLine, GetsNoLine, spelled_nodes, HasNoNodes, GetsNoNodes}
+use Rattle.sitectl.specs.Schedule.{Line, submit_line, tick_line, widen_line, ask_line, restart_line, deliver_line, arm_line, crash_line, settle_line, show_line, get_line, submit_words, words, joined, body, spelled, FitsSubmission, Fits, HasNoLine, GetsNoLine, spelled_nodes, HasNoNodes, GetsNoNodes}
 use Rattle.sitectl.proofs.Cutting.{Same, lacks-append, lacks-cons, no_cut, one_cut}
 use Rattle.sitectl.proofs.Frames.{lacks-decimal}
 use Rattle.sitectl.proofs.LineLemmas.{same_submission, number_cut}
@@ -44,6 +44,7 @@ lacks-submission p ticket len ok =
 lacks-words : (line : Line) → Fits line → Lacks 10 (joined (words line))
 lacks-words (submit_line p ticket text) ok = lacks-submission p ticket (length text) ok
 lacks-words (tick_line p) ok = lacks-behind (codes "tick ") _ refl (lacks-last p (omega arith))
+lacks-words (widen_line p) ok = lacks-behind (codes "widen ") _ refl (lacks-last p (omega arith))
 lacks-words (ask_line p) ok = lacks-behind (codes "ask ") _ refl (lacks-last p (omega arith))
 lacks-words (restart_line p) ok = lacks-behind (codes "restart ") _ refl (lacks-last p (omega arith))
 lacks-words (deliver_line p index) ok = lacks-behind (codes "deliver ") _ refl (lacks-number p _ (omega arith) (lacks-last index (omega arith)))
@@ -77,6 +78,7 @@ IsNoSubmission head = (p : ℕ) (ticket : Ticket) (len : ℕ) → FitsSubmission
 of_neither : (head : List ℕ) (line : Line) → IsNoLine head → IsNoSubmission head → Fits line → head ≢ joined (words line)
 of_neither head (submit_line p ticket text) plain submission ok e = submission p ticket (length text) ok e
 of_neither head (tick_line p) plain submission ok e = plain (tick_line p) ok refl e
+of_neither head (widen_line p) plain submission ok e = plain (widen_line p) ok refl e
 of_neither head (ask_line p) plain submission ok e = plain (ask_line p) ok refl e
 of_neither head (restart_line p) plain submission ok e = plain (restart_line p) ok refl e
 of_neither head (deliver_line p index) plain submission ok e = plain (deliver_line p index) ok refl e
@@ -114,6 +116,7 @@ begins_so xs ys e = (ap (λ zs. get_or zs 0 0) e, ap (λ zs. get_or zs 1 0) e)
 text_of : (p : ℕ) (ticket : Ticket) (len : ℕ) (after : List ℕ) (line : Line) (rest : List ℕ) → FitsSubmission p ticket len → Fits line → joined (submit_words p ticket len) ≡ joined (words line) → after ≡ body line ++ rest → HasText after rest len
 text_of p ticket len after (submit_line q u text) rest hp ok is whole = record { text = text; long = sym (one_length p q ticket u len (length text) hp ok is); whole = whole ∙ append_assoc text (10 ∷ []) rest }
 text_of p ticket len after (tick_line q) rest hp ok is whole = let starts = begins_so _ _ is in absurd (omega (arith, starts.0, starts.1))
+text_of p ticket len after (widen_line q) rest hp ok is whole = let starts = begins_so _ _ is in absurd (omega (arith, starts.0, starts.1))
 text_of p ticket len after (ask_line q) rest hp ok is whole = let starts = begins_so _ _ is in absurd (omega (arith, starts.0, starts.1))
 text_of p ticket len after (restart_line q) rest hp ok is whole = let starts = begins_so _ _ is in absurd (omega (arith, starts.0, starts.1))
 text_of p ticket len after (deliver_line q index) rest hp ok is whole = let starts = begins_so _ _ is in absurd (omega (arith, starts.0, starts.1))

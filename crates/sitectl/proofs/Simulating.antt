@@ -21,7 +21,7 @@ use Rattle.sitectl.specs.declared.ends.InputFault.TheVariants as input
 use Rattle.sitectl.specs.declared.simulator.SimFault.{SimFault}
 use Rattle.sitectl.specs.declared.simulator.Simulation.{Simulation}
 use Rattle.sitectl.specs.declared.simulator.SimFault.TheVariants as sim
-use Rattle.sitectl.specs.Schedule.{Line, submit_line, tick_line, ask_line, restart_line, deliver_line, arm_line, crash_line, settle_line, show_line, get_line}
+use Rattle.sitectl.specs.Schedule.{Line, submit_line, tick_line, widen_line, ask_line, restart_line, deliver_line, arm_line, crash_line, settle_line, show_line, get_line}
 use Rattle.sitectl.specs.Simulation.{Moment, IsMoment, to_each, deliveries, event_of, Does, TakesOne}
 use Rattle.sitectl.specs.Stepping.{Grown, HasTaken, ReadEnds, FillEnds, BeginEnds, HappenEnds, moment_of, sim_fault}
 
@@ -110,6 +110,7 @@ take_fault old new line event sim.Read r is at (inr k) bad = cc
 does_one : (n : ℕ) (old new : Moment) (line : Line) (event : Event) (printed : List ℕ) → event_of line ≡ Some event → TakesOne n old line printed new → Does n old line printed new
 does_one n old new (submit_line p ticket text) event printed is t = t
 does_one n old new (tick_line p) event printed is t = t
+does_one n old new (widen_line p) event printed is t = t
 does_one n old new (ask_line p) event printed is t = t
 does_one n old new (restart_line p) event printed is t = t
 does_one n old new (deliver_line p index) event printed is t = t

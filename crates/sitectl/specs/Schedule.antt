@@ -10,6 +10,7 @@ use Rattle.sitectl.specs.Words.{Lacks}
 pub data Line : Type 0 where
   submit_line : (p : ℕ) → Ticket → (text : List ℕ) → Line
   tick_line : (p : ℕ) → Line
+  widen_line : (p : ℕ) → Line
   ask_line : (p : ℕ) → Line
   restart_line : (p : ℕ) → Line
   deliver_line : (p index : ℕ) → Line
@@ -26,6 +27,7 @@ submit_words p ticket len = codes "submit" ∷ decimal p ∷ decimal ticket.edit
 abbrev pub words : Line → List (List ℕ)
 words (submit_line p ticket text) = submit_words p ticket (length text)
 words (tick_line p) = codes "tick" ∷ decimal p ∷ []
+words (widen_line p) = codes "widen" ∷ decimal p ∷ []
 words (ask_line p) = codes "ask" ∷ decimal p ∷ []
 words (restart_line p) = codes "restart" ∷ decimal p ∷ []
 words (deliver_line p index) = codes "deliver" ∷ decimal p ∷ decimal index ∷ []
@@ -62,6 +64,7 @@ FitsSubmission p ticket len = IsNode 9 p × (ticket.editor < 2 ^ 32) × (ticket.
 abbrev pub Fits : Line → Type 0
 Fits (submit_line p ticket text) = FitsSubmission p ticket (length text)
 Fits (tick_line p) = IsNode 9 p
+Fits (widen_line p) = IsNode 9 p
 Fits (ask_line p) = IsNode 9 p
 Fits (restart_line p) = IsNode 9 p
 Fits (deliver_line p index) = IsNode 9 p × (index < 2 ^ 64)

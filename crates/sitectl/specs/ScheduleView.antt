@@ -8,11 +8,12 @@ use Rattle.sitectl.specs.declared.schedule.Found.TheVariants as found
 use Rattle.sitectl.specs.declared.schedule.FoundNodes.{FoundNodes}
 use Rattle.sitectl.specs.declared.schedule.FoundNodes.TheVariants as found_nodes
 use Rattle.sitectl.specs.declared.schedule.Submission.{Submission}
-use Rattle.sitectl.specs.Schedule.{Line, submit_line, tick_line, ask_line, restart_line, deliver_line, arm_line, crash_line, settle_line, show_line, get_line, submit_words, FitsSubmission, Fits, spelled, HasNoLine, GetsNoLine, spelled_nodes, HasNoNodes, GetsNoNodes}
+use Rattle.sitectl.specs.Schedule.{Line, submit_line, tick_line, widen_line, ask_line, restart_line, deliver_line, arm_line, crash_line, settle_line, show_line, get_line, submit_words, FitsSubmission, Fits, spelled, HasNoLine, GetsNoLine, spelled_nodes, HasNoNodes, GetsNoNodes}
 
 abbrev pub line_view : Code → Line
 line_view (code.Submit node ticket text) = submit_line node ticket text.now
 line_view (code.Tick node) = tick_line node
+line_view (code.Widen node) = widen_line node
 line_view (code.Ask node) = ask_line node
 line_view (code.Restart node) = restart_line node
 line_view (code.Deliver node index) = deliver_line node index

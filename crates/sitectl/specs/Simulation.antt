@@ -8,7 +8,7 @@ use Rattle.node.specs.Nodes.{Value, Down, IsKnownPrefix}
 use Rattle.release.specs.Page.{Page}
 use Rattle.site_ids.specs.Ids.{IsNode}
 use Rattle.world.specs.declared.event.Event.{Event}
-use Rattle.world.specs.declared.event.Event.TheVariants.{Submit, Tick, Ask, Deliver, Arm, Crash, Restart}
+use Rattle.world.specs.declared.event.Event.TheVariants.{Submit, Tick, Widen, Ask, Deliver, Arm, Crash, Restart}
 use Rattle.world.specs.declared.state.NodeState.{NodeState}
 use Rattle.world.specs.declared.state.NodeState.TheVariants as told
 use Rattle.world.specs.declared.whole.World.{World as Code}
@@ -17,7 +17,7 @@ use Rattle.world.specs.Steps.{Reached, IsAnswer}
 use Rattle.world.specs.Taking.{IsBad}
 use Rattle.world.specs.Telling.{mode_told, fed_at}
 use Rattle.world.specs.Worlds.{World}
-use Rattle.sitectl.specs.Schedule.{Line, submit_line, tick_line, ask_line, restart_line, deliver_line, arm_line, crash_line, settle_line, show_line, get_line}
+use Rattle.sitectl.specs.Schedule.{Line, submit_line, tick_line, widen_line, ask_line, restart_line, deliver_line, arm_line, crash_line, settle_line, show_line, get_line}
 
 -- a running world, the events that it has taken since the start, and the least index that no settle has taken
 pub record Moment : Type 0 where
@@ -36,6 +36,7 @@ pub record IsMoment (n : ℕ) (m : Moment) : Type 0 where
 abbrev pub event_of : Line → Option Event
 event_of (submit_line p ticket text) = Some (Submit p (value_of ticket text))
 event_of (tick_line p) = Some (Tick p)
+event_of (widen_line p) = Some (Widen p)
 event_of (ask_line p) = Some (Ask p)
 event_of (restart_line p) = Some (Restart p)
 event_of (deliver_line p index) = Some (Deliver p index)

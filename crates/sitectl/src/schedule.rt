@@ -20,6 +20,9 @@ pub(crate) enum Line<'a> {
     Tick {
         node: NodeId,
     },
+    Widen {
+        node: NodeId,
+    },
     Ask {
         node: NodeId,
     },
@@ -180,6 +183,9 @@ fn plain_line(head: &[u8]) -> Option<Line<'_>>
 {
     if let Some(node) = node_after(head, "tick ") {
         return Some(Line::Tick { node });
+    }
+    if let Some(node) = node_after(head, "widen ") {
+        return Some(Line::Widen { node });
     }
     if let Some(node) = node_after(head, "ask ") {
         return Some(Line::Ask { node });

@@ -83,6 +83,7 @@ fn event_in(alloc: Global, line: &Line<'_>) -> Result<Option<Event>, AllocError>
             Event::Submit { node: *node, value }
         }
         Line::Tick { node } => Event::Tick { node: *node },
+        Line::Widen { node } => Event::Widen { node: *node },
         Line::Ask { node } => Event::Ask { node: *node },
         Line::Restart { node } => Event::Restart { node: *node },
         Line::Deliver { node, index } => Event::Deliver {

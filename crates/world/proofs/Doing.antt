@@ -1,5 +1,5 @@
 -- What each call does at a node by tables, computed, and that it does so.
-use Rattle.std.proofs.Common.{◌≡◌, ◌≢◌, ◌⊎◌, inl, inr, ℕ, zero, suc, ◌<◌, ◌^◌, max, true, false, not, Option, Some, None, Result, Ok, Err, List, [], ◌∷◌, ◌++◌, filter, length, refl, sym, ap, subst, ⊎_elim, arith, ◌∙◌}
+use Rattle.std.proofs.Common.{◌≡◌, ◌≢◌, ◌⊎◌, inl, inr, ℕ, zero, suc, ◌+◌, ◌<◌, ◌≤◌, ◌^◌, max, true, false, not, Option, Some, None, Result, Ok, Err, List, [], ◌∷◌, ◌++◌, filter, length, refl, sym, ap, subst, ⊎_elim, arith, ◌∙◌}
 use Rattle.std.specs.Prelude.{nat_eq}
 use Rattle.site_ids.specs.declared.TheConstants.{MAX_INSTANCE}
 use Rattle.site_ids.specs.Ids.{BallotOf, Below, NotAbove, IsInstance}
@@ -8,6 +8,7 @@ use Rattle.site_ids.specs.declared.value.Vote.{Vote}
 use Rattle.wire.specs.declared.message.Message.{Message}
 use Rattle.wire.specs.declared.message.Message.TheVariants.{Prepare, Promise, Propose, Accepted, Nack, Ask, Chosen}
 use Rattle.durable.specs.Entries.{Round, last_round}
+use Rattle.proposer.specs.declared.TheConstants.{MAX_ATTEMPTS}
 use Rattle.proposer.specs.Attempts.{Answer, Attempt, opened as opened_attempt, waiting, proposing, senders, with_answer, Counts, ToldNone, Highest, Chooses}
 use Rattle.learner.specs.ToldVotes.{ToldVote, told_vote}
 use Rattle.command.specs.Action.{Order}
@@ -17,7 +18,8 @@ use Rattle.node.specs.declared.to.To.TheVariants.{One, All}
 use Rattle.node.specs.Nodes.{Value, IsFirstUnknown}
 use Rattle.node.specs.Tickets.{IsHeld, has_same_ticket}
 use Rattle.node.specs.Deliveries.{reached_by, OnPromise, OnAccepted, OnAsk, OnChosen, ByKind}
-use Rattle.node.specs.Calls.{Call, submit, tick, ask, deliver, oldest, Does}
+use Rattle.node.specs.Calls.{Call, submit, tick, widen, ask, deliver, oldest, IsFree, IsNextFree, IsTried, IsNextValue, Does}
+use Rattle.node.proofs.Windows.{from_first}
 use Rattle.world.proofs.Lists.{put_at_cases}
 use Rattle.world.proofs.Order.{not_above_itself, not_above_trans, below_is_not_above}
 use Rattle.world.proofs.Told.{Told, both, otherwise, numbers, no_more, ballots, ballot_order, values, among, majority, are_many}
@@ -237,7 +239,7 @@ submitted n p t v (Ok order_) is = elim (apart_from v t.pending) [
   ]
 ]
 
--- ---- a tick and a question
+-- ---- a tick
 
 pub one_further : (known : ℕ → Option Value) (i : ℕ) (v : Value) → known i ≡ Some v → ((j : ℕ) → IsInstance j → j < i → (u : Value) × (known j ≡ Some u)) → (j : ℕ) → IsInstance j → j < suc i → (u : Value) × (known j ≡ Some u)
 one_further known i v is before j at_ low = ⊎_elim (λ (e : j ≡ i). (v, subst (λ k. known k ≡ Some v) (sym e) is)) (λ apart. before j at_ (omega (arith, low, apart))) (numbers j i)
@@ -296,6 +298,96 @@ ticked n p t = elim (first_unknown t) [
   ]
 ]
 
+-- ---- a widening
+
+pub past_known : (t : NodeBy) (j : ℕ) (v : Value) → map_of t.known j ≡ Some v → ((k : ℕ) → IsFree (node_by t) k → j ≤ k) → (k : ℕ) → IsFree (node_by t) k → suc j ≤ k
+past_known t j v is from k free =
+    let low = from k free in
+    ⊎_elim (λ (e : k ≡ j). absurd (no_such v (sym free.unknown ∙ subst (λ i. map_of t.known i ≡ Some v) (sym e) is))) (λ apart. omega (arith, low, apart)) (numbers k j)
+
+pub past_tried : (t : NodeBy) (j : ℕ) (a : Attempt) → map_of t.attempts j ≡ Some a → ((k : ℕ) → IsFree (node_by t) k → j ≤ k) → (k : ℕ) → IsFree (node_by t) k → suc j ≤ k
+past_tried t j a is from k free =
+    let low = from k free in
+    ⊎_elim (λ (e : k ≡ j). absurd (no_such a (sym free.untried ∙ subst (λ i. map_of t.attempts i ≡ Some a) (sym e) is))) (λ apart. omega (arith, low, apart)) (numbers k j)
+
+abbrev pub free_from : (t : NodeBy) (first : ℕ) → IsFirstUnknown (map_of t.known) first → (fuel j : ℕ) → ((k : ℕ) → IsFree (node_by t) k → j ≤ k) → Option ((i : ℕ) × IsNextFree (node_by t) i)
+free_from t first is zero j from = None
+free_from t first is (suc fuel) j from = elim (map_of t.known j) as (λ o. map_of t.known j ≡ o → Option ((i : ℕ) × IsNextFree (node_by t) i)) [
+  | Some v ↦ λ known. free_from t first is fuel (suc j) (past_known t j v known from)
+  | None ↦ λ unknown. elim (map_of t.attempts j) as (λ o. map_of t.attempts j ≡ o → Option ((i : ℕ) × IsNextFree (node_by t) i)) [
+    | Some a ↦ λ tried. free_from t first is fuel (suc j) (past_tried t j a tried from)
+    | None ↦ λ untried. elim (both (both (no_more 1 j) (no_more j MAX_INSTANCE)) (no_more (suc j) (first + MAX_ATTEMPTS))) [
+      | inr far ↦ None
+      | inl h ↦ Some (j, record { first = first; is_first = is; near = h.1; free = record { instance = h.0; unknown = unknown; untried = untried }; least = from })
+    ]
+  ] refl
+] refl
+
+-- an attempt at one of the keys has the value as its own, or none
+abbrev pub tried_at : (xs : Table Attempt) (v : Value) (ks : List ℕ)
+    → ((j : ℕ) × (a : Attempt) × (map_of xs j ≡ Some a) × (a.own ≡ v)) ⊎ ((j : ℕ) (a : Attempt) → In ks j → map_of xs j ≡ Some a → a.own ≡ v → ⊥)
+tried_at xs v [] = inr (λ j a k is own. absurd k)
+tried_at xs v (k ∷ ks) = elim (tried_at xs v ks) [
+  | inl found ↦ inl found
+  | inr later ↦ elim (map_of xs k)
+      as (λ o. map_of xs k ≡ o → ((j : ℕ) × (a : Attempt) × (map_of xs j ≡ Some a) × (a.own ≡ v)) ⊎ ((j : ℕ) (a : Attempt) → In (k ∷ ks) j → map_of xs j ≡ Some a → a.own ≡ v → ⊥)) [
+        | None ↦ λ none. inr (λ j a there is own. ⊎_elim (λ (s : k ≡ j). no_such a (sym none ∙ subst (λ x. map_of xs x ≡ Some a) (sym s) is)) (λ h. later j a h is own) there)
+        | Some a ↦ λ open_. elim (values a.own v) [
+          | inl own ↦ inl (k, a, open_, own)
+          | inr other ↦ inr (λ j c there is own. ⊎_elim
+              (λ (s : k ≡ j). other (subst (λ (x : Attempt). x.own ≡ v) (inside c a (sym is ∙ subst (λ x. map_of xs x ≡ Some a) s open_)) own))
+              (λ h. later j c h is own)
+              there)
+        ]
+      ] refl
+]
+
+abbrev pub tried : (t : NodeBy) (v : Value) → Told (IsTried (node_by t) v)
+tried t v = elim (tried_at t.attempts v (keys t.attempts)) [ inl found ↦ inl found | inr none ↦ inr (λ x. none x.0 x.1 (is_key t.attempts x.0 x.1 x.2) x.2 x.3) ]
+
+-- the oldest of the values that isn't tried, with those before and behind it
+abbrev pub Untried : NodeBy → List Value → Type 0
+Untried t us = (v : Value) × (older : List Value) × (newer : List Value) × (us ≡ older ++ v ∷ newer) × ((u : Value) → In older u → IsTried (node_by t) u) × ¬ IsTried (node_by t) v
+
+abbrev pub untried_in : (t : NodeBy) (us : List Value) → Option (Untried t us)
+untried_in t [] = None
+untried_in t (u ∷ us) = elim (tried t u) [
+  | inr none ↦ Some (u, [], us, refl, (λ x k. absurd k), none)
+  | inl so ↦ elim (untried_in t us) [
+    | None ↦ None
+    | Some r ↦ Some (r.0, u ∷ r.1, r.2, ap (λ l. u ∷ l) r.3, (λ x k. ⊎_elim (λ (e : u ≡ x). subst (λ y. IsTried (node_by t) y) e so) (λ h. r.4 x h) k), r.5)
+  ]
+]
+
+abbrev pub widened : (n p : ℕ) (t : NodeBy) → Option (Done (Does n p (node_by t) widen))
+widened n p t = elim (first_unknown t) [
+  | None ↦ None
+  | Some first ↦ elim (free_from t first.0 first.1 MAX_ATTEMPTS first.0 (λ k free. from_first (map_of t.known) first.0 k first.1 free.instance free.unknown)) [
+    | None ↦ None
+    | Some free ↦ elim (untried_in t t.pending) [
+      | None ↦ None
+      | Some next ↦ elim (no_more (suc (suc (max (last_round t.entries) t.heard))) (2 ^ 32)) [
+        | inr used ↦ None
+        | inl round ↦ Some (record {
+          entry = Some (Round (fresh_of p t).round);
+          after = record t { attempts = (free.0, Some (opened_attempt (fresh_of p t) next.0)) ∷ t.attempts };
+          out = (All, Prepare p free.0 (fresh_of p t)) ∷ [];
+          does = inl (record {
+            instance = free.0;
+            value = next.0;
+            free = free.1;
+            next = record { older = next.1; newer = next.2; pending = next.3; tried = next.4; untried = next.5 };
+            round = round;
+            is = refl;
+          });
+        })
+      ]
+    ]
+  ]
+]
+
+-- ---- a question
+
 abbrev pub asked : (n p : ℕ) (t : NodeBy) → Option (Done (Does n p (node_by t) ask))
 asked n p t = elim (first_unknown t) [
   | None ↦ None
@@ -308,5 +400,6 @@ asked n p t = elim (first_unknown t) [
 abbrev pub done : (n p : ℕ) (t : NodeBy) (call : Call) → Option (Done (Does n p (node_by t) call))
 done n p t (submit v) = submitted n p t v (value_reading v) refl
 done n p t tick = ticked n p t
+done n p t widen = widened n p t
 done n p t ask = asked n p t
 done n p t (deliver m) = by_kind n p (record t { reached = reached_by t.reached m }) m

@@ -7,9 +7,9 @@ use Rattle.wire.specs.declared.message.Message.{Message}
 use Rattle.wire.specs.Messages.{IsMessage}
 use Rattle.node.specs.Nodes.{Node, Up, Down}
 use Rattle.node.specs.Effects.{messages_of}
-use Rattle.node.specs.Calls.{submit, tick, ask, deliver}
+use Rattle.node.specs.Calls.{submit, tick, widen, ask, deliver}
 use Rattle.world.specs.declared.event.Event.{Event}
-use Rattle.world.specs.declared.event.Event.TheVariants.{Submit, Tick, Ask, Deliver, Arm, Crash, Restart}
+use Rattle.world.specs.declared.event.Event.TheVariants.{Submit, Tick, Widen, Ask, Deliver, Arm, Crash, Restart}
 use Rattle.world.specs.declared.places.Place.{Place}
 use Rattle.world.specs.Taking.{node_of, IsUnsent}
 use Rattle.world.specs.Places.{Handed, NodeTakes, Settled, Turns, Wants, IsUp, CallTurns, CallWants, EventTurns, EventWants}
@@ -65,6 +65,9 @@ module _ {T E : Type 0} (r : Result T E) (n : ℕ) (event : Event) (old new : Pl
   pub ticks : (q : ℕ) → event ≡ Tick q → OnOk r ((k p : ℕ) → CallTurns k p tick old new before after) → OnOk r (EventTurns n event old new before after)
   ticks q is told = on_ok r (λ turns. turns_for n event (Tick q) old new before after is (λ messages. turns n q)) told
 
+  pub widens : (q : ℕ) → event ≡ Widen q → OnOk r ((k p : ℕ) → CallTurns k p widen old new before after) → OnOk r (EventTurns n event old new before after)
+  widens q is told = on_ok r (λ turns. turns_for n event (Widen q) old new before after is (λ messages. turns n q)) told
+
   pub asks : (q : ℕ) → event ≡ Ask q → OnOk r ((k p : ℕ) → CallTurns k p ask old new before after) → OnOk r (EventTurns n event old new before after)
   asks q is told = on_ok r (λ turns. turns_for n event (Ask q) old new before after is (λ messages. turns n q)) told
 
@@ -91,6 +94,9 @@ module _ {T E : Type 0} (r : Result T E) (n : ℕ) (event : Event) (old new : Pl
 
   pub tick_wants : (q : ℕ) → event ≡ Tick q → OnErr r ((k p : ℕ) → CallWants k p tick old new before after) → OnErr r (EventWants n (node_of event) event old new before after)
   tick_wants q is told = on_err r (λ wants. wants_for n event (Tick q) old new before after is (wants n q)) told
+
+  pub widen_wants : (q : ℕ) → event ≡ Widen q → OnErr r ((k p : ℕ) → CallWants k p widen old new before after) → OnErr r (EventWants n (node_of event) event old new before after)
+  widen_wants q is told = on_err r (λ wants. wants_for n event (Widen q) old new before after is (wants n q)) told
 
   pub ask_wants : (q : ℕ) → event ≡ Ask q → OnErr r ((k p : ℕ) → CallWants k p ask old new before after) → OnErr r (EventWants n (node_of event) event old new before after)
   ask_wants q is told = on_err r (λ wants. wants_for n event (Ask q) old new before after is (wants n q)) told

@@ -10,11 +10,11 @@ use Rattle.wire.specs.declared.message.Message.{Message}
 use Rattle.wire.specs.Messages.{IsMessage}
 use Rattle.node.specs.Nodes.{Up, Down, Node, opened}
 use Rattle.node.specs.Effects.{messages_of}
-use Rattle.node.specs.Calls.{Call, submit, tick, ask, deliver}
+use Rattle.node.specs.Calls.{Call, submit, tick, widen, ask, deliver}
 use Rattle.node.specs.declared.fault.NodeFault.TheVariants.{OutOfMemory}
 use Rattle.node.specs.Endings.{Refuses}
 use Rattle.world.specs.declared.event.Event.{Event}
-use Rattle.world.specs.declared.event.Event.TheVariants.{Submit, Tick, Ask, Deliver, Arm, Crash, Restart}
+use Rattle.world.specs.declared.event.Event.TheVariants.{Submit, Tick, Widen, Ask, Deliver, Arm, Crash, Restart}
 use Rattle.world.specs.declared.places.Place.{Place}
 use Rattle.world.specs.declared.places.Place.TheVariants.{Open, Bare}
 use Rattle.world.specs.declared.whole.World.{World as Code}
@@ -78,6 +78,7 @@ pub takes_of : (n : ℕ) (w : World) (event : Event) (next : Node) (out : Handed
     → Takes n w event (moved w (node_of event) next out)
 takes_of n w (Submit p v) next out here how = called n w p next out here (submit v) how
 takes_of n w (Tick p) next out here how = called n w p next out here tick how
+takes_of n w (Widen p) next out here how = called n w p next out here widen how
 takes_of n w (Ask p) next out here how = called n w p next out here ask how
 takes_of n w (Deliver p index) next out here how = record { message = how.0; was_sent = how.1; calls = called n w p next out here (deliver how.0) how.2 }
 takes_of n w (Arm p calls) next out here how = armed n w p next out here how.1 how.0
@@ -238,6 +239,7 @@ pub step_not_taken : (old new : Code) (event : Event) (k : ℕ) (place x : Place
     → IsNode old.cluster (node_of event) → slice_get old.places.items k ≡ Some place → EventWants old.cluster (node_of event) event place x old.sent.items new.sent.items → LeadsTo old new (λ w after. IsRefused old.cluster w event after × Kept old new w after)
 step_not_taken old new (Submit p v) k place x here below places same at got wants = step_wanted old new p k place x here below places same at got (λ s. Refuses s (submit v) OutOfMemory) wants
 step_not_taken old new (Tick p) k place x here below places same at got wants = step_wanted old new p k place x here below places same at got (λ s. Refuses s tick OutOfMemory) wants
+step_not_taken old new (Widen p) k place x here below places same at got wants = step_wanted old new p k place x here below places same at got (λ s. Refuses s widen OutOfMemory) wants
 step_not_taken old new (Ask p) k place x here below places same at got wants = step_wanted old new p k place x here below places same at got (λ s. Refuses s ask OutOfMemory) wants
 step_not_taken old new (Deliver p index) k place x here below places same at got wants = step_wanted old new p k place x here below places same at got IsUp wants
 step_not_taken old new (Arm p calls) k place x here below places same at got wants = absurd wants

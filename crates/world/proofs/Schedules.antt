@@ -17,7 +17,7 @@ use Rattle.node.specs.Nodes.{Value}
 use Rattle.world.specs.declared.event.Event.{Event}
 use Rattle.world.specs.declared.event.Event.TheVariants.{Submit, Tick, Ask, Deliver, Arm, Crash, Restart}
 use Rattle.world.specs.Decided.{Decides, Publishes}
-use Rattle.world.specs.Worked.{at, duel, DuelIsTaken, VoteIsKept, VoteIsLost, gap, gap_closes, GapIsWaitedFor, OpeningsAreTaken}
+use Rattle.world.specs.Worked.{at, duel, DuelIsTaken, VoteIsKept, VoteIsLost, gap, gap_closes, GapIsWaitedFor, OpeningsAreTaken, last_of_three, LastOfThreeIsKnown, crash_of_three, CrashOfThreeIsTaken}
 use Rattle.world.specs.Agreement.{SomeSchedulePublishes}
 use Rattle.world.proofs.Told.{IsSo, the_told, majority}
 use Rattle.world.proofs.Tables.{world_by, started}
@@ -221,3 +221,37 @@ ran_openings = the (run 3 started (in_openings (a_release 1))) tt
 pub openings_are_taken : OpeningsAreTaken
 unfolding ran_openings is_utf8 chars encode
 openings_are_taken = record { a = a_release 1; some = λ e. (cc); w = world_by ran_openings.0; takes = ran_openings.1; said = refl; heard = refl; known = refl }
+
+-- ---- three attempts at once
+
+abbrev in_last : List Step
+in_last = all_as_is (last_of_three (a_release 1) (a_release 2) (a_release 3))
+
+ran_last : Ran 3 started in_last
+unfolding is_utf8 chars encode
+ran_last = the (run 3 started in_last) tt
+
+pub last_of_three_is_known : LastOfThreeIsKnown
+unfolding ran_last is_utf8 chars encode
+last_of_three_is_known = record { a = a_release 1; b = a_release 2; c = a_release 3; w = world_by ran_last.0; takes = ran_last.1; said = refl; third = refl; second = refl }
+
+abbrev in_crash : List Step
+in_crash = all_as_is (crash_of_three (a_release 1) (a_release 2) (a_release 3) (a_release 4) (a_release 5))
+
+ran_crash : Ran 3 started in_crash
+unfolding is_utf8 chars encode
+ran_crash = the (run 3 started in_crash) tt
+
+pub crash_of_three_is_taken : CrashOfThreeIsTaken
+unfolding ran_crash is_utf8 chars encode
+crash_of_three_is_taken = record {
+  a = a_release 1;
+  b = a_release 2;
+  c = a_release 3;
+  d = a_release 4;
+  e = a_release 5;
+  apart = λ e. (cc);
+  w = world_by ran_crash.0;
+  takes = ran_crash.1;
+  said = refl;
+}

@@ -8,11 +8,11 @@ use Rattle.durable.specs.Keeping.{Settles}
 use Rattle.node.specs.declared.to.To.{To}
 use Rattle.node.specs.Nodes.{Mode, Up, Down, Node, opened}
 use Rattle.node.specs.Effects.{messages_of}
-use Rattle.node.specs.Calls.{Call, submit, tick, ask, deliver}
+use Rattle.node.specs.Calls.{Call, submit, tick, widen, ask, deliver}
 use Rattle.node.specs.declared.fault.NodeFault.TheVariants.{OutOfMemory}
 use Rattle.node.specs.Endings.{Ending, Refuses, Ends}
 use Rattle.world.specs.declared.event.Event.{Event}
-use Rattle.world.specs.declared.event.Event.TheVariants.{Submit, Tick, Ask, Deliver, Arm, Crash, Restart}
+use Rattle.world.specs.declared.event.Event.TheVariants.{Submit, Tick, Widen, Ask, Deliver, Arm, Crash, Restart}
 use Rattle.world.specs.declared.places.Place.{Place}
 use Rattle.world.specs.Taking.{IsTaken, node_of}
 use Rattle.world.specs.Standing.{IsPlaceOf, HasPublished}
@@ -35,6 +35,7 @@ Settled mode s out next = (entries : List Entry) × Settles s.entries s.in_fligh
 abbrev pub NodeTakes : ℕ → ℕ → List Message → Node → Event → Handed → Node → Type 0
 NodeTakes n p sent s (Submit q v) out next = AtNode n p s (submit v) out next
 NodeTakes n p sent s (Tick q) out next = AtNode n p s tick out next
+NodeTakes n p sent s (Widen q) out next = AtNode n p s widen out next
 NodeTakes n p sent s (Ask q) out next = AtNode n p s ask out next
 NodeTakes n p sent s (Deliver q index) out next = (message : Message) × (slice_get sent index ≡ Some message) × AtNode n p s (deliver message) out next
 NodeTakes n p sent s (Arm q calls) out next = (out ≡ []) × (((s.mode ≢ Down) × (next ≡ record s { armed = true })) ⊎ ((s.mode ≡ Down) × (next ≡ s)))
@@ -81,6 +82,7 @@ EventWants n p (Arm q calls) old new before after = ⊥
 EventWants n p (Crash q choice) old new before after = ⊥
 EventWants n p (Submit q v) old new before after = CallWants n p (submit v) old new before after
 EventWants n p (Tick q) old new before after = CallWants n p tick old new before after
+EventWants n p (Widen q) old new before after = CallWants n p widen old new before after
 EventWants n p (Ask q) old new before after = CallWants n p ask old new before after
 EventWants n p (Deliver q index) old new before after = Wants n p IsUp old new before after
 

@@ -6,7 +6,7 @@ use Rattle.wire.specs.declared.message.Message.{Message}
 use Rattle.wire.specs.declared.message.Message.TheVariants as say
 use Rattle.node.specs.Nodes.{Value}
 use Rattle.world.specs.declared.event.Event.{Event}
-use Rattle.world.specs.declared.event.Event.TheVariants.{Submit, Tick, Ask, Deliver, Arm, Crash, Restart}
+use Rattle.world.specs.declared.event.Event.TheVariants.{Submit, Tick, Widen, Ask, Deliver, Arm, Crash, Restart}
 use Rattle.world.specs.Worlds.{World, start}
 use Rattle.world.specs.Taking.{TakesAll}
 use Rattle.world.specs.Decided.{Decides, Publishes}
@@ -149,3 +149,57 @@ pub record OpeningsAreTaken : Type 0 where
   pub said : w.sent ≡ said_over_openings a
   pub heard : (w.node 1).heard ≡ 1
   pub known : (w.node 1).known 1 ≡ Some a
+
+-- ---- three attempts at once
+
+abbrev pub three_begun : Value → Value → Value → List Event
+three_begun a b c = Submit 1 a ∷ Submit 1 b ∷ Submit 1 c ∷ Tick 1 ∷ Widen 1 ∷ Widen 1 ∷ []
+
+-- a round for each of the three
+abbrev pub said_by_three : List Message
+said_by_three = say.Prepare 1 1 (at 1 1) ∷ say.Prepare 1 2 (at 2 1) ∷ say.Prepare 1 3 (at 3 1) ∷ []
+
+-- Node 1 tries its three values at once, and node 2 helps it with the last one: node 3 knows that, and nothing below it
+abbrev pub last_of_three : Value → Value → Value → List Event
+last_of_three a b c = three_begun a b c ++ (Deliver 1 2 ∷ Deliver 2 2 ∷ Deliver 1 3 ∷ Deliver 1 4 ∷ Deliver 1 5 ∷ Deliver 2 5 ∷ Deliver 3 6 ∷ Deliver 3 7 ∷ [])
+
+pub record LastOfThreeIsKnown : Type 0 where
+  pub a : Value
+  pub b : Value
+  pub c : Value
+  pub w : World
+  pub takes : TakesAll 3 start (last_of_three a b c) w
+  pub said : w.sent
+      ≡ said_by_three
+      ++ (say.Promise 1 3 (at 3 1) None ∷ say.Promise 2 3 (at 3 1) None ∷ say.Propose 1 3 (at 3 1) c ∷ say.Accepted 1 3 (at 3 1) c ∷ say.Accepted 2 3 (at 3 1) c ∷ [])
+  pub third : (w.node 3).known 3 ≡ Some c
+  pub second : (w.node 3).known 2 ≡ None
+
+-- Node 1 has proposed the second of its three values, and node 2 has voted for it, as node 1 crashes. Node 3 widens over that instance, is told of the vote
+-- by node 2, and proposes its value
+abbrev pub crash_of_three : Value → Value → Value → Value → Value → List Event
+crash_of_three a b c d e =
+    three_begun a b c
+    ++ (Deliver 1 1 ∷ Deliver 2 1 ∷ Deliver 1 3 ∷ Deliver 1 4 ∷ Deliver 2 5 ∷ Crash 1 0 ∷ Submit 3 d ∷ Submit 3 e ∷ Tick 3 ∷ Widen 3 ∷ Deliver 2 8 ∷ Deliver 3 8 ∷ Deliver 3 9 ∷ Deliver 3 10 ∷ [])
+
+pub record CrashOfThreeIsTaken : Type 0 where
+  pub a : Value
+  pub b : Value
+  pub c : Value
+  pub d : Value
+  pub e : Value
+  pub apart : b ≢ e
+  pub w : World
+  pub takes : TakesAll 3 start (crash_of_three a b c d e) w
+  pub said : w.sent
+      ≡ said_by_three
+      ++ (say.Promise 1 2 (at 2 1) None
+      ∷ say.Promise 2 2 (at 2 1) None
+      ∷ say.Propose 1 2 (at 2 1) b
+      ∷ say.Accepted 2 2 (at 2 1) b
+      ∷ say.Prepare 3 1 (at 1 3)
+      ∷ say.Prepare 3 2 (at 2 3)
+      ∷ say.Promise 2 2 (at 2 3) (Some (vote (at 2 1) b))
+      ∷ say.Promise 3 2 (at 2 3) None
+      ∷ say.Propose 3 2 (at 2 3) b
+      ∷ [])

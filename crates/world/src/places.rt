@@ -27,7 +27,7 @@ impl Place {
     ghost use Rattle.wire.specs.Messages.{IsMessage};
     ghost use Rattle.node.specs.Nodes.{Node as AbstractNode, Up, Down, opened};
     ghost use Rattle.node.specs.Effects.{messages_of};
-    ghost use Rattle.node.specs.Calls.{submit as submission, tick as ticking, ask as asking, deliver as delivery};
+    ghost use Rattle.node.specs.Calls.{submit as submission, tick as ticking, widen as widening, ask as asking, deliver as delivery};
     ghost use Rattle.node.specs.Standing.{OnlyGrows};
     ghost use Rattle.site_ids.specs.Ids.{IsNode};
     ghost use Rattle.world.specs.declared.event.Event.TheVariants.{Arm};
@@ -68,6 +68,17 @@ impl Place {
         match self {
             Place::Bare(_) => Ok(()),
             Place::Open(node) => passed(node.tick(sent)),
+        }
+    }
+
+    pub(crate) fn widen(&mut self, sent: &mut Outbox) -> Result<(), AllocError>
+        ensures ok { OnOk result ((n p : ℕ) → CallTurns n p widening self.old self.new sent.old.items sent.new.items) }
+        ensures err { OnErr result ((n p : ℕ) → CallWants n p widening self.old self.new sent.old.items sent.new.items) }
+        ensures grows { OnlyGrows sent.old.items sent.new.items }
+    {
+        match self {
+            Place::Bare(_) => Ok(()),
+            Place::Open(node) => passed(node.widen(sent)),
         }
     }
 
@@ -205,6 +216,7 @@ impl Place {
         match event {
             Event::Submit { value, .. } => self.submit(value.as_bytes()),
             Event::Tick { .. } => self.tick(sent),
+            Event::Widen { .. } => self.widen(sent),
             Event::Ask { .. } => self.ask(sent),
             Event::Deliver { index, .. } => self.deliver(alloc, *index, sent),
             Event::Arm { calls, .. } => {

@@ -141,6 +141,20 @@ impl Group {
         }
     }
 
+    /// The instance and the round of a prepare.
+    fn prepared(&self, index: usize) -> Option<(u32, u32)> {
+        match self.world.sent(index) {
+            Some(
+                Message::Prepare {
+                    instance,
+                    ballot,
+                    ..
+                },
+            ) => Some((instance.number(), ballot.round())),
+            _ => None,
+        }
+    }
+
     pub(crate) fn shown(&self, number: u8) -> Result<Shown, Halt> {
         let node = self.node(number)?;
         let state = self.world.state(node);
@@ -169,6 +183,9 @@ impl Group {
                 value: value(self.alloc, ticket, text)?,
             },
             Step::Tick(number) => Event::Tick {
+                node: self.node(number)?,
+            },
+            Step::Widen(number) => Event::Widen {
                 node: self.node(number)?,
             },
             Step::Ask(number) => Event::Ask {
@@ -211,6 +228,10 @@ impl Group {
             Step::Last(count, kind) => {
                 assert_eq!(rt; self.sent_count(), count, "{step:?}");
                 assert_eq!(rt; self.kind(count.saturating_sub(1)), Some(kind));
+                Ok(())
+            }
+            Step::Prepares(index, at, round) => {
+                assert_eq!(rt; self.prepared(index), Some((at, round)), "{step:?}");
                 Ok(())
             }
             _ => match self.event(step)? {

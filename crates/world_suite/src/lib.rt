@@ -18,3 +18,5 @@ mod schedules;
 mod simulator;
 #[cfg(test)]
 mod step;
+#[cfg(test)]
+mod widened;

@@ -25,7 +25,7 @@ fn run(alloc: Global, schedule: &[u8]) -> Printed {
 }
 
 /// A schedule, what it prints, and the line that stops it.
-const STOPS: [(&str, &str, &str); 22] = [
+const STOPS: [(&str, &str, &str); 25] = [
     ("", "", "line 1: bad line\n"),
     ("nodes 0\n", "", "line 1: bad line\n"),
     ("nodes 10\n", "", "line 1: bad line\n"),
@@ -37,6 +37,7 @@ const STOPS: [(&str, &str, &str); 22] = [
     ("nodes 3\ntick 01\n", "", "line 2: bad line\n"),
     ("nodes 3\ntick  1\n", "", "line 2: bad line\n"),
     ("nodes 3\ntick 1\n\n", "", "line 3: bad line\n"),
+    ("nodes 3\nwiden 0\n", "", "line 2: bad line\n"),
     ("nodes 3\narm 1 4294967296\n", "", "line 2: bad line\n"),
     ("nodes 3\ncrash 1 256\n", "", "line 2: bad line\n"),
     ("nodes 3\nget 1 1 /a b\n", "", "line 2: bad line\n"),
@@ -53,6 +54,7 @@ const STOPS: [(&str, &str, &str); 22] = [
     ("nodes 3\nshow 4\n", "", "line 2: bad line\n"),
     ("nodes 3\nget 4 1 /\n", "", "line 2: bad line\n"),
     ("nodes 3\ntick 4\n", "", "line 2: bad event\n"),
+    ("nodes 3\nwiden 4\n", "", "line 2: bad event\n"),
     (
         "nodes 3\nsubmit 1 1 1 5\nno\n\n\n\nshow 2\ncrash 1 0\nshow 1\ndeliver 1 0\nshow 1\n",
         "node 2: up known 0 newest 0\nnode 1: down known 0 newest 0\n",
@@ -62,6 +64,12 @@ const STOPS: [(&str, &str, &str); 22] = [
         "nodes 1\ntick 1\narm 1 0\ntick 1\nshow 1\ndeliver 1 1\n",
         "node 1: stopped known 0 newest 0\n",
         "line 6: bad event\n",
+    ),
+    // Without a value, as its device fails, and where it is stopped or down, a node that widens sends nothing.
+    (
+        "nodes 1\nwiden 1\nsubmit 1 1 1 8\nrelease\n\narm 1 0\nwiden 1\nwiden 1\nshow 1\ncrash 1 0\nwiden 1\nshow 1\ndeliver 1 0\n",
+        "node 1: stopped known 0 newest 0\nnode 1: down known 0 newest 0\n",
+        "line 11: bad event\n",
     ),
     (
         "nodes 2\nget 1 1 /\ncrash 2 0\nget 2 1 /x\nshow 0\n",

@@ -7,6 +7,7 @@ pub(crate) enum Step {
     /// A command of editor 1, with the number of its ticket.
     Submit(u8, u64, &'static str),
     Tick(u8),
+    Widen(u8),
     Ask(u8),
     Deliver(u8, usize),
     Arm(u8, u32),
@@ -20,6 +21,8 @@ pub(crate) enum Step {
     Page(u8, u64, &'static str, u16, &'static str),
     /// So many messages were handed out, and the last one was of that kind.
     Last(usize, Kind),
+    /// A message is a prepare at that instance, of that round.
+    Prepares(usize, u32, u32),
 }
 
 #[derive(Clone, Copy, Debug, PartialEq, Eq)]

@@ -1,12 +1,10 @@
-use Rattle.std.proofs.Common.{◌≡◌, ◌++◌, ℕ, List, [], take, sym, subst, ◌∙◌}
+use Rattle.std.proofs.Common.{◌++◌, ℕ, List, take, sym, subst, ◌∙◌}
 use Rattle.site_ids.specs.Lists.{In}
 use Rattle.wire.specs.declared.message.Message.{Message}
 use Rattle.wire.specs.Messages.{Fits}
-use Rattle.node.specs.Calls.{Call}
-use Rattle.node.specs.Endings.{Ends}
 use Rattle.node.specs.Standing.{ending_by}
 use Rattle.node.specs.declared.to.To.{To}
-use Rattle.site_drive.specs.Drives.{IsLastCall, sent_of}
+use Rattle.site_drive.specs.Drives.{EndsLast, sent_of}
 use Rattle.site_drive.specs.Leading.{NodeLeads}
 use Rattle.site_drive.proofs.Results.{err_gives}
 use Rattle.site_drive.proofs.Closing.{closes, closes_short, not_closed}
@@ -16,7 +14,7 @@ use Rattle.site_drive.proofs.desk.Desk.close.Goals as goal
 pub returns-in_err-last_call-clause-fault : goal.returns-in_err-last_call-clause-fault
 returns-in_err-last_call-clause-fault g c = err_gives c.from_residual.result c.from_residual.ensures.1 λ e is.
     not_closed g.D.Disk.stands_for g.L.Link.received g.L.Link.given c.args.node.now c.last_call.new.node c.args.link.now c.args.node.now.cluster c.args.node.now.me e
-    (subst (λ w. NodeLeads g.D.Disk.stands_for c.args.node.now c.last_call.new.node (λ s next. (call : Call) × IsLastCall s call × Ends c.args.node.now.cluster c.args.node.now.me s call (ending_by w) [] next)) (sym is)
+    (subst (λ w. NodeLeads g.D.Disk.stands_for c.args.node.now c.last_call.new.node (λ s next. (out : List (To × Message)) × EndsLast c.args.node.now.cluster c.args.node.now.me s (ending_by w) out next)) (sym is)
     c.in_err-last_call.ensures.fault)
 
 -- src/driving.rt:120:9

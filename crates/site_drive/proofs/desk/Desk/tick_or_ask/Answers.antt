@@ -1,17 +1,22 @@
-use Rattle.node.specs.Calls.{tick as ticking, ask as asking}
-use Rattle.node.specs.Standing.{ending_of}
-use Rattle.std.proofs.Common.{◌≡◌, true, false, refl, sym, subst, ◌∙◌}
-use Rattle.site_drive.proofs.Closing.{called}
+use Rattle.std.proofs.Common.{◌≡◌, true, false, sym, subst, ◌∙◌}
+use Rattle.node.specs.Standing.{ending_of, ending_by}
+use Rattle.node.proofs.Stepping.{ending_err}
+use Rattle.site_drive.proofs.Closing.{Called, asked, tick_short, not_whole, ticked}
 use Rattle.site_drive.proofs.desk.Desk.tick_or_ask.Goals as goal
 
--- src/driving.rt:52:5
-pub returns-then-wants_tick-clause-event : goal.returns-then-wants_tick-clause-event
-returns-then-wants_tick-clause-event g c =
-    called g.D.Disk.stands_for c.args.node.now c.tick.new.self ticking (ending_of c.tick.result) c.args.self.now.outbox.items c.tick.new.outbox.items c.requires
-    (λ s stands. (c.wants_tick.ensures s stands).0 c.if-wants_tick.true) c.tick.ensures.event
+pub returns-then-not-wants_tick-clause-event : goal.returns-then-not-wants_tick-clause-event
+returns-then-not-wants_tick-clause-event g c =
+    asked g.D.Disk.stands_for c.args.node.now c.ask.new.self (ending_of c.ask.result) c.args.self.now.outbox.items c.ask.new.outbox.items c.requires
+    (λ s stands wants. let yet : true ≡ false = sym ((c.wants_tick.ensures s stands).1 wants) ∙ c.if-not-wants_tick.true in absurd (cc)) c.ask.ensures.event
 
--- src/driving.rt:52:5
-pub returns-else-wants_tick-clause-event : goal.returns-else-wants_tick-clause-event
-returns-else-wants_tick-clause-event g c =
-    called g.D.Disk.stands_for c.args.node.now c.ask.new.self asking (ending_of c.ask.result) c.args.self.now.outbox.items c.ask.new.outbox.items c.requires
-    (λ s stands wants. let yet : true ≡ false = sym ((c.wants_tick.ensures s stands).1 wants) ∙ c.if-wants_tick.false in absurd (cc)) c.ask.ensures.event
+pub returns-in_err-tick-clause-event : goal.returns-in_err-tick-clause-event
+returns-in_err-tick-clause-event g c =
+    let why = c.in_err-tick.field-0.0 in
+    subst (λ ending. Called g.D.Disk.stands_for c.args.node.now c.tick.new.self ending c.tick.new.outbox.items) (sym (ending_err c.from_residual.result why c.from_residual.ensures.1))
+    (tick_short g.D.Disk.stands_for c.args.node.now c.tick.new.self (ending_by why) c.args.self.now.outbox.items c.tick.new.outbox.items (not_whole why) c.requires
+    (λ s stands. (c.wants_tick.ensures s stands).0 c.if-not-wants_tick.false) c.in_err-tick.ensures.event)
+
+pub returns-clause-event : goal.returns-clause-event
+returns-clause-event g c =
+    ticked g.D.Disk.stands_for c.args.node.now c.tick.new.self c.widen_all.new.node (ending_of c.widen_all.result) c.args.self.now.outbox.items c.tick.new.outbox.items c.widen_all.new.self.outbox.items c.requires
+    c.tick.ensures.others (λ s stands. (c.wants_tick.ensures s stands).0 c.if-not-wants_tick.false) c.in_ok-tick.ensures.event c.widen_all.ensures.event

@@ -1,5 +1,5 @@
 use Rattle.std.proofs.Common.{[]}
-use Rattle.world.proofs.Happening.{is_sent, submits, ticks, asks, delivers, arms, crashes, restarts, submit_wants, tick_wants, ask_wants, deliver_wants}
+use Rattle.world.proofs.Happening.{is_sent, submits, ticks, widens, asks, delivers, arms, crashes, restarts, submit_wants, tick_wants, widen_wants, ask_wants, deliver_wants}
 use Rattle.world.proofs.places.Place.happen.Goals as goal
 
 pub returns-in-Submit-clause-ok : goal.returns-in-Submit-clause-ok
@@ -13,6 +13,12 @@ returns-in-Tick-clause-ok g = ticks _ g.args.cluster _ _ _ _ _ _ g.in-Tick.is g.
 
 pub returns-in-Tick-clause-err : goal.returns-in-Tick-clause-err
 returns-in-Tick-clause-err g = tick_wants _ g.args.cluster _ _ _ _ _ _ g.in-Tick.is g.tick.ensures.err
+
+pub returns-in-Widen-clause-ok : goal.returns-in-Widen-clause-ok
+returns-in-Widen-clause-ok g = widens _ g.args.cluster _ _ _ _ _ _ g.in-Widen.is g.widen.ensures.ok
+
+pub returns-in-Widen-clause-err : goal.returns-in-Widen-clause-err
+returns-in-Widen-clause-err g = widen_wants _ g.args.cluster _ _ _ _ _ _ g.in-Widen.is g.widen.ensures.err
 
 pub returns-in-Ask-clause-ok : goal.returns-in-Ask-clause-ok
 returns-in-Ask-clause-ok g = asks _ g.args.cluster _ _ _ _ _ _ g.in-Ask.is g.ask.ensures.ok

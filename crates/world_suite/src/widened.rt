@@ -1,0 +1,129 @@
+//! Worked schedules with several attempts open at a node.
+use crate::group::play;
+use crate::step::{Kind, Step};
+use std::test::Fail;
+use world::NodeState;
+
+const RELEASE: &str = "release\n";
+
+/// A tick and two widenings begin attempts at three instances, each with a round of its own, and a third widening none.
+#[test]
+fn three_values_are_tried_at_once(rt: HostRuntime) -> Result<(), Fail> {
+    let steps = [
+        Step::Widen(1),
+        Step::Submit(1, 1, "put template t\na"),
+        Step::Submit(1, 2, "put template t\nb"),
+        Step::Submit(1, 3, "put template t\nc"),
+        Step::Tick(1),
+        Step::Last(1, Kind::Prepare),
+        Step::Prepares(0, 1, 1),
+        Step::Widen(1),
+        Step::Last(2, Kind::Prepare),
+        Step::Prepares(1, 2, 2),
+        Step::Widen(1),
+        Step::Last(3, Kind::Prepare),
+        Step::Prepares(2, 3, 3),
+        Step::Widen(1),
+        Step::Last(3, Kind::Prepare),
+        Step::Settle,
+        Step::Shows(3, NodeState::Up, 3, 0),
+        Step::Widen(1),
+        Step::Shows(1, NodeState::Up, 3, 0),
+    ];
+    Ok(play(&rt, rt.alloc(), 3, &steps)?)
+}
+
+/// A tick begins anew at the first unknown instance, and sends the others' messages again, by instance: one has proposed.
+#[test]
+fn a_tick_sends_the_other_attempts_again(rt: HostRuntime) -> Result<(), Fail> {
+    let steps = [
+        Step::Submit(1, 1, RELEASE),
+        Step::Submit(1, 2, RELEASE),
+        Step::Submit(1, 3, RELEASE),
+        Step::Tick(1),
+        Step::Widen(1),
+        Step::Widen(1),
+        Step::Deliver(2, 2),
+        Step::Deliver(3, 2),
+        Step::Deliver(1, 3),
+        Step::Deliver(1, 4),
+        Step::Last(6, Kind::Propose),
+        Step::Tick(1),
+        Step::Last(9, Kind::Propose),
+        Step::Prepares(6, 1, 4),
+        Step::Prepares(7, 2, 2),
+        Step::Settle,
+        Step::Shows(2, NodeState::Up, 3, 3),
+    ];
+    Ok(play(&rt, rt.alloc(), 3, &steps)?)
+}
+
+/// Nodes 1 and 2 begin at the same three instances, node 2 with the higher ballots: its values are decided, and then node 1's.
+#[test]
+fn a_duel_over_three_instances(rt: HostRuntime) -> Result<(), Fail> {
+    let steps = [
+        Step::Submit(1, 1, RELEASE),
+        Step::Submit(1, 2, RELEASE),
+        Step::Submit(1, 3, RELEASE),
+        Step::Submit(2, 4, RELEASE),
+        Step::Submit(2, 5, RELEASE),
+        Step::Submit(2, 6, RELEASE),
+        Step::Tick(1),
+        Step::Widen(1),
+        Step::Widen(1),
+        Step::Tick(2),
+        Step::Widen(2),
+        Step::Widen(2),
+        Step::Last(6, Kind::Prepare),
+        Step::Settle,
+        Step::Shows(1, NodeState::Up, 3, 3),
+        Step::Shows(2, NodeState::Up, 3, 3),
+        Step::Tick(1),
+        Step::Widen(1),
+        Step::Widen(1),
+        Step::Settle,
+        Step::Shows(1, NodeState::Up, 6, 6),
+        Step::Shows(3, NodeState::Up, 6, 6),
+    ];
+    Ok(play(&rt, rt.alloc(), 3, &steps)?)
+}
+
+/// Node 1 crashes with three attempts open, of which one has proposed and node 2 has voted for it. Node 3 brings that value through, and then its own.
+#[test]
+fn a_crash_with_three_attempts_open(rt: HostRuntime) -> Result<(), Fail> {
+    let steps = [
+        Step::Submit(1, 1, RELEASE),
+        Step::Submit(1, 2, RELEASE),
+        Step::Submit(1, 3, RELEASE),
+        Step::Submit(3, 4, RELEASE),
+        Step::Submit(3, 5, RELEASE),
+        Step::Tick(1),
+        Step::Widen(1),
+        Step::Widen(1),
+        Step::Deliver(2, 1),
+        Step::Deliver(1, 1),
+        Step::Deliver(1, 3),
+        Step::Deliver(1, 4),
+        Step::Last(6, Kind::Propose),
+        Step::Deliver(2, 5),
+        Step::Last(7, Kind::Accepted),
+        Step::Crash(1, 0),
+        Step::Widen(1),
+        Step::Last(7, Kind::Accepted),
+        Step::Tick(3),
+        Step::Widen(3),
+        Step::Settle,
+        Step::Shows(3, NodeState::Up, 2, 2),
+        Step::Restart(1),
+        Step::Tick(3),
+        Step::Settle,
+        Step::Shows(3, NodeState::Up, 3, 3),
+        Step::Ask(1),
+        Step::Settle,
+        Step::Shows(1, NodeState::Up, 1, 1),
+        Step::Ask(1),
+        Step::Settle,
+        Step::Shows(1, NodeState::Up, 3, 3),
+    ];
+    Ok(play(&rt, rt.alloc(), 3, &steps)?)
+}
