@@ -1,5 +1,5 @@
 -- Whole runs of a script.
-use Rattle.std.proofs.Common.{◌≡◌, ℕ, ◌+◌, List, [], ◌∷◌, ◌++◌, length, Option, Some, None, Bool, Result, Ok, Err, Vec, Global, codes, refl, sym, ap, ◌∙◌, subst, inl, inr, arith, append_assoc, append-nil, length-append}
+use Rattle.std.proofs.Common.{◌≡◌, ℕ, ◌+◌, List, [], ◌∷◌, ◌++◌, length, Option, Some, None, is_some, true≢false, Bool, Result, Ok, Err, Vec, Global, codes, refl, sym, ap, ◌∙◌, subst, inl, inr, arith, append_assoc, append-nil, length-append}
 use Rattle.std.specs.List.{flat_map, AllByRecursion}
 use Rattle.std.specs.Io.KnownBytes.{Consumes, Appends, IsAtEnd}
 use Rattle.std.proofs.KnownBytes.{Consumes-trans, Consumes-nil, Appends-trans, Appends-nil}
@@ -10,10 +10,8 @@ use Rattle.sitectl.specs.declared.cluster.ScriptFault.{ScriptFault}
 use Rattle.sitectl.specs.declared.cluster.ScriptFault.TheVariants as script
 use Rattle.sitectl.specs.declared.ends.InputFault.{InputFault}
 use Rattle.sitectl.specs.declared.ends.InputFault.TheVariants as input
-use Rattle.sitectl.specs.declared.server_fault.ServerFault.{ServerFault}
-use Rattle.sitectl.specs.declared.server_fault.ServerFault.TheVariants as server
 use Rattle.sitectl.specs.ScriptEnds.{Prints, PrintsAll, HasDone, HasRun, IsFault}
-use Rattle.sitectl.specs.ScriptSteps.{HasStepped, FillEnds, NextEnds, IsSaid, of_input, of_servers}
+use Rattle.sitectl.specs.ScriptSteps.{HasStepped, FillEnds, NextEnds, IsSaid, of_input}
 use Rattle.sitectl.specs.Script.{Line, spelled, Fits}
 use Rattle.sitectl.specs.Stepping.{Grown, ReadEnds}
 use Rattle.sitectl.proofs.Simulating.{taken_then}
@@ -89,15 +87,12 @@ so_far_more a b d f g h p q r x y z k next feed new text written is same so step
 pub stepped : (reader : End) (feed new : List ℕ) (o : Option (Vec ℕ Global)) (text : Vec ℕ Global) → o ≡ Some text → NextEnds reader feed new (Ok o) → HasStepped reader feed new text.items
 stepped reader feed new o text is ends = subst (λ x. NextEnds reader feed new (Ok x)) is ends
 
-pub at_the_end : (reader : End) (feed new : List ℕ) (o : Option (Vec ℕ Global)) → o ≡ None → NextEnds reader feed new (Ok o) → Grown reader feed [] × IsSound reader × IsAtEnd reader.after
-at_the_end reader feed new o is ends = subst (λ x. NextEnds reader feed new (Ok x)) is ends
-
 -- ---- ends
 
-pub finished : (a b d : Option (List ℕ)) (f g h : ℕ) (out err : End) (k : ℕ) (feed : List ℕ)
+finished_so : (a b d : Option (List ℕ)) (f g h : ℕ) (out err : End) (k : ℕ) (feed : List ℕ)
     → SoFar (record { before = a; after = b; failures = f; failures_after = g }) out k feed → Grown (record { before = b; after = d; failures = g; failures_after = h }) feed [] → h ≡ g → IsAtEnd d → IsSilent err
     → HasRun (record { before = a; after = d; failures = f; failures_after = h }) out err 0
-finished a b d f g h out err k feed so grown sound at_end silent = inl (record {
+finished_so a b d f g h out err k feed so grown sound at_end silent = inl (record {
   input = so.taken ++ grown.more;
   read = record { taken = Consumes-trans a b d so.taken grown.more so.read grown.taken; at_end = at_end; sound = sound ∙ so.sound };
   lines = so.lines;
@@ -107,6 +102,12 @@ finished a b d f g h out err k feed so grown sound at_end silent = inl (record {
   silent = silent;
   status_is = refl;
 })
+
+pub finished : (a b d : Option (List ℕ)) (f g h : ℕ) (out err : End) (k : ℕ) (feed new : List ℕ) (o : Option (Vec ℕ Global)) → o ≡ None
+    → SoFar (record { before = a; after = b; failures = f; failures_after = g }) out k feed → NextEnds (record { before = b; after = d; failures = g; failures_after = h }) feed new (Ok o) → IsSilent err
+    → HasRun (record { before = a; after = d; failures = f; failures_after = h }) out err 0
+finished a b d f g h out err k feed new (Some text) is so ends silent = absurd (true≢false (ap is_some is))
+finished a b d f g h out err k feed new None is so (grown, sound, at_end) silent = finished_so a b d f g h out err k feed so grown sound at_end silent
 
 -- a run that stops behind the bytes that were read
 stopped_behind : (a b d : Option (List ℕ)) (f g h : ℕ) (out err : End) (k status : ℕ) (feed held more said : List ℕ)
@@ -134,20 +135,12 @@ stopped a b d f g h out err k status feed new said script.BadLine so (held, grow
     stopped_behind a b d f g h out err k status feed held grown.more said so grown.taken grown.longer (inl (rw (← so.count) is, bad)) given one
 stopped a b d f g h out err k status feed new said script.BadLine so (held, grown, bad) (inr is) given one =
     stopped_behind a b d f g h out err k status feed held grown.more said so grown.taken grown.longer (inr (inr (inr is))) given one
-stopped a b d f g h out err k status feed new said script.Socket so (more, taken) is given one =
-    stopped_behind a b d f g h out err k status feed (feed ++ more) more said so taken refl (inr (inr (inl is))) given one
+stopped a b d f g h out err k status feed new said script.Socket so (held, grown, there) is given one =
+    stopped_behind a b d f g h out err k status feed held grown.more said so grown.taken grown.longer (inr (inr (inl (is, there)))) given one
 stopped a b d f g h out err k status feed new said script.OutOfMemory so (more, taken) is given one =
     stopped_behind a b d f g h out err k status feed (feed ++ more) more said so taken refl (inr (inr (inr is))) given one
 stopped a b d f g h out err k status feed new said script.Read so ((more, taken), failed) is given one =
     stopped_behind a b d f g h out err k status feed (feed ++ more) more said so taken refl (inr (inl (is, subst (λ x. RoseByOne x h) so.sound failed))) given one
-
--- a run that has read nothing and written nothing
-pub not_begun : (a : Option (List ℕ)) (f : ℕ) (c : Option (List ℕ)) (h : ℕ) (err : End) (status : ℕ) (said : List ℕ) (e : ServerFault) (s : ScriptFault) → s ≡ of_servers e → IsSaid 1 s said → IsGiven err said → status ≡ 1
-    → HasRun (record { before = a; after = a; failures = f; failures_after = f }) (record { before = c; after = c; failures = h; failures_after = h }) err status
-not_begun a f c h err status said server.Socket s from is given one =
-    stopped a a a f f f _ err 1 status [] [] said script.Socket (so_far_first a f c h [] refl) ([], Consumes-nil a) (subst (λ x. IsSaid 1 x said) from is) given one
-not_begun a f c h err status said server.OutOfMemory s from is given one =
-    stopped a a a f f f _ err 1 status [] [] said script.OutOfMemory (so_far_first a f c h [] refl) ([], Consumes-nil a) (subst (λ x. IsSaid 1 x said) from is) given one
 
 -- the run's lines don't end below 2^64
 pub endless : (a b : Option (List ℕ)) (f g : ℕ) (out err : End) (k status : ℕ) (feed : List ℕ) → SoFar (record { before = a; after = b; failures = f; failures_after = g }) out k feed → IsGiven err (codes "out of memory\n") → status ≡ 1
