@@ -1,4 +1,4 @@
-//! Serves an accepted connection, and closes it.
+//! Connections of clients: how long their calls wait, and one request served.
 
 ghost use Rattle.std.specs.Prelude.{◌≡◌, IfErr};
 ghost use Rattle.http_serve.specs.Services.{MaySubmit};
@@ -10,12 +10,23 @@ use crate::served::Served;
 use http_read::Counted;
 use http_serve::ServeFault;
 use site_disk::Disk;
-use std::alloc::Global;
-use std::io::Read;
+use std::alloc::{AllocError, Global};
+use std::io::{self, Read};
 use std::net::{Shutdown, TcpStream};
+use std::time::Duration;
+
+/// How many seconds a call of a connection may wait.
+const PATIENCE: u64 = 1;
 
 /// How many reads of what a client still sends come before its connection is closed, each of at most 4,096 bytes.
 const LINGER: u8 = 16;
+
+/// Has each read and each write of a connection wait for a second at most.
+pub fn limit_waiting(stream: &TcpStream) -> io::Result<()> {
+    let patience = Some(Duration::from_secs(PATIENCE));
+    stream.set_read_timeout(patience)?;
+    stream.set_write_timeout(patience)
+}
 
 /// Closes a connection whose client may have sent more than was read: where that is left unread, the system resets the connection, and the client
 /// may lose its response.
@@ -32,7 +43,27 @@ fn close(stream: TcpStream) {
     }
 }
 
-/// Serves one request of a connection. That the connection fails is passed over.
+/// Serves one request of a connection, and closes it. That the connection fails is passed over.
+///
+/// What the connection gives and takes is not said.
+pub fn answer_connection<D: Disk>(
+    alloc: Global,
+    stream: TcpStream,
+    served: &mut Served<D>,
+) -> Result<(), AllocError>
+    ensures { MaySubmit offered served.old served.new }
+{
+    let mut reader = Counted::new(&stream);
+    let mut writer = Counted::new(&stream);
+    match serve_request(alloc, &mut reader, &mut writer, served) {
+        Err(ServeFault::OutOfMemory) => return Err(AllocError),
+        Ok(()) | Err(ServeFault::Read | ServeFault::Write | ServeFault::EndedEarly) => {}
+    }
+    close(stream);
+    Ok(())
+}
+
+/// Serves one request of a connection in a server's rounds.
 pub(crate) fn serve_connection<D: Disk>(
     alloc: Global,
     stream: TcpStream,
@@ -41,12 +72,6 @@ pub(crate) fn serve_connection<D: Disk>(
     ensures taken { MaySubmit offered served.old served.new }
     ensures fault { IfErr result (λ why. why ≡ Halt.OutOfMemory) }
 {
-    let mut reader = Counted::new(&stream);
-    let mut writer = Counted::new(&stream);
-    match serve_request(alloc, &mut reader, &mut writer, served) {
-        Err(ServeFault::OutOfMemory) => return Err(Halt::OutOfMemory),
-        Ok(()) | Err(ServeFault::Read | ServeFault::Write | ServeFault::EndedEarly) => {}
-    }
-    close(stream);
+    answer_connection(alloc, stream, served)?;
     Ok(())
 }

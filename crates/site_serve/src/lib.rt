@@ -16,8 +16,10 @@ mod serving_node;
 mod sockets;
 mod watch;
 
+pub use connections::{answer_connection, limit_waiting};
 pub use engine::sited;
 pub use http_read::Counted;
 pub use requests::serve_request;
 pub use serve_options::ServeOptions;
 pub use served::Served;
+pub use sockets::datagrams;

@@ -15,8 +15,8 @@ use std::time::Duration;
 /// How many milliseconds a receive may wait.
 const WAIT: u64 = 1;
 
-/// A socket for datagrams.
-fn datagrams<R: Net>(rt: &R, at: SocketAddr) -> io::Result<UdpSocket> {
+/// A socket for datagrams, whose receives wait for a millisecond at most.
+pub fn datagrams<R: Net>(rt: &R, at: SocketAddr) -> io::Result<UdpSocket> {
     let socket = UdpSocket::bind(rt, at)?;
     socket.set_read_timeout(Some(Duration::from_millis(WAIT)))?;
     Ok(socket)

@@ -3,13 +3,10 @@
 ghost use Rattle.std.specs.Prelude.{◌≡◌};
 
 use crate::calm::Calm;
+use crate::connections::limit_waiting;
 use site_drive::{Link, LinkFailed, UdpLink};
 use site_ids::NodeId;
 use std::net::{TcpListener, TcpStream};
-use std::time::Duration;
-
-/// How many seconds a call of a connection may wait.
-const PATIENCE: u64 = 1;
 
 /// How many bytes a question has: it is the one message of that length.
 const ASK: usize = 7;
@@ -64,9 +61,7 @@ impl Watch {
             return;
         }
         if let Ok((stream, _from)) = self.listener.accept() {
-            let patience = Some(Duration::from_secs(PATIENCE));
-            let reads = stream.set_read_timeout(patience).is_ok();
-            if reads && stream.set_write_timeout(patience).is_ok() {
+            if limit_waiting(&stream).is_ok() {
                 self.held = Some(stream);
             }
         }

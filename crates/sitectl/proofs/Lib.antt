@@ -17,3 +17,5 @@ pub mod ScheduleLemmas
 pub mod Simulating
 pub mod Simulated
 pub mod OneLine
+pub mod ScriptLemmas
+pub mod ScriptRuns

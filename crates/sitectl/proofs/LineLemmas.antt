@@ -1,5 +1,5 @@
 -- The words of a schedule's line, from its bytes.
-use Rattle.std.proofs.Common.{◌≡◌, ◌≢◌, ℕ, suc, ◌<◌, ◌^◌, ◌+◌, List, [], ◌∷◌, ◌++◌, take, drop, length, true, false, codes, decimal, Option, Some, None, Bor, MatchOption, is_some, Result, Ok, Err, refl, sym, ap, ap₂, ◌∙◌, arith, take-append-drop, nat_eq}
+use Rattle.std.proofs.Common.{◌≡◌, ◌≢◌, ℕ, suc, ◌<◌, ◌^◌, ◌+◌, List, [], ◌∷◌, ◌++◌, take, drop, length, true, false, decimal, Option, Some, None, Bor, MatchOption, is_some, Result, Ok, Err, refl, sym, ap, ap₂, ◌∙◌, arith, take-append-drop, nat_eq}
 use Rattle.std.specs.Cmp.Lexicographic.{pointwise}
 use Rattle.std.proofs.lemmas.List.{append_cancel_left}
 use Rattle.std.proofs.lemmas.Slice.Eq.{bytes_eq-Decides}
@@ -7,7 +7,7 @@ use Rattle.std.proofs.Math.Seq.{take-append_seam}
 use Rattle.std.specs.Result.{OkIff, result_ok}
 use Rattle.site_ids.specs.declared.Ticket.{Ticket}
 use Rattle.sitectl.specs.Words.{Lacks, IsCut}
-use Rattle.sitectl.specs.Schedule.{submit_words, joined, FitsSubmission}
+use Rattle.sitectl.specs.Schedule.{numbers, joined, FitsSubmission}
 use Rattle.sitectl.proofs.Cutting.{Same, no_cut, one_cut}
 use Rattle.sitectl.proofs.Frames.{lacks-decimal}
 
@@ -75,10 +75,13 @@ pub lacks-back : (b : ℕ) (xs ys : List ℕ) → Lacks b (xs ++ ys) → Lacks b
 lacks-back b [] ys h = h
 lacks-back b (x ∷ xs) ys h = lacks-back b xs ys (lacks-tail b x (xs ++ ys) h)
 
--- what stands last in a line without a newline has none
+-- what follows a word of a line without a newline has none
+pub lacks-target : (front head word rest : List ℕ) → Lacks 10 head → head ≡ front ++ (word ++ (32 ∷ rest)) → Lacks 10 rest
+lacks-target front head word rest h is = lacks-tail 10 32 rest (lacks-back 10 word (32 ∷ rest) (lacks-back 10 front _ (rw is at h)))
+
+-- nor has what follows two words of it
 pub lacks-path : (front head word number path : List ℕ) → Lacks 10 head → head ≡ front ++ (word ++ (32 ∷ (number ++ (32 ∷ path)))) → Lacks 10 path
-lacks-path front head word number path h is =
-    lacks-tail 10 32 path (lacks-back 10 number (32 ∷ path) (lacks-tail 10 32 _ (lacks-back 10 word _ (lacks-back 10 front _ (rw is at h)))))
+lacks-path front head word number path h is = lacks-tail 10 32 path (lacks-back 10 number (32 ∷ path) (lacks-target front head word (number ++ (32 ∷ path)) h is))
 
 -- ---- submissions
 
@@ -87,9 +90,9 @@ pub record SameWords (word rest : List ℕ) (p : ℕ) (ticket : Ticket) (len : �
   pub node_is : word ≡ decimal p
   pub later : rest ≡ decimal ticket.editor ++ (32 ∷ (decimal ticket.number ++ (32 ∷ decimal len)))
 
-pub behind_node : (head word rest : List ℕ) (p : ℕ) (ticket : Ticket) (len : ℕ) → Lacks 32 word → FitsSubmission p ticket len → head ≡ codes "submit " ++ (word ++ (32 ∷ rest)) → head ≡ joined (submit_words p ticket len) → SameWords word rest p ticket len
-behind_node head word rest p ticket len none fits a b =
-    let same = one_word (codes "submit ") head word rest p _ none a (omega arith) b in record { node_is = same.front; later = same.back }
+pub behind_node : (front head word rest : List ℕ) (p : ℕ) (ticket : Ticket) (len : ℕ) → Lacks 32 word → FitsSubmission p ticket len → head ≡ front ++ (word ++ (32 ∷ rest)) → head ≡ front ++ joined (numbers p ticket len) → SameWords word rest p ticket len
+behind_node front head word rest p ticket len none fits a b =
+    let same = one_word front head word rest p _ none a (omega arith) b in record { node_is = same.front; later = same.back }
 
 -- what follows its editor
 pub record SameEditor (word editor back : List ℕ) (p : ℕ) (ticket : Ticket) (len : ℕ) : Type 0 where
@@ -97,10 +100,10 @@ pub record SameEditor (word editor back : List ℕ) (p : ℕ) (ticket : Ticket) 
   pub editor_is : editor ≡ decimal ticket.editor
   pub later : back ≡ decimal ticket.number ++ (32 ∷ decimal len)
 
-pub behind_editor : (head word rest editor back : List ℕ) (p : ℕ) (ticket : Ticket) (len : ℕ) → Lacks 32 word → FitsSubmission p ticket len → head ≡ codes "submit " ++ (word ++ (32 ∷ rest)) → head ≡ joined (submit_words p ticket len)
+pub behind_editor : (front head word rest editor back : List ℕ) (p : ℕ) (ticket : Ticket) (len : ℕ) → Lacks 32 word → FitsSubmission p ticket len → head ≡ front ++ (word ++ (32 ∷ rest)) → head ≡ front ++ joined (numbers p ticket len)
     → IsCut 32 rest editor back → SameEditor word editor back p ticket len
-behind_editor head word rest editor back p ticket len none fits a b cut =
-    let n = behind_node head word rest p ticket len none fits a b in
+behind_editor front head word rest editor back p ticket len none fits a b cut =
+    let n = behind_node front head word rest p ticket len none fits a b in
     let same = one_number_cut rest editor back ticket.editor _ cut (omega arith) n.later in
     record { node_is = n.node_is; editor_is = same.front; later = same.back }
 
@@ -111,9 +114,9 @@ pub record SameSubmission (word editor number length_word : List ℕ) (p : ℕ) 
   pub number_is : number ≡ decimal ticket.number
   pub length_is : length_word ≡ decimal len
 
-pub same_submission : (head word rest editor back number length_word : List ℕ) (p : ℕ) (ticket : Ticket) (len : ℕ) → Lacks 32 word → FitsSubmission p ticket len → head ≡ codes "submit " ++ (word ++ (32 ∷ rest)) → head ≡ joined (submit_words p ticket len)
+pub same_submission : (front head word rest editor back number length_word : List ℕ) (p : ℕ) (ticket : Ticket) (len : ℕ) → Lacks 32 word → FitsSubmission p ticket len → head ≡ front ++ (word ++ (32 ∷ rest)) → head ≡ front ++ joined (numbers p ticket len)
     → IsCut 32 rest editor back → IsCut 32 back number length_word → SameSubmission word editor number length_word p ticket len
-same_submission head word rest editor back number length_word p ticket len none fits a b first second =
-    let e = behind_editor head word rest editor back p ticket len none fits a b first in
+same_submission front head word rest editor back number length_word p ticket len none fits a b first second =
+    let e = behind_editor front head word rest editor back p ticket len none fits a b first in
     let same = one_number_cut back number length_word ticket.number _ second (omega arith) e.later in
     record { node_is = e.node_is; editor_is = e.editor_is; number_is = same.front; length_is = same.back }

@@ -27,7 +27,7 @@ one_pair make front p i q j rest others hp hq hi hj e more =
 
 same_line : (l m : Line) (rest others : List ℕ) → Fits l → Fits m → joined (words l) ≡ joined (words m) → body l ++ rest ≡ body m ++ others → IsOne l m rest others
 same_line (submit_line p t x) (submit_line p' t' x') rest others hl hm e more =
-    let same = same_submission (joined (words (submit_line p t x))) (decimal p) _ (decimal t.editor) _ (decimal t.number) (decimal (length x)) p' t' (length x') (lacks-decimal 32 p (omega arith) (omega arith)) hm refl e (number_cut t.editor _ (omega arith)) (number_cut t.number (decimal (length x)) (omega arith)) in
+    let same = same_submission (codes "submit ") (joined (words (submit_line p t x))) (decimal p) _ (decimal t.editor) _ (decimal t.number) (decimal (length x)) p' t' (length x') (lacks-decimal 32 p (omega arith) (omega arith)) hm refl e (number_cut t.editor _ (omega arith)) (number_cut t.number (decimal (length x)) (omega arith)) in
     let node = decimal_injective p p' (omega arith) (omega arith) same.node_is in
     let editor = decimal_injective t.editor t'.editor (omega arith) (omega arith) same.editor_is in
     let number = decimal_injective t.number t'.number (omega arith) (omega arith) same.number_is in

@@ -28,13 +28,13 @@ lacks-codes : (b : ℕ) (xs : List ℕ) → list_all (λ x. not (eqb x b)) xs �
 lacks-codes b [] e = lacks-none b
 lacks-codes b (x ∷ xs) e = let parts = both (not (eqb x b)) (list_all (λ x. not (eqb x b)) xs) e in lacks-cons b x xs (other x b parts.0) (lacks-codes b xs parts.1)
 
-lacks-last : (n : ℕ) → n < 2 ^ 64 → Lacks 10 (decimal n)
+pub lacks-last : (n : ℕ) → n < 2 ^ 64 → Lacks 10 (decimal n)
 lacks-last n small = lacks-decimal 10 n (omega arith) small
 
-lacks-number : (n : ℕ) (later : List ℕ) → n < 2 ^ 64 → Lacks 10 later → Lacks 10 (decimal n ++ (32 ∷ later))
+pub lacks-number : (n : ℕ) (later : List ℕ) → n < 2 ^ 64 → Lacks 10 later → Lacks 10 (decimal n ++ (32 ∷ later))
 lacks-number n later small h = lacks-append 10 (decimal n) (32 ∷ later) (lacks-last n small) (lacks-cons 10 32 later (omega arith) h)
 
-lacks-behind : (front later : List ℕ) → list_all (λ x. not (eqb x 10)) front ≡ true → Lacks 10 later → Lacks 10 (front ++ later)
+pub lacks-behind : (front later : List ℕ) → list_all (λ x. not (eqb x 10)) front ≡ true → Lacks 10 later → Lacks 10 (front ++ later)
 lacks-behind front later e h = lacks-append 10 front later (lacks-codes 10 front e) h
 
 lacks-submission : (p : ℕ) (ticket : Ticket) (len : ℕ) → FitsSubmission p ticket len → Lacks 10 (joined (submit_words p ticket len))
@@ -65,7 +65,7 @@ one_head bytes head after line rest cut ok is = one_cut 10 bytes head after (joi
 pub no_line_yet : (bytes : List ℕ) → Lacks 10 bytes → HasNoLine bytes
 no_line_yet bytes none line rest ok is = no_cut 10 bytes (joined (words line)) (body line ++ rest) none (rw is (head_cut line rest ok))
 
-cut_more : (bytes head after more : List ℕ) → IsCut 10 bytes head after → IsCut 10 (bytes ++ more) head (after ++ more)
+pub cut_more : (bytes head after more : List ℕ) → IsCut 10 bytes head after → IsCut 10 (bytes ++ more) head (after ++ more)
 cut_more bytes head after more cut = record { whole = ap (λ t. t ++ more) cut.whole ∙ append_assoc head (10 ∷ after) more; first = cut.first }
 
 -- words that are no line's
@@ -100,7 +100,7 @@ plain_whole bytes head after line cut bare is =
 
 pub one_length : (p q : ℕ) (t u : Ticket) (len n : ℕ) → FitsSubmission p t len → FitsSubmission q u n → joined (submit_words p t len) ≡ joined (submit_words q u n) → len ≡ n
 one_length p q t u len n hp hq is =
-    let same = same_submission (joined (submit_words p t len)) (decimal p) _ (decimal t.editor) _ (decimal t.number) (decimal len) q u n (lacks-decimal 32 p (omega arith) (omega arith)) hq refl is (number_cut t.editor _ (omega arith)) (number_cut t.number (decimal len) (omega arith)) in
+    let same = same_submission (codes "submit ") (joined (submit_words p t len)) (decimal p) _ (decimal t.editor) _ (decimal t.number) (decimal len) q u n (lacks-decimal 32 p (omega arith) (omega arith)) hq refl is (number_cut t.editor _ (omega arith)) (number_cut t.number (decimal len) (omega arith)) in
     decimal_injective len n (omega arith) (omega arith) same.length_is
 
 -- the text that follows a submission's words
@@ -137,7 +137,7 @@ short_text p ticket len after hp short line rest ok is =
     let total : length after ≡ length t.text + suc (length rest) = ap length t.whole ∙ length-append t.text (10 ∷ rest) in
     omega (arith, total, t.long, short)
 
-behind_text : (text other rest later : List ℕ) (e : ℕ) → length text ≡ length other → text ++ (e ∷ rest) ≡ other ++ (10 ∷ later) → e ≡ 10
+pub behind_text : (text other rest later : List ℕ) (e : ℕ) → length text ≡ length other → text ++ (e ∷ rest) ≡ other ++ (10 ∷ later) → e ≡ 10
 behind_text text other rest later e long is =
     sym (get_or-append_seam text e rest 0) ∙ (ap (λ xs. get_or xs (length text) 0) is ∙ (ap (λ n. get_or (other ++ (10 ∷ later)) n 0) long ∙ get_or-append_seam other 10 later 0))
 

@@ -5,6 +5,7 @@ use Rattle.sitectl.specs.Framed.{FramedCommand, frame, Fits, Splits}
 use Rattle.sitectl.specs.Reading.{HasReading}
 use Rattle.sitectl.specs.Verdict.{Verdict, IsVerdict}
 use Rattle.sitectl.specs.Schedule.{Line, spelled, Fits as FitsLine}
+use Rattle.sitectl.specs.Script.{Line as ScriptLine, spelled as script_spelled, Fits as FitsScript}
 
 -- no frame is the beginning of another
 abbrev pub OneFrame : Type 0
@@ -32,3 +33,7 @@ SomeVerdict = (input : List ℕ) (release : Option ℕ) (path : List ℕ) → (v
 -- no two lines of a schedule spell the same bytes, and none is the beginning of another
 abbrev pub OneLine : Type 0
 OneLine = (line other : Line) (rest others : List ℕ) → FitsLine line → FitsLine other → spelled line ++ rest ≡ spelled other ++ others → (line ≡ other) × (rest ≡ others)
+
+-- the same of a script's lines
+abbrev pub OneScriptLine : Type 0
+OneScriptLine = (line other : ScriptLine) (rest others : List ℕ) → FitsScript line → FitsScript other → script_spelled line ++ rest ≡ script_spelled other ++ others → (line ≡ other) × (rest ≡ others)

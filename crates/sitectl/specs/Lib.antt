@@ -15,3 +15,8 @@ pub mod ServeOptions
 pub mod ClusterOptions
 pub mod SimulationEnds
 pub mod Stepping
+pub mod Script
+pub mod ScriptView
+pub mod Client
+pub mod ScriptEnds
+pub mod ScriptSteps

@@ -20,9 +20,12 @@ pub data Line : Type 0 where
   show_line : (p : ℕ) → Line
   get_line : (p n : ℕ) (path : List ℕ) → Line
 
--- a submission's words: its node, its ticket and its text's length
+-- a submission's numbers: its node, its ticket and its text's length
+abbrev pub numbers : ℕ → Ticket → ℕ → List (List ℕ)
+numbers p ticket len = decimal p ∷ decimal ticket.editor ∷ decimal ticket.number ∷ decimal len ∷ []
+
 abbrev pub submit_words : ℕ → Ticket → ℕ → List (List ℕ)
-submit_words p ticket len = codes "submit" ∷ decimal p ∷ decimal ticket.editor ∷ decimal ticket.number ∷ decimal len ∷ []
+submit_words p ticket len = codes "submit" ∷ numbers p ticket len
 
 abbrev pub words : Line → List (List ℕ)
 words (submit_line p ticket text) = submit_words p ticket (length text)

@@ -7,8 +7,8 @@ use Rattle.sitectl.specs.declared.schedule.Found.{Found}
 use Rattle.sitectl.specs.declared.schedule.Found.TheVariants as found
 use Rattle.sitectl.specs.declared.schedule.FoundNodes.{FoundNodes}
 use Rattle.sitectl.specs.declared.schedule.FoundNodes.TheVariants as found_nodes
-use Rattle.sitectl.specs.declared.schedule.Submission.{Submission}
-use Rattle.sitectl.specs.Schedule.{Line, submit_line, tick_line, widen_line, ask_line, restart_line, deliver_line, arm_line, crash_line, settle_line, show_line, get_line, submit_words, FitsSubmission, Fits, spelled, HasNoLine, GetsNoLine, spelled_nodes, HasNoNodes, GetsNoNodes}
+use Rattle.sitectl.specs.declared.words.Submission.{Submission}
+use Rattle.sitectl.specs.Schedule.{Line, submit_line, tick_line, widen_line, ask_line, restart_line, deliver_line, arm_line, crash_line, settle_line, show_line, get_line, numbers, submit_words, FitsSubmission, Fits, spelled, HasNoLine, GetsNoLine, spelled_nodes, HasNoNodes, GetsNoNodes}
 
 abbrev pub line_view : Code → Line
 line_view (code.Submit node ticket text) = submit_line node ticket text.now
@@ -22,6 +22,9 @@ line_view (code.Crash node choice) = crash_line node choice
 line_view code.Settle = settle_line
 line_view (code.Show node) = show_line node
 line_view (code.Get node release path) = get_line node release path.now
+
+abbrev pub submission_numbers : Submission → List (List ℕ)
+submission_numbers s = numbers s.node s.ticket s.text_len
 
 abbrev pub submission_words : Submission → List (List ℕ)
 submission_words s = submit_words s.node s.ticket s.text_len

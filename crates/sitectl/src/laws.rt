@@ -1,5 +1,5 @@
 //! What holds of the definitions alone.
-ghost use Rattle.sitectl.specs.Laws.{OneFrame, OneSplit, OneReading, SomeReading, OneVerdict, SomeVerdict, OneLine};
+ghost use Rattle.sitectl.specs.Laws.{OneFrame, OneSplit, OneReading, SomeReading, OneVerdict, SomeVerdict, OneLine, OneScriptLine};
 
 /// Bytes are framed commands in at most one way, so an input has one reading and one verdict, and each has some.
 pub fn an_input_has_one_verdict()
@@ -14,4 +14,9 @@ pub fn an_input_has_one_verdict()
 /// Bytes have one line of a schedule at their front, and one rest behind it.
 pub fn a_schedule_has_one_reading()
     ensures { OneLine }
+{}
+
+/// Bytes have one line of a script at their front, and one rest behind it.
+pub fn a_script_has_one_reading()
+    ensures { OneScriptLine }
 {}

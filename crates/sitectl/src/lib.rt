@@ -1,6 +1,8 @@
 //! The engines of the programs.
 #![tactic(auto)]
 
+mod client;
+mod cluster;
 mod cluster_line;
 mod commands;
 mod ends;
@@ -14,13 +16,19 @@ mod options;
 mod saying;
 mod schedule;
 mod schedule_file;
+mod script;
 mod serve_line;
+mod server;
+mod server_fault;
+mod servers;
 mod simulator;
+mod words;
 
+pub use cluster::sitecluster;
 pub use cluster_line::cluster_options;
 pub use engine::siterender;
 pub use http_read::Counted;
-pub use laws::{a_schedule_has_one_reading, an_input_has_one_verdict};
+pub use laws::{a_schedule_has_one_reading, a_script_has_one_reading, an_input_has_one_verdict};
 pub use options::{RenderOptions, render_options};
 pub use schedule_file::{SimOptions, sim_options};
 pub use serve_line::sited_options;

@@ -6,8 +6,9 @@ ghost use Rattle.site_ids.specs.declared.Ticket.{Ticket as AbstractTicket};
 ghost use Rattle.sitectl.specs.Schedule.{Line as AbstractLine, joined, words, submit_words, FitsSubmission, Fits, IsPath, body, arm_line, crash_line, get_line};
 ghost use Rattle.sitectl.specs.ScheduleView.{line_view, submission_fits, submission_words, IsFound, IsFoundNodes};
 
-use crate::framed::{MAX_TEXT, cut, read_number};
-use site_ids::{Cluster, MAX_NODES, NodeId, Ticket};
+use crate::framed::{cut, read_number};
+use crate::words::{Submission, after, number_at_node, read_node, submission_after, word_after};
+use site_ids::{Cluster, NodeId, Ticket};
 
 /// A line behind the first, with the words of it that vary. A node of it need not be one of the schedule's nodes.
 #[derive(Clone, Copy, Debug)]
@@ -71,74 +72,11 @@ pub(crate) enum FoundNodes<'a> {
     Bad,
 }
 
-/// The words of a submission's line.
-#[derive(Clone, Copy)]
-pub(crate) struct Submission {
-    pub node: NodeId,
-    pub ticket: Ticket,
-    pub text_len: usize,
-}
-
-fn after<'a>(bytes: &'a [u8], front: &str) -> Option<&'a [u8]>
-    ensures { MatchOption result ((rest : List ℕ) → bytes.now ≢ front.now ++ rest) (λ rest. bytes.now ≡ front.now ++ rest.now) }
-{
-    bytes.strip_prefix(front.as_bytes())
-}
-
-/// The number of a node of any cluster.
-fn read_node(word: &[u8]) -> Option<NodeId>
-    ensures { MatchOption result ((p : ℕ) → IsNode 9 p → word.now ≢ decimal p) (λ p. IsNode 9 p × (word.now ≡ decimal p)) }
-{
-    let number = u8::try_from(read_number(word)?).ok()?;
-    let largest = Cluster::new(MAX_NODES)?;
-    largest.node(number)
-}
-
 /// The node of a line of two words.
 fn node_after(head: &[u8], front: &str) -> Option<NodeId>
     ensures { MatchOption result ((p : ℕ) → IsNode 9 p → head.now ≢ front.now ++ decimal p) (λ p. IsNode 9 p × (head.now ≡ front.now ++ decimal p)) }
 {
     read_node(after(head, front)?)
-}
-
-/// The word behind a front, and what follows its space.
-fn word_after<'a>(head: &'a [u8], front: &str) -> Option<(&'a [u8], &'a [u8])>
-    ensures { MatchOption result ((word rest : List ℕ) → Lacks 32 word → head.now ≢ front.now ++ (word ++ (32 ∷ rest)))
-        (λ p. Lacks 32 p.0.now × (head.now ≡ front.now ++ (p.0.now ++ (32 ∷ p.1.now)))) }
-{
-    cut(after(head, front)?, b' ')
-}
-
-/// The node and the number of a line of three words.
-fn number_at_node(head: &[u8], front: &str) -> Option<(NodeId, u64)>
-    ensures { MatchOption result ((p n : ℕ) → IsNode 9 p → n < 2 ^ 64 → head.now ≢ front.now ++ (decimal p ++ (32 ∷ decimal n)))
-        (λ r. IsNode 9 r.0 × (r.1 < 2 ^ 64) × (head.now ≡ front.now ++ (decimal r.0 ++ (32 ∷ decimal r.1)))) }
-{
-    let (word, number) = word_after(head, front)?;
-    let node = read_node(word)?;
-    Some((node, read_number(number)?))
-}
-
-/// The words of a submission.
-fn submission_in(head: &[u8]) -> Option<Submission>
-    ensures { MatchOption result ((p : ℕ) (ticket : AbstractTicket) (len : ℕ) → FitsSubmission p ticket len → head.now ≢ joined (submit_words p ticket len))
-        (λ s. submission_fits s × (head.now ≡ joined (submission_words s))) }
-{
-    let (word, rest) = word_after(head, "submit ")?;
-    let (editor, rest) = cut(rest, b' ')?;
-    let (number, length_word) = cut(rest, b' ')?;
-    let node = read_node(word)?;
-    let editor = u32::try_from(read_number(editor)?).ok()?;
-    let number = read_number(number)?;
-    let text_len = read_number(length_word)?;
-    if text_len > MAX_TEXT {
-        return None;
-    }
-    Some(Submission {
-        node,
-        ticket: Ticket { editor, number },
-        text_len: text_len as usize,
-    })
 }
 
 fn arming(head: &[u8]) -> Option<(NodeId, u32)>
@@ -247,7 +185,7 @@ pub(crate) fn line_in(bytes: &[u8]) -> Found<'_>
     let Some((head, after)) = cut(bytes, b'\n') else {
         return Found::Short;
     };
-    if let Some(submission) = submission_in(head) {
+    if let Some(submission) = submission_after(head, "submit ") {
         return submitted(submission, after);
     }
     match plain_line(head) {

@@ -95,7 +95,7 @@ fn serve_matches<'a>(alloc: Global, words: &'a [String]) -> Result<ArgMatches<'a
     ensures rounds { IfOk result (λ m. SpellsBelow (2 ^ 32) (one_text (found_of m) (codes "rounds"))) }
 {
     let example =
-        "Example, server 1 of 3 on one machine:\n  sited --id 1 --record /tmp/1.record --format --http 127.0.0.1:8001 --rounds 100000 127.0.0.1:7001 127.0.0.1:7002 127.0.0.1:7003";
+        "Example, server 1 of 3 on one machine:\n  sited --id 1 --record /var/lib/sited/1.record --format --http 127.0.0.1:8001 --rounds 100000 127.0.0.1:7001 127.0.0.1:7002 127.0.0.1:7003";
     let command = described(alloc, "sited", "Runs one server of a site", example)
         .arg(id_option(alloc))?
         .arg(required_option(

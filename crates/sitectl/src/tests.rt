@@ -1,9 +1,10 @@
-//! The engine over memory, with readers and writers that fail; command lines.
+//! The engines over memory, with readers and writers that fail; scripts; command lines.
 mod ends;
 mod faults;
 mod options;
 mod pages;
 mod refusals;
+mod scripts;
 mod serve_options;
 
 use crate::{Counted, siterender};

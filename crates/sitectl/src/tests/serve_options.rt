@@ -150,11 +150,11 @@ fn help_shows_an_example(rt: HostRuntime) -> Result<(), Fail> {
         (sim_options(alloc, words).err(), "  settle\n  show 3\n"),
         (
             cluster_options(alloc, words).err(),
-            "\n\nExample:\n  sitecluster < script\n",
+            "  drive 2 99\n  drive 1 99\n  get 1 /_newest\n",
         ),
         (
             sited_options(alloc, words).err(),
-            " 127.0.0.1:7001 127.0.0.1:7002 127.0.0.1:7003\n",
+            " --record /var/lib/sited/1.record --format --http 127.0.0.1:8001 --rounds 100000 127.0.0.1:7001 127.0.0.1:7002 127.0.0.1:7003\n",
         ),
     ];
     for (refused, end) in helps {

@@ -1,6 +1,6 @@
 use Rattle.std.proofs.Common.{◌++◌, ◌∷◌, ◌∙◌, ap₂, arith, decimal}
 use Rattle.sitectl.proofs.LineLemmas.{one_word, no_word_behind}
-use Rattle.sitectl.proofs.schedule.number_at_node.Goals as goal
+use Rattle.sitectl.proofs.words.number_at_node.Goals as goal
 
 pub returns-in_err-word : goal.returns-in_err-word
 returns-in_err-word c = rw c.from_residual.ensures (λ p n ok small is. no_word_behind c.args.front.now c.args.head.now p (decimal n) c.in_err-word.ensures (omega arith) is)

@@ -4,7 +4,7 @@ use Rattle.std.proofs.lemmas.Result.{OkIff-decides}
 use Rattle.std.proofs.lemmas.Fmt.{decimal_injective}
 use Rattle.site_ids.specs.Ids.{IsNode}
 use Rattle.sitectl.proofs.LineLemmas.{fitted}
-use Rattle.sitectl.proofs.schedule.read_node.Goals as goal
+use Rattle.sitectl.proofs.words.read_node.Goals as goal
 
 pub returns-in_err-number : goal.returns-in_err-number
 returns-in_err-number c = rw c.from_residual-in_err-number.ensures (λ p ok is.

@@ -2,7 +2,7 @@ use Rattle.std.proofs.Common.{◌≡◌, ◌≢◌, ◌++◌, ◌∷◌, ◌∙�
 use Rattle.sitectl.proofs.LineLemmas.{behind}
 use Rattle.sitectl.proofs.Cutting.{no_cut}
 use Rattle.sitectl.specs.Words.{Lacks, IsCut}
-use Rattle.sitectl.proofs.schedule.word_after.Goals as goal
+use Rattle.sitectl.proofs.words.word_after.Goals as goal
 
 cut_behind : (front head rest : List ℕ) (r : Option (Bor (List ℕ) × Bor (List ℕ))) → head ≡ front ++ rest → MatchOption r (Lacks 32 rest) (λ p. IsCut 32 rest p.0.now p.1.now)
     → MatchOption r ((word later : List ℕ) → Lacks 32 word → head ≢ front ++ (word ++ (32 ∷ later))) (λ p. Lacks 32 p.0.now × (head ≡ front ++ (p.0.now ++ (32 ∷ p.1.now))))

@@ -1,0 +1,28 @@
+-- What a client sends, and what it reads and shows of an answer.
+use Rattle.std.specs.Prelude.{ℕ, ◌≡◌, ◌<◌, List, ◌++◌, length, codes, decimal}
+use Rattle.httparse.specs.Grammar.{ResponseHead, ReadsResponse, status_code}
+use Rattle.release.specs.Page.{Page}
+use Rattle.site_ids.specs.declared.Ticket.{Ticket}
+use Rattle.sitectl.specs.declared.client.TheConstants.{FIELDS}
+use Rattle.sitectl.specs.Simulation.{page_lines}
+
+-- a submission of a command text under a ticket
+abbrev pub post_request : Ticket → List ℕ → List ℕ
+post_request ticket text =
+    codes "POST /_submit/" ++ (decimal ticket.editor ++ (codes "/" ++ (decimal ticket.number
+    ++ (codes " HTTP/1.1\r\nHost: localhost\r\nConnection: close\r\nContent-Length: " ++ (decimal (length text) ++ (codes "\r\n\r\n" ++ text))))))
+
+abbrev pub get_request : List ℕ → List ℕ
+get_request target = codes "GET " ++ (target ++ codes " HTTP/1.1\r\nHost: localhost\r\nConnection: close\r\n\r\n")
+
+-- what was received is a head with this status, and then this body
+abbrev pub IsResponse : List ℕ → Page → Type 0
+IsResponse received page = (head : ResponseHead) × ReadsResponse received head page.body × (page.status ≡ status_code head)
+
+-- no head with 16 field lines or fewer stands at the front
+abbrev pub HasNoAnswer : List ℕ → Type 0
+HasNoAnswer received = (head : ResponseHead) (rest : List ℕ) → ReadsResponse received head rest → FIELDS < length head.fields
+
+-- status and length, and then the body, are what is shown of what was received
+abbrev pub IsShown : List ℕ → List ℕ → Type 0
+IsShown received printed = (page : Page) × IsResponse received page × (printed ≡ page_lines page)
