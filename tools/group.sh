@@ -25,19 +25,22 @@ make_group() {
 
 url() { echo "http://${http[$1 - 1]}"; }
 
+# where a node finds the nodes, itself among them: P
+peers_of() { echo "${udp[@]}"; }
+
 # the number of a node's process: P
 process() { cat "$group/$1.pid"; }
 
 # is it there still: P
 runs() { [ -e "$group/$1.pid" ] && kill -0 "$(process "$1")" 2> /dev/null; }
 
-# starts a node over its record file, which is formatted where it is empty or absent, and waits until it is ready: P
+# starts a node over its record file, which is formatted where it is empty or absent, and waits until it is ready, for 30 or $ready_within seconds: P
 start_node() {
     local p=$1 k
     : > "$group/$p.out"
-    "$sited" --id "$p" --record "$group/$p.record" --http "${http[p - 1]}" --rounds 4294967295 --format ${options:-} "${udp[@]}" > "$group/$p.out" 2> "$group/$p.err" < /dev/null &
+    "$sited" --id "$p" --record "$group/$p.record" --http "${http[p - 1]}" --rounds 4294967295 --format ${options:-} $(peers_of "$p") > "$group/$p.out" 2> "$group/$p.err" < /dev/null &
     echo $! > "$group/$p.pid"
-    for ((k = 0; k < 300; k++)); do
+    for ((k = 0; k < ${ready_within:-30} * 10; k++)); do
         grep -q "^node $p ready" "$group/$p.out" && return
         runs "$p" || break
         sleep 0.1
@@ -46,10 +49,11 @@ start_node() {
     return 1
 }
 
-# ends a node at once, as a crash of its machine does but for the disk: P
+# ends a node at once, as a crash of its machine does but for the disk, and all that it started where it leads a group of processes: P
 kill_node() {
-    kill -KILL "$(process "$1")" 2> /dev/null || true
-    wait "$(process "$1")" 2> /dev/null || true
+    local pid
+    pid=$(process "$1")
+    { kill -KILL -- "-$pid" || kill -KILL "$pid" || true; wait "$pid" || true; } 2> /dev/null
     rm -f "$group/$1.pid"
 }
 
