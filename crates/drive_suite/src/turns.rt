@@ -1,5 +1,5 @@
 //! What node 1 of three sends for what it hears, datagram by datagram; and `exchange` beside `drive`.
-use crate::server::{Server, passed_over};
+use crate::server::{Server, passes};
 use site_drive::MemLink;
 use std::alloc::Global;
 use std::process::Abort;
@@ -58,7 +58,7 @@ fn hear(rt: &impl Abort, server: &mut Server<MemLink>, turns: usize) {
 fn sent_for(rt: &impl Abort, server: &Server<MemLink>, first: usize, sent: &[(u8, &str)]) -> usize {
     let mut at = first;
     for (to, text) in sent {
-        assert!(rt; server.sent(rt, at, *to, text), "{text} to {to}");
+        server.sent(rt, at, *to, text);
         at = at.saturating_add(1);
     }
     at
@@ -77,7 +77,7 @@ fn sent_in_turns(rt: &impl Abort, server: &Server<MemLink>, turns: usize) -> usi
 fn last_to_all(rt: &impl Abort, server: &Server<MemLink>, first: usize, size: u8, text: &str) {
     let mut at = first;
     for to in 1..=size {
-        assert!(rt; server.sent(rt, at, to, text), "{text} to {to}");
+        server.sent(rt, at, to, text);
         at = at.saturating_add(1);
     }
     assert_eq!(rt; server.link.sent().len(), at);
@@ -91,17 +91,17 @@ fn server(rt: &impl Abort, alloc: Global, size: u8) -> Server<MemLink> {
 fn exchange(rt: &impl Abort, alloc: Global, turns: u8, malformed: u32, last: &str) {
     let mut server = server(rt, alloc, 3);
     hear(rt, &mut server, usize::from(turns));
-    assert_eq!(rt; server.exchange(u32::from(turns)), passed_over(malformed));
+    passes(rt, last, server.exchange(u32::from(turns)), malformed, 0);
     let sent = sent_in_turns(rt, &server, usize::from(turns));
     assert_eq!(rt; server.link.sent().len(), sent);
-    assert_eq!(rt; server.drive(0), passed_over(0));
+    passes(rt, last, server.drive(0), 0, 0);
     last_to_all(rt, &server, sent, 3, last);
 }
 
 fn drive(rt: &impl Abort, alloc: Global, turns: u8, malformed: u32, last: &str) {
     let mut server = server(rt, alloc, 3);
     hear(rt, &mut server, usize::from(turns));
-    assert_eq!(rt; server.drive(u32::from(turns)), passed_over(malformed));
+    passes(rt, last, server.drive(u32::from(turns)), malformed, 0);
     let sent = sent_in_turns(rt, &server, usize::from(turns));
     last_to_all(rt, &server, sent, 3, last);
 }
@@ -116,7 +116,7 @@ fn a_drive_is_an_exchange_and_a_last_call(rt: HostRuntime) {
 
 fn one_for_all(rt: &impl Abort, alloc: Global, size: u8) {
     let mut server = server(rt, alloc, size);
-    assert_eq!(rt; server.drive(0), passed_over(0));
+    passes(rt, "a question", server.drive(0), 0, 0);
     last_to_all(rt, &server, 0, size, "01060100000001");
 }
 
