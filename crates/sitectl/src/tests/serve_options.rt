@@ -150,7 +150,7 @@ fn help_shows_an_example(rt: HostRuntime) -> Result<(), Fail> {
         (sim_options(alloc, words).err(), "  settle\n  show 3\n"),
         (
             cluster_options(alloc, words).err(),
-            "  drive 2 99\n  drive 1 99\n  get 1 /_newest\n",
+            "  drive 2 9\n  drive 1 9\n  get 1 /_newest\n",
         ),
         (
             sited_options(alloc, words).err(),
