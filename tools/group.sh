@@ -34,6 +34,9 @@ process() { cat "$group/$1.pid"; }
 # is it there still: P
 runs() { [ -e "$group/$1.pid" ] && kill -0 "$(process "$1")" 2> /dev/null; }
 
+# it is ready: P
+is_ready() { grep -q "^node $1 ready" "$group/$1.out"; }
+
 # starts a node over its record file, which is formatted where it is empty or absent, and waits until it is ready, for 30 or $ready_within seconds: P
 start_node() {
     local p=$1 k
@@ -41,7 +44,7 @@ start_node() {
     "$sited" --id "$p" --record "$group/$p.record" --http "${http[p - 1]}" --rounds 4294967295 --format ${options:-} $(peers_of "$p") > "$group/$p.out" 2> "$group/$p.err" < /dev/null &
     echo $! > "$group/$p.pid"
     for ((k = 0; k < ${ready_within:-30} * 10; k++)); do
-        grep -q "^node $p ready" "$group/$p.out" && return
+        is_ready "$p" && return
         runs "$p" || break
         sleep 0.1
     done
