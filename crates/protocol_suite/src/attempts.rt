@@ -67,34 +67,37 @@ fn the_own_value_where_no_prior_is_told(rt: HostRuntime) -> Result<(), Fail> {
 }
 
 #[test]
-fn attempts_at_several_instances_are_apart(rt: HostRuntime) -> Result<(), Fail> {
+fn open_attempts_are_counted(rt: HostRuntime) -> Result<(), Fail> {
+    let three = cluster_of(3)?;
+    let mut proposer = Proposer::new(rt.alloc(), three, node_of(three, 1)?);
+    assert_eq!(rt; proposer.attempts(), 0);
+    proposer.start(instance(9)?, ballot(3, 1)?, b"own")?;
+    proposer.start(instance(7)?, ballot(4, 1)?, b"own")?;
+    assert_eq!(rt; proposer.attempts(), 2);
+    // In place of the first one.
+    proposer.start(instance(9)?, ballot(5, 1)?, b"own")?;
+    assert_eq!(rt; proposer.attempts(), 2);
+    // Room without an attempt counts for none.
+    proposer.make_room(instance(10)?)?;
+    proposer.abandon(instance(7)?);
+    assert_eq!(rt; proposer.attempts(), 1);
+    Ok(())
+}
+
+#[test]
+fn attempts_at_two_instances_are_apart(rt: HostRuntime) -> Result<(), Fail> {
     let alloc = rt.alloc();
     let three = cluster_of(3)?;
+    let (first, second) = (ballot(4, 1)?, ballot(5, 1)?);
     let mut proposer = Proposer::new(alloc, three, node_of(three, 1)?);
-    assert_eq!(rt; proposer.attempts(), 0);
-    // The instance, the round and the own value of an attempt, and how many are open then: the last one stands in the place of another.
-    for (at, round, own, open) in [
-        (9, 3, b"Z", 1),
-        (7, 4, b"X", 2),
-        (8, 5, b"Y", 3),
-        (9, 6, b"W", 3),
-    ] {
-        proposer.start(instance(at)?, ballot(round, 1)?, own)?;
-        assert_eq!(rt; proposer.attempts(), open);
-    }
-    let own = ballot(4, 1)?;
-    assert!(rt; promised(&mut proposer, three, 1, own, None)?.is_none());
-    assert!(rt; promised(&mut proposer, three, 2, ballot(5, 1)?, None)?.is_none());
-    let second = promised(&mut proposer, three, 2, own, None)?;
-    assert!(rt; is_proposal(&second, instance(7)?, own, b"X"));
-    assert!(rt; is_propose(&proposer.resend(instance(7)?)?, own, b"X"));
-    assert!(rt; is_prepare(&proposer.resend(instance(8)?)?, ballot(5, 1)?));
-    assert!(rt; is_prepare(&proposer.resend(instance(9)?)?, ballot(6, 1)?));
-    // A room without an attempt counts for none.
-    proposer.make_room(instance(10)?)?;
-    proposer.abandon(instance(8)?);
-    assert_eq!(rt; proposer.attempts(), 2);
-    assert!(rt; proposer.resend(instance(8)?)?.is_none());
+    proposer.start(instance(7)?, first, b"X")?;
+    proposer.start(instance(8)?, second, b"Y")?;
+    assert!(rt; promised(&mut proposer, three, 1, first, None)?.is_none());
+    assert!(rt; promised(&mut proposer, three, 2, second, None)?.is_none());
+    let made = promised(&mut proposer, three, 2, first, None)?;
+    assert!(rt; is_proposal(&made, instance(7)?, first, b"X"));
+    assert!(rt; is_propose(&proposer.resend(instance(7)?)?, first, b"X"));
+    assert!(rt; is_prepare(&proposer.resend(instance(8)?)?, second));
     Ok(())
 }
 
