@@ -71,16 +71,15 @@ fn open_attempts_are_counted(rt: HostRuntime) -> Result<(), Fail> {
     let three = cluster_of(3)?;
     let mut proposer = Proposer::new(rt.alloc(), three, node_of(three, 1)?);
     assert_eq!(rt; proposer.attempts(), 0);
-    proposer.start(instance(9)?, ballot(3, 1)?, b"own")?;
-    proposer.start(instance(7)?, ballot(4, 1)?, b"own")?;
-    assert_eq!(rt; proposer.attempts(), 2);
-    // In place of the first one.
-    proposer.start(instance(9)?, ballot(5, 1)?, b"own")?;
-    assert_eq!(rt; proposer.attempts(), 2);
+    // The instance and the round of an attempt, and how many are open then: the last one stands in the place of another.
+    for (at, round, open) in [(9, 3, 1), (7, 4, 2), (8, 5, 3), (9, 6, 3)] {
+        proposer.start(instance(at)?, ballot(round, 1)?, b"own")?;
+        assert_eq!(rt; proposer.attempts(), open);
+    }
     // Room without an attempt counts for none.
     proposer.make_room(instance(10)?)?;
-    proposer.abandon(instance(7)?);
-    assert_eq!(rt; proposer.attempts(), 1);
+    proposer.abandon(instance(8)?);
+    assert_eq!(rt; proposer.attempts(), 2);
     Ok(())
 }
 
