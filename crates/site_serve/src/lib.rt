@@ -4,9 +4,13 @@
 mod addresses;
 mod calm;
 mod connections;
+mod door;
 mod engine;
 mod halt;
 mod openings;
+mod pace;
+mod patient;
+mod patient_link;
 mod requests;
 mod rounds;
 mod saying;

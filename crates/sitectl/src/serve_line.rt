@@ -130,6 +130,7 @@ pub fn sited_options<'a>(alloc: Global, words: &'a [String]) -> Result<ServeOpti
         http: text_in(&matches, "http"),
         rounds: number_in(&matches, "rounds"),
         format: flag_in(&matches, "format"),
+        patience: None,
         peers,
     })
 }
