@@ -14,9 +14,12 @@ const ASK: usize = 7;
 /// The second byte of a prepare.
 const PREPARE: u8 = 1;
 
+/// The second byte of an answer to a question.
+const CHOSEN: u8 = 7;
+
 /// A link, a listener, and the connection that was accepted while the link was used.
 ///
-/// A receive does not wait where no exchange may be in flight and a connection is held, or a hurry was told.
+/// A receive does not wait where no exchange may be in flight and a connection is held, or a hurry was told, or this round's question was answered.
 #[derive(Drop)]
 pub(crate) struct Watch {
     link: UdpLink,
@@ -24,6 +27,7 @@ pub(crate) struct Watch {
     held: Option<TcpStream>,
     calm: Calm,
     hurry: bool,
+    answered: bool,
     // whether the socket's receives wait
     waits: bool,
 }
@@ -37,6 +41,7 @@ impl Watch {
             held: None,
             calm: Calm::new(),
             hurry: false,
+            answered: false,
             waits: true,
         }
     }
@@ -46,11 +51,12 @@ impl Watch {
         self.calm.is_calm()
     }
 
-    /// Whether receives wait for nothing, as long as no exchange may be in flight.
+    /// Whether the next round's receives wait for nothing, as long as no exchange may be in flight.
     pub(crate) fn set_hurry(&mut self, hurry: bool)
         ensures { self.new.link ≡ self.old.link }
     {
         self.hurry = hurry;
+        self.answered = false;
     }
 
     /// Holds a connection, where one is there. One that fails at once is passed over.
@@ -79,18 +85,20 @@ impl Watch {
     fn choose_waiting(&mut self)
         ensures { self.new.link ≡ self.old.link }
     {
-        let waits = !self.is_calm() || (self.held.is_none() && !self.hurry);
+        let goes_on = self.held.is_some() || self.hurry || self.answered;
+        let waits = !(self.is_calm() && goes_on);
         if waits != self.waits && self.link.set_waiting(waits).is_ok() {
             self.waits = waits;
         }
     }
 
-    /// Notes what a receive gave.
-    fn note(&mut self, came: Option<usize>)
+    /// Notes what a receive gave: how many bytes, and the kind of the message.
+    fn note(&mut self, came: Option<usize>, kind: u8)
         ensures { self.new.link ≡ self.old.link }
     {
         match came {
             Some(ASK) => {}
+            Some(_) if kind == CHOSEN => self.answered = true,
             Some(_) => self.calm.stir(),
             None if self.waits => self.calm.settle(),
             None => {}
@@ -113,7 +121,8 @@ impl Link for Watch {
         self.accept();
         self.choose_waiting();
         let came = self.link.receive(buf)?;
-        self.note(came);
+        let kind = buf.get(1).copied().unwrap_or(0);
+        self.note(came, kind);
         Ok(came)
     }
 
