@@ -52,11 +52,19 @@ start_node() {
     return 1
 }
 
-# ends a node at once, as a crash of its machine does but for the disk, and all that it started where it leads a group of processes: P
+# a process and all that it started: PID
+tree() {
+    local child
+    echo "$1"
+    for child in $(pgrep -P "$1"); do tree "$child"; done
+}
+
+# ends a node at once, as a crash of its machine does but for the disk: P
 kill_node() {
     local pid
     pid=$(process "$1")
-    { kill -KILL -- "-$pid" || kill -KILL "$pid" || true; wait "$pid" || true; } 2> /dev/null
+    # shellcheck disable=SC2046 # a word a process
+    { kill -KILL $(tree "$pid") || true; wait "$pid" || true; } 2> /dev/null
     rm -f "$group/$1.pid"
 }
 
