@@ -34,6 +34,3 @@ pub use schedule_file::{SimOptions, sim_options};
 pub use serve_line::sited_options;
 pub use simulator::sitesim;
 pub use site_serve::{ServeOptions, Served, sited};
-
-#[cfg(test)]
-mod tests;

@@ -1,13 +1,6 @@
-//! The engines over memory, with readers and writers that fail; scripts; command lines.
-mod ends;
-mod faults;
-mod options;
-mod pages;
-mod refusals;
-mod scripts;
-mod serve_options;
+//! The renderer over memory.
 
-use crate::{Counted, siterender};
+use sitectl::{Counted, siterender};
 use std::alloc::{AllocError, Global};
 
 /// Four commands that make a greeting and release it.

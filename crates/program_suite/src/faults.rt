@@ -1,5 +1,5 @@
 //! The line of each fault.
-use super::{GREETING, push_frame, run};
+use crate::runs::{GREETING, push_frame, run};
 use std::test::Fail;
 
 #[test]

@@ -1,5 +1,5 @@
 //! Pages from bytes to bytes.
-use super::{GREETING, push_frame, run};
+use crate::runs::{GREETING, push_frame, run};
 use std::alloc::{AllocError, Global};
 use std::test::Fail;
 

@@ -1,8 +1,8 @@
 //! Command lines of `sited` and `sitecluster`, and what `--help` shows.
-use super::options::words;
-use crate::{ServeOptions, cluster_options, render_options, sim_options, sited_options};
+use crate::options::words;
 use clap::Error;
 use clap::error::ErrorKind;
+use sitectl::{ServeOptions, cluster_options, render_options, sim_options, sited_options};
 use std::alloc::{AllocError, Global};
 use std::test::Fail;
 

@@ -1,7 +1,7 @@
 //! Command lines of `siterender`, and the texts of those that are refused.
-use crate::render_options;
 use clap::Error;
 use clap::error::ErrorKind;
+use sitectl::render_options;
 use std::alloc::{AllocError, Global};
 use std::test::Fail;
 

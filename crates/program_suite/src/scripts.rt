@@ -1,6 +1,6 @@
 //! Scripts of three servers: what they print, and the line of each fault.
-use super::Printed;
-use crate::{Counted, sitecluster};
+use crate::runs::Printed;
+use sitectl::{Counted, sitecluster};
 
 fn driven(rt: &HostRuntime, script: &[u8]) -> Printed {
     let alloc = rt.alloc();

@@ -1,8 +1,8 @@
 //! Readers and writers that fail in mid-stream.
 ghost use Rattle.std.specs.Prelude.{Some};
 
-use super::GREETING;
-use crate::{Counted, siterender};
+use crate::runs::GREETING;
+use sitectl::{Counted, siterender};
 use std::alloc::Global;
 use std::io;
 use std::io::{ErrorKind, Read, Write};

@@ -1,6 +1,6 @@
 //! Each call with one growth refused, as `tools/refuse-growths` runs this: it answers as ever, or that memory was refused, and then the next try
 //! answers as ever.
-use super::{GREETING, Printed, run};
+use crate::runs::{GREETING, Printed, run};
 
 /// Two rows, each by a partial.
 const ROWS: &str =
