@@ -2,6 +2,7 @@
 #![tactic(auto)]
 
 mod addresses;
+mod answers;
 mod calm;
 mod connections;
 mod engine;

@@ -35,7 +35,7 @@ fn serve_one<D: Disk>(alloc: Global, served: &mut Served<D>, watch: &mut Watch) 
     if let Some(stream) = watch.connection() {
         serve_connection(alloc, stream, served)?;
     }
-    watch.set_hurry(!wanted && served.node.wants_tick());
+    watch.begin(!wanted && served.node.wants_tick());
     Ok(())
 }
 

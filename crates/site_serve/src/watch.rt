@@ -2,6 +2,7 @@
 
 ghost use Rattle.std.specs.Prelude.{◌≡◌};
 
+use crate::answers::{Answers, instance_of};
 use crate::calm::Calm;
 use crate::connections::limit_waiting;
 use site_drive::{Link, LinkFailed, UdpLink};
@@ -16,7 +17,7 @@ const PREPARE: u8 = 1;
 
 /// A link, a listener, and the connection that was accepted while the link was used.
 ///
-/// A receive does not wait where no exchange may be in flight and a connection is held, or a hurry was told.
+/// A receive does not wait where no exchange may be in flight and a connection is held, or a hurry was told, or this round's question was answered.
 #[derive(Drop)]
 pub(crate) struct Watch {
     link: UdpLink,
@@ -24,6 +25,7 @@ pub(crate) struct Watch {
     held: Option<TcpStream>,
     calm: Calm,
     hurry: bool,
+    answers: Answers,
     // whether the socket's receives wait
     waits: bool,
 }
@@ -37,6 +39,7 @@ impl Watch {
             held: None,
             calm: Calm::new(),
             hurry: false,
+            answers: Answers::new(),
             waits: true,
         }
     }
@@ -46,11 +49,12 @@ impl Watch {
         self.calm.is_calm()
     }
 
-    /// Whether receives wait for nothing, as long as no exchange may be in flight.
-    pub(crate) fn set_hurry(&mut self, hurry: bool)
+    /// A round begins: whether its receives wait for nothing, as long as no exchange may be in flight.
+    pub(crate) fn begin(&mut self, hurry: bool)
         ensures { self.new.link ≡ self.old.link }
     {
         self.hurry = hurry;
+        self.answers.begin();
     }
 
     /// Holds a connection, where one is there. One that fails at once is passed over.
@@ -79,21 +83,30 @@ impl Watch {
     fn choose_waiting(&mut self)
         ensures { self.new.link ≡ self.old.link }
     {
-        let waits = !self.is_calm() || (self.held.is_none() && !self.hurry);
+        let goes_on = self.held.is_some() || self.hurry || self.answers.have_come();
+        let waits = !(self.is_calm() && goes_on);
         if waits != self.waits && self.link.set_waiting(waits).is_ok() {
             self.waits = waits;
         }
     }
 
-    /// Notes what a receive gave.
-    fn note(&mut self, came: Option<usize>)
+    /// Notes a datagram.
+    fn note(&mut self, datagram: &[u8])
         ensures { self.new.link ≡ self.old.link }
     {
-        match came {
-            Some(ASK) => {}
-            Some(_) => self.calm.stir(),
-            None if self.waits => self.calm.settle(),
-            None => {}
+        match instance_of(datagram) {
+            Some(instance) => self.answers.note(instance),
+            None if datagram.len() == ASK => {}
+            None => self.calm.stir(),
+        }
+    }
+
+    /// Notes that a receive came to nothing.
+    fn note_silence(&mut self)
+        ensures { self.new.link ≡ self.old.link }
+    {
+        if self.waits {
+            self.calm.settle();
         }
     }
 }
@@ -113,7 +126,10 @@ impl Link for Watch {
         self.accept();
         self.choose_waiting();
         let came = self.link.receive(buf)?;
-        self.note(came);
+        match came {
+            Some(size) => self.note(&buf[..size]),
+            None => self.note_silence(),
+        }
         Ok(came)
     }
 
