@@ -3,10 +3,15 @@
 
 mod addresses;
 mod calm;
+mod client;
 mod connections;
+mod door;
 mod engine;
 mod halt;
 mod openings;
+mod pace;
+mod patient;
+mod patient_link;
 mod requests;
 mod rounds;
 mod saying;
