@@ -62,7 +62,7 @@ serving_leaves : (n p : ℕ) (s next : Node) → MayServe n p s next → Leaves 
 serving_leaves n p s next (inl same) = alike s next same
 serving_leaves n p s next (inr one) = submission_leaves n p s next (value_of one.0 one.1) one.2 one.3
 
-still_published : (n p : ℕ) (s next : Node) (fed : List (List ℕ)) → MayServe n p s next → IsKnownPrefix s fed → IsKnownPrefix next fed
+pub still_published : (n p : ℕ) (s next : Node) (fed : List (List ℕ)) → MayServe n p s next → IsKnownPrefix s fed → IsKnownPrefix next fed
 still_published n p s next fed serves h =
     let known = (serving_leaves n p s next serves).2 in
     record {
@@ -166,7 +166,7 @@ module _ {D L : Type 0} (stands_for : D → DiskState → Type 0) (received : L 
         );
   }
 
-  of_same : (old mid new : Running D) (before after : L) → StaysWhose old mid → (How : ℕ → ℕ → Scene → Scene → Type 0) → Leads mid new before after (How mid.cluster mid.me) → Leads mid new before after (How old.cluster old.me)
+  pub of_same : (old mid new : Running D) (before after : L) → StaysWhose old mid → (How : ℕ → ℕ → Scene → Scene → Type 0) → Leads mid new before after (How mid.cluster mid.me) → Leads mid new before after (How old.cluster old.me)
   of_same old mid new before after whose How h =
       subst (λ p. Leads mid new before after (How old.cluster p)) whose.me
       (subst (λ n. Leads mid new before after (How n mid.me)) whose.cluster h)
