@@ -6,4 +6,4 @@ use Rattle.sitectl.proofs.matched.some_number_in.Goals as goal
 pub returns : goal.returns
 returns c =
     optional_number _ (λ bs r. ParsesUnsigned 64 10 bs r × ExplainsUnsignedError 10 bs r × HasUnsignedDigitsIfOk bs r) (λ u x g. g.0)
-    (one_text (found_of c.args.matches.now) c.args.id.now) _ c.requires c.get_one.ensures.none c.get_one.ensures.value
+    (one_text (found_of c.args.matches.now) c.args.id.now) _ c.requires.passed c.get_one.ensures.none c.get_one.ensures.value
