@@ -6,12 +6,23 @@ use sitectl::{ServeOptions, cluster_options, render_options, sim_options, sited_
 use std::alloc::{AllocError, Global};
 use std::test::Fail;
 
-/// The fields of what a line names, with a space behind each address.
+fn push_time(alloc: Global, text: &mut String, millis: Option<u64>) -> Result<(), AllocError> {
+    let shown = match millis {
+        Some(n) => format!(in alloc; " {n}")?,
+        None => format!(in alloc; " -")?,
+    };
+    text.push_str(shown.as_str())
+}
+
+/// The fields of what a line names, with a space behind each address; `-` for a time that is not named.
 fn shown(alloc: Global, o: &ServeOptions<'_>) -> Result<String, AllocError> {
     let id = o.id;
     let rounds = o.rounds;
     let format = o.format;
-    let mut text = format!(in alloc; "{id} {} {} {rounds} {format}: ", o.record, o.http)?;
+    let mut text = format!(in alloc; "{id} {} {} {rounds} {format}", o.record, o.http)?;
+    push_time(alloc, &mut text, o.patience)?;
+    push_time(alloc, &mut text, o.serve_ms)?;
+    text.push_str(": ")?;
     for peer in o.peers.as_slice() {
         text.push_str(peer)?;
         text.push_str(" ")?;
@@ -25,15 +36,19 @@ fn lines_that_name_a_server(rt: HostRuntime) -> Result<(), Fail> {
     let lines = [
         (
             "sited --id 1 --record r --http h --rounds 2",
-            "1 r h 2 false: ",
+            "1 r h 2 false - -: ",
         ),
         (
             "sited a:1 --format --id=+3 b:2 --record=/x --http 127.0.0.1:0 --rounds 4294967295 c:3",
-            "3 /x 127.0.0.1:0 4294967295 true: a:1 b:2 c:3 ",
+            "3 /x 127.0.0.1:0 4294967295 true - -: a:1 b:2 c:3 ",
         ),
         (
             "other --rounds 00 --http h --record r --id 255 -- --format",
-            "255 r h 0 false: --format ",
+            "255 r h 0 false - -: --format ",
+        ),
+        (
+            "sited --patience-ms 100 --id 1 --record r --http h --rounds 2 --serve-ms=+2000 a:1",
+            "1 r h 2 false 100 2000: a:1 ",
         ),
         (
             "sited --id=-0 --record --http --http h --rounds 1 not-an-address",
@@ -101,6 +116,18 @@ fn lines_that_name_no_server(rt: HostRuntime) -> Result<(), Fail> {
             "sited --id 1 --http h --rounds 2 --record",
             ErrorKind::InvalidValue,
         ),
+        (
+            "sited --id 1 --record r --http h --rounds 2 --patience-ms 18446744073709551616",
+            ErrorKind::ValueValidation,
+        ),
+        (
+            "sited --id 1 --record r --http h --rounds 2 --serve-ms=-1",
+            ErrorKind::ValueValidation,
+        ),
+        (
+            "sited --id 1 --serve-ms 1 --serve-ms 1",
+            ErrorKind::ArgumentConflict,
+        ),
         ("sited --port 80", ErrorKind::UnknownArgument),
         ("sited --help", ErrorKind::DisplayHelp),
     ];
@@ -154,7 +181,7 @@ fn help_shows_an_example(rt: HostRuntime) -> Result<(), Fail> {
         ),
         (
             sited_options(alloc, words).err(),
-            " --record /var/lib/sited/1.record --format --http 127.0.0.1:8001 --rounds 100000 127.0.0.1:7001 127.0.0.1:7002 127.0.0.1:7003\n",
+            " --record /var/lib/sited/1.record --format --http 127.0.0.1:8001 --rounds 4294967295 --patience-ms 100 127.0.0.1:7001 127.0.0.1:7002 127.0.0.1:7003\n",
         ),
     ];
     for (refused, end) in helps {

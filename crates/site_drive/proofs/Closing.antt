@@ -237,7 +237,7 @@ begin_knows : (n p k : ℕ) (s next : Node) (out : List (To × Message)) → Beg
 begin_knows n p zero s next out h = ap (λ (u : Node). u.known) h.1
 begin_knows n p (suc k) s next out h = same_known n p h.0 next widen Whole h.2 (widen_knows n p h.0) h.5 ∙ begin_knows n p k s h.0 h.1 h.3
 
-widens_know : (n p : ℕ) (s next : Node) (ending : Ending) (out : List (To × Message)) → Widens n p s ending out next → next.known ≡ s.known
+pub widens_know : (n p : ℕ) (s next : Node) (ending : Ending) (out : List (To × Message)) → Widens n p s ending out next → next.known ≡ s.known
 widens_know n p s next ending out h = same_known n p h.mid next widen ending [] (widen_knows n p h.mid) h.last ∙ begin_knows n p h.count s h.mid out h.begin
 
 last_knows : (n p : ℕ) (s next : Node) (ending : Ending) (out : List (To × Message)) → EndsLast n p s ending out next → next.known ≡ s.known
@@ -258,7 +258,7 @@ known_stays n p s next out h =
     (λ (x : EndsLast n p s (Refused InstancesUsedUp) out next). last_knows n p s next (Refused InstancesUsedUp) out x)
     h
 
-prefix_stays : (s next : Node) (fed : List (List ℕ)) → next.known ≡ s.known → IsKnownPrefix s fed → IsKnownPrefix next fed
+pub prefix_stays : (s next : Node) (fed : List (List ℕ)) → next.known ≡ s.known → IsKnownPrefix s fed → IsKnownPrefix next fed
 prefix_stays s next fed same h = record {
   begins = λ k v got. ap (λ f. f (suc k)) same ∙ h.begins k v got;
   gap = ap (λ f. f (suc (length fed))) same ∙ h.gap;

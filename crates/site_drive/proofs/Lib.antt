@@ -5,3 +5,4 @@ pub mod Giving
 pub mod Turning
 pub mod ManyTurns
 pub mod Closing
+pub mod Spreading

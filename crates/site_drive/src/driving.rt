@@ -20,7 +20,7 @@ use std::alloc::Global;
 
 impl Desk {
     /// So many turns: how many datagrams were malformed.
-    fn take_turns<D: Disk, L: Link>(
+    pub(crate) fn take_turns<D: Disk, L: Link>(
         &mut self,
         node: &mut Node<D>,
         link: &mut L,
@@ -47,7 +47,7 @@ impl Desk {
 
 impl Desk {
     /// Widens until no attempt more begins.
-    fn widen_all<D: Disk>(&mut self, node: &mut Node<D>) -> Result<(), NodeFault>
+    pub(crate) fn widen_all<D: Disk>(&mut self, node: &mut Node<D>) -> Result<(), NodeFault>
         ensures event { NodeLeads D.stands_for node.old node.new (λ s next. (out : List (To × Message)) × (self.new.outbox.items ≡ self.old.outbox.items ++ out)
             × Widens node.old.cluster node.old.me s (ending_of result) out next × ((x : To × Message) → In out x → Fits x.1)) }
         ensures others { KeepsOthers node.old node.new }

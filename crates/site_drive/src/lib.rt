@@ -10,9 +10,11 @@ mod queues;
 mod sending;
 mod turns;
 mod udp;
+mod widening;
 
 pub use driven::Driven;
 pub use driving::{drive, exchange};
 pub use link::{Link, LinkFailed};
 pub use memory::MemLink;
 pub use udp::UdpLink;
+pub use widening::exchange_and_widen;

@@ -1,4 +1,5 @@
 pub mod Serving
 pub mod Placed
 pub mod ManyRounds
+pub mod ManyPatientRounds
 pub mod Ending

@@ -1,5 +1,5 @@
 -- A server's rounds, one after another.
-use Rattle.std.proofs.Common.{◌≡◌, ◌⊎◌, inl, inr, ⊎_elim, ℕ, suc, ◌+◌, ◌*◌, ◌<◌, ◌≤◌, Some, None, List, [], ◌∷◌, ◌++◌, length, Result, Ok, Err, refl, sym, ap, subst, ◌∙◌, arith, false}
+use Rattle.std.proofs.Common.{◌≡◌, ◌⊎◌, inl, inr, ⊎_elim, ℕ, suc, ◌+◌, ◌*◌, ◌<◌, ◌≤◌, Some, None, List, [], ◌∷◌, ◌++◌, length, Result, Ok, Err, refl, sym, ap, subst, append-nil, ◌∙◌, arith, false}
 use Rattle.std.specs.Result.{IfErr}
 use Rattle.std.proofs.lemmas.List.{length-append}
 use Rattle.site_disk.specs.Model.{DiskState}
@@ -62,7 +62,7 @@ serving_leaves : (n p : ℕ) (s next : Node) → MayServe n p s next → Leaves 
 serving_leaves n p s next (inl same) = alike s next same
 serving_leaves n p s next (inr one) = submission_leaves n p s next (value_of one.0 one.1) one.2 one.3
 
-still_published : (n p : ℕ) (s next : Node) (fed : List (List ℕ)) → MayServe n p s next → IsKnownPrefix s fed → IsKnownPrefix next fed
+pub still_published : (n p : ℕ) (s next : Node) (fed : List (List ℕ)) → MayServe n p s next → IsKnownPrefix s fed → IsKnownPrefix next fed
 still_published n p s next fed serves h =
     let known = (serving_leaves n p s next serves).2 in
     record {
@@ -141,6 +141,12 @@ whose_round old mid new first then = record {
   more = (first.more.0, then.releases ∙ first.more.1);
 }
 
+whose_kept : {D : Type 0} (old new : Running D) → KeepsOthers old new → StaysWhose old new
+whose_kept old new others = record { me = others.me; cluster = others.cluster; more = ([], others.releases ∙ sym (append-nil old.releases)) }
+
+pub others_on : {D : Type 0} (old mid new : Running D) → KeepsOthers old mid → KeepsOthers mid new → KeepsOthers old new
+others_on old mid new first then = record { me = then.me ∙ first.me; cluster = then.cluster ∙ first.cluster; releases = then.releases ∙ first.releases }
+
 module _ {D L : Type 0} (stands_for : D → DiskState → Type 0) (received : L → List (List ℕ) → Type 0) (given : L → List (ℕ × List ℕ) → Type 0) where
   abbrev Leads : Running D → Running D → L → L → (Scene → Scene → Type 0) → Type 0
   Leads old new before after How = LeadsTo stands_for received given old new before after How
@@ -160,10 +166,21 @@ module _ {D L : Type 0} (stands_for : D → DiskState → Type 0) (received : L 
         );
   }
 
-  of_same : (old mid new : Running D) (before after : L) → StaysWhose old mid → (How : ℕ → ℕ → Scene → Scene → Type 0) → Leads mid new before after (How mid.cluster mid.me) → Leads mid new before after (How old.cluster old.me)
+  pub of_same : (old mid new : Running D) (before after : L) → StaysWhose old mid → (How : ℕ → ℕ → Scene → Scene → Type 0) → Leads mid new before after (How mid.cluster mid.me) → Leads mid new before after (How old.cluster old.me)
   of_same old mid new before after whose How h =
       subst (λ p. Leads mid new before after (How old.cluster p)) whose.me
       (subst (λ n. Leads mid new before after (How n mid.me)) whose.cluster h)
+
+  pub none_served : (code : Running D) (link : L) (n p : ℕ) → Leads code code link link (TakesSteps (Serves n p) 0)
+  none_served code link n p = record { leads = λ x at. (x, no_steps (Serves n p) x, at, λ d on. (d, on)) }
+
+  pub one_served_more : (old : Running D) (mid new : Served D) (before between after : L) → KeepsOthers old mid.node → (k : ℕ)
+      → Leads old mid.node before between (TakesSteps (Serves old.cluster old.me) k) → StaysLink between after → MaySubmit offered mid new
+      → Leads old new.node before after (TakesSteps (Serves old.cluster old.me) (k + 1))
+  one_served_more old mid new before between after others k earlier link may =
+      leads_on stands_for received given old mid.node new.node before between after (TakesSteps (Serves old.cluster old.me) k) (Serves old.cluster old.me) (TakesSteps (Serves old.cluster old.me) (k + 1))
+      earlier (of_same old mid.node new.node between after (whose_kept old mid.node others) Serves (serving_leads mid new between after link may))
+      (one_step_more (Serves old.cluster old.me) k)
 
   -- a drive, and then at most one connection
   pub round_leads : (old mid new : Served D) (before between after : L) → StaysWhose old.node mid.node → (turns malformed : ℕ)
@@ -178,6 +195,20 @@ module _ {D L : Type 0} (stands_for : D → DiskState → Type 0) (received : L 
       (subst (λ vs. Leads old.node mid.node before between (Drives n p turns malformed vs)) (sym (stays_others mid new may).releases) drives)
       (of_same old.node mid.node new.node between after whose Serves (serving_leads mid new between after link may))
       (round_of n p turns malformed fed)
+
+  -- as far as another link that may have received and been given the same
+  pub relinked : (old new : Running D) (before between after : L) → StaysLink between after → (How : Scene → Scene → Type 0) → Leads old new before between How → Leads old new before after How
+  relinked old new before between after link How h = record {
+    leads = λ x at.
+        let l = h.leads x at in
+        (l.0, l.1, record { node = l.2.node; heard = link.0 l.0.received l.2.heard; told = link.1 l.0.given l.2.told }, l.3);
+  }
+
+  -- from another link that may have received and been given the same
+  pub linked_before : (old new : Running D) (before between after : L) → StaysLink before between → (How : Scene → Scene → Type 0) → Leads old new between after How → Leads old new before after How
+  linked_before old new before between after link How h = record {
+    leads = λ x at. h.leads x (record { node = at.node; heard = link.0 x.received at.heard; told = link.1 x.given at.told });
+  }
 
   -- leads by one relation, so by a wider one
   pub widened : (old new : Running D) (before after : L) (How Wider : Scene → Scene → Type 0) → ((x y : Scene) → How x y → Wider x y) → Leads old new before after How → Leads old new before after Wider

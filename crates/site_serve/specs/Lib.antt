@@ -1,5 +1,6 @@
 pub mod Served
 pub mod Halts
 pub mod Placing
+pub mod Patience
 pub mod Rounds
 pub mod Running

@@ -4,6 +4,7 @@ ghost use Rattle.std.specs.Prelude.{◌≡◌, IfErr};
 ghost use Rattle.http_serve.specs.Services.{MaySubmit};
 ghost use Rattle.site_serve.specs.Served.{offered};
 
+use crate::client::{Client, Timed};
 use crate::halt::Halt;
 use crate::requests::serve_request;
 use crate::served::Served;
@@ -11,9 +12,10 @@ use http_read::Counted;
 use http_serve::ServeFault;
 use site_disk::Disk;
 use std::alloc::{AllocError, Global};
-use std::io::{self, Read};
+use std::io::{self, Read, Write};
 use std::net::{Shutdown, TcpStream};
-use std::time::Duration;
+use std::rt::Clock;
+use std::time::{Duration, Instant};
 
 /// How many seconds a call of a connection may wait.
 const PATIENCE: u64 = 1;
@@ -43,6 +45,24 @@ fn close(stream: TcpStream) {
     }
 }
 
+/// Serves one request that is read and answered so. That a call fails is passed over.
+fn answer<D: Disk, R: Read, W: Write>(
+    alloc: Global,
+    reader: R,
+    writer: W,
+    served: &mut Served<D>,
+) -> Result<(), AllocError>
+    where R: Drop, W: Drop
+    ensures { MaySubmit offered served.old served.new }
+{
+    let mut reader = Counted::new(reader);
+    let mut writer = Counted::new(writer);
+    match serve_request(alloc, &mut reader, &mut writer, served) {
+        Err(ServeFault::OutOfMemory) => Err(AllocError),
+        Ok(()) | Err(ServeFault::Read | ServeFault::Write | ServeFault::EndedEarly) => Ok(()),
+    }
+}
+
 /// Serves one request of a connection, and closes it. That the connection fails is passed over.
 ///
 /// What the connection gives and takes is not said.
@@ -53,25 +73,44 @@ pub fn answer_connection<D: Disk>(
 ) -> Result<(), AllocError>
     ensures { MaySubmit offered served.old served.new }
 {
-    let mut reader = Counted::new(&stream);
-    let mut writer = Counted::new(&stream);
-    match serve_request(alloc, &mut reader, &mut writer, served) {
-        Err(ServeFault::OutOfMemory) => return Err(AllocError),
-        Ok(()) | Err(ServeFault::Read | ServeFault::Write | ServeFault::EndedEarly) => {}
-    }
+    answer(alloc, &stream, &stream, served)?;
     close(stream);
     Ok(())
 }
 
-/// Serves one request of a connection in a server's rounds.
-pub(crate) fn serve_connection<D: Disk>(
+/// The same, where the calls of the connection may take so many milliseconds in all.
+fn answer_within<D: Disk, C: Clock>(
+    clock: &C,
     alloc: Global,
     stream: TcpStream,
+    served: &mut Served<D>,
+    millis: u64,
+) -> Result<(), AllocError>
+    ensures { MaySubmit offered served.old served.new }
+{
+    let Ok(now) = Instant::now(clock) else {
+        return Ok(());
+    };
+    let reader = Timed::new(clock, &stream, now, millis);
+    let writer = Timed::new(clock, &stream, now, millis);
+    answer(alloc, reader, writer, served)?;
+    close(stream);
+    Ok(())
+}
+
+/// Serves one request of a client in a server's rounds.
+pub(crate) fn serve_client<D: Disk, C: Clock>(
+    clock: &C,
+    alloc: Global,
+    client: Client,
     served: &mut Served<D>,
 ) -> Result<(), Halt>
     ensures taken { MaySubmit offered served.old served.new }
     ensures fault { IfErr result (λ why. why ≡ Halt.OutOfMemory) }
 {
-    answer_connection(alloc, stream, served)?;
+    match client.budget {
+        Some(millis) => answer_within(clock, alloc, client.stream, served, millis)?,
+        None => answer_connection(alloc, client.stream, served)?,
+    }
     Ok(())
 }

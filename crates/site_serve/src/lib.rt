@@ -4,10 +4,15 @@
 mod addresses;
 mod answers;
 mod calm;
+mod client;
 mod connections;
+mod door;
 mod engine;
 mod halt;
 mod openings;
+mod pace;
+mod patient;
+mod patient_link;
 mod requests;
 mod rounds;
 mod saying;

@@ -8,13 +8,14 @@ ghost use Rattle.site_serve.specs.Halts.{EndsRounds};
 ghost use Rattle.site_serve.specs.Rounds.{TakesRound, TakesRounds, BreaksRound, BreaksRounds};
 ghost use Rattle.site_serve.specs.Served.{offered};
 
-use crate::connections::serve_connection;
+use crate::connections::serve_client;
 use crate::halt::Halt;
 use crate::served::Served;
 use crate::watch::Watch;
 use site_disk::Disk;
 use site_drive::{Link, drive};
 use std::alloc::Global;
+use std::rt::Clock;
 
 /// How many turns the drives of a node's rounds have.
 pub(crate) fn turns_of(node: u8) -> u32
@@ -26,21 +27,27 @@ pub(crate) fn turns_of(node: u8) -> u32
 /// One connection served, where one is there.
 ///
 /// A submission that was taken while nothing waited hurries the next drive, so that its tick comes at once.
-fn serve_one<D: Disk>(alloc: Global, served: &mut Served<D>, watch: &mut Watch) -> Result<(), Halt>
+fn serve_one<D: Disk, C: Clock>(
+    clock: &C,
+    alloc: Global,
+    served: &mut Served<D>,
+    watch: &mut Watch,
+) -> Result<(), Halt>
     ensures taken { MaySubmit offered served.old served.new }
     ensures link { watch.new.link ≡ watch.old.link }
     ensures fault { IfErr result (λ why. why ≡ Halt.OutOfMemory) }
 {
     let wanted = served.node.wants_tick();
-    if let Some(stream) = watch.connection() {
-        serve_connection(alloc, stream, served)?;
+    if let Some(client) = watch.client() {
+        serve_client(clock, alloc, client, served)?;
     }
     watch.begin(!wanted && served.node.wants_tick());
     Ok(())
 }
 
 /// One drive, and then one connection served, where one is there.
-fn take_round<D: Disk>(
+fn take_round<D: Disk, C: Clock>(
+    clock: &C,
     alloc: Global,
     served: &mut Served<D>,
     watch: &mut Watch,
@@ -54,11 +61,12 @@ fn take_round<D: Disk>(
     ensures tried_fewer { OnErr result ((made : ℕ) × (made ≤ turns) × RoseBy made (⟦<Watch as Link>⟧.tried watch.old) (⟦<Watch as Link>⟧.tried watch.new)) }
 {
     drive(alloc, &mut served.node, watch, turns)?;
-    serve_one(alloc, served, watch)
+    serve_one(clock, alloc, served, watch)
 }
 
 /// So many rounds.
-pub(crate) fn take_rounds<D: Disk>(
+pub(crate) fn take_rounds<D: Disk, C: Clock>(
+    clock: &C,
     alloc: Global,
     served: &mut Served<D>,
     watch: &mut Watch,
@@ -73,7 +81,7 @@ pub(crate) fn take_rounds<D: Disk>(
     ensures tried_fewer { OnErr result ((made : ℕ) × (made ≤ rounds * turns) × RoseBy made (⟦<Watch as Link>⟧.tried watch.old) (⟦<Watch as Link>⟧.tried watch.new)) }
 {
     for _ in 0..rounds {
-        take_round(alloc, served, watch, turns)?;
+        take_round(clock, alloc, served, watch, turns)?;
     }
     Ok(())
 }

@@ -13,6 +13,10 @@ pub struct ServeOptions<'a> {
     pub rounds: u32,
     /// Whether an empty or missing file becomes an empty record first.
     pub format: bool,
+    /// For rounds that wait less: how many milliseconds it waits, at least, before it tries again.
+    pub patience: Option<u64>,
+    /// How many milliseconds a client may take in all, where that is limited.
+    pub serve_ms: Option<u64>,
     /// The addresses of servers 1 to n, in order.
     pub peers: Vec<&'a str>,
 }

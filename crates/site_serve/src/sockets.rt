@@ -5,8 +5,8 @@ ghost use Rattle.site_ids.specs.Ids.{IsNode};
 ghost use Rattle.site_serve.specs.Halts.{EndsBinding};
 
 use crate::addresses::Addresses;
+use crate::door::Door;
 use crate::halt::Halt;
-use crate::watch::Watch;
 use site_drive::UdpLink;
 use std::io;
 use std::net::{Net, SocketAddr, TcpListener, TcpStream, UdpSocket};
@@ -36,7 +36,8 @@ fn connections<R: Net<Listener = TcpListener, Stream = TcpStream>>(
 fn open<R: Net<Listener = TcpListener, Stream = TcpStream>>(
     rt: &R,
     addresses: Addresses,
-) -> io::Result<Watch>
+    budget: Option<u64>,
+) -> io::Result<(UdpLink, Door)>
     requires { IsNode addresses.cluster addresses.me × (length addresses.peers.items ≡ addresses.cluster) }
 {
     let Addresses {
@@ -53,19 +54,20 @@ fn open<R: Net<Listener = TcpListener, Stream = TcpStream>>(
     let socket = datagrams(rt, *at)?;
     *at = socket.local_addr()?;
     let listener = connections(rt, http)?;
-    Ok(Watch::new(UdpLink::new(socket, peers), listener))
+    Ok((UdpLink::new(socket, peers), Door::new(listener, budget)))
 }
 
 /// Opens both sockets of a server.
 pub(crate) fn open_sockets<R: Net<Listener = TcpListener, Stream = TcpStream>>(
     rt: &R,
     addresses: Addresses,
-) -> Result<Watch, Halt>
+    budget: Option<u64>,
+) -> Result<(UdpLink, Door), Halt>
     requires { IsNode addresses.cluster addresses.me × (length addresses.peers.items ≡ addresses.cluster) }
     ensures { IfErr result EndsBinding }
 {
-    match open(rt, addresses) {
-        Ok(watch) => Ok(watch),
+    match open(rt, addresses, budget) {
+        Ok(both) => Ok(both),
         Err(e) if e.kind() == io::ErrorKind::OutOfMemory => Err(Halt::OutOfMemory),
         Err(_) => Err(Halt::Socket),
     }

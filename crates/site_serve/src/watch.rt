@@ -4,10 +4,10 @@ ghost use Rattle.std.specs.Prelude.{◌≡◌};
 
 use crate::answers::{Answers, instance_of};
 use crate::calm::Calm;
-use crate::connections::limit_waiting;
+use crate::client::Client;
+use crate::door::Door;
 use site_drive::{Link, LinkFailed, UdpLink};
 use site_ids::NodeId;
-use std::net::{TcpListener, TcpStream};
 
 /// How many bytes a question has: it is the one message of that length.
 const ASK: usize = 7;
@@ -15,14 +15,13 @@ const ASK: usize = 7;
 /// The second byte of a prepare.
 const PREPARE: u8 = 1;
 
-/// A link, a listener, and the connection that was accepted while the link was used.
+/// A link, and the door that is looked at while the link is used.
 ///
 /// A receive does not wait where no exchange may be in flight and a connection is held, or a hurry was told, or this round's question was answered.
 #[derive(Drop)]
 pub(crate) struct Watch {
     link: UdpLink,
-    listener: TcpListener,
-    held: Option<TcpStream>,
+    door: Door,
     calm: Calm,
     hurry: bool,
     answers: Answers,
@@ -31,12 +30,11 @@ pub(crate) struct Watch {
 }
 
 impl Watch {
-    /// The link's receives wait, and the listener's accepts do not.
-    pub(crate) fn new(link: UdpLink, listener: TcpListener) -> Watch {
+    /// The link's receives wait.
+    pub(crate) fn new(link: UdpLink, door: Door) -> Watch {
         Watch {
             link,
-            listener,
-            held: None,
+            door,
             calm: Calm::new(),
             hurry: false,
             answers: Answers::new(),
@@ -57,33 +55,18 @@ impl Watch {
         self.answers.begin();
     }
 
-    /// Holds a connection, where one is there. One that fails at once is passed over.
-    fn accept(&mut self)
+    /// The client to serve, if there is one.
+    pub(crate) fn client(&mut self) -> Option<Client>
         ensures { self.new.link ≡ self.old.link }
     {
-        if self.held.is_some() {
-            return;
-        }
-        if let Ok((stream, _from)) = self.listener.accept() {
-            if limit_waiting(&stream).is_ok() {
-                self.held = Some(stream);
-            }
-        }
-    }
-
-    /// The connection to serve, if there is one.
-    pub(crate) fn connection(&mut self) -> Option<TcpStream>
-        ensures { self.new.link ≡ self.old.link }
-    {
-        self.accept();
-        self.held.take()
+        self.door.client()
     }
 
     /// Tells the socket whether to wait, where that changes.
-    fn choose_waiting(&mut self)
+    fn choose_waiting(&mut self, held: bool)
         ensures { self.new.link ≡ self.old.link }
     {
-        let goes_on = self.held.is_some() || self.hurry || self.answers.have_come();
+        let goes_on = held || self.hurry || self.answers.have_come();
         let waits = !(self.is_calm() && goes_on);
         if waits != self.waits && self.link.set_waiting(waits).is_ok() {
             self.waits = waits;
@@ -123,8 +106,8 @@ impl Link for Watch {
     ghost failed = { λ w. ⟦<UdpLink as Link>⟧.failed w.link };
 
     fn receive(&mut self, buf: &mut [u8]) -> Result<Option<usize>, LinkFailed> {
-        self.accept();
-        self.choose_waiting();
+        let held = self.door.accept();
+        self.choose_waiting(held);
         let came = self.link.receive(buf)?;
         match came {
             Some(size) => self.note(&buf[..size]),

@@ -17,6 +17,8 @@ use Rattle.clap.specs.declared.parser.matches.ArgMatches.{ArgMatches}
 use Rattle.clap.specs.Facts.{least_values}
 use Rattle.clap.proofs.CallerLemmas.{required_in_chain, added_plain}
 use Rattle.clap.proofs.CallerReads.{required_reads}
+use Rattle.clap.specs.declared.builder.value_parser.Reading.TheVariants.{AsWritten}
+use Rattle.sitectl.proofs.OptionValues.{IsAlone, text_accepted}
 use Rattle.sitectl.proofs.TwoArguments.{IsBare}
 
 -- an argument with that id, which excludes nothing and is of its command alone
@@ -145,6 +147,46 @@ chain_facts c d (x ∷ xs) h all plain globals negates =
       f.4,
       f.5,
     )
+
+same_place : {X : Type 0} (xs : List X) (k : ℕ) (d e : X) → k < length xs → slice_index_or xs k d ≡ slice_index_or xs k e
+same_place [] k d e lt = absurd (omega (arith, lt))
+same_place (x ∷ xs) zero d e lt = refl
+same_place (x ∷ xs) (suc k) d e lt = same_place xs k d e (omega (arith, lt))
+
+-- a text that a getter reads of the argument at place k passed its parser, where it is read as it is written
+pub chain_accepted : (start command : Command) (xs : List Arg) (ids : List (List ℕ)) (k : ℕ) (d : Arg) (q : ValueParser) (m : ArgMatches) (t : List ℕ) → IsChain start command xs ids
+    → k < length xs → (slice_index_or xs k d).value_parser ≡ Some q → reading_of q ≡ AsWritten → IsParsedFrom command m
+    → one_text (found_of m) (slice_index_or xs k d).id.now ≡ Some t → Accepts (slice_index_or (args_of command) k d).ignore_case q t
+chain_accepted start command xs ids k d q m t chain lt parser written p found =
+    let all = fits_all xs ids chain.named chain.own in
+    let plain : IsPlain start = (subst (All IsPlainArg) (sym chain.bare.args) (All-nil IsPlainArg), chain.bare.groups) in
+    let f = chain_facts start command xs chain.added all plain chain.bare.globals chain.bare.negates in
+    let list : args_of command ≡ f.0 = f.1 ∙ ap (λ l. l ++ f.0) chain.bare.args in
+    let a = slice_index_or xs k d in
+    let b = slice_index_or (args_of command) k d in
+    let elem : b ≡ slice_index_or f.0 k d = ap (λ l. slice_index_or l k d) list in
+    let rules = f.2.1 k d d lt in
+    let fit = all k d lt in
+    let len : length (args_of command) ≡ length xs = ap length list ∙ f.2.0 in
+    let within : k < length (args_of command) = omega arith in
+    let same_now : b.id.now ≡ a.id.now = ap (λ x. x.id.now) elem ∙ ap (λ x. x.now) rules.id in
+    let same_parser : b.value_parser ≡ Some q = ap (λ x. x.value_parser) elem ∙ rules.parser q parser in
+    let only : (j : ℕ) (e : Arg) → j < length (args_of command) → bytes_eq (slice_index_or (args_of command) j e).id.now b.id.now ≡ true → j ≡ k =
+    λ j e low same.
+    let in_xs : j < length xs = omega arith in
+    let there : (slice_index_or (args_of command) j e).id.now ≡ (slice_index_or xs j e).id.now =
+    ap (λ l. (slice_index_or l j e).id.now) list ∙ ap (λ x. x.now) (f.2.1 j e e in_xs).id in
+    distinct xs ids chain.named chain.different j k d e in_xs lt (rw (← there, ← same_now) same) in
+    let alone : IsAlone command b q = record {
+      place = k;
+      within = within;
+      there = same_place (args_of command) k b d within;
+      unique = only;
+      named = λ empty. fit.2 (sym same_now ∙ empty);
+      own = λ auto. fit.3 (elim auto [ inl h ↦ inl (sym same_now ∙ h) | inr h ↦ inr (sym same_now ∙ h) ]);
+      parser = same_parser;
+    } in
+    text_accepted command m p b q t alone written f.3 f.4 (subst (λ (w : List ℕ). one_text (found_of m) w ≡ Some t) (sym same_now) found)
 
 -- a getter reads a text of it, which passed its parser
 pub chain_read : (start command : Command) (xs : List Arg) (ids : List (List ℕ)) (k : ℕ) (d : Arg) (q : ValueParser) (m : ArgMatches) → IsChain start command xs ids

@@ -12,6 +12,13 @@ number_of : (E : Type 0) (G : List ℕ → Result ℕ E → Type 0) → ((u : Li
 number_of E G only t (Some v) passed read = (passed.0, ap (λ (n : ℕ). Some n) (only t (Ok v) read).1)
 number_of E G only t None passed read = absurd (only t (Err read.0) read.1 (passed.0, passed.1))
 
+-- an argument that may have a number
+pub optional_number : (E : Type 0) (G : List ℕ → Result ℕ E → Type 0) → ((u : List ℕ) (x : Result ℕ E) → G u x → ParsesUnsigned 64 10 u x)
+    → (x : Option (List ℕ)) (r : Option ℕ) → ((t : List ℕ) → x ≡ Some t → IsUnsignedIn 0 18446744073709551615 t) → (x ≡ None → r ≡ None)
+    → ((t : List ℕ) → x ≡ Some t → ReadsOne G t r) → IsNumberOf x r
+optional_number E G only None r passed none some = none refl
+optional_number E G only (Some t) r passed none some = number_of E G only t r (passed t refl) (some t refl)
+
 -- what the getters gave is what the rows hold
 pub given : (E : Type 0) (G : List ℕ → Result ℕ E → Type 0) → ((u : List ℕ) (x : Result ℕ E) → G u x → ParsesUnsigned 64 10 u x)
     → (f : Found) (rows : List Row) (o : RenderOptions) → rows_of f ≡ rows

@@ -3,7 +3,7 @@ use Rattle.std.specs.Prelude.{◌≡◌, ◌<◌, ℕ, Bool, pos, true, false, L
 use Rattle.std.specs.Str.{bytes_eq}
 use Rattle.std.specs.Str.Parse.{IsNumeral, digits_value, without_leading_plus}
 use Rattle.clap.specs.Words.{App, Rule, Row, Text, new_app, new_rule, with_rule, first_of, one_of, all_of}
-use Rattle.clap.specs.declared.builder.value_parser.ValueParser.TheVariants.{Signed}
+use Rattle.clap.specs.declared.builder.value_parser.ValueParser.TheVariants.{Signed, Unsigned}
 use Rattle.clap.specs.declared.builder.action.ArgAction.TheVariants.{Set, SetTrue, Append}
 use Rattle.sitectl.specs.Options.{IsNumberOf}
 use Rattle.site_serve.specs.declared.serve_options.ServeOptions.{ServeOptions}
@@ -24,14 +24,19 @@ rounds_rule = record (required_rule (codes "rounds")) { parser = Some (Signed (p
 abbrev pub format_rule : Rule
 format_rule = record (new_rule (codes "format")) { long = Some (codes "format"); action = Some SetTrue }
 
+-- `--NAME N`, which may be there, N a number below 2^64
+abbrev pub millis_rule : Text → Rule
+millis_rule name = record (new_rule name) { long = Some name; value_names = 1; parser = Some (Unsigned 0 18446744073709551615); action = Some Set }
+
 -- `ADDRESS...`, any number of them
 abbrev pub address_rule : Rule
 address_rule = record (new_rule (codes "address")) { value_names = 1; action = Some Append }
 
--- `sited --id P --record FILE --http ADDRESS --rounds R [--format] [ADDRESS]...`
+-- `sited --id P --record FILE --http ADDRESS --rounds R [--format] [--patience-ms N] [--serve-ms N] [ADDRESS]...`
 abbrev pub serve_app : App
-serve_app = with_rule (with_rule (with_rule (with_rule (with_rule (with_rule (new_app (codes "sited"))
-    id_rule) (required_rule (codes "record"))) (required_rule (codes "http"))) rounds_rule) format_rule) address_rule
+serve_app = with_rule (with_rule (with_rule (with_rule (with_rule (with_rule (with_rule (with_rule (new_app (codes "sited"))
+    id_rule) (required_rule (codes "record"))) (required_rule (codes "http"))) rounds_rule) format_rule)
+    (millis_rule (codes "patience-ms"))) (millis_rule (codes "serve-ms"))) address_rule
 
 -- a flag is set where its text is `true`
 abbrev pub is_set : Option Text → Bool
@@ -50,4 +55,6 @@ pub record GivesServe (rows : List Row) (o : ServeOptions) : Type 0 where
   pub http : first_of (codes "http") rows ≡ Some o.http.now
   pub rounds : IsNumberOf (one_of (codes "rounds") rows) (Some o.rounds)
   pub format : o.format ≡ is_set (one_of (codes "format") rows)
+  pub patience : IsNumberOf (one_of (codes "patience-ms") rows) o.patience
+  pub serve_ms : IsNumberOf (one_of (codes "serve-ms") rows) o.serve_ms
   pub peers : map (λ s. s.now) o.peers.items ≡ unwrap_or (all_of (codes "address") rows) []

@@ -1,6 +1,6 @@
 //! What the words gave to one argument.
-ghost use Rattle.std.specs.Prelude.{◌≡◌, ◌^◌, Some, map, [], IfOk, true, is_some, codes, unwrap_or};
-ghost use Rattle.clap.specs.Words.{found_of, first_value, one_text, rows_of, all_of};
+ghost use Rattle.std.specs.Prelude.{◌≡◌, ◌^◌, ℕ, List, Some, map, [], IfOk, true, is_some, codes, unwrap_or};
+ghost use Rattle.clap.specs.Words.{found_of, first_value, one_text, rows_of, all_of, IsUnsignedIn};
 ghost use Rattle.sitectl.specs.Options.{IsNumberOf};
 ghost use Rattle.sitectl.specs.ServeOptions.{SpellsBelow, is_set};
 
@@ -38,6 +38,14 @@ pub(crate) fn number_in(matches: &ArgMatches<'_>, id: &str) -> u32
         Some(number) => number,
         None => unreachable!(),
     }
+}
+
+/// The number of an argument that may have one.
+pub(crate) fn some_number_in(matches: &ArgMatches<'_>, id: &str) -> Option<u64>
+    requires passed { (t : List ℕ) → one_text (found_of matches.now) id.now ≡ Some t → IsUnsignedIn 0 18446744073709551615 t }
+    ensures { IsNumberOf (one_text (found_of matches.now) id.now) result }
+{
+    matches.get_one::<u64>(id)
 }
 
 /// Whether a flag was given.

@@ -1,13 +1,13 @@
 //! The command line of `sited`.
-ghost use Rattle.std.specs.Prelude.{◌≡◌, ◌^◌, Some, IfOk, IfErr, true, false, is_some, pos, codes};
+ghost use Rattle.std.specs.Prelude.{◌≡◌, ◌^◌, ℕ, List, Some, IfOk, IfErr, true, false, is_some, pos, codes};
 ghost use Rattle.clap.specs.Built.{TakesValue};
-ghost use Rattle.clap.specs.Words.{found_of, first_value, one_text, rows_of, rule_of, matches_of, takes, kind_of, FailsBy, fault_of, IsPlainArg};
-ghost use Rattle.clap.specs.declared.builder.value_parser.ValueParser.TheVariants.{Signed};
+ghost use Rattle.clap.specs.Words.{found_of, first_value, one_text, rows_of, rule_of, matches_of, takes, kind_of, FailsBy, fault_of, IsUnsignedIn, IsPlainArg};
+ghost use Rattle.clap.specs.declared.builder.value_parser.ValueParser.TheVariants.{Signed, Unsigned};
 ghost use Rattle.sitectl.specs.Options.{words_of};
-ghost use Rattle.sitectl.specs.ServeOptions.{serve_app, required_rule, id_rule, rounds_rule, format_rule, address_rule, SpellsBelow, GivesServe};
+ghost use Rattle.sitectl.specs.ServeOptions.{serve_app, required_rule, id_rule, rounds_rule, format_rule, millis_rule, address_rule, SpellsBelow, GivesServe};
 
 use crate::commands::described;
-use crate::matched::{addresses_in, byte_in, flag_in, number_in, text_in};
+use crate::matched::{addresses_in, byte_in, flag_in, number_in, some_number_in, text_in};
 use clap::error::ErrorKind;
 use clap::{Arg, ArgAction, ArgMatches, Error};
 use site_serve::ServeOptions;
@@ -70,6 +70,21 @@ fn format_flag<'a>(alloc: Global) -> Arg<'a>
         .action(ArgAction::SetTrue)
 }
 
+fn millis_option<'a>(alloc: Global, name: &'a str, help: &'a str) -> Arg<'a>
+    ensures rule { rule_of result ≡ millis_rule name.entry.now }
+    ensures id { result.id.now ≡ name.entry.now }
+    ensures plain { IsPlainArg result }
+    ensures local { result.global ≡ false }
+    ensures parser { result.value_parser ≡ Some (Unsigned 0 18446744073709551615) }
+{
+    Arg::new(alloc, name)
+        .long(name)
+        .value_name("N")
+        .help(help)
+        .value_parser(clap::value_parser!(u64))
+        .action(ArgAction::Set)
+}
+
 fn address_arguments<'a>(alloc: Global) -> Arg<'a>
     ensures rule { rule_of result ≡ address_rule }
     ensures id { result.id.now ≡ codes "address" }
@@ -93,9 +108,11 @@ fn serve_matches<'a>(alloc: Global, words: &'a [String]) -> Result<ArgMatches<'a
     ensures file { IfOk result (λ m. is_some (first_value (found_of m) (codes "record")) ≡ true) }
     ensures http { IfOk result (λ m. is_some (first_value (found_of m) (codes "http")) ≡ true) }
     ensures rounds { IfOk result (λ m. SpellsBelow (2 ^ 32) (one_text (found_of m) (codes "rounds"))) }
+    ensures patience { IfOk result (λ m. (t : List ℕ) → one_text (found_of m) (codes "patience-ms") ≡ Some t → IsUnsignedIn 0 18446744073709551615 t) }
+    ensures serving { IfOk result (λ m. (t : List ℕ) → one_text (found_of m) (codes "serve-ms") ≡ Some t → IsUnsignedIn 0 18446744073709551615 t) }
 {
     let example =
-        "Example, server 1 of 3 on one machine:\n  sited --id 1 --record /var/lib/sited/1.record --format --http 127.0.0.1:8001 --rounds 100000 127.0.0.1:7001 127.0.0.1:7002 127.0.0.1:7003";
+        "Example, server 1 of 3 on one machine:\n  sited --id 1 --record /var/lib/sited/1.record --format --http 127.0.0.1:8001 --rounds 4294967295 --patience-ms 100 127.0.0.1:7001 127.0.0.1:7002 127.0.0.1:7003";
     let command = described(alloc, "sited", "Runs one server of a site", example)
         .arg(id_option(alloc))?
         .arg(required_option(
@@ -112,6 +129,16 @@ fn serve_matches<'a>(alloc: Global, words: &'a [String]) -> Result<ArgMatches<'a
         ))?
         .arg(rounds_option(alloc))?
         .arg(format_flag(alloc))?
+        .arg(millis_option(
+            alloc,
+            "patience-ms",
+            "Waits less in its rounds, and tries again after N milliseconds without progress: for use, 100 or three round trips",
+        ))?
+        .arg(millis_option(
+            alloc,
+            "serve-ms",
+            "Gives a client N milliseconds in all, in place of a second for each call",
+        ))?
         .arg(address_arguments(alloc))?;
     command.try_get_matches_from(words)
 }
@@ -130,6 +157,8 @@ pub fn sited_options<'a>(alloc: Global, words: &'a [String]) -> Result<ServeOpti
         http: text_in(&matches, "http"),
         rounds: number_in(&matches, "rounds"),
         format: flag_in(&matches, "format"),
+        patience: some_number_in(&matches, "patience-ms"),
+        serve_ms: some_number_in(&matches, "serve-ms"),
         peers,
     })
 }

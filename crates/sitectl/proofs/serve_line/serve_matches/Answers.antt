@@ -1,11 +1,11 @@
-use Rattle.std.proofs.Common.{ap₂, refl, subst, true, false, ℕ, List, [], ◌∷◌, codes, is_some, ◌≡◌, ◌∙◌, ◌^◌, arith}
+use Rattle.std.proofs.Common.{ap₂, refl, sym, subst, Some, true, false, ℕ, List, [], ◌∷◌, codes, is_some, ◌≡◌, ◌∙◌, ◌^◌, arith}
 use Rattle.std.proofs.lemmas.Result.{IfOk-weaker}
 use Rattle.clap.specs.Words.{App, Rule, AddsArg, app_of, rule_of, is_simple, with_rule, is_simple_and_free, found_of, one_text, first_value}
 use Rattle.clap.specs.declared.builder.arg.Arg.{Arg}
 use Rattle.clap.specs.declared.builder.command.Command.{Command}
 use Rattle.clap.proofs.OnLiterals.{clap_on_literals}
 use Rattle.sitectl.specs.ServeOptions.{serve_app, SpellsBelow}
-use Rattle.sitectl.proofs.Chains.{IsChain, chain_given}
+use Rattle.sitectl.proofs.Chains.{IsChain, chain_given, chain_accepted}
 use Rattle.sitectl.proofs.SimpleCommands.{rows_by, taken_by, refused_by}
 use Rattle.sitectl.proofs.ServeLemmas.{chain_number}
 use Rattle.sitectl.proofs.serve_line.serve_matches.Goals as goal
@@ -19,11 +19,12 @@ unfolding clap_on_literals
 free = refl
 
 abbrev ids : List (List ℕ)
-ids = codes "id" ∷ codes "record" ∷ codes "http" ∷ codes "rounds" ∷ codes "format" ∷ codes "address" ∷ []
+ids = codes "id" ∷ codes "record" ∷ codes "http" ∷ codes "rounds" ∷ codes "format" ∷ codes "patience-ms" ∷ codes "serve-ms" ∷ codes "address" ∷ []
 
 abbrev args : (c : goal.After-try_get_matches_from) → List Arg
 args c =
-    c.id_option.result ∷ c.required_option.result ∷ c.required_option-2.result ∷ c.rounds_option.result ∷ c.format_flag.result ∷ c.address_arguments.result ∷ []
+    c.id_option.result ∷ c.required_option.result ∷ c.required_option-2.result ∷ c.rounds_option.result ∷ c.format_flag.result ∷ c.millis_option.result ∷ c.millis_option-2.result ∷
+    c.address_arguments.result ∷ []
 
 made : (c : goal.After-try_get_matches_from) → IsChain c.described.result c.in_ok-command.command (args c) ids
 made c =
@@ -32,6 +33,8 @@ made c =
     let http = c.required_option-2.ensures in
     let rounds = c.rounds_option.ensures in
     let format = c.format_flag.ensures in
+    let patience = c.millis_option.ensures in
+    let serving = c.millis_option-2.ensures in
     let address = c.address_arguments.ensures in
     record {
       bare = record { args = c.described.ensures.empty.0; groups = c.described.ensures.empty.1; globals = c.described.ensures.local; negates = c.described.ensures.negates };
@@ -44,7 +47,15 @@ made c =
           (
             c.in_ok-arg-3.field-0,
             c.in_ok-arg-3.ensures,
-            (c.in_ok-arg-4.field-0, c.in_ok-arg-4.ensures, (c.in_ok-arg-5.field-0, c.in_ok-arg-5.ensures, (c.in_ok-command.command, c.in_ok-command.ensures, refl))),
+            (
+              c.in_ok-arg-4.field-0,
+              c.in_ok-arg-4.ensures,
+              (
+                c.in_ok-arg-5.field-0,
+                c.in_ok-arg-5.ensures,
+                (c.in_ok-arg-6.field-0, c.in_ok-arg-6.ensures, (c.in_ok-arg-7.field-0, c.in_ok-arg-7.ensures, (c.in_ok-command.command, c.in_ok-command.ensures, refl))),
+              ),
+            ),
           ),
         ),
       );
@@ -56,7 +67,16 @@ made c =
             record { is = http.id; plain = http.plain; local = http.local },
             (
               record { is = rounds.id; plain = rounds.plain; local = rounds.local },
-              (record { is = format.id; plain = format.plain; local = format.local }, (record { is = address.id; plain = address.plain; local = address.local }, tt)),
+              (
+                record { is = format.id; plain = format.plain; local = format.local },
+                (
+                  record { is = patience.id; plain = patience.plain; local = patience.local },
+                  (
+                    record { is = serving.id; plain = serving.plain; local = serving.local },
+                    (record { is = address.id; plain = address.plain; local = address.local }, tt),
+                  ),
+                ),
+              ),
             ),
           ),
         ),
@@ -71,6 +91,8 @@ adds old new a app r added local is rule = added.shape local ∙ ap₂ with_rule
 app_is : (c : goal.After-try_get_matches_from) → app_of c.in_ok-command.command ≡ serve_app
 app_is c =
     adds _ _ _ _ _ c.in_ok-command.ensures c.address_arguments.ensures.local
+    (adds _ _ _ _ _ c.in_ok-arg-7.ensures c.millis_option-2.ensures.local
+    (adds _ _ _ _ _ c.in_ok-arg-6.ensures c.millis_option.ensures.local
     (adds _ _ _ _ _ c.in_ok-arg-5.ensures c.format_flag.ensures.local
     (adds _ _ _ _ _ c.in_ok-arg-4.ensures c.rounds_option.ensures.local
     (adds _ _ _ _ _ c.in_ok-arg-3.ensures c.required_option-2.ensures.local
@@ -80,6 +102,8 @@ app_is c =
     c.required_option-2.ensures.rule)
     c.rounds_option.ensures.rule)
     c.format_flag.ensures.rule)
+    c.millis_option.ensures.rule)
+    c.millis_option-2.ensures.rule)
     c.address_arguments.ensures.rule
 
 pub returns : goal.returns
@@ -97,4 +121,8 @@ returns c =
           (chain_given _ _ (args c) ids 2 c.id_option.result m (made c) (omega arith) c.required_option-2.ensures.takes h)) parse.ensures.parsed;
       rounds = IfOk-weaker parse.result _ _ (λ m h. subst (λ (w : List ℕ). SpellsBelow (2 ^ 32) (one_text (found_of m) w)) c.rounds_option.ensures.id
           (chain_number _ _ (args c) ids 3 c.id_option.result 4294967295 (2 ^ 32) m (made c) (omega arith) c.rounds_option.ensures.takes c.rounds_option.ensures.parser (omega arith) h)) parse.ensures.parsed;
+      patience = IfOk-weaker parse.result _ _ (λ m h t found. chain_accepted _ _ (args c) ids 5 c.id_option.result _ m t (made c) (omega arith) c.millis_option.ensures.parser refl h
+          (subst (λ (w : List ℕ). one_text (found_of m) w ≡ Some t) (sym c.millis_option.ensures.id) found)) parse.ensures.parsed;
+      serving = IfOk-weaker parse.result _ _ (λ m h t found. chain_accepted _ _ (args c) ids 6 c.id_option.result _ m t (made c) (omega arith) c.millis_option-2.ensures.parser refl h
+          (subst (λ (w : List ℕ). one_text (found_of m) w ≡ Some t) (sym c.millis_option-2.ensures.id) found)) parse.ensures.parsed;
     }

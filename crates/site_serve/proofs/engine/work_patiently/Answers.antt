@@ -1,0 +1,32 @@
+use Rattle.std.proofs.Common.{inl, inr}
+use Rattle.durable.proofs.Results.{on_ok}
+use Rattle.site_drive.proofs.Results.{err_gives}
+use Rattle.site_serve.proofs.Ending.{not_ready, ready_halts, ends_done, passed_on, done_halts}
+use Rattle.site_serve.proofs.ManyRounds.{if_err_gives}
+use Rattle.site_serve.proofs.ManyPatientRounds.{patience_not_begun, patience_broken_off, patience_not_told}
+use Rattle.site_serve.proofs.engine.work_patiently.Goals as goal
+
+pub returns-in_err-say_ready-clause-said : goal.returns-in_err-say_ready-clause-said
+returns-in_err-say_ready-clause-said g c = passed_on _ _ c.from_residual.result _ c.from_residual.ensures.1 (not_ready _ _ _ c.in_err-say_ready.ensures)
+
+pub returns-in_err-say_ready-clause-halted : goal.returns-in_err-say_ready-clause-halted
+returns-in_err-say_ready-clause-halted g c = err_gives c.from_residual.result c.from_residual.ensures.1 λ e is.
+    patience_not_begun _ _ _ c.args.served.now.node c.args.link.now _ _ _ _ e is (ready_halts _ _ _ c.in_err-say_ready.ensures)
+
+pub returns-in_err-take_patient_rounds-clause-said : goal.returns-in_err-take_patient_rounds-clause-said
+returns-in_err-take_patient_rounds-clause-said g c =
+    passed_on _ _ c.from_residual-in_err-take_patient_rounds.result _ c.from_residual-in_err-take_patient_rounds.ensures.1 (inr (inl (c.in_err-take_patient_rounds.ensures.ends, c.in_ok-say_ready.ensures)))
+
+pub returns-in_err-take_patient_rounds-clause-halted : goal.returns-in_err-take_patient_rounds-clause-halted
+returns-in_err-take_patient_rounds-clause-halted g c = err_gives c.from_residual-in_err-take_patient_rounds.result c.from_residual-in_err-take_patient_rounds.ensures.1 λ e is.
+    patience_broken_off _ _ _ c.args.served.now.node c.take_patient_rounds.new.served.node c.args.link.now c.take_patient_rounds.new.link _ _ c.args.rounds _ e is c.in_err-take_patient_rounds.ensures.fault
+
+pub returns-clause-said : goal.returns-clause-said
+returns-clause-said g c = ends_done _ _ _ _ _ _ _ _ c.in_ok-say_ready.ensures c.say_done.ensures
+
+pub returns-clause-rounds : goal.returns-clause-rounds
+returns-clause-rounds g c = on_ok c.say_done.result c.in_ok-take_patient_rounds.ensures.ok
+
+pub returns-clause-halted : goal.returns-clause-halted
+returns-clause-halted g c = if_err_gives c.say_done.result (done_halts _ c.say_done.result c.say_done.ensures) λ e is.
+    patience_not_told _ _ _ c.args.served.now.node c.take_patient_rounds.new.served.node c.args.link.now c.take_patient_rounds.new.link _ _ c.args.rounds _ e is c.in_ok-take_patient_rounds.ensures.ok

@@ -1,0 +1,12 @@
+use Rattle.std.proofs.Common.{◌≤◌}
+use Rattle.std.specs.Bool.{⊤}
+use Rattle.site_drive.specs.Leading.{LeadsTo, StaysWhose}
+use Rattle.site_serve.specs.Patience.{TakesPatientRounds}
+use Rattle.site_serve.proofs.patient.take_patient_rounds.Given as goal
+
+abbrev pub invariant-loop : goal.invariant-loop
+invariant-loop g l = record {
+  within : l.counter ≤ l.rounds;
+  leads : LeadsTo g.D.Disk.stands_for (λ w ds. ⊤) (λ w gs. ⊤) l.fn.served.node l.served.node l.fn.link l.link (TakesPatientRounds l.fn.served.node.cluster l.fn.served.node.me l.counter l.served.node.releases);
+  whose : StaysWhose l.fn.served.node l.served.node;
+}

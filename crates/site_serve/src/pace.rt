@@ -1,0 +1,110 @@
+//! When a patient server tries again, when it asks, and how long it rests.
+
+use std::rt::Clock;
+use std::thread;
+use std::time::{Duration, Instant};
+
+/// How many milliseconds lie between questions that nobody answers.
+const ASKING: u64 = 400;
+
+/// The patience grows with the ticks since an instance became known, up to so many times.
+const MOST: u32 = 3;
+
+/// So many rounds in which nothing came are more than a client takes to come again.
+const IDLE: u32 = 200;
+
+/// How many microseconds a server rests behind a round in which nothing came, and once it is idle.
+const REST: u64 = 50;
+const LONG_REST: u64 = 1000;
+
+/// How many milliseconds a node waits before its first tick: longer at nodes of greater numbers, so that two do not try as one.
+fn step(patience: u64, node: u8) -> u64 {
+    patience.saturating_mul(u64::from(node) + 1) / 2
+}
+
+/// Whether so many milliseconds have passed. Where the clock cannot tell, they have.
+fn has_passed<C: Clock>(clock: &C, since: Option<Instant>, millis: u64) -> bool {
+    let Some(since) = since else {
+        return true;
+    };
+    match since.elapsed(clock) {
+        Ok(passed) => passed.as_millis() >= u128::from(millis),
+        Err(_) => true,
+    }
+}
+
+/// How many values are known, and what was tried, asked and heard since.
+#[derive(Clone, Copy, Drop)]
+pub(crate) struct Pace {
+    step: u64,
+    known: u32,
+    ticks: u32,
+    // since when a tick is wanted, and nothing became known, and none was made
+    since: Option<Instant>,
+    asked: Option<Instant>,
+    // how many values were known then
+    known_then: u32,
+    idle: u32,
+}
+
+impl Pace {
+    pub(crate) fn new(patience: u64, node: u8) -> Pace {
+        Pace {
+            step: step(patience, node),
+            known: 0,
+            ticks: 0,
+            since: None,
+            asked: None,
+            known_then: 0,
+            idle: 0,
+        }
+    }
+
+    /// So many values are known now, and a tick is wanted or not.
+    pub(crate) fn note<C: Clock>(&mut self, clock: &C, known: u32, wanted: bool) {
+        if !wanted {
+            self.since = None;
+            self.ticks = 0;
+        } else if self.since.is_none() || known != self.known {
+            self.since = Instant::now(clock).ok();
+            self.ticks = 0;
+        }
+        self.known = known;
+    }
+
+    /// Whether a tick is due, where one is wanted, and else whether a question is: each after its time, and at once where the last one was answered, and more
+    /// is known by that.
+    pub(crate) fn is_due<C: Clock>(&self, clock: &C, wanted: bool, answered: bool) -> bool {
+        if answered && self.known != self.known_then {
+            return true;
+        }
+        if wanted {
+            let tries = u64::from(self.ticks.saturating_add(1).min(MOST));
+            has_passed(clock, self.since, self.step.saturating_mul(tries))
+        } else {
+            has_passed(clock, self.asked, ASKING)
+        }
+    }
+
+    /// It ticks now, or asks.
+    pub(crate) fn begin<C: Clock>(&mut self, clock: &C, wanted: bool) {
+        let now = Instant::now(clock).ok();
+        self.asked = now;
+        self.known_then = self.known;
+        if wanted {
+            self.ticks = self.ticks.saturating_add(1);
+            self.since = now;
+        }
+    }
+
+    /// Rests behind a round in which nothing came.
+    pub(crate) fn rest<C: Clock>(&mut self, clock: &C, busy: bool) {
+        if busy {
+            self.idle = 0;
+            return;
+        }
+        let micros = if self.idle < IDLE { REST } else { LONG_REST };
+        self.idle = self.idle.saturating_add(1);
+        thread::sleep(clock, Duration::from_micros(micros));
+    }
+}

@@ -1,0 +1,150 @@
+//! The rounds of a server that waits less: whatever has come is taken at once, and a tick comes where nothing became known for long.
+
+ghost use Rattle.std.specs.Prelude.{◌≡◌, ◌≢◌, ◌≤◌, ℕ, IfOk, IfErr, OnOk};
+ghost use Rattle.http_serve.specs.Services.{MaySubmit};
+ghost use Rattle.node.specs.Standing.{KeepsOthers};
+ghost use Rattle.site_drive.specs.Leading.{LeadsTo, StaysWhose};
+ghost use Rattle.site_serve.specs.Halts.{EndsRounds};
+ghost use Rattle.site_serve.specs.Patience.{TakesTurn, TakesTurns, TakesPatientRound, TakesPatientRounds, BreaksTurn, BreaksTurns, BreaksPatientRound, BreaksPatientRounds};
+ghost use Rattle.site_serve.specs.Rounds.{Serves, TakesSteps};
+ghost use Rattle.site_serve.specs.Served.{offered};
+
+use crate::connections::serve_client;
+use crate::halt::Halt;
+use crate::pace::Pace;
+use crate::patient_link::PatientLink;
+use crate::served::Served;
+use site_disk::Disk;
+use site_drive::{Link, drive, exchange_and_widen};
+use std::alloc::Global;
+use std::rt::Clock;
+
+/// How many turns a round has at most.
+const TURNS: u32 = 257;
+
+/// How many connections it serves at most.
+const CONNECTIONS: u32 = 16;
+
+/// One turn, and then a tick or a question where that is due, and else widenings.
+fn take_turn<D: Disk, C: Clock>(
+    clock: &C,
+    alloc: Global,
+    served: &mut Served<D>,
+    link: &mut PatientLink,
+    pace: &mut Pace,
+) -> Result<(), Halt>
+    ensures ok { OnOk result (LeadsTo D.stands_for ⟦<PatientLink as Link>⟧.received ⟦<PatientLink as Link>⟧.given served.old.node served.new.node link.old link.new (TakesTurn served.old.node.cluster served.old.node.me served.new.node.releases)) }
+    ensures fault { IfErr result (λ why. LeadsTo D.stands_for ⟦<PatientLink as Link>⟧.received ⟦<PatientLink as Link>⟧.given served.old.node served.new.node link.old link.new (BreaksTurn served.old.node.cluster served.old.node.me why)) }
+    ensures ends { IfErr result EndsRounds }
+    ensures whose { StaysWhose served.old.node served.new.node }
+{
+    let wanted = served.node.wants_tick();
+    pace.note(clock, served.node.known(), wanted);
+    if pace.is_due(clock, wanted, link.answered()) {
+        pace.begin(clock, wanted);
+        drive(alloc, &mut served.node, link, 1)?;
+    } else {
+        exchange_and_widen(alloc, &mut served.node, link, 1)?;
+    }
+    Ok(())
+}
+
+/// Turns, as long as the last one's receive gave something. How many they are.
+fn take_turns<D: Disk, C: Clock>(
+    clock: &C,
+    alloc: Global,
+    served: &mut Served<D>,
+    link: &mut PatientLink,
+    pace: &mut Pace,
+) -> Result<u32, Halt>
+    ensures few { IfOk result (λ turns. (turns ≢ 0) × (turns ≤ 257)) }
+    ensures ok { IfOk result (λ turns. LeadsTo D.stands_for ⟦<PatientLink as Link>⟧.received ⟦<PatientLink as Link>⟧.given served.old.node served.new.node link.old link.new (TakesTurns served.old.node.cluster served.old.node.me turns served.new.node.releases)) }
+    ensures fault { IfErr result (λ why. LeadsTo D.stands_for ⟦<PatientLink as Link>⟧.received ⟦<PatientLink as Link>⟧.given served.old.node served.new.node link.old link.new (BreaksTurns served.old.node.cluster served.old.node.me why)) }
+    ensures ends { IfErr result EndsRounds }
+    ensures whose { StaysWhose served.old.node served.new.node }
+{
+    let mut turns = 0;
+    let mut more = true;
+    while more && turns < TURNS {
+        take_turn(clock, alloc, served, link, pace)?;
+        more = link.came();
+        turns += 1;
+    }
+    Ok(turns)
+}
+
+/// Serves a connection, where one is there: whether one was.
+fn serve_next<D: Disk, C: Clock>(
+    clock: &C,
+    alloc: Global,
+    served: &mut Served<D>,
+    link: &mut PatientLink,
+) -> Result<bool, Halt>
+    ensures taken { MaySubmit offered served.old served.new }
+    ensures fault { IfErr result (λ why. why ≡ Halt.OutOfMemory) }
+{
+    let Some(client) = link.client() else {
+        return Ok(false);
+    };
+    serve_client(clock, alloc, client, served)?;
+    Ok(true)
+}
+
+/// Serves those who wait: how often it looked for one.
+fn serve_waiting<D: Disk, C: Clock>(
+    clock: &C,
+    alloc: Global,
+    served: &mut Served<D>,
+    link: &mut PatientLink,
+) -> Result<u32, Halt>
+    ensures ok { IfOk result (λ count. (count ≤ 16) × LeadsTo D.stands_for ⟦<PatientLink as Link>⟧.received ⟦<PatientLink as Link>⟧.given served.old.node served.new.node link.old link.new (TakesSteps (Serves served.old.node.cluster served.old.node.me) count)) }
+    ensures fault { IfErr result (λ why. (why ≡ Halt.OutOfMemory) × ((count : ℕ) × (count ≤ 16) × LeadsTo D.stands_for ⟦<PatientLink as Link>⟧.received ⟦<PatientLink as Link>⟧.given served.old.node served.new.node link.old link.new (TakesSteps (Serves served.old.node.cluster served.old.node.me) count))) }
+    ensures others { KeepsOthers served.old.node served.new.node }
+{
+    let mut count = 0;
+    let mut more = true;
+    while more && count < CONNECTIONS {
+        more = serve_next(clock, alloc, served, link)?;
+        count += 1;
+    }
+    Ok(count)
+}
+
+/// Turns, and then those who wait. Where nothing came, it rests.
+fn take_round<D: Disk, C: Clock>(
+    clock: &C,
+    alloc: Global,
+    served: &mut Served<D>,
+    link: &mut PatientLink,
+    pace: &mut Pace,
+) -> Result<(), Halt>
+    ensures ok { OnOk result (LeadsTo D.stands_for ⟦<PatientLink as Link>⟧.received ⟦<PatientLink as Link>⟧.given served.old.node served.new.node link.old link.new (TakesPatientRound served.old.node.cluster served.old.node.me served.new.node.releases)) }
+    ensures fault { IfErr result (λ why. LeadsTo D.stands_for ⟦<PatientLink as Link>⟧.received ⟦<PatientLink as Link>⟧.given served.old.node served.new.node link.old link.new (BreaksPatientRound served.old.node.cluster served.old.node.me why)) }
+    ensures ends { IfErr result EndsRounds }
+    ensures whose { StaysWhose served.old.node served.new.node }
+{
+    let turns = take_turns(clock, alloc, served, link, pace)?;
+    let looks = serve_waiting(clock, alloc, served, link)?;
+    pace.rest(clock, turns > 1 || looks > 1);
+    Ok(())
+}
+
+/// So many rounds.
+pub(crate) fn take_patient_rounds<D: Disk, C: Clock>(
+    clock: &C,
+    alloc: Global,
+    served: &mut Served<D>,
+    link: &mut PatientLink,
+    pace: &mut Pace,
+    rounds: u32,
+) -> Result<(), Halt>
+    ensures ok { OnOk result (LeadsTo D.stands_for ⟦<PatientLink as Link>⟧.received ⟦<PatientLink as Link>⟧.given served.old.node served.new.node link.old link.new (TakesPatientRounds served.old.node.cluster served.old.node.me rounds served.new.node.releases)) }
+    ensures fault { IfErr result (λ why. LeadsTo D.stands_for ⟦<PatientLink as Link>⟧.received ⟦<PatientLink as Link>⟧.given served.old.node served.new.node link.old link.new (BreaksPatientRounds served.old.node.cluster served.old.node.me rounds why)) }
+    ensures ends { IfErr result EndsRounds }
+    ensures whose { StaysWhose served.old.node served.new.node }
+{
+    for _ in 0..rounds {
+        take_round(clock, alloc, served, link, pace)?;
+    }
+    Ok(())
+}

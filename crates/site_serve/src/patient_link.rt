@@ -1,0 +1,85 @@
+//! A link over UDP that waits for nothing, and tells what came.
+
+ghost use Rattle.std.specs.Prelude.{◌≡◌};
+
+use crate::client::Client;
+use crate::door::Door;
+use site_drive::{Link, LinkFailed, UdpLink};
+use site_ids::NodeId;
+
+/// The second byte of an answer to a question.
+const CHOSEN: u8 = 7;
+
+/// A link and a door, with what the last receive came to.
+#[derive(Drop)]
+pub(crate) struct PatientLink {
+    link: UdpLink,
+    door: Door,
+    came: bool,
+    answered: bool,
+}
+
+impl PatientLink {
+    /// Its receives do not wait.
+    pub(crate) fn new(link: UdpLink, door: Door) -> PatientLink {
+        let _ = link.set_waiting(false);
+        PatientLink {
+            link,
+            door,
+            came: false,
+            answered: false,
+        }
+    }
+
+    /// Whether the last receive gave a datagram.
+    pub(crate) fn came(&self) -> bool {
+        self.came
+    }
+
+    /// Whether it gave an answer to a question.
+    pub(crate) fn answered(&self) -> bool {
+        self.answered
+    }
+
+    /// The client to serve, if there is one.
+    pub(crate) fn client(&mut self) -> Option<Client>
+        ensures { self.new.link ≡ self.old.link }
+    {
+        self.door.client()
+    }
+}
+
+impl Link for PatientLink {
+    ghost use Rattle.std.specs.Prelude.{⊤};
+
+    ghost received = { λ _ _. ⊤ };
+
+    ghost given = { λ _ _. ⊤ };
+
+    ghost tried = { λ l. ⟦<UdpLink as Link>⟧.tried l.link };
+
+    ghost failed = { λ l. ⟦<UdpLink as Link>⟧.failed l.link };
+
+    fn receive(&mut self, buf: &mut [u8]) -> Result<Option<usize>, LinkFailed> {
+        self.came = false;
+        self.answered = false;
+        let came = self.link.receive(buf)?;
+        if came.is_some() {
+            self.came = true;
+            self.answered = buf.get(1) == Some(&CHOSEN);
+        }
+        Ok(came)
+    }
+
+    fn send(&mut self, to: NodeId, datagram: &[u8]) -> Result<(), LinkFailed> {
+        self.link.send(to, datagram)
+    }
+
+    fn tries(&self) -> u64 {
+        self.link.tries()
+    }
+
+    fn failures(&self) -> u64 {
+        self.link.failures()
+    }
+}
