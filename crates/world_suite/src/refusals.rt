@@ -5,7 +5,7 @@ use crate::halt::Halt;
 use crate::step::{Kind, Step};
 use std::process::Abort;
 use std::test::Fail;
-use world::{AskFault, Event, NodeState};
+use world::{AskFault, Event, NodeState, WorldFault};
 
 const PAGE: [Step; 12] = [
     Step::Submit(1, 1, "put template t\nv{{n}}\n"),
@@ -35,18 +35,74 @@ const CRASHES: [Step; 10] = [
     Step::Settle,
 ];
 
-/// Whether all three nodes have release 1. Each that has it answers so.
-fn all_answer(rt: &impl Abort, group: &Group, status: u16, body: &str) -> Result<bool, Halt> {
-    let mut all = true;
-    for number in 1..=3 {
-        let answer = group.answer(number, 1, "/")?;
-        if matches!(&answer, Err(AskFault::NoSuchRelease)) {
-            all = false;
-        } else {
-            assert!(rt; is_page(&answer, status, body), "node {number}");
+/// A call of node 2's vote fails, and the node ends so and is opened again. Then node 3 asks for promises: the release comes first, or the route.
+fn lost_vote(end: Step) -> [Step; 19] {
+    [
+        Step::Submit(1, 1, "release\n"),
+        Step::Submit(3, 2, "put route / t d\n"),
+        Step::Tick(1),
+        Step::Deliver(1, 0),
+        Step::Deliver(2, 0),
+        Step::Deliver(1, 1),
+        Step::Deliver(1, 2),
+        Step::Arm(2, 3),
+        Step::Deliver(2, 3),
+        end,
+        Step::Restart(2),
+        Step::Tick(3),
+        Step::Deliver(2, 4),
+        Step::Deliver(3, 4),
+        Step::Deliver(3, 5),
+        Step::Deliver(3, 6),
+        Step::Settle,
+        Step::Tick(1),
+        Step::Settle,
+    ]
+}
+
+/// A page's status and body.
+type Page = (u16, &'static str);
+
+/// Which of these pages a node shows for release 1, where it has that.
+fn page_at(
+    rt: &impl Abort,
+    group: &Group,
+    number: u8,
+    pages: &[Page],
+) -> Result<Option<usize>, Halt> {
+    let answer = group.answer(number, 1, "/")?;
+    if matches!(&answer, Err(AskFault::NoSuchRelease)) {
+        return Ok(None);
+    }
+    let shown = pages
+        .iter()
+        .position(|(status, body)| is_page(&answer, *status, body));
+    assert!(rt; shown.is_some(), "node {number}");
+    Ok(shown)
+}
+
+fn agree(one: Option<usize>, other: Option<usize>) -> bool {
+    one.is_none() || other.is_none() || one == other
+}
+
+/// Whether all three nodes have release 1. Those that have it show the same of these pages.
+fn all_answer(rt: &impl Abort, group: &Group, pages: &[Page]) -> Result<bool, Halt> {
+    let one = page_at(rt, group, 1, pages)?;
+    let two = page_at(rt, group, 2, pages)?;
+    let three = page_at(rt, group, 3, pages)?;
+    assert!(rt; agree(one, two) && agree(two, three) && agree(one, three));
+    Ok(one.is_some() && two.is_some() && three.is_some())
+}
+
+/// A message that wasn't handed out, since its node was stopped, reaches nobody.
+fn act_each(rt: &impl Abort, group: &mut Group, steps: &[Step]) -> Result<(), Halt> {
+    for step in steps {
+        match group.act(rt, *step) {
+            Err(Halt::World(WorldFault::BadEvent(_))) => {}
+            done => done?,
         }
     }
-    Ok(all)
+    Ok(())
 }
 
 fn open_stopped(rt: &impl Abort, group: &mut Group) -> Result<(), Halt> {
@@ -60,33 +116,37 @@ fn open_stopped(rt: &impl Abort, group: &mut Group) -> Result<(), Halt> {
 }
 
 /// The schedule, and once more with all messages where a node lacks the release then.
-fn goes(
-    rt: &impl Abort,
-    group: &mut Group,
-    steps: &[Step],
-    status: u16,
-    body: &str,
-) -> Result<(), Halt> {
-    group.act_all(rt, steps)?;
-    if !all_answer(rt, group, status, body)? {
+fn goes(rt: &impl Abort, group: &mut Group, steps: &[Step], pages: &[Page]) -> Result<(), Halt> {
+    act_each(rt, group, steps)?;
+    if !all_answer(rt, group, pages)? {
         open_stopped(rt, group)?;
         group.unsettle();
-        group.act_all(rt, steps)?;
+        act_each(rt, group, steps)?;
     }
-    assert!(rt; group.wants() <= 1 && all_answer(rt, group, status, body)?);
+    assert!(rt; group.wants() <= 1 && all_answer(rt, group, pages)?);
     Ok(())
 }
 
 #[test]
 fn a_page(rt: HostRuntime) -> Result<(), Fail> {
     let mut group = Group::new(rt.alloc(), 3)?;
-    Ok(goes(&rt, &mut group, &PAGE, 200, "v1\n")?)
+    Ok(goes(&rt, &mut group, &PAGE, &[(200, "v1\n")])?)
 }
 
 #[test]
 fn crashes(rt: HostRuntime) -> Result<(), Fail> {
     let mut group = Group::new(rt.alloc(), 3)?;
-    Ok(goes(&rt, &mut group, &CRASHES, 404, "not found\n")?)
+    Ok(goes(&rt, &mut group, &CRASHES, &[(404, "not found\n")])?)
+}
+
+#[test]
+fn lost_votes(rt: HostRuntime) -> Result<(), Fail> {
+    for end in [Step::Crash(2, 0), Step::Crash(2, 1), Step::Restart(2)] {
+        let mut group = Group::new(rt.alloc(), 3)?;
+        let pages = [(404, "not found\n"), (500, "template missing\n")];
+        goes(&rt, &mut group, &lost_vote(end), &pages)?;
+    }
+    Ok(())
 }
 
 /// Each question hands out one message, so a count that is off by one shows.

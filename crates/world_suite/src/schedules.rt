@@ -85,8 +85,9 @@ fn two_proposers_outbid_one_another(rt: HostRuntime) -> Result<(), Fail> {
     Ok(play(&rt, rt.alloc(), 3, &steps)?)
 }
 
-/// The last call of node 2's vote fails, and the node crashes by a choice. Then node 3 asks for promises.
-fn lost_vote(choice: u8, told: bool, published: u64) -> [Step; 22] {
+/// A call of node 2's vote fails behind so many that pass, and the node ends so and is opened again. Then node 3 asks for promises: node 2 tells of
+/// the vote, or doesn't.
+fn lost_vote(calls: u32, end: Step, shown: NodeState, told: bool) -> [Step; 24] {
     [
         Step::Submit(1, 1, RELEASE),
         Step::Submit(3, 2, DATA),
@@ -95,29 +96,40 @@ fn lost_vote(choice: u8, told: bool, published: u64) -> [Step; 22] {
         Step::Deliver(2, 0),
         Step::Deliver(1, 1),
         Step::Deliver(1, 2),
-        Step::Arm(2, 3),
+        Step::Arm(2, calls),
         Step::Deliver(2, 3),
         Step::Last(4, Kind::Propose),
         Step::Shows(2, NodeState::Stopped, 0, 0),
-        Step::Crash(2, choice),
-        Step::Shows(2, NodeState::Down, 0, 0),
+        end,
+        Step::Shows(2, shown, 0, 0),
         Step::Restart(2),
         Step::Shows(2, NodeState::Up, 0, 0),
         Step::Tick(3),
-        Step::Deliver(3, 4),
         Step::Deliver(2, 4),
-        Step::Last(7, Kind::Promise(told)),
+        Step::Last(6, Kind::Promise(told)),
+        Step::Deliver(3, 4),
         Step::Deliver(3, 5),
+        Step::Deliver(3, 6),
+        Step::Last(8, Kind::Propose),
         Step::Settle,
-        Step::Shows(3, NodeState::Up, 1, published),
+        Step::Shows(3, NodeState::Up, 1, if told { 1 } else { 0 }),
     ]
 }
 
-/// Kept, the vote binds node 3 to the release; lost, node 3 proposes its own value.
+/// Kept, the vote binds node 3 to the release; lost, node 3 proposes its own value. It is kept where its last call alone failed, and no crash came or
+/// one that kept what was written.
 #[test]
 fn a_vote_in_flight_is_kept_or_lost(rt: HostRuntime) -> Result<(), Fail> {
-    play(&rt, rt.alloc(), 3, &lost_vote(0, false, 0))?;
-    Ok(play(&rt, rt.alloc(), 3, &lost_vote(1, true, 1))?)
+    for calls in 0..4 {
+        for choice in [0, 1, 7] {
+            let told = calls == 3 && choice == 1;
+            let steps = lost_vote(calls, Step::Crash(2, choice), NodeState::Down, told);
+            play(&rt, rt.alloc(), 3, &steps)?;
+        }
+        let steps = lost_vote(calls, Step::Restart(2), NodeState::Up, calls == 3);
+        play(&rt, rt.alloc(), 3, &steps)?;
+    }
+    Ok(())
 }
 
 #[test]
