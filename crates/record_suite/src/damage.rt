@@ -2,6 +2,7 @@
 use crate::samples::{disk_of, one_of_three};
 use acceptor::Slot;
 use durable::{Record, RecordFault};
+use site_disk::MemDisk;
 use site_ids::{Ballot, Instance};
 use std::alloc::Global;
 use std::test::Fail;
@@ -167,18 +168,24 @@ fn is_slot(slot: &Slot, promised: (u32, u8), value: Option<&str>) -> bool {
     voted && numbers(slot.promised) == promised
 }
 
-/// Whether node 2 of three is told this of the bytes.
+fn reads(record: &Record<MemDisk>, told: Told) -> bool {
+    let Told::Reads(round, instance, promised, value) = told else {
+        return false;
+    };
+    match Instance::new(instance) {
+        Some(instance) => {
+            record.round() == round && is_slot(record.slot(instance), promised, value)
+        }
+        None => false,
+    }
+}
+
+/// Whether the bytes come to this for node 2 of three.
 fn comes_to(alloc: Global, bytes: &[u8], told: Told) -> Result<bool, Fail> {
     let (cluster, node) = one_of_three(2)?;
     match Record::open(alloc, cluster, node, disk_of(alloc, bytes)?) {
+        Ok(record) => Ok(reads(&record, told)),
         Err((fault, _disk)) => Ok(matches!(told, Told::Refused(want) if want == fault)),
-        Ok(record) => {
-            let Told::Reads(round, instance, promised, value) = told else {
-                return Ok(false);
-            };
-            let instance = Instance::new(instance).ok_or("no instance")?;
-            Ok(record.round() == round && is_slot(record.slot(instance), promised, value))
-        }
     }
 }
 

@@ -4,6 +4,7 @@ use context::{Data, DataFault, Frame, resolve};
 use mustache_parse::{Node, parse};
 use mustache_scan::{FaultKind, TemplateFault, TokenKind, scan};
 use site_ids::Ticket;
+use std::alloc::{AllocError, Global};
 use std::test::Fail;
 
 #[test]
@@ -42,6 +43,28 @@ fn reading_data(rt: HostRuntime) -> Result<(), Fail> {
     assert!(rt; matches!(resolve(&frame, "b"), Some(Data::Null)));
     assert!(rt; resolve(&frame, "c").is_none());
     assert!(rt; matches!(resolve(&frame, "."), Some(Data::Hash(_))));
+    Ok(())
+}
+
+/// So many lists within one another.
+fn nested(alloc: Global, lists: u32) -> Result<Vec<u8>, AllocError> {
+    let mut json = Vec::new(alloc);
+    for _ in 0..lists {
+        json.push(b'[')?;
+    }
+    for _ in 0..lists {
+        json.push(b']')?;
+    }
+    Ok(json)
+}
+
+#[test]
+fn lists_nest_127_deep(rt: HostRuntime) -> Result<(), Fail> {
+    let alloc = rt.alloc();
+    let found = Data::from_json(alloc, &nested(alloc, 127)?)?;
+    assert!(rt; matches!(&found, Data::List(items) if items.len() == 1));
+    let refused = Data::from_json(alloc, &nested(alloc, 128)?);
+    assert!(rt; matches!(&refused, Err(DataFault::NotJson)));
     Ok(())
 }
 
