@@ -1,7 +1,8 @@
 /* Hostile input for the built programs: `fuzz SEED SECONDS SITERENDER SITESIM SITED FOLDER`; tools/fuzz starts it.
    Case k of a seed is the same whenever it is run. Each kind of input has its turn: commands (templates and data among them), schedules, record files,
    requests, datagrams. A case fails where a program ends by a signal, takes longer than 10 seconds, wants more memory than its bound, or answers
-   something that it has no name for; its input is then kept in FOLDER. The last line is `N passed, M failed`. */
+   something that it has no name for, or where a node refuses the record that it wrote itself; its input is then kept in FOLDER. The bound is 256 MB of
+   addresses, or MEGABYTES if set; 0 is none. The last line is `N passed, M failed`. */
 #define _GNU_SOURCE
 #include <arpa/inet.h>
 #include <errno.h>
@@ -12,6 +13,7 @@
 #include <stdio.h>
 #include <stdlib.h>
 #include <string.h>
+#include <sys/prctl.h>
 #include <sys/resource.h>
 #include <sys/socket.h>
 #include <sys/stat.h>
@@ -19,11 +21,12 @@
 #include <time.h>
 #include <unistd.h>
 
-enum { ROOM = 1 << 20, SECONDS = 10, MEGABYTES = 256 };
+enum { ROOM = 1 << 20, SECONDS = 10 };
 
-static uint64_t state;
+static uint64_t seed, state;
 static char input[ROOM], out[ROOM], err[ROOM];
 static size_t length, out_length, err_length;
+static rlim_t megabytes = 256;
 static const char *siterender, *sitesim, *sited, *folder;
 
 /* ---- chance */
@@ -83,12 +86,12 @@ static void spoil(size_t from, unsigned times) {
 
 /* ---- running a program */
 
-static int keeps(const char *kind, uint64_t seed, const char *why) {
+static int keeps(const char *kind, uint64_t number, const char *why) {
     char name[4096];
-    snprintf(name, sizeof name, "%s/%s.%llu", folder, kind, (unsigned long long)seed);
+    snprintf(name, sizeof name, "%s/%s.%llu", folder, kind, (unsigned long long)number);
     FILE *file = fopen(name, "wb");
     if (file) { fwrite(input, 1, length, file); fclose(file); }
-    printf("FAILED %s, case %llu: %s; input in %s\n", kind, (unsigned long long)seed, why, name);
+    printf("FAILED %s, case %llu: %s; input in %s\n", kind, (unsigned long long)number, why, name);
     return 0;
 }
 
@@ -99,8 +102,8 @@ static double now(void) {
 }
 
 static void bounded(void) {
-    const struct rlimit memory = {(rlim_t)MEGABYTES << 20, (rlim_t)MEGABYTES << 20}, none = {0, 0};
-    setrlimit(RLIMIT_AS, &memory);
+    const struct rlimit memory = {megabytes << 20, megabytes << 20}, none = {0, 0};
+    if (megabytes) setrlimit(RLIMIT_AS, &memory);
     setrlimit(RLIMIT_CORE, &none);
 }
 
@@ -113,6 +116,7 @@ static pid_t started(char *const words[], int ends[3]) {
     if (!pid) {
         dup2(in[0], 0); dup2(o[1], 1); dup2(e[1], 2);
         signal(SIGPIPE, SIG_DFL);
+        prctl(PR_SET_PDEATHSIG, SIGKILL);
         bounded();
         execv(words[0], words);
         _exit(127);
@@ -270,6 +274,7 @@ static int http_port, udp_port;
 static pid_t node;
 static int node_ends[3];
 static unsigned long ended; /* how many nodes ended by a fault that forged messages account for */
+static unsigned long sent, reopened; /* datagrams; nodes that were started again over their record */
 
 static int free_port(int kind) {
     struct sockaddr_in a = {.sin_family = AF_INET, .sin_addr = {htonl(INADDR_LOOPBACK)}};
@@ -288,9 +293,9 @@ static void end_node(void) {
     node = 0;
 }
 
-static void start_node(void) {
+/* starts a node over the record that is there, or over a new one: whether it is ready */
+static int opens_node(void) {
     char http[64], own[64], other[64];
-    unlink(record);
     http_port = free_port(SOCK_STREAM);
     udp_port = free_port(SOCK_DGRAM);
     snprintf(http, sizeof http, "127.0.0.1:%d", http_port);
@@ -300,14 +305,22 @@ static void start_node(void) {
     node = started(words, node_ends);
     char line[64] = "";
     for (int k = 0; k < 1000 && read(node_ends[1], line, sizeof line - 1) <= 0; k++) usleep(10000);
-    if (strncmp(line, "node 1 ready", 12)) { fprintf(stderr, "fuzz: sited does not start\n"); exit(2); }
+    return !strncmp(line, "node 1 ready", 12);
 }
 
-/* the node runs, or it ended by a fault that forged messages account for; then another one is started */
-static const char *node_stands(void) {
+static void start_node(void) {
+    unlink(record);
+    if (!opens_node()) { fprintf(stderr, "fuzz: sited does not start\n"); exit(2); }
+}
+
+/* the node runs, or it ended by a fault that forged messages account for, be it within so many milliseconds; then another one is started */
+static const char *node_stands(int patience) {
     static const char *const lines[] = {"node: 7 RoundsUsedUp\n", "node: 8 Conflict\n"};
     int status;
-    if (waitpid(node, &status, WNOHANG) == 0) return 0;
+    while (waitpid(node, &status, WNOHANG) == 0) {
+        if (patience-- <= 0) return 0;
+        usleep(1000);
+    }
     ended++;
     err_length = 0;
     drain(node_ends[2], err, &err_length);
@@ -388,7 +401,7 @@ static const char *requests(void) {
     some_body();
     if (mostly(2)) spoil(0, 1 + chance(4));
     const unsigned long before = ended;
-    const char *why = answer() < 0 ? "no answer within 10 seconds" : well_answered(), *stands = node_stands();
+    const char *why = answer() < 0 ? "no answer within 10 seconds" : well_answered(), *stands = node_stands(why ? 2000 : 0);
     return stands ? stands : ended > before ? 0 : why;
 }
 
@@ -396,49 +409,64 @@ static const char *requests(void) {
 
 static void number_of(uint64_t value, int bytes) { while (bytes--) { const char byte = (char)(value >> 8 * bytes); add(&byte, 1); } }
 
-static uint64_t edge(void) {
+/* in this batch an instance has one value, so that no two are told of it */
+static int alike;
+
+static uint64_t edge(uint64_t below) {
     static const uint64_t edges[] = {0, 1, 2, 3, 255, 256, 1000000, 1000001, 4294967294u, 4294967295u};
-    return mostly(8) ? 1 + chance(4) : SOME(edges);
+    return mostly(8) ? 1 + chance(below) : SOME(edges);
 }
 
-static void ballot(void) { number_of(edge(), 4); number_of(mostly(9) ? 1 + chance(3) : chance(256), 1); }
+static void ballot(void) { number_of(edge(4), 4); number_of(mostly(9) ? 1 + chance(3) : chance(256), 1); }
 
-static void value(void) {
+static void value(uint64_t instance) {
     const size_t at = length;
+    const uint64_t kept = state;
+    if (alike) state = seed ^ instance << 32;
     number_of(0, 4);
-    if (mostly(8)) { number_of(chance(3), 4); number_of(chance(50), 8); some_command(); }
+    if (mostly(8)) { number_of(chance(3), 4); number_of(alike ? instance : chance(50), 8); some_command(); }
     else many("z", some_length());
+    if (alike) state = kept;
     const size_t count = length - at - 4;
     for (int i = 0; i < 4; i++) input[at + i] = (char)((mostly(9) ? count : count + 1) >> 8 * (3 - i));
 }
 
 static void datagram(void) {
     const int kind = mostly(9) ? 1 + (int)chance(7) : (int)chance(256);
+    const uint64_t instance = edge(alike ? 60 : 4);
     number_of(mostly(9) ? 1 : chance(256), 1);
     number_of(kind, 1);
     number_of(mostly(9) ? 1 + chance(3) : chance(256), 1);
-    number_of(edge(), 4);
+    number_of(instance, 4);
     if (kind != 6 && kind != 7) ballot();
-    if (kind == 2) { const int prior = mostly(5); number_of(prior, 1); if (prior) { ballot(); value(); } }
+    if (kind == 2) { const int prior = mostly(5); number_of(prior, 1); if (prior) { ballot(); value(instance); } }
     if (kind == 5) ballot();
-    if (kind == 3 || kind == 4 || kind == 7) value();
-    if (mostly(2)) spoil(0, 1 + chance(3));
+    if (kind == 3 || kind == 4 || kind == 7) value(instance);
+    if (mostly(alike ? 0 : 2)) spoil(0, 1 + chance(3));
 }
 
 static const char *datagrams(void) {
     const struct sockaddr_in to = {.sin_family = AF_INET, .sin_port = htons(udp_port), .sin_addr = {htonl(INADDR_LOOPBACK)}};
     const int s = socket(AF_INET, SOCK_DGRAM | SOCK_CLOEXEC, 0);
+    alike = mostly(7);
     for (int k = 0; k < 50; k++) {
         length = 0;
         datagram();
-        sendto(s, input, length < 65000 ? length : 65000, 0, (const struct sockaddr *)&to, sizeof to);
+        if (sendto(s, input, length < 65000 ? length : 65000, 0, (const struct sockaddr *)&to, sizeof to) >= 0) sent++;
     }
     close(s);
     length = 0;
     text("GET /_newest HTTP/1.1\r\nHost: a\r\n\r\n");
     const unsigned long before = ended;
-    const char *why = answer() < 0 ? "no answer within 10 seconds" : well_answered(), *stands = node_stands();
-    return stands ? stands : ended > before ? 0 : why;
+    const char *why = answer() < 0 ? "no answer within 10 seconds" : well_answered(), *stands = node_stands(why ? 2000 : 0);
+    if (stands || ended > before) return stands;
+    if (why || chance(5)) return why;
+    end_node();
+    reopened++;
+    if (opens_node()) return 0;
+    end_node();
+    start_node();
+    return "its own record is refused";
 }
 
 /* ---- record files */
@@ -472,12 +500,12 @@ int main(int count, char **words) {
     enum { KINDS = sizeof kinds / sizeof *kinds };
     unsigned long passed[KINDS] = {0}, failed = 0, all = 0;
     if (count != 7) { fputs("usage: fuzz SEED SECONDS SITERENDER SITESIM SITED FOLDER\n", stderr); return 2; }
-    const uint64_t seed = strtoull(words[1], 0, 10);
-    const double end = now() + atof(words[2]);
+        const double end = now() + atof(words[2]);
     siterender = words[3]; sitesim = words[4]; sited = words[5]; folder = words[6];
+    if (getenv("MEGABYTES")) megabytes = strtoull(getenv("MEGABYTES"), 0, 10);
     signal(SIGPIPE, SIG_IGN);
     snprintf(record, sizeof record, "%s/record", folder);
-    state = seed;
+    state = seed = strtoull(words[1], 0, 10);
     make_record();
     for (uint64_t k = 0; now() < end && failed < 20; k++) {
         int kind = 0;
@@ -488,7 +516,7 @@ int main(int count, char **words) {
         if (why) { failed++; keeps(kinds[kind].name, k, why); } else passed[kind]++;
     }
     end_node();
-    printf("forged messages ended %lu nodes\n", ended);
+    printf("%lu datagrams ended %lu nodes; %lu were started again over their record\n", sent, ended, reopened);
     for (int i = 0; i < KINDS; i++) { printf("ok     %s: %lu\n", kinds[i].name, passed[i]); all += passed[i]; }
     printf("%lu passed, %lu failed\n", all, failed);
     return failed != 0;

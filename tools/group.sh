@@ -1,15 +1,19 @@
 # A group of nodes on loopback, for bash scripts that source it: `group=FOLDER; sited=PROGRAM; make_group 3`, then `start_node P`, `url P`,
 # `kill_node P`, `end_group`. Record files, logs and process numbers lie in FOLDER.
 
-# a port that the system picks, and that nobody has now
+# a port that the system picks, that nobody has now, and that was not picked before
 free_port() {
     local inode port
-    exec 9<> /dev/udp/127.0.0.1/9
-    inode=$(readlink "/proc/$BASHPID/fd/9")
-    inode=${inode#socket:[}
-    port=$(awk -v inode="${inode%]}" '$10 == inode { split($2, local, ":"); print local[2] }' /proc/net/udp)
-    exec 9>&-
-    echo $((16#$port))
+    while :; do
+        exec 9<> /dev/udp/127.0.0.1/9
+        inode=$(readlink "/proc/$BASHPID/fd/9")
+        inode=${inode#socket:[}
+        port=$(awk -v inode="${inode%]}" '$10 == inode { split($2, local, ":"); print local[2] }' /proc/net/udp)
+        exec 9>&-
+        port=$((16#$port))
+        grep -qsx "$port" "$group/ports" || break
+    done
+    echo "$port" | tee -a "$group/ports"
 }
 
 # addresses for so many nodes: N
