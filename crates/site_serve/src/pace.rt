@@ -13,9 +13,9 @@ const MOST: u32 = 3;
 /// So many rounds in which nothing came are more than a client takes to come again.
 const IDLE: u32 = 200;
 
-/// How many microseconds a server rests behind a round in which nothing came, and once it is idle.
+/// How many microseconds a server rests behind a round in which nothing came, while it is busy, and once it is idle.
 const REST: u64 = 50;
-const LONG_REST: u64 = 1000;
+const LONG_REST: u64 = 1500;
 
 /// How many milliseconds a node waits before its first tick: longer at nodes of greater numbers, so that two do not try as one.
 fn step(patience: u64, node: u8) -> u64 {
@@ -44,7 +44,9 @@ pub(crate) struct Pace {
     asked: Option<Instant>,
     // how many values were known then
     known_then: u32,
+    // how many rounds went by in which nothing but questions came, and how many datagrams had come that are none
     idle: u32,
+    stirs: u64,
 }
 
 impl Pace {
@@ -57,6 +59,7 @@ impl Pace {
             asked: None,
             known_then: 0,
             idle: 0,
+            stirs: 0,
         }
     }
 
@@ -97,14 +100,15 @@ impl Pace {
         }
     }
 
-    /// Rests behind a round in which nothing came.
-    pub(crate) fn rest<C: Clock>(&mut self, clock: &C, busy: bool) {
-        if busy {
+    /// Rests behind a round in which nothing came: no datagram and no client.
+    pub(crate) fn rest<C: Clock>(&mut self, clock: &C, came: bool, served: bool, stirs: u64) {
+        if served || stirs != self.stirs {
+            self.stirs = stirs;
             self.idle = 0;
-            return;
+        } else if !came {
+            let micros = if self.idle < IDLE { REST } else { LONG_REST };
+            self.idle = self.idle.saturating_add(1);
+            thread::sleep(clock, Duration::from_micros(micros));
         }
-        let micros = if self.idle < IDLE { REST } else { LONG_REST };
-        self.idle = self.idle.saturating_add(1);
-        thread::sleep(clock, Duration::from_micros(micros));
     }
 }

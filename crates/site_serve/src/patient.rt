@@ -125,7 +125,7 @@ fn take_round<D: Disk, C: Clock>(
 {
     let turns = take_turns(clock, alloc, served, link, pace)?;
     let looks = serve_waiting(clock, alloc, served, link)?;
-    pace.rest(clock, turns > 1 || looks > 1);
+    pace.rest(clock, turns > 1, looks > 1, link.stirs());
     Ok(())
 }
 
