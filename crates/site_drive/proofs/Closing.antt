@@ -218,7 +218,7 @@ not_closed stands_for received given old new link n p why ended = record {
 -- ---- a drive
 
 -- a call but a delivery changes nothing of what is known
-same_known : (n p : ℕ) (s next : Node) (call : Call) (ending : Ending) (out : List (To × Message)) → ((effect : Effect) → Does n p s call effect → effect.after.known ≡ s.known) → Ends n p s call ending out next → next.known ≡ s.known
+pub same_known : (n p : ℕ) (s next : Node) (call : Call) (ending : Ending) (out : List (To × Message)) → ((effect : Effect) → Does n p s call effect → effect.after.known ≡ s.known) → Ends n p s call ending out next → next.known ≡ s.known
 same_known n p s next call Whole out same h = ap (λ u. u.known) h.node ∙ same h.effect h.does
 same_known n p s next call (Refused cause) out same h = ap (λ u. u.known) h.node
 same_known n p s next call Failed out same h = ap (λ u. u.known) h.node
@@ -226,7 +226,7 @@ same_known n p s next call Failed out same h = ap (λ u. u.known) h.node
 tick_knows : (n p : ℕ) (s : Node) (effect : Effect) → Does n p s tick effect → effect.after.known ≡ s.known
 tick_knows n p s effect how = ap (λ (e : Effect). e.after.known) how.is
 
-ask_knows : (n p : ℕ) (s : Node) (effect : Effect) → Does n p s ask effect → effect.after.known ≡ s.known
+pub ask_knows : (n p : ℕ) (s : Node) (effect : Effect) → Does n p s ask effect → effect.after.known ≡ s.known
 ask_knows n p s effect how = ap (λ (e : Effect). e.after.known) how.is
 
 widen_knows : (n p : ℕ) (s : Node) (effect : Effect) → Does n p s widen effect → effect.after.known ≡ s.known

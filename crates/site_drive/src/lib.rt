@@ -1,6 +1,7 @@
 //! A node at work: messages between nodes over a link, and turns that take what was received and send what is handed out.
 #![tactic(auto)]
 
+mod asking;
 mod desk;
 mod driven;
 mod driving;
@@ -12,6 +13,7 @@ mod turns;
 mod udp;
 mod widening;
 
+pub use asking::exchange_and_ask;
 pub use driven::Driven;
 pub use driving::{drive, exchange};
 pub use link::{Link, LinkFailed};

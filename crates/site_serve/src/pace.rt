@@ -13,9 +13,9 @@ const MOST: u32 = 3;
 /// So many rounds in which nothing came are more than a client takes to come again.
 const IDLE: u32 = 200;
 
-/// How many microseconds a server rests behind a round in which nothing came, and once it is idle.
+/// How many microseconds a server rests behind a round in which nothing came, while it is busy, and once it is idle.
 const REST: u64 = 50;
-const LONG_REST: u64 = 1000;
+const LONG_REST: u64 = 1500;
 
 /// How many milliseconds a node waits before its first tick: longer at nodes of greater numbers, so that two do not try as one.
 fn step(patience: u64, node: u8) -> u64 {
@@ -41,10 +41,12 @@ pub(crate) struct Pace {
     ticks: u32,
     // since when a tick is wanted, and nothing became known, and none was made
     since: Option<Instant>,
+    // when it asked last, and how many values were known then
     asked: Option<Instant>,
-    // how many values were known then
     known_then: u32,
+    // how many rounds went by in which nothing but questions came, and how many datagrams had come that are none
     idle: u32,
+    stirs: u64,
 }
 
 impl Pace {
@@ -57,6 +59,7 @@ impl Pace {
             asked: None,
             known_then: 0,
             idle: 0,
+            stirs: 0,
         }
     }
 
@@ -72,39 +75,38 @@ impl Pace {
         self.known = known;
     }
 
-    /// Whether a tick is due, where one is wanted, and else whether a question is: each after its time, and at once where the last one was answered, and more
-    /// is known by that.
-    pub(crate) fn is_due<C: Clock>(&self, clock: &C, wanted: bool, answered: bool) -> bool {
-        if answered && self.known != self.known_then {
-            return true;
-        }
-        if wanted {
-            let tries = u64::from(self.ticks.saturating_add(1).min(MOST));
-            has_passed(clock, self.since, self.step.saturating_mul(tries))
-        } else {
-            has_passed(clock, self.asked, ASKING)
-        }
+    /// Whether a question is due: after its time, and at once where the last one was answered, and more is known by that.
+    pub(crate) fn asks_now<C: Clock>(&self, clock: &C, answered: bool) -> bool {
+        (answered && self.known != self.known_then) || has_passed(clock, self.asked, ASKING)
     }
 
-    /// It ticks now, or asks.
-    pub(crate) fn begin<C: Clock>(&mut self, clock: &C, wanted: bool) {
-        let now = Instant::now(clock).ok();
-        self.asked = now;
+    /// It asks.
+    pub(crate) fn begin_question<C: Clock>(&mut self, clock: &C) {
+        self.asked = Instant::now(clock).ok();
         self.known_then = self.known;
-        if wanted {
-            self.ticks = self.ticks.saturating_add(1);
-            self.since = now;
-        }
     }
 
-    /// Rests behind a round in which nothing came.
-    pub(crate) fn rest<C: Clock>(&mut self, clock: &C, busy: bool) {
-        if busy {
+    /// Whether a tick is wanted, and has been for so long that it is due.
+    pub(crate) fn ticks_now<C: Clock>(&self, clock: &C, wanted: bool) -> bool {
+        let tries = u64::from(self.ticks.saturating_add(1).min(MOST));
+        wanted && has_passed(clock, self.since, self.step.saturating_mul(tries))
+    }
+
+    /// It ticks.
+    pub(crate) fn begin_tick<C: Clock>(&mut self, clock: &C) {
+        self.ticks = self.ticks.saturating_add(1);
+        self.since = Instant::now(clock).ok();
+    }
+
+    /// Rests behind a round in which nothing came: no datagram and no client.
+    pub(crate) fn rest<C: Clock>(&mut self, clock: &C, came: bool, served: bool, stirs: u64) {
+        if served || stirs != self.stirs {
+            self.stirs = stirs;
             self.idle = 0;
-            return;
+        } else if !came {
+            let micros = if self.idle < IDLE { REST } else { LONG_REST };
+            self.idle = self.idle.saturating_add(1);
+            thread::sleep(clock, Duration::from_micros(micros));
         }
-        let micros = if self.idle < IDLE { REST } else { LONG_REST };
-        self.idle = self.idle.saturating_add(1);
-        thread::sleep(clock, Duration::from_micros(micros));
     }
 }

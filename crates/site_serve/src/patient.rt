@@ -15,7 +15,7 @@ use crate::pace::Pace;
 use crate::patient_link::PatientLink;
 use crate::served::Served;
 use site_disk::Disk;
-use site_drive::{Link, drive, exchange_and_widen};
+use site_drive::{Link, drive, exchange_and_ask, exchange_and_widen};
 use std::alloc::Global;
 use std::rt::Clock;
 
@@ -25,7 +25,7 @@ const TURNS: u32 = 257;
 /// How many connections it serves at most.
 const CONNECTIONS: u32 = 16;
 
-/// One turn, and then a tick or a question where that is due, and else widenings.
+/// One turn, and then a question or a tick where that is due, and else widenings.
 fn take_turn<D: Disk, C: Clock>(
     clock: &C,
     alloc: Global,
@@ -40,8 +40,11 @@ fn take_turn<D: Disk, C: Clock>(
 {
     let wanted = served.node.wants_tick();
     pace.note(clock, served.node.known(), wanted);
-    if pace.is_due(clock, wanted, link.answered()) {
-        pace.begin(clock, wanted);
+    if pace.asks_now(clock, link.answered()) {
+        pace.begin_question(clock);
+        exchange_and_ask(alloc, &mut served.node, link, 1)?;
+    } else if pace.ticks_now(clock, wanted) {
+        pace.begin_tick(clock);
         drive(alloc, &mut served.node, link, 1)?;
     } else {
         exchange_and_widen(alloc, &mut served.node, link, 1)?;
@@ -125,7 +128,7 @@ fn take_round<D: Disk, C: Clock>(
 {
     let turns = take_turns(clock, alloc, served, link, pace)?;
     let looks = serve_waiting(clock, alloc, served, link)?;
-    pace.rest(clock, turns > 1 || looks > 1);
+    pace.rest(clock, turns > 1, looks > 1, link.stirs());
     Ok(())
 }
 

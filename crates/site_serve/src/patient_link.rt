@@ -7,6 +7,9 @@ use crate::door::Door;
 use site_drive::{Link, LinkFailed, UdpLink};
 use site_ids::NodeId;
 
+/// How many bytes a question has: it is the one message of that length.
+const ASK: usize = 7;
+
 /// The second byte of an answer to a question.
 const CHOSEN: u8 = 7;
 
@@ -17,6 +20,7 @@ pub(crate) struct PatientLink {
     door: Door,
     came: bool,
     answered: bool,
+    stirs: u64,
 }
 
 impl PatientLink {
@@ -28,6 +32,7 @@ impl PatientLink {
             door,
             came: false,
             answered: false,
+            stirs: 0,
         }
     }
 
@@ -39,6 +44,11 @@ impl PatientLink {
     /// Whether it gave an answer to a question.
     pub(crate) fn answered(&self) -> bool {
         self.answered
+    }
+
+    /// How many datagrams came that are no questions.
+    pub(crate) fn stirs(&self) -> u64 {
+        self.stirs
     }
 
     /// The client to serve, if there is one.
@@ -64,9 +74,12 @@ impl Link for PatientLink {
         self.came = false;
         self.answered = false;
         let came = self.link.receive(buf)?;
-        if came.is_some() {
+        if let Some(n) = came {
             self.came = true;
             self.answered = buf.get(1) == Some(&CHOSEN);
+            if n != ASK {
+                self.stirs = self.stirs.saturating_add(1);
+            }
         }
         Ok(came)
     }
