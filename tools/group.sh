@@ -1,6 +1,15 @@
 # A group of nodes on loopback, for bash scripts that source it: `group=FOLDER; sited=PROGRAM; make_group 3`, then `start_node P`, `url P`,
 # `kill_node P`, `end_group`. Record files, logs and process numbers lie in FOLDER.
 
+# goes on as this script in a network of its own, where one may be made: no port is another's there, and no other's datagrams are counted: SCRIPT WORD..
+alone() {
+    if [ -n "${ALONE:-}" ]; then
+        ip link set lo up
+    elif unshare --map-root-user --net ip link set lo up 2> /dev/null; then
+        ALONE=1 exec unshare --map-root-user --net "$@"
+    fi
+}
+
 # a port that the system picks, that nobody has now, and that was not picked before
 free_port() {
     local inode port
