@@ -37,7 +37,11 @@ impl Desk {
     }
 
     /// The same, and what it hands out is sent.
-    fn question<D: Disk, L: Link>(&mut self, node: &mut Node<D>, link: &mut L) -> Result<(), NodeFault>
+    fn question<D: Disk, L: Link>(
+        &mut self,
+        node: &mut Node<D>,
+        link: &mut L,
+    ) -> Result<(), NodeFault>
         requires { self.old.outbox.items ≡ [] }
         ensures ok { OnOk result (LeadsTo D.stands_for L.received L.given node.old node.new link.old link.new (Questions node.old.cluster node.old.me)) }
         ensures fault { IfErr result (λ fault. LeadsTo D.stands_for L.received L.given node.old node.new link.old link.new (GivesUpQuestion node.old.cluster node.old.me fault)) }

@@ -16,7 +16,11 @@ use std::alloc::Global;
 
 impl Desk {
     /// Widenings, and what they hand out is sent.
-    fn spread<D: Disk, L: Link>(&mut self, node: &mut Node<D>, link: &mut L) -> Result<(), NodeFault>
+    fn spread<D: Disk, L: Link>(
+        &mut self,
+        node: &mut Node<D>,
+        link: &mut L,
+    ) -> Result<(), NodeFault>
         requires { self.old.outbox.items ≡ [] }
         ensures ok { OnOk result (LeadsTo D.stands_for L.received L.given node.old node.new link.old link.new (Spreads node.old.cluster node.old.me)) }
         ensures fault { IfErr result (λ fault. LeadsTo D.stands_for L.received L.given node.old node.new link.old link.new (GivesUpSpreading node.old.cluster node.old.me fault)) }

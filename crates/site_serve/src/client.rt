@@ -22,7 +22,12 @@ pub(crate) struct Timed<'a, C> {
 }
 
 impl<'a, C: Clock> Timed<'a, C> {
-    pub(crate) fn new(clock: &'a C, stream: &'a TcpStream, since: Instant, millis: u64) -> Timed<'a, C> {
+    pub(crate) fn new(
+        clock: &'a C,
+        stream: &'a TcpStream,
+        since: Instant,
+        millis: u64,
+    ) -> Timed<'a, C> {
         Timed {
             clock,
             stream,

@@ -52,7 +52,9 @@ fn answer<D: Disk, R: Read, W: Write>(
     writer: W,
     served: &mut Served<D>,
 ) -> Result<(), AllocError>
-    where R: Drop, W: Drop
+where
+    R: Drop,
+    W: Drop,
     ensures { MaySubmit offered served.old served.new }
 {
     let mut reader = Counted::new(reader);

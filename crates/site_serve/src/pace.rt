@@ -15,6 +15,7 @@ const IDLE: u32 = 200;
 
 /// How many microseconds a server rests behind a round in which nothing came, while it is busy, and once it is idle.
 const REST: u64 = 50;
+
 const LONG_REST: u64 = 1500;
 
 /// How many milliseconds a node waits before its first tick: longer at nodes of greater numbers, so that two do not try as one.
