@@ -20,14 +20,12 @@ use http_read::Counted;
 use site_disk::{Disk, FileDisk};
 use site_drive::Link;
 use std::alloc::Global;
-use std::fs::File;
 use std::io::Write;
-use std::net::{Net, TcpListener, TcpStream};
-use std::rt::Files;
+use std::rt::HostRuntime;
 
 /// Opens the record and then the sockets.
-fn open<R: Net<Listener = TcpListener, Stream = TcpStream> + Files<File = File>>(
-    rt: &R,
+fn open(
+    rt: &HostRuntime,
     alloc: Global,
     options: &ServeOptions<'_>,
 ) -> Result<(Served<FileDisk>, Watch), Halt>
@@ -60,8 +58,8 @@ fn work<W: Write>(
 }
 
 /// Opens a node, and does its work.
-fn run<R: Net<Listener = TcpListener, Stream = TcpStream> + Files<File = File>, W: Write>(
-    rt: &R,
+fn run<W: Write>(
+    rt: &HostRuntime,
     alloc: Global,
     out: &mut Counted<W>,
     options: &ServeOptions<'_>,
@@ -80,12 +78,8 @@ fn run<R: Net<Listener = TcpListener, Stream = TcpStream> + Files<File = File>, 
 }
 
 /// Runs a node for its rounds. The answer is the exit status.
-pub fn sited<
-    R: Net<Listener = TcpListener, Stream = TcpStream> + Files<File = File>,
-    W: Write,
-    E: Write,
->(
-    rt: &R,
+pub fn sited<W: Write, E: Write>(
+    rt: &HostRuntime,
     alloc: Global,
     out: &mut Counted<W>,
     err: &mut Counted<E>,

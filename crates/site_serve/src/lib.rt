@@ -6,6 +6,7 @@ mod calm;
 mod connections;
 mod engine;
 mod halt;
+mod lately;
 mod openings;
 mod requests;
 mod rounds;

@@ -10,6 +10,7 @@ use crate::watch::Watch;
 use site_drive::UdpLink;
 use std::io;
 use std::net::{Net, SocketAddr, TcpListener, TcpStream, UdpSocket};
+use std::rt::HostRuntime;
 use std::time::Duration;
 
 /// How many milliseconds a receive may wait.
@@ -33,8 +34,8 @@ fn connections<R: Net<Listener = TcpListener, Stream = TcpStream>>(
 }
 
 /// Opens both sockets. Where the system picked the server's own port, the server is found there.
-fn open<R: Net<Listener = TcpListener, Stream = TcpStream>>(
-    rt: &R,
+fn open(
+    rt: &HostRuntime,
     addresses: Addresses,
 ) -> io::Result<Watch>
     requires { IsNode addresses.cluster addresses.me × (length addresses.peers.items ≡ addresses.cluster) }
@@ -53,12 +54,12 @@ fn open<R: Net<Listener = TcpListener, Stream = TcpStream>>(
     let socket = datagrams(rt, *at)?;
     *at = socket.local_addr()?;
     let listener = connections(rt, http)?;
-    Ok(Watch::new(UdpLink::new(socket, peers), listener))
+    Ok(Watch::new(*rt, UdpLink::new(socket, peers), listener))
 }
 
 /// Opens both sockets of a server.
-pub(crate) fn open_sockets<R: Net<Listener = TcpListener, Stream = TcpStream>>(
-    rt: &R,
+pub(crate) fn open_sockets(
+    rt: &HostRuntime,
     addresses: Addresses,
 ) -> Result<Watch, Halt>
     requires { IsNode addresses.cluster addresses.me × (length addresses.peers.items ≡ addresses.cluster) }

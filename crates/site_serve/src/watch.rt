@@ -4,9 +4,11 @@ ghost use Rattle.std.specs.Prelude.{◌≡◌};
 
 use crate::calm::Calm;
 use crate::connections::limit_waiting;
+use crate::lately::Lately;
 use site_drive::{Link, LinkFailed, UdpLink};
 use site_ids::NodeId;
 use std::net::{TcpListener, TcpStream};
+use std::rt::HostRuntime;
 
 /// How many bytes a question has: it is the one message of that length.
 const ASK: usize = 7;
@@ -26,11 +28,12 @@ pub(crate) struct Watch {
     hurry: bool,
     // whether the socket's receives wait
     waits: bool,
+    lately: Lately,
 }
 
 impl Watch {
     /// The link's receives wait, and the listener's accepts do not.
-    pub(crate) fn new(link: UdpLink, listener: TcpListener) -> Watch {
+    pub(crate) fn new(clock: HostRuntime, link: UdpLink, listener: TcpListener) -> Watch {
         Watch {
             link,
             listener,
@@ -38,6 +41,7 @@ impl Watch {
             calm: Calm::new(),
             hurry: false,
             waits: true,
+            lately: Lately::new(clock),
         }
     }
 
@@ -120,6 +124,9 @@ impl Link for Watch {
     fn send(&mut self, to: NodeId, datagram: &[u8]) -> Result<(), LinkFailed> {
         if datagram.get(1) == Some(&PREPARE) {
             self.calm.stir();
+        }
+        if self.lately.holds_back(to, datagram) {
+            return Ok(());
         }
         self.link.send(to, datagram)
     }
