@@ -6,6 +6,8 @@ mod ends;
 #[cfg(test)]
 mod faults;
 #[cfg(test)]
+mod misuses;
+#[cfg(test)]
 mod options;
 #[cfg(test)]
 mod pages;

@@ -1,5 +1,4 @@
-//! Command lines of `siterender`, and the texts of those that are refused.
-use clap::Error;
+//! Command lines of `siterender`.
 use clap::error::ErrorKind;
 use sitectl::render_options;
 use std::alloc::{AllocError, Global};
@@ -59,24 +58,6 @@ fn lines_that_are_refused(rt: HostRuntime) -> Result<(), Fail> {
         let words = words(alloc, line)?;
         let refused = render_options(alloc, words.as_slice());
         assert!(rt; matches!(&refused, Err(e) if e.kind() == kind), "{line}");
-    }
-    Ok(())
-}
-
-fn text_of(alloc: Global, refused: &Error) -> Result<String, AllocError> {
-    format!(in alloc; "{refused}")
-}
-
-#[test]
-fn the_text_of_a_refusal(rt: HostRuntime) -> Result<(), Fail> {
-    let alloc = rt.alloc();
-    let words = words(alloc, "siterender --release x /")?;
-    match render_options(alloc, words.as_slice()) {
-        Ok(_) => return Err(Fail::from("taken")),
-        Err(e) => assert_eq!(rt;
-            text_of(alloc, &e)?.as_str(),
-            "error: invalid value 'x' for '--release <N>': invalid digit found in string\n\nFor more information, try '--help'.\n"
-        ),
     }
     Ok(())
 }

@@ -1,8 +1,7 @@
-//! Command lines of `sited` and `sitecluster`, and what `--help` shows.
+//! Command lines of `sited` and `sitecluster`.
 use crate::options::words;
-use clap::Error;
 use clap::error::ErrorKind;
-use sitectl::{ServeOptions, cluster_options, render_options, sim_options, sited_options};
+use sitectl::{ServeOptions, cluster_options, sited_options};
 use std::alloc::{AllocError, Global};
 use std::test::Fail;
 
@@ -153,40 +152,6 @@ fn lines_of_sitecluster(rt: HostRuntime) -> Result<(), Fail> {
         let words = words(alloc, line)?;
         let refused = cluster_options(alloc, words.as_slice()).err();
         assert!(rt; refused.map(|e| e.kind()) == kind, "{line}");
-    }
-    Ok(())
-}
-
-fn help_of(alloc: Global, refused: Option<Error>) -> Result<String, AllocError> {
-    match refused {
-        Some(e) => format!(in alloc; "{e}"),
-        None => Ok(String::new(alloc)),
-    }
-}
-
-#[test]
-fn help_shows_an_example(rt: HostRuntime) -> Result<(), Fail> {
-    let alloc = rt.alloc();
-    let words = words(alloc, "program --help")?;
-    let words = words.as_slice();
-    let helps = [
-        (
-            render_options(alloc, words).err(),
-            "\n\nExample:\n  tools/frame examples/status/1 | siterender /status\n",
-        ),
-        (sim_options(alloc, words).err(), "  settle\n  show 3\n"),
-        (
-            cluster_options(alloc, words).err(),
-            "  drive 2 9\n  drive 1 9\n  get 1 /_newest\n",
-        ),
-        (
-            sited_options(alloc, words).err(),
-            " --record /var/lib/sited/1.record --format --http 127.0.0.1:8001 --rounds 4294967295 --patience-ms 100 127.0.0.1:7001 127.0.0.1:7002 127.0.0.1:7003\n",
-        ),
-    ];
-    for (refused, end) in helps {
-        let text = help_of(alloc, refused)?;
-        assert!(rt; text.as_str().ends_with(end), "{text}");
     }
     Ok(())
 }

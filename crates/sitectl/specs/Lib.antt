@@ -6,6 +6,7 @@ pub mod Verdict
 pub mod Standing
 pub mod Laws
 pub mod Ends
+pub mod Misuses
 pub mod Options
 pub mod Schedule
 pub mod ScheduleView
