@@ -3,3 +3,4 @@ pub mod Placed
 pub mod ManyRounds
 pub mod ManyPatientRounds
 pub mod Ending
+pub mod Throttled

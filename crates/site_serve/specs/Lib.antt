@@ -3,4 +3,5 @@ pub mod Halts
 pub mod Placing
 pub mod Patience
 pub mod Rounds
+pub mod Throttling
 pub mod Running

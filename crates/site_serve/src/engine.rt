@@ -47,18 +47,18 @@ fn open<R: Net<Listener = TcpListener, Stream = TcpStream> + Files<File = File>>
 }
 
 /// Says that the node is ready, takes its rounds, and says that they are done.
-fn work<C: Clock, W: Write>(
+fn work<'c, C: Clock, W: Write>(
     clock: &C,
     alloc: Global,
     out: &mut Counted<W>,
     served: &mut Served<FileDisk>,
-    watch: &mut Watch,
+    watch: &mut Watch<'c, C>,
     id: u8,
     rounds: u32,
 ) -> Result<(), Halt>
     ensures said { WorkEnds (end_of W.contents out.old out.new) id result }
-    ensures rounds { OnOk result (LeadsTo ⟦<FileDisk as Disk>⟧.stands_for ⟦<Watch as Link>⟧.received ⟦<Watch as Link>⟧.given served.old.node served.new.node watch.old watch.new (TakesRounds served.old.node.cluster served.old.node.me (40 + 10 * id) rounds served.new.node.releases)) }
-    ensures halted { IfErr result (λ why. LeadsTo ⟦<FileDisk as Disk>⟧.stands_for ⟦<Watch as Link>⟧.received ⟦<Watch as Link>⟧.given served.old.node served.new.node watch.old watch.new (BreaksWork served.old.node.cluster served.old.node.me (40 + 10 * id) rounds why)) }
+    ensures rounds { OnOk result (LeadsTo ⟦<FileDisk as Disk>⟧.stands_for ⟦<Watch<'c, C> as Link>⟧.received ⟦<Watch<'c, C> as Link>⟧.given served.old.node served.new.node watch.old watch.new (TakesRounds served.old.node.cluster served.old.node.me (40 + 10 * id) rounds served.new.node.releases)) }
+    ensures halted { IfErr result (λ why. LeadsTo ⟦<FileDisk as Disk>⟧.stands_for ⟦<Watch<'c, C> as Link>⟧.received ⟦<Watch<'c, C> as Link>⟧.given served.old.node served.new.node watch.old watch.new (BreaksWork served.old.node.cluster served.old.node.me (40 + 10 * id) rounds why)) }
 {
     say_ready(alloc, out, id)?;
     take_rounds(clock, alloc, served, watch, turns_of(id), rounds)?;
@@ -99,7 +99,7 @@ fn start<C: Clock, W: Write>(
 {
     let (id, rounds) = (options.id, options.rounds);
     let Some(patience) = options.patience else {
-        let mut watch = Watch::new(link, door);
+        let mut watch = Watch::new(clock, link, door);
         return work(clock, alloc, out, served, &mut watch, id, rounds);
     };
     let mut link = PatientLink::new(link, door);

@@ -3,12 +3,14 @@
 
 mod addresses;
 mod answers;
+mod attempt_message;
 mod calm;
 mod client;
 mod connections;
 mod door;
 mod engine;
 mod halt;
+mod lately;
 mod openings;
 mod pace;
 mod patient;
@@ -20,6 +22,7 @@ mod serve_options;
 mod served;
 mod serving_node;
 mod sockets;
+mod throttled_link;
 mod watch;
 
 pub use connections::{answer_connection, limit_waiting};

@@ -27,11 +27,11 @@ pub(crate) fn turns_of(node: u8) -> u32
 /// One connection served, where one is there.
 ///
 /// A submission that was taken while nothing waited hurries the next drive, so that its tick comes at once.
-fn serve_one<D: Disk, C: Clock>(
+fn serve_one<'c, D: Disk, C: Clock>(
     clock: &C,
     alloc: Global,
     served: &mut Served<D>,
-    watch: &mut Watch,
+    watch: &mut Watch<'c, C>,
 ) -> Result<(), Halt>
     ensures taken { MaySubmit offered served.old served.new }
     ensures link { watch.new.link ≡ watch.old.link }
@@ -46,39 +46,39 @@ fn serve_one<D: Disk, C: Clock>(
 }
 
 /// One drive, and then one connection served, where one is there.
-fn take_round<D: Disk, C: Clock>(
+fn take_round<'c, D: Disk, C: Clock>(
     clock: &C,
     alloc: Global,
     served: &mut Served<D>,
-    watch: &mut Watch,
+    watch: &mut Watch<'c, C>,
     turns: u32,
 ) -> Result<(), Halt>
-    ensures ok { OnOk result (LeadsTo D.stands_for ⟦<Watch as Link>⟧.received ⟦<Watch as Link>⟧.given served.old.node served.new.node watch.old watch.new (TakesRound served.old.node.cluster served.old.node.me turns served.new.node.releases)) }
-    ensures fault { IfErr result (λ why. LeadsTo D.stands_for ⟦<Watch as Link>⟧.received ⟦<Watch as Link>⟧.given served.old.node served.new.node watch.old watch.new (BreaksRound served.old.node.cluster served.old.node.me turns why)) }
+    ensures ok { OnOk result (LeadsTo D.stands_for ⟦<Watch<'c, C> as Link>⟧.received ⟦<Watch<'c, C> as Link>⟧.given served.old.node served.new.node watch.old watch.new (TakesRound served.old.node.cluster served.old.node.me turns served.new.node.releases)) }
+    ensures fault { IfErr result (λ why. LeadsTo D.stands_for ⟦<Watch<'c, C> as Link>⟧.received ⟦<Watch<'c, C> as Link>⟧.given served.old.node served.new.node watch.old watch.new (BreaksRound served.old.node.cluster served.old.node.me turns why)) }
     ensures ends { IfErr result EndsRounds }
     ensures whose { StaysWhose served.old.node served.new.node }
-    ensures tried { OnOk result (RoseBy turns (⟦<Watch as Link>⟧.tried watch.old) (⟦<Watch as Link>⟧.tried watch.new)) }
-    ensures tried_fewer { OnErr result ((made : ℕ) × (made ≤ turns) × RoseBy made (⟦<Watch as Link>⟧.tried watch.old) (⟦<Watch as Link>⟧.tried watch.new)) }
+    ensures tried { OnOk result (RoseBy turns (⟦<Watch<'c, C> as Link>⟧.tried watch.old) (⟦<Watch<'c, C> as Link>⟧.tried watch.new)) }
+    ensures tried_fewer { OnErr result ((made : ℕ) × (made ≤ turns) × RoseBy made (⟦<Watch<'c, C> as Link>⟧.tried watch.old) (⟦<Watch<'c, C> as Link>⟧.tried watch.new)) }
 {
     drive(alloc, &mut served.node, watch, turns)?;
     serve_one(clock, alloc, served, watch)
 }
 
 /// So many rounds.
-pub(crate) fn take_rounds<D: Disk, C: Clock>(
+pub(crate) fn take_rounds<'c, D: Disk, C: Clock>(
     clock: &C,
     alloc: Global,
     served: &mut Served<D>,
-    watch: &mut Watch,
+    watch: &mut Watch<'c, C>,
     turns: u32,
     rounds: u32,
 ) -> Result<(), Halt>
-    ensures ok { OnOk result (LeadsTo D.stands_for ⟦<Watch as Link>⟧.received ⟦<Watch as Link>⟧.given served.old.node served.new.node watch.old watch.new (TakesRounds served.old.node.cluster served.old.node.me turns rounds served.new.node.releases)) }
-    ensures fault { IfErr result (λ why. LeadsTo D.stands_for ⟦<Watch as Link>⟧.received ⟦<Watch as Link>⟧.given served.old.node served.new.node watch.old watch.new (BreaksRounds served.old.node.cluster served.old.node.me turns rounds why)) }
+    ensures ok { OnOk result (LeadsTo D.stands_for ⟦<Watch<'c, C> as Link>⟧.received ⟦<Watch<'c, C> as Link>⟧.given served.old.node served.new.node watch.old watch.new (TakesRounds served.old.node.cluster served.old.node.me turns rounds served.new.node.releases)) }
+    ensures fault { IfErr result (λ why. LeadsTo D.stands_for ⟦<Watch<'c, C> as Link>⟧.received ⟦<Watch<'c, C> as Link>⟧.given served.old.node served.new.node watch.old watch.new (BreaksRounds served.old.node.cluster served.old.node.me turns rounds why)) }
     ensures ends { IfErr result EndsRounds }
     ensures whose { StaysWhose served.old.node served.new.node }
-    ensures tried { OnOk result (RoseBy (rounds * turns) (⟦<Watch as Link>⟧.tried watch.old) (⟦<Watch as Link>⟧.tried watch.new)) }
-    ensures tried_fewer { OnErr result ((made : ℕ) × (made ≤ rounds * turns) × RoseBy made (⟦<Watch as Link>⟧.tried watch.old) (⟦<Watch as Link>⟧.tried watch.new)) }
+    ensures tried { OnOk result (RoseBy (rounds * turns) (⟦<Watch<'c, C> as Link>⟧.tried watch.old) (⟦<Watch<'c, C> as Link>⟧.tried watch.new)) }
+    ensures tried_fewer { OnErr result ((made : ℕ) × (made ≤ rounds * turns) × RoseBy made (⟦<Watch<'c, C> as Link>⟧.tried watch.old) (⟦<Watch<'c, C> as Link>⟧.tried watch.new)) }
 {
     for _ in 0..rounds {
         take_round(clock, alloc, served, watch, turns)?;

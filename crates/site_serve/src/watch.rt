@@ -3,24 +3,24 @@
 ghost use Rattle.std.specs.Prelude.{◌≡◌};
 
 use crate::answers::{Answers, instance_of};
+use crate::attempt_message::PREPARE;
 use crate::calm::Calm;
 use crate::client::Client;
 use crate::door::Door;
+use crate::throttled_link::ThrottledLink;
 use site_drive::{Link, LinkFailed, UdpLink};
 use site_ids::NodeId;
+use std::rt::Clock;
 
 /// How many bytes a question has: it is the one message of that length.
 const ASK: usize = 7;
-
-/// The second byte of a prepare.
-const PREPARE: u8 = 1;
 
 /// A link, and the door that is looked at while the link is used.
 ///
 /// A receive does not wait where no exchange may be in flight and a connection is held, or a hurry was told, or this round's question was answered.
 #[derive(Drop)]
-pub(crate) struct Watch {
-    link: UdpLink,
+pub(crate) struct Watch<'c, C> {
+    link: ThrottledLink<'c, UdpLink, C>,
     door: Door,
     calm: Calm,
     hurry: bool,
@@ -29,11 +29,11 @@ pub(crate) struct Watch {
     waits: bool,
 }
 
-impl Watch {
+impl<'c, C: Clock> Watch<'c, C> {
     /// The link's receives wait.
-    pub(crate) fn new(link: UdpLink, door: Door) -> Watch {
+    pub(crate) fn new(clock: &'c C, link: UdpLink, door: Door) -> Watch<'c, C> {
         Watch {
-            link,
+            link: ThrottledLink::new(link, clock),
             door,
             calm: Calm::new(),
             hurry: false,
@@ -68,7 +68,7 @@ impl Watch {
     {
         let goes_on = held || self.hurry || self.answers.have_come();
         let waits = !(self.is_calm() && goes_on);
-        if waits != self.waits && self.link.set_waiting(waits).is_ok() {
+        if waits != self.waits && self.link.link.set_waiting(waits).is_ok() {
             self.waits = waits;
         }
     }
@@ -94,16 +94,16 @@ impl Watch {
     }
 }
 
-impl Link for Watch {
+impl<C: Clock> Link for Watch<'_, C> {
     ghost use Rattle.std.specs.Prelude.{⊤};
 
     ghost received = { λ _ _. ⊤ };
 
     ghost given = { λ _ _. ⊤ };
 
-    ghost tried = { λ w. ⟦<UdpLink as Link>⟧.tried w.link };
+    ghost tried = { λ w. ⟦<UdpLink as Link>⟧.tried w.link.link };
 
-    ghost failed = { λ w. ⟦<UdpLink as Link>⟧.failed w.link };
+    ghost failed = { λ w. ⟦<UdpLink as Link>⟧.failed w.link.link };
 
     fn receive(&mut self, buf: &mut [u8]) -> Result<Option<usize>, LinkFailed> {
         let held = self.door.accept();

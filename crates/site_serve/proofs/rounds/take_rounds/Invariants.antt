@@ -10,5 +10,5 @@ invariant-loop g l = record {
   within : l.counter ≤ l.rounds;
   leads : LeadsTo g.D.Disk.stands_for (λ w ds. ⊤) (λ w gs. ⊤) l.fn.served.node l.served.node l.fn.watch l.watch (TakesRounds l.fn.served.node.cluster l.fn.served.node.me l.turns l.counter l.served.node.releases);
   whose : StaysWhose l.fn.served.node l.served.node;
-  tried : RoseBy (l.counter * l.turns) l.fn.watch.link.tries l.watch.link.tries;
+  tried : RoseBy (l.counter * l.turns) l.fn.watch.link.link.tries l.watch.link.link.tries;
 }
