@@ -6,12 +6,12 @@ use Rattle.node.specs.declared.fault.NodeFault.{NodeFault}
 use Rattle.node.specs.declared.fault.NodeFault.TheVariants.{OutOfMemory, InstancesUsedUp}
 use Rattle.node.specs.declared.to.To.{To}
 use Rattle.node.specs.declared.running.Node.{Node as Running}
-use Rattle.node.specs.Nodes.{Node, WantsTick, IsKnownPrefix}
+use Rattle.node.specs.Nodes.{Node, IsKnownPrefix}
 use Rattle.node.specs.Calls.{Call, tick, widen, ask, Begins, MayWiden, Does}
 use Rattle.node.specs.Effects.{Effect, quiet}
 use Rattle.node.specs.Endings.{Ending, Whole, Refused, Failed, Ends}
 use Rattle.node.specs.Standing.{ending_by}
-use Rattle.site_drive.specs.Drives.{Begin, Widens, TicksAndWidens, EndsLast, EndsTurns, sent_of, Scene, Exchanges, GivesUp, Closes, GivesUpLast, DrivesWith, GivesUpDrivingWith}
+use Rattle.site_drive.specs.Drives.{Begin, Widens, EndsLast, EndsTurns, sent_of, Scene, Exchanges, GivesUp, Closes, GivesUpLast, DrivesWith, GivesUpDrivingWith}
 use Rattle.site_drive.specs.Leading.{NodeLeads, Called, LeadsTo, StaysWhose}
 use Rattle.site_drive.specs.declared.last_call.LastCall.{LastCall}
 use Rattle.site_drive.specs.declared.last_call.LastCall.TheVariants.{TickOrAsk, Widen, Ask}

@@ -1,5 +1,5 @@
 -- Turn after turn.
-use Rattle.std.proofs.Common.{◌≡◌, ◌≢◌, ◌⊎◌, inl, inr, ⊎_elim, ℕ, zero, suc, ◌+◌, ◌≤◌, ◌<◌, Option, Some, None, List, [], ◌∷◌, ◌++◌, length, take, refl, sym, ap, subst, ◌∙◌, append-nil, append_assoc, arith}
+use Rattle.std.proofs.Common.{◌≡◌, inl, inr, ⊎_elim, ℕ, ◌+◌, ◌<◌, Some, None, List, [], ◌∷◌, ◌++◌, length, take, refl, sym, ap, subst, ◌∙◌, append-nil, append_assoc, arith}
 use Rattle.std.proofs.lemmas.List.{length-append}
 use Rattle.std.proofs.lemmas.Grind.{flat_map-append}
 use Rattle.std.proofs.Math.Seq.{take-append-add}
@@ -10,7 +10,7 @@ use Rattle.node.specs.declared.fault.NodeFault.TheVariants as fault
 use Rattle.node.specs.declared.to.To.{To}
 use Rattle.node.specs.declared.running.Node.{Node as Running}
 use Rattle.node.specs.Nodes.{Node}
-use Rattle.site_drive.specs.Drives.{Heard, TakesAll, datagrams, addressed, sent_of, Scene, Exchanges, GivesUp, BreaksOff, IsPartlyGiven}
+use Rattle.site_drive.specs.Drives.{Heard, TakesAll, datagrams, addressed, sent_of, Scene, Exchanges, GivesUp}
 use Rattle.site_drive.specs.Leading.{LeadsTo, StaysWhose}
 
 takes_on : (n p : ℕ) (s mid next : Node) (hs ks : List Heard) (a b : ℕ) (first later : List (To × Message))

@@ -1,4 +1,4 @@
-use Rattle.std.proofs.Common.{◌≡◌, refl, sym, subst}
+use Rattle.std.proofs.Common.{refl, sym, subst}
 use Rattle.durable.proofs.Results.{on_err}
 use Rattle.site_drive.specs.Drives.{Exchanges}
 use Rattle.site_drive.specs.Leading.{LeadsTo}

@@ -1,4 +1,4 @@
-use Rattle.std.proofs.Common.{◌≡◌, ◌≤◌, ◌<◌, ℕ, ◌+◌, refl, sym, ap, subst, ◌∙◌, arith}
+use Rattle.std.proofs.Common.{◌+◌, arith}
 use Rattle.durable.proofs.Results.{on_err}
 use Rattle.site_drive.proofs.Counting.{counted_on, rose_on}
 use Rattle.site_drive.proofs.Results.{err_gives}
