@@ -1,5 +1,5 @@
 -- Failed calls, counted twice.
-use Rattle.std.proofs.Common.{◌≡◌, ℕ, ◌+◌, ◌-◌, ◌^◌, ◌<◌, ◌≤◌, min, refl, arith}
+use Rattle.std.proofs.Common.{◌≡◌, ℕ, ◌+◌, ◌-◌, ◌^◌, ◌<◌, min, arith}
 use Rattle.site_drive.specs.Links.{RoseBy}
 use Rattle.site_drive.specs.Sending.{Counted}
 

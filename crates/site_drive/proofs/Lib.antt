@@ -4,6 +4,5 @@ pub mod Results
 pub mod Giving
 pub mod Turning
 pub mod ManyTurns
+pub mod Calling
 pub mod Closing
-pub mod Spreading
-pub mod Questioning

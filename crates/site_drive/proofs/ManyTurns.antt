@@ -1,5 +1,5 @@
 -- Turn after turn.
-use Rattle.std.proofs.Common.{◌≡◌, ◌≢◌, ◌⊎◌, inl, inr, ⊎_elim, ℕ, zero, suc, ◌+◌, ◌≤◌, ◌<◌, Option, Some, None, List, [], ◌∷◌, ◌++◌, length, take, refl, sym, ap, subst, ◌∙◌, append-nil, append_assoc, arith}
+use Rattle.std.proofs.Common.{◌≡◌, inl, inr, ⊎_elim, ℕ, ◌+◌, ◌<◌, Some, None, List, [], ◌∷◌, ◌++◌, length, take, refl, sym, ap, subst, ◌∙◌, append-nil, append_assoc, arith}
 use Rattle.std.proofs.lemmas.List.{length-append}
 use Rattle.std.proofs.lemmas.Grind.{flat_map-append}
 use Rattle.std.proofs.Math.Seq.{take-append-add}
@@ -10,7 +10,7 @@ use Rattle.node.specs.declared.fault.NodeFault.TheVariants as fault
 use Rattle.node.specs.declared.to.To.{To}
 use Rattle.node.specs.declared.running.Node.{Node as Running}
 use Rattle.node.specs.Nodes.{Node}
-use Rattle.site_drive.specs.Drives.{Heard, TakesAll, datagrams, addressed, sent_of, Scene, Exchanges, GivesUp, BreaksOff, IsPartlyGiven}
+use Rattle.site_drive.specs.Drives.{Heard, TakesAll, datagrams, addressed, sent_of, Scene, Exchanges, GivesUp}
 use Rattle.site_drive.specs.Leading.{LeadsTo, StaysWhose}
 
 takes_on : (n p : ℕ) (s mid next : Node) (hs ks : List Heard) (a b : ℕ) (first later : List (To × Message))
@@ -93,6 +93,13 @@ module _ {D L : Type 0} (stands_for : D → DiskState → Type 0) (received : L 
         (q.0, all x r.0 q.0 r.1 q.1, q.2, λ d on. let e = r.3 d on in q.3 e.0 e.1);
   }
 
+  -- of the same node
+  pub of_same : (old mid new : Running D) (between after : L) → StaysWhose old mid → (How : ℕ → ℕ → Scene → Scene → Type 0)
+      → LeadsTo stands_for received given mid new between after (How mid.cluster mid.me) → LeadsTo stands_for received given mid new between after (How old.cluster old.me)
+  of_same old mid new between after whose How h =
+      subst (λ p. LeadsTo stands_for received given mid new between after (How old.cluster p)) whose.me
+      (subst (λ n. LeadsTo stands_for received given mid new between after (How n mid.me)) whose.cluster h)
+
   pub none_yet : (code : Running D) (link : L) (n p : ℕ) → LeadsTo stands_for received given code code link link (Exchanges n p 0 0 code.releases)
   none_yet code link n p = record {
     leads = λ x at. (
@@ -111,29 +118,24 @@ module _ {D L : Type 0} (stands_for : D → DiskState → Type 0) (received : L 
     );
   }
 
-  -- one turn more, of the same node
+  -- one turn more
   module _ (old mid new : Running D) (before between after : L) (whose : StaysWhose old mid) (a malformed : ℕ) (fed : List (List ℕ))
       (earlier : LeadsTo stands_for received given old mid before between (Exchanges old.cluster old.me a malformed fed))
     where
-      of_same : (How : ℕ → ℕ → Scene → Scene → Type 0) → LeadsTo stands_for received given mid new between after (How mid.cluster mid.me)
-          → LeadsTo stands_for received given mid new between after (How old.cluster old.me)
-      of_same How h =
-          subst (λ p. LeadsTo stands_for received given mid new between after (How old.cluster p)) whose.me
-          (subst (λ n. LeadsTo stands_for received given mid new between after (How n mid.me)) whose.cluster h)
-
       pub one_turn_more : (one : ℕ) (fed_then : List (List ℕ)) → LeadsTo stands_for received given mid new between after (Exchanges mid.cluster mid.me 1 one fed_then)
           → LeadsTo stands_for received given old new before after (Exchanges old.cluster old.me (a + 1) (malformed + one) fed_then)
       one_turn_more one fed_then h =
           leads_on old mid new before between after (Exchanges old.cluster old.me a malformed fed) (Exchanges old.cluster old.me 1 one fed_then) (Exchanges old.cluster old.me (a + 1) (malformed + one) fed_then)
-          earlier (of_same (λ n p. Exchanges n p 1 one fed_then) h)
+          earlier (of_same old mid new between after whose (λ n p. Exchanges n p 1 one fed_then) h)
           (λ x y z first last. exchanged_on old.cluster old.me a malformed fed x y first one fed_then z last)
 
-      pub one_turn_too_many : (turns : ℕ) (why : NodeFault) → a < turns → LeadsTo stands_for received given mid new between after (GivesUp mid.cluster mid.me 1 why)
-          → LeadsTo stands_for received given old new before after (GivesUp old.cluster old.me turns why)
-      one_turn_too_many turns why below h =
-          leads_on old mid new before between after (Exchanges old.cluster old.me a malformed fed) (GivesUp old.cluster old.me 1 why) (GivesUp old.cluster old.me turns why)
-          earlier (of_same (λ n p. GivesUp n p 1 why) h)
-          (λ x y z first last. gave_up_on old.cluster old.me a malformed fed x y first turns why z below last)
+      pub one_turn_too_many : (turns : ℕ) (why told : NodeFault) → told ≡ why → a < turns → LeadsTo stands_for received given mid new between after (GivesUp mid.cluster mid.me 1 why)
+          → LeadsTo stands_for received given old new before after (GivesUp old.cluster old.me turns told)
+      one_turn_too_many turns why told is below h =
+          subst (λ w. LeadsTo stands_for received given old new before after (GivesUp old.cluster old.me turns w)) (sym is)
+          (leads_on old mid new before between after (Exchanges old.cluster old.me a malformed fed) (GivesUp old.cluster old.me 1 why) (GivesUp old.cluster old.me turns why)
+          earlier (of_same old mid new between after whose (λ n p. GivesUp n p 1 why) h)
+          (λ x y z first last. gave_up_on old.cluster old.me a malformed fed x y first turns why z below last))
 
 pub stays_on : {D : Type 0} (old mid new : Running D) → StaysWhose old mid → StaysWhose mid new → StaysWhose old new
 stays_on old mid new first then = record {
@@ -144,8 +146,8 @@ stays_on old mid new first then = record {
 
 -- memory was wanted before the first turn
 pub none_taken : {D L : Type 0} (stands_for : D → DiskState → Type 0) (received : L → List (List ℕ) → Type 0) (given : L → List (ℕ × List ℕ) → Type 0) (code : Running D) (link : L) (n p turns : ℕ)
-    → LeadsTo stands_for received given code code link link (GivesUp n p turns fault.OutOfMemory)
-none_taken stands_for received given code link n p turns = record {
+    (told : NodeFault) → told ≡ fault.OutOfMemory → LeadsTo stands_for received given code code link link (GivesUp n p turns told)
+none_taken stands_for received given code link n p turns told is = record {
   leads = λ x at. (
     x,
     record {
@@ -155,7 +157,7 @@ none_taken stands_for received given code link n p turns = record {
       mid = x.node;
       taken = (refl, refl, refl);
       given = (0, sym (append-nil x.given));
-      how = inr (refl, refl, sym (append-nil x.received), omega arith);
+      how = inr (is, refl, sym (append-nil x.received), omega arith);
     },
     at,
     λ d on. (d, on),

@@ -1,6 +1,6 @@
 -- What a receive gives of a datagram.
-use Rattle.std.proofs.Common.{◌≡◌, ℕ, zero, suc, ◌+◌, ◌-◌, ◌<◌, ◌≤◌, min, slice_index_or, List, [], ◌∷◌, ◌++◌, take, drop, map, length, Vec, refl, sym, ap, subst, ◌∙◌, arith}
-use Rattle.std.proofs.lemmas.List.{length-append, length-take, length-drop, take-append-le, take_min}
+use Rattle.std.proofs.Common.{◌≡◌, ℕ, zero, suc, ◌+◌, ◌<◌, min, slice_index_or, List, [], ◌∷◌, ◌++◌, take, drop, map, length, Vec, refl, sym, ap, subst, ◌∙◌, arith}
+use Rattle.std.proofs.lemmas.List.{length-append, length-take, length-drop, take_min}
 use Rattle.std.proofs.Math.Seq.{take-append_seam}
 
 pub take_of_take : {X : Type 0} (n : ℕ) (xs : List X) → take n xs ≡ take (length xs) (take n xs)

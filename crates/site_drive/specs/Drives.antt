@@ -1,4 +1,4 @@
--- What a drive does with its node: turn after turn, and then a tick with widenings, or a question.
+-- What a drive does with its node: turn after turn, and then a tick with widenings, or a question, or what else is called there.
 use Rattle.std.specs.Prelude.{◌≡◌, ◌≢◌, ◌⊎◌, ℕ, zero, suc, ◌+◌, ◌≤◌, Option, Some, None, List, [], ◌∷◌, ◌++◌, length, map, take, flat_map}
 use Rattle.wire.specs.declared.message.Message.{Message}
 use Rattle.wire.specs.Decoding.{Spells}
@@ -11,6 +11,8 @@ use Rattle.node.specs.Nodes.{Node, WantsTick, IsKnownPrefix}
 use Rattle.node.specs.Calls.{tick, widen, ask, deliver, MayWiden}
 use Rattle.node.specs.Endings.{Ending, Whole, Refused, Ends}
 use Rattle.node.specs.Standing.{ending_by}
+use Rattle.site_drive.specs.declared.last_call.LastCall.{LastCall}
+use Rattle.site_drive.specs.declared.last_call.LastCall.TheVariants.{TickOrAsk, Widen, Ask}
 
 -- ---- turns
 
@@ -98,27 +100,38 @@ pub record TicksAndWidens (n p : ℕ) (s : Node) (ending : Ending) (out : List (
   pub out_is : out ≡ ticked ++ widened
 
 -- Where a tick is wanted, it ends so and isn't whole, or widenings follow it, of which the last ends so. Else a question does
-abbrev pub EndsLast : ℕ → ℕ → Node → Ending → List (To × Message) → Node → Type 0
-EndsLast n p s ending out next =
+abbrev pub TicksOrAsks : ℕ → ℕ → Node → Ending → List (To × Message) → Node → Type 0
+TicksOrAsks n p s ending out next =
     (WantsTick s × (((ending ≢ Whole) × Ends n p s tick ending out next) ⊎ TicksAndWidens n p s ending out next))
     ⊎ ((¬ WantsTick s) × Ends n p s ask ending out next)
 
--- the last call is whole, or it is passed over, as every instance is known
-abbrev pub EndsTurns : ℕ → ℕ → Node → List (To × Message) → Node → Type 0
-EndsTurns n p s out next = EndsLast n p s Whole out next ⊎ EndsLast n p s (Refused InstancesUsedUp) out next
+-- the calls behind the last turn end so
+abbrev pub EndsLast : LastCall → ℕ → ℕ → Node → Ending → List (To × Message) → Node → Type 0
+EndsLast TickOrAsk n p s ending out next = TicksOrAsks n p s ending out next
+EndsLast Widen n p s ending out next = Widens n p s ending out next
+EndsLast Ask n p s ending out next = Ends n p s ask ending out next
 
-pub record Closes (n p : ℕ) (before after : Scene) : Type 0 where
+-- they are whole, or passed over, as every instance is known
+abbrev pub EndsTurns : LastCall → ℕ → ℕ → Node → List (To × Message) → Node → Type 0
+EndsTurns last n p s out next = EndsLast last n p s Whole out next ⊎ EndsLast last n p s (Refused InstancesUsedUp) out next
+
+-- what they hand out is given to the link
+pub record Closes (last : LastCall) (n p : ℕ) (before after : Scene) : Type 0 where
   pub out : List (To × Message)
-  pub ends : EndsTurns n p before.node out after.node
+  pub ends : EndsTurns last n p before.node out after.node
   pub received : after.received ≡ before.received
   pub given : after.given ≡ before.given ++ sent_of n out
 
--- a drive is its turns and what is behind the last one
-pub record Drives (n p turns malformed : ℕ) (fed : List (List ℕ)) (before after : Scene) : Type 0 where
+-- turns, and what is behind the last one
+pub record DrivesWith (last : LastCall) (n p turns malformed : ℕ) (fed : List (List ℕ)) (before after : Scene) : Type 0 where
   pub mid : Scene
   pub turns_first : Exchanges n p turns malformed fed before mid
-  pub then_closes : Closes n p mid after
+  pub then_closes : Closes last n p mid after
   pub fed_is : turns ≢ 0 → IsKnownPrefix after.node fed
+
+-- in a drive, a tick with widenings, or a question
+abbrev pub Drives : ℕ → ℕ → ℕ → ℕ → List (List ℕ) → Scene → Scene → Type 0
+Drives = DrivesWith TickOrAsk
 
 -- ---- given up
 
@@ -144,15 +157,19 @@ pub record GivesUp (n p turns : ℕ) (fault : NodeFault) (before after : Scene) 
       ((bytes : List ℕ) × BreaksOff n p mid bytes fault after.node × (after.received ≡ before.received ++ datagrams (heard ++ Some bytes ∷ [])) × (suc (length heard) ≤ turns))
       ⊎ ((fault ≡ OutOfMemory) × (after.node ≡ mid) × (after.received ≡ before.received ++ datagrams heard) × (length heard ≤ turns))
 
--- given up behind the last turn: the last call ended by this fault, or memory was wanted to send what was handed out
-pub record GivesUpLast (n p : ℕ) (fault : NodeFault) (before after : Scene) : Type 0 where
+-- given up behind the last turn: the last call ended by this fault, which isn't passed over, or memory was wanted to send what was handed out
+pub record GivesUpLast (last : LastCall) (n p : ℕ) (fault : NodeFault) (before after : Scene) : Type 0 where
   pub out : List (To × Message)
-  pub ends : EndsLast n p before.node (ending_by fault) out after.node ⊎ ((fault ≡ OutOfMemory) × EndsTurns n p before.node out after.node)
+  pub ends : EndsLast last n p before.node (ending_by fault) out after.node ⊎ ((fault ≡ OutOfMemory) × EndsTurns last n p before.node out after.node)
+  pub other : fault ≢ InstancesUsedUp
   pub received : after.received ≡ before.received
   pub given : IsPartlyGiven n out before after
 
 -- given up in a turn, or behind all of them
-abbrev pub GivesUpDriving : ℕ → ℕ → ℕ → NodeFault → Scene → Scene → Type 0
-GivesUpDriving n p turns fault before after =
+abbrev pub GivesUpDrivingWith : LastCall → ℕ → ℕ → ℕ → NodeFault → Scene → Scene → Type 0
+GivesUpDrivingWith last n p turns fault before after =
     GivesUp n p turns fault before after
-    ⊎ ((mid : Scene) × (malformed : ℕ) × (fed : List (List ℕ)) × Exchanges n p turns malformed fed before mid × GivesUpLast n p fault mid after)
+    ⊎ ((mid : Scene) × (malformed : ℕ) × (fed : List (List ℕ)) × Exchanges n p turns malformed fed before mid × GivesUpLast last n p fault mid after)
+
+abbrev pub GivesUpDriving : ℕ → ℕ → ℕ → NodeFault → Scene → Scene → Type 0
+GivesUpDriving = GivesUpDrivingWith TickOrAsk

@@ -1,10 +1,16 @@
 -- How calls over a node and a link lead from scene to scene.
 use Rattle.std.specs.Prelude.{◌≡◌, ℕ, Option, Some, None, List, ◌++◌, take, length, ⊤}
+use Rattle.site_ids.specs.Lists.{In}
 use Rattle.site_disk.specs.Model.{DiskState}
+use Rattle.wire.specs.declared.message.Message.{Message}
+use Rattle.wire.specs.Messages.{Fits}
 use Rattle.node.specs.declared.running.Node.{Node as Running}
+use Rattle.node.specs.declared.to.To.{To}
+use Rattle.node.specs.Endings.{Ending}
 use Rattle.node.specs.Nodes.{Node}
 use Rattle.node.specs.Standing.{IsNodeOf, IsOnDisk}
-use Rattle.site_drive.specs.Drives.{Heard, Scene}
+use Rattle.site_drive.specs.Drives.{Heard, Scene, EndsLast}
+use Rattle.site_drive.specs.declared.last_call.LastCall.{LastCall}
 
 -- what the disk keeps of one node it keeps of the next
 abbrev pub KeepsRecord : {D : Type 0} → (D → DiskState → Type 0) → Running D → Running D → Node → Node → Type 0
@@ -13,6 +19,10 @@ KeepsRecord stands_for old new s next = (d : DiskState) → IsOnDisk stands_for 
 -- from each node that the old value stands for, this leads to one that the new value stands for
 pub record NodeLeads {D : Type 0} (stands_for : D → DiskState → Type 0) (old new : Running D) (How : Node → Node → Type 0) : Type 0 where
   pub leads : (s : Node) → IsNodeOf old s → (next : Node) × How s next × IsNodeOf new next × KeepsRecord stands_for old new s next
+
+-- calls behind the last turn end so; what they hand out stands behind what was there, and fits
+abbrev pub Called : LastCall → ℕ → ℕ → Ending → List (To × Message) → List (To × Message) → Node → Node → Type 0
+Called last n p ending before after s next = (out : List (To × Message)) × (after ≡ before ++ out) × EndsLast last n p s ending out next × ((x : To × Message) → In out x → Fits x.1)
 
 -- node and link stand for the scene
 pub record IsAt {D L : Type 0} (received : L → List (List ℕ) → Type 0) (given : L → List (ℕ × List ℕ) → Type 0) (code : Running D) (link : L) (x : Scene) : Type 0 where

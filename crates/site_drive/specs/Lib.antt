@@ -3,5 +3,3 @@ pub mod Memory
 pub mod Sending
 pub mod Drives
 pub mod Leading
-pub mod Widening
-pub mod Asking

@@ -1,5 +1,5 @@
 -- How failed calls of a link are counted.
-use Rattle.std.specs.Prelude.{◌≡◌, ℕ, ◌-◌, ◌^◌}
+use Rattle.std.specs.Prelude.{ℕ}
 use Rattle.site_drive.specs.Links.{RoseBy}
 
 -- as many failed by one's own count as by the link's

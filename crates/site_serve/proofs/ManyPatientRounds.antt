@@ -5,10 +5,9 @@ use Rattle.node.specs.Nodes.{IsKnownPrefix}
 use Rattle.node.specs.Standing.{KeepsOthers}
 use Rattle.node.specs.declared.fault.NodeFault.{NodeFault}
 use Rattle.node.specs.declared.running.Node.{Node as Running}
-use Rattle.site_drive.specs.Drives.{Scene, Drives, GivesUpDriving}
+use Rattle.site_drive.specs.Drives.{Scene, DrivesWith, GivesUpDrivingWith}
 use Rattle.site_drive.specs.Leading.{LeadsTo, StaysWhose}
-use Rattle.site_drive.specs.Asking.{ExchangesAndAsks, GivesUpAsking}
-use Rattle.site_drive.specs.Widening.{ExchangesAndWidens, GivesUpWidening}
+use Rattle.site_drive.specs.declared.last_call.LastCall.{LastCall}
 use Rattle.site_drive.proofs.ManyTurns.{leads_on}
 use Rattle.site_serve.specs.Halts.{of_node}
 use Rattle.site_serve.specs.Patience.{TakesTurn, TakesTurns, TakesPatientRound, TakesPatientRounds, BreaksTurn, BreaksTurns, BreaksPatientRound, BreaksPatientRounds, BreaksPatientWork}
@@ -20,9 +19,7 @@ use Rattle.site_serve.proofs.ManyRounds.{no_steps, one_step_more, still_publishe
 -- ---- what is published
 
 turn_fed : (n p : ℕ) (fed : List (List ℕ)) (x y : Scene) → TakesTurn n p fed x y → IsKnownPrefix y.node fed
-turn_fed n p fed x y (malformed, inl a) = a.fed_is (λ e. absurd (omega (arith, e)))
-turn_fed n p fed x y (malformed, inr (inl d)) = d.fed_is (λ e. absurd (omega (arith, e)))
-turn_fed n p fed x y (malformed, inr (inr w)) = w.fed_is (λ e. absurd (omega (arith, e)))
+turn_fed n p fed x y (last, malformed, d) = d.fed_is (λ e. absurd (omega (arith, e)))
 
 served_fed : (n p : ℕ) (fed : List (List ℕ)) (x : Scene) (ys : List Scene) → AreSteps (Serves n p) x ys → IsKnownPrefix x.node fed → IsKnownPrefix (last_of x ys).node fed
 served_fed n p fed x [] each h = h
@@ -51,24 +48,12 @@ module _ {D L : Type 0} (stands_for : D → DiskState → Type 0) (received : L 
 
   -- ---- a turn
 
-  module _ (old new : Running D) (before after : L) (n p : ℕ) where
-    pub turn_asked : (malformed : ℕ) (fed : List (List ℕ)) → Leads old new before after (ExchangesAndAsks n p 1 malformed fed) → Leads old new before after (TakesTurn n p fed)
-    turn_asked malformed fed h = widened stands_for received given old new before after (ExchangesAndAsks n p 1 malformed fed) (TakesTurn n p fed) (λ x y a. (malformed, inl a)) h
+  module _ (old new : Running D) (before after : L) (last : LastCall) (n p : ℕ) where
+    pub turn_driven : (malformed : ℕ) (fed : List (List ℕ)) → Leads old new before after (DrivesWith last n p 1 malformed fed) → Leads old new before after (TakesTurn n p fed)
+    turn_driven malformed fed h = widened stands_for received given old new before after (DrivesWith last n p 1 malformed fed) (TakesTurn n p fed) (λ x y d. (last, malformed, d)) h
 
-    pub asking_broke : (fault : NodeFault) (why : Halt) → why ≡ of_node fault → Leads old new before after (GivesUpAsking n p 1 fault) → Leads old new before after (BreaksTurn n p why)
-    asking_broke fault why is h = widened stands_for received given old new before after (GivesUpAsking n p 1 fault) (BreaksTurn n p why) (λ x y g. (fault, is, inl g)) h
-
-    pub turn_driven : (malformed : ℕ) (fed : List (List ℕ)) → Leads old new before after (Drives n p 1 malformed fed) → Leads old new before after (TakesTurn n p fed)
-    turn_driven malformed fed h = widened stands_for received given old new before after (Drives n p 1 malformed fed) (TakesTurn n p fed) (λ x y d. (malformed, inr (inl d))) h
-
-    pub turn_widened : (malformed : ℕ) (fed : List (List ℕ)) → Leads old new before after (ExchangesAndWidens n p 1 malformed fed) → Leads old new before after (TakesTurn n p fed)
-    turn_widened malformed fed h = widened stands_for received given old new before after (ExchangesAndWidens n p 1 malformed fed) (TakesTurn n p fed) (λ x y w. (malformed, inr (inr w))) h
-
-    pub driving_broke : (fault : NodeFault) (why : Halt) → why ≡ of_node fault → Leads old new before after (GivesUpDriving n p 1 fault) → Leads old new before after (BreaksTurn n p why)
-    driving_broke fault why is h = widened stands_for received given old new before after (GivesUpDriving n p 1 fault) (BreaksTurn n p why) (λ x y g. (fault, is, inr (inl g))) h
-
-    pub widening_broke : (fault : NodeFault) (why : Halt) → why ≡ of_node fault → Leads old new before after (GivesUpWidening n p 1 fault) → Leads old new before after (BreaksTurn n p why)
-    widening_broke fault why is h = widened stands_for received given old new before after (GivesUpWidening n p 1 fault) (BreaksTurn n p why) (λ x y g. (fault, is, inr (inr g))) h
+    pub driving_broke : (fault : NodeFault) (why : Halt) → why ≡ of_node fault → Leads old new before after (GivesUpDrivingWith last n p 1 fault) → Leads old new before after (BreaksTurn n p why)
+    driving_broke fault why is h = widened stands_for received given old new before after (GivesUpDrivingWith last n p 1 fault) (BreaksTurn n p why) (λ x y g. (last, fault, is, g)) h
 
   -- ---- turns
 

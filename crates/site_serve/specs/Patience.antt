@@ -2,17 +2,16 @@
 use Rattle.std.specs.Prelude.{◌≡◌, ◌≢◌, ◌⊎◌, ℕ, ◌<◌, ◌≤◌, List}
 use Rattle.node.specs.declared.fault.NodeFault.{NodeFault}
 use Rattle.node.specs.Nodes.{IsKnownPrefix}
-use Rattle.site_drive.specs.Drives.{Scene, Drives, GivesUpDriving}
-use Rattle.site_drive.specs.Asking.{ExchangesAndAsks, GivesUpAsking}
-use Rattle.site_drive.specs.Widening.{ExchangesAndWidens, GivesUpWidening}
+use Rattle.site_drive.specs.Drives.{Scene, DrivesWith, GivesUpDrivingWith}
+use Rattle.site_drive.specs.declared.last_call.LastCall.{LastCall}
 use Rattle.site_serve.specs.Halts.{of_node}
 use Rattle.site_serve.specs.Rounds.{Serves, TakesSteps}
 use Rattle.site_serve.specs.declared.halt.Halt.{Halt}
 use Rattle.site_serve.specs.declared.halt.Halt.TheVariants as halt
 
--- one turn, behind which these values are published, and then a question, or what is behind a drive's last turn, or widenings
+-- one turn, behind which these values are published, and then one of the last calls
 abbrev pub TakesTurn : ℕ → ℕ → List (List ℕ) → Scene → Scene → Type 0
-TakesTurn n p fed before after = (malformed : ℕ) × (ExchangesAndAsks n p 1 malformed fed before after ⊎ Drives n p 1 malformed fed before after ⊎ ExchangesAndWidens n p 1 malformed fed before after)
+TakesTurn n p fed before after = (last : LastCall) × (malformed : ℕ) × DrivesWith last n p 1 malformed fed before after
 
 -- so many of them; behind the last, all that is known without a gap is published
 pub record TakesTurns (n p turns : ℕ) (fed : List (List ℕ)) (before after : Scene) : Type 0 where
@@ -37,8 +36,7 @@ pub record TakesPatientRounds (n p rounds : ℕ) (fed : List (List ℕ)) (before
 
 -- a turn that ends its server: it was given up
 abbrev pub BreaksTurn : ℕ → ℕ → Halt → Scene → Scene → Type 0
-BreaksTurn n p why before after =
-    (fault : NodeFault) × (why ≡ of_node fault) × (GivesUpAsking n p 1 fault before after ⊎ GivesUpDriving n p 1 fault before after ⊎ GivesUpWidening n p 1 fault before after)
+BreaksTurn n p why before after = (last : LastCall) × (fault : NodeFault) × (why ≡ of_node fault) × GivesUpDrivingWith last n p 1 fault before after
 
 -- turns, fewer than a round may have, and then one that ends the server
 pub record BreaksTurns (n p : ℕ) (why : Halt) (before after : Scene) : Type 0 where

@@ -1,5 +1,6 @@
 //! When a patient server tries again, when it asks, and how long it rests.
 
+use site_drive::LastCall;
 use std::rt::Clock;
 use std::thread;
 use std::time::{Duration, Instant};
@@ -77,26 +78,39 @@ impl Pace {
     }
 
     /// Whether a question is due: after its time, and at once where the last one was answered, and more is known by that.
-    pub(crate) fn asks_now<C: Clock>(&self, clock: &C, answered: bool) -> bool {
+    fn asks_now<C: Clock>(&self, clock: &C, answered: bool) -> bool {
         (answered && self.known != self.known_then) || has_passed(clock, self.asked, ASKING)
     }
 
     /// It asks.
-    pub(crate) fn begin_question<C: Clock>(&mut self, clock: &C) {
+    fn begin_question<C: Clock>(&mut self, clock: &C) {
         self.asked = Instant::now(clock).ok();
         self.known_then = self.known;
     }
 
     /// Whether a tick is wanted, and has been for so long that it is due.
-    pub(crate) fn ticks_now<C: Clock>(&self, clock: &C, wanted: bool) -> bool {
+    fn ticks_now<C: Clock>(&self, clock: &C, wanted: bool) -> bool {
         let tries = u64::from(self.ticks.saturating_add(1).min(MOST));
         wanted && has_passed(clock, self.since, self.step.saturating_mul(tries))
     }
 
     /// It ticks.
-    pub(crate) fn begin_tick<C: Clock>(&mut self, clock: &C) {
+    fn begin_tick<C: Clock>(&mut self, clock: &C) {
         self.ticks = self.ticks.saturating_add(1);
         self.since = Instant::now(clock).ok();
+    }
+
+    /// A question or a tick where it is due, which begins now, and else widenings.
+    pub(crate) fn due<C: Clock>(&mut self, clock: &C, answered: bool, wanted: bool) -> LastCall {
+        if self.asks_now(clock, answered) {
+            self.begin_question(clock);
+            LastCall::Ask
+        } else if self.ticks_now(clock, wanted) {
+            self.begin_tick(clock);
+            LastCall::TickOrAsk
+        } else {
+            LastCall::Widen
+        }
     }
 
     /// Rests behind a round in which nothing came: no datagram and no client.

@@ -15,7 +15,7 @@ use crate::pace::Pace;
 use crate::patient_link::PatientLink;
 use crate::served::Served;
 use site_disk::Disk;
-use site_drive::{Link, drive, exchange_and_ask, exchange_and_widen};
+use site_drive::{Link, drive_with};
 use std::alloc::Global;
 use std::rt::Clock;
 
@@ -25,7 +25,7 @@ const TURNS: u32 = 257;
 /// How many connections it serves at most.
 const CONNECTIONS: u32 = 16;
 
-/// One turn, and then a question or a tick where that is due, and else widenings.
+/// One turn, and then the call that is due.
 fn take_turn<D: Disk, C: Clock>(
     clock: &C,
     alloc: Global,
@@ -40,15 +40,8 @@ fn take_turn<D: Disk, C: Clock>(
 {
     let wanted = served.node.wants_tick();
     pace.note(clock, served.node.known(), wanted);
-    if pace.asks_now(clock, link.answered()) {
-        pace.begin_question(clock);
-        exchange_and_ask(alloc, &mut served.node, link, 1)?;
-    } else if pace.ticks_now(clock, wanted) {
-        pace.begin_tick(clock);
-        drive(alloc, &mut served.node, link, 1)?;
-    } else {
-        exchange_and_widen(alloc, &mut served.node, link, 1)?;
-    }
+    let last = pace.due(clock, link.answered(), wanted);
+    drive_with(alloc, &mut served.node, link, 1, last)?;
     Ok(())
 }
 

@@ -1,4 +1,4 @@
-use Rattle.std.proofs.Common.{◌≡◌, ◌<◌, ◌≤◌, ℕ, ◌+◌, List, ◌++◌, take, length, slice_index_or, refl, sym, ap, subst, ◌∙◌}
+use Rattle.std.proofs.Common.{◌++◌, take, length, ap, subst, ◌∙◌}
 use Rattle.durable.proofs.Results.{on_err}
 use Rattle.site_ids.specs.Lists.{In}
 use Rattle.site_drive.specs.Drives.{sent_of}

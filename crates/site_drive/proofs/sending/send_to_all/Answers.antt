@@ -1,4 +1,4 @@
-use Rattle.std.proofs.Common.{◌≡◌, ℕ, ◌+◌, ◌≤◌, List, ◌++◌, map, refl, sym, ap, subst, ◌∙◌, arith}
+use Rattle.std.proofs.Common.{◌++◌, map, subst, ◌∙◌}
 use Rattle.site_drive.specs.Drives.{up_to}
 use Rattle.site_drive.proofs.Counting.{counted_on}
 use Rattle.site_drive.proofs.Giving.{next_to}

@@ -1,5 +1,4 @@
-use Rattle.std.proofs.Common.{◌≡◌, ℕ, List, ◌++◌, take, length, refl, sym, ap, subst, ◌∙◌}
-use Rattle.site_drive.specs.Drives.{Heard, datagrams}
+use Rattle.std.proofs.Common.{sym, subst, ◌∙◌}
 use Rattle.site_drive.specs.Leading.{IsHeldAs}
 use Rattle.site_drive.proofs.Turning.{heard_as, written_back}
 use Rattle.site_drive.proofs.desk.Desk.hear.Goals as goal

@@ -1,4 +1,4 @@
-use Rattle.std.proofs.Common.{◌≡◌, ℕ, Err, List, take, length, refl, sym, ap, subst, ◌∙◌}
+use Rattle.std.proofs.Common.{Err, take, subst}
 use Rattle.wire.specs.Decoding.{Spells, Decodes}
 use Rattle.node.specs.declared.fault.NodeFault.TheVariants as fault
 use Rattle.site_drive.specs.Leading.{IsHeldAs}

@@ -1,30 +1,22 @@
-use Rattle.std.proofs.Common.{◌≡◌, ◌≤◌, ◌<◌, ℕ, ◌+◌, refl, sym, ap, subst, ◌∙◌, arith}
+use Rattle.std.proofs.Common.{◌+◌, arith}
 use Rattle.durable.proofs.Results.{on_err}
-use Rattle.site_drive.specs.Drives.{GivesUp}
-use Rattle.site_drive.specs.Leading.{LeadsTo}
 use Rattle.site_drive.proofs.Counting.{counted_on, rose_on}
 use Rattle.site_drive.proofs.Results.{err_gives}
 use Rattle.site_drive.proofs.ManyTurns.{one_turn_more, one_turn_too_many, stays_on}
 use Rattle.site_drive.proofs.desk.Desk.take_turns.Goals as goal
 
--- src/driving.rt:43:26
 pub returns-in_err-malformed-clause-fault : goal.returns-in_err-malformed-clause-fault
 returns-in_err-malformed-clause-fault g c = err_gives c.from_residual.result c.from_residual.ensures.1 λ e is.
     one_turn_too_many g.D.Disk.stands_for g.L.Link.received g.L.Link.given c.args.node.now c.loop-made.node c.turn.new.node c.args.link.now c.loop-made.link c.turn.new.link
-    c.loop-made.invariant.whose c.loop-made.made c.loop-made.malformed c.loop-made.node.releases c.loop-made.invariant.leads c.args.turns e c.loop-made-test.true
-    (subst (λ w. LeadsTo g.D.Disk.stands_for g.L.Link.received g.L.Link.given c.loop-made.node c.turn.new.node c.loop-made.link c.turn.new.link (GivesUp c.loop-made.node.cluster c.loop-made.node.me 1 w))
-    (sym is) c.in_err-malformed.ensures.fault)
+    c.loop-made.invariant.whose c.loop-made.made c.loop-made.malformed c.loop-made.node.releases c.loop-made.invariant.leads c.args.turns _ e is c.loop-made-test.true c.in_err-malformed.ensures.fault
 
--- src/driving.rt:43:26
 pub returns-in_err-malformed-clause-tried_fewer : goal.returns-in_err-malformed-clause-tried_fewer
 returns-in_err-malformed-clause-tried_fewer g c = on_err c.from_residual.result
     (c.loop-made.made + 1, omega (arith, c.loop-made-test.true), rose_on _ _ _ _ _ c.loop-made.invariant.tried c.turn.ensures.tried)
 
--- src/driving.rt:43:26
 pub returns-in_err-malformed-clause-counted : goal.returns-in_err-malformed-clause-counted
 returns-in_err-malformed-clause-counted g c = counted_on _ _ _ _ _ _ c.loop-made.invariant.counted c.turn.ensures.counted
 
--- src/driving.rt:42:9
 pub loop-made-preserved : goal.loop-made-preserved
 loop-made-preserved g c = record {
   within = omega (arith, c.loop-made-test.true);

@@ -1,22 +1,24 @@
 use Rattle.std.proofs.Common.{◌≡◌, true, false, sym, subst, ◌∙◌}
 use Rattle.node.specs.Standing.{ending_of, ending_by}
 use Rattle.node.proofs.Stepping.{ending_err}
-use Rattle.site_drive.proofs.Closing.{Called, asked, tick_short, not_whole, ticked}
+use Rattle.site_drive.specs.declared.last_call.LastCall.TheVariants.{TickOrAsk}
+use Rattle.site_drive.proofs.Calling.{asked_instead, tick_short, not_whole, ticked}
+use Rattle.site_drive.proofs.Closing.{Ended}
 use Rattle.site_drive.proofs.desk.Desk.tick_or_ask.Goals as goal
 
 pub returns-then-not-wants_tick-clause-event : goal.returns-then-not-wants_tick-clause-event
 returns-then-not-wants_tick-clause-event g c =
-    asked g.D.Disk.stands_for c.args.node.now c.ask.new.self (ending_of c.ask.result) c.args.self.now.outbox.items c.ask.new.outbox.items c.requires
+    asked_instead g.D.Disk.stands_for c.args.node.now c.ask.new.self (ending_of c.ask.result) c.args.self.now.outbox.items c.ask.new.outbox.items
     (λ s stands wants. let yet : true ≡ false = sym ((c.wants_tick.ensures s stands).1 wants) ∙ c.if-not-wants_tick.true in absurd (cc)) c.ask.ensures.event
 
 pub returns-in_err-tick-clause-event : goal.returns-in_err-tick-clause-event
 returns-in_err-tick-clause-event g c =
     let why = c.in_err-tick.field-0.0 in
-    subst (λ ending. Called g.D.Disk.stands_for c.args.node.now c.tick.new.self ending c.tick.new.outbox.items) (sym (ending_err c.from_residual.result why c.from_residual.ensures.1))
-    (tick_short g.D.Disk.stands_for c.args.node.now c.tick.new.self (ending_by why) c.args.self.now.outbox.items c.tick.new.outbox.items (not_whole why) c.requires
+    subst (Ended g.D.Disk.stands_for c.args.node.now c.tick.new.self TickOrAsk c.args.self.now.outbox.items c.tick.new.outbox.items) (sym (ending_err c.from_residual.result why c.from_residual.ensures.1))
+    (tick_short g.D.Disk.stands_for c.args.node.now c.tick.new.self (ending_by why) c.args.self.now.outbox.items c.tick.new.outbox.items (not_whole why)
     (λ s stands. (c.wants_tick.ensures s stands).0 c.if-not-wants_tick.false) c.in_err-tick.ensures.event)
 
 pub returns-clause-event : goal.returns-clause-event
 returns-clause-event g c =
-    ticked g.D.Disk.stands_for c.args.node.now c.tick.new.self c.widen_all.new.node (ending_of c.widen_all.result) c.args.self.now.outbox.items c.tick.new.outbox.items c.widen_all.new.self.outbox.items c.requires
-    c.tick.ensures.others (λ s stands. (c.wants_tick.ensures s stands).0 c.if-not-wants_tick.false) c.in_ok-tick.ensures.event c.widen_all.ensures.event
+    ticked g.D.Disk.stands_for c.args.node.now c.tick.new.self c.widen_all.new.node c.tick.ensures.others c.args.self.now.outbox.items c.tick.new.outbox.items c.widen_all.new.self.outbox.items
+    (ending_of c.widen_all.result) (λ s stands. (c.wants_tick.ensures s stands).0 c.if-not-wants_tick.false) c.in_ok-tick.ensures.event c.widen_all.ensures.event

@@ -1,9 +1,8 @@
-use Rattle.std.proofs.Common.{◌≡◌, ℕ, Some, List, [], append-nil, ◌++◌, take, length, refl, sym, ap, subst, ◌∙◌}
+use Rattle.std.proofs.Common.{◌≡◌, ℕ, Some, List, [], append-nil, ◌++◌, take, sym, subst, ◌∙◌}
 use Rattle.site_ids.specs.Lists.{In}
 use Rattle.wire.specs.declared.message.Message.{Message}
 use Rattle.wire.specs.Messages.{Fits}
 use Rattle.node.specs.declared.to.To.{To}
-use Rattle.node.specs.declared.fault.NodeFault.TheVariants as fault
 use Rattle.site_drive.specs.Sending.{Counted}
 use Rattle.site_drive.specs.Drives.{BreaksOff, sent_of}
 use Rattle.site_drive.specs.Leading.{NodeLeads}

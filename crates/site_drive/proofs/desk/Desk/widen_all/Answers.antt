@@ -3,22 +3,22 @@ use Rattle.node.specs.Calls.{widen}
 use Rattle.node.specs.Endings.{Whole}
 use Rattle.node.specs.Standing.{ending_by}
 use Rattle.node.proofs.Stepping.{ending_err}
-use Rattle.site_drive.specs.Leading.{NodeLeads}
+use Rattle.site_drive.specs.declared.last_call.LastCall.TheVariants.{Widen}
 use Rattle.site_drive.proofs.Turning.{nothing_out}
-use Rattle.site_drive.proofs.Closing.{Widened, begun_more, ended, quiet_out}
+use Rattle.site_drive.proofs.Calling.{begun_more, ended, quiet_out}
+use Rattle.site_drive.proofs.Closing.{Ended}
 use Rattle.site_drive.proofs.desk.Desk.widen_all.Goals as goal
 
 pub returns-in_err-widen-clause-event : goal.returns-in_err-widen-clause-event
 returns-in_err-widen-clause-event g c =
     let why = c.in_err-widen.field-0.0 in
-    subst (λ ending. NodeLeads g.D.Disk.stands_for c.args.node.now c.widen.new.self (Widened c.args.node.now.cluster c.args.node.now.me ending c.args.self.now.outbox.items c.widen.new.outbox.items))
-    (sym (ending_err c.from_residual.result why c.from_residual.ensures.1))
-    (ended g.D.Disk.stands_for c.args.node.now c.widening.node c.widen.new.self c.args.self.now.outbox.items c.widening.self.outbox.items c.widen.new.outbox.items c.widening.invariant.others c.widening.invariant.so_far
+    subst (Ended g.D.Disk.stands_for c.args.node.now c.widen.new.self Widen c.args.self.now.outbox.items c.widen.new.outbox.items) (sym (ending_err c.from_residual.result why c.from_residual.ensures.1))
+    (ended g.D.Disk.stands_for c.args.node.now c.widening.node c.widen.new.self c.widening.invariant.others c.args.self.now.outbox.items c.widening.self.outbox.items c.widen.new.outbox.items c.widening.invariant.so_far
     (ending_by why) c.in_err-widen.ensures.event (λ n p s next out stands ends. nothing_out n p s next widen out why ends))
 
 pub returns-clause-event : goal.returns-clause-event
 returns-clause-event g c =
-    ended g.D.Disk.stands_for c.args.node.now c.widening.node c.widen.new.self c.args.self.now.outbox.items c.widening.self.outbox.items c.widen.new.outbox.items c.widening.invariant.others c.widening.invariant.so_far
+    ended g.D.Disk.stands_for c.args.node.now c.widening.node c.widen.new.self c.widening.invariant.others c.args.self.now.outbox.items c.widening.self.outbox.items c.widen.new.outbox.items c.widening.invariant.so_far
     Whole c.in_ok-widen.ensures.event
     (λ n p s next out stands ends.
     quiet_out n p s next out (λ may. let yet : true ≡ false = sym ((c.in_ok-widen.ensures.widened s stands).1 may) ∙ c.if-branch.false in absurd (cc)) ends)
@@ -26,7 +26,7 @@ returns-clause-event g c =
 pub widening-preserved : goal.widening-preserved
 widening-preserved g c = record {
   so_far =
-      begun_more g.D.Disk.stands_for c.args.node.now c.widening.node c.widen.new.self c.args.self.now.outbox.items c.widening.self.outbox.items c.widen.new.outbox.items c.widening.invariant.others c.widening.invariant.so_far
+      begun_more g.D.Disk.stands_for c.args.node.now c.widening.node c.widen.new.self c.widening.invariant.others c.args.self.now.outbox.items c.widening.self.outbox.items c.widen.new.outbox.items c.widening.invariant.so_far
       c.in_ok-widen.ensures.event (λ s stands. (c.in_ok-widen.ensures.widened s stands).0 c.if-branch.true);
   others = record {
     me = c.widen.ensures.others.me ∙ c.widening.invariant.others.me;

@@ -1,7 +1,7 @@
 use Rattle.std.proofs.Common.{◌≡◌, ◌-◌, ◌^◌}
 use Rattle.node.specs.Standing.{KeepsOthers}
 use Rattle.site_drive.specs.Leading.{NodeLeads}
-use Rattle.site_drive.proofs.Closing.{Widening}
+use Rattle.site_drive.proofs.Calling.{Widening}
 use Rattle.site_drive.proofs.desk.Desk.widen_all.Given as goal
 
 abbrev pub invariant-widening : goal.invariant-widening

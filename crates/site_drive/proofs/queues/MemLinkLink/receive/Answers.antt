@@ -1,4 +1,4 @@
-use Rattle.std.proofs.Common.{◌≡◌, ◌<◌, slice_index_or, subst, min, length, take, refl, sym, ap, ◌∙◌}
+use Rattle.std.proofs.Common.{◌≡◌, ◌<◌, slice_index_or, subst, min, length, take, ap, ◌∙◌}
 use Rattle.site_drive.proofs.Receiving.{one_received, cut_to}
 use Rattle.site_drive.proofs.queues.MemLinkLink.receive.Goals as goal
 

@@ -1,0 +1,95 @@
+//! The calls behind the last turn.
+
+ghost use Rattle.std.specs.Prelude.{◌≡◌, ◌≢◌, [], List, IfErr, OnOk};
+ghost use Rattle.site_ids.specs.Lists.{In};
+ghost use Rattle.wire.specs.declared.message.Message.{Message};
+ghost use Rattle.wire.specs.Messages.{Fits};
+ghost use Rattle.node.specs.Standing.{KeepsOthers, ending_by, ending_of};
+ghost use Rattle.node.specs.declared.to.To.{To};
+ghost use Rattle.site_drive.specs.Sending.{Counted};
+ghost use Rattle.site_drive.specs.Drives.{EndsLast, EndsTurns, Closes, GivesUpLast};
+ghost use Rattle.site_drive.specs.Leading.{LeadsTo, NodeLeads, Called};
+
+use crate::desk::Desk;
+use crate::sending::send_all;
+use crate::{LastCall, Link};
+use node::{Node, NodeFault};
+use site_disk::Disk;
+
+impl Desk {
+    /// Widens until no attempt more begins.
+    fn widen_all<D: Disk>(&mut self, node: &mut Node<D>) -> Result<(), NodeFault>
+        ensures event { NodeLeads D.stands_for node.old node.new (Called LastCall.Widen node.old.cluster node.old.me (ending_of result) self.old.outbox.items self.new.outbox.items) }
+        ensures others { KeepsOthers node.old node.new }
+        ensures counted { self.new.failed ≡ self.old.failed }
+    {
+        'widening: while node.widen(&mut self.outbox)? {}
+        Ok(())
+    }
+
+    /// Ticks and then widens where a tick is wanted, and else asks.
+    fn tick_or_ask<D: Disk>(&mut self, node: &mut Node<D>) -> Result<(), NodeFault>
+        ensures event { NodeLeads D.stands_for node.old node.new (Called LastCall.TickOrAsk node.old.cluster node.old.me (ending_of result) self.old.outbox.items self.new.outbox.items) }
+        ensures others { KeepsOthers node.old node.new }
+        ensures counted { self.new.failed ≡ self.old.failed }
+    {
+        if !node.wants_tick() {
+            return node.ask(&mut self.outbox);
+        }
+        node.tick(&mut self.outbox)?;
+        self.widen_all(node)
+    }
+
+    fn call<D: Disk>(&mut self, node: &mut Node<D>, last: LastCall) -> Result<(), NodeFault>
+        ensures event { NodeLeads D.stands_for node.old node.new (Called last node.old.cluster node.old.me (ending_of result) self.old.outbox.items self.new.outbox.items) }
+        ensures others { KeepsOthers node.old node.new }
+        ensures counted { self.new.failed ≡ self.old.failed }
+    {
+        match last {
+            LastCall::TickOrAsk => self.tick_or_ask(node),
+            LastCall::Widen => self.widen_all(node),
+            LastCall::Ask => node.ask(&mut self.outbox),
+        }
+    }
+
+    /// The same. That every instance is known is passed over.
+    fn last_call<D: Disk>(&mut self, node: &mut Node<D>, last: LastCall) -> Result<(), NodeFault>
+        requires { self.old.outbox.items ≡ [] }
+        ensures ok { OnOk result (NodeLeads D.stands_for node.old node.new (λ s next. EndsTurns last node.old.cluster node.old.me s self.new.outbox.items next × ((x : To × Message) → In self.new.outbox.items x → Fits x.1))) }
+        ensures fault { IfErr result (λ fault. NodeLeads D.stands_for node.old node.new (λ s next. (out : List (To × Message)) × EndsLast last node.old.cluster node.old.me s (ending_by fault) out next)) }
+        ensures other { IfErr result (λ fault. fault ≢ NodeFault.InstancesUsedUp) }
+        ensures others { KeepsOthers node.old node.new }
+        ensures counted { self.new.failed ≡ self.old.failed }
+    {
+        match self.call(node, last) {
+            Ok(()) => Ok(()),
+            Err(fault) if fault == NodeFault::InstancesUsedUp => Ok(()),
+            Err(fault) => Err(fault),
+        }
+    }
+
+    /// The calls behind the last turn, and what they hand out is sent.
+    pub(crate) fn close<D: Disk, L: Link>(
+        &mut self,
+        node: &mut Node<D>,
+        link: &mut L,
+        last: LastCall,
+    ) -> Result<(), NodeFault>
+        requires { self.old.outbox.items ≡ [] }
+        ensures ok { OnOk result (LeadsTo D.stands_for L.received L.given node.old node.new link.old link.new (Closes last node.old.cluster node.old.me)) }
+        ensures fault { IfErr result (λ fault. LeadsTo D.stands_for L.received L.given node.old node.new link.old link.new (GivesUpLast last node.old.cluster node.old.me fault)) }
+        ensures others { KeepsOthers node.old node.new }
+        ensures tried { L.tried link.new ≡ L.tried link.old }
+        ensures counted { Counted self.old.failed self.new.failed (L.failed link.old) (L.failed link.new) }
+    {
+        self.last_call(node, last)?;
+        send_all(
+            link,
+            node.cluster(),
+            &self.outbox,
+            &mut self.spelling,
+            &mut self.failed,
+        )?;
+        Ok(())
+    }
+}

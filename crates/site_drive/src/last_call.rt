@@ -1,0 +1,10 @@
+/// What is called behind the last turn.
+#[derive(Clone, Copy, Debug, PartialEq, Eq, Drop)]
+pub enum LastCall {
+    /// A tick and then widenings where a tick is wanted, and else a question.
+    TickOrAsk,
+    /// Widenings: as many attempts begin as there is room and values for.
+    Widen,
+    /// A question, whether a tick is wanted or not.
+    Ask,
+}
