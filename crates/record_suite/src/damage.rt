@@ -1,204 +1,102 @@
-//! A record cut at each byte, and with each byte changed. What these bytes come to is written down from the layout of a record.
+//! A record cut at each byte, and with each byte changed. What these bytes come to is computed from the definition of a record.
+use crate::entry::Entry;
+use crate::listed::{Listed, RECORD, entries, with_byte};
+use crate::recorded::{greatest_round, is_slot, last_round, last_vote};
 use crate::samples::{disk_of, one_of_three};
-use acceptor::Slot;
-use durable::{Record, RecordFault};
+use crate::standing::{refusal, stands_for};
+use durable::Record;
 use site_disk::MemDisk;
-use site_ids::{Ballot, Instance};
+use site_ids::Instance;
 use std::alloc::Global;
 use std::test::Fail;
 
-/// The record of node 2 of 3. At 10 the gate of round 1, at 20 that of the promise of (1, 1) at instance 1, at 35 that of the vote for `ab` at (2, 1)
-/// there, at 52 the last gate.
-const RECORD: [u8; 53] =
-    *b"SITEREC1\x02\x03\x01\x00\x00\x00\x05\x01\x00\x00\x00\x01\x01\x00\x00\x00\x0a\x02\x00\x00\x00\x01\x00\x00\x00\x01\x01\x01\x00\x00\x00\x0c\x03\x00\x00\x00\x01\x00\x00\x00\x02\x01ab\x00";
-
-/// What bytes come to.
-#[derive(Clone, Copy, Debug)]
-enum Told {
-    Refused(RecordFault),
-    /// The last round; then, at an instance, the round and the node of the promise, 0 where there is none, and the value of a vote at that ballot.
-    Reads(u32, u32, (u32, u8), Option<&'static str>),
-}
-
-const NO_RECORD: Told = Told::Refused(RecordFault::NotARecord);
-
-const DAMAGED: Told = Told::Refused(RecordFault::Damaged);
-
-const WHOLE: Told = Told::Reads(1, 1, (2, 1), Some("ab"));
-
-/// Without the last entry.
-const NO_VOTE: Told = Told::Reads(1, 1, (1, 1), None);
-
-/// What stands at the last entry's gate, lengths from one to another, and what so many bytes of the record come to.
-const CUTS: [(u8, usize, usize, Told); 6] = [
-    (1, 0, 10, NO_RECORD),
-    (1, 11, 52, DAMAGED),
-    (1, 53, 53, WHOLE),
-    // What stands behind a closed gate isn't read.
-    (0, 0, 10, NO_RECORD),
-    (0, 11, 35, DAMAGED),
-    (0, 36, 53, NO_VOTE),
+/// Worked out by hand: a place, a byte there, how many entries the record then has, the last round, and the value that is voted for at instance 1.
+const SOME: [(usize, u8, usize, u32, Option<&str>); 7] = [
+    (10, 0, 0, 0, None),
+    (16, 1, 3, 16_777_217, Some("ab")),
+    (25, 3, 3, 1, Some("ab")),
+    (35, 255, 2, 1, None),
+    (39, 11, 3, 1, Some("a")),
+    (44, 2, 3, 1, None),
+    (51, 0, 3, 1, Some("a\0")),
 ];
 
-/// A place, bytes from one to another, and what the record comes to with one of them there. Each place has a row.
-const CHANGES: [(usize, u8, u8, Told); 84] = [
-    // The mark, the node, the number of nodes.
-    (0, 0, 255, NO_RECORD),
-    (1, 0, 255, NO_RECORD),
-    (2, 0, 255, NO_RECORD),
-    (3, 0, 255, NO_RECORD),
-    (4, 0, 255, NO_RECORD),
-    (5, 0, 255, NO_RECORD),
-    (6, 0, 255, NO_RECORD),
-    (7, 0, 255, NO_RECORD),
-    (8, 0, 255, Told::Refused(RecordFault::WrongNode)),
-    (9, 0, 255, Told::Refused(RecordFault::WrongNode)),
-    // A gate, a length, and the kind and the number of a round.
-    (10, 0, 255, Told::Reads(0, 1, (0, 0), None)),
-    (11, 0, 255, DAMAGED),
-    (12, 0, 255, DAMAGED),
-    (13, 0, 255, DAMAGED),
-    (14, 0, 255, DAMAGED),
-    (15, 0, 255, DAMAGED),
-    (16, 1, 1, Told::Reads(16_777_217, 1, (2, 1), Some("ab"))),
-    (
-        16,
-        255,
-        255,
-        Told::Reads(4_278_190_081, 1, (2, 1), Some("ab")),
-    ),
-    (17, 2, 2, Told::Reads(131_073, 1, (2, 1), Some("ab"))),
-    (18, 3, 3, Told::Reads(769, 1, (2, 1), Some("ab"))),
-    (19, 0, 0, DAMAGED),
-    (19, 2, 2, Told::Reads(2, 1, (2, 1), Some("ab"))),
-    (19, 255, 255, Told::Reads(255, 1, (2, 1), Some("ab"))),
-    // A gate, a length, and the kind of a promise: a vote for the empty value is as long.
-    (20, 0, 255, Told::Reads(1, 1, (0, 0), None)),
-    (21, 0, 255, DAMAGED),
-    (22, 0, 255, DAMAGED),
-    (23, 0, 255, DAMAGED),
-    (24, 0, 255, DAMAGED),
-    (25, 0, 1, DAMAGED),
-    (25, 3, 3, WHOLE),
-    (25, 4, 255, DAMAGED),
-    // Its instance, from 1 to 1,000,000.
-    (26, 1, 255, DAMAGED),
-    (27, 1, 15, WHOLE),
-    (27, 15, 15, Told::Reads(1, 983_041, (1, 1), None)),
-    (27, 16, 255, DAMAGED),
-    (28, 1, 255, WHOLE),
-    (28, 2, 2, Told::Reads(1, 513, (1, 1), None)),
-    (29, 0, 0, DAMAGED),
-    (29, 2, 255, WHOLE),
-    (29, 3, 3, Told::Reads(1, 3, (1, 1), None)),
-    // Its ballot, which the vote's isn't below.
-    (30, 1, 255, DAMAGED),
-    (31, 1, 255, DAMAGED),
-    (32, 1, 255, DAMAGED),
-    (33, 0, 0, DAMAGED),
-    (33, 2, 2, WHOLE),
-    (33, 3, 255, DAMAGED),
-    (34, 0, 0, DAMAGED),
-    (34, 2, 3, WHOLE),
-    (34, 4, 255, DAMAGED),
-    // A gate, a length, and the kind of a vote. Cut shorter, its value ends at a gate that isn't open.
-    (35, 0, 255, NO_VOTE),
-    (36, 1, 255, DAMAGED),
-    (37, 1, 255, DAMAGED),
-    (38, 1, 255, DAMAGED),
-    (39, 0, 9, DAMAGED),
-    (39, 10, 10, Told::Reads(1, 1, (2, 1), Some(""))),
-    (39, 11, 11, Told::Reads(1, 1, (2, 1), Some("a"))),
-    (39, 13, 255, DAMAGED),
-    (40, 0, 255, DAMAGED),
-    // Its instance.
-    (41, 1, 255, DAMAGED),
-    (42, 1, 15, NO_VOTE),
-    (42, 1, 1, Told::Reads(1, 65_537, (2, 1), Some("ab"))),
-    (42, 16, 255, DAMAGED),
-    (43, 1, 255, NO_VOTE),
-    (43, 1, 1, Told::Reads(1, 257, (2, 1), Some("ab"))),
-    (44, 0, 0, DAMAGED),
-    (44, 2, 255, NO_VOTE),
-    (44, 2, 2, Told::Reads(1, 2, (2, 1), Some("ab"))),
-    // Its ballot.
-    (45, 1, 1, Told::Reads(1, 1, (16_777_218, 1), Some("ab"))),
-    (46, 1, 1, Told::Reads(1, 1, (65_538, 1), Some("ab"))),
-    (47, 255, 255, Told::Reads(1, 1, (65_282, 1), Some("ab"))),
-    (48, 0, 0, DAMAGED),
-    (48, 1, 1, Told::Reads(1, 1, (1, 1), Some("ab"))),
-    (48, 3, 3, Told::Reads(1, 1, (3, 1), Some("ab"))),
-    (49, 0, 0, DAMAGED),
-    (49, 2, 2, Told::Reads(1, 1, (2, 2), Some("ab"))),
-    (49, 3, 3, Told::Reads(1, 1, (2, 3), Some("ab"))),
-    (49, 4, 255, DAMAGED),
-    // Its value, and the last gate: behind an open one nothing stands.
-    (50, 0, 0, Told::Reads(1, 1, (2, 1), Some("\0b"))),
-    (50, 1, 1, Told::Reads(1, 1, (2, 1), Some("\x01b"))),
-    (51, 0, 0, Told::Reads(1, 1, (2, 1), Some("a\0"))),
-    (51, 127, 127, Told::Reads(1, 1, (2, 1), Some("a\x7f"))),
-    (52, 0, 0, WHOLE),
-    (52, 1, 1, DAMAGED),
-    (52, 2, 255, WHOLE),
-];
+/// Places and bytes with which it stands for no history.
+const NONE: [(usize, u8); 6] = [(9, 0), (11, 1), (19, 0), (33, 3), (39, 13), (52, 1)];
 
-fn with_byte(place: usize, byte: u8) -> [u8; 53] {
-    let mut bytes = RECORD;
-    if let Some(there) = bytes.get_mut(place) {
-        *there = byte;
-    }
-    bytes
+fn is_slot_of(record: &Record<MemDisk>, history: &[Entry], instance: Instance) -> bool {
+    is_slot(history, instance, record.slot(instance))
 }
 
-fn numbers(ballot: Option<Ballot>) -> (u32, u8) {
-    match ballot {
-        Some(ballot) => (ballot.round(), ballot.node().number()),
-        None => (0, 0),
-    }
-}
-
-fn is_slot(slot: &Slot, promised: (u32, u8), value: Option<&str>) -> bool {
-    let voted = match (&slot.vote, value) {
-        (Some(vote), Some(value)) => {
-            numbers(Some(vote.ballot)) == promised && vote.value.as_bytes() == value.as_bytes()
+/// Whether the record tells the slots of the first three instances, of which a history here names two at most.
+fn tells_first(record: &Record<MemDisk>, history: &[Entry]) -> bool {
+    for number in 1..=3 {
+        if let Some(instance) = Instance::new(number) {
+            if !is_slot_of(record, history, instance) {
+                return false;
+            }
         }
-        (None, None) => true,
-        _ => false,
-    };
-    voted && numbers(slot.promised) == promised
-}
-
-fn reads(record: &Record<MemDisk>, told: Told) -> bool {
-    let Told::Reads(round, instance, promised, value) = told else {
-        return false;
-    };
-    match Instance::new(instance) {
-        Some(instance) => {
-            record.round() == round && is_slot(record.slot(instance), promised, value)
-        }
-        None => false,
     }
+    true
 }
 
-/// Whether the bytes come to this for node 2 of three.
-fn comes_to(alloc: Global, bytes: &[u8], told: Told) -> Result<bool, Fail> {
+/// Whether the record tells the slots of the instances that a history names.
+fn tells_named(record: &Record<MemDisk>, history: &[Entry]) -> bool {
+    history.iter().all(|entry| match entry {
+        Entry::Round(_) => true,
+        Entry::Promised(instance, _) | Entry::Voted(instance, _) => {
+            is_slot_of(record, history, *instance)
+        }
+    })
+}
+
+fn tells(record: &Record<MemDisk>, history: &[Entry]) -> bool {
+    record.round() == last_round(history)
+        && record.greatest_round() == greatest_round(history)
+        && tells_first(record, history)
+        && tells_named(record, history)
+}
+
+/// Whether node 2 of three opens the bytes, which stand for this history, or refuses them where there is none.
+fn comes_to(alloc: Global, bytes: &[u8], history: Option<&[Entry]>) -> Result<bool, Fail> {
     let (cluster, node) = one_of_three(2)?;
-    match Record::open(alloc, cluster, node, disk_of(alloc, bytes)?) {
-        Ok(record) => Ok(reads(&record, told)),
-        Err((fault, _disk)) => Ok(matches!(told, Told::Refused(want) if want == fault)),
+    let opened = Record::open(alloc, cluster, node, disk_of(alloc, bytes)?);
+    match (opened, history) {
+        (Ok(record), Some(history)) => {
+            Ok(stands_for(alloc, cluster, node, bytes, history)? && tells(&record, history))
+        }
+        (Err((fault, _disk)), None) => Ok(fault == refusal(cluster, node, bytes)),
+        _ => Ok(false),
     }
 }
 
+/// The beginning of the entries that the bytes stand for.
+fn beginning<'a>(
+    alloc: Global,
+    bytes: &[u8],
+    entries: &'a [Entry],
+) -> Result<Option<&'a [Entry]>, Fail> {
+    let (cluster, node) = one_of_three(2)?;
+    for count in 0..=entries.len() {
+        if stands_for(alloc, cluster, node, bytes, &entries[..count])? {
+            return Ok(Some(&entries[..count]));
+        }
+    }
+    Ok(None)
+}
+
+/// Also with the last entry's gate closed: what stands behind it isn't read.
 #[test]
 fn a_record_cut_at_each_byte(rt: HostRuntime) -> Result<(), Fail> {
     let alloc = rt.alloc();
-    for (gate, from, to, told) in CUTS {
+    let entries = entries(alloc)?;
+    for gate in [0, 1] {
         let bytes = with_byte(35, gate);
-        for len in from..=to {
-            assert!(rt; len <= bytes.len());
+        for len in 0..=bytes.len() {
+            let history = beginning(alloc, &bytes[..len], &entries)?;
             assert!(rt;
-                comes_to(alloc, &bytes[..len], told)?,
-                "gate {gate}: {len} bytes: {told:?}"
+                comes_to(alloc, &bytes[..len], history)?,
+                "gate {gate}: {len} bytes"
             );
         }
     }
@@ -208,16 +106,48 @@ fn a_record_cut_at_each_byte(rt: HostRuntime) -> Result<(), Fail> {
 #[test]
 fn a_record_with_each_byte_changed(rt: HostRuntime) -> Result<(), Fail> {
     let alloc = rt.alloc();
-    for (place, from, to, told) in CHANGES {
-        for byte in from..=to {
+    let listed = Listed::new(alloc)?;
+    for place in 0..RECORD.len() {
+        for byte in 0..=255 {
             let bytes = with_byte(place, byte);
             if bytes != RECORD {
                 assert!(rt;
-                    comes_to(alloc, &bytes, told)?,
-                    "{byte} at {place}: {told:?}"
+                    comes_to(alloc, &bytes, listed.at(place, byte))?,
+                    "{byte} at {place}"
                 );
             }
         }
+    }
+    Ok(())
+}
+
+fn value_at(history: &[Entry], instance: Instance) -> Option<&[u8]> {
+    match last_vote(history, instance) {
+        Some(vote) => Some(vote.value.as_bytes()),
+        None => None,
+    }
+}
+
+#[test]
+fn the_list_has_what_is_worked_out(rt: HostRuntime) -> Result<(), Fail> {
+    let alloc = rt.alloc();
+    let listed = Listed::new(alloc)?;
+    let Some(first) = Instance::new(1) else {
+        return Err(Fail::new("no instance"));
+    };
+    for (place, byte, count, round, value) in SOME {
+        let Some(history) = listed.at(place, byte) else {
+            return Err(Fail::new("a history is missing"));
+        };
+        assert_eq!(rt; history.len(), count, "{byte} at {place}");
+        assert_eq!(rt; last_round(history), round, "{byte} at {place}");
+        assert!(rt;
+            value_at(history, first) == value.map(str::as_bytes),
+            "{byte} at {place}"
+        );
+    }
+    for (place, byte) in NONE {
+        assert!(rt; listed.at(place, byte).is_none(), "{byte} at {place}");
     }
     Ok(())
 }

@@ -1,15 +1,25 @@
-//! Records: files byte by byte, cut and damaged; crashes after each call, calls that fail, a real file.
+//! Records: files byte by byte, cut and damaged; crashes after each call, calls that fail, a real file. What damaged bytes come to is computed:
+//! the functions that decide it are proved to be the definition of a record.
 #![tactic(auto)]
 
+#[cfg(test)]
+mod changes;
 #[cfg(test)]
 mod crashes;
 #[cfg(test)]
 mod damage;
+pub mod entry;
 #[cfg(test)]
 mod failures;
 #[cfg(test)]
 mod files;
+pub mod history;
+#[cfg(test)]
+mod listed;
+pub mod recorded;
 #[cfg(test)]
 mod records;
 #[cfg(test)]
 mod samples;
+pub mod spelling;
+pub mod standing;

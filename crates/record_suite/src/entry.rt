@@ -1,0 +1,41 @@
+//! Entries of a record as values.
+
+ghost use Rattle.std.specs.Prelude.{◌≡◌, ◌↔◌, Some, IfOk};
+ghost use Rattle.site_ids.specs.Ids.{BallotOf};
+ghost use Rattle.durable.specs.Entries.{Raises};
+
+use site_ids::{Ballot, Instance, Vote};
+use std::alloc::{AllocError, Global};
+
+/// An entry of a record.
+#[derive(Debug, Drop)]
+pub enum Entry {
+    Round(u32),
+    Promised(Instance, Ballot),
+    Voted(Instance, Vote),
+}
+
+impl Entry {
+    ghost use Rattle.record_suite.specs.Meaning.{meaning};
+
+    /// The ballot that it promises at an instance, if it does.
+    pub fn raised(&self, instance: Instance) -> Option<Ballot>
+        ensures { (b : BallotOf) → Raises (meaning self.now) instance b ↔ (result ≡ Some b) }
+    {
+        match self {
+            Entry::Promised(at, ballot) if *at == instance => Some(*ballot),
+            Entry::Voted(at, vote) if *at == instance => Some(vote.ballot),
+            _ => None,
+        }
+    }
+
+    pub fn try_clone(&self, alloc: Global) -> Result<Entry, AllocError>
+        ensures { IfOk result (λ entry. entry ≡ self.now) }
+    {
+        Ok(match self {
+            Entry::Round(round) => Entry::Round(*round),
+            Entry::Promised(instance, ballot) => Entry::Promised(*instance, *ballot),
+            Entry::Voted(instance, vote) => Entry::Voted(*instance, vote.try_clone(alloc)?),
+        })
+    }
+}

@@ -1,0 +1,120 @@
+//! The histories that a record stands for with one byte changed, computed from its own.
+use crate::changes::changed;
+use crate::entry::Entry;
+use crate::history::is_history;
+use crate::samples::{first_ballot, one_of_three};
+use crate::spelling::spelled;
+use crate::standing::stands_for;
+use site_ids::{Ballot, Cluster, NodeId, Value, Vote};
+use std::alloc::{AllocError, Global};
+use std::collections::BTreeMap;
+use std::test::Fail;
+
+/// The record of node 2 of 3. At 10 the gate of round 1, at 20 that of the promise of (1, 1) at instance 1, at 35 that of the vote for `ab` at (2, 1)
+/// there, at 52 the last gate.
+pub const RECORD: [u8; 53] =
+    *b"SITEREC1\x02\x03\x01\x00\x00\x00\x05\x01\x00\x00\x00\x01\x01\x00\x00\x00\x0a\x02\x00\x00\x00\x01\x00\x00\x00\x01\x01\x01\x00\x00\x00\x0c\x03\x00\x00\x00\x01\x00\x00\x00\x02\x01ab\x00";
+
+/// Its history.
+pub fn entries(alloc: Global) -> Result<Vec<Entry>, Fail> {
+    let (instance, promised) = first_ballot(1)?;
+    let Some(ballot) = Ballot::new(2, promised.node()) else {
+        return Err(Fail::new("no ballot"));
+    };
+    let value = Value::copied_from(alloc, b"ab")?;
+    let mut entries = Vec::new(alloc);
+    entries.push(Entry::Round(1))?;
+    entries.push(Entry::Promised(instance, promised))?;
+    entries.push(Entry::Voted(instance, Vote { ballot, value }))?;
+    Ok(entries)
+}
+
+pub fn with_byte(place: usize, byte: u8) -> [u8; 53] {
+    let mut bytes = RECORD;
+    if let Some(there) = bytes.get_mut(place) {
+        *there = byte;
+    }
+    bytes
+}
+
+fn copies(alloc: Global, entries: &[Entry]) -> Result<Vec<Entry>, AllocError> {
+    let mut copies = Vec::new(alloc);
+    for entry in entries {
+        copies.push(entry.try_clone(alloc)?)?;
+    }
+    Ok(copies)
+}
+
+/// Histories by the place and the byte with which a record stands for them.
+#[derive(Drop)]
+pub struct Listed {
+    alloc: Global,
+    cluster: Cluster,
+    node: NodeId,
+    histories: BTreeMap<(usize, u8), Vec<Entry>>,
+}
+
+impl Listed {
+    /// Of the record.
+    pub fn new(alloc: Global) -> Result<Listed, Fail> {
+        let (cluster, node) = one_of_three(2)?;
+        let mut listed = Listed {
+            alloc,
+            cluster,
+            node,
+            histories: BTreeMap::new(alloc),
+        };
+        listed.list_all(&entries(alloc)?)?;
+        Ok(listed)
+    }
+
+    pub fn at(&self, place: usize, byte: u8) -> Option<&[Entry]> {
+        match self.histories.get(&(place, byte)) {
+            Some(history) => Some(history.as_slice()),
+            None => None,
+        }
+    }
+
+    /// Lists these entries where the record with this byte stands for them.
+    fn list_at(&mut self, place: usize, byte: u8, entries: &[Entry]) -> Result<(), AllocError> {
+        let file = with_byte(place, byte);
+        if stands_for(self.alloc, self.cluster, self.node, &file, entries)? {
+            let history = copies(self.alloc, entries)?;
+            self.histories.insert((place, byte), history)?;
+        }
+        Ok(())
+    }
+
+    /// Lists these entries at the first byte by which their spelling differs from the record, or else at each byte in the place of the gate behind it.
+    fn list(&mut self, entries: &[Entry]) -> Result<(), AllocError> {
+        if !is_history(self.cluster, entries) {
+            return Ok(());
+        }
+        let bytes = spelled(self.alloc, self.cluster, self.node, entries)?;
+        for (place, byte) in bytes.iter().enumerate() {
+            if RECORD.get(place) != Some(byte) {
+                return self.list_at(place, *byte, entries);
+            }
+        }
+        for byte in 0..=255 {
+            self.list_at(bytes.len(), byte, entries)?;
+        }
+        Ok(())
+    }
+
+    /// Lists the beginnings of the entries, and those with one entry changed.
+    fn list_all(&mut self, entries: &[Entry]) -> Result<(), AllocError> {
+        self.list(entries)?;
+        for (at, entry) in entries.iter().enumerate() {
+            self.list(&entries[..at])?;
+            for other in changed(self.alloc, self.cluster, entry)? {
+                let mut entries = copies(self.alloc, entries)?;
+                if let Some(there) = entries.get_mut(at) {
+                    *there = other;
+                }
+                self.list(&entries)?;
+            }
+        }
+        Ok(())
+    }
+}
