@@ -4,3 +4,4 @@ pub mod ManyRounds
 pub mod ManyPatientRounds
 pub mod Ending
 pub mod Throttled
+pub mod Runs

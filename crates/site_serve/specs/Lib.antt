@@ -5,3 +5,4 @@ pub mod Patience
 pub mod Rounds
 pub mod Throttling
 pub mod Running
+pub mod Runs

@@ -61,6 +61,7 @@ fn placed(size: usize, id: u8) -> Option<(Cluster, NodeId)>
 /// The addresses of the options: one to nine of nodes, with the server among them.
 pub(crate) fn read_addresses(alloc: Global, options: &ServeOptions<'_>) -> Result<Addresses, Halt>
     ensures ok { IfOk result (λ a. IsPlaced options.now × IsNode a.cluster a.me × (length a.peers.items ≡ a.cluster)) }
+    ensures named { IfOk result (λ a. (a.cluster ≡ length options.now.peers.items) × (a.me ≡ options.now.id)) }
     ensures bad { IfErr result (λ why. ((why ≡ Halt.BadAddress) × ¬ IsPlaced options.now) ⊎ (why ≡ Halt.OutOfMemory)) }
 {
     let Some((cluster, me)) = placed(options.peers.len(), options.id) else {

@@ -1,11 +1,12 @@
 //! A server: its parts opened in order, and its rounds.
 
-ghost use Rattle.std.specs.Prelude.{OnOk, IfErr, ◌+◌, ◌*◌};
+ghost use Rattle.std.specs.Prelude.{◌≡◌, IfOk, OnOk, IfErr, MatchOption, ◌+◌, ◌*◌, length};
 ghost use Rattle.http_read.specs.Bytes.{end_of};
 ghost use Rattle.site_drive.specs.Leading.{LeadsTo};
 ghost use Rattle.site_serve.specs.Patience.{TakesPatientRounds, BreaksPatientWork};
 ghost use Rattle.site_serve.specs.Placing.{IsPlaced};
 ghost use Rattle.site_serve.specs.Rounds.{TakesRounds, BreaksWork};
+ghost use Rattle.site_serve.specs.Runs.{IsOpened, IsLed, IsRun};
 ghost use Rattle.site_serve.specs.Running.{EndsBefore, WorkEnds, RunEnds, HasServed};
 
 use crate::ServeOptions;
@@ -37,6 +38,7 @@ fn open<R: Net<Listener = TcpListener, Stream = TcpStream> + Files<File = File>>
     options: &ServeOptions<'_>,
 ) -> Result<(Served<FileDisk>, UdpLink, Door), Halt>
     ensures ok { OnOk result (IsPlaced options.now) }
+    ensures opened { IfOk result (λ parts. IsOpened ⟦<FileDisk as Disk>⟧.stands_for (length options.now.peers.items) options.now.id parts.0.node) }
     ensures err { IfErr result (λ why. EndsBefore options.now why) }
 {
     let addresses = read_addresses(alloc, options)?;
@@ -86,8 +88,8 @@ fn work_patiently<C: Clock, W: Write>(
 }
 
 /// Does a node's work, with the rounds that were asked for.
-fn start<C: Clock, W: Write>(
-    clock: &C,
+fn start<'c, C: Clock, W: Write>(
+    clock: &'c C,
     alloc: Global,
     out: &mut Counted<W>,
     served: &mut Served<FileDisk>,
@@ -95,7 +97,13 @@ fn start<C: Clock, W: Write>(
     door: Door,
     options: &ServeOptions<'_>,
 ) -> Result<(), Halt>
-    ensures { WorkEnds (end_of W.contents out.old out.new) options.now.id result }
+    ensures said { WorkEnds (end_of W.contents out.old out.new) options.now.id result }
+    ensures rounds { OnOk result (MatchOption options.now.patience
+        (IsLed ⟦<FileDisk as Disk>⟧.stands_for ⟦<Watch<'c, C> as Link>⟧.received ⟦<Watch<'c, C> as Link>⟧.given served.old.node served.new.node (TakesRounds served.old.node.cluster served.old.node.me (40 + 10 * options.now.id) options.now.rounds served.new.node.releases))
+        (λ _. IsLed ⟦<FileDisk as Disk>⟧.stands_for ⟦<PatientLink as Link>⟧.received ⟦<PatientLink as Link>⟧.given served.old.node served.new.node (TakesPatientRounds served.old.node.cluster served.old.node.me options.now.rounds served.new.node.releases))) }
+    ensures halted { IfErr result (λ why. MatchOption options.now.patience
+        (IsLed ⟦<FileDisk as Disk>⟧.stands_for ⟦<Watch<'c, C> as Link>⟧.received ⟦<Watch<'c, C> as Link>⟧.given served.old.node served.new.node (BreaksWork served.old.node.cluster served.old.node.me (40 + 10 * options.now.id) options.now.rounds why))
+        (λ _. IsLed ⟦<FileDisk as Disk>⟧.stands_for ⟦<PatientLink as Link>⟧.received ⟦<PatientLink as Link>⟧.given served.old.node served.new.node (BreaksPatientWork served.old.node.cluster served.old.node.me options.now.rounds why))) }
 {
     let (id, rounds) = (options.id, options.rounds);
     let Some(patience) = options.patience else {
@@ -108,13 +116,15 @@ fn start<C: Clock, W: Write>(
 }
 
 /// Opens a node, and does its work.
-fn run<R: Net<Listener = TcpListener, Stream = TcpStream> + Files<File = File> + Clock, W: Write>(
-    rt: &R,
-    alloc: Global,
-    out: &mut Counted<W>,
-    options: &ServeOptions<'_>,
-) -> Result<(), Halt>
-    ensures { RunEnds (end_of W.contents out.old out.new) options.now result }
+fn run<
+    'c,
+    R: Net<Listener = TcpListener, Stream = TcpStream> + Files<File = File> + Clock,
+    W: Write,
+>(rt: &'c R, alloc: Global, out: &mut Counted<W>, options: &ServeOptions<'_>) -> Result<(), Halt>
+    ensures said { RunEnds (end_of W.contents out.old out.new) options.now result }
+    ensures rounds { OnOk result (MatchOption options.now.patience
+        (IsRun ⟦<FileDisk as Disk>⟧.stands_for ⟦<Watch<'c, R> as Link>⟧.received ⟦<Watch<'c, R> as Link>⟧.given (length options.now.peers.items) options.now.id (TakesRounds (length options.now.peers.items) options.now.id (40 + 10 * options.now.id) options.now.rounds))
+        (λ _. IsRun ⟦<FileDisk as Disk>⟧.stands_for ⟦<PatientLink as Link>⟧.received ⟦<PatientLink as Link>⟧.given (length options.now.peers.items) options.now.id (TakesPatientRounds (length options.now.peers.items) options.now.id options.now.rounds))) }
 {
     let (mut served, link, door) = open(rt, alloc, options)?;
     start(rt, alloc, out, &mut served, link, door, options)
@@ -122,17 +132,21 @@ fn run<R: Net<Listener = TcpListener, Stream = TcpStream> + Files<File = File> +
 
 /// Runs a node for its rounds. The answer is the exit status.
 pub fn sited<
+    'c,
     R: Net<Listener = TcpListener, Stream = TcpStream> + Files<File = File> + Clock,
     W: Write,
     E: Write,
 >(
-    rt: &R,
+    rt: &'c R,
     alloc: Global,
     out: &mut Counted<W>,
     err: &mut Counted<E>,
     options: &ServeOptions<'_>,
 ) -> u8
-    ensures { HasServed (end_of W.contents out.old out.new) (end_of E.contents err.old err.new) options.now result }
+    ensures said { HasServed (end_of W.contents out.old out.new) (end_of E.contents err.old err.new) options.now result }
+    ensures rounds { result ≡ 0 → MatchOption options.now.patience
+        (IsRun ⟦<FileDisk as Disk>⟧.stands_for ⟦<Watch<'c, R> as Link>⟧.received ⟦<Watch<'c, R> as Link>⟧.given (length options.now.peers.items) options.now.id (TakesRounds (length options.now.peers.items) options.now.id (40 + 10 * options.now.id) options.now.rounds))
+        (λ _. IsRun ⟦<FileDisk as Disk>⟧.stands_for ⟦<PatientLink as Link>⟧.received ⟦<PatientLink as Link>⟧.given (length options.now.peers.items) options.now.id (TakesPatientRounds (length options.now.peers.items) options.now.id options.now.rounds)) }
 {
     match run(rt, alloc, out, options) {
         Ok(()) => 0,

@@ -1,8 +1,9 @@
 //! Opens a node over a record's file.
 
-ghost use Rattle.std.specs.Prelude.{IfErr};
+ghost use Rattle.std.specs.Prelude.{IfOk, IfErr};
 ghost use Rattle.site_ids.specs.Ids.{IsNode};
 ghost use Rattle.site_serve.specs.Halts.{EndsOpening};
+ghost use Rattle.site_serve.specs.Runs.{IsOpened};
 
 use crate::halt::Halt;
 use crate::served::Served;
@@ -56,7 +57,8 @@ pub(crate) fn open_node<R: Files<File = File>>(
     format: bool,
 ) -> Result<Served<FileDisk>, Halt>
     requires { IsNode cluster me }
-    ensures { IfErr result EndsOpening }
+    ensures opened { IfOk result (λ served. IsOpened ⟦<FileDisk as Disk>⟧.stands_for cluster me served.node) }
+    ensures fault { IfErr result EndsOpening }
 {
     let mut disk = FileDisk::new(file(rt, path, format)?);
     if format && is_empty(&mut disk)? {
