@@ -27,6 +27,21 @@ const LISTED: [(usize, u8, Option<(usize, u32, &str)>); 12] = [
     (52, 2, Some((3, 1, "ab"))),
 ];
 
+/// How many histories are listed, worked out by hand too. At each of the four gates each byte but 1; in a number each byte but its own, less
+/// those with which it is 0 or an instance above 1,000,000; and a promise's ballot only up to that of the vote behind it.
+const COUNT: usize = 4 * 255
+    // The round; the promise's kind, instance and ballot.
+    + (3 * 255 + 254)
+    + 1
+    + (15 + 255 + 254)
+    + (1 + 2)
+    // The vote's length, instance, round, node and value.
+    + 2
+    + (15 + 255 + 254)
+    + (3 * 255 + 254)
+    + 2
+    + 2 * 255;
+
 fn is_slot_of(record: &Record<MemDisk>, history: &[Entry], instance: Instance) -> bool {
     is_slot(history, instance, record.slot(instance))
 }
@@ -160,6 +175,8 @@ fn wrong_row(listed: &Listed) -> Option<(usize, u8)> {
 
 #[test]
 fn the_list_has_what_is_worked_out(rt: HostRuntime) -> Result<(), Fail> {
-    assert_eq!(rt; wrong_row(&Listed::new(rt.alloc())?), None);
+    let listed = Listed::new(rt.alloc())?;
+    assert_eq!(rt; listed.len(), COUNT);
+    assert_eq!(rt; wrong_row(&listed), None);
     Ok(())
 }

@@ -68,6 +68,10 @@ impl Listed {
         Ok(listed)
     }
 
+    pub fn len(&self) -> usize {
+        self.histories.len()
+    }
+
     pub fn at(&self, place: usize, byte: u8) -> Option<&[Entry]> {
         match self.histories.get(&(place, byte)) {
             Some(history) => Some(history.as_slice()),
@@ -85,7 +89,8 @@ impl Listed {
         Ok(())
     }
 
-    /// Lists these entries at the first byte by which their spelling differs from the record, or else at each byte in the place of the gate behind it.
+    /// Lists these entries at the first byte by which their spelling differs from the record, or else at each byte in the place of the gate behind
+    /// it.
     fn list(&mut self, entries: &[Entry]) -> Result<(), AllocError> {
         if !is_history(self.cluster, entries) {
             return Ok(());
