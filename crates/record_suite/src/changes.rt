@@ -1,122 +1,116 @@
 //! The entries that are spelled as another one but for one byte.
 //!
-//! What spells an entry is its length, its kind, numbers of fixed lengths and, of a vote, its value. Where the byte stands in the length, the
-//! entry is a vote for a beginning of the value, since nothing stands behind the last one; in the kind, it is the other one of a promise and a
-//! vote for the empty value; and else in a number or the value.
+//! An entry is spelled by its length, its kind, numbers of fixed lengths and, of a vote, its value. Where the byte stands in the length, the
+//! other entry is a vote for a beginning of the value, since nothing stands behind the last one; in the kind, it is the other one of a promise
+//! and a vote for the empty value; and else in a number or the value.
 use crate::entry::Entry;
 use site_ids::{Ballot, Cluster, Instance, Value, Vote};
 use std::alloc::{AllocError, Global};
 
-fn numbers(alloc: Global, number: u32) -> Result<Vec<u32>, AllocError> {
-    let mut changed = Vec::new(alloc);
-    for place in 0..4 {
-        for byte in 0..=255 {
-            let mut bytes = number.to_be_bytes();
-            if bytes[place] != byte {
-                bytes[place] = byte;
-                changed.push(u32::from_be_bytes(bytes))?;
-            }
-        }
+fn number(number: u32, place: usize, byte: u8) -> u32 {
+    let mut bytes = number.to_be_bytes();
+    if let Some(there) = bytes.get_mut(place) {
+        *there = byte;
     }
-    Ok(changed)
+    u32::from_be_bytes(bytes)
 }
 
-fn instances(alloc: Global, instance: Instance) -> Result<Vec<Instance>, AllocError> {
-    let mut changed = Vec::new(alloc);
-    for number in numbers(alloc, instance.number())? {
-        if let Some(instance) = Instance::new(number) {
-            changed.push(instance)?;
-        }
-    }
-    Ok(changed)
-}
-
-fn ballots(alloc: Global, cluster: Cluster, ballot: Ballot) -> Result<Vec<Ballot>, AllocError> {
-    let mut changed = Vec::new(alloc);
-    for round in numbers(alloc, ballot.round())? {
-        if let Some(ballot) = Ballot::new(round, ballot.node()) {
-            changed.push(ballot)?;
-        }
-    }
-    for number in 1..=cluster.size() {
-        if let Some(node) = cluster.node(number) {
-            if let Some(ballot) = Ballot::new(ballot.round(), node) {
-                changed.push(ballot)?;
-            }
-        }
-    }
-    Ok(changed)
-}
-
-/// The beginnings of a value, and those with a byte changed.
-fn values(alloc: Global, value: &[u8]) -> Result<Vec<Value>, AllocError> {
-    let mut changed = Vec::new(alloc);
-    for place in 0..value.len() {
-        changed.push(Value::copied_from(alloc, &value[..place])?)?;
-        for byte in 0..=255 {
-            let mut bytes = Vec::from_slice(alloc, value)?;
-            if let Some(there) = bytes.get_mut(place) {
-                *there = byte;
-            }
-            changed.push(Value::from_bytes(bytes))?;
-        }
-    }
-    Ok(changed)
-}
-
-fn rounds_of(alloc: Global, round: u32) -> Result<Vec<Entry>, AllocError> {
-    let mut changed = Vec::new(alloc);
-    for round in numbers(alloc, round)? {
-        changed.push(Entry::Round(round))?;
-    }
-    Ok(changed)
-}
-
-fn promises_of(
-    alloc: Global,
+/// Four bytes are the instance's, four the round's, and the next is the node.
+fn ballot(
     cluster: Cluster,
     instance: Instance,
     ballot: Ballot,
-) -> Result<Vec<Entry>, AllocError> {
-    let mut changed = Vec::new(alloc);
-    for instance in instances(alloc, instance)? {
-        changed.push(Entry::Promised(instance, ballot))?;
+    place: usize,
+    byte: u8,
+) -> Option<(Instance, Ballot)> {
+    if place < 4 {
+        let instance = Instance::new(number(instance.number(), place, byte))?;
+        Some((instance, ballot))
+    } else if place < 8 {
+        let round = number(ballot.round(), place - 4, byte);
+        Some((instance, Ballot::new(round, ballot.node())?))
+    } else {
+        let node = cluster.node(byte)?;
+        Some((instance, Ballot::new(ballot.round(), node)?))
     }
-    for ballot in ballots(alloc, cluster, ballot)? {
-        changed.push(Entry::Promised(instance, ballot))?;
-    }
-    let value = Value::copied_from(alloc, b"")?;
-    changed.push(Entry::Voted(instance, Vote { ballot, value }))?;
-    Ok(changed)
 }
 
-fn votes_of(
+fn vote(
     alloc: Global,
     cluster: Cluster,
     instance: Instance,
     vote: &Vote,
-) -> Result<Vec<Entry>, AllocError> {
-    let mut changed = Vec::new(alloc);
-    let ballot = vote.ballot;
-    for instance in instances(alloc, instance)? {
-        changed.push(Entry::Voted(instance, vote.try_clone(alloc)?))?;
+    place: usize,
+    byte: u8,
+) -> Result<Option<Entry>, AllocError> {
+    let mut bytes = Vec::from_slice(alloc, vote.value.as_bytes())?;
+    let mut changed = Some((instance, vote.ballot));
+    if place < 9 {
+        changed = ballot(cluster, instance, vote.ballot, place, byte);
+    } else if let Some(there) = bytes.get_mut(place - 9) {
+        *there = byte;
     }
-    for ballot in ballots(alloc, cluster, ballot)? {
-        let value = vote.value.try_clone(alloc)?;
-        changed.push(Entry::Voted(instance, Vote { ballot, value }))?;
-    }
-    for value in values(alloc, vote.value.as_bytes())? {
-        changed.push(Entry::Voted(instance, Vote { ballot, value }))?;
-    }
-    changed.push(Entry::Promised(instance, ballot))?;
-    Ok(changed)
+    let Some((instance, ballot)) = changed else {
+        return Ok(None);
+    };
+    let value = Value::from_bytes(bytes);
+    Ok(Some(Entry::Voted(instance, Vote { ballot, value })))
 }
 
-/// Each entry that is spelled as this one but for one byte, and others.
-pub fn changed(alloc: Global, cluster: Cluster, entry: &Entry) -> Result<Vec<Entry>, AllocError> {
+/// How many bytes an entry has behind its kind.
+pub fn places(entry: &Entry) -> usize {
     match entry {
-        Entry::Round(round) => rounds_of(alloc, *round),
-        Entry::Promised(instance, ballot) => promises_of(alloc, cluster, *instance, *ballot),
-        Entry::Voted(instance, vote) => votes_of(alloc, cluster, *instance, vote),
+        Entry::Round(_) => 4,
+        Entry::Promised(..) => 9,
+        Entry::Voted(_, vote) => vote.value.as_bytes().len().saturating_add(9),
     }
+}
+
+/// The entry with this byte at a place behind its kind, where that is an entry.
+pub fn changed(
+    alloc: Global,
+    cluster: Cluster,
+    entry: &Entry,
+    place: usize,
+    byte: u8,
+) -> Result<Option<Entry>, AllocError> {
+    match entry {
+        Entry::Round(round) => Ok(Some(Entry::Round(number(*round, place, byte)))),
+        Entry::Promised(instance, promised) => {
+            Ok(match ballot(cluster, *instance, *promised, place, byte) {
+                Some((instance, promised)) => Some(Entry::Promised(instance, promised)),
+                None => None,
+            })
+        }
+        Entry::Voted(instance, voted) => vote(alloc, cluster, *instance, voted, place, byte),
+    }
+}
+
+fn vote_for(
+    alloc: Global,
+    instance: Instance,
+    ballot: Ballot,
+    value: &[u8],
+) -> Result<Entry, AllocError> {
+    let value = Value::copied_from(alloc, value)?;
+    Ok(Entry::Voted(instance, Vote { ballot, value }))
+}
+
+/// Votes for the beginnings of a vote's value, or for the empty one in place of a promise, and a promise in place of a vote.
+pub fn others(alloc: Global, entry: &Entry) -> Result<Vec<Entry>, AllocError> {
+    let mut others = Vec::new(alloc);
+    match entry {
+        Entry::Round(_) => {}
+        Entry::Promised(instance, ballot) => {
+            others.push(vote_for(alloc, *instance, *ballot, b"")?)?;
+        }
+        Entry::Voted(instance, vote) => {
+            let value = vote.value.as_bytes();
+            for len in 0..value.len() {
+                others.push(vote_for(alloc, *instance, vote.ballot, &value[..len])?)?;
+            }
+            others.push(Entry::Promised(*instance, vote.ballot))?;
+        }
+    }
+    Ok(others)
 }

@@ -10,19 +10,37 @@ use site_ids::Instance;
 use std::alloc::Global;
 use std::test::Fail;
 
-/// Worked out by hand: a place, a byte there, how many entries the record then has, the last round, and the value that is voted for at instance 1.
-const SOME: [(usize, u8, usize, u32, Option<&str>); 7] = [
-    (10, 0, 0, 0, None),
-    (16, 1, 3, 16_777_217, Some("ab")),
-    (25, 3, 3, 1, Some("ab")),
-    (35, 255, 2, 1, None),
-    (39, 11, 3, 1, Some("a")),
-    (44, 2, 3, 1, None),
-    (51, 0, 3, 1, Some("a\0")),
+/// Worked out by hand: a place, a byte there, and of the history for which the record then stands, if it does, how many entries it has, the
+/// last round, and the value that is voted for at instance 1.
+const LISTED: [(usize, u8, Option<(usize, u32, &str)>); 12] = [
+    (9, 0, None),
+    (11, 1, None),
+    (16, 1, Some((3, 16_777_217, "ab"))),
+    (19, 0, None),
+    (25, 3, Some((3, 1, "ab"))),
+    (33, 3, None),
+    (39, 10, Some((3, 1, ""))),
+    (39, 11, Some((3, 1, "a"))),
+    (39, 13, None),
+    (51, 0, Some((3, 1, "a\0"))),
+    (52, 1, None),
+    (52, 2, Some((3, 1, "ab"))),
 ];
 
-/// Places and bytes with which it stands for no history.
-const NONE: [(usize, u8); 6] = [(9, 0), (11, 1), (19, 0), (33, 3), (39, 13), (52, 1)];
+/// How many histories are listed, worked out by hand too. At each of the four gates each byte but 1; in a number each byte but its own, less
+/// those with which it is 0 or an instance above 1,000,000; and a promise's ballot only up to that of the vote behind it.
+const COUNT: usize = 4 * 255
+    // The round; the promise's kind, instance and ballot.
+    + (3 * 255 + 254)
+    + 1
+    + (15 + 255 + 254)
+    + (1 + 2)
+    // The vote's length, instance, round, node and value.
+    + 2
+    + (15 + 255 + 254)
+    + (3 * 255 + 254)
+    + 2
+    + 2 * 255;
 
 fn is_slot_of(record: &Record<MemDisk>, history: &[Entry], instance: Instance) -> bool {
     is_slot(history, instance, record.slot(instance))
@@ -42,12 +60,14 @@ fn tells_first(record: &Record<MemDisk>, history: &[Entry]) -> bool {
 
 /// Whether the record tells the slots of the instances that a history names.
 fn tells_named(record: &Record<MemDisk>, history: &[Entry]) -> bool {
-    history.iter().all(|entry| match entry {
-        Entry::Round(_) => true,
-        Entry::Promised(instance, _) | Entry::Voted(instance, _) => {
-            is_slot_of(record, history, *instance)
+    for entry in history {
+        if let Entry::Promised(instance, _) | Entry::Voted(instance, _) = entry {
+            if !is_slot_of(record, history, *instance) {
+                return false;
+            }
         }
-    })
+    }
+    true
 }
 
 fn tells(record: &Record<MemDisk>, history: &[Entry]) -> bool {
@@ -121,33 +141,42 @@ fn a_record_with_each_byte_changed(rt: HostRuntime) -> Result<(), Fail> {
     Ok(())
 }
 
-fn value_at(history: &[Entry], instance: Instance) -> Option<&[u8]> {
-    match last_vote(history, instance) {
-        Some(vote) => Some(vote.value.as_bytes()),
-        None => None,
+fn is_voted_for(history: &[Entry], value: &str) -> bool {
+    let Some(first) = Instance::new(1) else {
+        return false;
+    };
+    match last_vote(history, first) {
+        Some(vote) => vote.value.as_bytes() == value.as_bytes(),
+        None => false,
     }
+}
+
+/// Whether a history has so many entries, this last round, and a vote for this value at instance 1.
+fn is_such(history: &[Entry], count: usize, round: u32, value: &str) -> bool {
+    history.len() == count && last_round(history) == round && is_voted_for(history, value)
+}
+
+/// The first row that is wrong.
+fn wrong_row(listed: &Listed) -> Option<(usize, u8)> {
+    for (place, byte, want) in LISTED {
+        let is_right = match (listed.at(place, byte), want) {
+            (Some(history), Some((count, round, value))) => {
+                is_such(history, count, round, value)
+            }
+            (None, None) => true,
+            _ => false,
+        };
+        if !is_right {
+            return Some((place, byte));
+        }
+    }
+    None
 }
 
 #[test]
 fn the_list_has_what_is_worked_out(rt: HostRuntime) -> Result<(), Fail> {
-    let alloc = rt.alloc();
-    let listed = Listed::new(alloc)?;
-    let Some(first) = Instance::new(1) else {
-        return Err(Fail::new("no instance"));
-    };
-    for (place, byte, count, round, value) in SOME {
-        let Some(history) = listed.at(place, byte) else {
-            return Err(Fail::new("a history is missing"));
-        };
-        assert_eq!(rt; history.len(), count, "{byte} at {place}");
-        assert_eq!(rt; last_round(history), round, "{byte} at {place}");
-        assert!(rt;
-            value_at(history, first) == value.map(str::as_bytes),
-            "{byte} at {place}"
-        );
-    }
-    for (place, byte) in NONE {
-        assert!(rt; listed.at(place, byte).is_none(), "{byte} at {place}");
-    }
+    let listed = Listed::new(rt.alloc())?;
+    assert_eq!(rt; listed.len(), COUNT);
+    assert_eq!(rt; wrong_row(&listed), None);
     Ok(())
 }

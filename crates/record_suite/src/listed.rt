@@ -1,5 +1,5 @@
 //! The histories that a record stands for with one byte changed, computed from its own.
-use crate::changes::changed;
+use crate::changes::{changed, others, places};
 use crate::entry::Entry;
 use crate::history::is_history;
 use crate::samples::{first_ballot, one_of_three};
@@ -68,6 +68,10 @@ impl Listed {
         Ok(listed)
     }
 
+    pub fn len(&self) -> usize {
+        self.histories.len()
+    }
+
     pub fn at(&self, place: usize, byte: u8) -> Option<&[Entry]> {
         match self.histories.get(&(place, byte)) {
             Some(history) => Some(history.as_slice()),
@@ -85,7 +89,8 @@ impl Listed {
         Ok(())
     }
 
-    /// Lists these entries at the first byte by which their spelling differs from the record, or else at each byte in the place of the gate behind it.
+    /// Lists these entries at the first byte by which their spelling differs from the record, or else at each byte in the place of the gate behind
+    /// it.
     fn list(&mut self, entries: &[Entry]) -> Result<(), AllocError> {
         if !is_history(self.cluster, entries) {
             return Ok(());
@@ -102,18 +107,39 @@ impl Listed {
         Ok(())
     }
 
-    /// Lists the beginnings of the entries, and those with one entry changed.
+    /// Lists the entries with another one in the place of one of them.
+    fn list_with(&mut self, entries: &[Entry], at: usize, other: Entry) -> Result<(), AllocError> {
+        let mut entries = copies(self.alloc, entries)?;
+        if let Some(there) = entries.get_mut(at) {
+            *there = other;
+        }
+        self.list(&entries)
+    }
+
+    /// Lists the entries with one of them changed.
+    fn list_changes(&mut self, entries: &[Entry], at: usize) -> Result<(), AllocError> {
+        let Some(entry) = entries.get(at) else {
+            return Ok(());
+        };
+        for place in 0..places(entry) {
+            for byte in 0..=255 {
+                if let Some(other) = changed(self.alloc, self.cluster, entry, place, byte)? {
+                    self.list_with(entries, at, other)?;
+                }
+            }
+        }
+        for other in others(self.alloc, entry)? {
+            self.list_with(entries, at, other)?;
+        }
+        Ok(())
+    }
+
+    /// Lists the beginnings of the entries, and the entries with one of them changed.
     fn list_all(&mut self, entries: &[Entry]) -> Result<(), AllocError> {
         self.list(entries)?;
-        for (at, entry) in entries.iter().enumerate() {
+        for at in 0..entries.len() {
             self.list(&entries[..at])?;
-            for other in changed(self.alloc, self.cluster, entry)? {
-                let mut entries = copies(self.alloc, entries)?;
-                if let Some(there) = entries.get_mut(at) {
-                    *there = other;
-                }
-                self.list(&entries)?;
-            }
+            self.list_changes(entries, at)?;
         }
         Ok(())
     }
