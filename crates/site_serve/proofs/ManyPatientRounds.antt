@@ -1,5 +1,5 @@
 -- Rounds of patience, one after another.
-use Rattle.std.proofs.Common.{◌≡◌, ◌≢◌, ◌⊎◌, inl, inr, ℕ, suc, ◌+◌, ◌<◌, ◌≤◌, List, [], ◌∷◌, refl, sym, subst, ◌∙◌, arith}
+use Rattle.std.proofs.Common.{◌≡◌, ◌≢◌, ◌⊎◌, inl, inr, ℕ, ◌+◌, ◌<◌, ◌≤◌, List, [], ◌∷◌, refl, sym, subst, ◌∙◌, arith}
 use Rattle.site_disk.specs.Model.{DiskState}
 use Rattle.node.specs.Nodes.{IsKnownPrefix}
 use Rattle.node.specs.Standing.{KeepsOthers}
@@ -14,7 +14,7 @@ use Rattle.site_serve.specs.Patience.{TakesTurn, TakesTurns, TakesPatientRound, 
 use Rattle.site_serve.specs.Rounds.{Serves, AreSteps, last_of, TakesSteps}
 use Rattle.site_serve.specs.declared.halt.Halt.{Halt}
 use Rattle.site_serve.specs.declared.halt.Halt.TheVariants as halt
-use Rattle.site_serve.proofs.ManyRounds.{no_steps, one_step_more, still_published, of_same, widened, linked_before}
+use Rattle.site_serve.proofs.ManyRounds.{no_steps, one_step_more, still_published, of_same, widened}
 
 -- ---- what is published
 

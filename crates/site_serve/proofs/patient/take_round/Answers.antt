@@ -1,6 +1,5 @@
 use Rattle.std.proofs.Common.{refl}
 use Rattle.site_drive.proofs.Results.{err_gives}
-use Rattle.site_serve.proofs.ManyRounds.{whose_round}
 use Rattle.site_serve.proofs.ManyPatientRounds.{then_served, turns_broke, patient_round_wanted}
 use Rattle.site_serve.proofs.patient.take_round.Goals as goal
 
