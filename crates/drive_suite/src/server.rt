@@ -3,7 +3,7 @@ use crate::opening::{again, fresh};
 use command::write;
 use node::{Node, NodeFault, Submitted};
 use site_disk::MemDisk;
-use site_drive::{Driven, LastCall, Link, MemLink, drive, drive_with, exchange};
+use site_drive::{Desk, Driven, LastCall, Link, MemLink, drive, exchange};
 use site_ids::Ticket;
 use std::alloc::Global;
 use std::process::Abort;
@@ -45,8 +45,13 @@ impl<L: Link + Drop> Server<L> {
         drive(self.alloc, &mut self.node, &mut self.link, turns)
     }
 
-    pub(crate) fn drive_with(&mut self, turns: u32, last: LastCall) -> Result<Driven, NodeFault> {
-        drive_with(self.alloc, &mut self.node, &mut self.link, turns, last)
+    pub(crate) fn drive_with(
+        &mut self,
+        desk: &mut Desk,
+        turns: u32,
+        last: LastCall,
+    ) -> Result<Driven, NodeFault> {
+        desk.drive_with(&mut self.node, &mut self.link, turns, last)
     }
 
     pub(crate) fn exchange(&mut self, turns: u32) -> Result<Driven, NodeFault> {

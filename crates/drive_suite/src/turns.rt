@@ -1,6 +1,6 @@
 //! What node 1 of three sends for what it hears, datagram by datagram; `exchange` beside `drive`, and the other calls behind turns.
 use crate::server::{Server, passes};
-use site_drive::{LastCall, MemLink};
+use site_drive::{Desk, LastCall, MemLink};
 use std::alloc::Global;
 use std::process::Abort;
 
@@ -114,24 +114,28 @@ fn a_drive_is_an_exchange_and_a_last_call(rt: HostRuntime) {
     }
 }
 
-/// Behind turns by which a tick is wanted: a question, then no widening, and one where a value waits.
-fn without_a_tick(rt: &impl Abort, server: &mut Server<MemLink>) {
+/// Behind turns by which a tick is wanted: a question, then no widening, and one where a value waits; all on one desk.
+fn without_a_tick(rt: &impl Abort, desk: &mut Desk, server: &mut Server<MemLink>) {
     hear(rt, server, 6);
-    passes(rt, "a question", server.drive_with(6, LastCall::Ask), 0, 0);
+    let asked = server.drive_with(desk, 6, LastCall::Ask);
+    passes(rt, "a question", asked, 0, 0);
     let sent = sent_in_turns(rt, server, 6);
     last_to_all(rt, server, sent, 3, "01060100000001");
-    passes(rt, "none", server.drive_with(0, LastCall::Widen), 0, 0);
+    let none = server.drive_with(desk, 0, LastCall::Widen);
+    passes(rt, "none", none, 0, 0);
     last_to_all(rt, server, sent, 3, "01060100000001");
     server.submit(rt, 1, "release\n");
-    passes(rt, "one", server.drive_with(0, LastCall::Widen), 0, 0);
+    let one = server.drive_with(desk, 0, LastCall::Widen);
+    passes(rt, "one", one, 0, 0);
     let widened = sent.saturating_add(3);
     last_to_all(rt, server, widened, 3, "010101000000010000000101");
 }
 
 #[test]
 fn questions_and_widenings_need_no_tick(rt: HostRuntime) {
+    let mut desk = Desk::new(rt.alloc()).expect(&rt, "a desk");
     let mut server = server(&rt, rt.alloc(), 3);
-    without_a_tick(&rt, &mut server);
+    without_a_tick(&rt, &mut desk, &mut server);
 }
 
 fn one_for_all(rt: &impl Abort, alloc: Global, size: u8) {

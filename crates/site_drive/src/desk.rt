@@ -1,4 +1,4 @@
-//! What turns work with.
+//! What turns and calls behind them work with.
 
 ghost use Rattle.std.specs.Prelude.{◌≡◌, ◌+◌, [], length, IfOk};
 ghost use Rattle.wire.specs.declared.TheConstants.{MAX_MESSAGE};
@@ -8,20 +8,21 @@ use std::alloc::{AllocError, Global};
 use wire::MAX_MESSAGE;
 
 /// Room for a datagram and a byte more, so that one that was cut spells nothing; for a spelling; and for what the node
-/// hands out.
+/// hands out. Many drives can share it: each begins it anew, and none allocates the 32 KB of a datagram again.
 #[derive(Drop)]
-pub(crate) struct Desk {
-    pub alloc: Global,
-    pub datagram: Vec<u8>,
-    pub spelling: Vec<u8>,
-    pub outbox: Outbox,
+pub struct Desk {
+    pub(crate) alloc: Global,
+    pub(crate) datagram: Vec<u8>,
+    pub(crate) spelling: Vec<u8>,
+    pub(crate) outbox: Outbox,
     /// Calls of the link that failed.
-    pub failed: u64,
+    pub(crate) failed: u64,
     ghost room: { length datagram.items ≡ MAX_MESSAGE + 1 },
 }
 
 impl Desk {
-    pub(crate) fn new(alloc: Global) -> Result<Desk, AllocError>
+    /// An empty one, whose memory is taken from here.
+    pub fn new(alloc: Global) -> Result<Desk, AllocError>
         ensures { IfOk result (λ desk. (desk.outbox.items ≡ []) × (desk.failed ≡ 0)) }
     {
         let mut datagram = Vec::new(alloc);

@@ -37,6 +37,34 @@ impl Desk {
         }
         Ok(malformed)
     }
+
+    /// Turns as those of `exchange`, and then these calls, of which what is handed out is sent. That every instance is known is passed over there.
+    ///
+    /// What an earlier drive left on the desk does not count.
+    pub fn drive_with<D: Disk, L: Link>(
+        &mut self,
+        node: &mut Node<D>,
+        link: &mut L,
+        turns: u32,
+        last: LastCall,
+    ) -> Result<Driven, NodeFault>
+        ensures ok { IfOk result (λ driven. LeadsTo D.stands_for L.received L.given node.old node.new link.old link.new (DrivesWith last node.old.cluster node.old.me turns driven.malformed node.new.releases)) }
+        ensures fault { IfErr result (λ fault. LeadsTo D.stands_for L.received L.given node.old node.new link.old link.new (GivesUpDrivingWith last node.old.cluster node.old.me turns fault)) }
+        ensures whose { StaysWhose node.old node.new }
+        ensures tried { OnOk result (RoseBy turns (L.tried link.old) (L.tried link.new)) }
+        ensures tried_fewer { OnErr result ((made : ℕ) × (made ≤ turns) × RoseBy made (L.tried link.old) (L.tried link.new)) }
+        ensures failed { IfOk result (λ driven. RoseBy driven.failed (L.failed link.old) (L.failed link.new)) }
+        ensures failed_too { OnErr result ((calls : ℕ) × RoseBy calls (L.failed link.old) (L.failed link.new)) }
+    {
+        self.outbox.clear();
+        self.failed = 0;
+        let malformed = self.take_turns(node, link, turns)?;
+        self.close(node, link, last)?;
+        Ok(Driven {
+            malformed,
+            failed: self.failed,
+        })
+    }
 }
 
 /// So many turns: each receives at most one datagram, delivers what it spells, publishes, and sends what is handed out.
@@ -64,31 +92,6 @@ pub fn exchange<D: Disk, L: Link>(
     })
 }
 
-/// Turns as those of `exchange`, and then these calls, of which what is handed out is sent. That every instance is known is passed over there.
-pub fn drive_with<D: Disk, L: Link>(
-    alloc: Global,
-    node: &mut Node<D>,
-    link: &mut L,
-    turns: u32,
-    last: LastCall,
-) -> Result<Driven, NodeFault>
-    ensures ok { IfOk result (λ driven. LeadsTo D.stands_for L.received L.given node.old node.new link.old link.new (DrivesWith last node.old.cluster node.old.me turns driven.malformed node.new.releases)) }
-    ensures fault { IfErr result (λ fault. LeadsTo D.stands_for L.received L.given node.old node.new link.old link.new (GivesUpDrivingWith last node.old.cluster node.old.me turns fault)) }
-    ensures whose { StaysWhose node.old node.new }
-    ensures tried { OnOk result (RoseBy turns (L.tried link.old) (L.tried link.new)) }
-    ensures tried_fewer { OnErr result ((made : ℕ) × (made ≤ turns) × RoseBy made (L.tried link.old) (L.tried link.new)) }
-    ensures failed { IfOk result (λ driven. RoseBy driven.failed (L.failed link.old) (L.failed link.new)) }
-    ensures failed_too { OnErr result ((calls : ℕ) × RoseBy calls (L.failed link.old) (L.failed link.new)) }
-{
-    let mut desk = Desk::new(alloc)?;
-    let malformed = desk.take_turns(node, link, turns)?;
-    desk.close(node, link, last)?;
-    Ok(Driven {
-        malformed,
-        failed: desk.failed,
-    })
-}
-
 /// Turns as those of `exchange`, and then a tick and widenings where a tick is wanted, and else a question.
 pub fn drive<D: Disk, L: Link>(
     alloc: Global,
@@ -104,5 +107,6 @@ pub fn drive<D: Disk, L: Link>(
     ensures failed { IfOk result (λ driven. RoseBy driven.failed (L.failed link.old) (L.failed link.new)) }
     ensures failed_too { OnErr result ((calls : ℕ) × RoseBy calls (L.failed link.old) (L.failed link.new)) }
 {
-    drive_with(alloc, node, link, turns, LastCall::TickOrAsk)
+    let mut desk = Desk::new(alloc)?;
+    desk.drive_with(node, link, turns, LastCall::TickOrAsk)
 }

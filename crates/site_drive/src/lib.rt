@@ -13,8 +13,9 @@ mod sending;
 mod turns;
 mod udp;
 
+pub use desk::Desk;
 pub use driven::Driven;
-pub use driving::{drive, drive_with, exchange};
+pub use driving::{drive, exchange};
 pub use last_call::LastCall;
 pub use link::{Link, LinkFailed};
 pub use memory::MemLink;

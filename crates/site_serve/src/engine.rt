@@ -24,7 +24,7 @@ use crate::sockets::open_sockets;
 use crate::watch::Watch;
 use http_read::Counted;
 use site_disk::{Disk, FileDisk};
-use site_drive::{Link, UdpLink};
+use site_drive::{Desk, Link, UdpLink};
 use std::alloc::Global;
 use std::fs::File;
 use std::io::Write;
@@ -82,8 +82,9 @@ fn work_patiently<C: Clock, W: Write>(
     ensures rounds { OnOk result (LeadsTo ⟦<FileDisk as Disk>⟧.stands_for ⟦<PatientLink as Link>⟧.received ⟦<PatientLink as Link>⟧.given served.old.node served.new.node link.old link.new (TakesPatientRounds served.old.node.cluster served.old.node.me rounds served.new.node.releases)) }
     ensures halted { IfErr result (λ why. LeadsTo ⟦<FileDisk as Disk>⟧.stands_for ⟦<PatientLink as Link>⟧.received ⟦<PatientLink as Link>⟧.given served.old.node served.new.node link.old link.new (BreaksPatientWork served.old.node.cluster served.old.node.me rounds why)) }
 {
+    let mut desk = Desk::new(alloc)?;
     say_ready(alloc, out, id)?;
-    take_patient_rounds(clock, alloc, served, link, pace, rounds)?;
+    take_patient_rounds(clock, alloc, &mut desk, served, link, pace, rounds)?;
     say_done(out)
 }
 

@@ -11,13 +11,18 @@ const ASKING: u64 = 400;
 /// The patience grows with the ticks since an instance became known, up to so many times.
 const MOST: u32 = 3;
 
-/// So many rounds in which nothing came are more than a client takes to come again.
+/// So many rounds in which nothing came are more than a client takes to come again: it is idle.
 const IDLE: u32 = 200;
 
-/// How many microseconds a server rests behind a round in which nothing came, while it is busy, and once it is idle.
+/// So many are some three seconds: it is quiet.
+const QUIET: u32 = 2000;
+
+/// How many microseconds a server rests behind a round in which nothing came: while it is busy, once it is idle, and once it is quiet.
 const REST: u64 = 50;
 
-const LONG_REST: u64 = 1500;
+const IDLE_REST: u64 = 1500;
+
+const QUIET_REST: u64 = 4000;
 
 /// How many milliseconds a node waits before its first tick: longer at nodes of greater numbers, so that two do not try as one.
 fn step(patience: u64, node: u8) -> u64 {
@@ -32,6 +37,17 @@ fn has_passed<C: Clock>(clock: &C, since: Option<Instant>, millis: u64) -> bool 
     match since.elapsed(clock) {
         Ok(passed) => passed.as_millis() >= u128::from(millis),
         Err(_) => true,
+    }
+}
+
+/// How many microseconds it rests behind the last of so many rounds in which nothing came.
+fn rest_after(rounds: u32) -> u64 {
+    if rounds < IDLE {
+        REST
+    } else if rounds < QUIET {
+        IDLE_REST
+    } else {
+        QUIET_REST
     }
 }
 
@@ -119,9 +135,9 @@ impl Pace {
             self.stirs = stirs;
             self.idle = 0;
         } else if !came {
-            let micros = if self.idle < IDLE { REST } else { LONG_REST };
+            let rest = Duration::from_micros(rest_after(self.idle));
             self.idle = self.idle.saturating_add(1);
-            thread::sleep(clock, Duration::from_micros(micros));
+            thread::sleep(clock, rest);
         }
     }
 }

@@ -15,7 +15,7 @@ use crate::pace::Pace;
 use crate::patient_link::PatientLink;
 use crate::served::Served;
 use site_disk::Disk;
-use site_drive::{Link, drive_with};
+use site_drive::{Desk, Link};
 use std::alloc::Global;
 use std::rt::Clock;
 
@@ -28,7 +28,7 @@ const CONNECTIONS: u32 = 16;
 /// One turn, and then the call that is due.
 fn take_turn<D: Disk, C: Clock>(
     clock: &C,
-    alloc: Global,
+    desk: &mut Desk,
     served: &mut Served<D>,
     link: &mut PatientLink,
     pace: &mut Pace,
@@ -41,14 +41,14 @@ fn take_turn<D: Disk, C: Clock>(
     let wanted = served.node.wants_tick();
     pace.note(clock, served.node.known(), wanted);
     let last = pace.due(clock, link.answered(), wanted);
-    drive_with(alloc, &mut served.node, link, 1, last)?;
+    desk.drive_with(&mut served.node, link, 1, last)?;
     Ok(())
 }
 
 /// Turns, as long as the last one's receive gave something. How many they are.
 fn take_turns<D: Disk, C: Clock>(
     clock: &C,
-    alloc: Global,
+    desk: &mut Desk,
     served: &mut Served<D>,
     link: &mut PatientLink,
     pace: &mut Pace,
@@ -62,7 +62,7 @@ fn take_turns<D: Disk, C: Clock>(
     let mut turns = 0;
     let mut more = true;
     while more && turns < TURNS {
-        take_turn(clock, alloc, served, link, pace)?;
+        take_turn(clock, desk, served, link, pace)?;
         more = link.came();
         turns += 1;
     }
@@ -110,6 +110,7 @@ fn serve_waiting<D: Disk, C: Clock>(
 fn take_round<D: Disk, C: Clock>(
     clock: &C,
     alloc: Global,
+    desk: &mut Desk,
     served: &mut Served<D>,
     link: &mut PatientLink,
     pace: &mut Pace,
@@ -119,7 +120,7 @@ fn take_round<D: Disk, C: Clock>(
     ensures ends { IfErr result EndsRounds }
     ensures whose { StaysWhose served.old.node served.new.node }
 {
-    let turns = take_turns(clock, alloc, served, link, pace)?;
+    let turns = take_turns(clock, desk, served, link, pace)?;
     let looks = serve_waiting(clock, alloc, served, link)?;
     pace.rest(clock, turns > 1, looks > 1, link.stirs());
     Ok(())
@@ -129,6 +130,7 @@ fn take_round<D: Disk, C: Clock>(
 pub(crate) fn take_patient_rounds<D: Disk, C: Clock>(
     clock: &C,
     alloc: Global,
+    desk: &mut Desk,
     served: &mut Served<D>,
     link: &mut PatientLink,
     pace: &mut Pace,
@@ -140,7 +142,7 @@ pub(crate) fn take_patient_rounds<D: Disk, C: Clock>(
     ensures whose { StaysWhose served.old.node served.new.node }
 {
     for _ in 0..rounds {
-        take_round(clock, alloc, served, link, pace)?;
+        take_round(clock, alloc, desk, served, link, pace)?;
     }
     Ok(())
 }

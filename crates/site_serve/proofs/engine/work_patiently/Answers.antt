@@ -1,4 +1,5 @@
-use Rattle.std.proofs.Common.{inl, inr}
+use Rattle.std.proofs.Common.{inl, inr, refl}
+use Rattle.std.proofs.KnownBytes.{Keeps-refl}
 use Rattle.durable.proofs.Results.{on_ok}
 use Rattle.site_drive.proofs.Results.{err_gives}
 use Rattle.site_serve.proofs.Ending.{not_ready, ready_halts, ends_done, passed_on, done_halts}
@@ -6,11 +7,18 @@ use Rattle.site_serve.proofs.ManyRounds.{if_err_gives}
 use Rattle.site_serve.proofs.ManyPatientRounds.{patience_not_begun, patience_broken_off, patience_not_told}
 use Rattle.site_serve.proofs.engine.work_patiently.Goals as goal
 
+pub returns-in_err-desk-clause-said : goal.returns-in_err-desk-clause-said
+returns-in_err-desk-clause-said g c = passed_on _ _ c.from_residual.result _ c.from_residual.ensures.1 (inl (refl, record { kept = Keeps-refl _; sound = refl }))
+
+pub returns-in_err-desk-clause-halted : goal.returns-in_err-desk-clause-halted
+returns-in_err-desk-clause-halted g c = err_gives c.from_residual.result c.from_residual.ensures.1 λ e is.
+    patience_not_begun _ _ _ c.args.served.now.node c.args.link.now _ _ _ _ e is (inl refl)
+
 pub returns-in_err-say_ready-clause-said : goal.returns-in_err-say_ready-clause-said
-returns-in_err-say_ready-clause-said g c = passed_on _ _ c.from_residual.result _ c.from_residual.ensures.1 (not_ready _ _ _ c.in_err-say_ready.ensures)
+returns-in_err-say_ready-clause-said g c = passed_on _ _ c.from_residual-in_err-say_ready.result _ c.from_residual-in_err-say_ready.ensures.1 (not_ready _ _ _ c.in_err-say_ready.ensures)
 
 pub returns-in_err-say_ready-clause-halted : goal.returns-in_err-say_ready-clause-halted
-returns-in_err-say_ready-clause-halted g c = err_gives c.from_residual.result c.from_residual.ensures.1 λ e is.
+returns-in_err-say_ready-clause-halted g c = err_gives c.from_residual-in_err-say_ready.result c.from_residual-in_err-say_ready.ensures.1 λ e is.
     patience_not_begun _ _ _ c.args.served.now.node c.args.link.now _ _ _ _ e is (ready_halts _ _ _ c.in_err-say_ready.ensures)
 
 pub returns-in_err-take_patient_rounds-clause-said : goal.returns-in_err-take_patient_rounds-clause-said

@@ -1,20 +1,14 @@
-use Rattle.std.proofs.Common.{refl, sym, subst}
+use Rattle.std.proofs.Common.{sym, subst}
 use Rattle.durable.proofs.Results.{on_err}
 use Rattle.site_drive.specs.Drives.{Exchanges}
 use Rattle.site_drive.specs.Leading.{LeadsTo}
 use Rattle.site_drive.proofs.Counting.{counted_on}
 use Rattle.site_drive.proofs.Results.{err_gives}
-use Rattle.site_drive.proofs.ManyTurns.{none_taken}
 use Rattle.site_drive.proofs.Closing.{driven, given_up_last, given_up_first}
-use Rattle.site_drive.proofs.driving.drive_with.Goals as goal
-
-pub returns-in_err-desk-clause-fault : goal.returns-in_err-desk-clause-fault
-returns-in_err-desk-clause-fault g c = err_gives c.from_residual.result c.from_residual.ensures.1 λ e is.
-    given_up_first g.D.Disk.stands_for g.L.Link.received g.L.Link.given c.args.last c.args.node.now c.args.node.now c.args.link.now c.args.link.now _ _ _ e e refl
-    (none_taken g.D.Disk.stands_for g.L.Link.received g.L.Link.given c.args.node.now c.args.link.now _ _ _ e is)
+use Rattle.site_drive.proofs.desk.Desk.drive_with.Goals as goal
 
 pub returns-in_err-malformed-clause-fault : goal.returns-in_err-malformed-clause-fault
-returns-in_err-malformed-clause-fault g c = err_gives c.from_residual-in_err-malformed.result c.from_residual-in_err-malformed.ensures.1 λ e is.
+returns-in_err-malformed-clause-fault g c = err_gives c.from_residual.result c.from_residual.ensures.1 λ e is.
     given_up_first g.D.Disk.stands_for g.L.Link.received g.L.Link.given c.args.last c.args.node.now c.take_turns.new.node c.args.link.now c.take_turns.new.link _ _ _ _ e is c.in_err-malformed.ensures.fault
 
 pub returns-in_err-close-clause-fault : goal.returns-in_err-close-clause-fault
