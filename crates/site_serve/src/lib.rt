@@ -2,7 +2,6 @@
 #![tactic(auto)]
 
 mod addresses;
-mod answers;
 mod attempt_message;
 mod calm;
 mod client;

@@ -22,7 +22,7 @@ const REST: u64 = 50;
 
 const IDLE_REST: u64 = 1500;
 
-const QUIET_REST: u64 = 4000;
+const QUIET_REST: u64 = 8000;
 
 /// How many milliseconds a node waits before its first tick: longer at nodes of greater numbers, so that two do not try as one.
 fn step(patience: u64, node: u8) -> u64 {

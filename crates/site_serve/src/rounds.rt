@@ -41,7 +41,7 @@ fn serve_one<'c, D: Disk, C: Clock>(
     if let Some(client) = watch.client() {
         serve_client(clock, alloc, client, served)?;
     }
-    watch.begin(!wanted && served.node.wants_tick());
+    watch.set_hurry(!wanted && served.node.wants_tick());
     Ok(())
 }
 

@@ -2,7 +2,6 @@
 
 ghost use Rattle.std.specs.Prelude.{◌≡◌};
 
-use crate::answers::{Answers, instance_of};
 use crate::attempt_message::PREPARE;
 use crate::calm::Calm;
 use crate::client::Client;
@@ -17,14 +16,13 @@ const ASK: usize = 7;
 
 /// A link, and the door that is looked at while the link is used.
 ///
-/// A receive does not wait where no exchange may be in flight and a connection is held, or a hurry was told, or this round's question was answered.
+/// A receive does not wait where no exchange may be in flight and a connection is held, or a hurry was told.
 #[derive(Drop)]
 pub(crate) struct Watch<'c, C> {
     link: ThrottledLink<'c, UdpLink, C>,
     door: Door,
     calm: Calm,
     hurry: bool,
-    answers: Answers,
     // whether the socket's receives wait
     waits: bool,
 }
@@ -37,22 +35,15 @@ impl<'c, C: Clock> Watch<'c, C> {
             door,
             calm: Calm::new(),
             hurry: false,
-            answers: Answers::new(),
             waits: true,
         }
     }
 
-    /// Whether no exchange may be in flight.
-    pub(crate) fn is_calm(&self) -> bool {
-        self.calm.is_calm()
-    }
-
-    /// A round begins: whether its receives wait for nothing, as long as no exchange may be in flight.
-    pub(crate) fn begin(&mut self, hurry: bool)
+    /// Whether receives wait for nothing, as long as no exchange may be in flight.
+    pub(crate) fn set_hurry(&mut self, hurry: bool)
         ensures { self.new.link ≡ self.old.link }
     {
         self.hurry = hurry;
-        self.answers.begin();
     }
 
     /// The client to serve, if there is one.
@@ -66,21 +57,18 @@ impl<'c, C: Clock> Watch<'c, C> {
     fn choose_waiting(&mut self, held: bool)
         ensures { self.new.link ≡ self.old.link }
     {
-        let goes_on = held || self.hurry || self.answers.have_come();
-        let waits = !(self.is_calm() && goes_on);
+        let waits = !(self.calm.is_calm() && (held || self.hurry));
         if waits != self.waits && self.link.link.set_waiting(waits).is_ok() {
             self.waits = waits;
         }
     }
 
-    /// Notes a datagram.
-    fn note(&mut self, datagram: &[u8])
+    /// Notes a datagram of so many bytes.
+    fn note(&mut self, size: usize)
         ensures { self.new.link ≡ self.old.link }
     {
-        match instance_of(datagram) {
-            Some(instance) => self.answers.note(instance),
-            None if datagram.len() == ASK => {}
-            None => self.calm.stir(),
+        if size != ASK {
+            self.calm.stir();
         }
     }
 
@@ -110,7 +98,7 @@ impl<C: Clock> Link for Watch<'_, C> {
         self.choose_waiting(held);
         let came = self.link.receive(buf)?;
         match came {
-            Some(size) => self.note(&buf[..size]),
+            Some(size) => self.note(size),
             None => self.note_silence(),
         }
         Ok(came)
