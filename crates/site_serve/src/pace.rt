@@ -59,11 +59,15 @@ pub(crate) struct Pace {
     ticks: u32,
     // since when a tick is wanted, and nothing became known, and none was made
     since: Option<Instant>,
+    // whether a value was just submitted, and nobody tries one
+    fresh: bool,
     // when it asked last, and how many values were known then
     asked: Option<Instant>,
     known_then: u32,
-    // how many rounds went by in which nothing but questions came, and how many datagrams had come that are none
+    // how many rounds went by in which nothing but questions came
     idle: u32,
+    // how many datagrams had come that are none: at the last turn, and at the last rest
+    heard: u64,
     stirs: u64,
 }
 
@@ -74,15 +78,20 @@ impl Pace {
             known: 0,
             ticks: 0,
             since: None,
+            fresh: false,
             asked: None,
             known_then: 0,
             idle: 0,
+            heard: 0,
             stirs: 0,
         }
     }
 
-    /// So many values are known now, and a tick is wanted or not.
-    pub(crate) fn note<C: Clock>(&mut self, clock: &C, known: u32, wanted: bool) {
+    /// So many values are known now, a tick is wanted or not, and so many datagrams came that are no questions.
+    ///
+    /// Where a tick begins to be wanted and no such datagram came, a value was submitted, and neither this node nor another tries one.
+    pub(crate) fn note<C: Clock>(&mut self, clock: &C, known: u32, wanted: bool, heard: u64) {
+        self.fresh = wanted && self.since.is_none() && heard == self.heard;
         if !wanted {
             self.since = None;
             self.ticks = 0;
@@ -91,6 +100,7 @@ impl Pace {
             self.ticks = 0;
         }
         self.known = known;
+        self.heard = heard;
     }
 
     /// Whether a question is due: after its time, and at once where the last one was answered, and more is known by that.
@@ -104,7 +114,7 @@ impl Pace {
         self.known_then = self.known;
     }
 
-    /// Whether a tick is wanted, and has been for so long that it is due.
+    /// Whether a tick is wanted, and has been for so long that it is due: longer behind each such tick.
     fn ticks_now<C: Clock>(&self, clock: &C, wanted: bool) -> bool {
         let tries = u64::from(self.ticks.saturating_add(1).min(MOST));
         wanted && has_passed(clock, self.since, self.step.saturating_mul(tries))
@@ -116,9 +126,11 @@ impl Pace {
         self.since = Instant::now(clock).ok();
     }
 
-    /// A question or a tick where it is due, which begins now, and else widenings.
+    /// A tick at once for a value that nobody tries; else a question or a tick where it is due, which begins now, and else widenings.
     pub(crate) fn due<C: Clock>(&mut self, clock: &C, answered: bool, wanted: bool) -> LastCall {
-        if self.asks_now(clock, answered) {
+        if self.fresh {
+            LastCall::TickOrAsk
+        } else if self.asks_now(clock, answered) {
             self.begin_question(clock);
             LastCall::Ask
         } else if self.ticks_now(clock, wanted) {

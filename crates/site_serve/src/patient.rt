@@ -39,7 +39,7 @@ fn take_turn<D: Disk, C: Clock>(
     ensures whose { StaysWhose served.old.node served.new.node }
 {
     let wanted = served.node.wants_tick();
-    pace.note(clock, served.node.known(), wanted);
+    pace.note(clock, served.node.known(), wanted, link.stirs());
     let last = pace.due(clock, link.answered(), wanted);
     desk.drive_with(&mut served.node, link, 1, last)?;
     Ok(())
