@@ -39,11 +39,11 @@ impl<D: Disk> Node<D> {
         ensures grows { OnlyGrows outbox.old.items outbox.new.items }
         ensures others { KeepsOthers self.old self.new }
     {
-        outbox.reserve(1)?;
         let reached = self.reached.max(instance.number());
         let slot = self.store.slot(instance);
         match judge_prepare(slot, ballot) {
             PrepareVerdict::Promise => {
+                outbox.reserve(1)?;
                 let prior = copy_of(self.alloc, &slot.vote)?;
                 self.store.put_promise(instance, ballot)?;
                 outbox.push_reserved(promise(self.me, instance, ballot, prior));
@@ -51,12 +51,14 @@ impl<D: Disk> Node<D> {
                 Ok(())
             }
             PrepareVerdict::Again => {
+                outbox.reserve(1)?;
                 let prior = copy_of(self.alloc, &slot.vote)?;
                 outbox.push_reserved(promise(self.me, instance, ballot, prior));
                 self.reached = reached;
                 Ok(())
             }
             PrepareVerdict::Nack(promised) => {
+                outbox.reserve(1)?;
                 outbox.push_reserved(nack(self.me, instance, ballot, promised));
                 self.reached = reached;
                 Ok(())
