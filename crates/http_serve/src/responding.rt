@@ -119,11 +119,13 @@ fn page<S: Service>(
     ensures { IfOk result (λ bytes. bytes.items ≡ print_reply to_head (page_reply (S.offered.page_is service.now n path.now))) }
 {
     match service.answer(alloc, n, path) {
-        Ok(Answer {
-            status,
-            body,
-            location,
-        }) => {
+        Ok(
+            Answer {
+                status,
+                body,
+                location,
+            },
+        ) => {
             let body = body.into_bytes();
             let own = moved_line(location);
             text_of(
