@@ -1,0 +1,33 @@
+use Rattle.std.proofs.Common.{ap, suc, Err, inl, inr}
+use Rattle.std.proofs.lemmas.Result.{err_from_is_err_and}
+use Rattle.http_read.specs.Counted.{inside}
+use Rattle.http_read.specs.Input.{input_of}
+use Rattle.http_serve.proofs.Running.{answered, cut_off, sent_no_more, given_up}
+use Rattle.http_serve.proofs.serving.exchange.Goals as goal
+
+pub returns-in_err-message-clause-answered : goal.returns-in_err-message-clause-answered
+returns-in_err-message-clause-answered g c =
+    let p = err_from_is_err_and c.from_residual.result c.from_residual.ensures.1 in
+    let given = c.in_err-message.ensures in
+    rw (p.1, p.2) (given_up _ (suc c.args.answered) c.args.service.now c.next_message.new.service _
+    (input_of c.next_message.new.inbox (g.R.Read.remaining (inside c.next_message.new.reader))) (g.R.Read.remaining (inside c.next_message.new.reader)) _ c.in_err-message.field-0.0
+    (λ e. given.unread (ap Err e)) (λ e. given.ended (ap Err e))
+    (λ e. given.unasked (inl (ap Err e))) (λ e. given.unasked (inr (ap Err e)))
+    (λ e. given.refused (ap Err e)) (λ e. given.unwritten (ap Err e)))
+
+pub returns-in-Ok-clause-answered : goal.returns-in-Ok-clause-answered
+returns-in-Ok-clause-answered g c =
+    let responds = rw c.in-Some.is at c.in_ok-message.ensures.response in
+    answered _ (suc c.args.answered) _ _ _ _ (g.R.Read.remaining (inside c.next_message.new.reader)) _ _ c.in-Some.message.stays _ _ responds
+    (rw c.as_slice.ensures.value at c.in-Ok.ensures.ok.whole) c.behind.ensures
+
+pub returns-in-Err-clause-answered : goal.returns-in-Err-clause-answered
+returns-in-Err-clause-answered g c =
+    let responds = rw c.in-Some.is at c.in_ok-message.ensures.response in
+    cut_off _ (suc c.args.answered) _ _ _ _ (g.R.Read.remaining (inside c.next_message.new.reader)) _ _ c.in-Some.message.stays _ responds
+    (rw c.as_slice.ensures.value at c.in-Err.ensures.err.part)
+
+pub returns-in-None-clause-answered : goal.returns-in-None-clause-answered
+returns-in-None-clause-answered g c =
+    let over = rw c.in-None.is at c.in_ok-message.ensures.response in
+    sent_no_more _ (suc c.args.answered) _ _ _ _ (g.R.Read.remaining (inside c.next_message.new.reader)) _ over
