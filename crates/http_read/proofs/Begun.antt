@@ -2,6 +2,7 @@
 use Rattle.std.proofs.Common.{◌≡◌, ℕ, ◌<◌, ◌≤◌, List, [], ◌∷◌, ◌++◌, length, arith, sym, ap, subst, refl, ◌∙◌, length-append, Option, Some, None, IfSome, IfOk, Result}
 use Rattle.std.proofs.lemmas.Result.{IfOk-weaker}
 use Rattle.std.specs.Io.KnownBytes.{Keeps, IsAtEnd}
+use Rattle.std.proofs.KnownBytes.{Keeps-refl}
 use Rattle.http_read.specs.declared.fault.ReadFault.{ReadFault}
 use Rattle.http_read.specs.declared.incoming.Incoming.{Incoming}
 use Rattle.http_read.specs.declared.incoming.Incoming.TheVariants as came
@@ -49,8 +50,4 @@ no_bytes (b ∷ bytes) few = absurd (omega (arith, few))
 pub nothing_stops : (held after : List ℕ) (left left_now : Option (List ℕ)) → held ≡ [] → Keeps (input_of held left) (input_of after left_now)
     → after ≡ held → StopsAt (input_of held left) left_now IsCutShort
 nothing_stops held after left left_now none kept same =
-    stops_here _ held after left left_now IsCutShort (keeps_itself (input_of held left)) kept same (subst IsCutShort (sym none) nothing_cut)
-  where
-    keeps_itself : (known : Option (List ℕ)) → Keeps known known
-    keeps_itself None = tt
-    keeps_itself (Some xs) = refl
+    stops_here _ held after left left_now IsCutShort (Keeps-refl (input_of held left)) kept same (subst IsCutShort (sym none) nothing_cut)

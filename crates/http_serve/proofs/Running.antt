@@ -87,7 +87,8 @@ pub more_run : {S : Type 0} (service : Offered S) (n : ℕ) (now mid after : S) 
     → HasRun service (n + 1) now input after left before behind
 more_run service n now mid after None between left rest before middle behind so_far one = tt
 more_run service n now mid after (Some i) between left rest before middle behind (here, text, served, is, appended) one =
-    let step = subst (λ m. Comes service (suc n) mid m left rest after middle behind (Ok Stays)) is one in
+    let step : (more : List ℕ) × Exchanges service (suc n) mid here left rest after more (Ok Stays) × Appends middle behind more =
+    subst (λ m. Comes service (suc n) mid m left rest after middle behind (Ok Stays)) is one in
     let at : suc n ≡ n + 1 = omega arith in (
       step.1.0,
       text ++ step.0,
@@ -103,7 +104,8 @@ pub run_ends : {S : Type 0} (service : Offered S) (n : ℕ) (now mid after : S) 
     → IfSome input (λ i. (said : List ℕ) × Serves service now i rest after said r × Appends before behind said)
 run_ends service n now mid after None between left rest before middle behind end r so_far one ends_so = tt
 run_ends service n now mid after (Some i) between left rest before middle behind end r (here, text, served, is, appended) one ends_so =
-    let step = subst (λ m. Comes service (suc n) mid m left rest after middle behind end) is one in (
+    let step : (more : List ℕ) × Exchanges service (suc n) mid here left rest after more end × Appends middle behind more =
+    subst (λ m. Comes service (suc n) mid m left rest after middle behind end) is one in (
       text ++ step.0,
       connection_ends service n now mid after i here text step.0 left rest end r served step.1 ends_so,
       Appends-trans before middle behind text step.0 appended step.2,

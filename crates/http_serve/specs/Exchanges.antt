@@ -33,12 +33,16 @@ abbrev pub next_behind : Bool → Next
 next_behind true = Stays
 next_behind false = Closes
 
+-- how a connection ends where its client sends no more, behind so many requests
+abbrev pub end_behind : ℕ → Result ⊤ ServeFault
+end_behind zero = Err EndedEarly
+end_behind (suc n) = Ok tt
+
 -- How a connection ends with an exchange behind so many others; where it stays, it doesn't.
 abbrev pub ends_with : ℕ → Result Next ServeFault → Option (Result ⊤ ServeFault)
 ends_with n (Ok Stays) = None
 ends_with n (Ok Closes) = Some (Ok tt)
-ends_with zero (Ok Ended) = Some (Err EndedEarly)
-ends_with (suc n) (Ok Ended) = Some (Ok tt)
+ends_with n (Ok Ended) = Some (end_behind n)
 ends_with n (Err fault) = Some (Err fault)
 
 -- a response that was found, or word that the client sent no more
