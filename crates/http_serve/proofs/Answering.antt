@@ -9,7 +9,7 @@ use Rattle.http_serve.specs.Paths.{Place, Names}
 use Rattle.http_serve.specs.Replies.{Reply, closes, stays_behind, print_reply}
 use Rattle.http_serve.specs.Responses.{asked_reply, refusal, RepliesToPost}
 use Rattle.http_serve.specs.Services.{Offered}
-use Rattle.http_serve.specs.Shown.{Written, written_in, write_as}
+use Rattle.http_serve.specs.Shown.{Written, written_in, write_as, closing}
 use Rattle.http_serve.specs.declared.replies.Manner.{Manner}
 use Rattle.http_serve.specs.declared.replies.Message.{Message}
 use Rattle.http_serve.specs.Connections.{IsResponse, may_keep, may_stay}
@@ -107,16 +107,16 @@ request_responds service n now after request reply false text (Some i) rest (lef
 
 -- the response to a refused one is the last
 pub refusal_responds : {S : Type 0} (service : Offered S) (n : ℕ) (now : S) (status : ℕ) (to_head : Bool) (m : Message) (input rest : Option (List ℕ))
-    → IfSome input (λ i. Answers i (refuses status to_head)) → written_in m ≡ write_as (record { to_head = to_head; keep = false }) (refusal status)
+    → IfSome input (λ i. Answers i (refuses status to_head)) → written_in m ≡ write_as (closing to_head) (refusal status)
     → IfSome input (λ i. Responds service n now i rest now m.stays m.bytes.items)
 refusal_responds service n now status to_head m None rest heard written = tt
 refusal_responds service n now status to_head m (Some i) rest heard written =
-    let closed : m.stays ≡ false = stays_of m (record { to_head = to_head; keep = false }) (refusal status) written in
+    let closed : m.stays ≡ false = stays_of m (closing to_head) (refusal status) written in
     subst (λ b. Responds service n now i rest now b m.bytes.items) (sym closed)
     (inr (status, to_head, heard, refl, ap (λ (w : Written). w.bytes) written))
 
 -- a connection doesn't stay behind it
-pub not_kept : {P : Type 0} (m : Message) (to_head : Bool) (status : ℕ) → written_in m ≡ write_as (record { to_head = to_head; keep = false }) (refusal status)
+pub not_kept : {P : Type 0} (m : Message) (to_head : Bool) (status : ℕ) → written_in m ≡ write_as (closing to_head) (refusal status)
     → m.stays ≡ true → P
 not_kept m to_head status written so =
-    absurd (true≢false (sym so ∙ stays_of m (record { to_head = to_head; keep = false }) (refusal status) written))
+    absurd (true≢false (sym so ∙ stays_of m (closing to_head) (refusal status) written))

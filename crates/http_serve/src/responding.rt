@@ -4,7 +4,7 @@ ghost use Rattle.http_read.specs.Incoming.{request_of};
 ghost use Rattle.http_serve.specs.Connections.{IsResponse};
 ghost use Rattle.http_serve.specs.Paths.{submission};
 ghost use Rattle.http_serve.specs.Places.{place_shown};
-ghost use Rattle.http_serve.specs.Shown.{line_of as line_shown, written_in, write_as};
+ghost use Rattle.http_serve.specs.Shown.{line_of as line_shown, written_in, write_as, closing};
 ghost use Rattle.http_serve.specs.Replies.{Reply, stays_behind};
 ghost use Rattle.http_serve.specs.Responses.{plain as plain_reply, refusal, wrong_method as wrong_reply, receipt_reply, moved_line as moved_reply, page_reply, asked_reply, outcome_reply, line, RepliesToPost, RefusesPost, Refuses};
 ghost use Rattle.http_serve.specs.Services.{Outcome, Submits};
@@ -61,9 +61,9 @@ fn wrong_method(alloc: Global, manner: Manner, methods: &'static str) -> Result<
     )
 }
 
-/// The response to a request that was refused as it was read.
-pub(crate) fn refused(alloc: Global, manner: Manner, status: u16) -> Result<Message, AllocError>
-    ensures { IfOk result (λ message. written_in message ≡ write_as manner (refusal status)) }
+/// The response to a request that was refused as it was read, behind which no connection stays.
+pub(crate) fn refused(alloc: Global, to_head: bool, status: u16) -> Result<Message, AllocError>
+    ensures { IfOk result (λ message. written_in message ≡ write_as (closing to_head) (refusal status)) }
 {
     let text = match status {
         413 => "too large",
@@ -71,6 +71,10 @@ pub(crate) fn refused(alloc: Global, manner: Manner, status: u16) -> Result<Mess
         431 => "head too large",
         501 => "not implemented",
         _ => "bad request",
+    };
+    let manner = Manner {
+        to_head,
+        keep: false,
     };
     plain(alloc, manner, status, text)
 }
@@ -232,26 +236,35 @@ pub(crate) fn respond<S: Service>(
     let path = request.path.as_str();
     let place = place_of(path);
     match request.method {
-        Method::Get => {
-            let manner = Manner {
+        Method::Get => shown(
+            alloc,
+            Manner {
                 to_head: false,
                 keep,
-            };
-            shown(alloc, manner, service, path, place)
-        }
-        Method::Head => {
-            let manner = Manner {
+            },
+            service,
+            path,
+            place,
+        ),
+        Method::Head => shown(
+            alloc,
+            Manner {
                 to_head: true,
                 keep,
-            };
-            shown(alloc, manner, service, path, place)
-        }
-        Method::Post => {
-            let manner = Manner {
+            },
+            service,
+            path,
+            place,
+        ),
+        Method::Post => posted(
+            alloc,
+            Manner {
                 to_head: false,
                 keep,
-            };
-            posted(alloc, manner, service, request.body.as_slice(), place)
-        }
+            },
+            service,
+            request.body.as_slice(),
+            place,
+        ),
     }
 }

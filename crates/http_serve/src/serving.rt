@@ -11,7 +11,7 @@ ghost use Rattle.http_serve.specs.Services.{MaySubmit, MaySubmitMany};
 
 use crate::fault::ServeFault;
 use crate::next::Next;
-use crate::replies::{Manner, Message};
+use crate::replies::Message;
 use crate::responding::{refused, respond};
 use crate::service::Service;
 use http_read::{Counted, Inbox, Incoming, request, write_all};
@@ -56,13 +56,7 @@ fn next_message<R: Read, S: Service>(
             let keep = may_keep(asked.keep, answered);
             Ok(Some(respond(alloc, keep, &asked, service)?))
         }
-        Incoming::Refused { status, head } => {
-            let manner = Manner {
-                to_head: head,
-                keep: false,
-            };
-            Ok(Some(refused(alloc, manner, status)?))
-        }
+        Incoming::Refused { status, head } => { Ok(Some(refused(alloc, head, status)?)) }
         Incoming::Ended => Ok(None),
     }
 }

@@ -9,7 +9,7 @@ loop-more-init g c = record { taken = refl; few = λ _. omega arith; within = om
 pub loop-more-preserved : goal.loop-more-preserved
 loop-more-preserved g c =
     let before = c.loop-more.invariant in
-    let below = before.few c.if-more.true in
+    let below = before.few c.loop-more-test.true in
     record {
       taken = many_more offered c.loop-more.answered c.args.served.now c.loop-more.served c.answer.new.served before.taken c.answer.ensures.taken;
       few = c.in_ok-more.ensures.few;
@@ -19,7 +19,7 @@ loop-more-preserved g c =
 pub returns-in_err-more : goal.returns-in_err-more
 returns-in_err-more g c =
     let before = c.loop-more.invariant in
-    submitted_more offered c.loop-more.answered c.args.served.now c.loop-more.served c.answer.new.served (before.few c.if-more.true) before.taken c.answer.ensures.taken
+    submitted_more offered c.loop-more.answered c.args.served.now c.loop-more.served c.answer.new.served (before.few c.loop-more-test.true) before.taken c.answer.ensures.taken
 
 pub returns : goal.returns
 returns g c =
