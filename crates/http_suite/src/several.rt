@@ -68,20 +68,24 @@ const SECOND: &str = "POST /b HTTP/1.1\r\nHost: a\r\nContent-Length: 2\r\n\r\nde
 fn the_second_cut_off(rt: HostRuntime) -> Result<(), Fail> {
     let alloc = rt.alloc();
     let both = format!(in alloc; "{FIRST}{SECOND}")?;
-    for len in 0..=SECOND.len() {
-        let mut reader = in_pieces(&both.as_str().as_bytes()[..FIRST.len() + len], usize::MAX);
+    let bytes = both.as_str().as_bytes();
+    for end in 0..=bytes.len() {
+        if end < FIRST.len() {
+            continue;
+        }
+        let mut reader = in_pieces(&bytes[..end], usize::MAX);
         let mut inbox = Inbox::new(alloc);
         let first = told(alloc, &mut reader, &mut inbox)?;
         assert_eq!(rt; first.as_str(), "POST /a with abc");
         let second = told(alloc, &mut reader, &mut inbox)?;
-        let expected = if len == 0 {
+        let expected = if end == FIRST.len() {
             "ended"
-        } else if len < SECOND.len() {
+        } else if end < bytes.len() {
             "ended early"
         } else {
             "POST /b with de"
         };
-        assert_eq!(rt; second.as_str(), expected, "behind {len}");
+        assert_eq!(rt; second.as_str(), expected, "behind {end}");
         assert_eq!(rt; reader.failures(), 0);
     }
     Ok(())

@@ -1,6 +1,6 @@
 //! Several requests on a connection: responses one behind another, when it is closed, and what stands after a fault.
 use crate::desk::{Desk, open_desk};
-use crate::ends::{Pieces, served, served_into, whole};
+use crate::ends::{Pieces, Sink, served, served_into, whole};
 use http_read::{Counted, Inbox};
 use http_serve::{Next, ServeFault, exchange};
 use std::alloc::{AllocError, Global};
@@ -49,24 +49,26 @@ fn check_two(rt: &impl Abort, alloc: Global, desk: &mut Desk<'_>) -> Result<(), 
             assert_eq!(rt; run.failed_reads, 0);
         }
     }
-    for len in 0..LAST.len() {
-        let run = served(alloc, desk, whole(&bytes[..GET.len() + len]));
-        let result = if len == 0 {
+    for end in 0..bytes.len() {
+        let run = served(alloc, desk, whole(&bytes[..end]));
+        let result = if end == GET.len() {
             Ok(())
         } else {
             Err(ServeFault::EndedEarly)
         };
-        assert_eq!(rt; run.result, result, "after {len}");
-        assert_eq!(rt; run.written.as_slice(), PAGE.as_bytes(), "after {len}");
+        let written = if end < GET.len() { "" } else { PAGE };
+        assert_eq!(rt; run.result, result, "after {end}");
+        assert_eq!(rt; run.written.as_slice(), written.as_bytes(), "after {end}");
     }
     Ok(())
 }
 
-/// A reader that fails in place of each byte of the second request, and a writer that fails after each byte of its response.
+/// A reader that fails in place of each byte of the second request, and a writer that fails after each byte of the responses.
 fn check_faults(rt: &impl Abort, alloc: Global, desk: &mut Desk<'_>) -> Result<(), AllocError> {
     let both = format!(in alloc; "{GET}{LAST}")?;
     let bytes = both.as_str().as_bytes();
     let expected = format!(in alloc; "{PAGE}{MOVED}")?;
+    let expected = expected.as_str().as_bytes();
     for good in GET.len()..bytes.len() {
         let run = served(
             alloc,
@@ -82,13 +84,10 @@ fn check_faults(rt: &impl Abort, alloc: Global, desk: &mut Desk<'_>) -> Result<(
         assert_eq!(rt; run.written.as_slice(), PAGE.as_bytes());
         assert_eq!(rt; run.failed_reads, 1);
     }
-    for room in PAGE.len()..expected.len() {
+    for room in 0..expected.len() {
         let run = served_into(alloc, desk, whole(bytes), room, usize::MAX);
         assert_eq!(rt; run.result, Err(ServeFault::Write), "after {room}");
-        assert_eq!(rt;
-            run.written.as_slice(),
-            &expected.as_str().as_bytes()[..room]
-        );
+        assert_eq!(rt; run.written.as_slice(), &expected[..room]);
         assert_eq!(rt; run.failed_writes, 1);
     }
     Ok(())
@@ -104,47 +103,45 @@ fn a_page_and_one_that_moved(rt: HostRuntime) -> Result<(), Fail> {
 }
 
 /// What a client sends, what is written, and how it ends: a further request behind each closing one isn't answered.
-const ENDS: [(&str, &str, Result<(), ServeFault>); 8] = [
-    ("", "", Err(ServeFault::EndedEarly)),
-    ("\r\n", "", Err(ServeFault::EndedEarly)),
-    (
-        "GET /h HTTP/1.1\r\nHost: a\r\n\r\n\r\n\r\n",
-        PAGE,
-        Err(ServeFault::EndedEarly),
-    ),
-    (
-        "GET /h HTTP/1.1\r\nHost: a\r\nConnection: x, CLOSE\r\n\r\nGET /h HTTP/1.1\r\nHost: a\r\n\r\n",
-        LAST_PAGE,
-        Ok(()),
-    ),
-    (
-        "GET /h HTTP/1.0\r\nConnection: keep-alive\r\n\r\nGET /h HTTP/1.1\r\nHost: a\r\n\r\n",
-        LAST_PAGE,
-        Ok(()),
-    ),
-    (
-        "GET /h HTTP/1.1\r\n\r\nGET /h HTTP/1.1\r\nHost: a\r\n\r\n",
-        BAD,
-        Ok(()),
-    ),
-    // A submission behind a refused request, and one that is refused itself, are not taken.
-    (
-        "GET /h HTTP/1.1\r\n\r\nPOST /_submit/1/5 HTTP/1.1\r\nHost: a\r\nContent-Length: 8\r\n\r\nrelease\n",
-        BAD,
-        Ok(()),
-    ),
-    (
-        "POST /_submit/1/5 HTTP/1.1\r\nContent-Length: 8\r\n\r\nrelease\n",
-        BAD,
-        Ok(()),
-    ),
-];
-
 #[test]
 fn where_it_ends(rt: HostRuntime) -> Result<(), Fail> {
     let alloc = rt.alloc();
     let mut desk = open_desk(alloc, "Hi\n", 1);
-    for (bytes, written, result) in ENDS {
+    for (bytes, written, result) in [
+        ("", "", Err(ServeFault::EndedEarly)),
+        ("\r\n", "", Err(ServeFault::EndedEarly)),
+        (
+            "GET /h HTTP/1.1\r\nHost: a\r\n\r\n\r\n\r\n",
+            PAGE,
+            Err(ServeFault::EndedEarly),
+        ),
+        (
+            "GET /h HTTP/1.1\r\nHost: a\r\nConnection: x, CLOSE\r\n\r\nGET /h HTTP/1.1\r\nHost: a\r\n\r\n",
+            LAST_PAGE,
+            Ok(()),
+        ),
+        (
+            "GET /h HTTP/1.0\r\nConnection: keep-alive\r\n\r\nGET /h HTTP/1.1\r\nHost: a\r\n\r\n",
+            LAST_PAGE,
+            Ok(()),
+        ),
+        (
+            "GET /h HTTP/1.1\r\n\r\nGET /h HTTP/1.1\r\nHost: a\r\n\r\n",
+            BAD,
+            Ok(()),
+        ),
+        // A submission behind a refused request, and one that is refused itself, are not taken.
+        (
+            "GET /h HTTP/1.1\r\n\r\nPOST /_submit/1/5 HTTP/1.1\r\nHost: a\r\nContent-Length: 8\r\n\r\nrelease\n",
+            BAD,
+            Ok(()),
+        ),
+        (
+            "POST /_submit/1/5 HTTP/1.1\r\nContent-Length: 8\r\n\r\nrelease\n",
+            BAD,
+            Ok(()),
+        ),
+    ] {
         let run = served(alloc, &mut desk, whole(bytes.as_bytes()));
         assert_eq!(rt; run.result, result, "{bytes}");
         assert_eq!(rt; run.written.as_slice(), written.as_bytes(), "{bytes}");
@@ -205,6 +202,15 @@ fn two_submissions(rt: HostRuntime) -> Result<(), Fail> {
     Ok(())
 }
 
+/// A writer that takes all.
+fn room(alloc: Global) -> Sink {
+    Sink {
+        taken: Vec::new(alloc),
+        room: usize::MAX,
+        piece: usize::MAX,
+    }
+}
+
 /// Two connections by turns, a request of each at a time: what one sent ahead waits in its inbox.
 #[test]
 fn two_connections_by_turns(rt: HostRuntime) -> Result<(), Fail> {
@@ -214,8 +220,8 @@ fn two_connections_by_turns(rt: HostRuntime) -> Result<(), Fail> {
     let bytes = bytes.as_str().as_bytes();
     let (mut one, mut other) = (Counted::new(bytes), Counted::new(bytes));
     let (mut ahead, mut behind) = (Inbox::new(alloc), Inbox::new(alloc));
-    let mut first = Counted::new(Vec::new(alloc));
-    let mut second = Counted::new(Vec::new(alloc));
+    let mut first = Counted::new(room(alloc));
+    let mut second = Counted::new(room(alloc));
     for answered in 0..2 {
         let next = exchange(alloc, &mut one, &mut first, &mut ahead, &mut desk, answered)?;
         assert_eq!(rt; next, Next::Stays);
@@ -232,9 +238,12 @@ fn two_connections_by_turns(rt: HostRuntime) -> Result<(), Fail> {
     let next = exchange(alloc, &mut one, &mut first, &mut ahead, &mut desk, 2)?;
     assert_eq!(rt; next, Next::Ended);
     let expected = format!(in alloc; "{PAGE}{PAGE}")?;
-    assert_eq!(rt; first.into_inner().as_slice(), expected.as_str().as_bytes());
     assert_eq!(rt;
-        second.into_inner().as_slice(),
+        first.into_inner().taken.as_slice(),
+        expected.as_str().as_bytes()
+    );
+    assert_eq!(rt;
+        second.into_inner().taken.as_slice(),
         expected.as_str().as_bytes()
     );
     Ok(())
