@@ -1,9 +1,9 @@
 -- An input without a byte.
-use Rattle.std.proofs.Common.{◌≡◌, ℕ, zero, suc, ◌<◌, List, [], ◌∷◌, ◌++◌, length, slice_index, arith, sym, ap, subst, refl, append-nil, length-append, inl}
+use Rattle.std.proofs.Common.{◌≡◌, ℕ, zero, suc, ◌<◌, [], ◌∷◌, length, slice_index, arith, sym, ap, subst, refl, append-nil, length-append, inl}
 use Rattle.std.proofs.lemmas.List.{take_all}
 use Rattle.std.proofs.lemmas.Str.{IsUtf8-from_ascii}
 use Rattle.httparse.specs.Ascii.{line_feed}
-use Rattle.httparse.specs.Grammar.{LineEnd, RequestHead, print_request, IsRequestHead, ReadsRequest, HasNoRequest, MayBecomeRequest, is_token_byte}
+use Rattle.httparse.specs.Grammar.{LineEnd, RequestHead, print_request, IsRequestHead, HasNoRequest, MayBecomeRequest, is_token_byte}
 use Rattle.http_read.specs.declared.heads.TheConstants.{HEAD_LIMIT}
 use Rattle.http_read.specs.Heads.{ended, window, ReadsHead}
 use Rattle.http_read.specs.Requests.{IsCutShort}

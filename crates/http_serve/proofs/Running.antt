@@ -1,5 +1,5 @@
 -- A connection as it is served: what its ends tell of it.
-use Rattle.std.proofs.Common.{◌≡◌, ℕ, zero, suc, ◌+◌, ◌<◌, ◌≤◌, Bool, true, false, List, [], ◌++◌, Option, Some, None, IfSome, Result, Ok, Err, arith, refl, sym, ap, subst}
+use Rattle.std.proofs.Common.{◌≡◌, ℕ, zero, suc, ◌+◌, ◌<◌, ◌≤◌, Bool, true, false, true≢false, List, [], ◌++◌, Option, Some, None, IfSome, Result, Ok, Err, arith, refl, sym, ap, subst, ◌∙◌}
 use Rattle.std.specs.Bool.{⊤}
 use Rattle.std.specs.Io.KnownBytes.{Appends}
 use Rattle.std.proofs.KnownBytes.{Appends-nil, Appends-trans}
@@ -9,7 +9,7 @@ use Rattle.http_read.specs.Requests.{Answers, IsCutShort, stops, ends}
 use Rattle.http_serve.specs.declared.fault.ServeFault.{ServeFault}
 use Rattle.http_serve.specs.declared.fault.ServeFault.TheVariants.{Read, Write, OutOfMemory, EndedEarly}
 use Rattle.http_serve.specs.declared.next.Next.{Next}
-use Rattle.http_serve.specs.declared.next.Next.TheVariants.{Stays, Ended}
+use Rattle.http_serve.specs.declared.next.Next.TheVariants.{Stays, Closes, Ended}
 use Rattle.http_serve.specs.Connections.{HasServed, MayRefuse, Serves}
 use Rattle.http_serve.specs.Exchanges.{Responds, Exchanges, next_behind, ends_with}
 use Rattle.http_serve.specs.Services.{Offered, MaySubmit, MaySubmitMany}
@@ -37,6 +37,26 @@ answered service n now after (Some i) left rest before behind kept text next res
   subst (λ x. Exchanges service n now i left rest after text (Ok x)) (sym is) (as_next service n now after i left rest text kept responds),
   all,
 )
+
+abbrev is_staying : Next → Bool
+is_staying Stays = true
+is_staying Closes = false
+is_staying Ended = false
+
+abbrev is_over : Next → Bool
+is_over Stays = false
+is_over Closes = false
+is_over Ended = true
+
+-- it goes on so where the connection stays alone
+pub stays_where : (kept : Bool) (next : Next) → next ≡ next_behind kept → next ≡ Stays → kept ≡ true
+stays_where true next is so = refl
+stays_where false next is so = absurd (true≢false (ap is_staying (sym so ∙ is)))
+
+-- and is never over
+pub not_over : {P : Type 0} (kept : Bool) (next : Next) → next ≡ next_behind kept → next ≡ Ended → P
+not_over true next is so = absurd (true≢false (ap is_over (sym so ∙ is)))
+not_over false next is so = absurd (true≢false (ap is_over (sym so ∙ is)))
 
 -- a beginning of it was
 pub cut_off : {S : Type 0} (service : Offered S) (n : ℕ) (now after : S) (input left rest before behind : Option (List ℕ)) (kept : Bool) (text : List ℕ)

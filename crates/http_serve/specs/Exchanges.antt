@@ -1,5 +1,5 @@
 -- One step of a connection: what comes of its next request.
-use Rattle.std.specs.Prelude.{◌≡◌, ℕ, zero, suc, ◌⊎◌, Bool, true, false, List, [], ◌++◌, Option, Some, None, Result, Ok, Err, ⊤}
+use Rattle.std.specs.Prelude.{◌≡◌, ℕ, zero, suc, Bool, true, false, List, [], ◌++◌, Option, Some, None, Result, Ok, Err, ⊤}
 use Rattle.http_read.specs.Input.{StopsAt}
 use Rattle.http_read.specs.Requests.{stops, ends, Answers, IsCutShort}
 use Rattle.http_serve.specs.declared.fault.ServeFault.{ServeFault}

@@ -1,5 +1,5 @@
 //! Serves one connection.
-ghost use Rattle.std.specs.Prelude.{◌≡◌, ◌⊎◌, ◌&&◌, ◌+◌, ◌<◌, ◌≤◌, ℕ, suc, nat_lt, true, List, IfOk, IfSome, IsErrOf};
+ghost use Rattle.std.specs.Prelude.{◌≡◌, ◌⊎◌, ◌&&◌, ◌+◌, ◌<◌, ◌≤◌, ℕ, suc, nat_lt, true, List, None, IfOk, IfSome, IsErrOf};
 ghost use Rattle.std.specs.Io.KnownBytes.{Appends};
 ghost use Rattle.http_read.specs.Counted.{inside, failed, RoseByOne};
 ghost use Rattle.http_read.specs.Bytes.{end_of, IsSilent, HasFailed, IsSound};
@@ -39,6 +39,7 @@ fn next_message<R: Read, S: Service>(
     ensures response { IfOk result (λ found. IfSome (input_of inbox.old (R.remaining (inside reader.old)))
         (λ input. Finds S.offered (suc answered) service.old input (input_of inbox.new (R.remaining (inside reader.new))) service.new found)) }
     ensures few { IfOk result (λ found. IfSome found (λ message. message.stays ≡ true → answered + 1 < 100)) }
+    ensures over { IfOk result (λ found. found ≡ None → service.new ≡ service.old) }
     ensures unread { IsErrOf result ServeFault.Read →
         StopsAt (input_of inbox.old (R.remaining (inside reader.old))) (R.remaining (inside reader.new)) IsCutShort }
     ensures ended { IsErrOf result ServeFault.EndedEarly →

@@ -1,8 +1,9 @@
-use Rattle.std.proofs.Common.{ap, suc, Err, inl, inr}
+use Rattle.std.proofs.Common.{ap, suc, refl, Err, inl, inr}
+use Rattle.std.proofs.KnownBytes.{Keeps-refl}
 use Rattle.std.proofs.lemmas.Result.{err_from_is_err_and}
 use Rattle.http_read.specs.Counted.{inside}
 use Rattle.http_read.specs.Input.{input_of}
-use Rattle.http_serve.proofs.Running.{answered, cut_off, sent_no_more, given_up}
+use Rattle.http_serve.proofs.Running.{answered, stays_where, not_over, cut_off, sent_no_more, given_up}
 use Rattle.http_serve.proofs.serving.exchange.Goals as goal
 
 pub returns-in_err-message-clause-answered : goal.returns-in_err-message-clause-answered
@@ -21,6 +22,14 @@ returns-in-Ok-clause-answered g c =
     answered _ (suc c.args.answered) _ _ _ _ (g.R.Read.remaining (inside c.next_message.new.reader)) _ _ c.in-Some.message.stays _ _ responds
     (rw c.as_slice.ensures.value at c.in-Ok.ensures.ok.whole) c.behind.ensures
 
+pub returns-in-Ok-clause-few : goal.returns-in-Ok-clause-few
+returns-in-Ok-clause-few g c = λ so.
+    let few = rw c.in-Some.is at c.in_ok-message.ensures.few in
+    few (stays_where c.in-Some.message.stays _ c.behind.ensures so)
+
+pub returns-in-Ok-clause-over : goal.returns-in-Ok-clause-over
+returns-in-Ok-clause-over g c = λ so. not_over c.in-Some.message.stays _ c.behind.ensures so
+
 pub returns-in-Err-clause-answered : goal.returns-in-Err-clause-answered
 returns-in-Err-clause-answered g c =
     let responds = rw c.in-Some.is at c.in_ok-message.ensures.response in
@@ -31,3 +40,6 @@ pub returns-in-None-clause-answered : goal.returns-in-None-clause-answered
 returns-in-None-clause-answered g c =
     let over = rw c.in-None.is at c.in_ok-message.ensures.response in
     sent_no_more _ (suc c.args.answered) _ _ _ _ (g.R.Read.remaining (inside c.next_message.new.reader)) _ over
+
+pub returns-in-None-clause-over : goal.returns-in-None-clause-over
+returns-in-None-clause-over g c = λ _. (c.in_ok-message.ensures.over c.in-None.is, record { kept = Keeps-refl _; sound = refl })
