@@ -1,10 +1,10 @@
 -- The response to a request, by its method.
 use Rattle.std.proofs.lemmas.Bool.Decides.{nat_tests}
-use Rattle.std.proofs.Common.{◌≡◌, ◌∙◌, ℕ, suc, ◌+◌, ◌<◌, nat_lt, Bool, true, false, true≢false, not, ◌&&◌, List, codes, bytes_eq, slice_index, Option, Some, None, Result, Ok, Err, OnErr, IfSome, arith, refl, sym, ap, subst, inl, inr}
+use Rattle.std.proofs.Common.{◌≡◌, ◌∙◌, ℕ, suc, ◌+◌, ◌<◌, nat_lt, Bool, true, false, true≢false, not, ◌&&◌, List, [], codes, bytes_eq, slice_index, Option, Some, None, Result, Ok, Err, OnErr, IfSome, arith, refl, sym, ap, subst, inl, inr}
 use Rattle.http_read.specs.declared.incoming.Method.{Method}
 use Rattle.http_read.specs.declared.incoming.Method.TheVariants.{Get, Head, Post}
 use Rattle.http_read.specs.Methods.{method_name}
-use Rattle.http_read.specs.Requests.{Asked, Answers, asks, refuses}
+use Rattle.http_read.specs.Requests.{Asked, Answers, asks, refuses, ends}
 use Rattle.http_serve.specs.Paths.{Place, Names}
 use Rattle.http_serve.specs.Replies.{Reply, closes, stays_behind, print_reply}
 use Rattle.http_serve.specs.Responses.{asked_reply, refusal, RepliesToPost}
@@ -120,3 +120,9 @@ pub not_kept : {P : Type 0} (m : Message) (to_head : Bool) (status : ℕ) → wr
     → m.stays ≡ true → P
 not_kept m to_head status written so =
     absurd (true≢false (sym so ∙ stays_of m (closing to_head) (refusal status) written))
+
+-- the client sent no more, and nothing was asked of the service
+pub ended_over : {S : Type 0} (now : S) (input rest : Option (List ℕ)) → IfSome input (λ i. Answers i ends × (rest ≡ Some []))
+    → IfSome input (λ i. Answers i ends × (now ≡ now))
+ended_over now None rest heard = tt
+ended_over now (Some i) rest heard = (heard.0, refl)

@@ -1,5 +1,5 @@
 use Rattle.std.proofs.Common.{suc}
-use Rattle.http_serve.proofs.Answering.{kept_as, few_answered, request_responds, refusal_responds, not_kept}
+use Rattle.http_serve.proofs.Answering.{kept_as, few_answered, request_responds, refusal_responds, not_kept, ended_over}
 use Rattle.http_serve.proofs.serving.next_message.Goals as goal
 
 pub returns-in_ok-respond-in-Request-clause-response : goal.returns-in_ok-respond-in-Request-clause-response
@@ -22,3 +22,8 @@ returns-in_ok-refused-in-Refused-clause-response g c =
 pub returns-in_ok-refused-in-Refused-clause-few : goal.returns-in_ok-refused-in-Refused-clause-few
 returns-in_ok-refused-in-Refused-clause-few g c =
     not_kept _ c.in-Refused.head c.in-Refused.status c.in_ok-refused-in-Refused.ensures
+
+pub returns-in-Ended-clause-response : goal.returns-in-Ended-clause-response
+returns-in-Ended-clause-response g c =
+    let heard = rw c.in-Ended.is at c.in_ok-asked.ensures.answer in
+    ended_over _ _ _ heard
