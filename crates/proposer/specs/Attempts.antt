@@ -1,5 +1,5 @@
 -- A proposer's attempts, and its step: what a promise does to them.
-use Rattle.std.specs.Prelude.{◌≡◌, ◌⊎◌, ◌↔◌, ℕ, Option, Some, None, IsSome, List, [], ◌∷◌, ◌++◌, length, map}
+use Rattle.std.specs.Prelude.{◌≡◌, ◌⊎◌, ◌↔◌, ℕ, suc, Option, Some, None, IsSome, List, [], ◌∷◌, ◌++◌, length, map}
 use Rattle.site_ids.specs.Ids.{BallotOf, NotAbove}
 use Rattle.site_ids.specs.Lists.{In, Distinct, put_at}
 use Rattle.site_ids.specs.Majorities.{Majority}
@@ -22,6 +22,11 @@ pub record Attempt : Type 0 where
 -- an attempt that nobody has answered
 abbrev pub opened : BallotOf → List ℕ → Attempt
 opened b own = record { ballot = b; own = own; answers = []; proposal = None }
+
+-- and with such an attempt at each instance from i on, one for each of the values, all at one ballot
+abbrev pub opened_span : (ℕ → Option Attempt) → ℕ → BallotOf → List (List ℕ) → ℕ → Option Attempt
+opened_span attempts i b [] = attempts
+opened_span attempts i b (v ∷ vs) = opened_span (put_at attempts i (Some (opened b v))) (suc i) b vs
 
 abbrev pub senders : List Answer → List ℕ
 senders answers = map (λ x. x.sender) answers

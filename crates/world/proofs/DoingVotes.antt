@@ -1,19 +1,19 @@
 -- What prepares and proposals do at a node by tables, computed, and that they do so.
-use Rattle.std.proofs.Common.{◌≡◌, ◌≢◌, inl, inr, ℕ, Option, Some, None, List, [], ◌∷◌, refl, sym, ap, subst, ⊎_elim}
+use Rattle.std.proofs.Common.{◌≡◌, ◌≢◌, inl, inr, ℕ, suc, ◌+◌, Option, Some, None, List, [], ◌∷◌, refl, sym, ap, subst, ⊎_elim}
 use Rattle.site_ids.specs.Ids.{BallotOf, Below, NotAbove}
 use Rattle.site_ids.specs.declared.value.Vote.{Vote}
 use Rattle.wire.specs.declared.message.Message.{Message}
 use Rattle.acceptor.specs.declared.slot.Slot.{Slot}
 use Rattle.acceptor.specs.Judging.{IsFreeAt, IsVotedAt, IsVotedFor}
 use Rattle.acceptor.specs.Steps.{Answer as Reply, promise, accepted, nack, no_answer, prepare, proposal, Steps, with_promise, with_vote as with_slot_vote}
-use Rattle.durable.specs.Entries.{Entry, Round, Promised, Voted, Raises, IsPromise, IsSlot, last_vote}
+use Rattle.durable.specs.Entries.{Entry, Round, Promised, PromisedSpan, Voted, Raises, IsPromise, IsSlot, last_vote}
 use Rattle.node.specs.declared.to.To.{To}
 use Rattle.node.specs.Nodes.{Value}
 use Rattle.node.specs.Effects.{Effect}
 use Rattle.node.specs.Deliveries.{Records, prepare_out, propose_out, OnPrepare, OnPropose}
 use Rattle.site_ids.proofs.BallotLemmas.{not_itself}
 use Rattle.world.proofs.Order.{not_above_itself, not_above_trans, below_is_not_above, not_above_cases}
-use Rattle.world.proofs.Told.{Told, both, numbers, ballots, ballot_order, values}
+use Rattle.world.proofs.Told.{Told, both, numbers, no_more, ballots, ballot_order, values}
 use Rattle.world.proofs.Tables.{NodeBy, node_by}
 
 -- an effect by tables
@@ -76,6 +76,12 @@ promise_in (Promised j b ∷ es) i =
     elim (numbers j i) [
       | inl e ↦ raised es (Promised j b) i b (e, refl) (λ c r. sym r.1) p.0 p.1
       | inr apart ↦ (p.0, unraised es (Promised j b) i p.0 (λ c r. apart r.0) p.1)
+    ]
+promise_in (PromisedSpan j k b ∷ es) i =
+    let p = promise_in es i in
+    elim (both (no_more j i) (no_more (suc i) (j + k))) [
+      | inl within ↦ raised es (PromisedSpan j k b) i b (within, refl) (λ c r. sym r.1) p.0 p.1
+      | inr outside ↦ (p.0, unraised es (PromisedSpan j k b) i p.0 (λ c r. outside r.0) p.1)
     ]
 promise_in (Voted j b v ∷ es) i =
     let p = promise_in es i in
