@@ -1,7 +1,7 @@
 ghost use Rattle.node.specs.Laws.{BeginningStays, KnownStays, OneEntry};
-ghost use Rattle.node.specs.Ranges.{OpensInRange, SaysMessages, StaysInRange};
+ghost use Rattle.node.specs.Ranges.{OpensInRange, SaysFew, SaysMessages, StaysInRange};
 ghost use Rattle.node.specs.Stuck.{NeverStuck};
-ghost use Rattle.node.specs.Tidy.{CommandsShareTheirOwn, OpensTidy, SaysFew, SharingIsMutual, StaysTidy};
+ghost use Rattle.node.specs.Tidy.{CommandsShareTheirOwn, OpensTidy, SharingIsMutual, StaysTidy};
 
 /// A call loses nothing that is known, and puts at most one entry on record.
 pub fn calls_forget_nothing()

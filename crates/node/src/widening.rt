@@ -1,21 +1,22 @@
-//! A widening: a fresh attempt at the least free instance.
+//! A widening: fresh attempts at the least free instance and on.
 
-ghost use Rattle.std.specs.Prelude.{◌≡◌, ◌↔◌, ℕ, None, Some, IfOk, IsErrOf, IsTrue, MatchOption};
-ghost use Rattle.proposer.specs.Attempts.{Attempt};
+ghost use Rattle.std.specs.Prelude.{◌≡◌, ◌↔◌, ◌+◌, ◌≤◌, ℕ, List, None, Some, IfOk, IsErrOf, IsTrue, MatchOption, length};
 
 use crate::{Node, NodeFault, Outbox, To, WINDOW};
 use site_disk::Disk;
 use site_ids::{Instance, Value};
+use std::alloc::AllocError;
 use wire::Message;
 
 impl<D: Disk> Node<D> {
     ghost use Rattle.node.specs.Nodes.{Node as AbstractNode, Value as Bytes, IsUnknown, IsFirstUnknown};
-    ghost use Rattle.node.specs.Calls.{IsTried, IsNextFree, IsNextValue, MayWiden, widen as widening};
+    ghost use Rattle.node.specs.Calls.{IsTried, IsUntried, IsNextFree, MayWiden, widen as widening};
+    ghost use Rattle.node.specs.Widening.{IsFreeRun, AreOldest};
     ghost use Rattle.node.specs.Standing.{IsNodeOf, IsEvent, TakesRound, OnlyGrows, KeepsOthers, CountsDevice, ending_of};
 
-    /// A fresh round goes on record, and an attempt at the least free instance begins with it, for the oldest value that
-    /// is pending and that no attempt has as its own. Without such an instance or value it answers false, and nothing
-    /// happens.
+    /// A fresh round goes on record, and attempts at the least free instance and on begin with it, as long as the next
+    /// one is free and in reach, for the oldest values that are pending and that no attempt has as its own. One prepare
+    /// for all of them goes out. Without such an instance or value it answers false, and nothing happens.
     pub fn widen(&mut self, outbox: &mut Outbox) -> Result<bool, NodeFault>
         ensures event { IsEvent D.stands_for self.old self.new widening (ending_of result) outbox.old.items outbox.new.items }
         ensures widened { IfOk result (λ widened. (s : AbstractNode) → IsNodeOf self.old s → IsTrue widened ↔ MayWiden s) }
@@ -33,23 +34,25 @@ impl<D: Disk> Node<D> {
         let Some(instance) = self.next_free(first) else {
             return Ok(false);
         };
-        let Some(value) = self.next_value(first) else {
+        if !self.has_untried() {
             return Ok(false);
-        };
+        }
         let Ok(ballot) = self.proposer.next_ballot(self.store.round()) else {
             return Err(NodeFault::RoundsUsedUp);
         };
         outbox.reserve(1)?;
-        let own = Value::copied_from(self.alloc, value)?;
-        self.proposer.make_room(instance)?;
+        let values = self.untried(self.free_run(first, instance))?;
+        let count = values.len() as u8;
+        self.proposer.make_room_for_span(instance, count)?;
         self.store.put_round(ballot.round())?;
-        self.proposer.open(instance, ballot, own);
+        self.proposer.open_span(instance, ballot, values);
         outbox.push_reserved((
             To::All,
             Message::Prepare {
                 from: self.me,
                 instance,
                 ballot,
+                count,
             },
         ));
         Ok(true)
@@ -70,6 +73,24 @@ impl<D: Disk> Node<D> {
         None
     }
 
+    /// How many instances are free one behind the other, from this one on, up to the window's end.
+    fn free_run(&self, first: Instance, instance: Instance) -> usize
+        ensures { (s : AbstractNode) → IsNodeOf self.now s → IsFirstUnknown s.known first → IsNextFree s instance → IsFreeRun s first instance result }
+    {
+        let end = first.number() + WINDOW;
+        let mut next = instance.number();
+        while next < end {
+            let Some(at) = Instance::new(next) else {
+                break;
+            };
+            if !self.is_free(at) {
+                break;
+            }
+            next += 1;
+        }
+        (next - instance.number()) as usize
+    }
+
     /// It is unknown, and has no attempt.
     fn is_free(&self, instance: Instance) -> bool
         ensures { (s : AbstractNode) → IsNodeOf self.now s → IsTrue result ↔ (IsUnknown s instance × (s.attempts instance ≡ None)) }
@@ -83,42 +104,31 @@ impl<D: Disk> Node<D> {
         }
     }
 
-    /// The oldest pending value that no attempt has as its own.
-    fn next_value(&self, first: Instance) -> Option<&[u8]>
-        ensures { (s : AbstractNode) → IsNodeOf self.now s → IsFirstUnknown s.known first → MatchOption result ((v : Bytes) → ¬ IsNextValue s v) (λ v. IsNextValue s v.now) }
+    /// A pending value has no attempt.
+    fn has_untried(&self) -> bool
+        ensures { (s : AbstractNode) → IsNodeOf self.now s → IsTrue result ↔ ((v : Bytes) × IsUntried s v) }
     {
         for waiting in &self.queue.items {
-            if !self.is_tried(first, waiting.value.as_bytes()) {
-                return Some(waiting.value.as_bytes());
-            }
-        }
-        None
-    }
-
-    /// An attempt has the value as its own.
-    fn is_tried(&self, first: Instance, value: &[u8]) -> bool
-        ensures { (s : AbstractNode) → IsNodeOf self.now s → IsFirstUnknown s.known first → IsTrue result ↔ IsTried s value.now }
-    {
-        let mut past = 0;
-        while past < WINDOW {
-            let Some(instance) = Instance::new(first.number() + past) else {
-                return false;
-            };
-            if self.tries(instance, value) {
+            if !self.proposer.tries(waiting.value.as_bytes()) {
                 return true;
             }
-            past += 1;
         }
         false
     }
 
-    /// The attempt at an instance has the value as its own.
-    fn tries(&self, instance: Instance, value: &[u8]) -> bool
-        ensures { (s : AbstractNode) → IsNodeOf self.now s → IsTrue result ↔ ((a : Attempt) × (s.attempts instance ≡ Some a) × (a.own ≡ value.now)) }
+    /// Copies of the oldest pending values that no attempt has as its own, so many at most.
+    fn untried(&self, most: usize) -> Result<Vec<Value>, AllocError>
+        ensures { IfOk result (λ values. (s : AbstractNode) → IsNodeOf self.now s → AreOldest s most values.items) }
     {
-        match self.proposer.own_value(instance) {
-            Some(own) => own.as_bytes() == value,
-            None => false,
+        let mut values = Vec::new(self.alloc);
+        for waiting in &self.queue.items {
+            if values.len() == most {
+                return Ok(values);
+            }
+            if !self.proposer.tries(waiting.value.as_bytes()) {
+                values.push(waiting.value.try_clone(self.alloc)?)?;
+            }
         }
+        Ok(values)
     }
 }

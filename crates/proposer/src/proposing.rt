@@ -226,6 +226,7 @@ impl Proposer {
                 from: self.me,
                 instance,
                 ballot: attempt.ballot,
+                count: 1,
             }));
         }
         let value = proposed_value(&attempt.own, &attempt.best).try_clone(self.alloc)?;
@@ -258,6 +259,20 @@ impl Proposer {
             Some(Some(attempt)) => Some(&attempt.own),
             _ => None,
         }
+    }
+
+    /// Whether an open attempt has the value as its own.
+    pub fn tries(&self, value: &[u8]) -> bool
+        ensures { (attempts : ℕ → Option Attempt) → Attempting self.now attempts → IsTrue result ↔ ((i : ℕ) × (a : Attempt) × (attempts i ≡ Some a) × (a.own ≡ value.now)) }
+    {
+        for attempt in self.attempts.values() {
+            if let Some(attempt) = attempt {
+                if attempt.own.as_bytes() == value {
+                    return true;
+                }
+            }
+        }
+        false
     }
 
     /// Closes the attempt at an instance, if one is open.
