@@ -1,5 +1,5 @@
 //! The path that a request target asks for (RFC 9112, section 3.2).
-ghost use Rattle.std.specs.Prelude.{◌≡◌, ◌≢◌, ◌<◌, ℕ, List, ◌≤◌, length, IfOk, MatchOption, string_bytes, IsTrue, IsUtf8, ◌↔◌};
+ghost use Rattle.std.specs.Prelude.{◌≡◌, ◌≢◌, ◌<◌, ℕ, List, ◌≤◌, length, IfOk, MatchOption, string_bytes, IsTrue, IsUtf8, ◌↔◌, codes};
 ghost use Rattle.percent_encoding.specs.Percent.{percent_decode as decoded_form};
 ghost use Rattle.http_uri.specs.Uri.{Spells};
 ghost use Rattle.http_read.specs.Targets.{AsksFor, IsPlainTarget, is_authority_alone};
@@ -41,6 +41,7 @@ fn decoded(alloc: Global, text: &str) -> Result<Option<String>, AllocError>
 /// The path of a URI that the target spells.
 fn uri_target(alloc: Global, target: &[u8], uri: &Uri) -> Result<Option<String>, AllocError>
     requires plain { IsPlainTarget target.now }
+    requires no_asterisk { target.now ≢ codes "*" }
     requires spelled { Spells target.now uri.now }
     ensures { IfOk result (λ found. MatchOption found
         ((path : List ℕ) → ¬ (AsksFor target.now path)) (λ path. AsksFor target.now (string_bytes path))) }
@@ -56,7 +57,7 @@ pub(crate) fn target_path(alloc: Global, target: &[u8]) -> Result<Option<String>
     ensures { IfOk result (λ found. MatchOption found
         ((path : List ℕ) → ¬ (AsksFor target.now path)) (λ path. AsksFor target.now (string_bytes path))) }
 {
-    if !is_plain(target) {
+    if !is_plain(target) || target == b"*".as_slice() {
         return Ok(None);
     }
     match Uri::from_bytes(alloc, target) {

@@ -1,5 +1,5 @@
 -- What comes of a connection, from what comes of its one request.
-use Rattle.std.proofs.Common.{◌≡◌, ◌⊎◌, ℕ, List, [], ◌++◌, Option, Some, None, Err, Ok, IfSome, refl, sym, subst, inl}
+use Rattle.std.proofs.Common.{◌≡◌, ℕ, List, [], ◌++◌, Option, Some, None, Err, Ok, IfSome, refl, sym, subst, inl}
 use Rattle.std.proofs.Common.{append-nil}
 use Rattle.std.specs.Bool.{⊤}
 use Rattle.std.specs.Io.KnownBytes.{Appends}
@@ -8,8 +8,8 @@ use Rattle.http_read.specs.Input.{input_of, StopsAt}
 use Rattle.http_read.specs.Requests.{Answers, stops}
 use Rattle.http_serve.specs.declared.fault.ServeFault.{ServeFault}
 use Rattle.http_serve.specs.declared.fault.ServeFault.TheVariants.{Read, Write, OutOfMemory, EndedEarly}
-use Rattle.http_serve.specs.Connections.{IsLast, Serves}
-use Rattle.http_serve.specs.Services.{Offered, Refuses}
+use Rattle.http_serve.specs.Connections.{IsLast, MayRefuse, Serves}
+use Rattle.http_serve.specs.Services.{Offered}
 
 pub served : {S : Type 0} (service : Offered S) (now after : S) (held : List ℕ) (input rest before behind : Option (List ℕ)) (text : List ℕ)
     → held ≡ [] → IfSome (input_of held input) (λ i. IsLast service 1 now i after text) → Appends before behind text
@@ -35,7 +35,7 @@ pub given_up : {S : Type 0} (service : Offered S) (now after : S) (held : List �
     → (fault ≡ Read → StopsAt (input_of held input) rest (λ taken. Answers taken stops))
     → (fault ≡ EndedEarly → IfSome (input_of held input) (λ i. Answers i stops))
     → (fault ≡ Read → after ≡ now) → (fault ≡ EndedEarly → after ≡ now)
-    → (fault ≡ OutOfMemory → (after ≡ now) ⊎ Refuses service now after)
+    → (fault ≡ OutOfMemory → IfSome (input_of held input) (λ i. MayRefuse service i now after))
     → ¬ (fault ≡ Write)
     → IfSome input (λ i. (said : List ℕ) × Serves {S = S} {T = ⊤} service now i rest after said (Err fault) × Appends known known said)
 given_up service now after held None rest known fault none unread ended same same_too refused unwritten = tt
@@ -44,7 +44,8 @@ given_up service now after held (Some i) rest known Read none unread ended same 
     ([], (0, now, i, (refl, refl, refl), (it, same refl)), appends_nothing known)
 given_up service now after held (Some i) rest known Write none unread ended same same_too refused unwritten = absurd (unwritten refl)
 given_up service now after held (Some i) rest known OutOfMemory none unread ended same same_too refused unwritten =
-    ([], (0, now, i, (refl, refl, refl), refused refl), appends_nothing known)
+    let it = subst (λ h. MayRefuse service (h ++ i) now after) none (refused refl) in
+    ([], (0, now, i, (refl, refl, refl), it), appends_nothing known)
 given_up service now after held (Some i) rest known EndedEarly none unread ended same same_too refused unwritten =
     let it = subst (λ h. Answers (h ++ i) stops) none (ended refl) in
     ([], (0, now, i, (refl, refl, refl), (it, same_too refl)), appends_nothing known)

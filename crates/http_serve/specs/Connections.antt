@@ -6,8 +6,8 @@ use Rattle.http_serve.specs.declared.fault.ServeFault.{ServeFault}
 use Rattle.http_serve.specs.declared.fault.ServeFault.TheVariants.{Read, Write, OutOfMemory, EndedEarly}
 use Rattle.http_serve.specs.Paths.{Place, Names}
 use Rattle.http_serve.specs.Replies.{Reply, print_reply}
-use Rattle.http_serve.specs.Responses.{RepliesTo, refusal}
-use Rattle.http_serve.specs.Services.{Offered, Refuses}
+use Rattle.http_serve.specs.Responses.{RepliesTo, refusal, Refuses}
+use Rattle.http_serve.specs.Services.{Offered}
 
 -- whether a connection stays after the response to its n-th request: each is closed after its first
 abbrev pub may_stay : ℕ → Asked → Reply → Bool
@@ -63,14 +63,19 @@ abbrev pub IsGivenUp : {S : Type 0} → Offered S → (List ℕ → S → S → 
 IsGivenUp {S} service P now input after text =
     (n : ℕ) × (mid : S) × (left : List ℕ) × HasServed service n now input mid left text × P left mid after
 
+-- the service is as it was, or the submission that the request at the front of the input asks for was refused
+abbrev pub MayRefuse : {S : Type 0} → Offered S → List ℕ → S → S → Type 0
+MayRefuse service input now after =
+    (after ≡ now) ⊎ ((request : Asked) × (left : List ℕ) × Answers input (asks request left) × Refuses service now request after)
+
 -- What comes of a connection with this input, of which the reader has rest: the text that is written, and the service.
--- Read: what was taken of the next request ends within it. OutOfMemory: a submission was refused at most.
+-- Read: what was taken of the next request ends within it. OutOfMemory: its submission was refused at most.
 abbrev pub Serves : {S T : Type 0} → Offered S → S → List ℕ → Option (List ℕ) → S → List ℕ → Result T ServeFault → Type 0
 Serves service now input rest after text (Ok _) = IsServed service now input after text
 Serves service now input rest after text (Err Read) =
     IsGivenUp service (λ left s t. StopsAt (Some left) rest (λ taken. Answers taken stops) × (t ≡ s)) now input after text
 Serves service now input rest after text (Err Write) = IsCutOff service now input after text
 Serves service now input rest after text (Err OutOfMemory) =
-    IsGivenUp service (λ left s t. (t ≡ s) ⊎ Refuses service s t) now input after text
+    IsGivenUp service (MayRefuse service) now input after text
 Serves service now input rest after text (Err EndedEarly) =
     IsGivenUp service (λ left s t. Answers left stops × (t ≡ s)) now input after text

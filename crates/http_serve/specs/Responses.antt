@@ -1,13 +1,14 @@
 -- Which reply a request has.
-use Rattle.std.specs.Prelude.{◌≡◌, ℕ, ◌⊎◌, false, ◌==◌, if◌then◌else◌, List, [], ◌∷◌, ◌++◌, codes, Option, Some, None, Ok, Err}
+use Rattle.std.specs.Prelude.{◌≡◌, ℕ, ◌⊎◌, false, ◌==◌, if◌then◌else◌, List, [], ◌∷◌, ◌++◌, codes, Option, Some, None, Ok, Err, ⊤}
 use Rattle.std.specs.Fmt.{decimal}
 use Rattle.command.specs.Written.{line_of}
 use Rattle.release.specs.Page.{Page}
 use Rattle.http_read.specs.Requests.{Asked}
 use Rattle.http_serve.specs.declared.submission.Submission.TheVariants.{Queued, Already}
+use Rattle.http_serve.specs.declared.submission.SubmitFault.{SubmitFault}
 use Rattle.http_serve.specs.declared.submission.SubmitFault.TheVariants.{Command, Busy, Stopped, OutOfMemory}
 use Rattle.http_serve.specs.Replies.{Reply}
-use Rattle.http_serve.specs.Paths.{Place, submission, receipt, newest, release, unknown, page}
+use Rattle.http_serve.specs.Paths.{Place, Names, submission, receipt, newest, release, unknown, page}
 use Rattle.http_serve.specs.Services.{Outcome, Offered, Submits}
 
 -- a text, and a line feed behind it
@@ -67,6 +68,25 @@ RepliesToPost service now body (submission ticket) after reply =
     (done : Outcome) × Submits service now ticket body done after × (outcome_reply done ≡ Some reply)
 RepliesToPost service now body unknown after reply = (after ≡ now) × (reply ≡ plain 404 (codes "not found"))
 RepliesToPost service now body place after reply = (after ≡ now) × (reply ≡ wrong_method (codes "GET, HEAD"))
+
+-- where memory is wanted behind a submission, this came of it: the words for the others were made before
+abbrev pub MayGoUntold : SubmitFault → Type 0
+MayGoUntold (Command fault) = ⊤
+MayGoUntold OutOfMemory = ⊤
+MayGoUntold _ = ⊥
+
+-- the submission of this text at a place was refused, and nothing is answered
+abbrev pub RefusesPost : {S : Type 0} → Offered S → S → List ℕ → Place → S → Type 0
+RefusesPost service now body (submission ticket) after =
+    (fault : SubmitFault) × MayGoUntold fault × Submits service now ticket body (Err fault) after
+RefusesPost service now body place after = ⊥
+
+-- the request is a submission, and was refused so
+pub record Refuses {S : Type 0} (service : Offered S) (now : S) (request : Asked) (after : S) : Type 0 where
+  pub posts : request.method ≡ codes "POST"
+  pub place : Place
+  pub names : Names request.path place
+  pub refused : RefusesPost service now request.body place after
 
 -- the reply to a request at a place, and the service as it leaves it
 abbrev pub RepliesTo : {S : Type 0} → Offered S → S → Asked → Place → S → Reply → Type 0

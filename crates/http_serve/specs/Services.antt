@@ -1,5 +1,5 @@
 -- What a server asks of the service behind it.
-use Rattle.std.specs.Prelude.{◌≡◌, ◌⊎◌, ℕ, List, Option, Result, Err, OnErr, ⊤}
+use Rattle.std.specs.Prelude.{◌≡◌, ◌⊎◌, ℕ, List, Option, Result, OnErr, ⊤}
 use Rattle.site_ids.specs.declared.Ticket.{Ticket}
 use Rattle.command.specs.Written.{HasLine}
 use Rattle.release.specs.Page.{Page}
@@ -24,11 +24,6 @@ pub record Offered (S : Type 0) : Type 1 where
 pub record Submits {S : Type 0} (service : Offered S) (now : S) (ticket : Ticket) (text : List ℕ) (done : Outcome) (after : S) : Type 0 where
   pub taken : service.takes now ticket text done after
   pub stayed : OnErr done (service.stays now after)
-
--- the service was given one submission, and refused it
-abbrev pub Refuses : {S : Type 0} → Offered S → S → S → Type 0
-Refuses service now after =
-    (ticket : Ticket) × (text : List ℕ) × (fault : SubmitFault) × Submits service now ticket text (Err fault) after
 
 -- the service was given one submission at most
 abbrev pub MaySubmit : {S : Type 0} → Offered S → S → S → Type 0

@@ -2,10 +2,11 @@
 ghost use Rattle.std.specs.Prelude.{◌≡◌, ◌⊎◌, IfOk, OnErr, Some, decimal, true, false};
 ghost use Rattle.http_read.specs.Incoming.{request_of};
 ghost use Rattle.http_serve.specs.Connections.{IsResponse};
+ghost use Rattle.http_serve.specs.Paths.{submission};
 ghost use Rattle.http_serve.specs.Places.{place_shown};
 ghost use Rattle.http_serve.specs.Replies.{Reply, print_reply};
-ghost use Rattle.http_serve.specs.Responses.{plain as plain_reply, refusal, wrong_method as wrong_reply, receipt_reply, page_reply, asked_reply, outcome_reply, line, RepliesToPost};
-ghost use Rattle.http_serve.specs.Services.{Outcome, Submits, Refuses};
+ghost use Rattle.http_serve.specs.Responses.{plain as plain_reply, refusal, wrong_method as wrong_reply, receipt_reply, page_reply, asked_reply, outcome_reply, line, RepliesToPost, RefusesPost, Refuses};
+ghost use Rattle.http_serve.specs.Services.{Outcome, Submits};
 
 use crate::places::{Place, place_of};
 use crate::replies::{Response, text_of};
@@ -158,7 +159,7 @@ fn submitted<S: Service>(
     ensures answered { IfOk result (λ bytes. (done : Outcome) × (reply : Reply)
         × Submits S.offered service.old ticket text.now done service.new
         × (outcome_reply done ≡ Some reply) × (bytes.items ≡ print_reply false reply)) }
-    ensures refused { OnErr result ((service.new ≡ service.old) ⊎ Refuses S.offered service.old service.new) }
+    ensures refused { OnErr result ((service.new ≡ service.old) ⊎ RefusesPost S.offered service.old text.now (submission ticket) service.new) }
 {
     let queued = plain(alloc, false, 202, "queued")?;
     let already = plain(alloc, false, 200, "already")?;
@@ -186,7 +187,7 @@ fn posted<S: Service>(
     ensures answered { IfOk result (λ bytes. (reply : Reply)
         × RepliesToPost S.offered service.old body.now (place_shown place.entry) service.new reply
         × (bytes.items ≡ print_reply false reply)) }
-    ensures refused { OnErr result ((service.new ≡ service.old) ⊎ Refuses S.offered service.old service.new) }
+    ensures refused { OnErr result ((service.new ≡ service.old) ⊎ RefusesPost S.offered service.old body.now (place_shown place.entry) service.new) }
 {
     match place {
         Place::Submission(ticket) => submitted(alloc, service, ticket, body),
@@ -205,7 +206,7 @@ pub(crate) fn respond<S: Service>(
 ) -> Result<Vec<u8>, AllocError>
     ensures answered { IfOk result (λ bytes. (reply : Reply)
         × IsResponse S.offered service.old (request_of request.now) service.new reply bytes.items) }
-    ensures refused { OnErr result ((service.new ≡ service.old) ⊎ Refuses S.offered service.old service.new) }
+    ensures refused { OnErr result ((service.new ≡ service.old) ⊎ Refuses S.offered service.old (request_of request.now) service.new) }
 {
     let path = request.path.as_str();
     let place = place_of(path);

@@ -5,8 +5,8 @@ ghost use Rattle.http_read.specs.Counted.{inside, failed, RoseByOne};
 ghost use Rattle.http_read.specs.Bytes.{end_of, IsSilent, HasFailed, IsSound};
 ghost use Rattle.http_read.specs.Input.{input_of, StopsAt};
 ghost use Rattle.http_read.specs.Requests.{Answers, stops};
-ghost use Rattle.http_serve.specs.Connections.{IsLast, Serves};
-ghost use Rattle.http_serve.specs.Services.{Refuses, MaySubmit};
+ghost use Rattle.http_serve.specs.Connections.{IsLast, MayRefuse, Serves};
+ghost use Rattle.http_serve.specs.Services.{MaySubmit};
 
 use crate::fault::ServeFault;
 use crate::responding::{refused, respond};
@@ -28,7 +28,8 @@ fn next_response<R: Read, S: Service>(
     ensures ended { IsErrOf result ServeFault.EndedEarly →
         IfSome (input_of inbox.old (R.remaining (inside reader.old))) (λ input. Answers input stops) }
     ensures unasked { (IsErrOf result ServeFault.Read ⊎ IsErrOf result ServeFault.EndedEarly) → service.new ≡ service.old }
-    ensures refused { IsErrOf result ServeFault.OutOfMemory → (service.new ≡ service.old) ⊎ Refuses S.offered service.old service.new }
+    ensures refused { IsErrOf result ServeFault.OutOfMemory →
+        IfSome (input_of inbox.old (R.remaining (inside reader.old))) (λ input. MayRefuse S.offered input service.old service.new) }
     ensures unwritten { ¬ (IsErrOf result ServeFault.Write) }
     ensures taken { MaySubmit S.offered service.old service.new }
     ensures failed { IsErrOf result ServeFault.Read → RoseByOne (failed reader.old) (failed reader.new) }

@@ -3,7 +3,7 @@ use crate::pieces::{Row, check};
 use std::test::Fail;
 
 /// Targets of a GET request.
-const TARGETS: [Row; 34] = [
+const TARGETS: [Row; 37] = [
     ("/", "GET /"),
     ("/a/b", "GET /a/b"),
     ("//a/b", "GET //a/b"),
@@ -34,8 +34,11 @@ const TARGETS: [Row; 34] = [
     ("http://a?b", "GET /"),
     ("http://", "400"),
     ("http:///b", "400"),
-    // `*` is a path; a host alone is refused, and so is a path without its slash.
-    ("*", "GET *"),
+    // `*` asks for no path, a host alone neither, nor a path without its slash.
+    ("*", "400"),
+    ("/*", "GET /*"),
+    ("http://a/*", "GET /*"),
+    ("*?a", "400"),
     ("a", "400"),
     ("a:80", "400"),
     ("a/b", "400"),

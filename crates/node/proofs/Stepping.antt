@@ -34,7 +34,7 @@ use Rattle.node.specs.declared.to.To.{To}
 use Rattle.node.specs.Nodes.{Value, Up, Stopped, Node, BeginsKnown}
 use Rattle.node.specs.Calls.{Call, deliver, Does}
 use Rattle.node.specs.Effects.{Effect, recorded}
-use Rattle.node.specs.Endings.{Ending, Whole, Refused, Failed, Ends, EndsWhole, EndsRefused, EndsFailed, Contradicts, Refuses}
+use Rattle.node.specs.Endings.{Ending, Whole, Refused, Failed, Ends, EndsWhole, EndsRefused, EndsFailed, TakesRoom, Refuses}
 use Rattle.node.specs.Faults.{of_record}
 use Rattle.node.specs.Knowing.{AreKnown}
 use Rattle.node.specs.Ranges.{HasRanges, IsCallInRange}
@@ -245,11 +245,11 @@ module _ {D : Type 0} where
     wants_memory old new call r before after others in_range told is why store same =
         subst (λ ending. IsEvent stands_for old new call ending before after) (sym (ending_err r fault.OutOfMemory is)) (refused old new call fault.OutOfMemory before after others in_range told why store same)
 
-    -- so of a message that is no chosen value
+    -- so of a message that may take room
     pub delivery_wants : {T : Type 0} (old new : Running D) (m : Message) (r : Result T NodeFault) (before after : Handed) → KeepsOthers old new → old.store.stopped ≡ false → IsMessage old.cluster m
-        → ((s : Node) → ¬ Contradicts s m) → after ≡ before → IsErrAnd r (λ y. y ≡ fault.OutOfMemory) → new.store ≡ old.store → KeepsRest old new → new.reached ≡ old.reached → IsEvent stands_for old new (deliver m) (ending_of r) before after
-    delivery_wants old new m r before after others runs in_range agrees told is store rest reached =
-        wants_memory old new (deliver m) r before after others in_range told is (λ s stands. (is_up old s stands.parts runs, agrees s)) (same_store old.store new.store store) (λ s parts. unmoved old new s others store rest reached parts)
+        → ((s : Node) → IsNodeOf old s → TakesRoom s m) → after ≡ before → IsErrAnd r (λ y. y ≡ fault.OutOfMemory) → new.store ≡ old.store → KeepsRest old new → new.reached ≡ old.reached → IsEvent stands_for old new (deliver m) (ending_of r) before after
+    delivery_wants old new m r before after others runs in_range takes told is store rest reached =
+        wants_memory old new (deliver m) r before after others in_range told is (λ s stands. (is_up old s stands.parts runs, takes s stands)) (same_store old.store new.store store) (λ s parts. unmoved old new s others store rest reached parts)
 
     -- ---- a put
 

@@ -1,17 +1,18 @@
-ghost use Rattle.node.specs.Laws.{BeginningStays, KnownStays, OneEntry};
+ghost use Rattle.node.specs.Laws.{BeginningStays, KnownStays, MarkStays, OneEntry};
 ghost use Rattle.node.specs.Ranges.{OpensInRange, SaysFew, SaysMessages, StaysInRange};
 ghost use Rattle.node.specs.Stuck.{NeverStuck};
 ghost use Rattle.node.specs.Tidy.{CommandsShareTheirOwn, OpensTidy, SharingIsMutual, StaysTidy};
 
-/// A call loses nothing that is known, and puts at most one entry on record.
+/// A call loses nothing that is known, puts at most one entry on record, and neither arms the device nor disarms it.
 pub fn calls_forget_nothing()
     ensures known { KnownStays }
     ensures begins { BeginningStays }
     ensures entry { OneEntry }
+    ensures mark { MarkStays }
 {}
 
-/// An attempt stands at the first unknown instance alone, votes stand at unknown ones, and what is pending has tickets of its own. So a call hands out few
-/// messages.
+/// Attempts stand at unknown instances less than `MAX_ATTEMPTS` past the first unknown one, votes at unknown ones, and what is pending has tickets of its
+/// own. So a call hands out few messages.
 pub fn nodes_stay_tidy()
     ensures opens { OpensTidy }
     ensures stays { StaysTidy }

@@ -1,10 +1,9 @@
 //! A prepare that is delivered: each instance of its span is judged by itself.
 
-ghost use Rattle.std.specs.Prelude.{◌≡◌, ◌≢◌, ◌⊎◌, ◌++◌, ℕ, List, IfOk, OnOk, IsErrOf, IsTrue, false, length};
+ghost use Rattle.std.specs.Prelude.{◌≡◌, ◌+◌, ◌-◌, ℕ, IfOk, OnOk, OnErr, IsErrOf, false};
 ghost use Rattle.site_ids.specs.Ids.{IsNode};
 ghost use Rattle.site_ids.specs.Spans.{IsSpan, IsInSpan};
 ghost use Rattle.acceptor.specs.Judging.{IsFreeBelow};
-ghost use Rattle.acceptor.specs.Steps.{prepare, Steps};
 ghost use Rattle.durable.specs.Entries.{promise_of};
 ghost use Rattle.durable.specs.Puts.{Puts};
 ghost use Rattle.durable.specs.Slots.{slot_at};
@@ -13,7 +12,7 @@ ghost use Rattle.wire.specs.Messages.{IsMessage};
 use crate::messages::{nack, promise};
 use crate::{Node, NodeFault, Outbox};
 use acceptor::{PrepareVerdict, judge_prepare};
-use durable::RecordFault;
+use durable::{Record, RecordFault};
 use site_disk::Disk;
 use site_ids::{Ballot, Instance, Vote};
 use std::alloc::{AllocError, Global};
@@ -28,9 +27,27 @@ fn copy_of(alloc: Global, vote: &Option<Vote>) -> Result<Option<Vote>, AllocErro
     }
 }
 
+/// Puts the promise of a span that raises one of its instances at least. That of one instance is an entry of its own kind.
+fn put_promises<D: Disk>(
+    store: &mut Record<D>,
+    first: Instance,
+    count: u8,
+    ballot: Ballot,
+) -> Result<(), RecordFault>
+    requires of_cluster { IsNode store.old.cluster ballot.node }
+    requires span { IsSpan first count }
+    requires above { (at : ℕ) × IsInSpan first count at × IsFreeBelow (slot_at store.old.recorded.slots at).promised ballot }
+    ensures { Puts D.stands_for D.failed store.old store.new (promise_of first count ballot) result }
+{
+    if count == 1 {
+        return store.put_promise(first, ballot);
+    }
+    store.put_promise_span(first, count, ballot)
+}
+
 /// What a prepare of a span comes to.
 #[derive(Drop)]
-struct Judgement {
+pub(crate) struct Judgement {
     /// Whether a promise rises.
     rises: bool,
     /// The answers, by instance.
@@ -38,13 +55,12 @@ struct Judgement {
 }
 
 impl<D: Disk> Node<D> {
-    ghost use Rattle.node.specs.Nodes.{Node as AbstractNode};
-    ghost use Rattle.node.specs.Deliveries.{Judged, prepare_out, span_out};
     ghost use Rattle.node.specs.Calls.{deliver};
-    ghost use Rattle.node.specs.Standing.{IsNodeOf, IsEvent, OnlyGrows, KeepsOthers, CountsDevice, ending_of};
-    ghost use Rattle.node.specs.Judgements.{AreJudgedAt, Rises};
+    ghost use Rattle.node.specs.Standing.{IsEvent, OnlyGrows, KeepsOthers, CountsDevice, ending_of};
+    ghost use Rattle.node.specs.Judgements.{IsJudgement, JudgesMore, IsOwed};
 
-    /// A promise is on record before it is handed out: that of a span as one entry, whole.
+    /// A promise is on record before it is handed out: that of a span as one entry, whole, also where few of its
+    /// instances rise. The answers are made before, so nothing is left to refuse behind the put.
     pub(crate) fn on_prepare(
         &mut self,
         first: Instance,
@@ -60,20 +76,30 @@ impl<D: Disk> Node<D> {
         ensures grows { OnlyGrows outbox.old.items outbox.new.items }
         ensures others { KeepsOthers self.old self.new }
     {
+        let reached = self.reached.max(first.number() + count as u32 - 1);
         let mut judgement = self.judge_span(first, count, ballot)?;
         outbox.reserve(judgement.answers.len())?;
-        if judgement.rises {
-            self.put_promises(first, count, ballot)?;
+        if !judgement.rises {
+            let _ = outbox.append(&mut judgement.answers);
+            self.reached = reached;
+            return Ok(());
         }
+        put_promises(&mut self.store, first, count, ballot)?;
         let _ = outbox.append(&mut judgement.answers);
-        self.reached = self.reached.max(first.number() + count as u32 - 1);
+        self.reached = reached;
         Ok(())
     }
 
-    /// Judges each instance of a span. Nothing changes.
-    fn judge_span(&self, first: Instance, count: u8, ballot: Ballot) -> Result<Judgement, AllocError>
+    /// Judges each instance of a span. Nothing changes. Memory is wanted only where an instance is owed an answer.
+    fn judge_span(
+        &self,
+        first: Instance,
+        count: u8,
+        ballot: Ballot,
+    ) -> Result<Judgement, AllocError>
         requires { IsSpan first count }
-        ensures { IfOk result (λ x. (judged : List Judged) × (length judged ≡ count) × AreJudgedAt (slot_at self.now.store.recorded.slots) ballot first judged × Rises judged x.rises × (x.answers.items ≡ span_out self.now.me first ballot judged)) }
+        ensures ok { IfOk result (λ told. IsJudgement (slot_at self.now.store.recorded.slots) self.now.me first ballot count told) }
+        ensures err { OnErr result ((at : ℕ) × IsInSpan first count at × IsOwed (slot_at self.now.store.recorded.slots at) ballot) }
     {
         let mut judgement = Judgement {
             rises: false,
@@ -81,22 +107,24 @@ impl<D: Disk> Node<D> {
         };
         let mut past = 0;
         while past < count {
-            if let Some(at) = Instance::new(first.number() + past as u32) {
-                self.judge(at, ballot, &mut judgement)?;
-            }
+            let Some(at) = Instance::new(first.number() + past as u32) else {
+                return Ok(judgement);
+            };
+            self.judge(at, ballot, &mut judgement)?;
             past += 1;
         }
         Ok(judgement)
     }
 
-    /// Judges one instance more.
+    /// Judges one instance more. A silent one takes no memory.
     fn judge(
         &self,
         at: Instance,
         ballot: Ballot,
         judgement: &mut Judgement,
     ) -> Result<(), AllocError>
-        ensures { OnOk result ((x : Judged) × (x.slot ≡ slot_at self.now.store.recorded.slots at) × Steps x.slot (prepare ballot) x.after x.answer × (judgement.new.answers.items ≡ judgement.old.answers.items ++ prepare_out self.now.me at ballot x.answer) × (((x.after ≢ x.slot) × IsTrue judgement.new.rises) ⊎ ((x.after ≡ x.slot) × (judgement.new.rises ≡ judgement.old.rises)))) }
+        ensures ok { OnOk result (JudgesMore (slot_at self.now.store.recorded.slots at) self.now.me at ballot judgement.old judgement.new) }
+        ensures err { OnErr result (IsOwed (slot_at self.now.store.recorded.slots at) ballot) }
     {
         let slot = self.store.slot(at);
         match judge_prepare(slot, ballot) {
@@ -108,32 +136,14 @@ impl<D: Disk> Node<D> {
             }
             PrepareVerdict::Again => {
                 let prior = copy_of(self.alloc, &slot.vote)?;
-                judgement.answers.push(promise(self.me, at, ballot, prior))
+                judgement.answers.push(promise(self.me, at, ballot, prior))?;
+                Ok(())
             }
             PrepareVerdict::Nack(promised) => {
-                judgement.answers.push(nack(self.me, at, ballot, promised))
+                judgement.answers.push(nack(self.me, at, ballot, promised))?;
+                Ok(())
             }
             PrepareVerdict::Silent => Ok(()),
-        }
-    }
-
-    /// Puts the promise of a span that rises, of one instance as that instance's.
-    fn put_promises(
-        &mut self,
-        first: Instance,
-        count: u8,
-        ballot: Ballot,
-    ) -> Result<(), RecordFault>
-        requires of_cluster { IsNode self.old.store.cluster ballot.node }
-        requires span { IsSpan first count }
-        requires above { (at : ℕ) × IsInSpan first count at × IsFreeBelow (slot_at self.old.store.recorded.slots at).promised ballot }
-        ensures put { Puts D.stands_for D.failed self.old.store self.new.store (promise_of first count ballot) result }
-        ensures rest { self.new ≡ record self.old { store = self.new.store } }
-    {
-        if count == 1 {
-            self.store.put_promise(first, ballot)
-        } else {
-            self.store.put_promise_span(first, count, ballot)
         }
     }
 }

@@ -32,10 +32,10 @@ impl<D: Disk> Node<D> {
         ensures grows { OnlyGrows outbox.old.items outbox.new.items }
         ensures others { KeepsOthers self.old self.new }
     {
-        outbox.reserve(1)?;
         let reached = self.reached.max(instance.number());
         match judge_propose(self.store.slot(instance), ballot, value) {
             ProposeVerdict::Vote => {
+                outbox.reserve(1)?;
                 let copy = Value::copied_from(self.alloc, value)?;
                 self.store.put_vote(instance, ballot, value)?;
                 outbox.push_reserved(accepted(self.me, instance, ballot, copy));
@@ -43,12 +43,14 @@ impl<D: Disk> Node<D> {
                 Ok(())
             }
             ProposeVerdict::Again => {
+                outbox.reserve(1)?;
                 let copy = Value::copied_from(self.alloc, value)?;
                 outbox.push_reserved(accepted(self.me, instance, ballot, copy));
                 self.reached = reached;
                 Ok(())
             }
             ProposeVerdict::Nack(promised) => {
+                outbox.reserve(1)?;
                 outbox.push_reserved(nack(self.me, instance, ballot, promised));
                 self.reached = reached;
                 Ok(())

@@ -1,4 +1,4 @@
-ghost use Rattle.std.specs.Prelude.{◌≡◌, ◌+◌, ◌<◌, ℕ, max, None, Some, Option, OnOk, OnErr, IfOk, IfErr, MatchResult, length, map};
+ghost use Rattle.std.specs.Prelude.{◌≡◌, ◌↔◌, ◌+◌, ◌<◌, ℕ, max, None, Some, Option, OnOk, OnErr, IfOk, IfErr, IsTrue, MatchResult, length, map};
 ghost use Rattle.std.specs.Option.{option_map};
 ghost use Rattle.site_ids.specs.declared.TheConstants.{MAX_ROUND};
 ghost use Rattle.site_ids.specs.Ids.{IsNode};

@@ -33,7 +33,7 @@ const WANTS_GET: Row = (
 );
 
 /// Paths of two releases, and what GET answers; HEAD answers the same without the body, and POST wants GET or HEAD.
-const PATHS: [(&str, Row); 18] = [
+const PATHS: [(&str, Row); 17] = [
     ("/h", LATER),
     ("/@1/h", FIRST),
     ("/@2/h", LATER),
@@ -47,7 +47,6 @@ const PATHS: [(&str, Row); 18] = [
         ("500 Internal Server Error", PLAIN, "", "template missing\n"),
     ),
     ("/", NOT_FOUND),
-    ("*", NOT_FOUND),
     ("/H", NOT_FOUND),
     ("/h/", NOT_FOUND),
     ("//h", NOT_FOUND),

@@ -17,7 +17,7 @@ const BAD: &str =
 const BAD_HEAD: &str =
     "HTTP/1.1 400 Bad Request\r\nContent-Type: text/plain; charset=utf-8\r\nContent-Length: 12\r\nConnection: close\r\n\r\n";
 
-const ROWS: [(&str, &str); 9] = [
+const ROWS: [(&str, &str); 10] = [
     ("GET /%68?x HTTP/1.1\r\nHost: a\r\n\r\n", PAGE),
     ("HEAD /%68?x HTTP/1.1\r\nHost: a\r\n\r\n", PAGE_HEAD),
     ("GET /h HTTP/1.0\r\n\r\n", PAGE),
@@ -27,6 +27,7 @@ const ROWS: [(&str, &str); 9] = [
         PAGE,
     ),
     ("GET /%68?x HTTP/1.1\r\n\r\n", BAD),
+    ("GET * HTTP/1.1\r\nHost: a\r\n\r\n", BAD),
     ("HEAD /%68?x HTTP/1.1\r\n\r\n", BAD_HEAD),
     ("HEAD /h HTTP/1.1\r\nHost : a\r\n\r\n", BAD),
     (

@@ -6,3 +6,4 @@ pub mod Turning
 pub mod ManyTurns
 pub mod Calling
 pub mod Closing
+pub mod Failing

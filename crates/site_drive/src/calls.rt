@@ -4,7 +4,7 @@ ghost use Rattle.std.specs.Prelude.{◌≡◌, ◌≢◌, [], List, IfErr, OnOk}
 ghost use Rattle.site_ids.specs.Lists.{In};
 ghost use Rattle.wire.specs.declared.message.Message.{Message};
 ghost use Rattle.wire.specs.Messages.{Fits};
-ghost use Rattle.node.specs.Standing.{KeepsOthers, ending_by, ending_of};
+ghost use Rattle.node.specs.Standing.{KeepsOthers, CountsDevice, ending_by, ending_of};
 ghost use Rattle.node.specs.declared.to.To.{To};
 ghost use Rattle.site_drive.specs.Sending.{Counted};
 ghost use Rattle.site_drive.specs.Drives.{EndsLast, EndsTurns, Closes, GivesUpLast};
@@ -22,6 +22,7 @@ impl Desk {
         ensures event { NodeLeads D.stands_for node.old node.new (Called LastCall.Widen node.old.cluster node.old.me (ending_of result) self.old.outbox.items self.new.outbox.items) }
         ensures others { KeepsOthers node.old node.new }
         ensures counted { self.new.failed ≡ self.old.failed }
+        ensures counts { CountsDevice result (D.failed node.old.store.disk) (D.failed node.new.store.disk) }
     {
         'widening: while node.widen(&mut self.outbox)? {}
         Ok(())
@@ -32,6 +33,7 @@ impl Desk {
         ensures event { NodeLeads D.stands_for node.old node.new (Called LastCall.TickOrAsk node.old.cluster node.old.me (ending_of result) self.old.outbox.items self.new.outbox.items) }
         ensures others { KeepsOthers node.old node.new }
         ensures counted { self.new.failed ≡ self.old.failed }
+        ensures counts { CountsDevice result (D.failed node.old.store.disk) (D.failed node.new.store.disk) }
     {
         if !node.wants_tick() {
             return node.ask(&mut self.outbox);
@@ -44,6 +46,7 @@ impl Desk {
         ensures event { NodeLeads D.stands_for node.old node.new (Called last node.old.cluster node.old.me (ending_of result) self.old.outbox.items self.new.outbox.items) }
         ensures others { KeepsOthers node.old node.new }
         ensures counted { self.new.failed ≡ self.old.failed }
+        ensures counts { CountsDevice result (D.failed node.old.store.disk) (D.failed node.new.store.disk) }
     {
         match last {
             LastCall::TickOrAsk => self.tick_or_ask(node),
@@ -60,6 +63,7 @@ impl Desk {
         ensures other { IfErr result (λ fault. fault ≢ NodeFault.InstancesUsedUp) }
         ensures others { KeepsOthers node.old node.new }
         ensures counted { self.new.failed ≡ self.old.failed }
+        ensures counts { CountsDevice result (D.failed node.old.store.disk) (D.failed node.new.store.disk) }
     {
         match self.call(node, last) {
             Ok(()) => Ok(()),
@@ -81,6 +85,7 @@ impl Desk {
         ensures others { KeepsOthers node.old node.new }
         ensures tried { L.tried link.new ≡ L.tried link.old }
         ensures counted { Counted self.old.failed self.new.failed (L.failed link.old) (L.failed link.new) }
+        ensures counts { CountsDevice result (D.failed node.old.store.disk) (D.failed node.new.store.disk) }
     {
         self.last_call(node, last)?;
         send_all(

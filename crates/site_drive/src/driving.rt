@@ -1,6 +1,7 @@
 //! Turns alone, and turns with calls behind the last one.
 
 ghost use Rattle.std.specs.Prelude.{◌≡◌, ◌≤◌, [], ℕ, IfOk, IfErr, OnOk, OnErr};
+ghost use Rattle.node.specs.Standing.{CountsDevice};
 ghost use Rattle.site_drive.specs.Links.{RoseBy};
 ghost use Rattle.site_drive.specs.Sending.{Counted};
 ghost use Rattle.site_drive.specs.Drives.{Exchanges, GivesUp, DrivesWith, GivesUpDrivingWith, Drives, GivesUpDriving};
@@ -28,6 +29,7 @@ impl Desk {
         ensures tried { OnOk result (RoseBy turns (L.tried link.old) (L.tried link.new)) }
         ensures tried_fewer { OnErr result ((made : ℕ) × (made ≤ turns) × RoseBy made (L.tried link.old) (L.tried link.new)) }
         ensures counted { Counted self.old.failed self.new.failed (L.failed link.old) (L.failed link.new) }
+        ensures counts { CountsDevice result (D.failed node.old.store.disk) (D.failed node.new.store.disk) }
     {
         let mut malformed = 0;
         let mut made = 0;
@@ -55,6 +57,7 @@ impl Desk {
         ensures tried_fewer { OnErr result ((made : ℕ) × (made ≤ turns) × RoseBy made (L.tried link.old) (L.tried link.new)) }
         ensures failed { IfOk result (λ driven. RoseBy driven.failed (L.failed link.old) (L.failed link.new)) }
         ensures failed_too { OnErr result ((calls : ℕ) × RoseBy calls (L.failed link.old) (L.failed link.new)) }
+        ensures counts { CountsDevice result (D.failed node.old.store.disk) (D.failed node.new.store.disk) }
     {
         self.outbox.clear();
         self.failed = 0;
@@ -83,6 +86,7 @@ pub fn exchange<D: Disk, L: Link>(
     ensures tried_fewer { OnErr result ((made : ℕ) × (made ≤ turns) × RoseBy made (L.tried link.old) (L.tried link.new)) }
     ensures failed { IfOk result (λ driven. RoseBy driven.failed (L.failed link.old) (L.failed link.new)) }
     ensures failed_too { OnErr result ((calls : ℕ) × RoseBy calls (L.failed link.old) (L.failed link.new)) }
+    ensures counts { CountsDevice result (D.failed node.old.store.disk) (D.failed node.new.store.disk) }
 {
     let mut desk = Desk::new(alloc)?;
     let malformed = desk.take_turns(node, link, turns)?;
@@ -106,6 +110,7 @@ pub fn drive<D: Disk, L: Link>(
     ensures tried_fewer { OnErr result ((made : ℕ) × (made ≤ turns) × RoseBy made (L.tried link.old) (L.tried link.new)) }
     ensures failed { IfOk result (λ driven. RoseBy driven.failed (L.failed link.old) (L.failed link.new)) }
     ensures failed_too { OnErr result ((calls : ℕ) × RoseBy calls (L.failed link.old) (L.failed link.new)) }
+    ensures counts { CountsDevice result (D.failed node.old.store.disk) (D.failed node.new.store.disk) }
 {
     let mut desk = Desk::new(alloc)?;
     desk.drive_with(node, link, turns, LastCall::TickOrAsk)

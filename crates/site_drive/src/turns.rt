@@ -6,7 +6,7 @@ ghost use Rattle.wire.specs.declared.message.Message.{Message};
 ghost use Rattle.wire.specs.Messages.{Fits};
 ghost use Rattle.node.specs.Nodes.{Node as AbstractNode};
 ghost use Rattle.node.specs.declared.to.To.{To};
-ghost use Rattle.node.specs.Standing.{IsNodeOf, KeepsOthers};
+ghost use Rattle.node.specs.Standing.{IsNodeOf, KeepsOthers, CountsDevice};
 ghost use Rattle.site_drive.specs.Links.{RoseBy};
 ghost use Rattle.site_drive.specs.Sending.{Counted};
 ghost use Rattle.site_drive.specs.Drives.{Heard, datagrams, Takes, BreaksOff, Exchanges, GivesUp};
@@ -53,6 +53,7 @@ impl Desk {
             (d : List ℕ) × (h ≡ Some d) × BreaksOff node.old.cluster node.old.me s d fault next)) }
         ensures others { KeepsOthers node.old node.new }
         ensures counted { self.new.failed ≡ self.old.failed }
+        ensures counts { CountsDevice result (D.failed node.old.store.disk) (D.failed node.new.store.disk) }
     {
         let Some(n) = came else {
             return Ok(0);
@@ -81,6 +82,7 @@ impl Desk {
         ensures whose { StaysWhose node.old node.new }
         ensures tried { RoseBy 1 (L.tried link.old) (L.tried link.new) }
         ensures counted { Counted self.old.failed self.new.failed (L.failed link.old) (L.failed link.new) }
+        ensures counts { CountsDevice result (D.failed node.old.store.disk) (D.failed node.new.store.disk) }
     {
         let came = self.hear(link);
         let malformed = self.take_in(node, came)?;

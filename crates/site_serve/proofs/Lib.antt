@@ -5,3 +5,4 @@ pub mod ManyPatientRounds
 pub mod Ending
 pub mod Throttled
 pub mod Runs
+pub mod Failing

@@ -1,5 +1,5 @@
 -- Why a server ends before its rounds are done, and the line that says so.
-use Rattle.std.specs.Prelude.{ℕ, ◌≡◌, ◌⊎◌, List, ◌++◌, codes, ⊤}
+use Rattle.std.specs.Prelude.{ℕ, ◌≡◌, ◌⊎◌, List, ◌++◌, codes, Result, IsErrOf, ⊤}
 use Rattle.durable.specs.Faults.{label}
 use Rattle.durable.specs.declared.fault.RecordFault.{RecordFault}
 use Rattle.durable.specs.declared.fault.RecordFault.TheVariants as record_fault
@@ -57,3 +57,7 @@ EndsRounds halt.Stopped = ⊤
 EndsRounds halt.RoundsUsedUp = ⊤
 EndsRounds halt.Conflict = ⊤
 EndsRounds _ = ⊥
+
+-- the device counted no failure, unless the server ends as stopped
+abbrev pub CountsNone : {T : Type 0} → Result T Halt → ℕ → ℕ → Type 0
+CountsNone result before now = ¬ IsErrOf result halt.Stopped → now ≡ before

@@ -4,7 +4,7 @@ ghost use Rattle.std.specs.Prelude.{◌≡◌, ◌≢◌, ◌≤◌, ℕ, IfOk, 
 ghost use Rattle.http_serve.specs.Services.{MaySubmit};
 ghost use Rattle.node.specs.Standing.{KeepsOthers};
 ghost use Rattle.site_drive.specs.Leading.{LeadsTo, StaysWhose};
-ghost use Rattle.site_serve.specs.Halts.{EndsRounds};
+ghost use Rattle.site_serve.specs.Halts.{CountsNone, EndsRounds};
 ghost use Rattle.site_serve.specs.Patience.{TakesTurn, TakesTurns, TakesPatientRound, TakesPatientRounds, BreaksTurn, BreaksTurns, BreaksPatientRound, BreaksPatientRounds};
 ghost use Rattle.site_serve.specs.Rounds.{Serves, TakesSteps};
 ghost use Rattle.site_serve.specs.Served.{offered};
@@ -37,6 +37,7 @@ fn take_turn<D: Disk, C: Clock>(
     ensures fault { IfErr result (λ why. LeadsTo D.stands_for ⟦<PatientLink as Link>⟧.received ⟦<PatientLink as Link>⟧.given served.old.node served.new.node link.old link.new (BreaksTurn served.old.node.cluster served.old.node.me why)) }
     ensures ends { IfErr result EndsRounds }
     ensures whose { StaysWhose served.old.node served.new.node }
+    ensures counts { CountsNone result (D.failed served.old.node.store.disk) (D.failed served.new.node.store.disk) }
 {
     let wanted = served.node.wants_tick();
     pace.note(clock, served.node.known(), wanted, link.stirs());
@@ -58,6 +59,7 @@ fn take_turns<D: Disk, C: Clock>(
     ensures fault { IfErr result (λ why. LeadsTo D.stands_for ⟦<PatientLink as Link>⟧.received ⟦<PatientLink as Link>⟧.given served.old.node served.new.node link.old link.new (BreaksTurns served.old.node.cluster served.old.node.me why)) }
     ensures ends { IfErr result EndsRounds }
     ensures whose { StaysWhose served.old.node served.new.node }
+    ensures counts { CountsNone result (D.failed served.old.node.store.disk) (D.failed served.new.node.store.disk) }
 {
     let mut turns = 0;
     let mut more = true;
@@ -96,6 +98,7 @@ fn serve_waiting<D: Disk, C: Clock>(
     ensures ok { IfOk result (λ count. (count ≤ 16) × LeadsTo D.stands_for ⟦<PatientLink as Link>⟧.received ⟦<PatientLink as Link>⟧.given served.old.node served.new.node link.old link.new (TakesSteps (Serves served.old.node.cluster served.old.node.me) count)) }
     ensures fault { IfErr result (λ why. (why ≡ Halt.OutOfMemory) × ((count : ℕ) × (count ≤ 16) × LeadsTo D.stands_for ⟦<PatientLink as Link>⟧.received ⟦<PatientLink as Link>⟧.given served.old.node served.new.node link.old link.new (TakesSteps (Serves served.old.node.cluster served.old.node.me) count))) }
     ensures others { KeepsOthers served.old.node served.new.node }
+    ensures counts { D.failed served.new.node.store.disk ≡ D.failed served.old.node.store.disk }
 {
     let mut count = 0;
     let mut more = true;
@@ -119,6 +122,7 @@ fn take_round<D: Disk, C: Clock>(
     ensures fault { IfErr result (λ why. LeadsTo D.stands_for ⟦<PatientLink as Link>⟧.received ⟦<PatientLink as Link>⟧.given served.old.node served.new.node link.old link.new (BreaksPatientRound served.old.node.cluster served.old.node.me why)) }
     ensures ends { IfErr result EndsRounds }
     ensures whose { StaysWhose served.old.node served.new.node }
+    ensures counts { CountsNone result (D.failed served.old.node.store.disk) (D.failed served.new.node.store.disk) }
 {
     let turns = take_turns(clock, desk, served, link, pace)?;
     let looks = serve_waiting(clock, alloc, served, link)?;
@@ -140,6 +144,7 @@ pub(crate) fn take_patient_rounds<D: Disk, C: Clock>(
     ensures fault { IfErr result (λ why. LeadsTo D.stands_for ⟦<PatientLink as Link>⟧.received ⟦<PatientLink as Link>⟧.given served.old.node served.new.node link.old link.new (BreaksPatientRounds served.old.node.cluster served.old.node.me rounds why)) }
     ensures ends { IfErr result EndsRounds }
     ensures whose { StaysWhose served.old.node served.new.node }
+    ensures counts { CountsNone result (D.failed served.old.node.store.disk) (D.failed served.new.node.store.disk) }
 {
     for _ in 0..rounds {
         take_round(clock, alloc, desk, served, link, pace)?;

@@ -4,7 +4,7 @@ ghost use Rattle.std.specs.Prelude.{◌≡◌, ◌≤◌, ◌+◌, ◌*◌, ℕ,
 ghost use Rattle.http_serve.specs.Services.{MaySubmit};
 ghost use Rattle.site_drive.specs.Leading.{LeadsTo, StaysWhose};
 ghost use Rattle.site_drive.specs.Links.{RoseBy};
-ghost use Rattle.site_serve.specs.Halts.{EndsRounds};
+ghost use Rattle.site_serve.specs.Halts.{CountsNone, EndsRounds};
 ghost use Rattle.site_serve.specs.Rounds.{TakesRound, TakesRounds, BreaksRound, BreaksRounds};
 ghost use Rattle.site_serve.specs.Served.{offered};
 
@@ -59,6 +59,7 @@ fn take_round<'c, D: Disk, C: Clock>(
     ensures whose { StaysWhose served.old.node served.new.node }
     ensures tried { OnOk result (RoseBy turns (⟦<Watch<'c, C> as Link>⟧.tried watch.old) (⟦<Watch<'c, C> as Link>⟧.tried watch.new)) }
     ensures tried_fewer { OnErr result ((made : ℕ) × (made ≤ turns) × RoseBy made (⟦<Watch<'c, C> as Link>⟧.tried watch.old) (⟦<Watch<'c, C> as Link>⟧.tried watch.new)) }
+    ensures counts { CountsNone result (D.failed served.old.node.store.disk) (D.failed served.new.node.store.disk) }
 {
     drive(alloc, &mut served.node, watch, turns)?;
     serve_one(clock, alloc, served, watch)
@@ -79,6 +80,7 @@ pub(crate) fn take_rounds<'c, D: Disk, C: Clock>(
     ensures whose { StaysWhose served.old.node served.new.node }
     ensures tried { OnOk result (RoseBy (rounds * turns) (⟦<Watch<'c, C> as Link>⟧.tried watch.old) (⟦<Watch<'c, C> as Link>⟧.tried watch.new)) }
     ensures tried_fewer { OnErr result ((made : ℕ) × (made ≤ rounds * turns) × RoseBy made (⟦<Watch<'c, C> as Link>⟧.tried watch.old) (⟦<Watch<'c, C> as Link>⟧.tried watch.new)) }
+    ensures counts { CountsNone result (D.failed served.old.node.store.disk) (D.failed served.new.node.store.disk) }
 {
     for _ in 0..rounds {
         take_round(clock, alloc, served, watch, turns)?;

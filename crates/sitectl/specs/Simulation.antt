@@ -1,10 +1,10 @@
 -- What a schedule's lines do to a world, and what they print.
-use Rattle.std.specs.Prelude.{ℕ, zero, suc, ◌≡◌, ◌⊎◌, ◌<◌, ◌≤◌, ◌+◌, List, [], ◌∷◌, ◌++◌, length, codes, decimal, Option, Some, None}
+use Rattle.std.specs.Prelude.{ℕ, zero, suc, ◌≡◌, ◌≢◌, ◌⊎◌, ◌≤◌, ◌+◌, List, [], ◌∷◌, ◌++◌, length, codes, decimal, Option, Some, None}
 use Rattle.command.specs.Effective.{effective}
 use Rattle.command.specs.Releases.{release_count}
 use Rattle.command.specs.Written.{value_of}
 use Rattle.node.specs.Effects.{messages_of}
-use Rattle.node.specs.Nodes.{Value, Down, IsKnownPrefix}
+use Rattle.node.specs.Nodes.{Value, Down, Node, IsKnownPrefix}
 use Rattle.release.specs.Page.{Page}
 use Rattle.site_ids.specs.Ids.{IsNode}
 use Rattle.world.specs.declared.event.Event.{Event}
@@ -12,10 +12,10 @@ use Rattle.world.specs.declared.event.Event.TheVariants.{Submit, Tick, Widen, As
 use Rattle.world.specs.declared.state.NodeState.{NodeState}
 use Rattle.world.specs.declared.state.NodeState.TheVariants as told
 use Rattle.world.specs.declared.whole.World.{World as Code}
-use Rattle.world.specs.Standing.{IsWorldOf}
-use Rattle.world.specs.Steps.{Reached, IsAnswer}
-use Rattle.world.specs.Taking.{IsBad}
-use Rattle.world.specs.Telling.{mode_told, fed_at}
+use Rattle.world.specs.Standing.{IsWorldOf, IsPublishedAt}
+use Rattle.world.specs.Steps.{LeadsTo, Reached, IsAnswer}
+use Rattle.world.specs.Taking.{TakesAll, IsBad}
+use Rattle.world.specs.Telling.{mode_told}
 use Rattle.world.specs.Worlds.{World}
 use Rattle.sitectl.specs.Schedule.{Line, submit_line, tick_line, widen_line, ask_line, restart_line, deliver_line, arm_line, crash_line, settle_line, show_line, get_line}
 
@@ -25,10 +25,11 @@ pub record Moment : Type 0 where
   pub events : List Event
   pub settled : ℕ
 
--- the events are a schedule of the n nodes, and lead to the world
+-- the events are a schedule of the n nodes, and lead to the world. Each node has published all that it knows without a gap
 pub record IsMoment (n : ℕ) (m : Moment) : Type 0 where
   pub whose : m.world.cluster ≡ n
   pub reached : Reached m.world m.events
+  pub published : (w : World) → IsWorldOf m.world w → (p : ℕ) → IsPublishedAt m.world w p
 
 -- ---- events
 
@@ -54,9 +55,10 @@ abbrev pub deliveries : ℕ → ℕ → ℕ → List Event
 deliveries n from zero = []
 deliveries n from (suc k) = deliveries n from k ++ to_each n (from + k)
 
--- the world takes these events behind the earlier ones
+-- the world takes these events, one after another, behind the earlier ones: from each world that the old value stands for to one that the new value stands for
 pub record Takes (n : ℕ) (old : Moment) (events : List Event) (new : Moment) : Type 0 where
   pub events_are : new.events ≡ old.events ++ events
+  pub leads : LeadsTo old.world new.world (λ w after. TakesAll n w events after)
   pub moment : IsMoment n new
 
 -- each message from the least index that no settle has taken on, until none is left
@@ -73,13 +75,13 @@ state_word told.Up = codes "up"
 state_word told.Stopped = codes "stopped"
 state_word told.Down = codes "down"
 
--- the line of `show`: what the node does, how long the known prefix is, and how many releases the values have that it was fed
+-- the line of `show`: what the node does, how many values it knows without a gap, and how many releases they have
 pub record IsShown (m : Moment) (p : ℕ) (printed : List ℕ) : Type 0 where
   pub state : NodeState
-  pub known : ℕ
+  pub values : List Value
   pub state_is : (w : World) → IsWorldOf m.world w → (w.node p).mode ≡ mode_told state
-  pub known_is : (w : World) → IsWorldOf m.world w → (values : List Value) × IsKnownPrefix (w.node p) values × (known ≡ length values)
-  pub printed_is : printed ≡ codes "node " ++ (decimal p ++ (codes ": " ++ (state_word state ++ (codes " known " ++ (decimal known ++ (codes " newest " ++ (decimal (release_count (effective (fed_at m.world p))) ++ codes "\n")))))))
+  pub known : (w : World) → IsWorldOf m.world w → IsKnownPrefix (w.node p) values
+  pub printed_is : printed ≡ codes "node " ++ (decimal p ++ (codes ": " ++ (state_word state ++ (codes " known " ++ (decimal (length values) ++ (codes " newest " ++ (decimal (release_count (effective values)) ++ codes "\n")))))))
 
 -- what the lines of `get` begin with
 abbrev pub got : ℕ → ℕ → List ℕ → List ℕ → List ℕ
@@ -89,15 +91,24 @@ got p n path rest = codes "node " ++ (decimal p ++ (codes " release " ++ (decima
 abbrev pub page_lines : Page → List ℕ
 page_lines page = decimal page.status ++ (codes " " ++ (decimal (length page.body) ++ (codes "\n" ++ page.body)))
 
--- the page of the values that are decided
+-- what the node knows without a gap has release n
+pub record HasRelease (s : Node) (n : ℕ) : Type 0 where
+  pub values : List Value
+  pub known : IsKnownPrefix s values
+  pub first : 1 ≤ n
+  pub counted : n ≤ release_count (effective values)
+
+-- the node isn't down and has release n, of which this is the page: that of the values that are decided
 pub record IsPage (m : Moment) (p n : ℕ) (path printed : List ℕ) : Type 0 where
   pub page : Page
+  pub up : (w : World) → IsWorldOf m.world w → (w.node p).mode ≢ Down
+  pub has : (w : World) → IsWorldOf m.world w → HasRelease (w.node p) n
   pub answers : IsAnswer m.world m.events n path page
   pub printed_is : printed ≡ got p n path (page_lines page)
 
 -- the node is down, or has no such release
 pub record IsNoPage (m : Moment) (p n : ℕ) (path printed : List ℕ) : Type 0 where
-  pub none : (w : World) → IsWorldOf m.world w → ((w.node p).mode ≡ Down) ⊎ (n ≡ 0) ⊎ (release_count (effective (fed_at m.world p)) < n)
+  pub none : (w : World) → IsWorldOf m.world w → ((w.node p).mode ≡ Down) ⊎ ¬ HasRelease (w.node p) n
   pub printed_is : printed ≡ got p n path (codes "none\n")
 
 -- ---- lines

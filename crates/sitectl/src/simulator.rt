@@ -3,7 +3,7 @@ ghost use Rattle.std.specs.Prelude.{◌≡◌, ◌⊎◌, ℕ, List, [], ◌∷�
 ghost use Rattle.http_read.specs.Bytes.{end_of, IsGiven};
 ghost use Rattle.node.specs.Effects.{messages_of};
 ghost use Rattle.sitectl.specs.ScheduleView.{line_view};
-ghost use Rattle.sitectl.specs.Simulation.{Moment, IsMoment, event_of, to_each, deliveries, state_word, IsShown, got, page_lines, IsPage, IsNoPage};
+ghost use Rattle.sitectl.specs.Simulation.{Moment, IsMoment, Takes, event_of, to_each, deliveries, state_word, IsShown, got, page_lines, IsPage, IsNoPage};
 ghost use Rattle.release.specs.Standing.{answer_view};
 ghost use Rattle.sitectl.specs.SimulationEnds.{IsStart, HasSimulated};
 ghost use Rattle.sitectl.specs.Stepping.{sim_fault, moment_of, HappenEnds, FillEnds, NextEnds, BeginEnds, IsSaid};
@@ -145,7 +145,7 @@ impl Simulation {
     }
 
     fn take(&mut self, event: Event) -> Result<(), SimFault>
-        ensures ok { OnOk result ((n : ℕ) (events : List AbstractEvent) → IsMoment n (moment_of self.old events) → IsMoment n (moment_of self.new (events ++ event ∷ []))) }
+        ensures ok { OnOk result ((n : ℕ) (events : List AbstractEvent) → IsMoment n (moment_of self.old events) → Takes n (moment_of self.old events) (event ∷ []) (moment_of self.new (events ++ event ∷ []))) }
         ensures bad { IsErrOf result SimFault.BadEvent → (w : AbstractWorld) → IsWorldOf self.old.world w → IsBad self.old.world.cluster w.sent event }
         ensures faults { IfErr result (λ e. (e ≡ SimFault.BadEvent) ⊎ (e ≡ SimFault.OutOfMemory)) }
         ensures grows { length (messages_of self.old.world.sent.items) ≤ length (messages_of self.new.world.sent.items) }
@@ -162,7 +162,7 @@ impl Simulation {
     /// Delivers a message to each node, the first one first.
     fn deliver_to_all(&mut self, index: usize) -> Result<(), SimFault>
         requires { index < length (messages_of self.old.world.sent.items) }
-        ensures ok { OnOk result ((n : ℕ) (events : List AbstractEvent) → IsMoment n (moment_of self.old events) → IsMoment n (moment_of self.new (events ++ to_each n index))) }
+        ensures ok { OnOk result ((n : ℕ) (events : List AbstractEvent) → IsMoment n (moment_of self.old events) → Takes n (moment_of self.old events) (to_each n index) (moment_of self.new (events ++ to_each n index))) }
         ensures bad { IsErrOf result SimFault.BadEvent → (n : ℕ) (events : List AbstractEvent) → ¬ IsMoment n (moment_of self.old events) }
         ensures faults { IfErr result (λ e. (e ≡ SimFault.BadEvent) ⊎ (e ≡ SimFault.OutOfMemory)) }
         ensures settled { self.new.settled ≡ self.old.settled }
@@ -179,7 +179,7 @@ impl Simulation {
     /// Delivers each message that no settle has taken, and those that come of it.
     fn settle(&mut self) -> Result<(), SimFault>
         ensures ok { OnOk result ((n : ℕ) (events : List AbstractEvent) → IsMoment n (moment_of self.old events)
-            → (count : ℕ) × (self.new.settled ≡ self.old.settled + count) × IsMoment n (moment_of self.new (events ++ deliveries n self.old.settled count))) }
+            → (count : ℕ) × (self.new.settled ≡ self.old.settled + count) × Takes n (moment_of self.old events) (deliveries n self.old.settled count) (moment_of self.new (events ++ deliveries n self.old.settled count))) }
         ensures all { OnOk result (length (messages_of self.new.world.sent.items) ≤ self.new.settled) }
         ensures bad { IsErrOf result SimFault.BadEvent → (n : ℕ) (events : List AbstractEvent) → ¬ IsMoment n (moment_of self.old events) }
         ensures faults { IfErr result (λ e. (e ≡ SimFault.BadEvent) ⊎ (e ≡ SimFault.OutOfMemory)) }
@@ -196,7 +196,7 @@ impl Simulation {
 
     /// The line of `show`.
     fn shown(&self, alloc: Global, node: NodeId) -> Result<String, SimFault>
-        ensures ok { IfOk result (λ text. IsNode self.now.world.cluster node × ((events : List AbstractEvent) → IsShown (moment_of self.now events) node (string_bytes text))) }
+        ensures ok { IfOk result (λ text. IsNode self.now.world.cluster node × ((n : ℕ) (events : List AbstractEvent) → IsMoment n (moment_of self.now events) → IsShown (moment_of self.now events) node (string_bytes text))) }
         ensures bad { IsErrOf result SimFault.BadLine → ¬ IsNode self.now.world.cluster node }
         ensures faults { IfErr result (λ e. (e ≡ SimFault.BadLine) ⊎ (e ≡ SimFault.OutOfMemory)) }
     {

@@ -35,8 +35,8 @@ module _ (code : Code) (p : ℕ) (here : Place) (one : 1 ≤ p) (got : slice_get
   pub place_at : (w : World) → IsWorldOf code w → IsPlaceOf code.cluster p here (w.node p)
   place_at w stands = subst (λ (q : ℕ). IsPlaceOf code.cluster q here (w.node q)) (omega (arith, one)) (stands.places (p - 1) here got)
 
-  pub open_at : (node : Running MemDisk) → here ≡ Open node → (w : World) → IsWorldOf code w → IsOpen code.cluster p node (w.node p)
-  open_at node is w stands = subst (λ (x : Place). IsPlaceOf code.cluster p x (w.node p)) is (place_at w stands)
+  pub open_at : (node : Running MemDisk) (armed : Bool) → here ≡ Open node armed → (w : World) → IsWorldOf code w → IsOpen code.cluster p node armed (w.node p)
+  open_at node armed is w stands = subst (λ (x : Place). IsPlaceOf code.cluster p x (w.node p)) is (place_at w stands)
 
   bare_at : (disk : MemDisk) → here ≡ Bare disk → (w : World) → IsWorldOf code w → IsBare code.cluster p disk (w.node p)
   bare_at disk is w stands = subst (λ (x : Place). IsPlaceOf code.cluster p x (w.node p)) is (place_at w stands)
@@ -47,20 +47,20 @@ module _ (code : Code) (p : ℕ) (here : Place) (one : 1 ≤ p) (got : slice_get
   pub none_known : (disk : MemDisk) → here ≡ Bare disk → (w : World) → IsWorldOf code w → IsKnownPrefix (w.node p) []
   none_known disk is w stands = record { begins = λ k v lost. cc; gap = ap (λ (s : Node). s.known 1) (bare_at disk is w stands).down }
 
-  pub not_down_at : (node : Running MemDisk) → here ≡ Open node → (w : World) → IsWorldOf code w → (w.node p).mode ≢ Down
-  not_down_at node is w stands = not_down node.store.stopped (w.node p).mode (open_at node is w stands).stands.parts.on_record.mode_is
+  pub not_down_at : (node : Running MemDisk) (armed : Bool) → here ≡ Open node armed → (w : World) → IsWorldOf code w → (w.node p).mode ≢ Down
+  not_down_at node armed is w stands = not_down node.store.stopped (w.node p).mode (open_at node armed is w stands).stands.parts.on_record.mode_is
 
-  pub fed_open : (node : Running MemDisk) → here ≡ Open node → fed_at code p ≡ node.releases
-  fed_open node is = ap fed_in (got ∙ ap Some is)
+  pub fed_open : (node : Running MemDisk) (armed : Bool) → here ≡ Open node armed → fed_at code p ≡ node.releases
+  fed_open node armed is = ap fed_in (got ∙ ap Some is)
 
-  pub begins_at : (node : Running MemDisk) → here ≡ Open node → (w : World) → IsWorldOf code w → BeginsKnown (fed_at code p) (w.node p)
-  begins_at node is w stands = subst (λ (vs : List Value). BeginsKnown vs (w.node p)) (sym (fed_open node is)) (open_at node is w stands).stands.fed
+  pub begins_at : (node : Running MemDisk) (armed : Bool) → here ≡ Open node armed → (w : World) → IsWorldOf code w → BeginsKnown (fed_at code p) (w.node p)
+  begins_at node armed is w stands = subst (λ (vs : List Value). BeginsKnown vs (w.node p)) (sym (fed_open node armed is)) (open_at node armed is w stands).stands.fed
 
   -- the answer of an open node is that of the values decided
-  pub answers_at : (node : Running MemDisk) → here ≡ Open node → (n : ℕ) (path : List ℕ) (page : Page) → answer node.releases n path ≡ Some page → (events : List Event) → Reached code events → IsAnswer code events n path page
-  answers_at node is n path page told events reached =
+  pub answers_at : (node : Running MemDisk) (armed : Bool) → here ≡ Open node armed → (n : ℕ) (path : List ℕ) (page : Page) → answer node.releases n path ≡ Some page → (events : List Event) → Reached code events → IsAnswer code events n path page
+  answers_at node armed is n path page told events reached =
       let one_list = one_list_answers code.cluster events reached.world reached.runs in
-      let mine = open_at node is reached.world reached.stands in
+      let mine = open_at node armed is reached.world reached.stands in
       let has = has_release (effective node.releases) n path page told in
       record {
         values = one_list.values;

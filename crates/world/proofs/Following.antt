@@ -14,7 +14,7 @@ use Rattle.world.specs.Worlds.{World, Runs, start}
 use Rattle.world.specs.Taking.{node_of, Takes, TakesAll, IsBad, IsRefused, WantsMemory, MeetsBadEvent}
 use Rattle.world.specs.Standing.{IsWorldOf, IsPublishedAt, IsUnpublishedAt}
 use Rattle.world.specs.Places.{Handed}
-use Rattle.world.specs.Steps.{LeadsTo, KeepsPublished, ArePublished, PublishedAsFar, RunEnds, Reached, Reaches}
+use Rattle.world.specs.Steps.{LeadsTo, StayPublished, KeepsPublished, ArePublished, PublishedAsFar, RunEnds, Reached, Reaches}
 use Rattle.world.proofs.Moving.{either}
 use Rattle.world.proofs.Growing.{runs_on}
 use Rattle.world.proofs.Taken.{taken_is_a_schedule, wanting_is_a_schedule}
@@ -39,16 +39,16 @@ take_whole [] (suc k) past = refl
 take_whole (y ∷ ys) zero past = absurd (omega (arith, past))
 take_whole (y ∷ ys) (suc k) past = ap (λ l. y ∷ l) (take_whole ys k (omega (arith, past)))
 
-takes_on : (n : ℕ) (events : List Event) (event : Event) (w mid after : World) → TakesAll n w events mid → Takes n mid event after → TakesAll n w (events ++ event ∷ []) after
-takes_on n [] event w mid after x y = (after, subst (λ u. Takes n u event after) x y, refl)
-takes_on n (e ∷ events) event w mid after x y = (x.0, x.1, takes_on n events event x.0 mid after x.2 y)
+pub takes_on : (n : ℕ) (events more : List Event) (w mid after : World) → TakesAll n w events mid → TakesAll n mid more after → TakesAll n w (events ++ more) after
+takes_on n [] more w mid after x y = subst (λ u. TakesAll n u more after) x y
+takes_on n (e ∷ events) more w mid after x y = (x.0, x.1, takes_on n events more x.0 mid after x.2 y)
 
--- the first k events are taken, and their nodes have published
+-- the first k events are taken, and their nodes have published, and each that had before
 abbrev pub SoFar : Code → Code → List Event → ℕ → Type 0
-SoFar old mid events k = LeadsTo old mid (λ w after. TakesAll old.cluster w (take k events) after × ArePublished mid after (take k events))
+SoFar old mid events k = LeadsTo old mid (λ w after. TakesAll old.cluster w (take k events) after × ArePublished mid after (take k events) × StayPublished old mid w after)
 
 pub none_yet : (old : Code) (events : List Event) → SoFar old old events 0
-none_yet old events = record { leads = λ w stands. record { after = w; how = (refl, λ e k. absurd k); stands = stands } }
+none_yet old events = record { leads = λ w stands. record { after = w; how = (refl, λ e k. absurd k, λ q was. was); stands = stands } }
 
 module _ (old mid new : Code) (events : List Event) (k : ℕ) (event : Event) (got : slice_get events k ≡ Some event) (below : k < length events) (same : mid.cluster ≡ old.cluster) (so_far : SoFar old mid events k) where
   abbrev Then : (World → World → Type 0) → Type 0
@@ -56,7 +56,7 @@ module _ (old mid new : Code) (events : List Event) (k : ℕ) (event : Event) (g
 
   taken_more : (w a b : World) → TakesAll old.cluster w (take k events) a → Takes mid.cluster a event b → TakesAll old.cluster w (take (suc k) events) b
   taken_more w a b x y =
-      subst (λ l. TakesAll old.cluster w l b) (sym (take_more events k event got)) (takes_on old.cluster (take k events) event w a b x (subst (λ (n : ℕ). Takes n a event b) same y))
+      subst (λ l. TakesAll old.cluster w l b) (sym (take_more events k event got)) (takes_on old.cluster (take k events) (event ∷ []) w a b x (b, subst (λ (n : ℕ). Takes n a event b) same y, refl))
 
   within : (e : Event) → In (take (suc k) events) e → In (take k events) e ⊎ (event ≡ e)
   within e h = in_push (take k events) event e (subst (λ l. In l e) (take_more events k event got) h)
@@ -79,6 +79,11 @@ module _ (old mid new : Code) (events : List Event) (k : ℕ) (event : Event) (g
                 (either (node_of e) (node_of event)))
                 (λ (is : event ≡ e). subst (λ (x : Event). IsPublishedAt new b.after (node_of x)) is b.how.2)
                 (within e h),
+            λ q was.
+                ⊎_elim
+                (λ (is : q ≡ node_of event). subst (λ (x : ℕ). IsPublishedAt new b.after x) (sym is) b.how.2)
+                (λ (apart : q ≢ node_of event). b.how.1 q apart (a.how.2 q was))
+                (either q (node_of event)),
           );
           stands = b.stands;
         };
@@ -116,7 +121,7 @@ module _ (old mid new : Code) (events : List Event) (k : ℕ) (event : Event) (g
         };
   }
 
-  pub follow_wanted : Then (λ w after. IsRefused mid.cluster w event after × ((q : ℕ) → IsPublishedAt mid w q → IsPublishedAt new after q))
+  pub follow_wanted : Then (λ w after. IsRefused mid.cluster w event after × StayPublished mid new w after)
       → LeadsTo old new (λ w after. (wants : WantsMemory old.cluster w events k after) × PublishedAsFar old.cluster events k wants.taken after new wants.ended)
   follow_wanted step = record {
     leads = λ w stands.
@@ -132,8 +137,8 @@ module _ (old mid new : Code) (events : List Event) (k : ℕ) (event : Event) (g
         };
   }
 
-  pub follow_bad : Then (λ w after. (IsBad mid.cluster w.sent event × (after ≡ w)) × ((q : ℕ) → IsPublishedAt mid w q → IsPublishedAt new after q))
-      → LeadsTo old new (λ w after. MeetsBadEvent old.cluster w events k after × ArePublished new after (take k events))
+  pub follow_bad : Then (λ w after. (IsBad mid.cluster w.sent event × (after ≡ w)) × StayPublished mid new w after)
+      → LeadsTo old new (λ w after. MeetsBadEvent old.cluster w events k after × ArePublished new after (take k events) × StayPublished old new w after)
   follow_bad step = record {
     leads = λ w stands.
         let a = so_far.leads w stands in
@@ -148,14 +153,15 @@ module _ (old mid new : Code) (events : List Event) (k : ℕ) (event : Event) (g
               bad = subst (λ (u : World). IsBad old.cluster u.sent event) (sym b.how.0.1) (subst (λ (n : ℕ). IsBad n a.after.sent event) same b.how.0.0);
             },
             λ e h. b.how.1 (node_of e) (a.how.1 e h),
+            λ q was. b.how.1 q (a.how.2 q was),
           );
           stands = b.stands;
         };
   }
 
 -- all events are taken
-pub all_followed : (old mid : Code) (events : List Event) (k : ℕ) → length events ≤ k → SoFar old mid events k → LeadsTo old mid (λ w after. TakesAll old.cluster w events after × ArePublished mid after events)
-all_followed old mid events k past so_far = subst (λ (l : List Event). LeadsTo old mid (λ w after. TakesAll old.cluster w l after × ArePublished mid after l)) (take_whole events k past) so_far
+pub all_followed : (old mid : Code) (events : List Event) (k : ℕ) → length events ≤ k → SoFar old mid events k → LeadsTo old mid (λ w after. TakesAll old.cluster w events after × ArePublished mid after events × StayPublished old mid w after)
+all_followed old mid events k past so_far = subst (λ (l : List Event). LeadsTo old mid (λ w after. TakesAll old.cluster w l after × ArePublished mid after l × StayPublished old mid w after)) (take_whole events k past) so_far
 
 -- ---- the messages
 

@@ -30,4 +30,5 @@ pub mod Moving
 pub mod Following
 pub mod Beginning
 pub mod Asked
+pub mod Fed
 pub mod Answering

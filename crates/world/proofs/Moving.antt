@@ -133,7 +133,7 @@ module _ (old new : Code) (k p : ℕ) (x : Place) (here : p ≡ suc k) (below : 
   unpublished_here w after out next moved lacks published = lacks (subst (λ (s : Node). HasPublished x s) moved.at (published k x here new_same))
 
 published_down : (n p : ℕ) (x : Place) (s : Node) → IsPlaceOf n p x s → s.mode ≡ Down → HasPublished x s
-published_down n p (Open code) s at down = absurd (not_down code.store.stopped s.mode at.stands.parts.on_record.mode_is down)
+published_down n p (Open code armed) s at down = absurd (not_down code.store.stopped s.mode at.stands.parts.on_record.mode_is down)
 published_down n p (Bare disk) s at down = tt
 
 module _ (old new : Code) (event : Event) (k : ℕ) (place mid x : Place) (here : node_of event ≡ suc k) (below : k < length old.places.items) (places : new.places.items ≡ slice_set old.places.items k x) (same : new.cluster ≡ old.cluster)

@@ -21,6 +21,7 @@ use Rattle.node.specs.Effects.{messages_of}
 use Rattle.node.specs.Calls.{Call, deliver}
 use Rattle.node.specs.Endings.{Ending, Refused, Ends}
 use Rattle.node.specs.Standing.{IsNodeOf, IsOnDisk, IsEvent, KeepsOthers, OpensAs}
+use Rattle.node.proofs.Knowing.{mark_stays}
 use Rattle.world.specs.declared.event.Event.TheVariants.{Arm}
 use Rattle.world.specs.declared.places.Place.{Place}
 use Rattle.world.specs.declared.places.Place.TheVariants.{Open, Bare}
@@ -37,9 +38,9 @@ each_of n [] each m k = absurd k
 each_of n (x ∷ xs) each m k = ⊎_elim (λ (is : x.1 ≡ m). subst (λ y. IsMessage n y) is (each x (inl refl))) (λ rest. each_of n xs (λ y j. each y (inr j)) m rest) k
 
 -- a call that is taken
-pub turned : (n p : ℕ) (call : Call) (old new : Running MemDisk) (ending : Ending) (before after : Handed) → IsEvent Stands old new call ending before after → KeepsOthers old new → IsTaken ending
-    → CallTurns n p call (Open old) (Open new) before after
-turned n p call old new ending before after event others taken = record {
+pub turned : (n p : ℕ) (call : Call) (old new : Running MemDisk) (armed : Bool) (ending : Ending) (before after : Handed) → IsEvent Stands old new call ending before after → KeepsOthers old new → IsTaken ending
+    → CallTurns n p call (Open old armed) (Open new armed) before after
+turned n p call old new armed ending before after event others taken = record {
   leads = λ s here.
       let led = event.leads s here.stands in
       let ends : Ends n p s call ending led.out led.next =
@@ -53,6 +54,7 @@ turned n p call old new ending before after event others taken = record {
           me = others.me ∙ here.me;
           cluster = others.cluster ∙ here.cluster;
           stands = led.stands;
+          mark = mark_stays n p s led.next call ending led.out ends ∙ here.mark;
           state = disk.0;
           on_disk = disk.1;
         };
@@ -62,9 +64,9 @@ turned n p call old new ending before after event others taken = record {
 }
 
 -- a call that is refused for memory
-pub wanted : (n p : ℕ) (call : Call) (old new : Running MemDisk) (ending : Ending) (before after : Handed) → IsEvent Stands old new call ending before after → KeepsOthers old new → ending ≡ Refused OutOfMemory
-    → CallWants n p call (Open old) (Open new) before after
-wanted n p call old new ending before after event others is = record {
+pub wanted : (n p : ℕ) (call : Call) (old new : Running MemDisk) (armed : Bool) (ending : Ending) (before after : Handed) → IsEvent Stands old new call ending before after → KeepsOthers old new → ending ≡ Refused OutOfMemory
+    → CallWants n p call (Open old armed) (Open new armed) before after
+wanted n p call old new armed ending before after event others is = record {
   leads = λ s here.
       let led = event.leads s here.stands in
       let ends : Ends old.cluster old.me s call (Refused OutOfMemory) led.out led.next = subst (λ (e : Ending). Ends old.cluster old.me s call e led.out led.next) is led.ends in
@@ -74,6 +76,7 @@ wanted n p call old new ending before after event others is = record {
           me = others.me ∙ here.me;
           cluster = others.cluster ∙ here.cluster;
           stands = subst (λ (t : Node). IsNodeOf new t) ends.node led.stands;
+          mark = here.mark;
           state = disk.0;
           on_disk = subst (λ (t : Node). IsOnDisk Stands new t disk.0) ends.node disk.1;
         },
@@ -105,15 +108,15 @@ pub on_err : {T E A B : Type 0} (r : Result T E) → (A → B) → OnErr r A →
 on_err (Ok x) f a = a
 on_err (Err y) f a = f a
 
-pub taken_at : {T E : Type 0} (r : Result T E) (call : Call) (here : Place) (old new : Running MemDisk) (ending : Ending) (before after : Handed) → here ≡ Open old → IsEvent Stands old new call ending before after → KeepsOthers old new
-    → OnOk r (IsTaken ending) → OnOk r ((n p : ℕ) → CallTurns n p call here (Open new) before after)
-taken_at r call here old new ending before after is event others told =
-    on_ok r (λ taken n p. subst (λ (x : Place). CallTurns n p call x (Open new) before after) (sym is) (turned n p call old new ending before after event others taken)) told
+pub taken_at : {T E : Type 0} (r : Result T E) (call : Call) (here : Place) (old new : Running MemDisk) (armed : Bool) (ending : Ending) (before after : Handed) → here ≡ Open old armed → IsEvent Stands old new call ending before after → KeepsOthers old new
+    → OnOk r (IsTaken ending) → OnOk r ((n p : ℕ) → CallTurns n p call here (Open new armed) before after)
+taken_at r call here old new armed ending before after is event others told =
+    on_ok r (λ taken n p. subst (λ (x : Place). CallTurns n p call x (Open new armed) before after) (sym is) (turned n p call old new armed ending before after event others taken)) told
 
-pub wanted_at : {T E : Type 0} (r : Result T E) (call : Call) (here : Place) (old new : Running MemDisk) (ending : Ending) (before after : Handed) → here ≡ Open old → IsEvent Stands old new call ending before after → KeepsOthers old new
-    → OnErr r (ending ≡ Refused OutOfMemory) → OnErr r ((n p : ℕ) → CallWants n p call here (Open new) before after)
-wanted_at r call here old new ending before after is event others told =
-    on_err r (λ refused n p. subst (λ (x : Place). CallWants n p call x (Open new) before after) (sym is) (wanted n p call old new ending before after event others refused)) told
+pub wanted_at : {T E : Type 0} (r : Result T E) (call : Call) (here : Place) (old new : Running MemDisk) (armed : Bool) (ending : Ending) (before after : Handed) → here ≡ Open old armed → IsEvent Stands old new call ending before after → KeepsOthers old new
+    → OnErr r (ending ≡ Refused OutOfMemory) → OnErr r ((n p : ℕ) → CallWants n p call here (Open new armed) before after)
+wanted_at r call here old new armed ending before after is event others told =
+    on_err r (λ refused n p. subst (λ (x : Place). CallWants n p call x (Open new armed) before after) (sym is) (wanted n p call old new armed ending before after event others refused)) told
 
 -- ---- an arming
 
@@ -125,10 +128,10 @@ pub not_down : (stopped : Bool) (mode : Mode) → mode ≡ (if stopped then Stop
 not_down false mode is down = cc
 not_down true mode is down = cc
 
-pub armed_at : (n p q calls : ℕ) (here : Place) (old new : Running MemDisk) → here ≡ Open old → ((s : Node) → IsNodeOf old s → IsNodeOf new (record s { armed = true }))
+pub armed_at : (n p q calls : ℕ) (here : Place) (old new : Running MemDisk) (armed : Bool) → here ≡ Open old armed → ((s : Node) → IsNodeOf old s → IsNodeOf new (record s { armed = true }))
     → ((s : Node) (d : DiskState) → IsOnDisk Stands old s d → IsOnDisk Stands new (record s { armed = true }) d) → KeepsOthers old new
-    → Turns n p (λ s out next. NodeTakes n p [] s (Arm q calls) out next) here (Open new) [] []
-armed_at n p q calls here old new is same on_disk others = subst (λ (x : Place). Turns n p (λ s out next. NodeTakes n p [] s (Arm q calls) out next) x (Open new) [] []) (sym is) (record {
+    → Turns n p (λ s out next. NodeTakes n p [] s (Arm q calls) out next) here (Open new true) [] []
+armed_at n p q calls here old new armed is same on_disk others = subst (λ (x : Place). Turns n p (λ s out next. NodeTakes n p [] s (Arm q calls) out next) x (Open new true) [] []) (sym is) (record {
   leads = λ s at. record {
     next = record s { armed = true };
     out = [];
@@ -137,6 +140,7 @@ armed_at n p q calls here old new is same on_disk others = subst (λ (x : Place)
       me = others.me ∙ at.me;
       cluster = others.cluster ∙ at.cluster;
       stands = same s at.stands;
+      mark = refl;
       state = at.state;
       on_disk = on_disk s at.state at.on_disk;
     };
@@ -163,10 +167,10 @@ unarmed_at n p q calls here disk is = subst (λ (x : Place). Turns n p (λ s out
 abbrev pub Taken : ℕ → ℕ → Place → MemDisk → Type 0
 Taken n p here disk = (s : Node) → IsPlaceOf n p here s → (d : DiskState) × MemoryStandsFor disk d × Keeps p n s.entries s.in_flight d
 
-pub closed_at : (n p : ℕ) (here : Place) (node : Running MemDisk) (disk : MemDisk) → here ≡ Open node
+pub closed_at : (n p : ℕ) (here : Place) (node : Running MemDisk) (armed : Bool) (disk : MemDisk) → here ≡ Open node armed
     → ((s : Node) (d : DiskState) → IsOnDisk Stands node s d → MemoryStandsFor disk d × Keeps node.me node.cluster s.entries s.in_flight d) → Taken n p here disk
-closed_at n p here node disk is keeps s at =
-    let mine : IsOpen n p node s = subst (λ (x : Place). IsPlaceOf n p x s) is at in
+closed_at n p here node armed disk is keeps s at =
+    let mine : IsOpen n p node armed s = subst (λ (x : Place). IsPlaceOf n p x s) is at in
     let kept = keeps s mine.state mine.on_disk in
     (mine.state, kept.0, subst (λ (k : ℕ). Keeps p k s.entries s.in_flight mine.state) mine.cluster (subst (λ (q : ℕ). Keeps q node.cluster s.entries s.in_flight mine.state) mine.me kept.1))
 
@@ -196,7 +200,7 @@ crashed n p here disk after taken leaves = record {
 }
 
 pub opened_again : (n p : ℕ) (here : Place) (disk : MemDisk) (new : Running MemDisk) → Taken n p here disk → (entries : List Entry) × OpensAs Stands disk new entries → new.me ≡ p → new.cluster ≡ n
-    → Turns n p (λ s out next. Settled Up s out next) here (Open new) [] []
+    → Turns n p (λ s out next. Settled Up s out next) here (Open new false) [] []
 opened_again n p here disk new taken opens me cluster = record {
   leads = λ s at.
       let kept = taken s at in
@@ -207,7 +211,7 @@ opened_again n p here disk new taken opens me cluster = record {
         next = opened Up entries None;
         out = [];
         does = (entries, opens.1.settles kept.0 s.entries s.in_flight kept.1 keeps, refl, refl);
-        stands = record { me = me; cluster = cluster; stands = opens.1.stands; state = after_sync kept.0; on_disk = opens.1.on_disk kept.0 kept.1 };
+        stands = record { me = me; cluster = cluster; stands = opens.1.stands; mark = refl; state = after_sync kept.0; on_disk = opens.1.on_disk kept.0 kept.1 };
         outbox = refl;
         messages = λ m k. absurd k;
       };
@@ -227,8 +231,8 @@ refused_opening {A} n p here disk after taken refuses = record {
 -- ---- a delivery
 
 -- a stopped node refuses it
-pub stopped_at : (message : Message) (here : Place) (node : Running MemDisk) (before : Handed) → here ≡ Open node → ((s : Node) → IsNodeOf node s → s.mode ≡ Stopped) → (n p : ℕ) → CallTurns n p (deliver message) here (Open node) before before
-stopped_at message here node before is stops n p = subst (λ (x : Place). Turns n p (λ s out next. AtNode n p s (deliver message) out next) x (Open node) before before) (sym is) (record {
+pub stopped_at : (message : Message) (here : Place) (node : Running MemDisk) (armed : Bool) (before : Handed) → here ≡ Open node armed → ((s : Node) → IsNodeOf node s → s.mode ≡ Stopped) → (n p : ℕ) → CallTurns n p (deliver message) here (Open node armed) before before
+stopped_at message here node armed before is stops n p = subst (λ (x : Place). Turns n p (λ s out next. AtNode n p s (deliver message) out next) x (Open node armed) before before) (sym is) (record {
   leads = λ s stands. record {
     next = s;
     out = [];
@@ -244,14 +248,14 @@ pub up_wanting : (n p : ℕ) (call : Call) (old new : Place) (before after : Han
 up_wanting n p call old new before after wants = record { leads = λ s at. let w = wants.leads s at in (w.0.0, w.1, w.2, w.3) }
 
 -- memory for the copy is wanted where the node runs
-pub copy_wanted : (here : Place) (node : Running MemDisk) (before : Handed) → here ≡ Open node → ((s : Node) → IsNodeOf node s → ¬ (s.mode ≡ Stopped)) → (n p : ℕ) → Wants n p IsUp here (Open node) before before
-copy_wanted here node before is runs n p = subst (λ (x : Place). Wants n p IsUp x (Open node) before before) (sym is) (record {
+pub copy_wanted : (here : Place) (node : Running MemDisk) (armed : Bool) (before : Handed) → here ≡ Open node armed → ((s : Node) → IsNodeOf node s → ¬ (s.mode ≡ Stopped)) → (n p : ℕ) → Wants n p IsUp here (Open node armed) before before
+copy_wanted here node armed before is runs n p = subst (λ (x : Place). Wants n p IsUp x (Open node armed) before before) (sym is) (record {
   leads = λ s stands. (is_running node.store.stopped s.mode stands.stands.parts.on_record.mode_is (runs s stands.stands), stands, refl, (λ published. published));
 })
 
 -- no message of the cluster is passed over
-pub not_passed : (message : Message) (here new : Place) (node : Running MemDisk) (before : Handed) → here ≡ Open node → ¬ IsMessage node.cluster message → (n p : ℕ) → IsMessage n message → CallTurns n p (deliver message) here new before before
-not_passed message here new node before is alien n p mine = subst (λ (x : Place). Turns n p (λ s out next. AtNode n p s (deliver message) out next) x new before before) (sym is) (record {
+pub not_passed : (message : Message) (here new : Place) (node : Running MemDisk) (armed : Bool) (before : Handed) → here ≡ Open node armed → ¬ IsMessage node.cluster message → (n p : ℕ) → IsMessage n message → CallTurns n p (deliver message) here new before before
+not_passed message here new node armed before is alien n p mine = subst (λ (x : Place). Turns n p (λ s out next. AtNode n p s (deliver message) out next) x new before before) (sym is) (record {
   leads = λ s stands. absurd (alien (subst (λ (k : ℕ). IsMessage k message) (sym stands.cluster) mine));
 })
 
@@ -297,7 +301,7 @@ fresh_entries found settles = ⊎_elim (λ is. is) (λ is. is) settles
 
 -- a node that opens over a disk just formatted
 pub freshly_open : (n p : ℕ) (disk : MemDisk) (new : Running MemDisk) (d : DiskState) → MemoryStandsFor disk d → IsSettled d → StandsFor p n d.seen [] → (entries : List Entry) × OpensAs Stands disk new entries → new.me ≡ p → new.cluster ≡ n
-    → IsOpen n p new (opened Up [] None)
+    → IsOpen n p new false (opened Up [] None)
 freshly_open n p disk new d stands settled reads opens me cluster =
     let keeps : Keeps new.me new.cluster [] None d =
     subst (λ (k : ℕ). Keeps new.me k [] None d) (sym cluster) (subst (λ (q : ℕ). Keeps q n [] None d) (sym me) (settled_keeps p n [] d settled reads)) in
@@ -306,6 +310,7 @@ freshly_open n p disk new d stands settled reads opens me cluster =
       me = me;
       cluster = cluster;
       stands = subst (λ (l : List Entry). IsNodeOf new (opened Up l None)) none opens.1.stands;
+      mark = refl;
       state = after_sync d;
       on_disk = subst (λ (l : List Entry). IsOnDisk Stands new (opened Up l None) (after_sync d)) none (opens.1.on_disk d stands);
     }

@@ -1,5 +1,5 @@
 -- Which worlds of the definitions a running world stands for.
-use Rattle.std.specs.Prelude.{◌≡◌, ◌≢◌, ℕ, suc, Some, slice_get, ⊤}
+use Rattle.std.specs.Prelude.{◌≡◌, ◌≢◌, ℕ, suc, Bool, Some, slice_get, ⊤}
 use Rattle.site_disk.specs.Model.{DiskState}
 use Rattle.site_disk.specs.Memory.{MemoryStandsFor}
 use Rattle.site_disk.specs.declared.memory.MemDisk.{MemDisk}
@@ -16,11 +16,12 @@ use Rattle.world.specs.declared.places.Place.TheVariants.{Open, Bare}
 use Rattle.world.specs.declared.whole.World.{World as Code}
 use Rattle.world.specs.Worlds.{World}
 
--- node p of n, running or stopped, over a disk in memory
-pub record IsOpen (n p : ℕ) (code : Running MemDisk) (s : Node) : Type 0 where
+-- node p of n, running or stopped, over a disk in memory that is armed or not
+pub record IsOpen (n p : ℕ) (code : Running MemDisk) (armed : Bool) (s : Node) : Type 0 where
   pub me : code.me ≡ p
   pub cluster : code.cluster ≡ n
   pub stands : IsNodeOf code s
+  pub mark : s.armed ≡ armed
   pub state : DiskState
   pub on_disk : IsOnDisk (λ m d. MemoryStandsFor m d) code s state
 
@@ -33,12 +34,12 @@ pub record IsBare (n p : ℕ) (disk : MemDisk) (s : Node) : Type 0 where
 
 -- the place is that of node p of n
 abbrev pub IsPlaceOf : ℕ → ℕ → Place → Node → Type 0
-IsPlaceOf n p (Open code) s = IsOpen n p code s
+IsPlaceOf n p (Open code armed) s = IsOpen n p code armed s
 IsPlaceOf n p (Bare disk) s = IsBare n p disk s
 
 -- what was published is all of the known prefix
 abbrev pub HasPublished : Place → Node → Type 0
-HasPublished (Open code) s = IsKnownPrefix s code.releases
+HasPublished (Open code armed) s = IsKnownPrefix s code.releases
 HasPublished (Bare disk) s = ⊤
 
 -- Each place is that of its node, the first one of node 1. The messages are those handed out, and they are of the cluster's nodes

@@ -27,6 +27,10 @@ pub record Led (old new : Code) (How : World → World → Type 0) (w : World) :
 pub record LeadsTo (old new : Code) (How : World → World → Type 0) : Type 0 where
   pub leads : (w : World) → IsWorldOf old w → Led old new How w
 
+-- each node that had published all that it knows without a gap has so still
+abbrev pub StayPublished : Code → Code → World → World → Type 0
+StayPublished old new w after = (q : ℕ) → IsPublishedAt old w q → IsPublishedAt new after q
+
 -- where a node other than that of the event has published all, it still has
 abbrev pub KeepsPublished : Code → Code → Event → World → World → Type 0
 KeepsPublished old new event w after = (q : ℕ) → q ≢ node_of event → IsPublishedAt old w q → IsPublishedAt new after q
@@ -35,8 +39,8 @@ KeepsPublished old new event w after = (q : ℕ) → q ≢ node_of event → IsP
 abbrev pub StepEnds : Code → Code → Event → Result (Unit {0}) Halt → Type 0
 StepEnds old new event (Ok x) = LeadsTo old new (λ w after. Takes old.cluster w event after × KeepsPublished old new event w after × IsPublishedAt new after (node_of event))
 StepEnds old new event (Err Unpublished) = LeadsTo old new (λ w after. Takes old.cluster w event after × KeepsPublished old new event w after × IsUnpublishedAt new after (node_of event))
-StepEnds old new event (Err Wanted) = LeadsTo old new (λ w after. IsRefused old.cluster w event after × ((q : ℕ) → IsPublishedAt old w q → IsPublishedAt new after q))
-StepEnds old new event (Err Bad) = LeadsTo old new (λ w after. (IsBad old.cluster w.sent event × (after ≡ w)) × ((q : ℕ) → IsPublishedAt old w q → IsPublishedAt new after q))
+StepEnds old new event (Err Wanted) = LeadsTo old new (λ w after. IsRefused old.cluster w event after × StayPublished old new w after)
+StepEnds old new event (Err Bad) = LeadsTo old new (λ w after. (IsBad old.cluster w.sent event × (after ≡ w)) × StayPublished old new w after)
 
 -- the node of each of the events has published all that it knows without a gap
 abbrev pub ArePublished : Code → World → List Event → Type 0
@@ -54,9 +58,9 @@ PublishedAsFar n events k taken after code (inr last) = IsUnpublishedAt code aft
 
 -- a run over a list of events
 abbrev pub RunEnds : Code → Code → List Event → Result (Unit {0}) WorldFault → Type 0
-RunEnds old new events (Ok x) = LeadsTo old new (λ w after. TakesAll old.cluster w events after × ArePublished new after events)
+RunEnds old new events (Ok x) = LeadsTo old new (λ w after. TakesAll old.cluster w events after × ArePublished new after events × StayPublished old new w after)
 RunEnds old new events (Err (OutOfMemory k)) = LeadsTo old new (λ w after. (wants : WantsMemory old.cluster w events k after) × PublishedAsFar old.cluster events k wants.taken after new wants.ended)
-RunEnds old new events (Err (BadEvent k)) = LeadsTo old new (λ w after. MeetsBadEvent old.cluster w events k after × ArePublished new after (take k events))
+RunEnds old new events (Err (BadEvent k)) = LeadsTo old new (λ w after. MeetsBadEvent old.cluster w events k after × ArePublished new after (take k events) × StayPublished old new w after)
 
 -- ---- from one value to a later one
 

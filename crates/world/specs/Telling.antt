@@ -14,7 +14,7 @@ mode_told told.Down = Down
 
 abbrev pub fed_in : Option Place → List Value
 fed_in None = []
-fed_in (Some (Open code)) = code.releases
+fed_in (Some (Open code armed)) = code.releases
 fed_in (Some (Bare disk)) = []
 
 -- the values that node p was fed, none where it is down

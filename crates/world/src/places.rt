@@ -13,8 +13,8 @@ use std::mem;
 
 #[derive(Drop)]
 pub(crate) enum Place {
-    /// The node runs, or its device has stopped it.
-    Open(Node<MemDisk>),
+    /// The node runs, or its device has stopped it. Armed: the disk is set to fail.
+    Open { node: Node<MemDisk>, armed: bool },
     /// The node is down: its disk alone is left.
     Bare(MemDisk),
 }
@@ -45,7 +45,7 @@ impl Place {
             return Err(AllocError);
         }
         match Node::open(alloc, cluster, me, disk) {
-            Ok(node) => Ok(Place::Open(node)),
+            Ok(node) => Ok(Place::Open { node, armed: false }),
             Err(_) => Err(AllocError),
         }
     }
@@ -56,7 +56,7 @@ impl Place {
     {
         match self {
             Place::Bare(_) => Ok(()),
-            Place::Open(node) => passed(node.submit(value)),
+            Place::Open { node, .. } => passed(node.submit(value)),
         }
     }
 
@@ -67,7 +67,7 @@ impl Place {
     {
         match self {
             Place::Bare(_) => Ok(()),
-            Place::Open(node) => passed(node.tick(sent)),
+            Place::Open { node, .. } => passed(node.tick(sent)),
         }
     }
 
@@ -78,7 +78,7 @@ impl Place {
     {
         match self {
             Place::Bare(_) => Ok(()),
-            Place::Open(node) => passed(node.widen(sent)),
+            Place::Open { node, .. } => passed(node.widen(sent)),
         }
     }
 
@@ -89,7 +89,7 @@ impl Place {
     {
         match self {
             Place::Bare(_) => Ok(()),
-            Place::Open(node) => passed(node.ask(sent)),
+            Place::Open { node, .. } => passed(node.ask(sent)),
         }
     }
 
@@ -108,7 +108,7 @@ impl Place {
     {
         match self {
             Place::Bare(_) => Ok(()),
-            Place::Open(node) => {
+            Place::Open { node, .. } => {
                 if node.is_stopped() {
                     return Ok(());
                 }
@@ -127,7 +127,10 @@ impl Place {
     {
         match self {
             Place::Bare(_) => {}
-            Place::Open(node) => node.arm(calls),
+            Place::Open { node, armed } => {
+                node.arm(calls);
+                *armed = true;
+            }
         }
     }
 
@@ -136,7 +139,7 @@ impl Place {
         ensures { (n p : ℕ) (s : AbstractNode) → IsPlaceOf n p self s → (d : DiskState) × MemoryStandsFor result d × Keeps p n s.entries s.in_flight d }
     {
         match self {
-            Place::Open(node) => node.close(),
+            Place::Open { node, .. } => node.close(),
             Place::Bare(disk) => disk,
         }
     }
@@ -172,7 +175,7 @@ impl Place {
         disk.disarm();
         match Node::open(alloc, cluster, me, disk) {
             Ok(node) => {
-                *self = Place::Open(node);
+                *self = Place::Open { node, armed: false };
                 Ok(())
             }
             Err((fault, disk)) => {
@@ -190,7 +193,7 @@ impl Place {
     {
         match self {
             Place::Bare(_) => Ok(()),
-            Place::Open(node) => {
+            Place::Open { node, .. } => {
                 if node.publish().is_err() {
                     return Err(AllocError);
                 }

@@ -59,7 +59,7 @@ impl World {
     {
         match self.place(node) {
             Place::Bare(_) => NodeState::Down,
-            Place::Open(node) => {
+            Place::Open { node, .. } => {
                 if node.is_stopped() {
                     return NodeState::Stopped;
                 }
@@ -76,7 +76,7 @@ impl World {
     {
         match self.place(node) {
             Place::Bare(_) => 0,
-            Place::Open(node) => node.known(),
+            Place::Open { node, .. } => node.known(),
         }
     }
 
@@ -89,7 +89,7 @@ impl World {
     {
         match self.place(node) {
             Place::Bare(_) => 0,
-            Place::Open(node) => node.newest(),
+            Place::Open { node, .. } => node.newest(),
         }
     }
 
@@ -103,7 +103,7 @@ impl World {
     {
         match self.place(node) {
             Place::Bare(_) => Err(AskFault::NotUp),
-            Place::Open(node) => match node.answer(n, path) {
+            Place::Open { node, .. } => match node.answer(n, path) {
                 Ok(answer) => Ok(answer),
                 Err(AnswerFault::NoSuchRelease) => Err(AskFault::NoSuchRelease),
                 Err(AnswerFault::OutOfMemory) => Err(AskFault::OutOfMemory),

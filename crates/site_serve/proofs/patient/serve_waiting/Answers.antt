@@ -1,6 +1,7 @@
 use Rattle.std.proofs.Common.{◌+◌, ◌∙◌, arith, refl}
 use Rattle.site_drive.proofs.Results.{err_gives}
 use Rattle.site_serve.proofs.ManyRounds.{none_served, one_served_more, others_on, stays_others}
+use Rattle.site_serve.proofs.Failing.{served_kept}
 use Rattle.site_serve.proofs.patient.serve_waiting.Goals as goal
 
 pub loop-more-init : goal.loop-more-init
@@ -8,6 +9,7 @@ loop-more-init g c = record {
   within = omega arith;
   leads = none_served g.D.Disk.stands_for _ _ c.args.served.now.node c.args.link.now _ _;
   others = record { me = refl; cluster = refl; releases = refl };
+  counts = refl;
 }
 
 pub returns-in_err-more-clause-fault : goal.returns-in_err-more-clause-fault
@@ -28,4 +30,8 @@ loop-more-preserved g c = record {
       one_served_more g.D.Disk.stands_for _ _ c.args.served.now.node c.loop-more.served c.serve_next.new.served c.args.link.now c.loop-more.link c.serve_next.new.link
       c.loop-more.invariant.others c.loop-more.count c.loop-more.invariant.leads (λ ds h. tt, λ gs h. tt) c.serve_next.ensures.taken;
   others = others_on _ _ _ c.loop-more.invariant.others (stays_others _ _ c.serve_next.ensures.taken);
+  counts = served_kept g.D.Disk.failed c.loop-more.served c.serve_next.new.served c.serve_next.ensures.taken ∙ c.loop-more.invariant.counts;
 }
+
+pub returns-in_err-more-clause-counts : goal.returns-in_err-more-clause-counts
+returns-in_err-more-clause-counts g c = served_kept g.D.Disk.failed c.loop-more.served c.serve_next.new.served c.serve_next.ensures.taken ∙ c.loop-more.invariant.counts

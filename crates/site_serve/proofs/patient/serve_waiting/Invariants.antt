@@ -1,4 +1,4 @@
-use Rattle.std.proofs.Common.{◌≤◌, ◌-◌}
+use Rattle.std.proofs.Common.{◌≡◌, ◌≤◌, ◌-◌}
 use Rattle.std.specs.Bool.{⊤}
 use Rattle.node.specs.Standing.{KeepsOthers}
 use Rattle.site_drive.specs.Leading.{LeadsTo}
@@ -10,6 +10,7 @@ invariant-loop-more g l = record {
   within : l.count ≤ 16;
   leads : LeadsTo g.D.Disk.stands_for (λ w ds. ⊤) (λ w gs. ⊤) l.fn.served.node l.served.node l.fn.link l.link (TakesSteps (Serves l.fn.served.node.cluster l.fn.served.node.me) l.count);
   others : KeepsOthers l.fn.served.node l.served.node;
+  counts : g.D.Disk.failed l.served.node.store.disk ≡ g.D.Disk.failed l.fn.served.node.store.disk;
 }
 
 abbrev pub decreases-loop-more : goal.decreases-loop-more

@@ -1,6 +1,7 @@
-use Rattle.std.proofs.Common.{refl}
+use Rattle.std.proofs.Common.{refl, ◌∙◌}
 use Rattle.site_drive.proofs.Results.{err_gives}
 use Rattle.site_serve.proofs.ManyPatientRounds.{then_served, turns_broke, patient_round_wanted}
+use Rattle.site_serve.proofs.Failing.{counts_on, none_failed}
 use Rattle.site_serve.proofs.patient.take_round.Goals as goal
 
 pub returns-in_err-turns-clause-fault : goal.returns-in_err-turns-clause-fault
@@ -19,3 +20,12 @@ returns-clause-ok g c =
     let s = c.in_ok-looks.ensures.ok in
     then_served g.D.Disk.stands_for _ _ c.args.served.now.node c.take_turns.new.served.node c.serve_waiting.new.served.node c.args.link.now c.take_turns.new.link c.serve_waiting.new.link
     c.take_turns.ensures.whose _ c.take_turns.new.served.node.releases c.in_ok-turns.ensures.ok c.in_ok-turns.ensures.few.0 c.in_ok-turns.ensures.few.1 _ s.0 c.serve_waiting.ensures.others refl s.1
+
+pub returns-in_err-turns-clause-counts : goal.returns-in_err-turns-clause-counts
+returns-in_err-turns-clause-counts g c = counts_on c.from_residual.result c.in_err-turns.field-0.0 _ _ _ c.from_residual.ensures.1 refl c.in_err-turns.ensures.counts
+
+pub returns-in_err-looks-clause-counts : goal.returns-in_err-looks-clause-counts
+returns-in_err-looks-clause-counts g c = λ _. c.serve_waiting.ensures.counts ∙ none_failed _ _ _ c.in_ok-turns.ensures.counts
+
+pub returns-clause-counts : goal.returns-clause-counts
+returns-clause-counts g c = λ _. c.serve_waiting.ensures.counts ∙ none_failed _ _ _ c.in_ok-turns.ensures.counts

@@ -10,6 +10,7 @@ invariant-loop-more g l = record {
   first : l.turns ≡ 0 → l.more ≡ true;
   leads : LeadsTo g.D.Disk.stands_for (λ w ds. ⊤) (λ w gs. ⊤) l.fn.served.node l.served.node l.fn.link l.link (TakesTurns l.fn.served.node.cluster l.fn.served.node.me l.turns l.served.node.releases);
   whose : StaysWhose l.fn.served.node l.served.node;
+  counts : g.D.Disk.failed l.served.node.store.disk ≡ g.D.Disk.failed l.fn.served.node.store.disk;
 }
 
 abbrev pub decreases-loop-more : goal.decreases-loop-more

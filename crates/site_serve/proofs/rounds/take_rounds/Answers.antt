@@ -1,8 +1,9 @@
-use Rattle.std.proofs.Common.{arith}
+use Rattle.std.proofs.Common.{◌∙◌, arith}
 use Rattle.durable.proofs.Results.{on_err}
 use Rattle.site_drive.proofs.ManyTurns.{stays_on}
 use Rattle.site_drive.proofs.Results.{err_gives}
 use Rattle.site_serve.proofs.ManyRounds.{one_round_more, one_round_breaks, tried_more, tried_last}
+use Rattle.site_serve.proofs.Failing.{counts_on, none_failed}
 use Rattle.site_serve.proofs.rounds.take_rounds.Goals as goal
 
 pub returns-in_err-take_round-clause-fault : goal.returns-in_err-take_round-clause-fault
@@ -22,4 +23,11 @@ loop-preserved g c = record {
       c.loop.invariant.whose c.args.turns c.loop.counter c.loop.served.node.releases c.take_round.new.served.node.releases c.loop.invariant.leads c.in_ok-take_round.ensures.ok;
   whose = stays_on _ _ _ c.loop.invariant.whose c.take_round.ensures.whose;
   tried = tried_more c.loop.counter c.args.turns _ _ _ c.loop.invariant.tried c.in_ok-take_round.ensures.tried;
+  counts = none_failed _ _ _ c.in_ok-take_round.ensures.counts ∙ c.loop.invariant.counts;
 }
+
+pub returns-in_err-take_round-clause-counts : goal.returns-in_err-take_round-clause-counts
+returns-in_err-take_round-clause-counts g c = counts_on c.from_residual.result c.in_err-take_round.field-0.0 _ _ _ c.from_residual.ensures.1 c.loop.invariant.counts c.in_err-take_round.ensures.counts
+
+pub returns-clause-counts : goal.returns-clause-counts
+returns-clause-counts g c = λ _. c.loop.invariant.counts

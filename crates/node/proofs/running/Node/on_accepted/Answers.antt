@@ -25,7 +25,7 @@ pub returns-in_err-learn-clause-event : goal.returns-in_err-learn-clause-event
 returns-in_err-learn-clause-event g c before in_range =
     let stands_for = g.D.Disk.stands_for in
     wants_memory stands_for c.args.self.now _ (deliver (Accepted c.args.from c.args.instance c.args.ballot c.args.value.now)) c.from_residual.result before before c.learn.ensures.others in_range refl c.from_residual.ensures.1
-    (λ s stands. (is_up c.args.self.now s stands.parts c.requires.running, λ x. x)) (same_store c.args.self.now.store c.learn.new.self.store c.learn.ensures.same.1) c.in_err-learn.ensures.refused
+    (λ s stands. (is_up c.args.self.now s stands.parts c.requires.running, sym (stands.parts.known.values c.args.instance) ∙ missing c.get.result (value_at c.args.self.now.known.log c.args.instance) c.get.ensures (sym c.is_some.ensures ∙ c.if-is_some.false))) (same_store c.args.self.now.store c.learn.new.self.store c.learn.ensures.same.1) c.in_err-learn.ensures.refused
 
 pub returns-then-completes-clause-event : goal.returns-then-completes-clause-event
 returns-then-completes-clause-event g c before in_range =
@@ -55,7 +55,7 @@ returns-in_err-on_accepted-clause-event g c before in_range =
     let stands_for = g.D.Disk.stands_for in
     let old = c.args.self.now in
     wants_memory stands_for old _ (deliver (Accepted c.args.from c.args.instance c.args.ballot c.args.value.now)) c.from_residual-in_err-on_accepted.result before before (record { me = refl; cluster = refl; releases = refl }) in_range refl
-    c.from_residual-in_err-on_accepted.ensures.1 (λ s stands. (is_up old s stands.parts c.requires.running, λ x. x)) (same_store old.store old.store refl)
+    c.from_residual-in_err-on_accepted.ensures.1 (λ s stands. (is_up old s stands.parts c.requires.running, sym (stands.parts.known.values c.args.instance) ∙ missing c.get.result (value_at old.known.log c.args.instance) c.get.ensures (sym c.is_some.ensures ∙ c.if-is_some.false))) (same_store old.store old.store refl)
     (λ s parts. record {
       on_record = parts.on_record;
       votes = same_votes old s parts c.args.from c.args.instance c.args.ballot c.args.value.now c.on_accepted.new.self c.in_err-on_accepted.ensures.refused;

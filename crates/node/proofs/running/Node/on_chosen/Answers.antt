@@ -1,4 +1,4 @@
-use Rattle.std.proofs.Common.{◌≡◌, ◌≢◌, Option, inl, inr, max, not, Bool, true, false, None, Some, [], refl, sym, ap, ◌∙◌, append-nil}
+use Rattle.std.proofs.Common.{◌≡◌, inl, inr, max, not, Bool, true, false, None, Some, [], refl, sym, ap, ◌∙◌, append-nil}
 use Rattle.std.proofs.Math.Dec.{eqb}
 use Rattle.std.proofs.lemmas.Bool.Decides.{Decides-eqb}
 use Rattle.std.proofs.lemmas.Slice.Eq.{slice_eq-Decides}
@@ -11,16 +11,13 @@ use Rattle.node.specs.Effects.{quiet, learned}
 use Rattle.node.proofs.Stepping.{is_up, same_store, stays_there, touched, whole, quiet_whole, wants_memory}
 use Rattle.node.proofs.running.Node.on_chosen.Goals as goal
 
-no_value : (v : Value) → ◌≡◌ {A = Option Value} None (Some v) → ⊥
-no_value v e = cc
-
 pub returns-in_err-learn-clause-event : goal.returns-in_err-learn-clause-event
 returns-in_err-learn-clause-event g c from before in_range =
     let stands_for = g.D.Disk.stands_for in
     let old = c.args.self.now in
     let unknown : None ≡ value_at old.known.log c.args.instance = c.in_default.ensures in
     wants_memory stands_for old _ (deliver (Chosen from c.args.instance c.args.value.now)) c.from_residual.result before before c.learn.ensures.others in_range refl c.from_residual.ensures.1
-    (λ s stands. (is_up old s stands.parts c.requires.running, λ (x : (u : Value) × (s.known c.args.instance ≡ Some u) × (u ≢ c.args.value.now)). no_value x.0 (unknown ∙ stands.parts.known.values c.args.instance ∙ x.1)))
+    (λ s stands. (is_up old s stands.parts c.requires.running, sym (stands.parts.known.values c.args.instance) ∙ sym unknown))
     (same_store old.store c.learn.new.self.store c.learn.ensures.same.1) c.in_err-learn.ensures.refused
 
 pub returns-in_default-clause-event : goal.returns-in_default-clause-event

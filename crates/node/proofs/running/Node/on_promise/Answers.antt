@@ -56,7 +56,7 @@ returns-in-Err-clause-event g c in_range =
     let stands_for = g.D.Disk.stands_for in
     let old = c.args.self.now in
     refused stands_for old _ (deliver (Promise c.args.from c.args.instance c.args.ballot (vote_told c.args.prior))) OutOfMemory _ _ (record { me = refl; cluster = refl; releases = refl }) in_range c.reserve.ensures.items
-    (λ s stands. (is_up old s stands.parts c.requires.running, λ x. x)) (same_store old.store old.store refl)
+    (λ s stands. (is_up old s stands.parts c.requires.running, tt)) (same_store old.store old.store refl)
     (λ s parts. record {
       on_record = parts.on_record;
       votes = parts.votes;
@@ -69,7 +69,7 @@ returns-in-Err-clause-event g c in_range =
 
 pub returns-in_err-reserve-clause-event : goal.returns-in_err-reserve-clause-event
 returns-in_err-reserve-clause-event g c in_range =
-    delivery_wants g.D.Disk.stands_for c.args.self.now _ (Promise c.args.from c.args.instance c.args.ballot (vote_told c.args.prior)) c.from_residual.result _ _ (record { me = refl; cluster = refl; releases = refl }) c.requires.running in_range (λ s x. x) c.reserve.ensures.items c.from_residual.ensures.1 refl (record { learner = refl; known = refl; queue = refl; attempts = λ a are. are; heard = refl }) refl
+    delivery_wants g.D.Disk.stands_for c.args.self.now _ (Promise c.args.from c.args.instance c.args.ballot (vote_told c.args.prior)) c.from_residual.result _ _ (record { me = refl; cluster = refl; releases = refl }) c.requires.running in_range (λ s stands. tt) c.reserve.ensures.items c.from_residual.ensures.1 refl (record { learner = refl; known = refl; queue = refl; attempts = λ a are. are; heard = refl }) refl
 
 pub returns-in-Ok-Some-clause-grows : goal.returns-in-Ok-Some-clause-grows
 returns-in-Ok-Some-clause-grows g c = one_more _ _ _ _ c.reserve.ensures.items c.push_reserved.ensures.items

@@ -2,9 +2,14 @@ use Rattle.std.proofs.Common.{sym, subst}
 use Rattle.node.specs.Standing.{ending_of}
 use Rattle.site_drive.proofs.Calling.{asked}
 use Rattle.site_drive.proofs.Closing.{Ended}
+use Rattle.node.proofs.Stepping.{counts_none}
+use Rattle.site_drive.proofs.Failing.{store_kept}
 use Rattle.site_drive.proofs.desk.Desk.call.Goals as goal
 
 pub returns-in-Ask-clause-event : goal.returns-in-Ask-clause-event
 returns-in-Ask-clause-event g c =
     subst (λ last. Ended g.D.Disk.stands_for c.args.node.now c.ask.new.self last c.args.self.now.outbox.items c.ask.new.outbox.items (ending_of c.ask.result))
     (sym c.in-Ask.is) (asked g.D.Disk.stands_for c.args.node.now c.ask.new.self (ending_of c.ask.result) c.args.self.now.outbox.items c.ask.new.outbox.items c.ask.ensures.event)
+
+pub returns-in-Ask-clause-counts : goal.returns-in-Ask-clause-counts
+returns-in-Ask-clause-counts g c = counts_none _ _ _ c.ask.ensures.no_put.0 (store_kept g.D.Disk.failed _ _ c.ask.ensures.no_put.1)

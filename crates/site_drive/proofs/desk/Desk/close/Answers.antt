@@ -1,8 +1,9 @@
-use Rattle.std.proofs.Common.{◌++◌, ℕ, List, take, subst, ◌∙◌}
+use Rattle.std.proofs.Common.{◌++◌, ℕ, List, take, refl, subst, ◌∙◌}
 use Rattle.site_drive.specs.Drives.{sent_of}
 use Rattle.site_drive.proofs.Calling.{AllFit}
 use Rattle.site_drive.proofs.Results.{err_gives}
 use Rattle.site_drive.proofs.Closing.{closes, closes_short, not_closed}
+use Rattle.site_drive.proofs.Failing.{none_failed, all_fine, counts_on, memory_alone}
 use Rattle.site_drive.proofs.desk.Desk.close.Goals as goal
 
 pub returns-in_err-last_call-clause-fault : goal.returns-in_err-last_call-clause-fault
@@ -24,3 +25,12 @@ returns-clause-ok g c =
     (subst (λ k. AllFit c.last_call.new.self.outbox.items → (gs : List (ℕ × List ℕ)) → g.L.Link.given c.args.link.now gs
     → g.L.Link.given c.send_all.new.link (gs ++ sent_of k c.last_call.new.self.outbox.items))
     (c.cluster.ensures ∙ c.last_call.ensures.others.cluster) c.in_ok-send_all.ensures.given)
+
+pub returns-in_err-last_call-clause-counts : goal.returns-in_err-last_call-clause-counts
+returns-in_err-last_call-clause-counts g c = counts_on c.from_residual.result c.in_err-last_call.field-0.0 _ _ _ c.from_residual.ensures.1 refl c.in_err-last_call.ensures.counts
+
+pub returns-in_err-send_all-clause-counts : goal.returns-in_err-send_all-clause-counts
+returns-in_err-send_all-clause-counts g c = memory_alone c.from_residual-in_err-send_all.result _ _ _ c.from_residual-in_err-send_all.ensures.1 refl (none_failed _ _ _ c.in_ok-last_call.ensures.counts)
+
+pub returns-clause-counts : goal.returns-clause-counts
+returns-clause-counts g c = all_fine _ _ _ (none_failed _ _ _ c.in_ok-last_call.ensures.counts)

@@ -1,10 +1,11 @@
-use Rattle.std.proofs.Common.{sym, subst}
+use Rattle.std.proofs.Common.{refl, sym, subst, ◌∙◌}
 use Rattle.durable.proofs.Results.{on_err}
 use Rattle.site_drive.specs.Drives.{Exchanges}
 use Rattle.site_drive.specs.Leading.{LeadsTo}
 use Rattle.site_drive.proofs.Counting.{counted_on}
 use Rattle.site_drive.proofs.Results.{err_gives}
 use Rattle.site_drive.proofs.Closing.{driven, given_up_last, given_up_first}
+use Rattle.site_drive.proofs.Failing.{none_failed, all_fine, counts_on}
 use Rattle.site_drive.proofs.desk.Desk.drive_with.Goals as goal
 
 pub returns-in_err-malformed-clause-fault : goal.returns-in_err-malformed-clause-fault
@@ -28,3 +29,13 @@ returns-clause-ok g c =
     (Exchanges c.args.node.now.cluster c.args.node.now.me c.args.turns c.in_ok-malformed.malformed fed))
     (sym c.close.ensures.others.releases) c.in_ok-malformed.ensures.ok)
     c.in_ok-close.ensures.ok
+
+pub returns-in_err-malformed-clause-counts : goal.returns-in_err-malformed-clause-counts
+returns-in_err-malformed-clause-counts g c = counts_on c.from_residual.result c.in_err-malformed.field-0.0 _ _ _ c.from_residual.ensures.1 refl c.in_err-malformed.ensures.counts
+
+pub returns-in_err-close-clause-counts : goal.returns-in_err-close-clause-counts
+returns-in_err-close-clause-counts g c =
+    counts_on c.from_residual-in_err-close.result c.in_err-close.field-0.0 _ _ _ c.from_residual-in_err-close.ensures.1 (none_failed _ _ _ c.in_ok-malformed.ensures.counts) c.in_err-close.ensures.counts
+
+pub returns-clause-counts : goal.returns-clause-counts
+returns-clause-counts g c = all_fine _ _ _ (none_failed _ _ _ c.in_ok-close.ensures.counts ∙ none_failed _ _ _ c.in_ok-malformed.ensures.counts)

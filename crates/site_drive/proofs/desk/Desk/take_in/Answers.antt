@@ -1,8 +1,9 @@
-use Rattle.std.proofs.Common.{Err, take, subst}
+use Rattle.std.proofs.Common.{Err, take, refl, subst}
 use Rattle.wire.specs.Decoding.{Spells, Decodes}
 use Rattle.node.specs.declared.fault.NodeFault.TheVariants as fault
 use Rattle.site_drive.specs.Leading.{IsHeldAs}
 use Rattle.site_drive.proofs.Turning.{taken, broken, unread, took_some, broke_some}
+use Rattle.site_drive.proofs.Failing.{none_failed, all_fine, counts_on}
 use Rattle.site_drive.proofs.desk.Desk.take_in.Goals as goal
 
 -- src/turns.rt:52:5
@@ -39,3 +40,9 @@ returns-clause-broken g c = λ h is.
     in
     broke_some g.D.Disk.stands_for c.args.node.now c.args.node.now buffer c.args.self.now.room c.in-Some.n c.args.node.now.cluster c.args.node.now.me fault.OutOfMemory
     (unread g.D.Disk.stands_for c.args.node.now (take c.in-Some.n buffer) (decodes.0, spells)) h (subst (λ k. IsHeldAs k buffer h) c.in-Some.is is)
+
+pub returns-in-Ok-deliver-clause-counts : goal.returns-in-Ok-deliver-clause-counts
+returns-in-Ok-deliver-clause-counts g c = all_fine _ _ _ (none_failed _ _ _ c.in-Ok-deliver.ensures.counts)
+
+pub returns-in-Ok-clause-counts : goal.returns-in-Ok-clause-counts
+returns-in-Ok-clause-counts g c = counts_on (Err c.in-Err.fault) c.in-Err.fault _ _ _ refl refl c.in-Err.ensures.counts

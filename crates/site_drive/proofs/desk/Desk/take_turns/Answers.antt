@@ -1,8 +1,9 @@
-use Rattle.std.proofs.Common.{◌+◌, arith}
+use Rattle.std.proofs.Common.{◌+◌, ◌∙◌, arith}
 use Rattle.durable.proofs.Results.{on_err}
 use Rattle.site_drive.proofs.Counting.{counted_on, rose_on}
 use Rattle.site_drive.proofs.Results.{err_gives}
 use Rattle.site_drive.proofs.ManyTurns.{one_turn_more, one_turn_too_many, stays_on}
+use Rattle.site_drive.proofs.Failing.{none_failed, all_fine, counts_on}
 use Rattle.site_drive.proofs.desk.Desk.take_turns.Goals as goal
 
 pub returns-in_err-malformed-clause-fault : goal.returns-in_err-malformed-clause-fault
@@ -29,4 +30,11 @@ loop-made-preserved g c = record {
   whose = stays_on c.args.node.now c.loop-made.node c.turn.new.node c.loop-made.invariant.whose c.turn.ensures.whose;
   tried = rose_on _ _ _ _ _ c.loop-made.invariant.tried c.turn.ensures.tried;
   counted = counted_on _ _ _ _ _ _ c.loop-made.invariant.counted c.turn.ensures.counted;
+  counts = none_failed _ _ _ c.in_ok-malformed.ensures.counts ∙ c.loop-made.invariant.counts;
 }
+
+pub returns-in_err-malformed-clause-counts : goal.returns-in_err-malformed-clause-counts
+returns-in_err-malformed-clause-counts g c = counts_on c.from_residual.result c.in_err-malformed.field-0.0 _ _ _ c.from_residual.ensures.1 c.loop-made.invariant.counts c.in_err-malformed.ensures.counts
+
+pub returns-clause-counts : goal.returns-clause-counts
+returns-clause-counts g c = all_fine _ _ _ c.loop-made.invariant.counts

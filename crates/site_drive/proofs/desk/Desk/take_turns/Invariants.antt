@@ -14,6 +14,7 @@ invariant-loop-made g l = record {
   whose : StaysWhose l.fn.node l.node;
   tried : RoseBy l.made (g.L.Link.tried l.fn.link) (g.L.Link.tried l.link);
   counted : Counted l.fn.self.failed l.self.failed (g.L.Link.failed l.fn.link) (g.L.Link.failed l.link);
+  counts : g.D.Disk.failed l.node.store.disk ≡ g.D.Disk.failed l.fn.node.store.disk;
 }
 
 abbrev pub decreases-loop-made : goal.decreases-loop-made

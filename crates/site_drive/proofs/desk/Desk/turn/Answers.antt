@@ -1,4 +1,4 @@
-use Rattle.std.proofs.Common.{◌≡◌, ℕ, Some, List, [], append-nil, ◌++◌, take, sym, subst, ◌∙◌}
+use Rattle.std.proofs.Common.{◌≡◌, ℕ, Some, List, [], append-nil, ◌++◌, take, refl, ap, sym, subst, ◌∙◌}
 use Rattle.site_ids.specs.Lists.{In}
 use Rattle.wire.specs.declared.message.Message.{Message}
 use Rattle.wire.specs.Messages.{Fits}
@@ -9,6 +9,7 @@ use Rattle.site_drive.specs.Leading.{NodeLeads}
 use Rattle.site_drive.proofs.Counting.{counted_on}
 use Rattle.site_drive.proofs.Results.{err_gives, same_err}
 use Rattle.site_drive.proofs.Turning.{turned, turned_short, turned_off}
+use Rattle.site_drive.proofs.Failing.{store_kept, none_failed, all_fine, counts_on, memory_alone}
 use Rattle.site_drive.proofs.desk.Desk.turn.Goals as goal
 
 -- src/turns.rt:82:25
@@ -60,3 +61,19 @@ pub returns-clause-counted : goal.returns-clause-counted
 returns-clause-counted g c =
     counted_on _ _ _ _ _ _ c.hear-came.ensures.counted
     (subst (λ k. Counted k c.send_all.new.failed (g.L.Link.failed c.hear-came.new.link) (g.L.Link.failed c.send_all.new.link)) c.take_in.ensures.counted c.send_all.ensures.counted)
+
+pub returns-in_err-malformed-clause-counts : goal.returns-in_err-malformed-clause-counts
+returns-in_err-malformed-clause-counts g c = counts_on c.from_residual.result c.in_err-malformed.field-0.0 _ _ _ c.from_residual.ensures.1 refl c.in_err-malformed.ensures.counts
+
+pub returns-in_err-publish-clause-counts : goal.returns-in_err-publish-clause-counts
+returns-in_err-publish-clause-counts g c =
+    memory_alone c.from_residual-in_err-publish.result _ _ _ c.from_residual-in_err-publish.ensures.1 (same_err c.in_err-publish.ensures.err)
+    (store_kept g.D.Disk.failed _ _ c.publish.ensures.store ∙ none_failed _ _ _ c.in_ok-malformed.ensures.counts)
+
+pub returns-in_err-send_all-clause-counts : goal.returns-in_err-send_all-clause-counts
+returns-in_err-send_all-clause-counts g c =
+    memory_alone c.from_residual-in_err-send_all.result _ _ _ c.from_residual-in_err-send_all.ensures.1 refl
+    (store_kept g.D.Disk.failed _ _ c.publish.ensures.store ∙ none_failed _ _ _ c.in_ok-malformed.ensures.counts)
+
+pub returns-clause-counts : goal.returns-clause-counts
+returns-clause-counts g c = all_fine _ _ _ (store_kept g.D.Disk.failed _ _ c.publish.ensures.store ∙ none_failed _ _ _ c.in_ok-malformed.ensures.counts)

@@ -7,6 +7,7 @@ use Rattle.site_drive.specs.declared.last_call.LastCall.TheVariants.{Widen}
 use Rattle.site_drive.proofs.Turning.{nothing_out}
 use Rattle.site_drive.proofs.Calling.{begun_more, ended, quiet_out}
 use Rattle.site_drive.proofs.Closing.{Ended}
+use Rattle.site_drive.proofs.Failing.{none_failed, all_fine, counts_on}
 use Rattle.site_drive.proofs.desk.Desk.widen_all.Goals as goal
 
 pub returns-in_err-widen-clause-event : goal.returns-in_err-widen-clause-event
@@ -34,4 +35,11 @@ widening-preserved g c = record {
     releases = c.widen.ensures.others.releases ∙ c.widening.invariant.others.releases;
   };
   counted = c.widening.invariant.counted;
+  counts = none_failed _ _ _ c.in_ok-widen.ensures.counts ∙ c.widening.invariant.counts;
 }
+
+pub returns-in_err-widen-clause-counts : goal.returns-in_err-widen-clause-counts
+returns-in_err-widen-clause-counts g c = counts_on c.from_residual.result c.in_err-widen.field-0.0 _ _ _ c.from_residual.ensures.1 c.widening.invariant.counts c.in_err-widen.ensures.counts
+
+pub returns-clause-counts : goal.returns-clause-counts
+returns-clause-counts g c = all_fine _ _ _ (none_failed _ _ _ c.in_ok-widen.ensures.counts ∙ c.widening.invariant.counts)

@@ -1,6 +1,6 @@
 use Rattle.std.proofs.Common.{◌≡◌, ◌≤◌, ◌+◌, ◌-◌, ℕ, List, suc, ◌++◌, length}
 use Rattle.node.specs.Effects.{messages_of}
-use Rattle.sitectl.specs.Simulation.{IsMoment, to_each}
+use Rattle.sitectl.specs.Simulation.{IsMoment, Takes, to_each}
 use Rattle.sitectl.specs.Stepping.{moment_of}
 use Rattle.world.specs.declared.event.Event.{Event}
 use Rattle.sitectl.proofs.simulator.Simulation.deliver_to_all.Given as goal
@@ -15,7 +15,7 @@ invariant-loop-node l = record {
   same : l.self.world.cluster ≡ l.fn.self.world.cluster;
   settled : l.self.settled ≡ l.fn.self.settled;
   grows : length (messages_of l.fn.self.world.sent.items) ≤ length (messages_of l.self.world.sent.items);
-  moment : (n : ℕ) (events : List Event) → IsMoment n (moment_of l.fn.self events) → IsMoment n (moment_of l.self (events ++ to_each passed l.index));
+  told : (n : ℕ) (events : List Event) → IsMoment n (moment_of l.fn.self events) → Takes n (moment_of l.fn.self events) (to_each passed l.index) (moment_of l.self (events ++ to_each passed l.index));
 }
 
 abbrev pub decreases-loop-node : goal.decreases-loop-node

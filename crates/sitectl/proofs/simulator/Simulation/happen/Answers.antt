@@ -2,7 +2,7 @@ use Rattle.std.proofs.Common.{◌∙◌, ap, sym, subst, Err, Ok, rules}
 use Rattle.std.proofs.lemmas.Result.{err_from_is_err_and}
 use Rattle.sitectl.specs.ScheduleView.{line_view}
 use Rattle.sitectl.specs.Stepping.{HappenEnds}
-use Rattle.sitectl.proofs.Simulating.{settle_fault, take_fault, happened_one, happened_settle}
+use Rattle.sitectl.proofs.Simulating.{settle_fault, take_fault, happened_one, happened_settle, asked_page}
 use Rattle.sitectl.proofs.simulator.Simulation.happen.Goals as goal
 
 pub returns-in_err-settle-in-Settle : goal.returns-in_err-settle-in-Settle
@@ -25,3 +25,7 @@ pub returns-in_ok-take-in-Some : goal.returns-in_ok-take-in-Some
 returns-in_ok-take-in-Some c =
     happened_one c.args.self.now c.take.new.self (line_view c.args.line.now) c.in-Some.event c.new-in-Some.result (sym c.in_ok-event-in_default.ensures ∙ c.in-Some.is) (search rules)
     c.in_ok-take-in-Some.ensures.settled c.in_ok-take-in-Some.ensures.ok
+
+pub returns-in-Get : goal.returns-in-Get
+returns-in-Get c =
+    subst (λ l. HappenEnds c.args.self.now c.args.self.now (line_view l) c.got.result) (sym c.in-Get.is) (asked_page c.args.self.now _ _ _ c.got.result c.got.ensures.ok c.got.ensures.bad c.got.ensures.faults)

@@ -1,5 +1,5 @@
 use Rattle.std.proofs.Common.{◌≡◌, ◌+◌, ℕ, List, ◌++◌}
-use Rattle.sitectl.specs.Simulation.{IsMoment, deliveries}
+use Rattle.sitectl.specs.Simulation.{IsMoment, Takes, deliveries}
 use Rattle.sitectl.specs.Stepping.{moment_of}
 use Rattle.world.specs.declared.event.Event.{Event}
 use Rattle.sitectl.proofs.simulator.Simulation.settle.Given as goal
@@ -10,5 +10,6 @@ invariant-loop-index l = record {
   count : ℕ;
   here : l.index ≡ l.fn.self.settled + count;
   settled : l.self.settled ≡ l.index;
-  moment : (n : ℕ) (events : List Event) → IsMoment n (moment_of l.fn.self events) → IsMoment n (moment_of l.self (events ++ deliveries n l.fn.self.settled count));
+  delivered : (n : ℕ) (events : List Event) → IsMoment n (moment_of l.fn.self events)
+      → Takes n (moment_of l.fn.self events) (deliveries n l.fn.self.settled count) (moment_of l.self (events ++ deliveries n l.fn.self.settled count));
 }

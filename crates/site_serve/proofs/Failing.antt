@@ -1,0 +1,48 @@
+-- Failures of the device, over many rounds.
+use Rattle.std.proofs.Common.{◌≡◌, ◌⊎◌, ⊎_elim, ℕ, List, Result, Ok, Err, refl, sym, ap, ◌∙◌}
+use Rattle.std.specs.Result.{IsErrAnd}
+use Rattle.durable.specs.declared.record.Record.{Record}
+use Rattle.http_serve.specs.Services.{MaySubmit}
+use Rattle.node.specs.declared.fault.NodeFault.{NodeFault}
+use Rattle.node.specs.declared.fault.NodeFault.TheVariants.{Device}
+use Rattle.node.specs.Standing.{CountsDevice}
+use Rattle.site_drive.proofs.Failing.{store_kept}
+use Rattle.site_serve.specs.declared.halt.Halt.{Halt}
+use Rattle.site_serve.specs.declared.halt.Halt.TheVariants.{Stopped, OutOfMemory}
+use Rattle.site_serve.specs.declared.served.Served.{Served}
+use Rattle.site_serve.specs.Halts.{of_node, CountsNone}
+use Rattle.site_serve.specs.Served.{offered}
+
+one_fault : {T : Type 0} (x y : NodeFault) → ◌≡◌ {A = Result T NodeFault} (Err x) (Err y) → x ≡ y
+one_fault x y e = cc
+
+one_halt : {T : Type 0} (x y : Halt) → ◌≡◌ {A = Result T Halt} (Err x) (Err y) → x ≡ y
+one_halt x y e = cc
+
+fine : {T : Type 0} (x : T) → ◌≡◌ {A = Result T Halt} (Ok x) (Err Stopped) → ⊥
+fine x e = cc
+
+other : OutOfMemory ≡ Stopped → ⊥
+other e = cc
+
+-- a drive that is given up by the device stops the server
+pub drive_counts : {T U : Type 0} (r : Result T Halt) (fault : NodeFault) (before now : ℕ) → IsErrAnd r (λ y. y ≡ of_node fault) → CountsDevice {T = U} (Err fault) before now → CountsNone r before now
+drive_counts (Ok x) fault before now is c running = absurd is
+drive_counts (Err y) fault before now is c running = c.none (λ e. running (ap Err (is ∙ ap of_node (one_fault fault Device e))))
+
+-- the halt that is passed on, behind rounds that counted nothing
+pub counts_on : {T U : Type 0} (r : Result T Halt) (why : Halt) (before mid now : ℕ) → IsErrAnd r (λ y. y ≡ why) → mid ≡ before → CountsNone {T = U} (Err why) mid now → CountsNone r before now
+counts_on (Ok x) why before mid now is same c running = absurd is
+counts_on (Err y) why before mid now is same c running = c (λ e. running (ap Err (is ∙ one_halt why Stopped e))) ∙ same
+
+-- nothing was counted where no halt came
+pub none_failed : {T : Type 0} (x : T) (before now : ℕ) → CountsNone {T = T} (Ok x) before now → now ≡ before
+none_failed x before now c = c (fine x)
+
+-- a connection leaves the record alone
+pub served_kept : {D : Type 0} (failed : D → ℕ) (old new : Served D) → MaySubmit offered old new → failed new.node.store.disk ≡ failed old.node.store.disk
+served_kept failed old new may =
+    ⊎_elim
+    (λ (same : new ≡ old). ap (λ s. failed s.node.store.disk) same)
+    (λ more. store_kept failed old.node.store new.node.store more.3.taken.record_is)
+    may

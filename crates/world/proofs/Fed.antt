@@ -1,0 +1,86 @@
+-- What a node that has published all was fed: its known prefix.
+use Rattle.std.proofs.Common.{◌≡◌, ◌≢◌, ℕ, zero, suc, ◌-◌, ◌<◌, ◌≤◌, Option, Some, None, List, [], ◌∷◌, length, refl, sym, ap, subst, ◌∙◌, arith}
+use Rattle.std.specs.Prelude.{slice_get}
+use Rattle.site_ids.specs.Ids.{IsNode}
+use Rattle.node.specs.Nodes.{Value, Up, Node, opened, BeginsKnown, IsKnownPrefix}
+use Rattle.world.specs.declared.places.Place.{Place}
+use Rattle.world.specs.declared.places.Place.TheVariants.{Open, Bare}
+use Rattle.world.specs.declared.whole.World.{World as Code}
+use Rattle.world.specs.Worlds.{World, start}
+use Rattle.world.specs.Standing.{IsPlaceOf, HasPublished, IsWorldOf, IsPublishedAt}
+use Rattle.world.specs.Telling.{fed_in, fed_at}
+
+-- ---- a known prefix
+
+there_at : {X : Type 0} (xs : List X) (k : ℕ) → k < length xs → (x : X) × (slice_get xs k ≡ Some x)
+there_at [] k below = absurd (omega (arith, below))
+there_at (x ∷ xs) zero below = (x, refl)
+there_at (x ∷ xs) (suc k) below = there_at xs k (omega (arith, below))
+
+no_value : (v : Value) → ◌≡◌ {A = Option Value} None (Some v) → ⊥
+no_value v e = cc
+
+not_longer : (s : Node) (us vs : List Value) → IsKnownPrefix s us → IsKnownPrefix s vs → ¬ (length us < length vs)
+not_longer s us vs u v less = let more = there_at vs (length us) less in no_value more.0 (sym u.gap ∙ v.begins (length us) more.0 more.1)
+
+one_value : (v u : Value) → ◌≡◌ {A = Option Value} (Some v) (Some u) → v ≡ u
+one_value v u e = cc
+
+shorter : (x y : Value) (xs ys : List Value) → length (x ∷ xs) ≡ length (y ∷ ys) → length xs ≡ length ys
+shorter x y xs ys e = cc
+
+-- lists of one length whose members are told by one map
+one_list : (told : ℕ → Option Value) (us vs : List Value) → ((k : ℕ) (v : Value) → slice_get us k ≡ Some v → told k ≡ Some v) → ((k : ℕ) (v : Value) → slice_get vs k ≡ Some v → told k ≡ Some v)
+    → length us ≡ length vs → us ≡ vs
+one_list told [] [] u v long = refl
+one_list told [] (y ∷ ys) u v long = cc
+one_list told (x ∷ xs) [] u v long = cc
+one_list told (x ∷ xs) (y ∷ ys) u v long =
+    let first = one_value x y (sym (u 0 x refl) ∙ v 0 y refl) in
+    let others = one_list (λ k. told (suc k)) xs ys (λ k w got. u (suc k) w got) (λ k w got. v (suc k) w got) (shorter x y xs ys long) in
+    ap (λ z. z ∷ xs) first ∙ ap (λ l. y ∷ l) others
+
+-- a node has one
+pub one_prefix : (s : Node) (us vs : List Value) → IsKnownPrefix s us → IsKnownPrefix s vs → us ≡ vs
+one_prefix s us vs u v =
+    let a = not_longer s us vs u v in
+    let b = not_longer s vs us v u in
+    let long : length us ≡ length vs = omega (arith, a, b) in
+    one_list (λ k. s.known (suc k)) us vs u.begins v.begins long
+
+-- ---- what was published
+
+-- of two nodes that a place stands for both have published all, or neither
+both_published : (n p : ℕ) (place : Place) (s t : Node) → IsPlaceOf n p place s → IsPlaceOf n p place t → HasPublished place s → HasPublished place t
+both_published n p (Open code armed) s t at bt published =
+    let i = suc (length code.releases) in
+    record { begins = bt.stands.fed; gap = sym (bt.stands.parts.known.values i) ∙ at.stands.parts.known.values i ∙ published.gap }
+both_published n p (Bare disk) s t at bt published = tt
+
+-- and so in two worlds that a value stands for
+pub published_alike : (code : Code) (a b : World) → IsWorldOf code a → IsWorldOf code b → (p : ℕ) → IsPublishedAt code a p → IsPublishedAt code b p
+published_alike code a b is js p published k place here got =
+    let first : HasPublished place (a.node (suc k)) = subst (λ (q : ℕ). HasPublished place (a.node q)) here (published k place here got) in
+    subst (λ (q : ℕ). HasPublished place (b.node q)) (sym here) (both_published code.cluster (suc k) place (a.node (suc k)) (b.node (suc k)) (is.places k place got) (js.places k place got) first)
+
+nothing_known : (n p : ℕ) (place : Place) → IsPlaceOf n p place (opened Up [] None) → HasPublished place (opened Up [] None)
+nothing_known n p (Open code armed) at = record { begins = at.stands.fed; gap = refl }
+nothing_known n p (Bare disk) at = tt
+
+-- as a world begins there is nothing to publish
+pub start_published : (code : Code) → IsWorldOf code start → (p : ℕ) → IsPublishedAt code start p
+start_published code stands p k place here got = nothing_known code.cluster (suc k) place (stands.places k place got)
+
+fed_of : (n p : ℕ) (place : Place) (s : Node) → IsPlaceOf n p place s → HasPublished place s → IsKnownPrefix s (fed_in (Some place))
+fed_of n p (Open code armed) s at published = published
+fed_of n p (Bare disk) s at published = record { begins = λ k v lost. cc; gap = ap (λ (t : Node). t.known 1) at.down }
+
+-- a node that has published all was fed its known prefix, and none where it is down
+pub fed_whole : (code : Code) (w : World) (p : ℕ) → IsNode code.cluster p → IsWorldOf code w → IsPublishedAt code w p → IsKnownPrefix (w.node p) (fed_at code p)
+fed_whole code w p node stands published =
+    let k = p - 1 in
+    let here : p ≡ suc k = omega (arith, node.0) in
+    let below : k < length code.places.items = omega (arith, node.0, node.1, code.all_there) in
+    let place = there_at code.places.items k below in
+    let mine : IsPlaceOf code.cluster p place.0 (w.node p) = subst (λ (q : ℕ). IsPlaceOf code.cluster q place.0 (w.node q)) (sym here) (stands.places k place.0 place.1) in
+    subst (λ (x : Option Place). IsKnownPrefix (w.node p) (fed_in x)) (sym place.1) (fed_of code.cluster p place.0 (w.node p) mine (published k place.0 here place.1))
