@@ -11,8 +11,8 @@ pub fn calls_forget_nothing()
     ensures mark { MarkStays }
 {}
 
-/// Attempts stand at unknown instances less than `MAX_ATTEMPTS` past the first unknown one, votes at unknown ones, and what is pending has tickets of its
-/// own. So a call hands out few messages.
+/// Attempts stand at unknown instances less than `MAX_ATTEMPTS` past the first unknown one, and where one is open, each unknown instance below it has one.
+/// Votes stand at unknown instances, and what is pending has tickets of its own. So a call hands out few messages.
 pub fn nodes_stay_tidy()
     ensures opens { OpensTidy }
     ensures stays { StaysTidy }
