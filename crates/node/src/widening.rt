@@ -1,6 +1,10 @@
 //! A widening: fresh attempts at the least free instance and on.
 
-ghost use Rattle.std.specs.Prelude.{◌≡◌, ◌↔◌, ◌+◌, ◌≤◌, ℕ, List, None, Some, IfOk, IsErrOf, IsTrue, MatchOption, length};
+ghost use Rattle.std.specs.Prelude.{◌≡◌, ◌↔◌, ◌+◌, ◌<◌, ◌≤◌, ℕ, List, Option, None, Some, IfOk, IfSome, OnOk, IsErrOf, IsTrue, MatchOption, length};
+ghost use Rattle.site_ids.specs.Spans.{IsSpan};
+ghost use Rattle.proposer.specs.declared.TheConstants.{MAX_ATTEMPTS};
+ghost use Rattle.proposer.specs.Attempts.{Attempt};
+ghost use Rattle.proposer.specs.Standing.{Attempting};
 
 use crate::{Node, NodeFault, Outbox, To, WINDOW};
 use site_disk::Disk;
@@ -10,8 +14,8 @@ use wire::Message;
 
 impl<D: Disk> Node<D> {
     ghost use Rattle.node.specs.Nodes.{Node as AbstractNode, Value as Bytes, IsUnknown, IsFirstUnknown};
-    ghost use Rattle.node.specs.Calls.{IsTried, IsUntried, IsNextFree, MayWiden, widen as widening};
-    ghost use Rattle.node.specs.Widening.{IsFreeRun, AreOldest};
+    ghost use Rattle.node.specs.Calls.{IsUntried, IsNextFree, MayWiden, widen as widening};
+    ghost use Rattle.node.specs.Widening.{IsFreeRun, IsOldestUntried, AreOldest, PushesUntried};
     ghost use Rattle.node.specs.Standing.{IsNodeOf, IsEvent, TakesRound, OnlyGrows, KeepsOthers, CountsDevice, ending_of};
 
     /// A fresh round goes on record, and attempts at the least free instance and on begin with it, as long as the next
@@ -34,14 +38,14 @@ impl<D: Disk> Node<D> {
         let Some(instance) = self.next_free(first) else {
             return Ok(false);
         };
-        if !self.has_untried() {
+        let Some(oldest) = self.next_untried() else {
             return Ok(false);
-        }
+        };
         let Ok(ballot) = self.proposer.next_ballot(self.store.round()) else {
             return Err(NodeFault::RoundsUsedUp);
         };
         outbox.reserve(1)?;
-        let values = self.untried(self.free_run(first, instance))?;
+        let values = self.untried(oldest, self.free_run(first, instance))?;
         let count = values.len() as u8;
         self.proposer.make_room_for_span(instance, count)?;
         self.store.put_round(ballot.round())?;
@@ -60,7 +64,8 @@ impl<D: Disk> Node<D> {
 
     /// The least free instance, from the first unknown one on.
     fn next_free(&self, first: Instance) -> Option<Instance>
-        ensures { (s : AbstractNode) → IsNodeOf self.now s → IsFirstUnknown s.known first → MatchOption result ((i : ℕ) → ¬ IsNextFree s i) (λ i. IsNextFree s i) }
+        ensures least { (s : AbstractNode) → IsNodeOf self.now s → IsFirstUnknown s.known first → MatchOption result ((i : ℕ) → ¬ IsNextFree s i) (λ i. IsNextFree s i) }
+        ensures near { IfSome result (λ i. (first ≤ i) × (i < first + MAX_ATTEMPTS)) }
     {
         let mut past = 0;
         while past < WINDOW {
@@ -73,18 +78,20 @@ impl<D: Disk> Node<D> {
         None
     }
 
-    /// How many instances are free one behind the other, from this one on, up to the window's end.
+    /// How many instances are free one behind the other, from a free one on, up to the window's end.
     fn free_run(&self, first: Instance, instance: Instance) -> usize
-        ensures { (s : AbstractNode) → IsNodeOf self.now s → IsFirstUnknown s.known first → IsNextFree s instance → IsFreeRun s first instance result }
+        requires near { (first ≤ instance) × (instance < first + MAX_ATTEMPTS) }
+        ensures free { (s : AbstractNode) → IsNodeOf self.now s → IsFirstUnknown s.known first → IsNextFree s instance → IsFreeRun s first instance result }
+        ensures span { IsSpan instance result }
     {
         let end = first.number() + WINDOW;
-        let mut next = instance.number();
+        let mut next = instance.number() + 1;
         while next < end {
             let Some(at) = Instance::new(next) else {
-                break;
+                return (next - instance.number()) as usize;
             };
             if !self.is_free(at) {
-                break;
+                return (next - instance.number()) as usize;
             }
             next += 1;
         }
@@ -104,31 +111,50 @@ impl<D: Disk> Node<D> {
         }
     }
 
-    /// A pending value has no attempt.
-    fn has_untried(&self) -> bool
-        ensures { (s : AbstractNode) → IsNodeOf self.now s → IsTrue result ↔ ((v : Bytes) × IsUntried s v) }
+    /// The place in the queue of the oldest value that no attempt has as its own.
+    fn next_untried(&self) -> Option<usize>
+        ensures oldest { (s : AbstractNode) → IsNodeOf self.now s → MatchOption result ((v : Bytes) → ¬ IsUntried s v) (λ n. IsOldestUntried s n) }
+        ensures within { IfSome result (λ n. n < length self.now.queue.items.items) }
     {
-        for waiting in &self.queue.items {
-            if !self.proposer.tries(waiting.value.as_bytes()) {
-                return true;
+        for place in 0..self.queue.items.len() {
+            if !self
+                .proposer
+                .tries(self.queue.items[place].value.as_bytes())
+            {
+                return Some(place);
             }
         }
-        false
+        None
     }
 
-    /// Copies of the oldest pending values that no attempt has as its own, so many at most.
-    fn untried(&self, most: usize) -> Result<Vec<Value>, AllocError>
-        ensures { IfOk result (λ values. (s : AbstractNode) → IsNodeOf self.now s → AreOldest s most values.items) }
+    /// Copies of the values that no attempt has as its own, from the oldest on, which stands here in the queue: all of
+    /// them, or so many.
+    fn untried(&self, oldest: usize, most: usize) -> Result<Vec<Value>, AllocError>
+        requires within { oldest < length self.now.queue.items.items }
+        requires some { 1 ≤ most }
+        ensures oldest { IfOk result (λ values. (s : AbstractNode) (first : ℕ) → IsNodeOf self.now s → IsFirstUnknown s.known first → IsOldestUntried s oldest → AreOldest s most values.items) }
+        ensures few { IfOk result (λ values. (1 ≤ length values.items) × (length values.items ≤ most)) }
     {
         let mut values = Vec::new(self.alloc);
-        for waiting in &self.queue.items {
+        values.push(self.queue.items[oldest].value.try_clone(self.alloc)?)?;
+        for place in oldest + 1..self.queue.items.len() {
             if values.len() == most {
                 return Ok(values);
             }
-            if !self.proposer.tries(waiting.value.as_bytes()) {
-                values.push(waiting.value.try_clone(self.alloc)?)?;
-            }
+            self.push_untried(&self.queue.items[place].value, &mut values)?;
         }
         Ok(values)
+    }
+
+    /// A copy of the value behind what is there, unless an attempt has it as its own.
+    fn push_untried(&self, value: &Value, values: &mut Vec<Value>) -> Result<(), AllocError>
+        ensures pushes { OnOk result ((attempts : ℕ → Option Attempt) → Attempting self.now.proposer attempts → PushesUntried attempts value.now values.old.items values.new.items) }
+        ensures few { OnOk result ((length values.old.items ≤ length values.new.items) × (length values.new.items ≤ length values.old.items + 1)) }
+    {
+        if self.proposer.tries(value.as_bytes()) {
+            return Ok(());
+        }
+        values.push(value.try_clone(self.alloc)?)?;
+        Ok(())
     }
 }

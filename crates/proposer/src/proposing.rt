@@ -16,6 +16,16 @@ use std::alloc::{AllocError, Global};
 use std::collections::BTreeMap;
 use wire::Message;
 
+// An attempt is there, and has the value as its own.
+fn has_own(attempt: &Option<OpenAttempt>, value: &[u8]) -> bool
+    ensures { IsTrue result ↔ ((a : OpenAttempt) × (attempt.now ≡ Some a) × (a.own ≡ value.now)) }
+{
+    match attempt {
+        Some(attempt) => attempt.own.as_bytes() == value,
+        None => false,
+    }
+}
+
 /// A value to propose, at an attempt's instance and ballot.
 #[derive(Debug, Drop)]
 pub struct Proposal {
@@ -266,10 +276,8 @@ impl Proposer {
         ensures { (attempts : ℕ → Option Attempt) → Attempting self.now attempts → IsTrue result ↔ ((i : ℕ) × (a : Attempt) × (attempts i ≡ Some a) × (a.own ≡ value.now)) }
     {
         for attempt in self.attempts.values() {
-            if let Some(attempt) = attempt {
-                if attempt.own.as_bytes() == value {
-                    return true;
-                }
+            if has_own(attempt, value) {
+                return true;
             }
         }
         false
