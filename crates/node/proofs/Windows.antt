@@ -6,7 +6,8 @@ use Rattle.proposer.specs.Attempts.{Attempt}
 use Rattle.proposer.specs.declared.TheConstants.{MAX_ATTEMPTS}
 use Rattle.node.specs.Nodes.{Value, Node, IsFirstUnknown}
 use Rattle.site_ids.specs.Spans.{IsSpan, IsInSpan}
-use Rattle.node.specs.Calls.{RisesFrom, IsFree, IsNextFree, IsTried, AreUntried, IsNextSpan, AreOpenElsewhere}
+use Rattle.node.specs.Calls.{RisesFrom, IsFree, IsNextFree, IsTried, AreUntried, MayWiden, IsNextSpan, Begins, AreOpenElsewhere}
+use Rattle.node.specs.Effects.{Effect}
 use Rattle.node.specs.Tidy.{IsInWindow, IsTidy}
 
 no_value : (v : Value) → ◌≡◌ {A = Option Value} None (Some v) → ⊥
@@ -81,6 +82,27 @@ in_front (x ∷ xs) ys v k = ⊎_elim (λ e. inl e) (λ later. inr (in_front xs 
 -- its values are pending
 pub next_in : (s : Node) (i : ℕ) (values : List Value) → IsNextSpan s i values → (v : Value) → In values v → In s.pending v
 next_in s i values next v k = untried_from s s.pending (values ++ next.left) next.oldest v (in_front values next.left v k)
+
+untried_left : (s : Node) (vs left : List Value) (v : Value) → AreUntried s vs left → In left v → ¬ IsTried s v
+untried_left s [] left v are k = absurd (subst (λ (l : List Value). In l v) are k)
+untried_left s (u ∷ vs) left v are k = ⊎_elim
+    (λ (x : IsTried s u × AreUntried s vs left). untried_left s vs left v x.1 k)
+    (λ (x : (¬ IsTried s u) × ((rest : List Value) × (left ≡ u ∷ rest) × AreUntried s vs rest)).
+    ⊎_elim (λ (e : u ≡ v). subst (λ (w : Value). ¬ IsTried s w) e x.0) (λ later. untried_left s vs x.1.0 v x.1.2 later) (subst (λ (l : List Value). In l v) x.1.1 k))
+    are
+
+some_value : (values : List Value) → 1 ≤ length values → (v : Value) × In values v
+some_value [] some = absurd (omega (arith, some))
+some_value (v ∷ vs) some = (v, inl refl)
+
+-- a widening that begins may
+pub begins_may : (p : ℕ) (s : Node) (effect : Effect) → Begins p s effect → MayWiden s
+begins_may p s effect begins =
+    let next = begins.span in
+    let one = some_value begins.values next.some in (
+      (begins.instance, next.start),
+      (one.0, (next_in s begins.instance begins.values next one.0 one.1, untried_left s s.pending (begins.values ++ next.left) one.0 next.oldest (in_front begins.values next.left one.0 one.1))),
+    )
 
 -- its instances are of the window
 pub span_in_window : (s : Node) (i : ℕ) (values : List Value) → IsNextSpan s i values → (j : ℕ) → IsInSpan i (length values) j → IsInWindow s.known j
