@@ -229,6 +229,10 @@ untried_more s n v before after got are pushes =
     (λ (x : (¬ IsTried s v) × (after ≡ before ++ v ∷ [])). subst (λ (l : List Value). AreUntried s (take n s.pending ++ v ∷ []) l) (sym x.1) (untried_both s (take n s.pending) (v ∷ []) before (v ∷ []) are (one_untried s v x.0)))
     pushes)
 
+pub none_taken : (s : Node) (vs : List Value) → AreUntried s (take 0 vs) []
+none_taken s [] = refl
+none_taken s (v ∷ vs) = refl
+
 pub tried_more : (s : Node) (n : ℕ) (v : Value) → slice_get s.pending n ≡ Some v → AreUntried s (take n s.pending) [] → IsTried s v → AreUntried s (take (n + 1) s.pending) []
 tried_more s n v got are tried = untried_more s n v [] [] got are (inl (tried, refl))
 

@@ -116,11 +116,11 @@ impl<D: Disk> Node<D> {
         ensures oldest { (s : AbstractNode) → IsNodeOf self.now s → MatchOption result ((v : Bytes) → ¬ IsUntried s v) (λ n. IsOldestUntried s n) }
         ensures within { IfSome result (λ n. n < length self.now.queue.items.items) }
     {
-        for place in 0..self.queue.items.len() {
-            if !self
-                .proposer
-                .tries(self.queue.items[place].value.as_bytes())
-            {
+        for place in 0..self.queue.len() {
+            let Some(value) = self.queue.value_at(place) else {
+                return None;
+            };
+            if !self.proposer.tries(value.as_bytes()) {
                 return Some(place);
             }
         }
@@ -136,12 +136,18 @@ impl<D: Disk> Node<D> {
         ensures few { IfOk result (λ values. (1 ≤ length values.items) × (length values.items ≤ most)) }
     {
         let mut values = Vec::new(self.alloc);
-        values.push(self.queue.items[oldest].value.try_clone(self.alloc)?)?;
-        for place in oldest + 1..self.queue.items.len() {
+        let Some(first) = self.queue.value_at(oldest) else {
+            return Ok(values);
+        };
+        values.push(first.try_clone(self.alloc)?)?;
+        for place in oldest + 1..self.queue.len() {
+            let Some(value) = self.queue.value_at(place) else {
+                return Ok(values);
+            };
             if values.len() == most {
                 return Ok(values);
             }
-            self.push_untried(&self.queue.items[place].value, &mut values)?;
+            self.push_untried(value, &mut values)?;
         }
         Ok(values)
     }

@@ -46,15 +46,35 @@ fn has_round(ballot: &Ballot, round: u32) -> bool {
 
 fn is_answer(said: &(To, Message), wanted: Answer) -> bool {
     match (&said.1, wanted) {
-        (Message::Promise { instance, prior, .. }, Answer::Promise(at)) => {
-            instance.number() == at && prior.is_none()
+        (
+            Message::Promise {
+                instance,
+                prior,
+                ..
+            },
+            Answer::Promise(at),
+        ) => { instance.number() == at && prior.is_none() }
+        (
+            Message::Promise {
+                instance,
+                prior,
+                ..
+            },
+            Answer::Told(at, round),
+        ) => {
+            instance.number() == at
+                && prior
+                    .as_ref()
+                    .is_some_and(|vote| has_round(&vote.ballot, round))
         }
-        (Message::Promise { instance, prior, .. }, Answer::Told(at, round)) => {
-            instance.number() == at && prior.as_ref().is_some_and(|vote| has_round(&vote.ballot, round))
-        }
-        (Message::Nack { instance, promised, .. }, Answer::Nack(at, round)) => {
-            instance.number() == at && has_round(promised, round)
-        }
+        (
+            Message::Nack {
+                instance,
+                promised,
+                ..
+            },
+            Answer::Nack(at, round),
+        ) => { instance.number() == at && has_round(promised, round) }
         _ => false,
     }
 }
@@ -103,7 +123,12 @@ fn a_span_is_kept_over_a_crash(rt: HostRuntime) -> Result<(), Fail> {
     each_by_itself(&rt, &mut node)?;
     let mut node = node.again(Some(0))?;
     node.hand(&prepare(&node, 3, 5, 3, 1)?)?;
-    answers(&rt, &mut node, 3, &[Answer::Nack(5, 2), Answer::Nack(6, 3), Answer::Nack(7, 2)])?;
+    answers(
+        &rt,
+        &mut node,
+        3,
+        &[Answer::Nack(5, 2), Answer::Nack(6, 3), Answer::Nack(7, 2)],
+    )?;
     Ok(())
 }
 
@@ -116,14 +141,24 @@ fn two_spans_overlap_by_halves(rt: HostRuntime) -> Result<(), Fail> {
         &rt,
         &mut node,
         3,
-        &[Answer::Promise(3), Answer::Promise(4), Answer::Promise(5), Answer::Promise(6)],
+        &[
+            Answer::Promise(3),
+            Answer::Promise(4),
+            Answer::Promise(5),
+            Answer::Promise(6),
+        ],
     )?;
     node.hand(&prepare(&node, 2, 1, 4, 1)?)?;
     answers(
         &rt,
         &mut node,
         2,
-        &[Answer::Promise(1), Answer::Promise(2), Answer::Nack(3, 2), Answer::Nack(4, 2)],
+        &[
+            Answer::Promise(1),
+            Answer::Promise(2),
+            Answer::Nack(3, 2),
+            Answer::Nack(4, 2),
+        ],
     )?;
     node.hand(&propose(&node, 2, 2, 1)?)?;
     node.forget_said();
@@ -132,7 +167,12 @@ fn two_spans_overlap_by_halves(rt: HostRuntime) -> Result<(), Fail> {
         &rt,
         &mut node,
         3,
-        &[Answer::Promise(1), Answer::Told(2, 1), Answer::Promise(3), Answer::Promise(4)],
+        &[
+            Answer::Promise(1),
+            Answer::Told(2, 1),
+            Answer::Promise(3),
+            Answer::Promise(4),
+        ],
     )?;
     Ok(())
 }

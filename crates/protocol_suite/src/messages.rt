@@ -144,7 +144,8 @@ fn a_prepare_by_its_fields(rt: HostRuntime) -> Result<(), Fail> {
         ballot: found,
         count,
         ..
-    } = message else {
+    } = message
+    else {
         return Err(Fail::from("another kind"));
     };
     assert_eq!(rt; found, ballot(1, 2)?);

@@ -1,4 +1,4 @@
-use Rattle.std.proofs.Common.{◌≡◌, ◌≢◌, ℕ, ◌+◌, ◌-◌, max, Bool, true, false, not, List, [], ◌++◌, length, refl, sym, ap, ◌∙◌, arith}
+use Rattle.std.proofs.Common.{◌≡◌, ◌≢◌, ℕ, ◌+◌, ◌-◌, max, true, false, List, [], ◌++◌, length, refl, sym, ap, ◌∙◌, arith}
 use Rattle.site_ids.specs.Spans.{last_of}
 use Rattle.wire.specs.declared.message.Message.TheVariants.{Prepare}
 use Rattle.durable.specs.Entries.{promise_of}
@@ -9,18 +9,10 @@ use Rattle.node.proofs.Stepping.{delivery_wants, Handed, is_up, put_fails, put_w
 use Rattle.node.proofs.Adding.{when_ok}
 use Rattle.node.proofs.running.Node.on_prepare.Goals as goal
 
-on : (r : Bool) → not r ≡ false → r ≡ true
-on true e = refl
-on false e = sym e
-
-off : (r : Bool) → not r ≡ true → r ≡ false
-off true e = sym e
-off false e = refl
-
 -- a span of which an instance rises is put
 pub put_promises-requires-clause-above : goal.put_promises-requires-clause-above
 put_promises-requires-clause-above g c =
-    rises_where c.args.self.now c.args.first c.args.ballot c.args.count c.in_ok-judgement.judgement c.in_ok-judgement.ensures.ok (on c.in_ok-judgement.judgement.rises c.if-not-rises.false)
+    rises_where c.args.self.now c.args.first c.args.ballot c.args.count c.in_ok-judgement.judgement c.in_ok-judgement.ensures.ok c.if-not-rises.false
 
 pub returns-in_err-judgement-clause-event : goal.returns-in_err-judgement-clause-event
 returns-in_err-judgement-clause-event g c from in_range =
@@ -54,7 +46,7 @@ returns-then-not-rises-clause-event g c from in_range =
     (record { learner = refl; known = refl; queue = refl; attempts = λ a are. are; heard = refl }) (c.max-reached.ensures ∙ ap (λ (n : ℕ). max old.reached (n + k - 1)) c.number.ensures.is)
     (when_ok c.append.result _ _ _ (c.append.ensures.succeeds (omega (arith, c.in_ok-reserve.ensures.ok, c.len.ensures))) c.append.ensures.items ∙ ap (λ (l : Handed). l ++ out) c.reserve.ensures.items)
     (sym is.answers)
-    (prepare_stays old i b k told is from (off told.rises c.if-not-rises.true))
+    (prepare_stays old i b k told is from c.if-not-rises.true)
 
 pub returns-in_err-put_promises-clause-event : goal.returns-in_err-put_promises-clause-event
 returns-in_err-put_promises-clause-event g c from in_range =
@@ -64,7 +56,7 @@ returns-in_err-put_promises-clause-event g c from in_range =
     let k = c.args.count in
     let told = c.in_ok-judgement.judgement in
     let is = c.in_ok-judgement.ensures.ok in
-    let rises : told.rises ≡ true = on told.rises c.if-not-rises.false in
+    let rises : told.rises ≡ true = c.if-not-rises.false in
     let failed = c.in_err-put_promises in
     let fault = c.from_residual-in_err-put_promises in
     put_fails g.D.Disk.stands_for g.D.Disk.failed old _ (promise_of i k b) (record { me = refl; cluster = refl; releases = refl }) c.requires.running (deliver (Prepare from i b k)) failed.field-0.0 fault.result _ _ in_range
@@ -86,7 +78,7 @@ returns-clause-event g c from in_range =
     c.in_ok-put_promises.ensures.put c.in_ok-put_promises.ensures.acknowledged
     (when_ok c.append-2.result _ _ _ (c.append-2.ensures.succeeds (omega (arith, c.in_ok-reserve.ensures.ok, c.len.ensures))) c.append-2.ensures.items ∙ ap (λ (l : Handed). l ++ out) c.reserve.ensures.items)
     (sym is.answers)
-    (prepare_rises old i b k told is from (on told.rises c.if-not-rises.false))
+    (prepare_rises old i b k told is from c.if-not-rises.false)
 
 pub returns-then-not-rises-clause-grows : goal.returns-then-not-rises-clause-grows
 returns-then-not-rises-clause-grows g c = (

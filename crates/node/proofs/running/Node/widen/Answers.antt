@@ -26,6 +26,13 @@ first_of old s gap stands is = first_unknown old.known.log s.known gap stands.pa
 off : true ≡ false → ⊥
 off e = cc
 
+-- the span: as many instances as there are values, at most as many as are free
+pub make_room_for_span-requires : goal.make_room_for_span-requires
+make_room_for_span-requires g c =
+    let run = c.free_run.ensures.span in
+    let few = c.in_ok-values.ensures.few in
+    (omega (arith, few.0, c.len.ensures), omega (arith, few.1, run.1, c.len.ensures), run.2, omega (arith, few.1, run.1, run.3, c.len.ensures))
+
 pub returns-in_default-clause-event : goal.returns-in_default-clause-event
 returns-in_default-clause-event g c =
     let old = c.args.self.now in
