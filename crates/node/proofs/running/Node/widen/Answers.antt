@@ -8,7 +8,7 @@ use Rattle.node.specs.declared.fault.NodeFault.TheVariants.{RoundsUsedUp}
 use Rattle.node.specs.declared.running.Node.{Node as Running}
 use Rattle.node.specs.declared.to.To.TheVariants.{All}
 use Rattle.node.specs.Nodes.{Value, Node, IsFirstUnknown}
-use Rattle.node.specs.Calls.{widen as widening, IsNextSpan, MayWiden}
+use Rattle.node.specs.Calls.{widen as widening, IsNextSpan, MayWiden, Does}
 use Rattle.node.specs.Standing.{IsNodeOf}
 use Rattle.node.proofs.FreshAttempts.{begun, begins}
 use Rattle.node.proofs.Gaps.{IsGap, first_unknown, all_known}
@@ -142,6 +142,7 @@ returns-clause-event g c =
     let i = c.in-Some-next_free.instance in
     let b = c.in-Ok.ballot in
     let values : List Value = c.in_ok-values.values.items in
+    let counted : c.len.result ≡ length values = c.len.ensures ∙ c.in_ok-values.values.ok.0 in
     let taken : (s : Node) → IsNodeOf old s → IsNextSpan s i values = λ s stands.
     let first = first_of old s c.in-Some.first stands c.in-Some.ensures in
     let next = c.in-Some-next_free.ensures.least s stands first in
@@ -149,11 +150,11 @@ returns-clause-event g c =
     (c.in_ok-values.ensures.oldest s c.in-Some.first stands first (c.in-Some-next_untried.ensures.oldest s stands)) c.in_ok-values.ensures.few.0 in
     let next : ℕ → BallotOf = λ r. record { round = max r old.proposer.heard + 1; node = old.proposer.me } in
     let put = c.in_ok-put_round.ensures.put in
-    let out : Handed = (All, Prepare old.me i b (length values)) ∷ [] in
+    let out : Handed = (All, Prepare old.me i b c.len.result) ∷ [] in
     whole g.D.Disk.stands_for old _ widening _ _ out (record { me = refl; cluster = refl; releases = refl }) runs tt (c.push_reserved.ensures.items ∙ ap (λ (l : Handed). l ++ out) c.reserve.ensures.items)
-    (λ s stands. started g.D.Disk.stands_for g.D.Disk.failed old _ s widening i b values (length values) [] stands runs (record { me = refl; cluster = refl; releases = refl })
-    (inl (begins old.me s i b values (taken s stands) (has_round old s stands.parts low)
-    (c.in-Ok.ensures.0 ∙ ap next c.round.ensures ∙ next_is_fresh old s stands.parts)))
+    (λ s stands. started g.D.Disk.stands_for g.D.Disk.failed old _ s widening i b values c.len.result [] stands runs (record { me = refl; cluster = refl; releases = refl })
+    (subst (λ (k : ℕ). Does old.cluster old.me s widening (begun old.me s i b values k [])) (sym counted) (inl (begins old.me s i b values (taken s stands) (has_round old s stands.parts low)
+    (c.in-Ok.ensures.0 ∙ ap next c.round.ensures ∙ next_is_fresh old s stands.parts))))
     (record {
       put = subst (λ (r : ℕ). IsPut g.D.Disk.failed old.store c.put_round.new.self (Round r)) c.round-2.ensures.is put.put;
       acknowledged = subst (λ (r : ℕ). Acknowledges g.D.Disk.stands_for old.store c.put_round.new.self (Round r)) c.round-2.ensures.is put.acknowledged;
