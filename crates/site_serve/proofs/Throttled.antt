@@ -1,10 +1,11 @@
 -- What a throttled link's sends keep.
-use Rattle.std.proofs.Common.{◌≡◌, inl, inr, ℕ, zero, suc, true, false, Option, Some, None, List, [], ◌∷◌, ◌++◌, refl, sym, ap, subst, ◌∙◌, append-nil, append_assoc, replicate}
+use Rattle.std.proofs.Common.{◌≡◌, inl, inr, ℕ, zero, suc, ◌*◌, true, false, Option, Some, None, List, [], ◌∷◌, ◌++◌, refl, sym, ap, subst, ◌∙◌, append-nil, append_assoc, replicate}
 use Rattle.std.proofs.lemmas.List.Elements.{All-weaker, All-set, All-replicate, All-head, All-tail}
 use Rattle.std.specs.List.{All}
 use Rattle.std.specs.Prelude.{slice_get}
 use Rattle.std.specs.Option.{IfSome}
 use Rattle.std.specs.declared.time.Instant.{Instant}
+use Rattle.proposer.specs.declared.TheConstants.{MAX_ATTEMPTS}
 use Rattle.site_ids.proofs.MemberLemmas.{in_left, in_last}
 use Rattle.site_serve.specs.Throttling.{IsAttemptMessage, IsLately, WentLately, place_of, noted, HoldsBack, WentTo, GoesOut, Throttles}
 use Rattle.site_serve.specs.declared.attempt_message.AttemptMessage.{AttemptMessage}
@@ -53,12 +54,12 @@ lately_went out l m to now (s, there, lately) went = subst (λ p. WentTo out p m
 
 -- ---- a link at its start
 
-pub at_first : (given : List (ℕ × List ℕ) → Type 0) (l : Lately) → l.sent ≡ replicate 1152 None → given [] → Throttles given l []
+pub at_first : (given : List (ℕ × List ℕ) → Type 0) (l : Lately) → l.sent ≡ replicate (18 * MAX_ATTEMPTS) None → given [] → Throttles given l []
 at_first given l none within = record {
   out = [];
   within = within;
   goes = refl;
-  went = subst (All (Went [])) (sym none) (All-replicate (Went []) 1152 None tt);
+  went = subst (All (Went [])) (sym none) (All-replicate (Went []) (18 * MAX_ATTEMPTS) None tt);
 }
 
 -- ---- a send

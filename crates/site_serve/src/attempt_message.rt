@@ -1,6 +1,7 @@
 //! What a proposer's attempts send, as a link sees it.
 
-ghost use Rattle.std.specs.Prelude.{◌≡◌, ◌↔◌, IsSome, MatchOption};
+ghost use Rattle.std.specs.Prelude.{◌≡◌, ◌↔◌, ◌*◌, ◌<◌, IsSome, MatchOption};
+ghost use Rattle.proposer.specs.declared.TheConstants.{MAX_ATTEMPTS};
 ghost use Rattle.wire.specs.Spelling.{spelled};
 ghost use Rattle.wire.specs.declared.message.Message.{Message};
 ghost use Rattle.site_serve.specs.Throttling.{IsOfAttempt, IsAttemptMessage, place_of};
@@ -35,7 +36,7 @@ impl AttemptMessage {
     /// The place of those of this kind to a node at this instance. Open attempts are less than `MAX_ATTEMPTS` instances apart, so no two of them share one.
     pub(crate) fn place(self, to: NodeId) -> usize
         ensures is { result ≡ place_of self to }
-        ensures within { result < PLACES }
+        ensures within { result < 18 * MAX_ATTEMPTS }
     {
         let node = usize::from(to.number() - 1);
         let pair = if self.front[1] == PREPARE {

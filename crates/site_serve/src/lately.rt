@@ -1,6 +1,7 @@
 //! Which prepares and proposals went out lately.
 
-ghost use Rattle.std.specs.Prelude.{◌≡◌, ◌↔◌, IsTrue, replicate};
+ghost use Rattle.std.specs.Prelude.{◌≡◌, ◌↔◌, ◌*◌, IsTrue, replicate};
+ghost use Rattle.proposer.specs.declared.TheConstants.{MAX_ATTEMPTS};
 ghost use Rattle.site_serve.specs.Throttling.{IsLately, WentLately, HoldsBack, noted};
 
 use crate::attempt_message::{AttemptMessage, PLACES, attempt_message_in};
@@ -36,7 +37,7 @@ pub(crate) struct Lately {
 
 impl Lately {
     pub(crate) fn new() -> Lately
-        ensures { result.sent ≡ replicate PLACES None }
+        ensures { result.sent ≡ replicate (18 * MAX_ATTEMPTS) None }
     {
         Lately {
             sent: [None; PLACES],
