@@ -6,15 +6,13 @@ use Rattle.std.specs.Option.{option_map}
 use Rattle.std.proofs.lemmas.List.{take_all}
 use Rattle.std.proofs.lemmas.Slice.Eq.{bytes_eq-Decides}
 use Rattle.site_ids.specs.Ids.{IsInstance}
-use Rattle.site_ids.specs.Lists.{In}
 use Rattle.site_ids.proofs.MemberLemmas.{in_get}
 use Rattle.proposer.specs.Attempts.{Attempt}
-use Rattle.proposer.specs.declared.TheConstants.{MAX_ATTEMPTS}
 use Rattle.node.specs.declared.queue.Waiting.{Waiting}
 use Rattle.node.specs.Nodes.{Value, Node, IsUnknown, IsFirstUnknown}
 use Rattle.node.specs.Calls.{IsFree, IsNextFree, IsTried, IsUntried, AreUntried, IsNextSpan}
 use Rattle.node.specs.Tidy.{IsTidy}
-use Rattle.node.specs.Waiting.{IsWaiting, AreWaiting}
+use Rattle.node.specs.Waiting.{AreWaiting}
 use Rattle.node.specs.Widening.{IsFreeRun, IsOldestUntried, AreOldest, PushesUntried}
 use Rattle.node.proofs.Gaps.{one_first}
 use Rattle.node.proofs.Windows.{from_first, within_window, untried_stays}

@@ -3,7 +3,6 @@ use Rattle.std.proofs.Common.{◌≡◌, ◌≢◌, ◌⊎◌, inl, inr, ⊎_eli
 use Rattle.std.specs.Prelude.{nat_eq}
 use Rattle.std.proofs.lemmas.Bool.Decides.{nat_tests}
 use Rattle.site_ids.specs.Ids.{BallotOf}
-use Rattle.site_ids.specs.Lists.{In}
 use Rattle.site_ids.specs.Spans.{IsInSpan}
 use Rattle.site_ids.proofs.MemberLemmas.{in_left, in_push, in_last}
 use Rattle.site_ids.specs.declared.value.Vote.{Vote}

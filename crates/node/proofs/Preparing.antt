@@ -1,5 +1,5 @@
 -- What a prepare and a proposal do at a node, by the verdicts on them.
-use Rattle.std.proofs.Common.{◌≡◌, ◌≢◌, inl, inr, ℕ, Bool, true, false, Option, Some, None, List, [], refl, sym, subst, ◌∙◌}
+use Rattle.std.proofs.Common.{◌≡◌, ◌≢◌, inl, inr, ℕ, Bool, true, false, Some, None, [], refl, sym, subst, ◌∙◌}
 use Rattle.site_ids.specs.Ids.{BallotOf}
 use Rattle.site_ids.specs.Spans.{IsInSpan, last_of}
 use Rattle.acceptor.specs.declared.slot.Slot.{Slot}

@@ -1,5 +1,5 @@
 -- Fresh attempts: the ballot that they take, and the whole ending of a call that begins them.
-use Rattle.std.proofs.Common.{◌≡◌, ℕ, suc, ◌+◌, ◌<◌, max, false, Option, Some, List, [], ◌∷◌, ◌++◌, refl, sym, ap, subst, ◌∙◌, arith}
+use Rattle.std.proofs.Common.{◌≡◌, ℕ, suc, ◌+◌, ◌<◌, max, false, Option, List, [], ◌∷◌, ◌++◌, refl, sym, ap, subst, ◌∙◌, arith}
 use Rattle.std.specs.Prelude.{◌↔◌}
 use Rattle.site_ids.specs.declared.TheConstants.{MAX_ROUND}
 use Rattle.site_disk.specs.Model.{DiskState}

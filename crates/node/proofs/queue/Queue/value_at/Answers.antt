@@ -1,4 +1,4 @@
-use Rattle.std.proofs.Common.{◌≡◌, ◌∙◌, sym, rules}
+use Rattle.std.proofs.Common.{◌≡◌, ◌∙◌, rules}
 use Rattle.node.proofs.Choosing.{value_waits}
 use Rattle.node.proofs.queue.Queue.value_at.Goals as goal
 

@@ -1,7 +1,5 @@
 use Rattle.std.proofs.Common.{◌≡◌, ◌≢◌, inl, inr, ◌+◌, ◌-◌, ℕ, None, true, false, sym, ap, subst, ◌∙◌, arith}
 use Rattle.site_ids.specs.Ids.{IsInstance}
-use Rattle.node.specs.Nodes.{Node, IsUnknown}
-use Rattle.node.specs.Calls.{IsFree}
 use Rattle.node.proofs.Choosing.{free_first, free_more, free_run}
 use Rattle.node.proofs.Queueing.{is_true, true_is}
 use Rattle.node.proofs.running.Node.free_run.Goals as goal

@@ -1,6 +1,5 @@
-use Rattle.std.proofs.Common.{◌≡◌, ◌≤◌, ℕ, true, false, List, length, sym, ◌∙◌, arith}
+use Rattle.std.proofs.Common.{◌≡◌, ◌≤◌, true, false, List, sym, ◌∙◌, arith}
 use Rattle.node.specs.declared.queue.Waiting.{Waiting}
-use Rattle.node.specs.Nodes.{Node}
 use Rattle.node.proofs.Choosing.{as_many_wait, none_taken, tried_more, none_untried}
 use Rattle.node.proofs.Queueing.{is_true, true_is}
 use Rattle.node.proofs.running.Node.next_untried.Goals as goal

@@ -1,4 +1,4 @@
-use Rattle.std.proofs.Common.{◌≡◌, inl, inr, true, false, List, [], ◌∷◌, ◌++◌, refl, sym, ap, ◌∙◌}
+use Rattle.std.proofs.Common.{◌≡◌, inl, inr, true, false, [], ◌∷◌, ◌++◌, refl, sym, ap, ◌∙◌}
 use Rattle.node.specs.Nodes.{Value}
 use Rattle.node.proofs.Queueing.{is_true, true_is}
 use Rattle.node.proofs.running.Node.push_untried.Goals as goal

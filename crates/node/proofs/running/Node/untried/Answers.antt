@@ -1,6 +1,6 @@
-use Rattle.std.proofs.Common.{◌≡◌, ◌≤◌, ℕ, inr, List, [], ◌∷◌, ◌++◌, length, refl, ap, ◌∙◌, arith}
+use Rattle.std.proofs.Common.{◌≡◌, ◌≤◌, inr, List, [], ◌∷◌, ◌++◌, length, ap, ◌∙◌, arith}
 use Rattle.node.specs.declared.queue.Waiting.{Waiting}
-use Rattle.node.specs.Nodes.{Value, Node}
+use Rattle.node.specs.Nodes.{Value}
 use Rattle.node.proofs.Choosing.{as_many_wait, untried_more, oldest_many, oldest_all}
 use Rattle.node.proofs.running.Node.untried.Goals as goal
 

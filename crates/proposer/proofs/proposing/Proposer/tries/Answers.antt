@@ -1,5 +1,4 @@
-use Rattle.std.proofs.Common.{◌≡◌, true, false, sym, ◌∙◌, rules}
-use Rattle.std.specs.Prelude.{IsTrue}
+use Rattle.std.proofs.Common.{◌≡◌, true, false, ◌∙◌, rules}
 use Rattle.proposer.proofs.Trying.{tried, not_here, still_kept, found_here, none_left}
 use Rattle.proposer.proofs.proposing.Proposer.tries.Goals as goal
 
