@@ -435,7 +435,7 @@ static void datagram(void) {
     const int kind = mostly(9) ? 1 + (int)chance(7) : (int)chance(256);
     const uint64_t instance = edge(alike ? 60 : 4);
     const int spans = kind == 1 && chance(2);
-    number_of(mostly(9) ? 1 + spans : chance(256), 1);
+    number_of(mostly(9) ? 1 + (uint64_t)spans : chance(256), 1);
     number_of(kind, 1);
     number_of(mostly(9) ? 1 + chance(3) : chance(256), 1);
     number_of(instance, 4);
