@@ -1,5 +1,5 @@
 -- Which prepares and proposals a link holds back, and what goes out of what it is given.
-use Rattle.std.specs.Prelude.{◌≡◌, ◌≢◌, ◌⊎◌, ℕ, ◌+◌, ◌-◌, ◌*◌, ◌/◌, ◌%◌, ◌<◌, ◌≤◌, Bool, true, false, if◌then◌else◌, nat_eq, List, [], ◌∷◌, ◌++◌, length, take, Option, Some, None, slice_get, slice_set, slice_index_or, All, ⊤}
+use Rattle.std.specs.Prelude.{◌≡◌, ◌≢◌, ◌⊎◌, ℕ, ◌+◌, ◌-◌, ◌*◌, ◌/◌, ◌%◌, ◌<◌, ◌≤◌, Bool, true, false, List, [], ◌∷◌, ◌++◌, length, take, Option, Some, None, slice_get, slice_set, slice_index_or, All, ⊤}
 use Rattle.std.specs.Option.{IfSome}
 use Rattle.std.specs.Time.{instant_nanos}
 use Rattle.std.specs.declared.time.Instant.{Instant}
@@ -25,10 +25,10 @@ pub record IsAttemptMessage (d : List ℕ) (m : AttemptMessage) : Type 0 where
   pub front : m.front ≡ take 12 d
   pub count : ((slice_get d 0 ≡ Some 2) × (slice_get d 12 ≡ Some m.count)) ⊎ ((slice_get d 0 ≢ Some 2) × (m.count ≡ 1))
 
--- Those of one kind to one node, at instances that differ by less than 64, have places of their own: two times 64 of them for each node. An instance has its
+-- Those of one kind to one node, at instances that differ by less than 64, have places of their own: 64 for each kind (1 or 3) and node. An instance has its
 -- lowest byte at 6
 abbrev pub place_of : AttemptMessage → ℕ → ℕ
-place_of m to = (2 * (to - 1) + (if nat_eq (slice_index_or m.front 1 0) 1 then 0 else 1)) * MAX_ATTEMPTS + slice_index_or m.front 6 0 % MAX_ATTEMPTS
+place_of m to = (2 * (to - 1) + slice_index_or m.front 1 0 / 2 % 2) * MAX_ATTEMPTS + slice_index_or m.front 6 0 % MAX_ATTEMPTS
 
 -- it was sent to this node less than 100 ms before
 pub record IsLately (m : AttemptMessage) (to : ℕ) (now : Instant) (s : Sent) : Type 0 where

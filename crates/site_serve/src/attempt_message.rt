@@ -38,12 +38,8 @@ impl AttemptMessage {
         ensures is { result ≡ place_of self to }
         ensures within { result < 18 * MAX_ATTEMPTS }
     {
-        let node = usize::from(to.number() - 1);
-        let pair = if self.front[1] == PREPARE {
-            2 * node
-        } else {
-            2 * node + 1
-        };
+        let kind = usize::from(self.front[1]) / 2 % 2;
+        let pair = 2 * usize::from(to.number() - 1) + kind;
         pair * MAX_ATTEMPTS + usize::from(self.front[6]) % MAX_ATTEMPTS
     }
 }
