@@ -1,0 +1,24 @@
+//! A folder of a site as data: its files in, its commands and all that is wrong with it out.
+//!
+//! Nothing here reads a file: `site_editor` does. `folder.rt` goes over the files, `judging.rt` asks `command` whether a text is a command, and
+//! where it is none `template_reasons.rt`, `data_reasons.rt` and `reasons.rt` say why, for people: the place, and what to do. `lines.rt` reads
+//! `routes` and `removes`. `pages.rt` renders each route, as a node would.
+#![tactic(auto)]
+
+mod data_reasons;
+mod file;
+mod finding;
+mod folder;
+mod judging;
+mod lines;
+mod pages;
+mod place;
+mod reasons;
+mod roles;
+mod template_reasons;
+
+pub use file::SiteFile;
+pub use finding::{Finding, Weight};
+pub use folder::{Folder, FolderCommand, Route, folder_of};
+pub use pages::{Page, pages_of};
+pub use place::{Place, place_of};
