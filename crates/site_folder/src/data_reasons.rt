@@ -152,12 +152,18 @@ pub(crate) fn number_slip(alloc: Global, bytes: &[u8]) -> Result<Slip, AllocErro
     let mut inside = Inside::Nothing;
     let mut behind = b' ';
     for (at, b) in bytes.iter().enumerate() {
-        if inside == Inside::Nothing && is_number_byte(*b) && !is_number_byte(behind) && !is_letter(*b) {
+        if inside == Inside::Nothing
+            && is_number_byte(*b)
+            && !is_number_byte(behind)
+            && !is_letter(*b)
+        {
             let number = number_at(&bytes[at..]);
             if !is_whole(number) {
                 return Ok(Slip {
                     at,
-                    reason: format!(in alloc; "the number {number} is not whole, or too large: write it as a text, \"{number}\"")?,
+                    reason: format!(in alloc;
+                        "the number {number} is not whole, or too large: write it as a text, \"{number}\""
+                    )?,
                 });
             }
         }

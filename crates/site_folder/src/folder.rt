@@ -188,8 +188,13 @@ impl Reading {
     fn twice(&mut self, path: &str, line: usize) -> Result<(), AllocError>
         ensures { AreCommands self.old.folder.commands.items → AreCommands self.new.folder.commands.items }
     {
-        if let Some(before) = self.lines.insert(String::from_str(self.alloc, path)?, line)? {
-            let reason = format!(in self.alloc; "the route {path} stands in line {before} already")?;
+        if let Some(before) = self
+            .lines
+            .insert(String::from_str(self.alloc, path)?, line)?
+        {
+            let reason = format!(in self.alloc;
+                "the route {path} stands in line {before} already"
+            )?;
             return self.line_fault("routes", line, reason.as_str());
         }
         Ok(())
@@ -286,6 +291,36 @@ impl Reading {
         Ok(self.texts.contains_key(key.as_str()))
     }
 
+    /// Warns of paths that differ by a slash at their end alone.
+    fn check_slashes(&mut self) -> Result<(), AllocError>
+        ensures { AreCommands self.old.folder.commands.items → AreCommands self.new.folder.commands.items }
+    {
+        let mut alike = Vec::new(self.alloc);
+        for route in self.folder.routes.iter() {
+            let path = route.path.as_str();
+            if let Some(bare) = path.strip_suffix('/')
+                && self.lines.contains_key(bare)
+            {
+                alike.push(Finding {
+                    weight: Weight::Warning,
+                    file: String::from_str(self.alloc, "routes")?,
+                    place: Some(Place {
+                        line: route.line,
+                        column: 1,
+                    }),
+                    reason: format!(in self.alloc;
+                        "{path} and {bare} are two paths, which readers take for one"
+                    )?,
+                    label: None,
+                })?;
+            }
+        }
+        for finding in alike {
+            self.find(finding)?;
+        }
+        Ok(())
+    }
+
     /// Warns of partials that are called and aren't there.
     fn check_calls(&mut self) -> Result<(), AllocError>
         ensures { AreCommands self.old.folder.commands.items → AreCommands self.new.folder.commands.items }
@@ -298,7 +333,9 @@ impl Reading {
                     weight: Weight::Warning,
                     file: call.file.clone()?,
                     place: Some(call.place),
-                    reason: format!(in self.alloc; "there is no partials/{name}.mustache, so nothing is printed here")?,
+                    reason: format!(in self.alloc;
+                        "there is no partials/{name}.mustache, so nothing is printed here"
+                    )?,
                     label: None,
                 })?;
             }
@@ -335,9 +372,7 @@ fn line_reason(fault: &CommandFault) -> &'static str {
         CommandFault::Path => {
             "a path begins with /, with neither /_ nor /@, has 200 bytes at most, and no blank"
         }
-        _ => {
-            "a name is 1 to 64 of the letters a to z and A to Z, digits, _ - . and /"
-        }
+        _ => { "a name is 1 to 64 of the letters a to z and A to Z, digits, _ - . and /" }
     }
 }
 
@@ -352,6 +387,7 @@ pub fn folder_of(alloc: Global, files: &[SiteFile]) -> Result<Folder, AllocError
         }
     }
     reading.check_routes()?;
+    reading.check_slashes()?;
     reading.check_calls()?;
     Ok(reading.folder)
 }

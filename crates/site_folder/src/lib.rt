@@ -2,9 +2,11 @@
 //!
 //! Nothing here reads a file: `site_editor` does. `folder.rt` goes over the files, `judging.rt` asks `command` whether a text is a command, and
 //! where it is none `template_reasons.rt`, `data_reasons.rt` and `reasons.rt` say why, for people: the place, and what to do. `lines.rt` reads
-//! `routes` and `removes`. `pages.rt` renders each route, as a node would.
+//! `routes` and `removes`. `pages.rt` renders each route, as a node would, and `copies.rt` says which
+//! file of a static copy a page is.
 #![tactic(auto)]
 
+mod copies;
 mod data_reasons;
 mod file;
 mod finding;
@@ -17,8 +19,10 @@ mod reasons;
 mod roles;
 mod template_reasons;
 
+pub use copies::{Copies, NoCopy};
 pub use file::SiteFile;
 pub use finding::{Finding, Weight};
 pub use folder::{Folder, FolderCommand, Route, folder_of};
 pub use pages::{Page, pages_of};
 pub use place::{Place, place_of};
+pub use roles::{is_of_site, is_part, is_passed_over};

@@ -1,9 +1,9 @@
 //! Why a file's text is no command, for people.
 use crate::data_reasons::{json_slip, number_slip};
 use crate::finding::{Finding, Weight};
+use crate::judging::Refusal;
 use crate::place::{Place, place_of};
 use crate::template_reasons::template_reason;
-use crate::judging::Refusal;
 use command::CommandFault;
 use context::DataFault;
 use site_ids::{MAX_VALUE, TICKET_BYTES};
@@ -26,7 +26,12 @@ pub(crate) fn fault_in(
 }
 
 /// The bytes of a file that are no UTF-8, by the first.
-pub(crate) fn no_text(alloc: Global, file: &str, bytes: &[u8], at: usize) -> Result<Finding, AllocError> {
+pub(crate) fn no_text(
+    alloc: Global,
+    file: &str,
+    bytes: &[u8],
+    at: usize,
+) -> Result<Finding, AllocError> {
     fault_in(
         alloc,
         file,
@@ -52,7 +57,9 @@ pub(crate) fn file_fault(
         CommandFault::TooLong => {
             let has = text.len();
             let most = room(head);
-            let reason = format!(in alloc; "the file has {has} bytes, and may have {most}: part it")?;
+            let reason = format!(in alloc;
+                "the file has {has} bytes, and may have {most}: part it"
+            )?;
             (None, reason)
         }
         CommandFault::Form | CommandFault::Name => (

@@ -21,7 +21,9 @@ fn is_hidden(name: &str) -> bool {
     name.starts_with('.') || name.ends_with('~')
 }
 
-fn is_passed_over(path: &str) -> bool {
+/// Whether the file or folder at a path below a site's folder is none of the site's, and meant so: a name in it begins with a dot or ends in `~`, or it
+/// is a `README`.
+pub fn is_passed_over(path: &str) -> bool {
     path.starts_with("README") || path.split('/').any(|name| is_hidden(name))
 }
 
@@ -70,4 +72,21 @@ pub(crate) fn role_of(path: &str) -> Role<'_> {
     Role::Wrong(
         "is no part of a site (templates, partials, data, routes, removes): move it out of the folder, or --ignore",
     )
+}
+
+/// Whether the file at a path below a site's folder says something of the site.
+pub fn is_of_site(path: &str) -> bool {
+    matches!(
+        role_of(path),
+        Role::Text(_, _) | Role::Routes | Role::Removes
+    )
+}
+
+/// Whether files of a site stand in the folder at a path below its folder, or further below.
+pub fn is_part(path: &str) -> bool {
+    let top = match path.split_once('/') {
+        Some((top, _)) => top,
+        None => path,
+    };
+    matches!(top, "templates" | "partials" | "data")
 }

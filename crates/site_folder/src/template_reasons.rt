@@ -46,7 +46,9 @@ fn wrong_end(
             let section = token.text;
             let name = token.inside;
             let line = place_of(source.as_bytes(), token.place).line;
-            format!(in alloc; "`{tag}` ends nothing: `{section}` of line {line} is open, and ends with `{{{{/{name}}}}}`")
+            format!(in alloc;
+                "`{tag}` ends nothing: `{section}` of line {line} is open, and ends with `{{{{/{name}}}}}`"
+            )
         }
         None => format!(in alloc; "`{tag}` ends nothing: no section is open"),
     }
@@ -64,11 +66,7 @@ fn unclosed(alloc: Global, tokens: &[Token<'_>], place: usize) -> Result<String,
 }
 
 /// A fault of nesting, by the tokens that it is of.
-fn nesting_reason(
-    alloc: Global,
-    source: &str,
-    fault: TemplateFault,
-) -> Result<String, AllocError> {
+fn nesting_reason(alloc: Global, source: &str, fault: TemplateFault) -> Result<String, AllocError> {
     let Ok(tokens) = scan(alloc, source) else {
         return Err(AllocError);
     };
