@@ -9,6 +9,4 @@ mod halt;
 mod line;
 mod words;
 
-pub use halt::Halt;
-pub use line::{Word, word_in};
 pub use words::sitepub;

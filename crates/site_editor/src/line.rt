@@ -4,7 +4,7 @@ use std::alloc::Global;
 
 /// What `sitepub` is told to do.
 #[derive(Clone, Copy, Debug)]
-pub enum Word<'a> {
+pub(crate) enum Word<'a> {
     /// Tells all that is wrong with a folder.
     Check {
         folder: &'a str,
@@ -74,7 +74,7 @@ fn text<'a>(matches: &ArgMatches<'a>, id: &str) -> &'a str {
 }
 
 /// Reads the words of a command line, the program's name first. `clap` says why it refuses others, help among it.
-pub fn word_in<'a>(alloc: Global, words: &'a [String]) -> Result<Option<Word<'a>>, Error> {
+pub(crate) fn word_in<'a>(alloc: Global, words: &'a [String]) -> Result<Option<Word<'a>>, Error> {
     let matches = matches_of(alloc, words)?;
     match matches.subcommand() {
         Some(("check", found)) => Ok(Some(Word::Check {

@@ -1,11 +1,12 @@
 //! What the words do.
 use crate::files::{below, files_of, is_free, write_file};
 use crate::halt::Halt;
-use crate::line::Word;
+use crate::line::{Word, word_in};
 use site_folder::{Copies, Finding, Folder, NoCopy, Page, Weight, folder_of, pages_of};
 use std::alloc::Global;
-use std::io::Write;
-use std::rt::Files;
+use std::env;
+use std::io::{self, Write};
+use std::rt::{Env, Files};
 
 /// Writes a line.
 fn say<W: Write>(out: &mut W, line: &str) -> Result<(), Halt> {
@@ -173,18 +174,36 @@ fn done<R: Files + AllocGlobal + Clone + Drop, W: Write, E: Write>(
     }
 }
 
-/// Does what the word says, and gives the exit status: 1 where something was refused or came to no end, which is told.
-pub fn sitepub<R: Files + AllocGlobal + Clone + Drop, W: Write, E: Write>(
+/// Does what the command line says; without a word nothing.
+fn said<R: Files + Env + AllocGlobal + Clone + Drop, W: Write, E: Write>(
     rt: &R,
     out: &mut W,
     err: &mut E,
-    word: Word<'_>,
+) -> Result<u8, Halt> {
+    let alloc = rt.alloc();
+    let words: Vec<String> = match env::args(rt) {
+        Ok(words) => words.collect(alloc)?,
+        Err(fault) if fault.kind() == io::ErrorKind::OutOfMemory => return Err(Halt::OutOfMemory),
+        Err(_) => return Err(Halt::NotUtf8),
+    };
+    match word_in(alloc, words.as_slice())? {
+        Some(word) => done(rt, out, err, word),
+        None => Ok(2),
+    }
+}
+
+/// Does what the command line says, and gives the exit status: 1 where something was refused or came to no end, 2 for a line that is none. Either is
+/// told on the other writer.
+pub fn sitepub<R: Files + Env + AllocGlobal + Clone + Drop, W: Write, E: Write>(
+    rt: &R,
+    out: &mut W,
+    err: &mut E,
 ) -> u8 {
-    match done(rt, out, err, word) {
+    match said(rt, out, err) {
         Ok(status) => status,
         Err(why) => {
             let _ = writeln!(err, "{why}");
-            1
+            why.status()
         }
     }
 }
