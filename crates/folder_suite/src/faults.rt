@@ -5,7 +5,7 @@ use std::process::Abort;
 use std::test::Fail;
 
 /// A file and its text, and the lines that it is told by.
-const FILES: [(&str, &[u8], &str); 25] = [
+const FILES: [(&str, &[u8], &str); 26] = [
     (
         "templates/a.mustache",
         b"a\n\xc3\xa4 {{#x}}\n{{/y}}\n",
@@ -75,6 +75,11 @@ const FILES: [(&str, &[u8], &str); 25] = [
         "data/a.json",
         b"{\"a\":[1",
         "data/a.json:1:8: no JSON: the file ends too early: a `}`, a `]` or a double quote is missing [6 Data 1 NotJson]\n",
+    ),
+    (
+        "data/a.json",
+        b"{\"a\":\"x\ny\"}",
+        "data/a.json:1:6: no JSON: this text has no end, or holds a line break, a tab or a wrong escape: write \\n or \\t [6 Data 1 NotJson]\n",
     ),
     (
         "data/a.json",

@@ -54,6 +54,9 @@ fn take<R: Files + AllocGlobal>(
     search: &mut Search,
 ) -> Result<(), Halt> {
     let alloc = rt.alloc();
+    if path.as_str() == "published" {
+        return Ok(());
+    }
     if is_passed_over(path.as_str()) {
         search.passed_over.push(path)?;
         return Ok(());

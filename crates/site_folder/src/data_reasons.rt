@@ -56,8 +56,9 @@ fn reason_at(alloc: Global, before: u8, here: u8) -> Result<String, AllocError> 
         (b',', b',') => "no JSON: one comma too many",
         (_, b'\'') => "no JSON: texts and keys stand between double quotes",
         (_, b'/' | b'#') => "no JSON: there are no comments",
-        (_, b'\n' | b'\r' | b'\t') => {
-            "no JSON: a text holds no line break and no tab: write \\n or \\t, or close it with a double quote"
+        // a text is told by where it begins
+        (before, b'"') if !is_end(before) => {
+            "no JSON: this text has no end, or holds a line break, a tab or a wrong escape: write \\n or \\t"
         }
         (before, here) if is_end(before) && is_start(here) => {
             "no JSON: a comma is missing before this, or a colon behind a key"
