@@ -1,2 +1,6 @@
+pub mod Folders
+pub mod Lines
+pub mod Parts
 pub mod Places
 pub mod Texts
+pub mod View

@@ -1,11 +1,12 @@
 //! A folder of a site as data: its files in, its commands and all that is wrong with it out.
 //!
-//! Nothing here reads a file: `site_editor` does. `folder.rt` goes over the files, `judging.rt` asks `command` whether a text is a command, and
-//! where it is none `template_reasons.rt`, `data_reasons.rt` and `reasons.rt` say why, for people: the place, and what to do. `lines.rt` reads
-//! `routes` and `removes`. `pages.rt` renders each route, as a node would, and `copies.rt` says which
-//! file of a static copy a page is.
+//! Nothing here reads a file: `site_editor` does. `roles.rt` says which part of a site a file is by its path, and `lines.rt` what a line of `routes` or
+//! `removes` says. `reading.rt` goes over the files, `taking.rt` takes their commands, each judged by `judging.rt`, and where a text is none
+//! `template_reasons.rt`, `data_reasons.rt` and `reasons.rt` say why, for people: the place, and what to do. `checks.rt` looks for what is named and isn't
+//! there. `pages.rt` renders each route, as a node would, and `copies.rt` says which file of a static copy a page is.
 #![tactic(auto)]
 
+mod checks;
 mod copies;
 mod data_reasons;
 mod file;
@@ -15,8 +16,10 @@ mod judging;
 mod lines;
 mod pages;
 mod place;
+mod reading;
 mod reasons;
 mod roles;
+mod taking;
 mod template_reasons;
 
 pub use copies::{Copies, NoCopy};

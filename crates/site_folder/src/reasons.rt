@@ -1,4 +1,7 @@
 //! Why a file's text is no command, for people.
+ghost use Rattle.std.specs.Prelude.{◌≡◌, IfOk};
+ghost use Rattle.site_folder.specs.declared.finding.Weight.TheVariants.{Fault};
+
 use crate::data_reasons::{json_slip, number_slip};
 use crate::finding::{Finding, Weight};
 use crate::judging::Refusal;
@@ -15,7 +18,9 @@ pub(crate) fn fault_in(
     file: &str,
     place: Option<Place>,
     reason: &str,
-) -> Result<Finding, AllocError> {
+) -> Result<Finding, AllocError>
+    ensures { IfOk result (λ f. f.weight ≡ Fault) }
+{
     Ok(Finding {
         weight: Weight::Fault,
         file: String::from_str(alloc, file)?,
@@ -31,7 +36,9 @@ pub(crate) fn no_text(
     file: &str,
     bytes: &[u8],
     at: usize,
-) -> Result<Finding, AllocError> {
+) -> Result<Finding, AllocError>
+    ensures { IfOk result (λ f. f.weight ≡ Fault) }
+{
     fault_in(
         alloc,
         file,
@@ -52,7 +59,9 @@ pub(crate) fn file_fault(
     head: usize,
     text: &str,
     refusal: Refusal,
-) -> Result<Finding, AllocError> {
+) -> Result<Finding, AllocError>
+    ensures { IfOk result (λ f. f.weight ≡ Fault) }
+{
     let (place, reason) = match &refusal.fault {
         CommandFault::TooLong => {
             let has = text.len();
