@@ -9,7 +9,7 @@ use std::io::{self, Write};
 use std::rt::{Env, Files};
 
 /// Writes a line.
-fn say<W: Write>(out: &mut W, line: &str) -> Result<(), Halt> {
+pub(crate) fn say<W: Write>(out: &mut W, line: &str) -> Result<(), Halt> {
     match writeln!(out, "{line}") {
         Ok(()) => Ok(()),
         Err(_) => Err(Halt::Write),
@@ -45,14 +45,14 @@ fn page_faults(alloc: Global, pages: &[Page]) -> Result<Vec<Finding>, Halt> {
 
 /// A folder as it was read.
 #[derive(Drop)]
-struct Whole {
-    folder: Folder,
-    pages: Vec<Page>,
-    bad: bool,
+pub(crate) struct Whole {
+    pub folder: Folder,
+    pub pages: Vec<Page>,
+    pub bad: bool,
 }
 
 /// Reads a folder, and tells all that is wrong with it.
-fn read_whole<R: Files + AllocGlobal + Clone + Drop, E: Write>(
+pub(crate) fn read_whole<R: Files + AllocGlobal + Clone + Drop, E: Write>(
     rt: &R,
     err: &mut E,
     name: &str,
