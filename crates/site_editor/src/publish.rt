@@ -2,14 +2,18 @@
 use crate::files::below;
 use crate::halt::Halt;
 use crate::words::{Whole, read_whole, say};
+use httpdate::{HttpDate, fmt_http_date};
+use node_client::AskFault;
+use site_folder::Page;
 use site_ledger::{Ledger, LineFault, read_ledger};
 use site_nodes::{Nodes, host_of};
-use site_publish::{Outcome, Patience, PublishFault, publish};
+use site_publish::{Group, Outcome, Patience, PublishFault, publish};
 use std::alloc::Global;
 use std::fs;
 use std::io::{self, Write};
 use std::net::{Net, TcpStream};
 use std::rt::{Clock, Files};
+use std::time::SystemTime;
 
 /// What `publish` is told.
 #[derive(Clone, Copy, Debug)]
@@ -109,6 +113,44 @@ fn tell_outcome<W: Write>(
     }
 }
 
+/// The first page of a folder that a release shows otherwise, if there is one.
+fn other_page<'a, G: Group>(
+    alloc: Global,
+    group: &mut G,
+    release: u64,
+    pages: &'a [Page],
+) -> Result<Option<&'a Page>, Halt> {
+    for page in pages {
+        let route = page.path.as_str();
+        let path = format!(in alloc; "/@{release}{route}")?;
+        match group.ask(alloc, 0, path.as_str(), None) {
+            Ok(reply) if reply.status == 200 && reply.body.as_slice() == page.body.as_bytes() => {}
+            Ok(_) => return Ok(Some(page)),
+            Err(AskFault::OutOfMemory) => return Err(Halt::OutOfMemory),
+            Err(_) => return Ok(Some(page)),
+        }
+    }
+    Ok(None)
+}
+
+/// Adds a line to the log: the release, how many commands it has, and the date.
+fn note<R: Clock + AllocGlobal>(
+    rt: &R,
+    ledger: &mut Ledger,
+    release: u64,
+    commands: u64,
+) -> Result<(), Halt> {
+    let alloc = rt.alloc();
+    let date = match SystemTime::now(rt) {
+        Ok(now) => fmt_http_date(alloc, HttpDate::from(now))?,
+        Err(_) => String::from_str(alloc, "-")?,
+    };
+    ledger
+        .log
+        .push(format!(in alloc; "{release} {commands} {date}")?)?;
+    Ok(())
+}
+
 /// The commands of a folder as texts.
 fn texts_of(alloc: Global, whole: &Whole) -> Result<Vec<&str>, Halt> {
     let mut texts = Vec::new(alloc);
@@ -165,7 +207,31 @@ pub(crate) fn publish_folder<
     }
     let mut group = Nodes::new(rt, &hosts, file.as_str(), &mut *err);
     let outcome = publish(alloc, &mut group, order.patience, &mut ledger, &wanted);
+    let mut other = None;
+    if let Ok(
+        Outcome::Released {
+            after,
+            commands,
+            ..
+        },
+    ) = &outcome
+    {
+        note(rt, &mut ledger, *after, *commands)?;
+        let text = ledger.spelled(alloc)?;
+        if group.keep(alloc, text.as_str()).is_err() {
+            return Err(Halt::Write);
+        }
+        other = other_page(alloc, &mut group, *after, &whole.pages)?;
+    }
     drop(group);
+    if let Some(page) = other {
+        let path = page.path.as_str();
+        let line = format!(in alloc;
+            "{path}: the release shows another page than this folder: another editor puts the same names, or another copy of this folder has published"
+        )?;
+        say(err, line.as_str())?;
+        return Ok(1);
+    }
     match outcome {
         Ok(outcome) => {
             let host = match hosts.first() {

@@ -1,12 +1,21 @@
 //! What the words do.
+use crate::begin::begin;
 use crate::files::{below, files_of, is_free, write_file};
 use crate::halt::Halt;
-use crate::line::{Word, word_in};
+use crate::line::{Said, Word, word_in};
+use crate::log::tell_log;
+use crate::preview::preview;
+use crate::publish::{Order, hosts_of, publish_folder};
+use crate::status::tell_status;
 use site_folder::{Copies, Finding, Folder, NoCopy, Page, Weight, folder_of, pages_of};
+use site_nodes::Nodes;
+use site_publish::Patience;
 use std::alloc::Global;
 use std::env;
 use std::io::{self, Write};
-use std::rt::{Env, Files};
+use std::net::{Net, TcpListener, TcpStream};
+use std::random::RandomSource;
+use std::rt::{Clock, Env, Files};
 
 /// Writes a line.
 pub(crate) fn say<W: Write>(out: &mut W, line: &str) -> Result<(), Halt> {
@@ -158,28 +167,89 @@ fn export<R: Files + AllocGlobal + Clone + Drop, E: Write>(
     Ok(0)
 }
 
-fn done<R: Files + AllocGlobal + Clone + Drop, W: Write, E: Write>(
-    rt: &R,
-    out: &mut W,
-    err: &mut E,
-    word: Word<'_>,
-) -> Result<u8, Halt> {
-    match word {
+/// The table of the nodes.
+fn status<
+    R: Files + Net<Listener = TcpListener, Stream = TcpStream> + Clock + AllocGlobal + Clone + Drop,
+    W: Write,
+    E: Write + Drop,
+>(rt: &R, out: &mut W, err: &mut E, urls: &[&str]) -> Result<u8, Halt> {
+    let alloc = rt.alloc();
+    let Some(hosts) = hosts_of(alloc, err, urls)? else {
+        return Ok(1);
+    };
+    let mut group = Nodes::new(rt, &hosts, "", &mut *err);
+    tell_status(rt, alloc, &mut group, &hosts, out)
+}
+
+/// A number for an editor that has none, by chance.
+fn fresh_editor<R: RandomSource + AllocGlobal>(rt: &R) -> Result<u32, Halt> {
+    let mut bytes = [0u8; 4];
+    match rt.fill_bytes(&mut bytes) {
+        Ok(()) => Ok(u32::from_be_bytes(bytes)),
+        Err(fault) => Err(Halt::File(String::from_str(rt.alloc(), "a random number")?, fault)),
+    }
+}
+
+fn done<
+    R: Files
+        + Env
+        + RandomSource
+        + Net<Listener = TcpListener, Stream = TcpStream>
+        + Clock
+        + AllocGlobal
+        + Clone
+        + Drop,
+    W: Write,
+    E: Write + Drop,
+>(rt: &R, out: &mut W, err: &mut E, said: &Said<'_>) -> Result<u8, Halt> {
+    match said.word {
         Word::Check { folder, ignore } => check(rt, out, err, folder, ignore),
         Word::Export {
             folder,
             out: to,
             ignore,
         } => export(rt, err, folder, to, ignore),
+        Word::New { folder } => begin(rt, out, err, folder),
+        Word::Preview {
+            folder,
+            address,
+            ignore,
+        } => preview(rt, out, folder, address, ignore),
+        Word::Publish {
+            folder,
+            editor,
+            patience,
+            ignore,
+            dry,
+        } => {
+            let order = Order {
+                folder,
+                urls: &said.urls,
+                editor,
+                patience: Patience { rounds: patience },
+                ignore,
+                dry,
+            };
+            publish_folder(rt, out, err, order, fresh_editor(rt)?)
+        }
+        Word::Status => status(rt, out, err, &said.urls),
+        Word::Log { folder } => tell_log(rt, out, err, folder),
     }
 }
 
 /// Does what the command line says; without a word nothing.
-fn said<R: Files + Env + AllocGlobal + Clone + Drop, W: Write, E: Write>(
-    rt: &R,
-    out: &mut W,
-    err: &mut E,
-) -> Result<u8, Halt> {
+fn said<
+    R: Files
+        + Env
+        + RandomSource
+        + Net<Listener = TcpListener, Stream = TcpStream>
+        + Clock
+        + AllocGlobal
+        + Clone
+        + Drop,
+    W: Write,
+    E: Write + Drop,
+>(rt: &R, out: &mut W, err: &mut E) -> Result<u8, Halt> {
     let alloc = rt.alloc();
     let words: Vec<String> = match env::args(rt) {
         Ok(words) => words.collect(alloc)?,
@@ -187,18 +257,25 @@ fn said<R: Files + Env + AllocGlobal + Clone + Drop, W: Write, E: Write>(
         Err(_) => return Err(Halt::NotUtf8),
     };
     match word_in(alloc, words.as_slice())? {
-        Some(word) => done(rt, out, err, word),
+        Some(said) => done(rt, out, err, &said),
         None => Ok(2),
     }
 }
 
 /// Does what the command line says, and gives the exit status: 1 where something was refused or came to no end, 2 for a line that is none. Either is
 /// told on the other writer.
-pub fn sitepub<R: Files + Env + AllocGlobal + Clone + Drop, W: Write, E: Write>(
-    rt: &R,
-    out: &mut W,
-    err: &mut E,
-) -> u8 {
+pub fn sitepub<
+    R: Files
+        + Env
+        + RandomSource
+        + Net<Listener = TcpListener, Stream = TcpStream>
+        + Clock
+        + AllocGlobal
+        + Clone
+        + Drop,
+    W: Write,
+    E: Write + Drop,
+>(rt: &R, out: &mut W, err: &mut E) -> u8 {
     match said(rt, out, err) {
         Ok(status) => status,
         Err(why) => {

@@ -26,6 +26,6 @@ pub use copies::{Copies, NoCopy};
 pub use file::SiteFile;
 pub use finding::{Finding, Weight};
 pub use folder::{Folder, FolderCommand, Route, folder_of};
-pub use pages::{Page, pages_of};
+pub use pages::{Page, pages_of, releases_of};
 pub use place::{Place, place_of};
 pub use roles::{is_of_site, is_part, is_passed_over};

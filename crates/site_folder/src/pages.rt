@@ -26,13 +26,19 @@ fn feed(alloc: Global, releases: &mut Releases, text: &[u8]) -> Result<(), Alloc
     Ok(())
 }
 
-/// The pages of a folder's routes, in order, in a release of its commands alone.
-pub fn pages_of(alloc: Global, folder: &Folder) -> Result<Vec<Page>, AllocError> {
+/// A release of a folder's commands alone.
+pub fn releases_of(alloc: Global, folder: &Folder) -> Result<Releases, AllocError> {
     let mut releases = Releases::new(alloc);
     for command in folder.commands.iter() {
         feed(alloc, &mut releases, &command.text)?;
     }
     feed(alloc, &mut releases, b"release\n")?;
+    Ok(releases)
+}
+
+/// The pages of a folder's routes, in order, in a release of its commands alone.
+pub fn pages_of(alloc: Global, folder: &Folder) -> Result<Vec<Page>, AllocError> {
+    let releases = releases_of(alloc, folder)?;
     let mut pages = Vec::new(alloc);
     for route in folder.routes.iter() {
         match releases.answer(1, route.path.as_str()) {

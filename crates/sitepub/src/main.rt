@@ -1,4 +1,4 @@
-//! `sitepub check FOLDER`, `sitepub export FOLDER OUT`: what an editor does with a folder of a site.
+//! `sitepub WORD ..`: what an editor does with a folder of a site: new, check, preview, export, publish, status, log.
 #![tactic(auto)]
 
 use site_editor::sitepub;
