@@ -133,6 +133,13 @@ fn other_page<'a, G: Group>(
     Ok(None)
 }
 
+/// The date, where the clock tells one.
+fn date_of<R: Clock>(rt: &R) -> Option<HttpDate> {
+    let now = SystemTime::now(rt).ok()?;
+    let since = now.duration_since(SystemTime::UNIX_EPOCH).ok()?;
+    HttpDate::from_unix_secs(since.as_secs()).ok()
+}
+
 /// Adds a line to the log: the release, how many commands it has, and the date.
 fn note<R: Clock + AllocGlobal>(
     rt: &R,
@@ -141,9 +148,9 @@ fn note<R: Clock + AllocGlobal>(
     commands: u64,
 ) -> Result<(), Halt> {
     let alloc = rt.alloc();
-    let date = match SystemTime::now(rt) {
-        Ok(now) => fmt_http_date(alloc, HttpDate::from(now))?,
-        Err(_) => String::from_str(alloc, "-")?,
+    let date = match date_of(rt) {
+        Some(date) => fmt_http_date(alloc, date)?,
+        None => String::from_str(alloc, "-")?,
     };
     ledger
         .log

@@ -5,18 +5,19 @@ ghost use Rattle.site_folder.specs.Folders.{Took};
 use crate::finding::{Finding, Weight};
 use crate::place::Place;
 use crate::reading::{Reading, key_of};
+use crate::reasons::fault_in;
 use command::Kind;
 use std::alloc::{AllocError, Global};
 
 /// A fault of a line of `routes`: something isn't there.
 fn missing(alloc: Global, line: usize, what: &str) -> Result<Finding, AllocError> {
-    Ok(Finding {
-        weight: Weight::Fault,
-        file: String::from_str(alloc, "routes")?,
-        place: Some(Place { line, column: 1 }),
-        reason: format!(in alloc; "there is no {what}")?,
-        label: None,
-    })
+    let reason = format!(in alloc; "there is no {what}")?;
+    fault_in(
+        alloc,
+        "routes",
+        Some(Place { line, column: 1 }),
+        reason.as_str(),
+    )
 }
 
 impl Reading {
@@ -26,6 +27,7 @@ impl Reading {
     {
         let mut findings = Vec::new(self.alloc);
         self.check_routes(&mut findings)?;
+        self.check_removes(&mut findings)?;
         self.check_slashes(&mut findings)?;
         self.check_calls(&mut findings)?;
         for finding in findings {
@@ -51,6 +53,28 @@ impl Reading {
             if !self.has(Kind::Data, page_data)? {
                 let what = format!(in self.alloc; "data/{page_data}.json")?;
                 findings.push(missing(self.alloc, route.line, what.as_str())?)?;
+            }
+        }
+        Ok(())
+    }
+
+    /// Finds what is removed and put as well.
+    fn check_removes(&self, findings: &mut Vec<Finding>) -> Result<(), AllocError> {
+        for (key, line) in self.removed.iter() {
+            let key = key.as_str();
+            let is_route = match key.strip_prefix("route ") {
+                Some(path) => self.numbers.contains_key(path),
+                None => false,
+            };
+            if is_route || self.found.contains_key(key) {
+                let place = Some(Place {
+                    line: *line,
+                    column: 1,
+                });
+                let reason = format!(in self.alloc;
+                    "{key} is put by this folder: take this line out, or what it names"
+                )?;
+                findings.push(fault_in(self.alloc, "removes", place, reason.as_str())?)?;
             }
         }
         Ok(())

@@ -36,6 +36,8 @@ pub(crate) struct Reading {
     pub found: BTreeMap<String, ()>,
     /// The line of each path.
     pub numbers: BTreeMap<String, usize>,
+    /// A kind and a name each, parted by a space: what is removed, and its line.
+    pub removed: BTreeMap<String, usize>,
     pub calls: Vec<PartialCall>,
 }
 
@@ -82,6 +84,7 @@ impl Reading {
             folder: Folder::new(alloc),
             found: BTreeMap::new(alloc),
             numbers: BTreeMap::new(alloc),
+            removed: BTreeMap::new(alloc),
             calls: Vec::new(alloc),
         }
     }
@@ -299,6 +302,23 @@ impl Reading {
         if let Some(refusal) = self.folder.judge(self.alloc, text)? {
             let reason = removal_reason(line, &refusal.fault);
             return self.line_fault("removes", line.number, reason);
+        }
+        match line.words.as_slice() {
+            [word, name] => self.remove(line.number, *word, *name),
+            _ => Ok(()),
+        }
+    }
+
+    /// Notes what a line removes, and finds a line that removes it already.
+    fn remove(&mut self, line: usize, word: &[u8], name: &[u8]) -> Result<(), AllocError>
+        ensures { OnOk result (Took self.old.folder self.new.folder []) }
+    {
+        let word = String::from_utf8_lossy(self.alloc, word)?;
+        let name = String::from_utf8_lossy(self.alloc, name)?;
+        let key = format!(in self.alloc; "{word} {name}")?;
+        if let Some(before) = self.removed.insert(key, line)? {
+            let reason = format!(in self.alloc; "line {before} removes the same")?;
+            return self.line_fault("removes", line, reason.as_str());
         }
         Ok(())
     }
