@@ -1,6 +1,8 @@
 -- What an editor keeps of its publications: the texts that the group has, and those on their way, each with its ticket's number.
 use Rattle.std.specs.Prelude.{◌≡◌, ◌≢◌, ◌⊎◌, ◌<◌, ℕ, suc, ◌+◌, List, [], ◌∷◌, length, map, filter, find, ◌==◌, not, Bool, true, false, IsTrue, Option, Some, None, option_map, slice_get, Contains, string_bytes}
 use Rattle.std.specs.BTreeMap.{get_by_text}
+use Rattle.std.specs.List.{list_any}
+use Rattle.std.specs.Str.{bytes_eq}
 use Rattle.site_ledger.specs.Keys.{key_of, is_put, removal}
 use Rattle.site_ledger.specs.declared.ledger.Ledger.{Ledger}
 use Rattle.site_ledger.specs.declared.ledger.Sent.{Sent}
@@ -29,6 +31,23 @@ numbered next (text ∷ more) = (next, text) ∷ numbered (suc next) more
 -- none of the texts is about the key
 abbrev pub IsUnnamed : List (List ℕ) → List ℕ → Type 0
 IsUnnamed texts key = (t : List ℕ) → Contains texts t → key_of t ≢ key
+
+abbrev pub is_that : Option (List ℕ) → List ℕ → Bool
+is_that None text = false
+is_that (Some had) text = bytes_eq had text
+
+-- the group has the text
+abbrev pub is_kept : (List ℕ → Option (List ℕ)) → List ℕ → Bool
+is_kept kept text = is_that (kept (key_of text)) text
+
+-- some of the texts is about the key
+abbrev pub is_named : List (List ℕ) → List ℕ → Bool
+is_named texts key = list_any (λ t. bytes_eq key (key_of t)) texts
+
+-- the removals of the puts that the group has at keys that are none of the named
+pub record AreRemovals (kept : List ℕ → Option (List ℕ)) (named : List ℕ → Bool) (removals : List (List ℕ)) : Type 0 where
+  pub each : (key t : List ℕ) → kept key ≡ Some t → IsTrue (is_put t) → named key ≡ false → Contains removals (removal key)
+  pub alone : (r : List ℕ) → Contains removals r → (key t : List ℕ) × (r ≡ removal key) × (kept key ≡ Some t) × IsTrue (is_put t) × (named key ≡ false)
 
 -- what turns the texts that the group has into those that are wanted: each wanted text that it has not, and a removal of each put that is wanted no more
 pub record IsPlan (kept : List ℕ → Option (List ℕ)) (wanted plan : List (List ℕ)) : Type 0 where
