@@ -96,6 +96,16 @@ fn tell_outcome<W: Write>(
             "nothing has changed since the last publication of this folder",
         ),
         Outcome::Released {
+            after: 0,
+            commands,
+            ..
+        } => {
+            let line = format!(in alloc;
+                "released, of {commands} commands; no node tells the release's number now"
+            )?;
+            say(out, line.as_str())
+        }
+        Outcome::Released {
             before,
             after,
             commands,
@@ -228,7 +238,9 @@ pub(crate) fn publish_folder<
         if group.keep(alloc, text.as_str()).is_err() {
             return Err(Halt::Write);
         }
-        other = other_page(alloc, &mut group, *after, &whole.pages)?;
+        if *after > 0 {
+            other = other_page(alloc, &mut group, *after, &whole.pages)?;
+        }
     }
     drop(group);
     if let Some(page) = other {

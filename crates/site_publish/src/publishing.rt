@@ -11,7 +11,7 @@ use std::alloc::Global;
 pub enum Outcome {
     /// The group has the folder as it is, and shows it.
     Unchanged,
-    /// A release shows it: its number as the node told it before and afterwards, and how many commands it has.
+    /// A release shows it: the newest release as a node told it before and afterwards, 0 where none did, and how many commands it has.
     Released {
         before: u64,
         after: u64,
@@ -19,22 +19,35 @@ pub enum Outcome {
     },
 }
 
-/// The newest release of a node; 0 where it tells none.
-pub(crate) fn newest<G: Group>(
+/// The newest release of a node, where it tells one.
+fn newest_of<G: Group>(
     alloc: Global,
     group: &mut G,
     node: usize,
-) -> Result<u64, PublishFault> {
+) -> Result<Option<u64>, PublishFault> {
     match group.ask(alloc, node, "/_newest", None) {
         Ok(reply) => match str::from_utf8(&reply.body) {
-            Ok(text) => Ok(text.trim_end().parse().unwrap_or(0)),
-            Err(_) => Ok(0),
+            Ok(text) if reply.status == 200 => Ok(text.trim_end().parse().ok()),
+            _ => Ok(None),
         },
         Err(fault) => {
             memory(fault)?;
-            Ok(0)
+            Ok(None)
         }
     }
+}
+
+/// The newest release that this node, or else the first other one, tells; 0 where none does.
+fn newest<G: Group>(alloc: Global, group: &mut G, node: usize) -> Result<u64, PublishFault> {
+    if let Some(found) = newest_of(alloc, group, node)? {
+        return Ok(found);
+    }
+    for other in 0..group.count() {
+        if let Some(found) = newest_of(alloc, group, other)? {
+            return Ok(found);
+        }
+    }
+    Ok(0)
 }
 
 /// Refuses a ledger whose next ticket was given.
