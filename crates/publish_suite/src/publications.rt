@@ -1,5 +1,5 @@
 //! Publications into a town.
-use crate::town::{Town, town};
+use crate::town::{Town, empty_town};
 use site_ledger::{Ledger, read_ledger};
 use site_publish::{Outcome, Patience, PublishFault, publish};
 use std::alloc::Global;
@@ -33,7 +33,7 @@ fn is_released(outcome: &Result<Outcome, PublishFault>, release: u64, of: u64) -
 #[test]
 fn first_then_nothing_then_a_change(rt: HostRuntime) -> Result<(), Fail> {
     let alloc = rt.alloc();
-    let mut group = town(alloc);
+    let mut group = empty_town(alloc);
     let mut ledger = Ledger::new(alloc, 7);
     assert!(rt; is_released(&run(alloc, &mut group, &mut ledger, &SITE), 1, 3));
     let asked = group.asked;
@@ -59,7 +59,7 @@ fn first_then_nothing_then_a_change(rt: HostRuntime) -> Result<(), Fail> {
 #[test]
 fn an_older_copy(rt: HostRuntime) -> Result<(), Fail> {
     let alloc = rt.alloc();
-    let mut group = town(alloc);
+    let mut group = empty_town(alloc);
     let mut ledger = Ledger::new(alloc, 7);
     assert!(rt; is_released(&run(alloc, &mut group, &mut ledger, &SITE), 1, 3));
     let older = group.kept.clone()?;
@@ -78,7 +78,7 @@ fn an_older_copy(rt: HostRuntime) -> Result<(), Fail> {
 #[test]
 fn all_were_down(rt: HostRuntime) -> Result<(), Fail> {
     let alloc = rt.alloc();
-    let mut group = town(alloc);
+    let mut group = empty_town(alloc);
     let mut ledger = Ledger::new(alloc, 7);
     assert!(rt; is_released(&run(alloc, &mut group, &mut ledger, &SITE), 1, 3));
     group.asleep = true;
@@ -95,10 +95,10 @@ fn all_were_down(rt: HostRuntime) -> Result<(), Fail> {
 #[test]
 fn another_group(rt: HostRuntime) -> Result<(), Fail> {
     let alloc = rt.alloc();
-    let mut group = town(alloc);
+    let mut group = empty_town(alloc);
     let mut ledger = Ledger::new(alloc, 7);
     assert!(rt; is_released(&run(alloc, &mut group, &mut ledger, &SITE), 1, 3));
-    let mut other = town(alloc);
+    let mut other = empty_town(alloc);
     let came = run(alloc, &mut other, &mut ledger, &LATER);
     assert!(rt; matches!(came, Err(PublishFault::OtherGroup(3))));
     assert!(rt; other.commands.len() == 1);
@@ -108,7 +108,7 @@ fn another_group(rt: HostRuntime) -> Result<(), Fail> {
 #[test]
 fn no_node_and_a_silent_one(rt: HostRuntime) -> Result<(), Fail> {
     let alloc = rt.alloc();
-    let mut group = town(alloc);
+    let mut group = empty_town(alloc);
     let mut ledger = Ledger::new(alloc, 7);
     group.silent = 1;
     let came = run(alloc, &mut group, &mut ledger, &SITE);
@@ -121,7 +121,7 @@ fn no_node_and_a_silent_one(rt: HostRuntime) -> Result<(), Fail> {
 #[test]
 fn a_refusal(rt: HostRuntime) -> Result<(), Fail> {
     let alloc = rt.alloc();
-    let mut group = town(alloc);
+    let mut group = empty_town(alloc);
     let mut ledger = Ledger::new(alloc, 7);
     group.refusal = Some(422);
     match run(alloc, &mut group, &mut ledger, &SITE) {
@@ -142,7 +142,7 @@ fn a_refusal(rt: HostRuntime) -> Result<(), Fail> {
 fn interruptions(rt: HostRuntime) -> Result<(), Fail> {
     let alloc = rt.alloc();
     for stop in 0..20 {
-        let mut group = town(alloc);
+        let mut group = empty_town(alloc);
         let mut ledger = Ledger::new(alloc, 7);
         group.kept = ledger.spelled(alloc)?;
         group.left = stop;

@@ -26,7 +26,7 @@ pub(crate) struct Town {
 }
 
 /// A town of one node, with nothing.
-pub(crate) fn town(alloc: Global) -> Town {
+pub(crate) fn empty_town(alloc: Global) -> Town {
     Town {
         alloc,
         nodes: 1,

@@ -87,7 +87,7 @@ fn told<'a>(rest: Rest<'a>, length: &str) -> Result<(&'a str, Rest<'a>), LineFau
     ))
 }
 
-fn entry<'a>(alloc: Global, rest: Rest<'a>) -> Result<(Entry<'a>, Rest<'a>), LineFault> {
+fn next_entry<'a>(alloc: Global, rest: Rest<'a>) -> Result<(Entry<'a>, Rest<'a>), LineFault> {
     let (found, after) = line(rest)?;
     let words: Vec<&str> = found.split(' ').collect(alloc)?;
     match words.as_slice() {
@@ -158,7 +158,7 @@ pub fn read_ledger(alloc: Global, text: &str) -> Result<Ledger, LineFault> {
         if rest.text.is_empty() {
             return Ok(ledger);
         }
-        let (found, after) = entry(alloc, rest)?;
+        let (found, after) = next_entry(alloc, rest)?;
         ledger.enter(alloc, found, rest.line)?;
         rest = after;
     }
