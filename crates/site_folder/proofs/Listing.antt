@@ -39,3 +39,25 @@ filter_one p f xs k x below got =
 pub map_of_map : {X Y Z : Type 0} (f : X → Y) (g : Y → Z) (xs : List X) → map g (map f xs) ≡ map (λ x. g (f x)) xs
 map_of_map f g [] = refl
 map_of_map f g (x ∷ xs) = ap (λ l. g (f x) ∷ l) (map_of_map f g xs)
+
+-- one word more behind a front
+pub words_more : {X Y A : Type 0} (front : List A) (f : Y → List A) (g : X → Y) (xs : List X) (k : ℕ) (x : X) → k < length xs → x ≡ slice_index_or xs k x
+    → (front ++ flat_map f (map g (take k xs))) ++ f (g x) ≡ front ++ flat_map f (map g (take (k + 1) xs))
+words_more front f g xs k x below got =
+    let one = ap (flat_map f) (map_one g xs k x below got) ∙ flat_map-append f (map g (take k xs)) (g x ∷ []) ∙ ap (λ l. flat_map f (map g (take k xs)) ++ l) (append-nil (f (g x))) in
+    append_assoc front (flat_map f (map g (take k xs))) (f (g x)) ∙ ap (λ l. front ++ l) (sym one)
+
+-- one line more that says something; v shows what was found
+pub said_more : {X Z A : Type 0} (v : Z → A) (p : A → Bool) (f : X → A) (found : List Z) (new : Z) (xs : List X) (k : ℕ) (x : X) → k < length xs → x ≡ slice_index_or xs k x
+    → map v found ≡ filter p (map f (take k xs)) → v new ≡ f x → p (f x) ≡ true → map v (found ++ new ∷ []) ≡ filter p (map f (take (k + 1) xs))
+said_more v p f found new xs k x below got so_far same says =
+    let all = filter p (map f (take k xs)) in
+    map-append v found (new ∷ []) ∙ ap (λ l. l ++ v new ∷ []) so_far ∙ ap (λ y. all ++ y ∷ []) same
+    ∙ sym (filter_one p f xs k x below got ∙ ap (λ b. all ++ cond b (f x ∷ []) []) says)
+
+-- one line more that says nothing
+pub said_no_more : {X Z A : Type 0} (v : Z → A) (p : A → Bool) (f : X → A) (found : List Z) (xs : List X) (k : ℕ) (x : X) → k < length xs → x ≡ slice_index_or xs k x
+    → map v found ≡ filter p (map f (take k xs)) → p (f x) ≡ false → map v found ≡ filter p (map f (take (k + 1) xs))
+said_no_more v p f found xs k x below got so_far silent =
+    let all = filter p (map f (take k xs)) in
+    so_far ∙ sym (filter_one p f xs k x below got ∙ ap (λ b. all ++ cond b (f x ∷ []) []) silent ∙ append-nil all)
