@@ -8,3 +8,7 @@ pub mod Places
 pub mod Steps
 pub mod Telling
 pub mod Answering
+pub mod Quiet
+pub mod Quieting
+pub mod QuietWorked
+pub mod Highest

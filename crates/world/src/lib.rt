@@ -4,9 +4,11 @@
 mod event;
 mod fault;
 mod halt;
+mod highest;
 mod laws;
 mod passing;
 mod places;
+mod plan;
 mod queries;
 mod state;
 mod whole;
@@ -14,7 +16,8 @@ mod whole;
 pub use event::Event;
 pub use fault::{AskFault, WorldFault};
 pub use laws::{
-    every_schedule_agrees, runs_are_schedules, worked_schedules_are_taken, worlds_answer_as_one,
+    every_schedule_agrees, quiet_stretches_decide, runs_are_schedules, worked_plans_are_taken,
+    worked_schedules_are_taken, worlds_answer_as_one,
 };
 pub use state::NodeState;
 pub use whole::World;

@@ -134,6 +134,28 @@ impl Place {
         }
     }
 
+    /// The node runs, its disk is not armed, and each round on record leaves two more.
+    pub(crate) fn is_calm(&self) -> bool
+        ensures { (n p : ℕ) (s : AbstractNode) → IsPlaceOf n p self.now s → IsTrue result ↔ IsCalm s }
+    {
+        match self {
+            Place::Bare(_) => false,
+            Place::Open { node, armed } => {
+                !node.is_stopped() && !*armed && node.greatest_round() <= LAST_QUIET_ROUND
+            }
+        }
+    }
+
+    /// What a node that runs has promised at an instance.
+    pub(crate) fn promised(&self, instance: Instance) -> Option<Ballot>
+        ensures { (n p : ℕ) (s : AbstractNode) → IsPlaceOf n p self.now s → s.mode ≡ Up → (slot : Slot) × IsSlot s.entries instance slot × (result ≡ slot.promised) }
+    {
+        match self {
+            Place::Bare(_) => None,
+            Place::Open { node, .. } => node.slot(instance).promised,
+        }
+    }
+
     /// Takes the disk away.
     fn close(self) -> MemDisk
         ensures { (n p : ℕ) (s : AbstractNode) → IsPlaceOf n p self s → (d : DiskState) × MemoryStandsFor result d × Keeps p n s.entries s.in_flight d }

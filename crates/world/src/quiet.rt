@@ -1,0 +1,97 @@
+//! A quiet state, and the plan by which a node learns its first unknown instance in it.
+
+ghost use Rattle.std.specs.Prelude.{◌≡◌, ◌↔◌, ◌+◌, ◌^◌, ◌<◌, ◌≤◌, ◌≢◌, ℕ, suc, [], List, Option, Some, Unit, Result, IfOk, IfSome, OnOk, IsTrue, MatchOption, length, slice_get};
+ghost use Rattle.acceptor.specs.declared.slot.Slot.{Slot};
+ghost use Rattle.durable.specs.Entries.{IsSlot};
+ghost use Rattle.node.specs.Calls.{fresh_ballot};
+ghost use Rattle.node.specs.Nodes.{IsFirstUnknown};
+ghost use Rattle.world.specs.declared.event.Event.{Event as AbstractEvent};
+ghost use Rattle.world.specs.declared.fault.WorldFault.{WorldFault as AbstractFault};
+ghost use Rattle.world.specs.declared.whole.World.{World as AbstractCode};
+ghost use Rattle.world.specs.Worlds.{World as AbstractWorld};
+
+use crate::highest::highest_above;
+use crate::places::Place;
+use crate::plan::{push_attempt, push_overbid};
+use crate::{Event, World};
+use site_ids::{Ballot, Instance, MAX_INSTANCE, NodeId};
+use std::alloc::AllocError;
+
+/// The greatest round on record that leaves two more.
+const LAST_ROUND: u32 = u32::MAX - 2;
+
+impl World {
+    ghost use Rattle.world.specs.Quiet.{HasNoneAbove, IsPlan, IsQuiet, IsShort, Overbids, quorum};
+    ghost use Rattle.world.specs.Quieting.{AreUp, LearnsBy};
+    ghost use Rattle.world.specs.Standing.{IsWorldOf};
+    ghost use Rattle.world.specs.Steps.{Reached, RunEnds};
+
+    /// Whether all nodes run with no disk armed, the node has an unknown instance, and no round on record is above
+    /// 4,294,967,293.
+    pub fn is_quiet(&self, node: NodeId) -> bool
+        requires { node ≤ self.now.cluster }
+        ensures { (w : AbstractWorld) → IsWorldOf self.now w → IsTrue result ↔ IsQuiet self.now.cluster w node }
+    {
+        self.known(node) < MAX_INSTANCE && self.places.iter().all(Place::is_calm)
+    }
+
+    /// Events by which the node learns its first unknown instance from a quiet state: two ticks and 8 n deliveries at
+    /// most. Outside of one it is empty.
+    ///
+    /// Whatever the nodes have promised, voted for or attempted, and whatever is on its way: a tick, and its messages to
+    /// the first nodes that make a majority and back; where one of these has promised a higher ballot, its refusal
+    /// first.
+    pub fn quiet_plan(&self, node: NodeId) -> Result<Vec<Event>, AllocError>
+        requires { node ≤ self.now.cluster }
+        ensures short { IfOk result (λ plan. IsShort self.now.cluster plan.items) }
+        ensures none { IfOk result (λ plan. (w : AbstractWorld) → IsWorldOf self.now w → ¬ IsQuiet self.now.cluster w node → plan.items ≡ []) }
+        ensures decides { IfOk result (λ plan. (past : List AbstractEvent) (reached : Reached self.now past) (new : AbstractCode) (ended : Result (Unit {0}) AbstractFault)
+            → IsQuiet self.now.cluster reached.world node → new.cluster ≡ self.now.cluster → RunEnds self.now new plan.items ended → AreUp self.now.cluster new
+            → LearnsBy self.now.cluster reached.world node new ended) }
+    {
+        let mut plan = Vec::new(self.alloc);
+        if self.is_quiet(node) {
+            self.push_plan(node, &mut plan)?;
+        }
+        Ok(plan)
+    }
+
+    // The plan of a quiet state.
+    fn push_plan(&self, node: NodeId, plan: &mut Vec<Event>) -> Result<(), AllocError>
+        requires node { node ≤ self.now.cluster }
+        requires empty { plan.old.items ≡ [] }
+        ensures { OnOk result ((w : AbstractWorld) → IsWorldOf self.now w → IsQuiet self.now.cluster w node → IsPlan self.now.cluster w node plan.new.items) }
+    {
+        let Place::Open { node: running, .. } = self.place(node) else {
+            return Ok(());
+        };
+        let Some(instance) = Instance::new(self.known(node) + 1) else {
+            return Ok(());
+        };
+        let sent = self.sent_count();
+        let again = running.attempts() - running.tries_at(instance) as usize;
+        let Some(ballot) = running.next_ballot() else {
+            return push_attempt(plan, self.cluster, node, sent, again);
+        };
+        match self.highest_above(instance, ballot)? {
+            None => push_attempt(plan, self.cluster, node, sent, again),
+            Some(highest) => push_overbid(plan, self.cluster, node, highest, sent, again),
+        }
+    }
+
+    // The node of the first ones that make a majority whose promise at the instance is the highest above the ballot.
+    fn highest_above(
+        &self,
+        instance: Instance,
+        ballot: Ballot,
+    ) -> Result<Option<NodeId>, AllocError>
+        ensures { IfOk result (λ found. (w : AbstractWorld) → IsWorldOf self.now w → MatchOption found (HasNoneAbove self.now.cluster w instance ballot) (λ q. Overbids self.now.cluster w instance ballot q)) }
+    {
+        let mut promises = Vec::new(self.alloc);
+        for place in &self.places[..self.cluster.quorum() as usize] {
+            promises.push(place.promised(instance))?;
+        }
+        Ok(highest_above(promises.as_slice(), ballot)
+            .and_then(|(k, _)| self.cluster.node(k as u8 + 1)))
+    }
+}
