@@ -12,7 +12,7 @@ use Rattle.world.specs.Telling.{fed_in, fed_at}
 
 -- ---- a known prefix
 
-there_at : {X : Type 0} (xs : List X) (k : ℕ) → k < length xs → (x : X) × (slice_get xs k ≡ Some x)
+pub there_at : {X : Type 0} (xs : List X) (k : ℕ) → k < length xs → (x : X) × (slice_get xs k ≡ Some x)
 there_at [] k below = absurd (omega (arith, below))
 there_at (x ∷ xs) zero below = (x, refl)
 there_at (x ∷ xs) (suc k) below = there_at xs k (omega (arith, below))

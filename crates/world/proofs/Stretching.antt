@@ -12,6 +12,7 @@ use Rattle.world.specs.declared.whole.World.{World as Code}
 use Rattle.world.specs.Worlds.{World}
 use Rattle.world.specs.Standing.{IsPlaceOf, IsWorldOf}
 use Rattle.world.specs.Steps.{RunEnds, Reached}
+use Rattle.world.proofs.Fed.{there_at}
 use Rattle.world.specs.Quiet.{IsQuiet, IsPlan}
 use Rattle.world.specs.Quieting.{Learns, LearnsBy, AreUp, QuietRunsLearn}
 use Rattle.world.proofs.Quieting.{quiet_decides, plans_are_good}
@@ -19,19 +20,14 @@ use Rattle.world.proofs.Quieting.{quiet_decides, plans_are_good}
 -- ---- what a value knows
 
 known_at : (n p : ℕ) (place : Place) (s t : Node) (i : ℕ) → IsPlaceOf n p place s → IsPlaceOf n p place t → s.known i ≡ t.known i
-known_at n p (Open code) s t i a b = sym (a.stands.parts.known.values i) ∙ b.stands.parts.known.values i
+known_at n p (Open code armed) s t i a b = sym (a.stands.parts.known.values i) ∙ b.stands.parts.known.values i
 known_at n p (Bare disk) s t i a b = ap (λ (x : Node). x.known i) a.down ∙ ap (λ (x : Node). x.known i) (sym b.down)
-
-got : (l : List Place) (k : ℕ) → k < length l → (x : Place) × (slice_get l k ≡ Some x)
-got [] k below = absurd (omega (arith, below))
-got (x ∷ l) zero below = (x, refl)
-got (x ∷ l) (suc k) below = got l k (omega (arith, below))
 
 pub same_known : (code : Code) (w u : World) (p i : ℕ) → IsNode code.cluster p → IsWorldOf code w → IsWorldOf code u → (w.node p).known i ≡ (u.node p).known i
 same_known code w u zero i node a b = absurd (let low = node.0 in omega (arith, low))
 same_known code w u (suc k) i node a b =
     let high = node.1 in
-    let place = got code.places.items k (omega (arith, high, code.all_there)) in
+    let place = there_at code.places.items k (omega (arith, high, code.all_there)) in
     known_at code.cluster (suc k) place.0 (w.node (suc k)) (u.node (suc k)) i (a.places k place.0 place.1) (b.places k place.0 place.1)
 
 -- ---- a run

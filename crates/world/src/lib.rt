@@ -10,6 +10,7 @@ mod passing;
 mod places;
 mod plan;
 mod queries;
+mod quiet;
 mod state;
 mod whole;
 

@@ -17,11 +17,9 @@ use crate::{Event, World};
 use site_ids::{Ballot, Instance, MAX_INSTANCE, NodeId};
 use std::alloc::AllocError;
 
-/// The greatest round on record that leaves two more.
-const LAST_ROUND: u32 = u32::MAX - 2;
-
 impl World {
-    ghost use Rattle.world.specs.Quiet.{HasNoneAbove, IsPlan, IsQuiet, IsShort, Overbids, quorum};
+    ghost use Rattle.site_ids.specs.Ids.{IsNode};
+    ghost use Rattle.world.specs.Quiet.{HasNoneAbove, IsPlan, IsQuiet, IsQuietAt, IsShort, Overbids};
     ghost use Rattle.world.specs.Quieting.{AreUp, LearnsBy};
     ghost use Rattle.world.specs.Standing.{IsWorldOf};
     ghost use Rattle.world.specs.Steps.{Reached, RunEnds};
@@ -32,7 +30,18 @@ impl World {
         requires { node ≤ self.now.cluster }
         ensures { (w : AbstractWorld) → IsWorldOf self.now w → IsTrue result ↔ IsQuiet self.now.cluster w node }
     {
-        self.known(node) < MAX_INSTANCE && self.places.iter().all(Place::is_calm)
+        self.known(node) < MAX_INSTANCE && self.all_quiet()
+    }
+
+    fn all_quiet(&self) -> bool
+        ensures { (w : AbstractWorld) → IsWorldOf self.now w → IsTrue result ↔ ((q : ℕ) → IsNode self.now.cluster q → IsQuietAt (w.node q)) }
+    {
+        for place in &self.places {
+            if !place.is_quiet() {
+                return false;
+            }
+        }
+        true
     }
 
     /// Events by which the node learns its first unknown instance from a quiet state: two ticks and 8 n deliveries at
