@@ -1,0 +1,6 @@
+pub mod OptionValues
+pub mod TwoArguments
+pub mod OptionLemmas
+pub mod SimpleCommands
+pub mod Chains
+pub mod ServeLemmas

@@ -1,0 +1,128 @@
+use Rattle.std.proofs.Common.{ap₂, refl, sym, subst, Some, true, false, ℕ, List, [], ◌∷◌, codes, is_some, ◌≡◌, ◌∙◌, ◌^◌, arith}
+use Rattle.std.proofs.lemmas.Result.{IfOk-weaker}
+use Rattle.clap.specs.Words.{App, Rule, AddsArg, app_of, rule_of, is_simple, with_rule, is_simple_and_free, found_of, one_text, first_value}
+use Rattle.clap.specs.declared.builder.arg.Arg.{Arg}
+use Rattle.clap.specs.declared.builder.command.Command.{Command}
+use Rattle.clap.proofs.OnLiterals.{clap_on_literals}
+use Rattle.command_lines.specs.ServeOptions.{serve_app, SpellsBelow}
+use Rattle.command_lines.proofs.Chains.{IsChain, chain_given, chain_accepted}
+use Rattle.command_lines.proofs.SimpleCommands.{rows_by, taken_by, refused_by}
+use Rattle.command_lines.proofs.ServeLemmas.{chain_number}
+use Rattle.command_lines.proofs.serve_line.serve_matches.Goals as goal
+
+simple : is_simple serve_app ≡ true
+unfolding clap_on_literals
+simple = refl
+
+free : is_simple_and_free serve_app ≡ true
+unfolding clap_on_literals
+free = refl
+
+abbrev ids : List (List ℕ)
+ids = codes "id" ∷ codes "record" ∷ codes "http" ∷ codes "rounds" ∷ codes "format" ∷ codes "patience-ms" ∷ codes "serve-ms" ∷ codes "address" ∷ []
+
+abbrev args : (c : goal.After-try_get_matches_from) → List Arg
+args c =
+    c.id_option.result ∷ c.required_option.result ∷ c.required_option-2.result ∷ c.rounds_option.result ∷ c.format_flag.result ∷ c.millis_option.result ∷ c.millis_option-2.result ∷
+    c.address_arguments.result ∷ []
+
+made : (c : goal.After-try_get_matches_from) → IsChain c.described.result c.in_ok-command.command (args c) ids
+made c =
+    let id = c.id_option.ensures in
+    let file = c.required_option.ensures in
+    let http = c.required_option-2.ensures in
+    let rounds = c.rounds_option.ensures in
+    let format = c.format_flag.ensures in
+    let patience = c.millis_option.ensures in
+    let serving = c.millis_option-2.ensures in
+    let address = c.address_arguments.ensures in
+    record {
+      bare = record { args = c.described.ensures.empty.0; groups = c.described.ensures.empty.1; globals = c.described.ensures.local; negates = c.described.ensures.negates };
+      added = (
+        c.in_ok-arg.field-0,
+        c.in_ok-arg.ensures,
+        (
+          c.in_ok-arg-2.field-0,
+          c.in_ok-arg-2.ensures,
+          (
+            c.in_ok-arg-3.field-0,
+            c.in_ok-arg-3.ensures,
+            (
+              c.in_ok-arg-4.field-0,
+              c.in_ok-arg-4.ensures,
+              (
+                c.in_ok-arg-5.field-0,
+                c.in_ok-arg-5.ensures,
+                (c.in_ok-arg-6.field-0, c.in_ok-arg-6.ensures, (c.in_ok-arg-7.field-0, c.in_ok-arg-7.ensures, (c.in_ok-command.command, c.in_ok-command.ensures, refl))),
+              ),
+            ),
+          ),
+        ),
+      );
+      named = (
+        record { is = id.id; plain = id.plain; local = id.local },
+        (
+          record { is = file.id; plain = file.plain; local = file.local },
+          (
+            record { is = http.id; plain = http.plain; local = http.local },
+            (
+              record { is = rounds.id; plain = rounds.plain; local = rounds.local },
+              (
+                record { is = format.id; plain = format.plain; local = format.local },
+                (
+                  record { is = patience.id; plain = patience.plain; local = patience.local },
+                  (
+                    record { is = serving.id; plain = serving.plain; local = serving.local },
+                    (record { is = address.id; plain = address.plain; local = address.local }, tt),
+                  ),
+                ),
+              ),
+            ),
+          ),
+        ),
+      );
+      different = refl;
+      own = refl;
+    }
+
+adds : (old new : Command) (a : Arg) (app : App) (r : Rule) → AddsArg old a new → a.global ≡ false → app_of old ≡ app → rule_of a ≡ r → app_of new ≡ with_rule app r
+adds old new a app r added local is rule = added.shape local ∙ ap₂ with_rule is rule
+
+app_is : (c : goal.After-try_get_matches_from) → app_of c.in_ok-command.command ≡ serve_app
+app_is c =
+    adds _ _ _ _ _ c.in_ok-command.ensures c.address_arguments.ensures.local
+    (adds _ _ _ _ _ c.in_ok-arg-7.ensures c.millis_option-2.ensures.local
+    (adds _ _ _ _ _ c.in_ok-arg-6.ensures c.millis_option.ensures.local
+    (adds _ _ _ _ _ c.in_ok-arg-5.ensures c.format_flag.ensures.local
+    (adds _ _ _ _ _ c.in_ok-arg-4.ensures c.rounds_option.ensures.local
+    (adds _ _ _ _ _ c.in_ok-arg-3.ensures c.required_option-2.ensures.local
+    (adds _ _ _ _ _ c.in_ok-arg-2.ensures c.required_option.ensures.local
+    (adds _ _ _ _ _ c.in_ok-arg.ensures c.id_option.ensures.local c.described.ensures.app c.id_option.ensures.rule)
+    c.required_option.ensures.rule)
+    c.required_option-2.ensures.rule)
+    c.rounds_option.ensures.rule)
+    c.format_flag.ensures.rule)
+    c.millis_option.ensures.rule)
+    c.millis_option-2.ensures.rule)
+    c.address_arguments.ensures.rule
+
+pub returns : goal.returns
+returns c =
+    let parse = c.try_get_matches_from in
+    record {
+      rows = rows_by _ serve_app _ parse.result (app_is c) simple parse.ensures.matches;
+      taken = taken_by _ serve_app _ parse.result (app_is c) parse.ensures.passes;
+      refused = refused_by _ serve_app _ parse.result (app_is c) free parse.ensures.kinds;
+      id = IfOk-weaker parse.result _ _ (λ m h. subst (λ (w : List ℕ). SpellsBelow (2 ^ 8) (one_text (found_of m) w)) c.id_option.ensures.id
+          (chain_number _ _ (args c) ids 0 c.id_option.result 255 (2 ^ 8) m (made c) (omega arith) c.id_option.ensures.takes c.id_option.ensures.parser (omega arith) h)) parse.ensures.parsed;
+      file = IfOk-weaker parse.result _ _ (λ m h. subst (λ (w : List ℕ). is_some (first_value (found_of m) w) ≡ true) c.required_option.ensures.id
+          (chain_given _ _ (args c) ids 1 c.id_option.result m (made c) (omega arith) c.required_option.ensures.takes h)) parse.ensures.parsed;
+      http = IfOk-weaker parse.result _ _ (λ m h. subst (λ (w : List ℕ). is_some (first_value (found_of m) w) ≡ true) c.required_option-2.ensures.id
+          (chain_given _ _ (args c) ids 2 c.id_option.result m (made c) (omega arith) c.required_option-2.ensures.takes h)) parse.ensures.parsed;
+      rounds = IfOk-weaker parse.result _ _ (λ m h. subst (λ (w : List ℕ). SpellsBelow (2 ^ 32) (one_text (found_of m) w)) c.rounds_option.ensures.id
+          (chain_number _ _ (args c) ids 3 c.id_option.result 4294967295 (2 ^ 32) m (made c) (omega arith) c.rounds_option.ensures.takes c.rounds_option.ensures.parser (omega arith) h)) parse.ensures.parsed;
+      patience = IfOk-weaker parse.result _ _ (λ m h t found. chain_accepted _ _ (args c) ids 5 c.id_option.result _ m t (made c) (omega arith) c.millis_option.ensures.parser refl h
+          (subst (λ (w : List ℕ). one_text (found_of m) w ≡ Some t) (sym c.millis_option.ensures.id) found)) parse.ensures.parsed;
+      serving = IfOk-weaker parse.result _ _ (λ m h t found. chain_accepted _ _ (args c) ids 6 c.id_option.result _ m t (made c) (omega arith) c.millis_option-2.ensures.parser refl h
+          (subst (λ (w : List ℕ). one_text (found_of m) w ≡ Some t) (sym c.millis_option-2.ensures.id) found)) parse.ensures.parsed;
+    }

@@ -1,0 +1,5 @@
+pub mod Misuses
+pub mod Options
+pub mod SimOptions
+pub mod ServeOptions
+pub mod ClusterOptions

@@ -1,0 +1,4 @@
+pub mod CutLemmas
+pub mod LineLemmas
+pub mod Texts
+pub mod Fed

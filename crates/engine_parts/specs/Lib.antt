@@ -1,0 +1,5 @@
+pub mod Cuts
+pub mod Submissions
+pub mod Feeds
+pub mod Faults
+pub mod Answers

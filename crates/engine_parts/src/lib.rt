@@ -1,0 +1,14 @@
+//! What the engines of the programs share: their ends, what was read and not yet used, words and numbers.
+#![tactic(auto)]
+
+mod cutting;
+mod ends;
+mod feed;
+mod saying;
+mod words;
+
+pub use cutting::{MAX_TEXT, cut, read_number};
+pub use ends::{InputFault, read_all};
+pub use feed::Feed;
+pub use saying::say;
+pub use words::{Submission, after, number_at_node, read_node, submission_after, word_after};

@@ -1,0 +1,20 @@
+use Rattle.std.proofs.Common.{◌≡◌, ◌≤◌, List, length, map}
+use Rattle.command.specs.Action.{Order}
+use Rattle.page_engine.specs.declared.input.TheConstants.{MAX_COMMANDS}
+use Rattle.page_engine.specs.Framed.{FramedCommand}
+use Rattle.page_engine.specs.Reading.{Begins}
+use Rattle.page_engine.specs.Verdict.{framed_value}
+use Rattle.page_engine.proofs.input.fed.Given as goal
+
+-- the input begins with the commands fed so far, and goes on with the rest
+abbrev pub invariant-loop-rest : goal.invariant-loop-rest
+invariant-loop-rest l = record {
+  framed : List FramedCommand;
+  orders : List Order;
+  begins : Begins l.input framed orders l.rest;
+  few : length framed ≤ MAX_COMMANDS;
+  fed : l.releases ≡ map framed_value framed;
+}
+
+abbrev pub decreases-loop-rest : goal.decreases-loop-rest
+decreases-loop-rest l = length l.rest

@@ -1,0 +1,10 @@
+//! The engine of the renderer: framed commands in, one page out.
+#![tactic(auto)]
+
+mod engine;
+mod framed;
+mod input;
+mod laws;
+
+pub use engine::siterender;
+pub use laws::an_input_has_one_verdict;

@@ -1,0 +1,4 @@
+pub mod ScheduleLemmas
+pub mod Simulating
+pub mod Simulated
+pub mod OneLine

@@ -1,0 +1,27 @@
+use Rattle.std.proofs.Common.{◌∙◌, sym, ap, Err, inl}
+use Rattle.std.proofs.lemmas.Result.{err_from_is_err_and}
+use Rattle.schedule_engine.specs.Schedule.{spelled_nodes}
+use Rattle.schedule_engine.proofs.Simulating.{begin_fault_then}
+use Rattle.engine_parts.proofs.Fed.{grown_then, ended, used_front}
+use Rattle.schedule_engine.proofs.simulator.begin.Goals as goal
+
+pub returns-in_err-read_more : goal.returns-in_err-read_more
+returns-in_err-read_more g c =
+    let p = err_from_is_err_and c.from_residual-in_err-read_more.result c.from_residual-in_err-read_more.ensures.1 in
+    begin_fault_then _ _ _ _ _ _ _ _ _ c.in_err-read_more.field-0.0 _ (p.1 ∙ ap Err p.2) c.loop-cluster.invariant.0 c.loop-cluster.invariant.1 c.in_err-read_more.ensures
+
+pub returns-in-Nodes : goal.returns-in-Nodes
+returns-in-Nodes g c = record {
+  n = c.in-Nodes.cluster;
+  held = c.loop-cluster.feed;
+  grown = c.loop-cluster.invariant.0;
+  sound = c.loop-cluster.invariant.1;
+  node = c.in-Nodes.ensures.0;
+  whole = used_front (spelled_nodes c.in-Nodes.cluster) c.in-Nodes.rest.now c.loop-cluster.feed c.held-in-Nodes.result.now c.pass.new.self (c.held-in-Nodes.ensures ∙ (sym c.held.ensures ∙ c.in-Nodes.ensures.1)) c.held-in-Nodes.ensures c.pass.ensures;
+  fresh = c.in_ok-new-in-Nodes.ensures;
+}
+
+pub returns-then-not-branch : goal.returns-then-not-branch
+returns-then-not-branch g c =
+    let e = ended _ _ _ c.in_ok-read_more.field-0 c.if-not-branch.true c.in_ok-read_more.ensures in
+    (_, grown_then _ _ _ _ _ _ _ _ _ c.loop-cluster.invariant.0 e.0, inl (e.2, rw e.3 (rw c.held.ensures at c.in-Short.ensures)))

@@ -1,0 +1,6 @@
+pub mod Schedule
+pub mod ScheduleView
+pub mod Simulation
+pub mod SimulationEnds
+pub mod Stepping
+pub mod Laws

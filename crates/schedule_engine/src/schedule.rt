@@ -1,0 +1,218 @@
+//! The lines of a schedule.
+ghost use Rattle.std.specs.Prelude.{◌≡◌, ◌≢◌, ℕ, List, ◌∷◌, ◌++◌, ◌<◌, ◌≤◌, ◌^◌, MatchOption, codes, decimal, [], Some, None};
+ghost use Rattle.site_ids.specs.Ids.{IsNode};
+ghost use Rattle.engine_parts.specs.Cuts.{Lacks, IsCut};
+ghost use Rattle.site_ids.specs.declared.Ticket.{Ticket as AbstractTicket};
+ghost use Rattle.schedule_engine.specs.Schedule.{Line as AbstractLine, words, submit_words, Fits, IsPath, body, arm_line, crash_line, get_line};
+ghost use Rattle.engine_parts.specs.Submissions.{joined, FitsSubmission};
+ghost use Rattle.schedule_engine.specs.ScheduleView.{line_view, submission_words, IsFound, IsFoundNodes};
+ghost use Rattle.engine_parts.specs.Submissions.{submission_fits};
+
+use engine_parts::{
+    Submission, after, cut, number_at_node, read_node, read_number, submission_after, word_after,
+};
+use site_ids::{Cluster, NodeId, Ticket};
+
+/// A line behind the first, with the words of it that vary. A node of it need not be one of the schedule's nodes.
+#[derive(Clone, Copy, Debug)]
+pub(crate) enum Line<'a> {
+    Submit {
+        node: NodeId,
+        ticket: Ticket,
+        text: &'a [u8],
+    },
+    Tick {
+        node: NodeId,
+    },
+    Widen {
+        node: NodeId,
+    },
+    Ask {
+        node: NodeId,
+    },
+    Restart {
+        node: NodeId,
+    },
+    Deliver {
+        node: NodeId,
+        index: u64,
+    },
+    Arm {
+        node: NodeId,
+        calls: u32,
+    },
+    Crash {
+        node: NodeId,
+        choice: u8,
+    },
+    Settle,
+    Show {
+        node: NodeId,
+    },
+    Get {
+        node: NodeId,
+        release: u64,
+        path: &'a str,
+    },
+}
+
+/// What stands at the front of the bytes that were read so far.
+#[derive(Clone, Copy, Debug)]
+pub(crate) enum Found<'a> {
+    /// A line, and what follows it.
+    Line(Line<'a>, &'a [u8]),
+    /// No line yet.
+    Short,
+    /// No line, whatever follows.
+    Bad,
+}
+
+/// The same for the first line.
+#[derive(Clone, Copy, Debug)]
+pub(crate) enum FoundNodes<'a> {
+    Nodes(Cluster, &'a [u8]),
+    Short,
+    Bad,
+}
+
+/// The node of a line of two words.
+fn node_after(head: &[u8], front: &str) -> Option<NodeId>
+    ensures { MatchOption result ((p : ℕ) → IsNode 9 p → head.now ≢ front.now ++ decimal p) (λ p. IsNode 9 p × (head.now ≡ front.now ++ decimal p)) }
+{
+    read_node(after(head, front)?)
+}
+
+fn arming(head: &[u8]) -> Option<(NodeId, u32)>
+    ensures { MatchOption result ((p calls : ℕ) → IsNode 9 p → calls < 2 ^ 32 → head.now ≢ joined (words (arm_line p calls)))
+        (λ r. IsNode 9 r.0 × (r.1 < 2 ^ 32) × (head.now ≡ joined (words (arm_line r.0 r.1)))) }
+{
+    let (node, calls) = number_at_node(head, "arm ")?;
+    Some((node, u32::try_from(calls).ok()?))
+}
+
+fn crashing(head: &[u8]) -> Option<(NodeId, u8)>
+    ensures { MatchOption result ((p choice : ℕ) → IsNode 9 p → choice < 2 ^ 8 → head.now ≢ joined (words (crash_line p choice)))
+        (λ r. IsNode 9 r.0 × (r.1 < 2 ^ 8) × (head.now ≡ joined (words (crash_line r.0 r.1)))) }
+{
+    let (node, choice) = number_at_node(head, "crash ")?;
+    Some((node, u8::try_from(choice).ok()?))
+}
+
+fn getting(head: &[u8]) -> Option<(NodeId, u64, &str)>
+    requires { Lacks 10 head.now }
+    ensures { MatchOption result ((p n : ℕ) (path : List ℕ) → IsNode 9 p → n < 2 ^ 64 → IsPath path → head.now ≢ joined (words (get_line p n path)))
+        (λ r. IsNode 9 r.0 × (r.1 < 2 ^ 64) × IsPath r.2.now × (head.now ≡ joined (words (get_line r.0 r.1 r.2.now)))) }
+{
+    let (word, rest) = word_after(head, "get ")?;
+    let (number, path) = cut(rest, b' ')?;
+    let node = read_node(word)?;
+    let release = read_number(number)?;
+    if cut(path, b' ').is_some() {
+        return None;
+    }
+    let Ok(path) = str::from_utf8(path) else {
+        return None;
+    };
+    Some((node, release, path))
+}
+
+/// A line that is no submission, without its newline.
+fn plain_line(head: &[u8]) -> Option<Line<'_>>
+    requires { Lacks 10 head.now }
+    ensures { MatchOption result ((line : AbstractLine) → Fits line → body line ≡ [] → head.now ≢ joined (words line))
+        (λ l. Fits (line_view l) × (body (line_view l) ≡ []) × (head.now ≡ joined (words (line_view l)))) }
+{
+    if let Some(node) = node_after(head, "tick ") {
+        return Some(Line::Tick { node });
+    }
+    if let Some(node) = node_after(head, "widen ") {
+        return Some(Line::Widen { node });
+    }
+    if let Some(node) = node_after(head, "ask ") {
+        return Some(Line::Ask { node });
+    }
+    if let Some(node) = node_after(head, "restart ") {
+        return Some(Line::Restart { node });
+    }
+    if let Some(node) = node_after(head, "show ") {
+        return Some(Line::Show { node });
+    }
+    if let Some((node, index)) = number_at_node(head, "deliver ") {
+        return Some(Line::Deliver { node, index });
+    }
+    if let Some((node, calls)) = arming(head) {
+        return Some(Line::Arm { node, calls });
+    }
+    if let Some((node, choice)) = crashing(head) {
+        return Some(Line::Crash { node, choice });
+    }
+    if let Some((node, release, path)) = getting(head) {
+        return Some(Line::Get {
+            node,
+            release,
+            path,
+        });
+    }
+    if head == b"settle".as_slice() {
+        return Some(Line::Settle);
+    }
+    None
+}
+
+/// The submission, by what follows the newline behind its words.
+fn submitted(submission: Submission, after: &[u8]) -> Found<'_>
+    requires { submission_fits submission }
+    ensures { IsFound (joined (submission_words submission) ++ (10 ∷ after.now)) result }
+{
+    let Some((text, rest)) = after.split_at_checked(submission.text_len) else {
+        return Found::Short;
+    };
+    let Some((end, rest)) = rest.split_first() else {
+        return Found::Short;
+    };
+    if *end != b'\n' {
+        return Found::Bad;
+    }
+    let line = Line::Submit {
+        node: submission.node,
+        ticket: submission.ticket,
+        text,
+    };
+    Found::Line(line, rest)
+}
+
+/// The line at the front of the bytes.
+pub(crate) fn line_in(bytes: &[u8]) -> Found<'_>
+    ensures { IsFound bytes.now result }
+{
+    let Some((head, after)) = cut(bytes, b'\n') else {
+        return Found::Short;
+    };
+    if let Some(submission) = submission_after(head, "submit ") {
+        return submitted(submission, after);
+    }
+    match plain_line(head) {
+        Some(line) => Found::Line(line, after),
+        None => Found::Bad,
+    }
+}
+
+fn cluster_in(head: &[u8]) -> Option<Cluster>
+    ensures { MatchOption result ((n : ℕ) → IsNode 9 n → head.now ≢ codes "nodes " ++ decimal n) (λ n. IsNode 9 n × (head.now ≡ codes "nodes " ++ decimal n)) }
+{
+    let number = u8::try_from(read_number(after(head, "nodes ")?)?).ok()?;
+    Cluster::new(number)
+}
+
+/// The first line of a schedule.
+pub(crate) fn nodes_in(bytes: &[u8]) -> FoundNodes<'_>
+    ensures { IsFoundNodes bytes.now result }
+{
+    let Some((head, after)) = cut(bytes, b'\n') else {
+        return FoundNodes::Short;
+    };
+    match cluster_in(head) {
+        Some(cluster) => FoundNodes::Nodes(cluster, after),
+        None => FoundNodes::Bad,
+    }
+}

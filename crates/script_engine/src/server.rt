@@ -1,0 +1,101 @@
+//! One server of a script: a node over a disk in memory, with its sockets on the loopback.
+ghost use Rattle.site_ids.specs.Ids.{IsNode};
+
+use crate::server_fault::ServerFault;
+use durable::Record;
+use engine_parts::read_all;
+use http_read::Counted;
+use node::{Node, NodeFault};
+use site_disk::MemDisk;
+use site_drive::{UdpLink, drive};
+use site_ids::{Cluster, NodeId};
+use site_serve::{Served, answer_connection, limit_waiting};
+use std::alloc::Global;
+use std::io::Write;
+use std::net::{Net, SocketAddr, TcpListener, TcpStream};
+
+/// A node, its link to the others, and where it is asked.
+#[derive(Drop)]
+pub(crate) struct Server {
+    served: Served<MemDisk>,
+    link: UdpLink,
+    listener: TcpListener,
+}
+
+/// An address of the loopback, with a port that the system picks.
+pub(crate) fn loopback() -> SocketAddr {
+    SocketAddr::from(([127, 0, 0, 1], 0))
+}
+
+/// A node over an empty record in memory.
+fn fresh_node(alloc: Global, cluster: Cluster, me: NodeId) -> Result<Served<MemDisk>, ServerFault>
+    requires { IsNode cluster me }
+{
+    let mut disk = MemDisk::new(alloc);
+    Record::format(cluster, me, &mut disk)?;
+    match Node::open(alloc, cluster, me, disk) {
+        Ok(node) => Ok(Served { node }),
+        Err(_) => Err(ServerFault::OutOfMemory),
+    }
+}
+
+/// A connection to an address.
+fn connect<N: Net<Stream = TcpStream>>(net: &N, at: SocketAddr) -> Result<TcpStream, ServerFault> {
+    let stream = TcpStream::connect(net, at)?;
+    limit_waiting(&stream)?;
+    Ok(stream)
+}
+
+/// All that a connection gives.
+fn received(alloc: Global, stream: &TcpStream) -> Result<Vec<u8>, ServerFault> {
+    let mut reader = Counted::new(stream);
+    Ok(read_all(alloc, &mut reader)?)
+}
+
+impl Server {
+    /// A node that knows nothing yet.
+    pub(crate) fn open<N: Net<Listener = TcpListener, Stream = TcpStream>>(
+        net: &N,
+        alloc: Global,
+        cluster: Cluster,
+        me: NodeId,
+        link: UdpLink,
+    ) -> Result<Server, ServerFault>
+        requires { IsNode cluster me }
+    {
+        let listener = TcpListener::bind(net, loopback())?;
+        let served = fresh_node(alloc, cluster, me)?;
+        Ok(Server {
+            served,
+            link,
+            listener,
+        })
+    }
+
+    /// So many turns of its node.
+    pub(crate) fn drive(&mut self, alloc: Global, turns: u32) -> Result<(), NodeFault> {
+        drive(alloc, &mut self.served.node, &mut self.link, turns)?;
+        Ok(())
+    }
+
+    /// Takes the connection that waits, and answers its request.
+    fn answer(&mut self, alloc: Global) -> Result<(), ServerFault> {
+        let (stream, _from) = self.listener.accept()?;
+        limit_waiting(&stream)?;
+        answer_connection(alloc, stream, &mut self.served)?;
+        Ok(())
+    }
+
+    /// Connects and sends a request, answers it, and reads to the end.
+    pub(crate) fn ask<N: Net<Stream = TcpStream>>(
+        &mut self,
+        net: &N,
+        alloc: Global,
+        request: &[u8],
+    ) -> Result<Vec<u8>, ServerFault> {
+        let mut client = connect(net, self.listener.local_addr()?)?;
+        client.write_all(request)?;
+        self.answer(alloc)?;
+        received(alloc, &client)
+    }
+}

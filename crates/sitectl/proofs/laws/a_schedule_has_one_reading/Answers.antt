@@ -1,5 +1,0 @@
-use Rattle.sitectl.proofs.OneLine.{one_line}
-use Rattle.sitectl.proofs.laws.a_schedule_has_one_reading.Goals as goal
-
-pub returns : goal.returns
-returns c = one_line
