@@ -24,7 +24,7 @@ use Rattle.http_read.specs.Bodies.{ReadsBody}
 use Rattle.http_read.specs.Framings.{Judges, framing_meant}
 use Rattle.http_read.specs.BodySteps.{ShowsBody}
 use Rattle.http_read.specs.Opened.{ShowsHead}
-use Rattle.http_read.specs.Requests.{Answers, refuses, stops, is_head}
+use Rattle.http_read.specs.Requests.{Answers, IsCutShort, refuses, is_head}
 use Rattle.http_read.specs.Incoming.{Shows}
 use Rattle.http_read.proofs.Chunked.{stops_map, stops_behind}
 
@@ -110,10 +110,10 @@ answer_refuses (Some input) mid now passed path of_head status (h, rest, head, (
 pub answer_stops : (first mid left : Option (List ℕ)) (passed : Passed) (path : _) (of_head : Bool)
     → IfSome first (ShowsHead (opened.Head passed path of_head) mid)
     → StopsAt mid left (λ taken. ReadsBody (framing_meant passed.cut) taken ended)
-    → StopsAt first left (λ taken. Answers taken stops)
+    → StopsAt first left IsCutShort
 answer_stops None mid left passed path of_head opens stops_there = tt
 answer_stops (Some input) mid left passed path of_head (h, rest, head, (passes, asks_for), is, after) stops_there =
-    stops_behind input (print_request h) rest left (λ t. ReadsBody (framing_meant passed.cut) t ended) (λ t. Answers t stops) head.reads.1
+    stops_behind input (print_request h) rest left (λ t. ReadsBody (framing_meant passed.cut) t ended) IsCutShort head.reads.1
     (λ t cut. inr (
       h,
       t,
@@ -124,8 +124,8 @@ answer_stops (Some input) mid left passed path of_head (h, rest, head, (passes, 
 
 -- a head that is cut off
 pub head_stops : (first left : Option (List ℕ)) → StopsAt first left (λ taken. ReadsHead taken ended)
-    → StopsAt first left (λ taken. Answers taken stops)
-head_stops first left stops_there = stops_map first left (λ t. ReadsHead t ended) (λ t. Answers t stops) (λ t cut. inl cut) stops_there
+    → StopsAt first left IsCutShort
+head_stops first left stops_there = stops_map first left (λ t. ReadsHead t ended) IsCutShort (λ t cut. inl cut) stops_there
 
 -- at the end of the reader all was taken
 pub all_taken : (first left : Option (List ℕ)) (P : List ℕ → Type 0) → IsAtEnd left → StopsAt first left P → IfSome first P
@@ -140,11 +140,13 @@ is_memory fault.Read = false
 is_memory fault.OutOfMemory = true
 is_memory fault.EndedEarly = false
 
+pub no_memory : (f : ReadFault) → is_memory f ≡ false → f ≢ fault.OutOfMemory
+no_memory f other same = true≢false (sym (ap is_memory same) ∙ other)
+
 pub stopped_by : {T : Type 0} (r : Result T ReadFault) (f : ReadFault) (first left : Option (List ℕ)) (P : List ℕ → Type 0)
     → IfErr r (λ g. g ≢ fault.OutOfMemory → StopsAt first left P) → IsErrOf r f → is_memory f ≡ false → StopsAt first left P
 stopped_by r f first left P stops_there is other =
-    subst (λ x. IfErr x (λ g. g ≢ fault.OutOfMemory → StopsAt first left P)) is stops_there
-    (λ same. true≢false (sym (ap is_memory same) ∙ other))
+    subst (λ x. IfErr x (λ g. g ≢ fault.OutOfMemory → StopsAt first left P)) is stops_there (no_memory f other)
 
 pub stopped_read : {T : Type 0} (r : Result T ReadFault) (first left : Option (List ℕ)) (P : List ℕ → Type 0)
     → IfErr r (λ g. g ≢ fault.OutOfMemory → StopsAt first left P) → IsErrOf r fault.Read → StopsAt first left P

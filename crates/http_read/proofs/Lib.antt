@@ -6,6 +6,7 @@ pub mod FoundHeads
 pub mod ChunkLines
 pub mod SameTargets
 pub mod Candidates
+pub mod Nothing
 pub mod OneHead
 pub mod Commas
 pub mod Numbers
@@ -13,6 +14,7 @@ pub mod SameFaults
 pub mod FoundSections
 pub mod Chunked
 pub mod Answered
+pub mod Begun
 pub mod OneTrailer
 pub mod OneBody
 pub mod OneAnswer

@@ -1,16 +1,17 @@
 -- An input has one answer.
-use Rattle.std.proofs.Common.{◌≡◌, ℕ, ◌⊎◌, Bool, true, false, true≢false, List, sym, ap, ap₂, subst, refl, ◌∙◌, inl, inr, Option, Some, None}
+use Rattle.std.proofs.Common.{◌≡◌, ◌≢◌, ℕ, ◌⊎◌, Bool, true, false, true≢false, List, [], sym, ap, ap₂, subst, refl, ◌∙◌, inl, inr, Option, Some, None}
 use Rattle.httparse.specs.Grammar.{RequestHead}
 use Rattle.percent_encoding.specs.Percent.{percent_decode}
 use Rattle.http_read.specs.Heads.{Reading, got, refused, ended, ReadsHead}
 use Rattle.http_read.specs.Checks.{head_fault, framing_of, keeps, pairs_of}
 use Rattle.http_read.specs.Targets.{AsksFor}
 use Rattle.http_read.specs.Bodies.{ReadsBody}
-use Rattle.http_read.specs.Requests.{Heard, asks, refuses, stops, Answers, Follows, is_head}
+use Rattle.http_read.specs.Requests.{Heard, asks, refuses, stops, ends, Answers, Follows, is_head}
 use Rattle.http_read.specs.Laws.{IsOpenCase, AnswerIsOne}
 use Rattle.http_read.proofs.SameTargets.{same_path}
 use Rattle.http_read.proofs.OneHead.{one_head}
 use Rattle.http_read.proofs.OneBody.{one_body}
+use Rattle.http_read.proofs.Nothing.{nothing_ended}
 
 one_path : (target p q : List ℕ) → AsksFor target p → AsksFor target q → p ≡ q
 one_path target p q a b = a.decoded ∙ ap percent_decode (same_path target a.uri b.uri a.spelled b.spelled) ∙ sym b.decoded
@@ -59,6 +60,7 @@ kind head rest (refuses s of_head) (is, inr (inl (sound, status, none))) = inr (
 kind head rest (refuses s of_head) (is, inr (inr (sound, (path, asks_for), reads))) =
     inr (inr (sound, (path, asks_for, (refused s, reads, ap (λ h. refuses s h) is))))
 kind head rest stops (sound, (path, asks_for), reads) = inr (inr (sound, (path, asks_for, (ended, reads, refl))))
+kind head rest ends never = absurd never
 
 one_kind : (head : RequestHead) (rest : List ℕ) (x y : Heard) → Kind head rest x → Kind head rest y → x ≡ y
 one_kind head rest x y (inl (s, a, is)) (inl (t, b, it)) =
@@ -73,23 +75,27 @@ one_kind head rest x y (inr (inr (a, (path, asks_for, w)))) (inr (inl (b, none, 
 one_kind head rest x y (inr (inr (a, (p, f, (r, reads, is))))) (inr (inr (b, (q, g, (t, reads_too, it))))) =
     is ∙ ap₂ (λ h z. of_body head h z) (one_path head.target p q f g) (one_body (framing_of (pairs_of head)) rest r t reads reads_too) ∙ sym it
 
--- what comes of a head
-abbrev After : Reading RequestHead → Heard → Type 0
-After (got head rest) x = Kind head rest x
-After (refused s) x = x ≡ refuses s false
-After ended x = x ≡ stops
+-- what comes of a head, or of its want
+abbrev After : List ℕ → Reading RequestHead → Heard → Type 0
+After input (got head rest) x = Kind head rest x
+After input (refused s) x = x ≡ refuses s false
+After input ended x = ((input ≢ []) × (x ≡ stops)) ⊎ ((input ≡ []) × (x ≡ ends))
 
-one_after : (r : Reading RequestHead) (x y : Heard) → After r x → After r y → x ≡ y
-one_after (got head rest) x y a b = one_kind head rest x y a b
-one_after (refused s) x y a b = a ∙ sym b
-one_after ended x y a b = a ∙ sym b
+one_after : (input : List ℕ) (r : Reading RequestHead) (x y : Heard) → After input r x → After input r y → x ≡ y
+one_after input (got head rest) x y a b = one_kind head rest x y a b
+one_after input (refused s) x y a b = a ∙ sym b
+one_after input ended x y (inl (some, a)) (inl (some_too, b)) = a ∙ sym b
+one_after input ended x y (inl (some, a)) (inr (none, b)) = absurd (some none)
+one_after input ended x y (inr (none, a)) (inl (some, b)) = absurd (some none)
+one_after input ended x y (inr (none, a)) (inr (none_too, b)) = a ∙ sym b
 
-by_head : (input : List ℕ) (x : Heard) → Answers input x → (r : Reading RequestHead) × ReadsHead input r × After r x
+by_head : (input : List ℕ) (x : Heard) → Answers input x → (r : Reading RequestHead) × ReadsHead input r × After input r x
 by_head input (asks request left) (head, rest, reads, follows) = (got head rest, reads, kind head rest (asks request left) follows)
 by_head input (refuses s of_head) (inl (is, reads)) = (refused s, reads, ap (λ h. refuses s h) is)
 by_head input (refuses s of_head) (inr (head, rest, reads, follows)) = (got head rest, reads, kind head rest (refuses s of_head) follows)
-by_head input stops (inl reads) = (ended, reads, refl)
-by_head input stops (inr (head, rest, reads, follows)) = (got head rest, reads, kind head rest stops follows)
+by_head input stops (some, inl reads) = (ended, reads, inl (some, refl))
+by_head input stops (some, inr (head, rest, reads, follows)) = (got head rest, reads, kind head rest stops follows)
+by_head input ends none = (ended, subst (λ i. ReadsHead i ended) (sym none) nothing_ended, inr (none, refl))
 
 pub one_answer : (input : List ℕ) → AnswerIsOne input
 one_answer input x y a b =
@@ -97,6 +103,6 @@ one_answer input x y a b =
     let q = by_head input y b in
     go p.0 q.0 p.2 q.2 (one_head input p.0 q.0 p.1 q.1)
   where
-    go : (r t : Reading RequestHead) → After r x → After t y → (r ≡ t) ⊎ IsOpenCase input → (x ≡ y) ⊎ IsOpenCase input
-    go r t m n (inl same) = inl (one_after t x y (subst (λ z. After z x) same m) n)
+    go : (r t : Reading RequestHead) → After input r x → After input t y → (r ≡ t) ⊎ IsOpenCase input → (x ≡ y) ⊎ IsOpenCase input
+    go r t m n (inl same) = inl (one_after input t x y (subst (λ z. After input z x) same m) n)
     go r t m n (inr is_open) = inr is_open

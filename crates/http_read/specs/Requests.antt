@@ -1,5 +1,5 @@
 -- One request, read from the front of an input.
-use Rattle.std.specs.Prelude.{◌≡◌, ℕ, ◌⊎◌, Bool, false, List, codes, bytes_eq, Some, None}
+use Rattle.std.specs.Prelude.{◌≡◌, ◌≢◌, ℕ, ◌⊎◌, Bool, false, List, [], codes, bytes_eq, Some, None}
 use Rattle.httparse.specs.Grammar.{RequestHead}
 use Rattle.http_read.specs.Heads.{got, refused, ended, ReadsHead}
 use Rattle.http_read.specs.Checks.{pairs_of, head_fault, framing_of, keeps}
@@ -13,11 +13,13 @@ pub record Asked : Type 0 where
   pub keep : Bool
   pub body : List ℕ
 
--- a request and the bytes after it; a refusal by its status, and whether it is of a HEAD request; or an input that ended too early
+-- a request and the bytes after it; a refusal by its status, and whether it is of a HEAD request; an input that ended within the request;
+-- or one that ended before it
 pub data Heard : Type 0 where
   asks : Asked → List ℕ → Heard
   refuses : ℕ → Bool → Heard
   stops : Heard
+  ends : Heard
 
 -- the method is HEAD
 abbrev pub is_head : RequestHead → Bool
@@ -37,6 +39,13 @@ Follows head rest (refuses status of_head) =
 Follows head rest stops =
     (head_fault head ≡ None) × ((path : List ℕ) × AsksFor head.target path)
     × ReadsBody (framing_of (pairs_of head)) rest ended
+Follows head rest ends = ⊥
+
+-- the input ends before the request at its front does
+abbrev pub IsCutShort : List ℕ → Type 0
+IsCutShort input =
+    ReadsHead input ended
+    ⊎ ((head : RequestHead) × (rest : List ℕ) × ReadsHead input (got head rest) × Follows head rest stops)
 
 -- One request at the front of the input.
 abbrev pub Answers : List ℕ → Heard → Type 0
@@ -45,6 +54,5 @@ Answers input (asks request left) =
 Answers input (refuses status of_head) =
     ((of_head ≡ false) × ReadsHead input (refused status))
     ⊎ ((head : RequestHead) × (rest : List ℕ) × ReadsHead input (got head rest) × Follows head rest (refuses status of_head))
-Answers input stops =
-    ReadsHead input ended
-    ⊎ ((head : RequestHead) × (rest : List ℕ) × ReadsHead input (got head rest) × Follows head rest stops)
+Answers input stops = (input ≢ []) × IsCutShort input
+Answers input ends = input ≡ []

@@ -10,7 +10,7 @@ pub enum ReadFault {
     Read,
     #[error("out of memory")]
     OutOfMemory,
-    /// The input ended before the request did, or before it began.
+    /// The input ended before the request did.
     #[error("the input ended within the request")]
     EndedEarly,
 }

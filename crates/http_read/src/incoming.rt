@@ -31,4 +31,6 @@ pub enum Incoming {
         /// Whether a whole head was read and its method is HEAD, so that the response has no body.
         head: bool,
     },
+    /// No request: the input ended before any byte of one.
+    Ended,
 }

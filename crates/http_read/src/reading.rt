@@ -1,9 +1,9 @@
 //! Reads one request.
-ghost use Rattle.std.specs.Prelude.{◌≡◌, ◌≢◌, ◌≤◌, ℕ, List, length, IfOk, IfErr, IfSome, IsErrOf};
-ghost use Rattle.std.specs.Io.KnownBytes.{IsAtEnd};
+ghost use Rattle.std.specs.Prelude.{◌≡◌, ◌≢◌, ◌≤◌, ℕ, List, length, IfOk, IfErr, IfSome, IsErrOf, OnOk};
+ghost use Rattle.std.specs.Io.KnownBytes.{IsAtEnd, Keeps};
 ghost use Rattle.http_read.specs.Counted.{inside, failed, RoseByOne};
-ghost use Rattle.http_read.specs.Input.{input_of, StopsAt};
-ghost use Rattle.http_read.specs.Requests.{Answers, stops};
+ghost use Rattle.http_read.specs.Input.{input_of, StopsAt, HasBegun};
+ghost use Rattle.http_read.specs.Requests.{Answers, IsCutShort, stops};
 ghost use Rattle.http_read.specs.Incoming.{Shows};
 
 use crate::bodies::{BodyRead, read_body};
@@ -22,6 +22,28 @@ fn room_for_fields(alloc: Global) -> Result<Vec<HeaderSpan>, AllocError> {
     vec![in alloc; EMPTY_HEADER_SPAN; FIELD_LIMIT]
 }
 
+/// Whether there is a byte of a request. Where none is held, one reading waits for it.
+fn has_begun<R: Read>(reader: &mut Counted<R>, inbox: &mut Inbox) -> Result<bool, ReadFault>
+    ensures input { OnOk result (Keeps (input_of inbox.old (R.remaining (inside reader.old)))
+        (input_of inbox.new (R.remaining (inside reader.new)))) }
+    ensures begun { IfOk result (λ begun. HasBegun begun inbox.new (R.remaining (inside reader.new))) }
+    ensures unread { IsErrOf result ReadFault.Read →
+        StopsAt (input_of inbox.old (R.remaining (inside reader.old))) (R.remaining (inside reader.new)) IsCutShort }
+    ensures never { ¬ (IsErrOf result ReadFault.EndedEarly) }
+    ensures failed { IsErrOf result ReadFault.Read → RoseByOne (failed reader.old) (failed reader.new) }
+    ensures quiet { ¬ (IsErrOf result ReadFault.Read) → failed reader.new ≡ failed reader.old }
+{
+    if inbox.held().len() > 0 {
+        return Ok(true);
+    }
+    match inbox.read_more(reader) {
+        Ok(()) => Ok(true),
+        Err(ReadFault::EndedEarly) => Ok(false),
+        Err(ReadFault::Read) => Err(ReadFault::Read),
+        Err(ReadFault::OutOfMemory) => Err(ReadFault::OutOfMemory),
+    }
+}
+
 /// Reads one request, with this room for field lines.
 fn read_one<R: Read>(
     alloc: Global,
@@ -32,7 +54,7 @@ fn read_one<R: Read>(
     ensures answer { IfOk result (λ incoming. IfSome (input_of inbox.old (R.remaining (inside reader.old)))
         (Shows incoming (input_of inbox.new (R.remaining (inside reader.new))))) }
     ensures stopped { IfErr result (λ fault. fault ≢ ReadFault.OutOfMemory →
-        StopsAt (input_of inbox.old (R.remaining (inside reader.old))) (R.remaining (inside reader.new)) (λ taken. Answers taken stops)) }
+        StopsAt (input_of inbox.old (R.remaining (inside reader.old))) (R.remaining (inside reader.new)) IsCutShort) }
     ensures ended { IsErrOf result ReadFault.EndedEarly → IsAtEnd (R.remaining (inside reader.new)) }
     ensures failed { IsErrOf result ReadFault.Read → RoseByOne (failed reader.old) (failed reader.new) }
     ensures quiet { ¬ (IsErrOf result ReadFault.Read) → failed reader.new ≡ failed reader.old }
@@ -55,7 +77,7 @@ fn read_one<R: Read>(
 /// Reads one request, at the front of what the inbox holds and then of what the reader gives.
 ///
 /// Behind a request the inbox and the reader have exactly the bytes that follow it. Behind a refusal or a fault it is open what they have:
-/// the connection is to be closed. No call that failed is made again.
+/// the connection is to be closed. No call that failed is made again. Before a first byte has come, only the inbox takes memory.
 ///
 /// A head has at most 8,192 bytes and 64 field lines, a body 40,000 bytes. Beyond the inbox a call takes at most 90 KB for where field lines
 /// lie (2 KB for a head of up to 64), 40 KB for a body, and 8 KB each for a copy of the target and for its path.
@@ -67,10 +89,14 @@ pub fn request<R: Read>(
     ensures answer { IfOk result (λ incoming. IfSome (input_of inbox.old (R.remaining (inside reader.old)))
         (Shows incoming (input_of inbox.new (R.remaining (inside reader.new))))) }
     ensures ended { IsErrOf result ReadFault.EndedEarly → IfSome (input_of inbox.old (R.remaining (inside reader.old))) (λ input. Answers input stops) }
-    ensures unread { IsErrOf result ReadFault.Read → StopsAt (input_of inbox.old (R.remaining (inside reader.old))) (R.remaining (inside reader.new)) (λ taken. Answers taken stops) }
+    ensures unread { IsErrOf result ReadFault.Read → StopsAt (input_of inbox.old (R.remaining (inside reader.old))) (R.remaining (inside reader.new)) IsCutShort }
     ensures failed { IsErrOf result ReadFault.Read → RoseByOne (failed reader.old) (failed reader.new) }
     ensures quiet { ¬ (IsErrOf result ReadFault.Read) → failed reader.new ≡ failed reader.old }
 {
-    let mut spans = room_for_fields(alloc)?;
-    read_one(alloc, reader, inbox, &mut spans)
+    if has_begun(reader, inbox)? {
+        let mut spans = room_for_fields(alloc)?;
+        read_one(alloc, reader, inbox, &mut spans)
+    } else {
+        Ok(Incoming::Ended)
+    }
 }

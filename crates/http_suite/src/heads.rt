@@ -7,7 +7,7 @@ const LINES: [Row; 24] = [
     ("GET /%68?x HTTP/1.1\r\n", "GET /h"),
     ("HEAD /%68?x HTTP/1.1\r\n", "HEAD /h"),
     ("POST /%68?x HTTP/1.1\r\n", "POST /h"),
-    ("GET / HTTP/1.0\r\n", "GET /"),
+    ("GET / HTTP/1.0\r\n", "GET / and closes"),
     ("GET / HTTP/1.1\n", "GET /"),
     // Line breaks before the request line are passed over.
     ("\r\n\n\r\nGET / HTTP/1.1\r\n", "GET /"),
@@ -106,9 +106,37 @@ const FIELDS: [Row; 42] = [
     ("Host: a\r\nContent-Length: 99999999999999999999\r\n", "413"),
 ];
 
+/// Connection lines behind `GET / HTTP/1.1` and a Host line: the word `close` closes, between commas and in any case.
+const CONNECTIONS: [Row; 15] = [
+    ("", "GET /"),
+    ("Connection: close\r\n", "GET / and closes"),
+    ("connection:CLOSE\r\n", "GET / and closes"),
+    ("CONNECTION: \t Close \t \r\n", "GET / and closes"),
+    ("Connection: keep-alive, close\r\n", "GET / and closes"),
+    ("Connection: close\t,keep-alive\r\n", "GET / and closes"),
+    ("Connection: a,,close,\r\n", "GET / and closes"),
+    (
+        "Connection: keep-alive\r\nX: y\r\nConnection: close\r\n",
+        "GET / and closes",
+    ),
+    ("Connection: keep-alive\r\n", "GET /"),
+    ("Connection:\r\n", "GET /"),
+    ("Connection: ,\r\n", "GET /"),
+    ("Connection: closed\r\n", "GET /"),
+    ("Connection: close x\r\n", "GET /"),
+    ("Connection: \"close\"\r\n", "GET /"),
+    ("Proxy-Connection: close\r\n", "GET /"),
+];
+
+/// The same behind `GET / HTTP/1.0`: it closes in any case.
+const OLD_CONNECTIONS: [Row; 2] = [
+    ("Connection: keep-alive\r\n", "GET / and closes"),
+    ("Connection: close\r\n", "GET / and closes"),
+];
+
 /// Whole heads that fail a test, or two: the first one tells the status. HTTP/1.0 may leave Host out and has no transfer codings.
 const ORDER: [Row; 12] = [
-    ("GET / HTTP/1.0\r\n\r\n", "GET /"),
+    ("GET / HTTP/1.0\r\n\r\n", "GET / and closes"),
     ("GET / HTTP/1.0\r\nHost: a\r\nHost: a\r\n\r\n", "400"),
     (
         "GET / HTTP/1.0\r\nTransfer-Encoding: chunked\r\n\r\n",
@@ -147,6 +175,19 @@ fn request_lines(rt: HostRuntime) -> Result<(), Fail> {
 fn field_lines(rt: HostRuntime) -> Result<(), Fail> {
     let alloc = rt.alloc();
     check(&rt, alloc, "GET / HTTP/1.1\r\n", &FIELDS, "\r\n")
+}
+
+#[test]
+fn connection_lines(rt: HostRuntime) -> Result<(), Fail> {
+    let alloc = rt.alloc();
+    check(
+        &rt,
+        alloc,
+        "GET / HTTP/1.1\r\nHost: a\r\n",
+        &CONNECTIONS,
+        "\r\n",
+    )?;
+    check(&rt, alloc, "GET / HTTP/1.0\r\n", &OLD_CONNECTIONS, "\r\n")
 }
 
 #[test]

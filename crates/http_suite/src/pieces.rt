@@ -51,7 +51,8 @@ pub(crate) fn name_of(method: Method) -> &'static str {
     }
 }
 
-/// What the next request comes to: `GET /h`, with its body where it has one; `400`, or `400 to HEAD`; or the fault.
+/// What the next request comes to: `GET /h`, with its body where it has one, and whether it closes its connection; `400`, or `400 to HEAD`; the end
+/// of the input; or the fault.
 pub(crate) fn told(
     alloc: Global,
     reader: &mut Counted<Pieces<'_>>,
@@ -60,6 +61,7 @@ pub(crate) fn told(
     let mut text = String::new(alloc);
     match request(alloc, reader, inbox) {
         Ok(Incoming::Request(asked)) => {
+            let keep = asked.keep;
             text.push_str(name_of(asked.method))?;
             text.push(' ')?;
             text.push_str(asked.path.as_str())?;
@@ -70,7 +72,11 @@ pub(crate) fn told(
                     .ok_or("a body that is no text")?;
                 text.push_str(body.as_str())?;
             }
+            if !keep {
+                text.push_str(" and closes")?;
+            }
         }
+        Ok(Incoming::Ended) => text.push_str("ended")?,
         Ok(Incoming::Refused { status, head }) => {
             text = format!(in alloc; "{status}")?;
             if head {

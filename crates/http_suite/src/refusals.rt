@@ -23,12 +23,16 @@ fn requests(rt: HostRuntime) -> Result<(), Fail> {
             assert_eq!(rt; asked.path.as_str(), "/h");
             assert_eq!(rt; asked.body.as_slice(), b"rele".as_slice());
         }
-        Incoming::Refused { status: _, head: _ } => return Err(Fail::from("refused")),
+        Incoming::Refused { status: _, head: _ } | Incoming::Ended => {
+            return Err(Fail::from("refused"));
+        }
     }
     let stated = b"POST /h HTTP/1.1\r\nHost: a\r\nContent-Length: 3\r\n\r\nabc";
     match tried_again(alloc, stated)? {
         Incoming::Request(asked) => assert_eq!(rt; asked.body.as_slice(), b"abc".as_slice()),
-        Incoming::Refused { status: _, head: _ } => return Err(Fail::from("refused")),
+        Incoming::Refused { status: _, head: _ } | Incoming::Ended => {
+            return Err(Fail::from("refused"));
+        }
     }
     // 65 field lines, for which the room has to grow.
     let many =
@@ -38,7 +42,7 @@ fn requests(rt: HostRuntime) -> Result<(), Fail> {
             assert_eq!(rt; status, 431);
             assert!(rt; !head);
         }
-        Incoming::Request(_) => return Err(Fail::from("taken")),
+        Incoming::Request(_) | Incoming::Ended => return Err(Fail::from("taken")),
     }
     Ok(())
 }

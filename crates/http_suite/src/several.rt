@@ -15,8 +15,9 @@ fn one_behind_another(rt: HostRuntime) -> Result<(), Fail> {
             "GET /a",
             "POST /b with abc",
             "POST /c with de",
-            "HEAD /d",
-            "ended early",
+            "HEAD /d and closes",
+            "ended",
+            "ended",
         ] {
             let told = told(alloc, &mut reader, &mut inbox)?;
             assert_eq!(rt; told.as_str(), expected, "in pieces of {piece}");
@@ -53,7 +54,55 @@ fn a_long_connection(rt: HostRuntime) -> Result<(), Fail> {
             );
         }
         let told = told(alloc, &mut reader, &mut inbox)?;
-        assert_eq!(rt; told.as_str(), "ended early");
+        assert_eq!(rt; told.as_str(), "ended");
+    }
+    Ok(())
+}
+
+const FIRST: &str = "POST /a HTTP/1.1\r\nHost: a\r\nContent-Length: 3\r\n\r\nabc";
+
+const SECOND: &str = "POST /b HTTP/1.1\r\nHost: a\r\nContent-Length: 2\r\n\r\nde";
+
+/// Both come at once, the second cut off behind each of its bytes.
+#[test]
+fn the_second_cut_off(rt: HostRuntime) -> Result<(), Fail> {
+    let alloc = rt.alloc();
+    let both = format!(in alloc; "{FIRST}{SECOND}")?;
+    let bytes = both.as_str().as_bytes();
+    for end in 0..=bytes.len() {
+        if end < FIRST.len() {
+            continue;
+        }
+        let mut reader = in_pieces(&bytes[..end], usize::MAX);
+        let mut inbox = Inbox::new(alloc);
+        let first = told(alloc, &mut reader, &mut inbox)?;
+        assert_eq!(rt; first.as_str(), "POST /a with abc");
+        let second = told(alloc, &mut reader, &mut inbox)?;
+        let expected = if end == FIRST.len() {
+            "ended"
+        } else if end < bytes.len() {
+            "ended early"
+        } else {
+            "POST /b with de"
+        };
+        assert_eq!(rt; second.as_str(), expected, "behind {end}");
+        assert_eq!(rt; reader.failures(), 0);
+    }
+    Ok(())
+}
+
+/// Line breaks behind a request begin another one.
+#[test]
+fn line_breaks_alone(rt: HostRuntime) -> Result<(), Fail> {
+    let alloc = rt.alloc();
+    for (bytes, expected) in [
+        ("", "ended"),
+        ("\r\n", "ended early"),
+        ("\n\n", "ended early"),
+    ] {
+        let mut reader = in_pieces(bytes.as_bytes(), 1);
+        let told = told(alloc, &mut reader, &mut Inbox::new(alloc))?;
+        assert_eq!(rt; told.as_str(), expected);
     }
     Ok(())
 }
