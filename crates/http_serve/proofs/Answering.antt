@@ -1,14 +1,19 @@
 -- The response to a request, by its method.
-use Rattle.std.proofs.Common.{◌≡◌, ◌∙◌, ℕ, Bool, true, false, List, codes, bytes_eq, slice_index, Option, Some, None, Result, Ok, Err, OnErr, IfSome, arith, refl, sym, ap, subst, inl, inr}
+use Rattle.std.proofs.lemmas.Bool.Decides.{nat_tests}
+use Rattle.std.proofs.Common.{◌≡◌, ◌∙◌, ℕ, suc, ◌+◌, ◌<◌, nat_lt, Bool, true, false, true≢false, not, ◌&&◌, List, [], codes, bytes_eq, slice_index, Option, Some, None, Result, Ok, Err, OnErr, IfSome, arith, refl, sym, ap, subst, inl, inr}
 use Rattle.http_read.specs.declared.incoming.Method.{Method}
 use Rattle.http_read.specs.declared.incoming.Method.TheVariants.{Get, Head, Post}
 use Rattle.http_read.specs.Methods.{method_name}
-use Rattle.http_read.specs.Requests.{Asked, Answers, asks, refuses}
+use Rattle.http_read.specs.Requests.{Asked, Answers, asks, refuses, ends}
 use Rattle.http_serve.specs.Paths.{Place, Names}
-use Rattle.http_serve.specs.Replies.{Reply, print_reply}
+use Rattle.http_serve.specs.Replies.{Reply, closes, stays_behind, print_reply}
 use Rattle.http_serve.specs.Responses.{asked_reply, refusal, RepliesToPost}
 use Rattle.http_serve.specs.Services.{Offered}
-use Rattle.http_serve.specs.Connections.{IsResponse, IsLast}
+use Rattle.http_serve.specs.Shown.{Written, written_in, write_as, closing}
+use Rattle.http_serve.specs.declared.replies.Manner.{Manner}
+use Rattle.http_serve.specs.declared.replies.Message.{Message}
+use Rattle.http_serve.specs.Connections.{IsResponse, may_keep, may_stay}
+use Rattle.http_serve.specs.Exchanges.{Responds}
 
 -- the method isn't POST, and this tells whether it is HEAD
 pub record Asks (method : List ℕ) (to_head : Bool) : Type 0 where
@@ -21,41 +26,103 @@ get_asks m is = rw is (record { posts_not = λ e. absurd (omega (arith, ap (λ t
 pub head_asks : (m : Method) → m ≡ Head → Asks (method_name m) true
 head_asks m is = rw is (record { posts_not = λ e. absurd (omega (arith, ap (λ t. slice_index t 0) e)); head = refl })
 
-pub asked_responds : {S : Type 0} (service : Offered S) (now : S) (request : Asked) (to_head : Bool) (place : Place) (path text : List ℕ)
-    → Asks request.method to_head → path ≡ request.path → Names path place
-    → text ≡ print_reply to_head (asked_reply service now path place)
-    → IsResponse service now request now (asked_reply service now path place) text
-asked_responds service now request to_head place path text asking same named whole = record {
-  place = place;
-  names = subst (λ p. Names p place) same named;
-  replies = inr (asking.posts_not, refl, ap (λ p. asked_reply service now p place) same);
-  spelled = whole ∙ ap (λ b. print_reply b (asked_reply service now path place)) (sym asking.head);
-}
+-- what is told of a message that is a reply in some manner
+pub stays_of : (m : Message) (manner : Manner) (r : Reply) → written_in m ≡ write_as manner r → m.stays ≡ stays_behind manner.keep r
+stays_of m manner r same = ap (λ (w : Written). w.stays) same
 
-pub posted_responds : {S : Type 0} (service : Offered S) (now after : S) (path body said lent text : List ℕ) (m : Method) (keep : Bool) (place : Place) (reply : Reply)
-    → m ≡ Post → said ≡ path → lent ≡ body → Names said place → RepliesToPost service now lent place after reply
-    → text ≡ print_reply false reply → IsResponse service now (record { method = method_name m; path = path; keep = keep; body = body }) after reply text
-posted_responds service now after path body said lent text m keep place reply is same whole named replied spelled = rw is (record {
-  place = place;
-  names = subst (λ p. Names p place) same named;
-  replies = inl (refl, subst (λ b. RepliesToPost service now b place after reply) whole replied);
-  spelled = spelled;
-})
+pub bytes_of : (m : Message) (manner : Manner) (r : Reply) → written_in m ≡ write_as manner r → m.bytes.items ≡ print_reply m.stays manner.to_head r
+bytes_of m manner r same =
+    ap (λ (w : Written). w.bytes) same ∙ ap (λ b. print_reply b manner.to_head r) (sym (stays_of m manner r same))
+
+pub asked_responds : {S : Type 0} (service : Offered S) (now : S) (request : Asked) (to_head keep : Bool) (place : Place) (path : List ℕ) (m : Message)
+    → Asks request.method to_head → path ≡ request.path → Names path place
+    → written_in m ≡ write_as (record { to_head = to_head; keep = keep }) (asked_reply service now path place)
+    → (reply : Reply) × (m.stays ≡ stays_behind keep reply) × IsResponse service now request now reply m.stays m.bytes.items
+asked_responds service now request to_head keep place path m asking same named written = (
+  asked_reply service now path place,
+  stays_of m (record { to_head = to_head; keep = keep }) (asked_reply service now path place) written,
+  record {
+    place = place;
+    names = subst (λ p. Names p place) same named;
+    replies = inr (asking.posts_not, refl, ap (λ p. asked_reply service now p place) same);
+    spelled =
+        bytes_of m (record { to_head = to_head; keep = keep }) (asked_reply service now path place) written
+        ∙ ap (λ b. print_reply m.stays b (asked_reply service now path place)) (sym asking.head);
+  },
+)
+
+pub posted_responds : {S : Type 0} (service : Offered S) (now after : S) (path body said lent : List ℕ) (method : Method) (kept keep : Bool) (place : Place) (reply : Reply) (m : Message)
+    → method ≡ Post → said ≡ path → lent ≡ body → Names said place → RepliesToPost service now lent place after reply
+    → written_in m ≡ write_as (record { to_head = false; keep = keep }) reply
+    → (r : Reply) × (m.stays ≡ stays_behind keep r)
+    × IsResponse service now (record { method = method_name method; path = path; keep = kept; body = body }) after r m.stays m.bytes.items
+posted_responds service now after path body said lent method kept keep place reply m is same whole named replied written = (
+  reply,
+  stays_of m (record { to_head = false; keep = keep }) reply written,
+  rw is (record {
+    place = place;
+    names = subst (λ p. Names p place) same named;
+    replies = inl (refl, subst (λ b. RepliesToPost service now b place after reply) whole replied);
+    spelled = bytes_of m (record { to_head = false; keep = keep }) reply written;
+  }),
+)
 
 pub on_err : {A E : Type 0} (r : Result A E) {P : Type 0} → P → OnErr r P
 on_err (Ok x) p = tt
 on_err (Err e) p = p
 
--- a whole response to a request is the last one of its connection
-pub request_last : {S : Type 0} (service : Offered S) (now after : S) (request : Asked) (reply : Reply) (text : List ℕ) (input rest : Option (List ℕ))
-    → IfSome input (λ i. (left : List ℕ) × Answers i (asks request left) × (rest ≡ Some left))
-    → IsResponse service now request after reply text → IfSome input (λ i. IsLast service 1 now i after text)
-request_last service now after request reply text None rest heard answered = tt
-request_last service now after request reply text (Some i) rest (left, asked, behind) answered =
-    inl (left, record { request = request; reply = reply; asked = asked; answered = answered; stays_is = refl })
+-- ---- from what was read to what is answered
 
-pub refusal_last : {S : Type 0} (service : Offered S) (now : S) (status : ℕ) (to_head : Bool) (text : List ℕ) (input : Option (List ℕ))
-    → IfSome input (λ i. Answers i (refuses status to_head)) → text ≡ print_reply to_head (refusal status)
-    → IfSome input (λ i. IsLast service 1 now i now text)
-refusal_last service now status to_head text None heard whole = tt
-refusal_last service now status to_head text (Some i) heard whole = inr (status, to_head, heard, refl, whole)
+-- whether the connection stays is told by the request's number, the client and the reply
+pub kept_as : (n : ℕ) (keep kept : Bool) (reply : Reply) (stays : Bool) → kept ≡ (keep && nat_lt (n + 1) 100) → stays ≡ stays_behind kept reply
+    → stays ≡ stays_behind (may_keep (suc n) keep) reply
+kept_as n keep kept reply stays is stays_is =
+    let next : n + 1 ≡ suc n = omega arith in
+    stays_is ∙ ap (λ k. stays_behind k reply) (is ∙ ap (λ m. keep && nat_lt m 100) next)
+
+both : (a b : Bool) → (a && b) ≡ true → (a ≡ true) × (b ≡ true)
+both true b is = (refl, is)
+both false b is = cc
+
+below : (n : ℕ) → nat_lt n 100 ≡ true → n < 100
+below n is = grind (arith, nat_tests)
+
+-- where it stays, fewer than 100 were answered
+pub few_answered : (n : ℕ) (keep kept : Bool) (reply : Reply) (stays : Bool) → kept ≡ (keep && nat_lt (n + 1) 100) → stays ≡ stays_behind kept reply
+    → stays ≡ true → n + 1 < 100
+few_answered n keep kept reply stays is stays_is so =
+    let may : kept ≡ true = (both kept (not (closes reply.status)) (sym stays_is ∙ so)).0 in
+    below (n + 1) (both keep (nat_lt (n + 1) 100) (sym is ∙ may)).1
+
+-- the response to a request
+pub request_responds : {S : Type 0} (service : Offered S) (n : ℕ) (now after : S) (request : Asked) (reply : Reply) (stays : Bool) (text : List ℕ) (input rest : Option (List ℕ))
+    → IfSome input (λ i. (left : List ℕ) × Answers i (asks request left) × (rest ≡ Some left))
+    → stays ≡ may_stay n request reply → IsResponse service now request after reply stays text
+    → IfSome input (λ i. Responds service n now i rest after stays text)
+request_responds service n now after request reply stays text None rest heard is answered = tt
+request_responds service n now after request reply true text (Some i) rest (left, asked, behind) is answered =
+    (left, record { request = request; reply = reply; asked = asked; stays_is = is; answered = answered }, behind)
+request_responds service n now after request reply false text (Some i) rest (left, asked, behind) is answered =
+    inl (left, record { request = request; reply = reply; asked = asked; stays_is = is; answered = answered })
+
+-- the response to a refused one is the last
+pub refusal_responds : {S : Type 0} (service : Offered S) (n : ℕ) (now : S) (status : ℕ) (to_head : Bool) (m : Message) (input rest : Option (List ℕ))
+    → IfSome input (λ i. Answers i (refuses status to_head)) → written_in m ≡ write_as (closing to_head) (refusal status)
+    → IfSome input (λ i. Responds service n now i rest now m.stays m.bytes.items)
+refusal_responds service n now status to_head m None rest heard written = tt
+refusal_responds service n now status to_head m (Some i) rest heard written =
+    let closed : m.stays ≡ false = stays_of m (closing to_head) (refusal status) written in
+    subst (λ b. Responds service n now i rest now b m.bytes.items) (sym closed)
+    (inr (status, to_head, heard, refl, ap (λ (w : Written). w.bytes) written))
+
+-- a connection doesn't stay behind it
+pub not_kept : {P : Type 0} (m : Message) (to_head : Bool) (status : ℕ) → written_in m ≡ write_as (closing to_head) (refusal status)
+    → m.stays ≡ true → P
+not_kept m to_head status written so =
+    absurd (true≢false (sym so ∙ stays_of m (closing to_head) (refusal status) written))
+
+-- the client sent no more, and nothing was asked of the service
+pub ended_over : {S : Type 0} (now : S) (input rest : Option (List ℕ)) → IfSome input (λ i. Answers i ends × (rest ≡ Some []))
+    → IfSome input (λ i. Answers i ends × (now ≡ now))
+ended_over now None rest heard = tt
+ended_over now (Some i) rest heard = (heard.0, refl)

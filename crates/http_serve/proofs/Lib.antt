@@ -1,7 +1,7 @@
 pub mod Slashes
 pub mod OnePlace
-pub mod OneExchange
 pub mod Elsewhere
 pub mod Answering
-pub mod Ending
+pub mod Connecting
+pub mod Running
 pub mod Examples

@@ -5,5 +5,6 @@ pub mod Shown
 pub mod Services
 pub mod Responses
 pub mod Connections
+pub mod Exchanges
 pub mod Faults
 pub mod Laws

@@ -1,5 +1,5 @@
 -- The bytes of a response (RFC 9112, sections 4 and 5).
-use Rattle.std.specs.Prelude.{ℕ, Bool, true, false, ◌==◌, if◌then◌else◌, List, [], ◌++◌, length, codes}
+use Rattle.std.specs.Prelude.{ℕ, Bool, true, false, not, ◌&&◌, ◌||◌, ◌==◌, if◌then◌else◌, List, [], ◌++◌, length, codes}
 use Rattle.std.specs.Fmt.{decimal}
 use Rattle.percent_encoding.specs.Percent.{percent_encode}
 use Rattle.http_serve.specs.declared.replies.TheConstants.{ESCAPED}
@@ -46,13 +46,26 @@ abbrev pub media_type : Bool → List ℕ
 media_type true = codes "text/html; charset=utf-8"
 media_type false = codes "text/plain; charset=utf-8"
 
--- the head of a response
-abbrev pub reply_head : Reply → List ℕ
-reply_head r =
+-- a connection is closed behind these: the rest of its input may be anything
+abbrev pub closes : ℕ → Bool
+closes status = status == 400 || status == 413 || status == 414 || status == 431 || status == 501
+
+-- a connection that may be kept stays behind this reply
+abbrev pub stays_behind : Bool → Reply → Bool
+stays_behind keep r = keep && not (closes r.status)
+
+-- the end of a head: a connection that doesn't stay says so (RFC 9112, section 9.6)
+abbrev pub head_end : Bool → List ℕ
+head_end true = codes "\r\n\r\n"
+head_end false = codes "\r\nConnection: close\r\n\r\n"
+
+-- the head of a response, behind which the connection stays or not
+abbrev pub reply_head : Bool → Reply → List ℕ
+reply_head stays r =
     codes "HTTP/1.1 " ++ (decimal r.status ++ (codes " " ++ (reason r.status ++ (codes "\r\nContent-Type: "
     ++ (media_type r.is_page ++ (codes "\r\n" ++ line_before r.own
-    (codes "Content-Length: " ++ (decimal (length r.body) ++ codes "\r\nConnection: close\r\n\r\n"))))))))
+    (codes "Content-Length: " ++ (decimal (length r.body) ++ head_end stays))))))))
 
 -- the response; to a HEAD request its head alone
-abbrev pub print_reply : Bool → Reply → List ℕ
-print_reply to_head r = reply_head r ++ (if to_head then [] else r.body)
+abbrev pub print_reply : Bool → Bool → Reply → List ℕ
+print_reply stays to_head r = reply_head stays r ++ (if to_head then [] else r.body)

@@ -1,5 +1,5 @@
 -- What a server asks of the service behind it.
-use Rattle.std.specs.Prelude.{◌≡◌, ◌⊎◌, ℕ, List, Option, Result, OnErr, ⊤}
+use Rattle.std.specs.Prelude.{◌≡◌, ◌⊎◌, ℕ, zero, suc, List, Option, Result, OnErr, ⊤}
 use Rattle.site_ids.specs.declared.Ticket.{Ticket}
 use Rattle.command.specs.Written.{HasLine}
 use Rattle.release.specs.Page.{Page}
@@ -29,6 +29,11 @@ pub record Submits {S : Type 0} (service : Offered S) (now : S) (ticket : Ticket
 abbrev pub MaySubmit : {S : Type 0} → Offered S → S → S → Type 0
 MaySubmit service now after =
     (after ≡ now) ⊎ ((ticket : Ticket) × (text : List ℕ) × (done : Outcome) × Submits service now ticket text done after)
+
+-- one after another, the service was given so many submissions at most
+abbrev pub MaySubmitMany : {S : Type 0} → Offered S → ℕ → S → S → Type 0
+MaySubmitMany service zero now after = after ≡ now
+MaySubmitMany {S} service (suc n) now after = (mid : S) × MaySubmitMany service n now mid × MaySubmit service mid after
 
 -- a command's fault that is told has a line
 abbrev pub IsTold : SubmitFault → Type 0

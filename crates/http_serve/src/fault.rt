@@ -3,7 +3,7 @@ use http_read::ReadFault;
 use std::alloc::AllocError;
 use thiserror::Error;
 
-/// Why a connection was given up.
+/// Why a connection was given up. The responses to its earlier requests were written whole; what is said below is of the next one.
 #[derive(Clone, Copy, Debug, Drop, PartialEq, Eq, Error)]
 pub enum ServeFault {
     /// Number 1: a call of the reader failed. Nothing was written.

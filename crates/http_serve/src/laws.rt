@@ -1,5 +1,5 @@
 //! Facts about the definitions, for their readers.
-ghost use Rattle.http_serve.specs.Laws.{NamesOne, ServesOne};
+ghost use Rattle.http_serve.specs.Laws.{NamesOne, AreConnection};
 
 use crate::service::Service;
 
@@ -8,7 +8,7 @@ pub fn paths_name_one_place()
     ensures { NamesOne }
 {}
 
-/// What is said of the exchanges before the last response of a connection says that there are none.
-pub fn connections_have_one_exchange<S: Service>(_service: &S)
-    ensures { ServesOne S.offered }
+/// Exchanges one after another, each of which but the last keeps the connection, are what `serve` says of the whole.
+pub fn exchanges_are_a_connection<S: Service>(_service: &S)
+    ensures { AreConnection S.offered }
 {}

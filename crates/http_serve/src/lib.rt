@@ -1,11 +1,12 @@
 //! Answers HTTP/1.1 requests from a service behind it (RFC 9112).
 //!
-//! `serve` reads one request of a connection, asks the service, and writes one response, whole, over any reader and any writer. `Service` is
-//! what it asks of the service: pages of releases, receipts, and taking submissions.
+//! `serve` reads the requests of a connection, asks the service, and writes their responses, whole, over any reader and any writer; `exchange`
+//! does so for one request. `Service` is what they ask of the service: pages of releases, receipts, and taking submissions.
 #![tactic(auto)]
 
 mod fault;
 mod laws;
+mod next;
 mod places;
 mod replies;
 mod responding;
@@ -14,7 +15,8 @@ mod serving;
 mod submission;
 
 pub use fault::ServeFault;
-pub use laws::{connections_have_one_exchange, paths_name_one_place};
+pub use laws::{exchanges_are_a_connection, paths_name_one_place};
+pub use next::Next;
 pub use service::Service;
-pub use serving::serve;
+pub use serving::{exchange, serve};
 pub use submission::{Submission, SubmitFault};

@@ -1,7 +1,7 @@
 //! The bytes of a response.
-ghost use Rattle.std.specs.Prelude.{◌≡◌, IfOk, string_bytes};
-ghost use Rattle.http_serve.specs.Shown.{reply_of};
-ghost use Rattle.http_serve.specs.Replies.{reply_head, print_reply, reason, media_type};
+ghost use Rattle.std.specs.Prelude.{◌≡◌, ◌&&◌, not, IfOk, string_bytes};
+ghost use Rattle.http_serve.specs.Shown.{reply_of, written_in, write_as};
+ghost use Rattle.http_serve.specs.Replies.{reply_head, reason, media_type, closes as is_closing, head_end};
 
 use percent_encoding::{AsciiSet, NON_ALPHANUMERIC, ascii_set, utf8_percent_encode};
 use std::alloc::{AllocError, Global};
@@ -34,6 +34,23 @@ pub(crate) struct Response {
     pub is_page: bool,
     pub own: OwnLine,
     pub body: Vec<u8>,
+}
+
+/// How a response is given.
+#[derive(Clone, Copy)]
+pub(crate) struct Manner {
+    /// Its head alone, as the method is HEAD.
+    pub to_head: bool,
+    /// The connection may be kept.
+    pub keep: bool,
+}
+
+/// A response as it is written.
+#[derive(Drop)]
+pub(crate) struct Message {
+    pub bytes: Vec<u8>,
+    /// Whether the connection stays behind it.
+    pub stays: bool,
 }
 
 /// The reason phrase of a status; a status without one has none.
@@ -70,45 +87,72 @@ fn media_of(is_page: bool) -> &'static str
     }
 }
 
+/// Whether a connection is closed behind a response of this status.
+fn closes(status: u16) -> bool
+    ensures { result ≡ is_closing status }
+{
+    status == 400 || status == 413 || status == 414 || status == 431 || status == 501
+}
+
+/// Whether a connection stays behind a response of this status.
+fn stays_behind(keep: bool, status: u16) -> bool
+    ensures { result ≡ (keep && not (is_closing status)) }
+{
+    keep && !closes(status)
+}
+
+/// The end of a head.
+fn end_of_head(stays: bool) -> &'static str
+    ensures { result.now ≡ head_end stays }
+{
+    if stays {
+        "\r\n\r\n"
+    } else {
+        "\r\nConnection: close\r\n\r\n"
+    }
+}
+
 /// The head of a response.
-fn head_of(alloc: Global, response: &Response) -> Result<String, AllocError>
-    ensures { IfOk result (λ text. string_bytes text ≡ reply_head (reply_of response.now)) }
+fn head_of(alloc: Global, stays: bool, response: &Response) -> Result<String, AllocError>
+    ensures { IfOk result (λ text. string_bytes text ≡ reply_head stays (reply_of response.now)) }
 {
     let status = response.status;
     let reason = reason_of(status);
     let media = media_of(response.is_page);
     let size = response.body.len();
+    let end = end_of_head(stays);
     match &response.own {
         OwnLine::Absent => {
             format!(in alloc;
-                "HTTP/1.1 {status} {reason}\r\nContent-Type: {media}\r\nContent-Length: {size}\r\nConnection: close\r\n\r\n"
+                "HTTP/1.1 {status} {reason}\r\nContent-Type: {media}\r\nContent-Length: {size}{end}"
             )
         }
         OwnLine::Location(path) => {
             let path = utf8_percent_encode(path.as_str(), ESCAPED);
             format!(in alloc;
-                "HTTP/1.1 {status} {reason}\r\nContent-Type: {media}\r\nLocation: {path}\r\nContent-Length: {size}\r\nConnection: close\r\n\r\n"
+                "HTTP/1.1 {status} {reason}\r\nContent-Type: {media}\r\nLocation: {path}\r\nContent-Length: {size}{end}"
             )
         }
         OwnLine::Allow(methods) => {
             format!(in alloc;
-                "HTTP/1.1 {status} {reason}\r\nContent-Type: {media}\r\nAllow: {methods}\r\nContent-Length: {size}\r\nConnection: close\r\n\r\n"
+                "HTTP/1.1 {status} {reason}\r\nContent-Type: {media}\r\nAllow: {methods}\r\nContent-Length: {size}{end}"
             )
         }
     }
 }
 
 /// The whole response; to a HEAD request its head alone.
-pub(crate) fn text_of(
+pub(crate) fn message_of(
     alloc: Global,
-    to_head: bool,
+    manner: Manner,
     response: &Response,
-) -> Result<Vec<u8>, AllocError>
-    ensures { IfOk result (λ text. text.items ≡ print_reply to_head (reply_of response.now)) }
+) -> Result<Message, AllocError>
+    ensures { IfOk result (λ message. written_in message ≡ write_as manner (reply_of response.now)) }
 {
-    let mut text = head_of(alloc, response)?.into_bytes();
-    if !to_head {
-        text.extend_from_slice(response.body.as_slice())?;
+    let stays = stays_behind(manner.keep, response.status);
+    let mut bytes = head_of(alloc, stays, response)?.into_bytes();
+    if !manner.to_head {
+        bytes.extend_from_slice(response.body.as_slice())?;
     }
-    Ok(text)
+    Ok(Message { bytes, stays })
 }

@@ -1,16 +1,16 @@
 //! The response to a request.
-ghost use Rattle.std.specs.Prelude.{◌≡◌, ◌⊎◌, IfOk, OnErr, Some, decimal, option_map, string_bytes, true, false};
+ghost use Rattle.std.specs.Prelude.{◌≡◌, ◌⊎◌, IfOk, OnErr, Some, decimal, option_map, string_bytes};
 ghost use Rattle.http_read.specs.Incoming.{request_of};
 ghost use Rattle.http_serve.specs.Connections.{IsResponse};
 ghost use Rattle.http_serve.specs.Paths.{submission};
 ghost use Rattle.http_serve.specs.Places.{place_shown};
-ghost use Rattle.http_serve.specs.Shown.{line_of as line_shown};
-ghost use Rattle.http_serve.specs.Replies.{Reply, print_reply};
+ghost use Rattle.http_serve.specs.Shown.{line_of as line_shown, written_in, write_as, closing};
+ghost use Rattle.http_serve.specs.Replies.{Reply, stays_behind};
 ghost use Rattle.http_serve.specs.Responses.{plain as plain_reply, refusal, wrong_method as wrong_reply, receipt_reply, moved_line as moved_reply, page_reply, asked_reply, outcome_reply, line, RepliesToPost, RefusesPost, Refuses};
 ghost use Rattle.http_serve.specs.Services.{Outcome, Submits};
 
 use crate::places::{Place, place_of};
-use crate::replies::{OwnLine, Response, text_of};
+use crate::replies::{Manner, Message, OwnLine, Response, message_of};
 use crate::service::Service;
 use crate::submission::{Submission, SubmitFault};
 use command::fault_line;
@@ -28,13 +28,13 @@ fn line_of(alloc: Global, text: &str) -> Result<Vec<u8>, AllocError>
 }
 
 /// A plain response.
-fn plain(alloc: Global, to_head: bool, status: u16, text: &str) -> Result<Vec<u8>, AllocError>
-    ensures { IfOk result (λ bytes. bytes.items ≡ print_reply to_head (plain_reply status text.now)) }
+fn plain(alloc: Global, manner: Manner, status: u16, text: &str) -> Result<Message, AllocError>
+    ensures { IfOk result (λ message. written_in message ≡ write_as manner (plain_reply status text.now)) }
 {
     let body = line_of(alloc, text)?;
-    text_of(
+    message_of(
         alloc,
-        to_head,
+        manner,
         &Response {
             status,
             is_page: false,
@@ -45,13 +45,13 @@ fn plain(alloc: Global, to_head: bool, status: u16, text: &str) -> Result<Vec<u8
 }
 
 /// The response where another method is wanted.
-fn wrong_method(alloc: Global, to_head: bool, methods: &'static str) -> Result<Vec<u8>, AllocError>
-    ensures { IfOk result (λ bytes. bytes.items ≡ print_reply to_head (wrong_reply methods.now)) }
+fn wrong_method(alloc: Global, manner: Manner, methods: &'static str) -> Result<Message, AllocError>
+    ensures { IfOk result (λ message. written_in message ≡ write_as manner (wrong_reply methods.now)) }
 {
     let body = line_of(alloc, "method not allowed")?;
-    text_of(
+    message_of(
         alloc,
-        to_head,
+        manner,
         &Response {
             status: 405,
             is_page: false,
@@ -61,9 +61,9 @@ fn wrong_method(alloc: Global, to_head: bool, methods: &'static str) -> Result<V
     )
 }
 
-/// The response to a request that was refused as it was read.
-pub(crate) fn refused(alloc: Global, to_head: bool, status: u16) -> Result<Vec<u8>, AllocError>
-    ensures { IfOk result (λ bytes. bytes.items ≡ print_reply to_head (refusal status)) }
+/// The response to a request that was refused as it was read, behind which no connection stays.
+pub(crate) fn refused(alloc: Global, to_head: bool, status: u16) -> Result<Message, AllocError>
+    ensures { IfOk result (λ message. written_in message ≡ write_as (closing to_head) (refusal status)) }
 {
     let text = match status {
         413 => "too large",
@@ -72,29 +72,33 @@ pub(crate) fn refused(alloc: Global, to_head: bool, status: u16) -> Result<Vec<u
         501 => "not implemented",
         _ => "bad request",
     };
-    plain(alloc, to_head, status, text)
+    let manner = Manner {
+        to_head,
+        keep: false,
+    };
+    plain(alloc, manner, status, text)
 }
 
 /// A number as a plain response.
-fn number(alloc: Global, to_head: bool, n: u64) -> Result<Vec<u8>, AllocError>
-    ensures { IfOk result (λ bytes. bytes.items ≡ print_reply to_head (plain_reply 200 (decimal n))) }
+fn number(alloc: Global, manner: Manner, n: u64) -> Result<Message, AllocError>
+    ensures { IfOk result (λ message. written_in message ≡ write_as manner (plain_reply 200 (decimal n))) }
 {
     let mut buffer = Buffer::new();
-    plain(alloc, to_head, 200, buffer.format(n))
+    plain(alloc, manner, 200, buffer.format(n))
 }
 
 /// The receipt of a ticket.
 fn receipt<S: Service>(
     alloc: Global,
-    to_head: bool,
+    manner: Manner,
     service: &S,
     ticket: Ticket,
-) -> Result<Vec<u8>, AllocError>
-    ensures { IfOk result (λ bytes. bytes.items ≡ print_reply to_head (receipt_reply (S.offered.receipt_is service.now ticket))) }
+) -> Result<Message, AllocError>
+    ensures { IfOk result (λ message. written_in message ≡ write_as manner (receipt_reply (S.offered.receipt_is service.now ticket))) }
 {
     match service.receipt(ticket) {
-        Some(instance) => number(alloc, to_head, instance.number() as u64),
-        None => plain(alloc, to_head, 404, "unknown"),
+        Some(instance) => number(alloc, manner, instance.number() as u64),
+        None => plain(alloc, manner, 404, "unknown"),
     }
 }
 
@@ -111,24 +115,26 @@ fn moved_line(location: Option<String>) -> OwnLine
 /// The page of a release.
 fn page<S: Service>(
     alloc: Global,
-    to_head: bool,
+    manner: Manner,
     service: &S,
     n: u64,
     path: &str,
-) -> Result<Vec<u8>, AllocError>
-    ensures { IfOk result (λ bytes. bytes.items ≡ print_reply to_head (page_reply (S.offered.page_is service.now n path.now))) }
+) -> Result<Message, AllocError>
+    ensures { IfOk result (λ message. written_in message ≡ write_as manner (page_reply (S.offered.page_is service.now n path.now))) }
 {
     match service.answer(alloc, n, path) {
-        Ok(Answer {
-            status,
-            body,
-            location,
-        }) => {
+        Ok(
+            Answer {
+                status,
+                body,
+                location,
+            },
+        ) => {
             let body = body.into_bytes();
             let own = moved_line(location);
-            text_of(
+            message_of(
                 alloc,
-                to_head,
+                manner,
                 &Response {
                     status,
                     is_page: status == 200,
@@ -137,7 +143,7 @@ fn page<S: Service>(
                 },
             )
         }
-        Err(AnswerFault::NoSuchRelease) => plain(alloc, to_head, 404, "no release"),
+        Err(AnswerFault::NoSuchRelease) => plain(alloc, manner, 404, "no release"),
         Err(AnswerFault::OutOfMemory) => Err(AllocError),
     }
 }
@@ -145,22 +151,22 @@ fn page<S: Service>(
 /// The response to GET, or to HEAD.
 fn shown<S: Service>(
     alloc: Global,
-    to_head: bool,
+    manner: Manner,
     service: &S,
     path: &str,
     place: Place<'_>,
-) -> Result<Vec<u8>, AllocError>
-    ensures { IfOk result (λ bytes. bytes.items ≡ print_reply to_head (asked_reply S.offered service.now path.now (place_shown place.entry))) }
+) -> Result<Message, AllocError>
+    ensures { IfOk result (λ message. written_in message ≡ write_as manner (asked_reply S.offered service.now path.now (place_shown place.entry))) }
 {
     match place {
-        Place::Submission(_) => wrong_method(alloc, to_head, "POST"),
-        Place::Receipt(ticket) => receipt(alloc, to_head, service, ticket),
-        Place::Newest => number(alloc, to_head, service.newest()),
-        Place::Release { n, rest } => page(alloc, to_head, service, n, rest),
-        Place::Unknown => plain(alloc, to_head, 404, "not found"),
+        Place::Submission(_) => wrong_method(alloc, manner, "POST"),
+        Place::Receipt(ticket) => receipt(alloc, manner, service, ticket),
+        Place::Newest => number(alloc, manner, service.newest()),
+        Place::Release { n, rest } => page(alloc, manner, service, n, rest),
+        Place::Unknown => plain(alloc, manner, 404, "not found"),
         Place::Page => match service.newest() {
-            0 => plain(alloc, to_head, 404, "no release"),
-            newest => page(alloc, to_head, service, newest, path),
+            0 => plain(alloc, manner, 404, "no release"),
+            newest => page(alloc, manner, service, newest, path),
         },
     }
 }
@@ -168,26 +174,27 @@ fn shown<S: Service>(
 /// Submits, and gives the response. Room for it is made before, but for a fault's line, which is made when nothing was taken.
 fn submitted<S: Service>(
     alloc: Global,
+    manner: Manner,
     service: &mut S,
     ticket: Ticket,
     text: &[u8],
-) -> Result<Vec<u8>, AllocError>
-    ensures answered { IfOk result (λ bytes. (done : Outcome) × (reply : Reply)
+) -> Result<Message, AllocError>
+    ensures answered { IfOk result (λ message. (done : Outcome) × (reply : Reply)
         × Submits S.offered service.old ticket text.now done service.new
-        × (outcome_reply done ≡ Some reply) × (bytes.items ≡ print_reply false reply)) }
+        × (outcome_reply done ≡ Some reply) × (written_in message ≡ write_as manner reply)) }
     ensures refused { OnErr result ((service.new ≡ service.old) ⊎ RefusesPost S.offered service.old text.now (submission ticket) service.new) }
 {
-    let queued = plain(alloc, false, 202, "queued")?;
-    let already = plain(alloc, false, 200, "already")?;
-    let busy = plain(alloc, false, 503, "busy")?;
-    let stopped = plain(alloc, false, 503, "stopped")?;
+    let queued = plain(alloc, manner, 202, "queued")?;
+    let already = plain(alloc, manner, 200, "already")?;
+    let busy = plain(alloc, manner, 503, "busy")?;
+    let stopped = plain(alloc, manner, 503, "stopped")?;
     match service.submit(alloc, ticket, text) {
         Ok(Submission::Queued) => Ok(queued),
         Ok(Submission::Already) => Ok(already),
         Err(SubmitFault::Busy) => Ok(busy),
         Err(SubmitFault::Stopped) => Ok(stopped),
         Err(SubmitFault::Command(fault)) => {
-            plain(alloc, false, 422, fault_line(alloc, &fault)?.as_str())
+            plain(alloc, manner, 422, fault_line(alloc, &fault)?.as_str())
         }
         Err(SubmitFault::OutOfMemory) => Err(AllocError),
     }
@@ -196,39 +203,68 @@ fn submitted<S: Service>(
 /// The response to POST.
 fn posted<S: Service>(
     alloc: Global,
+    manner: Manner,
     service: &mut S,
     body: &[u8],
     place: Place<'_>,
-) -> Result<Vec<u8>, AllocError>
-    ensures answered { IfOk result (λ bytes. (reply : Reply)
+) -> Result<Message, AllocError>
+    ensures answered { IfOk result (λ message. (reply : Reply)
         × RepliesToPost S.offered service.old body.now (place_shown place.entry) service.new reply
-        × (bytes.items ≡ print_reply false reply)) }
+        × (written_in message ≡ write_as manner reply)) }
     ensures refused { OnErr result ((service.new ≡ service.old) ⊎ RefusesPost S.offered service.old body.now (place_shown place.entry) service.new) }
 {
     match place {
-        Place::Submission(ticket) => submitted(alloc, service, ticket, body),
-        Place::Unknown => plain(alloc, false, 404, "not found"),
+        Place::Submission(ticket) => submitted(alloc, manner, service, ticket, body),
+        Place::Unknown => plain(alloc, manner, 404, "not found"),
         Place::Receipt(_) | Place::Newest | Place::Release { n: _, rest: _ } | Place::Page => {
-            wrong_method(alloc, false, "GET, HEAD")
+            wrong_method(alloc, manner, "GET, HEAD")
         }
     }
 }
 
-/// The response to a request.
+/// The response to a request, behind which the connection may be kept or not.
 pub(crate) fn respond<S: Service>(
     alloc: Global,
+    keep: bool,
     request: &Request,
     service: &mut S,
-) -> Result<Vec<u8>, AllocError>
-    ensures answered { IfOk result (λ bytes. (reply : Reply)
-        × IsResponse S.offered service.old (request_of request.now) service.new reply bytes.items) }
+) -> Result<Message, AllocError>
+    ensures answered { IfOk result (λ message. (reply : Reply) × (message.stays ≡ stays_behind keep reply)
+        × IsResponse S.offered service.old (request_of request.now) service.new reply message.stays message.bytes.items) }
     ensures refused { OnErr result ((service.new ≡ service.old) ⊎ Refuses S.offered service.old (request_of request.now) service.new) }
 {
     let path = request.path.as_str();
     let place = place_of(path);
     match request.method {
-        Method::Get => shown(alloc, false, service, path, place),
-        Method::Head => shown(alloc, true, service, path, place),
-        Method::Post => posted(alloc, service, request.body.as_slice(), place),
+        Method::Get => shown(
+            alloc,
+            Manner {
+                to_head: false,
+                keep,
+            },
+            service,
+            path,
+            place,
+        ),
+        Method::Head => shown(
+            alloc,
+            Manner {
+                to_head: true,
+                keep,
+            },
+            service,
+            path,
+            place,
+        ),
+        Method::Post => posted(
+            alloc,
+            Manner {
+                to_head: false,
+                keep,
+            },
+            service,
+            request.body.as_slice(),
+            place,
+        ),
     }
 }

@@ -1,30 +1,47 @@
 //! Serves one connection.
-ghost use Rattle.std.specs.Prelude.{◌≡◌, ◌⊎◌, ℕ, List, IfOk, IfSome, IsErrOf};
+ghost use Rattle.std.specs.Prelude.{◌≡◌, ◌⊎◌, ◌&&◌, ◌+◌, ◌<◌, ◌≤◌, ℕ, suc, nat_lt, true, List, None, IfOk, IfSome, IsErrOf};
 ghost use Rattle.std.specs.Io.KnownBytes.{Appends};
 ghost use Rattle.http_read.specs.Counted.{inside, failed, RoseByOne};
 ghost use Rattle.http_read.specs.Bytes.{end_of, IsSilent, HasFailed, IsSound};
 ghost use Rattle.http_read.specs.Input.{input_of, StopsAt};
-ghost use Rattle.http_read.specs.Requests.{Answers, stops};
-ghost use Rattle.http_serve.specs.Connections.{IsLast, MayRefuse, Serves};
-ghost use Rattle.http_serve.specs.Services.{MaySubmit};
+ghost use Rattle.http_read.specs.Requests.{Answers, IsCutShort, stops};
+ghost use Rattle.http_serve.specs.Connections.{MayRefuse, Serves};
+ghost use Rattle.http_serve.specs.Exchanges.{Exchanges, Finds};
+ghost use Rattle.http_serve.specs.Services.{MaySubmit, MaySubmitMany};
 
 use crate::fault::ServeFault;
+use crate::next::Next;
+use crate::replies::Message;
 use crate::responding::{refused, respond};
 use crate::service::Service;
 use http_read::{Counted, Inbox, Incoming, request, write_all};
 use std::alloc::Global;
 use std::io::{Read, Write};
 
-/// The response to the next request of a connection.
-fn next_response<R: Read, S: Service>(
+/// The most requests of a connection.
+const REQUESTS: u32 = 100;
+
+/// Whether a connection may be kept behind the request that comes behind so many.
+fn may_keep(keep: bool, answered: u32) -> bool
+    ensures { result ≡ (keep && nat_lt (answered + 1) 100) }
+{
+    keep && answered < REQUESTS - 1
+}
+
+/// The response to the next request of a connection, of which so many were answered; none where the client sent no more.
+fn next_message<R: Read, S: Service>(
     alloc: Global,
     reader: &mut Counted<R>,
     inbox: &mut Inbox,
     service: &mut S,
-) -> Result<Vec<u8>, ServeFault>
-    ensures response { IfOk result (λ bytes. IfSome (input_of inbox.old (R.remaining (inside reader.old))) (λ input. IsLast S.offered 1 service.old input service.new bytes.items)) }
+    answered: u32,
+) -> Result<Option<Message>, ServeFault>
+    ensures response { IfOk result (λ found. IfSome (input_of inbox.old (R.remaining (inside reader.old)))
+        (λ input. Finds S.offered (suc answered) service.old input (input_of inbox.new (R.remaining (inside reader.new))) service.new found)) }
+    ensures few { IfOk result (λ found. IfSome found (λ message. message.stays ≡ true → answered + 1 < 100)) }
+    ensures over { IfOk result (λ found. found ≡ None → service.new ≡ service.old) }
     ensures unread { IsErrOf result ServeFault.Read →
-        StopsAt (input_of inbox.old (R.remaining (inside reader.old))) (R.remaining (inside reader.new)) (λ taken. Answers taken stops) }
+        StopsAt (input_of inbox.old (R.remaining (inside reader.old))) (R.remaining (inside reader.new)) IsCutShort }
     ensures ended { IsErrOf result ServeFault.EndedEarly →
         IfSome (input_of inbox.old (R.remaining (inside reader.old))) (λ input. Answers input stops) }
     ensures unasked { (IsErrOf result ServeFault.Read ⊎ IsErrOf result ServeFault.EndedEarly) → service.new ≡ service.old }
@@ -36,14 +53,53 @@ fn next_response<R: Read, S: Service>(
     ensures quiet { ¬ (IsErrOf result ServeFault.Read) → failed reader.new ≡ failed reader.old }
 {
     match request(alloc, reader, inbox)? {
-        Incoming::Request(asked) => Ok(respond(alloc, &asked, service)?),
-        Incoming::Refused { status, head } => Ok(refused(alloc, head, status)?),
+        Incoming::Request(asked) => {
+            let keep = may_keep(asked.keep, answered);
+            Ok(Some(respond(alloc, keep, &asked, service)?))
+        }
+        Incoming::Refused { status, head } => { Ok(Some(refused(alloc, head, status)?)) }
+        Incoming::Ended => Ok(None),
     }
 }
 
-/// Reads one request, and writes its response.
+/// Reads the next request of a connection, of which so many were answered before, and writes its response.
 ///
-/// Nothing is read behind a request that was read whole. What a client sent behind it is lost: the connection is to be closed.
+/// The inbox is the connection's: what a client sent ahead waits there for the next call. A server that holds many connections calls this for
+/// whichever has bytes; `serve` is this, again and again. Behind anything but `Next::Stays` the connection is to be closed.
+pub fn exchange<R: Read, W: Write, S: Service>(
+    alloc: Global,
+    reader: &mut Counted<R>,
+    writer: &mut Counted<W>,
+    inbox: &mut Inbox,
+    service: &mut S,
+    answered: u32,
+) -> Result<Next, ServeFault>
+    ensures answered { IfSome (input_of inbox.old (R.remaining (inside reader.old))) (λ input. (text : List ℕ)
+        × Exchanges S.offered (suc answered) service.old input (input_of inbox.new (R.remaining (inside reader.new))) (R.remaining (inside reader.new)) service.new text result
+        × Appends (W.contents (inside writer.old)) (W.contents (inside writer.new)) text) }
+    ensures few { IfOk result (λ next. next ≡ Next.Stays → answered + 1 < 100) }
+    ensures taken { MaySubmit S.offered service.old service.new }
+    ensures unasked { (IsErrOf result ServeFault.Read ⊎ IsErrOf result ServeFault.EndedEarly) → service.new ≡ service.old }
+    ensures over { IfOk result (λ next. next ≡ Next.Ended → (service.new ≡ service.old) × IsSilent (end_of W.contents writer.old writer.new)) }
+    ensures silent { (IsErrOf result ServeFault.Read ⊎ IsErrOf result ServeFault.OutOfMemory ⊎ IsErrOf result ServeFault.EndedEarly) → IsSilent (end_of W.contents writer.old writer.new) }
+    ensures read_failed { IsErrOf result ServeFault.Read → HasFailed (end_of R.remaining reader.old reader.new) }
+    ensures read_sound { ¬ (IsErrOf result ServeFault.Read) → IsSound (end_of R.remaining reader.old reader.new) }
+    ensures write_failed { IsErrOf result ServeFault.Write → HasFailed (end_of W.contents writer.old writer.new) }
+    ensures write_sound { ¬ (IsErrOf result ServeFault.Write) → IsSound (end_of W.contents writer.old writer.new) }
+{
+    match next_message(alloc, reader, inbox, service, answered)? {
+        Some(message) => match write_all(writer, message.bytes.as_slice()) {
+            Ok(()) => Ok(Next::behind(message.stays)),
+            Err(_) => Err(ServeFault::Write),
+        },
+        None => Ok(Next::Ended),
+    }
+}
+
+/// Reads the requests of a connection, one after another, and writes their responses.
+///
+/// It ends behind a response that closes the connection, or where the client sends no more: `EndedEarly` where it sent nothing at all. At a fault
+/// the earlier responses stand whole. What a client sent behind the last request is lost: the connection is to be closed.
 pub fn serve<R: Read, W: Write, S: Service>(
     alloc: Global,
     reader: &mut Counted<R>,
@@ -52,17 +108,24 @@ pub fn serve<R: Read, W: Write, S: Service>(
 ) -> Result<(), ServeFault>
     ensures answered { IfSome (R.remaining (inside reader.old)) (λ input. (text : List ℕ) × Serves S.offered service.old input (R.remaining (inside reader.new)) service.new text result
         × Appends (W.contents (inside writer.old)) (W.contents (inside writer.new)) text) }
-    ensures taken { MaySubmit S.offered service.old service.new }
-    ensures silent { (IsErrOf result ServeFault.Read ⊎ IsErrOf result ServeFault.OutOfMemory ⊎ IsErrOf result ServeFault.EndedEarly) → IsSilent (end_of W.contents writer.old writer.new) }
+    ensures taken { (n : ℕ) × (n ≤ 100) × MaySubmitMany S.offered n service.old service.new }
     ensures read_failed { IsErrOf result ServeFault.Read → HasFailed (end_of R.remaining reader.old reader.new) }
     ensures read_sound { ¬ (IsErrOf result ServeFault.Read) → IsSound (end_of R.remaining reader.old reader.new) }
     ensures write_failed { IsErrOf result ServeFault.Write → HasFailed (end_of W.contents writer.old writer.new) }
     ensures write_sound { ¬ (IsErrOf result ServeFault.Write) → IsSound (end_of W.contents writer.old writer.new) }
 {
     let mut inbox = Inbox::new(alloc);
-    let text = next_response(alloc, reader, &mut inbox, service)?;
-    match write_all(writer, text.as_slice()) {
-        Ok(()) => Ok(()),
-        Err(_) => Err(ServeFault::Write),
+    let mut answered = 0;
+    loop {
+        match exchange(alloc, reader, writer, &mut inbox, service, answered)? {
+            Next::Stays => answered += 1,
+            Next::Closes => return Ok(()),
+            Next::Ended => {
+                if answered == 0 {
+                    return Err(ServeFault::EndedEarly);
+                }
+                return Ok(());
+            }
+        }
     }
 }

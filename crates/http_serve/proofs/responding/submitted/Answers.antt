@@ -1,9 +1,9 @@
-use Rattle.std.proofs.Common.{◌∙◌, ap, false, codes, refl, Ok, Err}
+use Rattle.std.proofs.Common.{◌∙◌, ap, codes, refl, Ok, Err}
 use Rattle.std.proofs.lemmas.Result.{IfOk-weaker}
 use Rattle.command.specs.Written.{line_of}
 use Rattle.http_serve.specs.declared.submission.Submission.TheVariants.{Queued, Already}
 use Rattle.http_serve.specs.declared.submission.SubmitFault.TheVariants.{Command, Busy, Stopped}
-use Rattle.http_serve.specs.Replies.{print_reply}
+use Rattle.http_serve.specs.Shown.{write_as}
 use Rattle.http_serve.specs.Responses.{plain}
 use Rattle.http_serve.proofs.responding.submitted.Goals as goal
 
@@ -36,6 +36,6 @@ returns-in-Err-Command-clause-answered g c =
       plain 422 (line_of c.in-Err-Command.fault),
       record { taken = outcome; stayed = c.in-Err-Command.ensures.refused },
       refl,
-      same ∙ ap (λ t. print_reply false (plain 422 t)) (c.as_str.ensures.value ∙ c.in_ok-fault_line-in-Err-Command.ensures),
+      same ∙ ap (λ t. write_as c.args.manner (plain 422 t)) (c.as_str.ensures.value ∙ c.in_ok-fault_line-in-Err-Command.ensures),
     ))
     c.plain-in-Err-Command.ensures
