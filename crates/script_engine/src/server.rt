@@ -78,7 +78,7 @@ impl Server {
         Ok(())
     }
 
-    /// Takes the connection that waits, and answers its request.
+    /// Takes the connection that waits, and answers its requests.
     fn answer(&mut self, alloc: Global) -> Result<(), ServerFault> {
         let (stream, _from) = self.listener.accept()?;
         limit_waiting(&stream)?;

@@ -1,8 +1,7 @@
 -- Failures of the device, over many rounds.
-use Rattle.std.proofs.Common.{◌≡◌, ◌⊎◌, ⊎_elim, ℕ, List, Result, Ok, Err, refl, sym, ap, ◌∙◌}
+use Rattle.std.proofs.Common.{◌≡◌, ⊎_elim, ℕ, zero, suc, Result, Ok, Err, ap, ◌∙◌}
 use Rattle.std.specs.Result.{IsErrAnd}
-use Rattle.durable.specs.declared.record.Record.{Record}
-use Rattle.http_serve.specs.Services.{MaySubmit}
+use Rattle.http_serve.specs.Services.{MaySubmit, MaySubmitMany}
 use Rattle.node.specs.declared.fault.NodeFault.{NodeFault}
 use Rattle.node.specs.declared.fault.NodeFault.TheVariants.{Device}
 use Rattle.node.specs.Standing.{CountsDevice}
@@ -11,7 +10,7 @@ use Rattle.site_serve.specs.declared.halt.Halt.{Halt}
 use Rattle.site_serve.specs.declared.halt.Halt.TheVariants.{Stopped, OutOfMemory}
 use Rattle.site_serve.specs.declared.served.Served.{Served}
 use Rattle.site_serve.specs.Halts.{of_node, CountsNone}
-use Rattle.site_serve.specs.Served.{offered}
+use Rattle.site_serve.specs.Served.{offered, MayAnswer}
 
 one_fault : {T : Type 0} (x y : NodeFault) → ◌≡◌ {A = Result T NodeFault} (Err x) (Err y) → x ≡ y
 one_fault x y e = cc
@@ -39,10 +38,18 @@ counts_on (Err y) why before mid now is same c running = c (λ e. running (ap Er
 pub none_failed : {T : Type 0} (x : T) (before now : ℕ) → CountsNone {T = T} (Ok x) before now → now ≡ before
 none_failed x before now c = c (fine x)
 
--- a connection leaves the record alone
-pub served_kept : {D : Type 0} (failed : D → ℕ) (old new : Served D) → MaySubmit offered old new → failed new.node.store.disk ≡ failed old.node.store.disk
-served_kept failed old new may =
+-- a request leaves the record alone
+request_kept : {D : Type 0} (failed : D → ℕ) (old new : Served D) → MaySubmit offered old new → failed new.node.store.disk ≡ failed old.node.store.disk
+request_kept failed old new may =
     ⊎_elim
     (λ (same : new ≡ old). ap (λ s. failed s.node.store.disk) same)
     (λ more. store_kept failed old.node.store new.node.store more.3.taken.record_is)
     may
+
+requests_kept : {D : Type 0} (failed : D → ℕ) (n : ℕ) (old new : Served D) → MaySubmitMany offered n old new → failed new.node.store.disk ≡ failed old.node.store.disk
+requests_kept failed zero old new same = ap (λ (s : Served _). failed s.node.store.disk) same
+requests_kept failed (suc n) old new (mid, earlier, one) = request_kept failed mid new one ∙ requests_kept failed n old mid earlier
+
+-- so does a connection
+pub served_kept : {D : Type 0} (failed : D → ℕ) (old new : Served D) → MayAnswer old new → failed new.node.store.disk ≡ failed old.node.store.disk
+served_kept failed old new (requests, few, taken) = requests_kept failed requests old new taken

@@ -1,10 +1,10 @@
 -- A server's rounds, one after another.
-use Rattle.std.proofs.Common.{◌≡◌, ◌⊎◌, inl, inr, ⊎_elim, ℕ, suc, ◌+◌, ◌*◌, ◌<◌, ◌≤◌, Some, None, List, [], ◌∷◌, ◌++◌, length, Result, Ok, Err, refl, sym, ap, subst, append-nil, ◌∙◌, arith, false}
+use Rattle.std.proofs.Common.{◌≡◌, ◌⊎◌, inl, inr, ⊎_elim, ℕ, zero, suc, ◌+◌, ◌*◌, ◌<◌, ◌≤◌, Some, None, List, [], ◌∷◌, ◌++◌, length, Result, Ok, Err, refl, sym, ap, subst, append-nil, ◌∙◌, arith, false}
 use Rattle.std.specs.Result.{IfErr}
 use Rattle.std.proofs.lemmas.List.{length-append}
 use Rattle.site_disk.specs.Model.{DiskState}
 use Rattle.command.specs.Written.{value_of}
-use Rattle.http_serve.specs.Services.{Outcome, MaySubmit}
+use Rattle.http_serve.specs.Services.{Outcome, MaySubmit, MaySubmitMany}
 use Rattle.http_serve.specs.declared.submission.Submission.TheVariants.{Queued, Already}
 use Rattle.http_serve.specs.declared.submission.SubmitFault.TheVariants.{Command, Busy, Stopped, OutOfMemory}
 use Rattle.durable.specs.Keeping.{Keeps}
@@ -23,8 +23,8 @@ use Rattle.site_drive.proofs.Counting.{rose_on}
 use Rattle.site_drive.specs.Links.{RoseBy}
 use Rattle.std.proofs.Math.Nat.{mul-le-mul_left}
 use Rattle.site_serve.specs.Halts.{of_node}
-use Rattle.site_serve.specs.Rounds.{MayServe, Serves, TakesRound, AreSteps, last_of, TakesSteps, TakesRounds, BreaksRound, BreaksRounds, BreaksWork}
-use Rattle.site_serve.specs.Served.{ComesTo, offered}
+use Rattle.site_serve.specs.Rounds.{MayTake, MayTakeMany, MayServe, Serves, TakesRound, AreSteps, last_of, TakesSteps, TakesRounds, BreaksRound, BreaksRounds, BreaksWork}
+use Rattle.site_serve.specs.Served.{ComesTo, offered, MayAnswer}
 use Rattle.site_serve.specs.declared.halt.Halt.{Halt}
 use Rattle.site_serve.specs.declared.halt.Halt.TheVariants as halt
 use Rattle.site_serve.specs.declared.served.Served.{Served}
@@ -58,9 +58,19 @@ submission_leaves n p s next v (Err Busy) h = alike s next h.node
 submission_leaves n p s next v (Err Stopped) h = alike s next h.node
 submission_leaves n p s next v (Err OutOfMemory) h = alike s next h
 
+request_leaves : (n p : ℕ) (s next : Node) → MayTake n p s next → Leaves s next
+request_leaves n p s next (inl same) = alike s next same
+request_leaves n p s next (inr one) = submission_leaves n p s next (value_of one.0 one.1) one.2 one.3
+
+requests_leave : (n p k : ℕ) (s next : Node) → MayTakeMany n p k s next → Leaves s next
+requests_leave n p zero s next same = alike s next same
+requests_leave n p (suc k) s next (mid, earlier, one) =
+    let a = requests_leave n p k s mid earlier in
+    let b = request_leaves n p mid next one in
+    (b.0 ∙ a.0, b.1 ∙ a.1, b.2 ∙ a.2)
+
 serving_leaves : (n p : ℕ) (s next : Node) → MayServe n p s next → Leaves s next
-serving_leaves n p s next (inl same) = alike s next same
-serving_leaves n p s next (inr one) = submission_leaves n p s next (value_of one.0 one.1) one.2 one.3
+serving_leaves n p s next (requests, few, taken) = requests_leave n p requests s next taken
 
 pub still_published : (n p : ℕ) (s next : Node) (fed : List (List ℕ)) → MayServe n p s next → IsKnownPrefix s fed → IsKnownPrefix next fed
 still_published n p s next fed serves h =
@@ -69,6 +79,17 @@ still_published n p s next fed serves h =
       begins = λ k v is. subst (λ f. f (suc k) ≡ Some v) (sym known) (h.begins k v is);
       gap = subst (λ f. f (suc (length fed)) ≡ None) (sym known) h.gap;
     }
+
+pub others_on : {D : Type 0} (old mid new : Running D) → KeepsOthers old mid → KeepsOthers mid new → KeepsOthers old new
+others_on old mid new first then = record { me = then.me ∙ first.me; cluster = then.cluster ∙ first.cluster; releases = then.releases ∙ first.releases }
+
+request_others : {D : Type 0} (old new : Served D) → MaySubmit offered old new → KeepsOthers old.node new.node
+request_others old new (inl same) = subst (λ (t : Served _). KeepsOthers old.node t.node) (sym same) (record { me = refl; cluster = refl; releases = refl })
+request_others old new (inr (ticket, text, done, one)) = one.taken.others
+
+many_others : {D : Type 0} (k : ℕ) (old new : Served D) → MaySubmitMany offered k old new → KeepsOthers old.node new.node
+many_others zero old new same = subst (λ (t : Served _). KeepsOthers old.node t.node) (sym same) (record { me = refl; cluster = refl; releases = refl })
+many_others (suc k) old new (mid, earlier, one) = others_on old.node mid.node new.node (many_others k old mid earlier) (request_others mid new one)
 
 module _ {D : Type 0} (stands_for : D → DiskState → Type 0) where
   still_on_disk : (old new : Running D) (s next : Node) → KeepsOthers old new → new.store ≡ old.store → Leaves s next → KeepsRecord stands_for old new s next
@@ -87,20 +108,40 @@ module _ {D : Type 0} (stands_for : D → DiskState → Type 0) where
     },
   )
 
-  -- from each node that the old value stands for, serving leads to one that the new value stands for
-  serves_on : (old new : Served D) → MaySubmit offered old new → (s : Node) → IsNodeOf old.node s
-      → (next : Node) × MayServe old.node.cluster old.node.me s next × IsNodeOf new.node next × KeepsRecord stands_for old.node new.node s next
-  serves_on old new (inl same) s stands =
-      subst (λ (t : Served D). (next : Node) × MayServe old.node.cluster old.node.me s next × IsNodeOf t.node next × KeepsRecord stands_for old.node t.node s next) (sym same)
+  -- from each node that the old value stands for, a request leads to one that the new value stands for
+  takes_on : (old new : Served D) → MaySubmit offered old new → (s : Node) → IsNodeOf old.node s
+      → (next : Node) × MayTake old.node.cluster old.node.me s next × IsNodeOf new.node next × KeepsRecord stands_for old.node new.node s next
+  takes_on old new (inl same) s stands =
+      subst (λ (t : Served D). (next : Node) × MayTake old.node.cluster old.node.me s next × IsNodeOf t.node next × KeepsRecord stands_for old.node t.node s next) (sym same)
       (s, inl refl, stands, λ d on. (d, on))
-  serves_on old new (inr (ticket, text, done, one)) s stands =
+  takes_on old new (inr (ticket, text, done, one)) s stands =
       let l = one.taken.leads s stands in
-      let serves : MayServe old.node.cluster old.node.me s l.0 = inr (ticket, text, done, l.1) in
-      (l.0, serves, l.2, still_on_disk old.node new.node s l.0 one.taken.others one.taken.record_is (serving_leaves old.node.cluster old.node.me s l.0 serves))
+      let takes : MayTake old.node.cluster old.node.me s l.0 = inr (ticket, text, done, l.1) in
+      (l.0, takes, l.2, still_on_disk old.node new.node s l.0 one.taken.others one.taken.record_is (request_leaves old.node.cluster old.node.me s l.0 takes))
 
-pub stays_others : {D : Type 0} (old new : Served D) → MaySubmit offered old new → KeepsOthers old.node new.node
-stays_others old new (inl same) = subst (λ (t : Served _). KeepsOthers old.node t.node) (sym same) (record { me = refl; cluster = refl; releases = refl })
-stays_others old new (inr (ticket, text, done, one)) = one.taken.others
+  -- so do many
+  takes_many_on : (k : ℕ) (old new : Served D) → MaySubmitMany offered k old new → (s : Node) → IsNodeOf old.node s
+      → (next : Node) × MayTakeMany old.node.cluster old.node.me k s next × IsNodeOf new.node next × KeepsRecord stands_for old.node new.node s next
+  takes_many_on zero old new same s stands =
+      subst (λ (t : Served D). (next : Node) × (next ≡ s) × IsNodeOf t.node next × KeepsRecord stands_for old.node t.node s next) (sym same)
+      (s, refl, stands, λ d on. (d, on))
+  takes_many_on (suc k) old new (mid, earlier, one) s stands =
+      let a = takes_many_on k old mid earlier s stands in
+      let b = takes_on mid new one a.0 a.2 in
+      let others = many_others k old mid earlier in
+      let takes : MayTake old.node.cluster old.node.me a.0 b.0 =
+      subst (λ p. MayTake old.node.cluster p a.0 b.0) others.me (subst (λ n. MayTake n mid.node.me a.0 b.0) others.cluster b.1) in
+      (b.0, (a.0, a.1, takes), b.2, λ d on. let e = a.3 d on in b.3 e.0 e.1)
+
+  -- and a connection
+  serves_on : (old new : Served D) → MayAnswer old new → (s : Node) → IsNodeOf old.node s
+      → (next : Node) × MayServe old.node.cluster old.node.me s next × IsNodeOf new.node next × KeepsRecord stands_for old.node new.node s next
+  serves_on old new (requests, few, taken) s stands =
+      let l = takes_many_on requests old new taken s stands in
+      (l.0, (requests, few, l.1), l.2, l.3)
+
+pub stays_others : {D : Type 0} (old new : Served D) → MayAnswer old new → KeepsOthers old.node new.node
+stays_others old new (requests, few, taken) = many_others requests old new taken
 
 -- ---- one round
 
@@ -144,9 +185,6 @@ whose_round old mid new first then = record {
 whose_kept : {D : Type 0} (old new : Running D) → KeepsOthers old new → StaysWhose old new
 whose_kept old new others = record { me = others.me; cluster = others.cluster; more = ([], others.releases ∙ sym (append-nil old.releases)) }
 
-pub others_on : {D : Type 0} (old mid new : Running D) → KeepsOthers old mid → KeepsOthers mid new → KeepsOthers old new
-others_on old mid new first then = record { me = then.me ∙ first.me; cluster = then.cluster ∙ first.cluster; releases = then.releases ∙ first.releases }
-
 module _ {D L : Type 0} (stands_for : D → DiskState → Type 0) (received : L → List (List ℕ) → Type 0) (given : L → List (ℕ × List ℕ) → Type 0) where
   abbrev Leads : Running D → Running D → L → L → (Scene → Scene → Type 0) → Type 0
   Leads old new before after How = LeadsTo stands_for received given old new before after How
@@ -155,7 +193,7 @@ module _ {D L : Type 0} (stands_for : D → DiskState → Type 0) (received : L 
   abbrev StaysLink : L → L → Type 0
   StaysLink before after = ((ds : List (List ℕ)) → received before ds → received after ds) × ((gs : List (ℕ × List ℕ)) → given before gs → given after gs)
 
-  serving_leads : (old new : Served D) (before after : L) → StaysLink before after → MaySubmit offered old new → Leads old.node new.node before after (Serves old.node.cluster old.node.me)
+  serving_leads : (old new : Served D) (before after : L) → StaysLink before after → MayAnswer old new → Leads old.node new.node before after (Serves old.node.cluster old.node.me)
   serving_leads old new before after link may = record {
     leads = λ x at.
         let l = serves_on stands_for old new may x.node at.node in (
@@ -175,7 +213,7 @@ module _ {D L : Type 0} (stands_for : D → DiskState → Type 0) (received : L 
   none_served code link n p = record { leads = λ x at. (x, no_steps (Serves n p) x, at, λ d on. (d, on)) }
 
   pub one_served_more : (old : Running D) (mid new : Served D) (before between after : L) → KeepsOthers old mid.node → (k : ℕ)
-      → Leads old mid.node before between (TakesSteps (Serves old.cluster old.me) k) → StaysLink between after → MaySubmit offered mid new
+      → Leads old mid.node before between (TakesSteps (Serves old.cluster old.me) k) → StaysLink between after → MayAnswer mid new
       → Leads old new.node before after (TakesSteps (Serves old.cluster old.me) (k + 1))
   one_served_more old mid new before between after others k earlier link may =
       leads_on stands_for received given old mid.node new.node before between after (TakesSteps (Serves old.cluster old.me) k) (Serves old.cluster old.me) (TakesSteps (Serves old.cluster old.me) (k + 1))
@@ -185,7 +223,7 @@ module _ {D L : Type 0} (stands_for : D → DiskState → Type 0) (received : L 
   -- a drive, and then at most one connection
   pub round_leads : (old mid new : Served D) (before between after : L) → StaysWhose old.node mid.node → (turns malformed : ℕ)
       → Leads old.node mid.node before between (Drives old.node.cluster old.node.me turns malformed mid.node.releases)
-      → StaysLink between after → MaySubmit offered mid new
+      → StaysLink between after → MayAnswer mid new
       → Leads old.node new.node before after (TakesRound old.node.cluster old.node.me turns new.node.releases)
   round_leads old mid new before between after whose turns malformed drives link may =
       let n = old.node.cluster in

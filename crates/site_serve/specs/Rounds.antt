@@ -1,5 +1,5 @@
 -- What a server's rounds do with its node, and with what its link has received and was given.
-use Rattle.std.specs.Prelude.{◌≡◌, ◌≢◌, ◌⊎◌, ℕ, ◌<◌, List, [], ◌∷◌, length, ⊤}
+use Rattle.std.specs.Prelude.{◌≡◌, ◌≢◌, ◌⊎◌, ℕ, zero, suc, ◌<◌, ◌≤◌, List, [], ◌∷◌, length, ⊤}
 use Rattle.site_ids.specs.declared.Ticket.{Ticket}
 use Rattle.command.specs.Written.{value_of}
 use Rattle.http_serve.specs.Services.{Outcome}
@@ -11,9 +11,18 @@ use Rattle.site_serve.specs.Served.{ComesTo}
 use Rattle.site_serve.specs.declared.halt.Halt.{Halt}
 use Rattle.site_serve.specs.declared.halt.Halt.TheVariants as halt
 
--- at most one connection is served at node p of n: nothing is done, or one submission, of a ticket and a text
+-- a request is answered at node p of n: nothing is done, or one submission, of a ticket and a text
+abbrev pub MayTake : ℕ → ℕ → Node → Node → Type 0
+MayTake n p s next = (next ≡ s) ⊎ ((ticket : Ticket) × (text : List ℕ) × (done : Outcome) × ComesTo n p s (value_of ticket text) done next)
+
+-- so many requests are, one after another
+abbrev pub MayTakeMany : ℕ → ℕ → ℕ → Node → Node → Type 0
+MayTakeMany n p zero s next = next ≡ s
+MayTakeMany n p (suc k) s next = (mid : Node) × MayTakeMany n p k s mid × MayTake n p mid next
+
+-- at most one connection is served at node p of n: a hundred requests at most
 abbrev pub MayServe : ℕ → ℕ → Node → Node → Type 0
-MayServe n p s next = (next ≡ s) ⊎ ((ticket : Ticket) × (text : List ℕ) × (done : Outcome) × ComesTo n p s (value_of ticket text) done next)
+MayServe n p s next = (requests : ℕ) × (requests ≤ 100) × MayTakeMany n p requests s next
 
 -- so the connection leads from scene to scene; it leaves the link alone
 pub record Serves (n p : ℕ) (before after : Scene) : Type 0 where

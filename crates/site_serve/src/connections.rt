@@ -1,15 +1,14 @@
-//! Connections of clients: how long their calls wait, and one request served.
+//! Connections of clients: how long their calls wait, and their requests, served one after another.
 
-ghost use Rattle.std.specs.Prelude.{◌≡◌, IfErr};
+ghost use Rattle.std.specs.Prelude.{◌≡◌, ◌<◌, ◌+◌, true, IfErr, IfOk};
 ghost use Rattle.http_serve.specs.Services.{MaySubmit};
-ghost use Rattle.site_serve.specs.Served.{offered};
+ghost use Rattle.site_serve.specs.Served.{offered, MayAnswer};
 
-use crate::client::{Client, Timed};
+use crate::client::{Client, Expected, Timed};
 use crate::halt::Halt;
-use crate::requests::serve_request;
 use crate::served::Served;
-use http_read::Counted;
-use http_serve::ServeFault;
+use http_read::{Counted, Inbox};
+use http_serve::{Next, ServeFault, exchange};
 use site_disk::Disk;
 use std::alloc::{AllocError, Global};
 use std::io::{self, Read, Write};
@@ -19,6 +18,9 @@ use std::time::{Duration, Instant};
 
 /// How many seconds a call of a connection may wait.
 const PATIENCE: u64 = 1;
+
+/// How many milliseconds a client has for the first byte of a further request. RFC 9112, section 9.5, permits to close an idle connection at any time.
+const IDLE: u64 = 50;
 
 /// How many reads of what a client still sends come before its connection is closed, each of at most 4,096 bytes.
 const LINGER: u8 = 16;
@@ -45,27 +47,41 @@ fn close(stream: TcpStream) {
     }
 }
 
-/// Serves one request that is read and answered so. That a call fails is passed over.
+/// How long the first read of the next request waits, where less than the others: behind a request, unless a part of the next one is there.
+fn first_wait(answered: u32, inbox: &Inbox) -> Option<Duration> {
+    if answered > 0 && inbox.held().is_empty() {
+        Some(Duration::from_millis(IDLE))
+    } else {
+        None
+    }
+}
+
+/// One request that is read and answered so: whether a further one may come. That a call fails is passed over.
 fn answer<D: Disk, R: Read, W: Write>(
     alloc: Global,
     reader: R,
     writer: W,
+    inbox: &mut Inbox,
     served: &mut Served<D>,
-) -> Result<(), AllocError>
+    answered: u32,
+) -> Result<bool, AllocError>
 where
     R: Drop,
     W: Drop,
-    ensures { MaySubmit offered served.old served.new }
+    ensures few { IfOk result (λ more. more ≡ true → answered + 1 < 100) }
+    ensures taken { MaySubmit offered served.old served.new }
 {
     let mut reader = Counted::new(reader);
     let mut writer = Counted::new(writer);
-    match serve_request(alloc, &mut reader, &mut writer, served) {
+    match exchange(alloc, &mut reader, &mut writer, inbox, served, answered) {
+        Ok(Next::Stays) => Ok(true),
         Err(ServeFault::OutOfMemory) => Err(AllocError),
-        Ok(()) | Err(ServeFault::Read | ServeFault::Write | ServeFault::EndedEarly) => Ok(()),
+        Ok(Next::Closes | Next::Ended)
+        | Err(ServeFault::Read | ServeFault::Write | ServeFault::EndedEarly) => Ok(false),
     }
 }
 
-/// Serves one request of a connection, and closes it. That the connection fails is passed over.
+/// Serves the requests of a connection, and closes it. That the connection fails is passed over.
 ///
 /// What the connection gives and takes is not said.
 pub fn answer_connection<D: Disk>(
@@ -73,9 +89,17 @@ pub fn answer_connection<D: Disk>(
     stream: TcpStream,
     served: &mut Served<D>,
 ) -> Result<(), AllocError>
-    ensures { MaySubmit offered served.old served.new }
+    ensures { MayAnswer served.old served.new }
 {
-    answer(alloc, &stream, &stream, served)?;
+    let mut inbox = Inbox::new(alloc);
+    let mut answered = 0;
+    let mut more = true;
+    while more {
+        let first = first_wait(answered, &inbox);
+        let reader = Expected::new(&stream, first, Duration::from_secs(PATIENCE));
+        more = answer(alloc, reader, &stream, &mut inbox, served, answered)?;
+        answered += 1;
+    }
     close(stream);
     Ok(())
 }
@@ -88,26 +112,33 @@ fn answer_within<D: Disk, C: Clock>(
     served: &mut Served<D>,
     millis: u64,
 ) -> Result<(), AllocError>
-    ensures { MaySubmit offered served.old served.new }
+    ensures { MayAnswer served.old served.new }
 {
     let Ok(now) = Instant::now(clock) else {
         return Ok(());
     };
-    let reader = Timed::new(clock, &stream, now, millis);
-    let writer = Timed::new(clock, &stream, now, millis);
-    answer(alloc, reader, writer, served)?;
+    let mut inbox = Inbox::new(alloc);
+    let mut answered = 0;
+    let mut more = true;
+    while more {
+        let first = first_wait(answered, &inbox);
+        let reader = Timed::new(clock, &stream, now, millis, first);
+        let writer = Timed::new(clock, &stream, now, millis, None);
+        more = answer(alloc, reader, writer, &mut inbox, served, answered)?;
+        answered += 1;
+    }
     close(stream);
     Ok(())
 }
 
-/// Serves one request of a client in a server's rounds.
+/// Serves a client in a server's rounds.
 pub(crate) fn serve_client<D: Disk, C: Clock>(
     clock: &C,
     alloc: Global,
     client: Client,
     served: &mut Served<D>,
 ) -> Result<(), Halt>
-    ensures taken { MaySubmit offered served.old served.new }
+    ensures taken { MayAnswer served.old served.new }
     ensures fault { IfErr result (λ why. why ≡ Halt.OutOfMemory) }
 {
     match client.budget {

@@ -27,7 +27,7 @@ mod watch;
 pub use connections::{answer_connection, limit_waiting};
 pub use engine::sited;
 pub use http_read::Counted;
-pub use requests::serve_request;
+pub use requests::serve_requests;
 pub use serve_options::ServeOptions;
 pub use served::Served;
 pub use sockets::datagrams;

@@ -1,13 +1,12 @@
 //! The rounds of a server that waits less: whatever has come is taken at once, and a tick comes where nothing became known for long.
 
 ghost use Rattle.std.specs.Prelude.{◌≡◌, ◌≢◌, ◌≤◌, ℕ, IfOk, IfErr, OnOk};
-ghost use Rattle.http_serve.specs.Services.{MaySubmit};
 ghost use Rattle.node.specs.Standing.{KeepsOthers};
 ghost use Rattle.site_drive.specs.Leading.{LeadsTo, StaysWhose};
 ghost use Rattle.site_serve.specs.Halts.{CountsNone, EndsRounds};
 ghost use Rattle.site_serve.specs.Patience.{TakesTurn, TakesTurns, TakesPatientRound, TakesPatientRounds, BreaksTurn, BreaksTurns, BreaksPatientRound, BreaksPatientRounds};
 ghost use Rattle.site_serve.specs.Rounds.{Serves, TakesSteps};
-ghost use Rattle.site_serve.specs.Served.{offered};
+ghost use Rattle.site_serve.specs.Served.{MayAnswer};
 
 use crate::connections::serve_client;
 use crate::halt::Halt;
@@ -78,7 +77,7 @@ fn serve_next<D: Disk, C: Clock>(
     served: &mut Served<D>,
     link: &mut PatientLink,
 ) -> Result<bool, Halt>
-    ensures taken { MaySubmit offered served.old served.new }
+    ensures taken { MayAnswer served.old served.new }
     ensures fault { IfErr result (λ why. why ≡ Halt.OutOfMemory) }
 {
     let Some(client) = link.client() else {

@@ -1,12 +1,11 @@
 //! Requests to a node.
 
-ghost use Rattle.std.specs.Prelude.{◌⊎◌, ℕ, List, IfSome, IsErrOf};
+ghost use Rattle.std.specs.Prelude.{ℕ, List, IfSome, IsErrOf};
 ghost use Rattle.std.specs.Io.KnownBytes.{Appends};
-ghost use Rattle.http_read.specs.Bytes.{end_of, IsSilent, HasFailed, IsSound};
+ghost use Rattle.http_read.specs.Bytes.{end_of, HasFailed, IsSound};
 ghost use Rattle.http_read.specs.Counted.{inside};
 ghost use Rattle.http_serve.specs.Connections.{Serves};
-ghost use Rattle.http_serve.specs.Services.{MaySubmit};
-ghost use Rattle.site_serve.specs.Served.{offered};
+ghost use Rattle.site_serve.specs.Served.{offered, MayAnswer};
 
 use crate::Served;
 use http_read::Counted;
@@ -15,10 +14,10 @@ use site_disk::Disk;
 use std::alloc::Global;
 use std::io::{Read, Write};
 
-/// Reads one request, and writes the node's response.
+/// Reads the requests of a connection, and writes the node's responses.
 ///
 /// This is `serve` of the node as a service.
-pub fn serve_request<D: Disk, R: Read, W: Write>(
+pub fn serve_requests<D: Disk, R: Read, W: Write>(
     alloc: Global,
     reader: &mut Counted<R>,
     writer: &mut Counted<W>,
@@ -26,8 +25,7 @@ pub fn serve_request<D: Disk, R: Read, W: Write>(
 ) -> Result<(), ServeFault>
     ensures answered { IfSome (R.remaining (inside reader.old)) (λ input. (text : List ℕ) × Serves offered served.old input (R.remaining (inside reader.new)) served.new text result
         × Appends (W.contents (inside writer.old)) (W.contents (inside writer.new)) text) }
-    ensures taken { MaySubmit offered served.old served.new }
-    ensures silent { (IsErrOf result ServeFault.Read ⊎ IsErrOf result ServeFault.OutOfMemory ⊎ IsErrOf result ServeFault.EndedEarly) → IsSilent (end_of W.contents writer.old writer.new) }
+    ensures taken { MayAnswer served.old served.new }
     ensures read_failed { IsErrOf result ServeFault.Read → HasFailed (end_of R.remaining reader.old reader.new) }
     ensures read_sound { ¬ (IsErrOf result ServeFault.Read) → IsSound (end_of R.remaining reader.old reader.new) }
     ensures write_failed { IsErrOf result ServeFault.Write → HasFailed (end_of W.contents writer.old writer.new) }

@@ -1,12 +1,11 @@
 //! The rounds of a server.
 
 ghost use Rattle.std.specs.Prelude.{◌≡◌, ◌≤◌, ◌+◌, ◌*◌, ℕ, IfErr, OnOk, OnErr};
-ghost use Rattle.http_serve.specs.Services.{MaySubmit};
 ghost use Rattle.site_drive.specs.Leading.{LeadsTo, StaysWhose};
 ghost use Rattle.site_drive.specs.Links.{RoseBy};
 ghost use Rattle.site_serve.specs.Halts.{CountsNone, EndsRounds};
 ghost use Rattle.site_serve.specs.Rounds.{TakesRound, TakesRounds, BreaksRound, BreaksRounds};
-ghost use Rattle.site_serve.specs.Served.{offered};
+ghost use Rattle.site_serve.specs.Served.{MayAnswer};
 
 use crate::connections::serve_client;
 use crate::halt::Halt;
@@ -33,7 +32,7 @@ fn serve_one<'c, D: Disk, C: Clock>(
     served: &mut Served<D>,
     watch: &mut Watch<'c, C>,
 ) -> Result<(), Halt>
-    ensures taken { MaySubmit offered served.old served.new }
+    ensures taken { MayAnswer served.old served.new }
     ensures link { watch.new.link ≡ watch.old.link }
     ensures fault { IfErr result (λ why. why ≡ Halt.OutOfMemory) }
 {

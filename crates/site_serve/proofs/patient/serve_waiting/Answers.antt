@@ -35,3 +35,7 @@ loop-more-preserved g c = record {
 
 pub returns-in_err-more-clause-counts : goal.returns-in_err-more-clause-counts
 returns-in_err-more-clause-counts g c = served_kept g.D.Disk.failed c.loop-more.served c.serve_next.new.served c.serve_next.ensures.taken ∙ c.loop-more.invariant.counts
+
+pub returns-in_err-more-clause-others : goal.returns-in_err-more-clause-others
+returns-in_err-more-clause-others g c =
+    others_on _ _ _ c.loop-more.invariant.others (stays_others c.loop-more.served c.serve_next.new.served c.serve_next.ensures.taken)

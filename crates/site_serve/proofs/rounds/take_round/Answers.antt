@@ -1,7 +1,7 @@
 use Rattle.std.proofs.Common.{◌∙◌}
 use Rattle.durable.proofs.Results.{on_ok}
 use Rattle.site_drive.proofs.Results.{err_gives}
-use Rattle.site_serve.proofs.ManyRounds.{round_leads, round_wanted, drive_broke, if_err_gives}
+use Rattle.site_serve.proofs.ManyRounds.{round_leads, round_wanted, drive_broke, if_err_gives, whose_round, stays_others}
 use Rattle.site_drive.proofs.Failing.{none_failed}
 use Rattle.site_serve.proofs.Failing.{drive_counts, served_kept}
 use Rattle.site_serve.proofs.rounds.take_round.Goals as goal
@@ -26,3 +26,7 @@ returns-in_err-drive-clause-counts g c = drive_counts c.from_residual.result c.i
 
 pub returns-clause-counts : goal.returns-clause-counts
 returns-clause-counts g c = λ _. served_kept g.D.Disk.failed (record { node = c.drive.new.node }) c.serve_one.new.served c.serve_one.ensures.taken ∙ none_failed _ _ _ c.in_ok-drive.ensures.counts
+
+pub returns-clause-whose : goal.returns-clause-whose
+returns-clause-whose g c =
+    whose_round _ _ _ c.drive.ensures.whose (stays_others (record { node = c.drive.new.node }) c.serve_one.new.served c.serve_one.ensures.taken)
