@@ -361,18 +361,31 @@ static ssize_t answer(void) {
 
 /* ---- requests */
 
-static const char *well_answered(void) {
-    static const char *const firsts[] = {"200 OK", "202 Accepted", "400 Bad Request", "404 Not Found", "405 Method Not Allowed", "413 Content Too Large", "414 URI Too Long", "422 Unprocessable Content", "431 Request Header Fields Too Large", "500 Internal Server Error", "501 Not Implemented", "503 Service Unavailable"};
-    if (!out_length) return 0;
-    if (strncmp(out, "HTTP/1.1 ", 9)) return "no status line";
+/* one whole response at this place, and nothing behind the last one; *at goes on behind it */
+static const char *well_answered_at(char **at) {
+    static const char *const firsts[] = {"200 OK", "202 Accepted", "301 Moved Permanently", "400 Bad Request", "404 Not Found", "405 Method Not Allowed", "413 Content Too Large", "414 URI Too Long", "422 Unprocessable Content", "431 Request Header Fields Too Large", "500 Internal Server Error", "501 Not Implemented", "503 Service Unavailable"};
+    static const char *const closing[] = {"400", "413", "414", "431", "501"};
+    char *const here = *at, *const end = out + out_length;
+    if (strncmp(here, "HTTP/1.1 ", 9)) return "no status line";
     size_t k = 0;
-    for (; k < sizeof firsts / sizeof *firsts; k++) { const size_t n = strlen(firsts[k]); if (!strncmp(out + 9, firsts[k], n) && !strncmp(out + 9 + n, "\r\n", 2)) break; }
+    for (; k < sizeof firsts / sizeof *firsts; k++) { const size_t n = strlen(firsts[k]); if (!strncmp(here + 9, firsts[k], n) && !strncmp(here + 9 + n, "\r\n", 2)) break; }
     if (k == sizeof firsts / sizeof *firsts) return "another status";
-    const char *body = memmem(out, out_length, "\r\n\r\n", 4), *said = strstr(out, "\r\nContent-Length: ");
-    if (!body || !said || said > body || !strstr(out, "\r\nConnection: close\r\n")) return "a head that is not whole";
-    const size_t rest = out_length - (body + 4 - out);
-    if (rest && rest != strtoul(said + 18, 0, 10)) return "a body of another length";
+    char *body = memmem(here, end - here, "\r\n\r\n", 4), *said = strstr(here, "\r\nContent-Length: "), *closes = strstr(here, "\r\nConnection: close\r\n");
+    if (!body || !said || said > body) return "a head that is not whole";
+    const int last = closes && closes < body + 2;
+    for (k = 0; k < sizeof closing / sizeof *closing; k++) if (!last && !strncmp(here + 9, closing[k], 3)) return "a connection that stays behind a refusal";
+    body += 4;
+    const size_t rest = end - body, size = strtoul(said + 18, 0, 10);
+    /* to HEAD there is no body */
+    *at = !rest || !strncmp(body, "HTTP/1.1 ", 9) ? body : rest < size ? 0 : body + size;
+    if (!*at || (last && *at < end)) return "a body of another length";
     return 0;
+}
+
+static const char *well_answered(void) {
+    const char *why = 0;
+    for (char *at = out; !why && at && at < out + out_length;) why = well_answered_at(&at);
+    return why;
 }
 
 static void some_body(void) {

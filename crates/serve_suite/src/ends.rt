@@ -121,13 +121,28 @@ pub(crate) const HTML: &str = "text/html";
 
 pub(crate) const PLAIN: &str = "text/plain";
 
-/// The bytes of the response, or of its head alone.
+/// Whether a connection is closed behind a response of this status.
+fn closes(status: &str) -> bool {
+    for number in ["400 ", "413 ", "414 ", "431 ", "501 "] {
+        if status.starts_with(number) {
+            return true;
+        }
+    }
+    false
+}
+
+/// The bytes of the response, or of its head alone, where the client lets its connection stay.
 pub(crate) fn response(alloc: Global, row: Row, to_head: bool) -> Result<String, AllocError> {
     let (status, media, own, body) = row;
     let size = body.len();
     let body = if to_head { "" } else { body };
+    let close = if closes(status) {
+        "Connection: close\r\n"
+    } else {
+        ""
+    };
     format!(in alloc;
-        "HTTP/1.1 {status}\r\nContent-Type: {media}; charset=utf-8\r\n{own}Content-Length: {size}\r\nConnection: close\r\n\r\n{body}"
+        "HTTP/1.1 {status}\r\nContent-Type: {media}; charset=utf-8\r\n{own}Content-Length: {size}\r\n{close}\r\n{body}"
     )
 }
 

@@ -1,5 +1,5 @@
 //! Requests served from a service in memory, as tables: each path with each method, submissions with each outcome, refusals; responses cut in
-//! every way, over readers and writers that fail; a connection with one growth refused.
+//! every way, over readers and writers that fail; several requests on a connection; a connection with one growth refused.
 #![tactic(auto)]
 
 #[cfg(test)]
@@ -14,6 +14,8 @@ mod paths;
 mod refusals;
 #[cfg(test)]
 mod rows;
+#[cfg(test)]
+mod several;
 #[cfg(test)]
 mod speed;
 #[cfg(test)]

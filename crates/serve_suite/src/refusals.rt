@@ -56,3 +56,29 @@ fn connections(rt: HostRuntime) -> Result<(), Fail> {
     assert_eq!(rt; desk.values.len(), 1);
     Ok(())
 }
+
+/// Two requests on a connection: at a refusal nothing was written, or the first response whole.
+#[test]
+fn two_requests(rt: HostRuntime) -> Result<(), Fail> {
+    let alloc = rt.alloc();
+    let mut desk = open_desk(alloc, "Hi\n", 1);
+    let request =
+        b"GET /h HTTP/1.1\r\nHost: a\r\n\r\nPOST /_submit/1/5 HTTP/1.1\r\nHost: a\r\nContent-Length: 8\r\n\r\nrelease\n";
+    let first =
+        b"HTTP/1.1 200 OK\r\nContent-Type: text/html; charset=utf-8\r\nContent-Length: 3\r\n\r\nHi\n".as_slice();
+    let mut run = served(alloc, &mut desk, whole(request));
+    if run.result == Err(ServeFault::OutOfMemory) {
+        let written = run.written.as_slice();
+        assert!(rt; written.is_empty() || written == first);
+        assert!(rt; desk.values.is_empty());
+        run = served(alloc, &mut desk, whole(request));
+    } else if run.result == Err(ServeFault::Write) {
+        // The writer's own growth was refused.
+        assert_eq!(rt; run.failed_writes, 1);
+        run = served(alloc, &mut desk, whole(request));
+    }
+    assert_eq!(rt; run.result, Ok(()));
+    assert!(rt; run.written.as_slice().starts_with(first));
+    assert_eq!(rt; desk.values.len(), 1);
+    Ok(())
+}

@@ -6,10 +6,13 @@ use std::process::Abort;
 use std::test::Fail;
 
 const PAGE: &str =
+    "HTTP/1.1 200 OK\r\nContent-Type: text/html; charset=utf-8\r\nContent-Length: 3\r\n\r\nHi\n";
+
+const LAST_PAGE: &str =
     "HTTP/1.1 200 OK\r\nContent-Type: text/html; charset=utf-8\r\nContent-Length: 3\r\nConnection: close\r\n\r\nHi\n";
 
 const PAGE_HEAD: &str =
-    "HTTP/1.1 200 OK\r\nContent-Type: text/html; charset=utf-8\r\nContent-Length: 3\r\nConnection: close\r\n\r\n";
+    "HTTP/1.1 200 OK\r\nContent-Type: text/html; charset=utf-8\r\nContent-Length: 3\r\n\r\n";
 
 const BAD: &str =
     "HTTP/1.1 400 Bad Request\r\nContent-Type: text/plain; charset=utf-8\r\nContent-Length: 12\r\nConnection: close\r\n\r\nbad request\n";
@@ -20,11 +23,11 @@ const BAD_HEAD: &str =
 const ROWS: [(&str, &str); 10] = [
     ("GET /%68?x HTTP/1.1\r\nHost: a\r\n\r\n", PAGE),
     ("HEAD /%68?x HTTP/1.1\r\nHost: a\r\n\r\n", PAGE_HEAD),
-    ("GET /h HTTP/1.0\r\n\r\n", PAGE),
-    // What follows a request is left.
+    ("GET /h HTTP/1.0\r\n\r\n", LAST_PAGE),
+    // What follows the last request is left.
     (
-        "GET /h HTTP/1.1\r\nHost: a\r\n\r\nGET /lost HTTP/1.1\r\n",
-        PAGE,
+        "GET /h HTTP/1.1\r\nHost: a\r\nConnection: close\r\n\r\nGET /lost HTTP/1.1\r\n",
+        LAST_PAGE,
     ),
     ("GET /%68?x HTTP/1.1\r\n\r\n", BAD),
     ("GET * HTTP/1.1\r\nHost: a\r\n\r\n", BAD),
@@ -32,11 +35,11 @@ const ROWS: [(&str, &str); 10] = [
     ("HEAD /h HTTP/1.1\r\nHost : a\r\n\r\n", BAD),
     (
         "POST /h HTTP/1.1\r\nHost: a\r\n\r\n",
-        "HTTP/1.1 405 Method Not Allowed\r\nContent-Type: text/plain; charset=utf-8\r\nAllow: GET, HEAD\r\nContent-Length: 19\r\nConnection: close\r\n\r\nmethod not allowed\n",
+        "HTTP/1.1 405 Method Not Allowed\r\nContent-Type: text/plain; charset=utf-8\r\nAllow: GET, HEAD\r\nContent-Length: 19\r\n\r\nmethod not allowed\n",
     ),
     (
         "HEAD /_submit/1/5 HTTP/1.1\r\nHost: a\r\n\r\n",
-        "HTTP/1.1 405 Method Not Allowed\r\nContent-Type: text/plain; charset=utf-8\r\nAllow: POST\r\nContent-Length: 19\r\nConnection: close\r\n\r\n",
+        "HTTP/1.1 405 Method Not Allowed\r\nContent-Type: text/plain; charset=utf-8\r\nAllow: POST\r\nContent-Length: 19\r\n\r\n",
     ),
 ];
 

@@ -17,6 +17,26 @@ fn check_times(rt: &impl Abort, alloc: Global, desk: &mut Desk<'_>, times: u32) 
     }
 }
 
+/// The same in connections of a hundred requests.
+fn check_kept(
+    rt: &impl Abort,
+    alloc: Global,
+    desk: &mut Desk<'_>,
+    connections: u32,
+) -> Result<(), AllocError> {
+    let size = desk.page.len();
+    let mut requests = Vec::new(alloc);
+    for _ in 0..100 {
+        requests.extend_from_slice(REQUEST)?;
+    }
+    for _ in 0..connections {
+        let run = served(alloc, desk, whole(requests.as_slice()));
+        assert_eq!(rt; run.result, Ok(()));
+        assert!(rt; run.written.len() / 100 > size);
+    }
+    Ok(())
+}
+
 /// A page of so many bytes.
 fn page_of(alloc: Global, size: u32) -> Result<String, AllocError> {
     let mut page = String::new(alloc);
@@ -61,4 +81,20 @@ fn few_pages_of_100_kb(rt: HostRuntime) -> Result<(), Fail> {
 #[test]
 fn many_pages_of_100_kb(rt: HostRuntime) -> Result<(), Fail> {
     check_page(&rt, rt.alloc(), 100_000, 600)
+}
+
+#[test]
+fn few_kept_connections(rt: HostRuntime) -> Result<(), Fail> {
+    let alloc = rt.alloc();
+    let page = page_of(alloc, 100)?;
+    let mut desk = open_desk(alloc, page.as_str(), 1);
+    Ok(check_kept(&rt, alloc, &mut desk, 1)?)
+}
+
+#[test]
+fn many_kept_connections(rt: HostRuntime) -> Result<(), Fail> {
+    let alloc = rt.alloc();
+    let page = page_of(alloc, 100)?;
+    let mut desk = open_desk(alloc, page.as_str(), 1);
+    Ok(check_kept(&rt, alloc, &mut desk, 201)?)
 }
