@@ -10,12 +10,12 @@ use Rattle.mustache_scan.specs.Reading.{reading_within}
 use Rattle.mustache_scan.specs.Standalone.{scanned}
 use Rattle.mustache_scan.specs.declared.fault.FaultKind.TheVariants as kind
 use Rattle.mustache_parse.specs.Tree.{tree_of}
-use Rattle.command.specs.Action.{template, partial, page_data, route, Action, put_template, put_data, put_route, remove, release, Order}
-use Rattle.command.specs.Rows.{template_row, partial_row, data_row, route_row, remove_row, row_of}
+use Rattle.command.specs.Action.{template, partial, page_data, route, redirect, Action, put_template, put_data, put_route, put_redirect, remove, release, Order}
+use Rattle.command.specs.Rows.{template_row, partial_row, data_row, route_row, redirect_row, remove_row, row_of}
 use Rattle.command.specs.Reading.{row_reading, value_reading}
 use Rattle.command.specs.Written.{value_of, line_of}
 use Rattle.command.specs.Effective.{effective, firsts}
-use Rattle.command.specs.Site.{template_at, partial_at, data_at, route_at}
+use Rattle.command.specs.Site.{template_at, partial_at, data_at, route_at, redirect_at}
 use Rattle.command.specs.Releases.{release_count, through}
 use Rattle.command.specs.declared.fault.CommandFault.TheVariants.{TooLong, Form, Name, Path, Template, Data}
 use lib.Utf8.{encode}
@@ -36,6 +36,18 @@ route_text = refl
 
 remove_text : row_of (codes "remove route /old\n") ≡ Some (remove_row route (codes "/old"))
 remove_text = refl
+
+redirect_text : row_of (codes "put redirect /old /new\n") ≡ Some (redirect_row (codes "/old") (codes "/new"))
+redirect_text = refl
+
+remove_redirect_text : row_of (codes "remove redirect /old\n") ≡ Some (remove_row redirect (codes "/old"))
+remove_redirect_text = refl
+
+more_after_redirect : row_of (codes "put redirect /old /new\n\n") ≡ None
+more_after_redirect = refl
+
+one_path_too_few : row_of (codes "put redirect /old\n") ≡ None
+one_path_too_few = refl
 
 empty_word : row_of (codes "remove data \n") ≡ Some (remove_row page_data [])
 empty_word = refl
@@ -71,6 +83,21 @@ own_path = refl
 
 release_path : row_reading (remove_row route (codes "/@1")) ≡ Err Path
 release_path = refl
+
+leads_to_a_page : row_reading (redirect_row (codes "/a") (codes "/b?c")) ≡ Ok (put_redirect (codes "/a") (codes "/b?c"))
+leads_to_a_page = refl
+
+leads_to_a_host : row_reading (redirect_row (codes "/a") (codes "//b")) ≡ Err Path
+leads_to_a_host = refl
+
+from_two_slashes : row_reading (redirect_row (codes "//a") (codes "/")) ≡ Ok (put_redirect (codes "//a") (codes "/"))
+from_two_slashes = refl
+
+leads_to_the_servers_own : row_reading (redirect_row (codes "/a") (codes "/_newest")) ≡ Err Path
+leads_to_the_servers_own = refl
+
+leads_elsewhere : row_reading (redirect_row (codes "/a") (codes "http://b/")) ≡ Err Path
+leads_elsewhere = refl
 
 name_before_text : row_reading (template_row (codes "t\t") (codes "{{#a}}{{/b}}")) ≡ Err Name
 name_before_text = refl
@@ -155,6 +182,15 @@ other_kind = refl
 
 routed : route_at (codes "/") story ≡ Some (codes "a", codes "a")
 routed = refl
+
+led : redirect_at (codes "/") story ≡ None
+led = refl
+
+led_on : redirect_at (codes "/o") (by 1 (put_redirect (codes "/o") (codes "/a")) ∷ by 2 (put_redirect (codes "/o") (codes "/b")) ∷ by 3 (remove route (codes "/o")) ∷ []) ≡ Some (codes "/b")
+led_on = refl
+
+led_no_more : redirect_at (codes "/o") (by 1 (put_redirect (codes "/o") (codes "/a")) ∷ by 2 (remove redirect (codes "/o")) ∷ []) ≡ None
+led_no_more = refl
 
 second_release : template_at (codes "a") (through story 2) ≡ Some (codes "new")
 second_release = refl

@@ -10,8 +10,8 @@ use Rattle.context.specs.declared.fault.DataFault.{DataFault}
 use Rattle.mustache_scan.specs.declared.fault.TemplateFault.{TemplateFault}
 use Rattle.mustache_parse.specs.Tree.{Tree, tree_of}
 use Rattle.command.specs.Action.{Action, put_template, put_partial, Order}
-use Rattle.command.specs.Rows.{Row, template_row, partial_row, data_row, route_row, remove_row, release_row, row_of}
-use Rattle.command.specs.Reading.{is_name, is_path, names_in, paths_in, put_text, put_whole, row_action, text_row, value_row, read_row, ticket_of, with_ticket}
+use Rattle.command.specs.Rows.{Row, template_row, partial_row, data_row, route_row, redirect_row, remove_row, release_row, row_of}
+use Rattle.command.specs.Reading.{is_name, names_in, has_paths, put_text, put_whole, row_action, text_row, value_row, read_row, ticket_of, with_ticket}
 use Rattle.command.specs.Faults.{IsRowOf, template_in, data_in, Applies, number}
 use Rattle.command.specs.Laws.{FaultIsLeast, CommandHasNone}
 use Rattle.command.specs.declared.fault.CommandFault.{CommandFault}
@@ -54,8 +54,8 @@ not_form v row h none = none row (of-text_row v row h.is)
 not_name : (v : List ℕ) (row : Row) → HasRow v row → list_all is_name (names_in row) ≡ true → ¬ Applies v Name
 not_name v row h names a = let same = same_row v row a.0 h a.1 in let bad : list_all is_name (names_in row) ≡ false = sym (ap (λ r. list_all is_name (names_in r)) same) ∙ a.2 in cc
 
-not_path : (v : List ℕ) (row : Row) → HasRow v row → list_all is_path (paths_in row) ≡ true → ¬ Applies v Path
-not_path v row h paths a = let same = same_row v row a.0 h a.1 in let bad : list_all is_path (paths_in row) ≡ false = sym (ap (λ r. list_all is_path (paths_in r)) same) ∙ a.2 in cc
+not_path : (v : List ℕ) (row : Row) → HasRow v row → has_paths row ≡ true → ¬ Applies v Path
+not_path v row h paths a = let same = same_row v row a.0 h a.1 in let bad : has_paths row ≡ false = sym (ap (λ r. has_paths r) same) ∙ a.2 in cc
 
 not_template : (v : List ℕ) (row : Row) (fault : TemplateFault) → HasRow v row → ((body : List ℕ) → template_in row ≡ Some body → tree_of body ≡ Err fault → ⊥) → ¬ Applies v (Template fault)
 not_template v row fault h never a = let same = same_row v row a.0 h a.2 in never a.1 (sym (ap template_in same) ∙ a.3) a.4
@@ -104,7 +104,7 @@ path_above v row h names (Template f) a = omega arith
 path_above v row h names (Data f) a = omega arith
 path_above v row h names OutOfMemory a = absurd a
 
-template_above : (v : List ℕ) (row : Row) → HasRow v row → list_all is_name (names_in row) ≡ true → list_all is_path (paths_in row) ≡ true
+template_above : (v : List ℕ) (row : Row) → HasRow v row → list_all is_name (names_in row) ≡ true → has_paths row ≡ true
     → (other : CommandFault) → Applies v other → 5 ≤ number other
 template_above v row h names paths TooLong a = absurd (not_long v row h a)
 template_above v row h names paths Form a = absurd (not_form v row h a)
@@ -114,7 +114,7 @@ template_above v row h names paths (Template f) a = omega arith
 template_above v row h names paths (Data f) a = omega arith
 template_above v row h names paths OutOfMemory a = absurd a
 
-data_above : (v : List ℕ) (row : Row) → HasRow v row → list_all is_name (names_in row) ≡ true → list_all is_path (paths_in row) ≡ true
+data_above : (v : List ℕ) (row : Row) → HasRow v row → list_all is_name (names_in row) ≡ true → has_paths row ≡ true
     → template_in row ≡ None → (other : CommandFault) → Applies v other → 6 ≤ number other
 data_above v row h names paths none TooLong a = absurd (not_long v row h a)
 data_above v row h names paths none Form a = absurd (not_form v row h a)
@@ -145,27 +145,28 @@ put_whole-ok name done (Err g) f e is = cc
 -- ---- a row with good names and paths
 
 template_least : (v : List ℕ) (row : Row) (body : List ℕ) (action : Action) (fault : CommandFault) → HasRow v row → list_all is_name (names_in row) ≡ true
-    → list_all is_path (paths_in row) ≡ true → template_in row ≡ Some body → put_text action (tree_of body) ≡ Err fault → IsLeast v fault
+    → has_paths row ≡ true → template_in row ≡ Some body → put_text action (tree_of body) ≡ Err fault → IsLeast v fault
 template_least v row body action fault h names paths text e =
     let p = put_text-err action (tree_of body) fault e in
     subst (IsLeast v) (sym p.2) ((row, body, of-text_row v row h.is, text, p.1), template_above v row h names paths)
 
 data_least : (v : List ℕ) (row : Row) (name body : List ℕ) (fault : CommandFault) → HasRow v row → list_all is_name (names_in row) ≡ true
-    → list_all is_path (paths_in row) ≡ true → template_in row ≡ None → data_in row ≡ Some body → put_whole name (data_reading body) ≡ Err fault → IsLeast v fault
+    → has_paths row ≡ true → template_in row ≡ None → data_in row ≡ Some body → put_whole name (data_reading body) ≡ Err fault → IsLeast v fault
 data_least v row name body fault h names paths none text e =
     let p = put_whole-err name (data_reading body) fault e in
     subst (IsLeast v) (sym p.2) ((row, body, of-text_row v row h.is, text, p.1), data_above v row h names paths none)
 
-action_least : (v : List ℕ) (row : Row) (fault : CommandFault) → HasRow v row → list_all is_name (names_in row) ≡ true → list_all is_path (paths_in row) ≡ true
+action_least : (v : List ℕ) (row : Row) (fault : CommandFault) → HasRow v row → list_all is_name (names_in row) ≡ true → has_paths row ≡ true
     → row_action row ≡ Err fault → IsLeast v fault
 action_least v (template_row name body) fault h names paths e = template_least v (template_row name body) body (put_template name body) fault h names paths refl e
 action_least v (partial_row name body) fault h names paths e = template_least v (partial_row name body) body (put_partial name body) fault h names paths refl e
 action_least v (data_row name body) fault h names paths e = data_least v (data_row name body) name body fault h names paths refl refl e
 action_least v (route_row path shows fills) fault h names paths e = cc
+action_least v (redirect_row path target) fault h names paths e = cc
 action_least v (remove_row kind name) fault h names paths e = cc
 action_least v release_row fault h names paths e = cc
 
-row_least : (names paths : Bool) (v : List ℕ) (row : Row) (fault : CommandFault) → HasRow v row → list_all is_name (names_in row) ≡ names → list_all is_path (paths_in row) ≡ paths
+row_least : (names paths : Bool) (v : List ℕ) (row : Row) (fault : CommandFault) → HasRow v row → list_all is_name (names_in row) ≡ names → has_paths row ≡ paths
     → cond {A = Result Action CommandFault} names (cond {A = Result Action CommandFault} paths (row_action row) (Err Path)) (Err Name) ≡ Err fault → IsLeast v fault
 row_least true true v row fault h n p e = action_least v row fault h n p e
 row_least true false v row fault h n p e = let is : Path ≡ fault = cc in subst (IsLeast v) is ((row, of-text_row v row h.is, p), path_above v row h n)
@@ -179,7 +180,7 @@ no_row v none row h = let there = text_row-of v row h in cc
 short_least : (o : Option Row) (v : List ℕ) (fault : CommandFault) → length v ≤ MAX_VALUE → text_row v ≡ o → read_row (ok_or o Form) ≡ Err fault → IsLeast v fault
 short_least None v fault short is e = let same : Form ≡ fault = cc in subst (IsLeast v) same (no_row v is, form_above v short)
 short_least (Some row) v fault short is e =
-    row_least (list_all is_name (names_in row)) (list_all is_path (paths_in row)) v row fault (record { short = short; is = is }) refl refl e
+    row_least (list_all is_name (names_in row)) (has_paths row) v row fault (record { short = short; is = is }) refl refl e
 
 value_least : (b : Bool) (v : List ℕ) (fault : CommandFault) → leb (length v) MAX_VALUE ≡ b → read_row (cond {A = Result Row CommandFault} b (ok_or (text_row v) Form) (Err TooLong)) ≡ Err fault → IsLeast v fault
 value_least true v fault is e = short_least (text_row v) v fault (leb-true (length v) MAX_VALUE is) refl e
@@ -199,6 +200,7 @@ action_none (template_row name x) done e fault body is bad = let same : x ≡ bo
 action_none (partial_row name x) done e fault body is bad = let same : x ≡ body = cc in put_text-ok (put_partial name x) done (tree_of x) fault e (ap tree_of same ∙ bad)
 action_none (data_row name x) done e fault body is bad = cc
 action_none (route_row path shows fills) done e fault body is bad = cc
+action_none (redirect_row path target) done e fault body is bad = cc
 action_none (remove_row kind name) done e fault body is bad = cc
 action_none release_row done e fault body is bad = cc
 
@@ -207,10 +209,11 @@ data_none (template_row name x) done e fault body is bad = cc
 data_none (partial_row name x) done e fault body is bad = cc
 data_none (data_row name x) done e fault body is bad = let same : x ≡ body = cc in put_whole-ok name done (data_reading x) fault e (ap data_reading same ∙ bad)
 data_none (route_row path shows fills) done e fault body is bad = cc
+data_none (redirect_row path target) done e fault body is bad = cc
 data_none (remove_row kind name) done e fault body is bad = cc
 data_none release_row done e fault body is bad = cc
 
-done_none : (v : List ℕ) (row : Row) (done : Action) → HasRow v row → list_all is_name (names_in row) ≡ true → list_all is_path (paths_in row) ≡ true → row_action row ≡ Ok done
+done_none : (v : List ℕ) (row : Row) (done : Action) → HasRow v row → list_all is_name (names_in row) ≡ true → has_paths row ≡ true → row_action row ≡ Ok done
     → (fault : CommandFault) → ¬ Applies v fault
 done_none v row done h names paths e TooLong = not_long v row h
 done_none v row done h names paths e Form = not_form v row h
@@ -220,7 +223,7 @@ done_none v row done h names paths e (Template f) = not_template v row f h (acti
 done_none v row done h names paths e (Data f) = not_data v row f h (data_none row done e f)
 done_none v row done h names paths e OutOfMemory = λ a. a
 
-row_none : (names paths : Bool) (v : List ℕ) (row : Row) (done : Action) → HasRow v row → list_all is_name (names_in row) ≡ names → list_all is_path (paths_in row) ≡ paths
+row_none : (names paths : Bool) (v : List ℕ) (row : Row) (done : Action) → HasRow v row → list_all is_name (names_in row) ≡ names → has_paths row ≡ paths
     → cond {A = Result Action CommandFault} names (cond {A = Result Action CommandFault} paths (row_action row) (Err Path)) (Err Name) ≡ Ok done → (fault : CommandFault) → ¬ Applies v fault
 row_none true true v row done h n p e = done_none v row done h n p e
 row_none true false v row done h n p e = cc
@@ -229,7 +232,7 @@ row_none false paths v row done h n p e = cc
 short_none : (o : Option Row) (v : List ℕ) (done : Action) → length v ≤ MAX_VALUE → text_row v ≡ o → read_row (ok_or o Form) ≡ Ok done → (fault : CommandFault) → ¬ Applies v fault
 short_none None v done short is e = cc
 short_none (Some row) v done short is e =
-    row_none (list_all is_name (names_in row)) (list_all is_path (paths_in row)) v row done (record { short = short; is = is }) refl refl e
+    row_none (list_all is_name (names_in row)) (has_paths row) v row done (record { short = short; is = is }) refl refl e
 
 value_none : (b : Bool) (v : List ℕ) (done : Action) → leb (length v) MAX_VALUE ≡ b → read_row (cond {A = Result Row CommandFault} b (ok_or (text_row v) Form) (Err TooLong)) ≡ Ok done
     → (fault : CommandFault) → ¬ Applies v fault

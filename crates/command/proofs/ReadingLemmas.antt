@@ -8,9 +8,9 @@ use Rattle.std.specs.Str.{IsUtf8, is_utf8}
 use Rattle.site_ids.specs.declared.TheConstants.{MAX_VALUE}
 use Rattle.context.specs.Whole.{Whole, data_reading}
 use Rattle.mustache_parse.specs.Tree.{Tree, tree_of}
-use Rattle.command.specs.Action.{Kind, template, partial, page_data, route, put_template, put_partial, put_data, put_route, remove}
-use Rattle.command.specs.Rows.{Row, template_row, partial_row, data_row, route_row, remove_row, row_of}
-use Rattle.command.specs.Reading.{is_name, is_path, is_removable, wrong_remove, row_reading, text_row, text_reading, ticket_of, value_row, with_ticket, value_reading}
+use Rattle.command.specs.Action.{Kind, template, partial, page_data, route, redirect, put_template, put_partial, put_data, put_route, put_redirect, remove}
+use Rattle.command.specs.Rows.{Row, template_row, partial_row, data_row, route_row, redirect_row, remove_row, row_of}
+use Rattle.command.specs.Reading.{is_name, is_path, is_target, is_removable, wrong_remove, row_reading, text_row, text_reading, ticket_of, value_row, with_ticket, value_reading}
 use Rattle.command.specs.declared.fault.CommandFault.TheVariants.{Form}
 
 pub template_reads : (n x : List ℕ) (tree : Tree) → is_name n ≡ true → tree_of x ≡ Ok tree → row_reading (template_row n x) ≡ Ok (put_template n x)
@@ -25,17 +25,22 @@ data_reads n x w named read = rw (named, read)
 pub route_reads : (path shows fills : List ℕ) → is_path path ≡ true → is_name shows ≡ true → is_name fills ≡ true → row_reading (route_row path shows fills) ≡ Ok (put_route path shows fills)
 route_reads path shows fills p s f = rw (s, f, p)
 
+pub redirect_reads : (path target : List ℕ) → is_path path ≡ true → is_target target ≡ true → row_reading (redirect_row path target) ≡ Ok (put_redirect path target)
+redirect_reads path target p t = rw (p, t)
+
 pub remove_reads : (kind : Kind) (n : List ℕ) → is_removable kind n ≡ true → row_reading (remove_row kind n) ≡ Ok (remove kind n)
 remove_reads template n h = rw h
 remove_reads partial n h = rw h
 remove_reads page_data n h = rw h
 remove_reads route n h = rw h
+remove_reads redirect n h = rw h
 
 pub remove_fails : (kind : Kind) (n : List ℕ) → is_removable kind n ≡ false → row_reading (remove_row kind n) ≡ Err (wrong_remove kind)
 remove_fails template n h = rw h
 remove_fails partial n h = rw h
 remove_fails page_data n h = rw h
 remove_fails route n h = rw h
+remove_fails redirect n h = rw h
 
 -- ---- values, from their texts
 

@@ -3,9 +3,9 @@ use Rattle.std.proofs.Common.{◌≡◌, ℕ, zero, suc, ◌<◌, List, [], ◌�
 use Rattle.std.proofs.lemmas.Option.{option_and_then_some}
 use Rattle.std.proofs.lemmas.Slice.Eq.{bytes_eq-Decides}
 use Rattle.context.specs.Whole.{Whole}
-use Rattle.command.specs.Action.{Kind, template, partial, page_data, route, Action, put_template, put_partial, put_data, put_route, remove, release, Order}
-use Rattle.command.specs.Site.{is_about, is_put, first_or, last_about, if_put, standing, IsStanding, if_template, if_partial, if_data, if_route}
-use Rattle.command.specs.Laws.{StandingIsLast, TemplateIsLast, PartialIsLast, DataIsLast, RouteIsLast}
+use Rattle.command.specs.Action.{Kind, template, partial, page_data, route, redirect, Action, put_template, put_partial, put_data, put_route, put_redirect, remove, release, Order}
+use Rattle.command.specs.Site.{is_about, is_put, first_or, last_about, if_put, standing, IsStanding, if_template, if_partial, if_data, if_route, if_redirect}
+use Rattle.command.specs.Laws.{StandingIsLast, TemplateIsLast, PartialIsLast, DataIsLast, RouteIsLast, RedirectIsLast}
 
 -- nothing in the orders is about that kind and name
 abbrev Untouched : Kind → List ℕ → List Order → Type 0
@@ -132,6 +132,7 @@ template_from name body orders (put_template n x) h e =
 template_from name body orders (put_partial n x) h e = cc
 template_from name body orders (put_data n w) h e = cc
 template_from name body orders (put_route p s f) h e = cc
+template_from name body orders (put_redirect p t) h e = cc
 template_from name body orders (remove k n) h e = cc
 template_from name body orders release h e = cc
 
@@ -149,6 +150,7 @@ partial_from name body orders (put_partial n x) h e =
 partial_from name body orders (put_template n x) h e = cc
 partial_from name body orders (put_data n w) h e = cc
 partial_from name body orders (put_route p s f) h e = cc
+partial_from name body orders (put_redirect p t) h e = cc
 partial_from name body orders (remove k n) h e = cc
 partial_from name body orders release h e = cc
 
@@ -166,6 +168,7 @@ data_from name whole orders (put_data n w) h e =
 data_from name whole orders (put_template n x) h e = cc
 data_from name whole orders (put_partial n x) h e = cc
 data_from name whole orders (put_route p s f) h e = cc
+data_from name whole orders (put_redirect p t) h e = cc
 data_from name whole orders (remove k n) h e = cc
 data_from name whole orders release h e = cc
 
@@ -186,6 +189,7 @@ route_from path shows fills orders (put_route p s f) h e =
 route_from path shows fills orders (put_template n x) h e = cc
 route_from path shows fills orders (put_partial n x) h e = cc
 route_from path shows fills orders (put_data n w) h e = cc
+route_from path shows fills orders (put_redirect p t) h e = cc
 route_from path shows fills orders (remove k n) h e = cc
 route_from path shows fills orders release h e = cc
 
@@ -193,4 +197,22 @@ pub route_is_last : RouteIsLast
 route_is_last path shows fills orders = (
   λ e. option_and_then_some if_route (standing route path orders) (shows, fills) e (λ a found is. route_from path shows fills orders a (from_standing route path orders a found) is),
   λ h. ap (option_and_then if_route) (to_standing route path orders (put_route path shows fills) h),
+)
+
+redirect_from : (path target : List ℕ) (orders : List Order) (a : Action) → IsStanding redirect path orders a → if_redirect a ≡ Some target → IsStanding redirect path orders (put_redirect path target)
+redirect_from path target orders (put_redirect p t) h e =
+    let same : t ≡ target = cc in
+    let named = same_name p path h.touched in
+    subst (λ q. IsStanding redirect path orders (put_redirect q target)) named (subst (λ x. IsStanding redirect path orders (put_redirect p x)) same h)
+redirect_from path target orders (put_template n x) h e = cc
+redirect_from path target orders (put_partial n x) h e = cc
+redirect_from path target orders (put_data n w) h e = cc
+redirect_from path target orders (put_route p s f) h e = cc
+redirect_from path target orders (remove k n) h e = cc
+redirect_from path target orders release h e = cc
+
+pub redirect_is_last : RedirectIsLast
+redirect_is_last path target orders = (
+  λ e. option_and_then_some if_redirect (standing redirect path orders) target e (λ a found is. redirect_from path target orders a (from_standing redirect path orders a found) is),
+  λ h. ap (option_and_then if_redirect) (to_standing redirect path orders (put_redirect path target) h),
 )

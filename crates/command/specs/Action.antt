@@ -8,6 +8,7 @@ pub data Kind : Type 0 where
   partial : Kind
   page_data : Kind
   route : Kind
+  redirect : Kind
 
 pub data Action : Type 0 where
   put_template : (name body : List ℕ) → Action
@@ -15,7 +16,9 @@ pub data Action : Type 0 where
   put_data : List ℕ → Whole → Action
   -- a path, and the names of its template and its data
   put_route : (path shows fills : List ℕ) → Action
-  -- a kind and its name; of a route its path
+  -- a path, and the path that it leads to
+  put_redirect : (path target : List ℕ) → Action
+  -- a kind and its name; of a route or a redirect its path
   remove : Kind → List ℕ → Action
   release : Action
 

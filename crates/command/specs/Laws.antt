@@ -1,15 +1,15 @@
 -- What holds of these definitions, whatever the values.
-use Rattle.std.specs.Prelude.{ℕ, suc, ◌≡◌, ◌<◌, ◌≤◌, ◌^◌, ◌↔◌, List, ◌++◌, drop, Some, Ok, Err}
+use Rattle.std.specs.Prelude.{ℕ, suc, ◌≡◌, ◌<◌, ◌≤◌, ◌^◌, ◌↔◌, List, ◌++◌, drop, None, Some, Ok, Err, ⊤}
 use Rattle.site_ids.specs.declared.TheConstants.{TICKET_BYTES}
 use Rattle.context.specs.Whole.{Whole}
 use Rattle.site_ids.specs.declared.Ticket.{Ticket}
-use Rattle.command.specs.Action.{Kind, template, partial, page_data, route, Action, put_template, put_partial, put_data, put_route, Order}
-use Rattle.command.specs.Rows.{Row, row_of, spelled, HasWords}
+use Rattle.command.specs.Action.{Kind, template, partial, page_data, route, redirect, Action, put_template, put_partial, put_data, put_route, put_redirect, Order}
+use Rattle.command.specs.Rows.{Row, redirect_row, remove_row, row_of, older_row_of, spelled, HasWords}
 use Rattle.command.specs.Reading.{ticket_of, value_reading}
 use Rattle.command.specs.Faults.{Applies, number}
 use Rattle.command.specs.Written.{value_of}
 use Rattle.command.specs.Effective.{effective}
-use Rattle.command.specs.Site.{standing, IsStanding, template_at, partial_at, data_at, route_at}
+use Rattle.command.specs.Site.{standing, IsStanding, template_at, partial_at, data_at, route_at, redirect_at}
 use Rattle.command.specs.Releases.{release_count, through, IsShortest}
 use Rattle.command.specs.declared.fault.CommandFault.{CommandFault}
 
@@ -18,6 +18,20 @@ use Rattle.command.specs.declared.fault.CommandFault.{CommandFault}
 -- a text has a row exactly where it spells it, so one at most
 abbrev pub RowIsSpelled : Type 0
 RowIsSpelled = (text : List ℕ) (row : Row) → (row_of text ≡ Some row) ↔ (HasWords row × (text ≡ spelled row))
+
+-- a text that had a row before there were redirects has it still
+abbrev pub OlderRowStays : Type 0
+OlderRowStays = (text : List ℕ) (row : Row) → older_row_of text ≡ Some row → row_of text ≡ Some row
+
+-- the row is of a redirect that is put or removed
+abbrev pub IsOfRedirect : Row → Type 0
+IsOfRedirect (redirect_row path target) = ⊤
+IsOfRedirect (remove_row redirect path) = ⊤
+IsOfRedirect _ = ⊥
+
+-- and one that had none has one only of a redirect
+abbrev pub NewRowIsOfRedirect : Type 0
+NewRowIsOfRedirect = (text : List ℕ) (row : Row) → older_row_of text ≡ None → row_of text ≡ Some row → IsOfRedirect row
 
 -- the fault of a value applies to it, and no other that does is less
 abbrev pub FaultIsLeast : Type 0
@@ -52,6 +66,10 @@ DataIsLast = (name : List ℕ) (whole : Whole) (orders : List Order) → (data_a
 abbrev pub RouteIsLast : Type 0
 RouteIsLast = (path shows fills : List ℕ) (orders : List Order)
     → (route_at path orders ≡ Some (shows, fills)) ↔ IsStanding route path orders (put_route path shows fills)
+
+abbrev pub RedirectIsLast : Type 0
+RedirectIsLast = (path target : List ℕ) (orders : List Order)
+    → (redirect_at path orders ≡ Some target) ↔ IsStanding redirect path orders (put_redirect path target)
 
 -- ---- releases
 

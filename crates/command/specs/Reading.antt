@@ -1,5 +1,5 @@
 -- Which values are commands, and the fault of every other.
-use Rattle.std.specs.Prelude.{◌≡◌, ◌≢◌, ℕ, List, [], ◌∷◌, length, drop, codes, nat_eq, nat_le, ◌==◌, ◌&&◌, ◌||◌, not, if◌then◌else◌, Bool, Option, None, Result, Ok, Err, ok_or}
+use Rattle.std.specs.Prelude.{◌≡◌, ◌≢◌, ℕ, List, [], ◌∷◌, length, drop, codes, nat_eq, nat_le, ◌==◌, ◌&&◌, ◌||◌, not, if◌then◌else◌, Bool, true, Option, None, Result, Ok, Err, ok_or}
 use Rattle.std.specs.List.{list_all, starts_with}
 use Rattle.std.specs.Str.{is_utf8}
 use Rattle.site_ids.specs.declared.TheConstants.{MAX_VALUE, MAX_NAME, MAX_PATH, TICKET_BYTES}
@@ -9,8 +9,8 @@ use Rattle.context.specs.Whole.{Whole, data_reading}
 use Rattle.context.specs.declared.fault.DataFault.{DataFault}
 use Rattle.mustache_scan.specs.declared.fault.TemplateFault.{TemplateFault}
 use Rattle.mustache_parse.specs.Tree.{Tree, tree_of}
-use Rattle.command.specs.Action.{Kind, template, partial, page_data, route, Action, put_template, put_partial, put_data, put_route, remove, release, Order}
-use Rattle.command.specs.Rows.{Row, template_row, partial_row, data_row, route_row, remove_row, release_row, row_of}
+use Rattle.command.specs.Action.{Kind, template, partial, page_data, route, redirect, Action, put_template, put_partial, put_data, put_route, put_redirect, remove, release, Order}
+use Rattle.command.specs.Rows.{Row, template_row, partial_row, data_row, route_row, redirect_row, remove_row, release_row, row_of}
 use Rattle.command.specs.declared.fault.CommandFault.{CommandFault}
 use Rattle.command.specs.declared.fault.CommandFault.TheVariants.{TooLong, Form, Name, Path, Template, Data}
 
@@ -49,6 +49,10 @@ is_path path =
     && not (starts_with nat_eq path (codes "/_"))
     && not (starts_with nat_eq path (codes "/@"))
 
+-- a path that doesn't begin with two slashes: what follows those would be read as a host (RFC 3986, section 4.2)
+abbrev pub is_target : List ℕ → Bool
+is_target path = is_path path && not (starts_with nat_eq path (codes "//"))
+
 -- ---- rows
 
 abbrev pub names_in : Row → List (List ℕ)
@@ -56,14 +60,19 @@ names_in (template_row name body) = name ∷ []
 names_in (partial_row name body) = name ∷ []
 names_in (data_row name body) = name ∷ []
 names_in (route_row path shows fills) = shows ∷ fills ∷ []
+names_in (redirect_row path target) = []
 names_in (remove_row route path) = []
+names_in (remove_row redirect path) = []
 names_in (remove_row kind name) = name ∷ []
 names_in release_row = []
 
-abbrev pub paths_in : Row → List (List ℕ)
-paths_in (route_row path shows fills) = path ∷ []
-paths_in (remove_row route path) = path ∷ []
-paths_in _ = []
+-- a row's paths are such, and what a redirect leads to is a target
+abbrev pub has_paths : Row → Bool
+has_paths (route_row path shows fills) = is_path path
+has_paths (redirect_row path target) = is_path path && is_target target
+has_paths (remove_row route path) = is_path path
+has_paths (remove_row redirect path) = is_path path
+has_paths _ = true
 
 abbrev pub put_text : Action → Result Tree TemplateFault → Result Action CommandFault
 put_text action (Ok tree) = Ok action
@@ -79,25 +88,28 @@ row_action (template_row name body) = put_text (put_template name body) (tree_of
 row_action (partial_row name body) = put_text (put_partial name body) (tree_of body)
 row_action (data_row name body) = put_whole name (data_reading body)
 row_action (route_row path shows fills) = Ok (put_route path shows fills)
+row_action (redirect_row path target) = Ok (put_redirect path target)
 row_action (remove_row kind name) = Ok (remove kind name)
 row_action release_row = Ok release
 
 abbrev pub row_reading : Row → Result Action CommandFault
 row_reading row =
-    if list_all is_name (names_in row) then (if list_all is_path (paths_in row) then row_action row else Err Path) else Err Name
+    if list_all is_name (names_in row) then (if has_paths row then row_action row else Err Path) else Err Name
 
--- what a remove names: a path for a route, else a name
+-- what a remove names: a path for a route or a redirect, else a name
 abbrev pub is_removable : Kind → List ℕ → Bool
 is_removable template name = is_name name
 is_removable partial name = is_name name
 is_removable page_data name = is_name name
 is_removable route path = is_path path
+is_removable redirect path = is_path path
 
 abbrev pub wrong_remove : Kind → CommandFault
 wrong_remove template = Name
 wrong_remove partial = Name
 wrong_remove page_data = Name
 wrong_remove route = Path
+wrong_remove redirect = Path
 
 -- ---- values
 

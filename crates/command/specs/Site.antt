@@ -2,13 +2,14 @@
 use Rattle.std.specs.Prelude.{ℕ, ◌≡◌, ◌<◌, List, [], ◌∷◌, ◌&&◌, if◌then◌else◌, Bool, true, false, IsTrue, Option, Some, None, option_and_then, slice_get}
 use Rattle.std.specs.Str.{bytes_eq}
 use Rattle.context.specs.Whole.{Whole}
-use Rattle.command.specs.Action.{Kind, template, partial, page_data, route, Action, put_template, put_partial, put_data, put_route, remove, release, Order}
+use Rattle.command.specs.Action.{Kind, template, partial, page_data, route, redirect, Action, put_template, put_partial, put_data, put_route, put_redirect, remove, release, Order}
 
 abbrev pub is_same_kind : Kind → Kind → Bool
 is_same_kind template template = true
 is_same_kind partial partial = true
 is_same_kind page_data page_data = true
 is_same_kind route route = true
+is_same_kind redirect redirect = true
 is_same_kind _ _ = false
 
 -- the action puts or removes that kind and name
@@ -17,6 +18,7 @@ is_about kind name (put_template n body) = is_same_kind template kind && bytes_e
 is_about kind name (put_partial n body) = is_same_kind partial kind && bytes_eq n name
 is_about kind name (put_data n whole) = is_same_kind page_data kind && bytes_eq n name
 is_about kind name (put_route path shows fills) = is_same_kind route kind && bytes_eq path name
+is_about kind name (put_redirect path target) = is_same_kind redirect kind && bytes_eq path name
 is_about kind name (remove k n) = is_same_kind k kind && bytes_eq n name
 is_about kind name release = false
 
@@ -69,6 +71,10 @@ abbrev pub if_route : Action → Option (List ℕ × List ℕ)
 if_route (put_route path shows fills) = Some (shows, fills)
 if_route _ = None
 
+abbrev pub if_redirect : Action → Option (List ℕ)
+if_redirect (put_redirect path target) = Some target
+if_redirect _ = None
+
 -- a template's text
 abbrev pub template_at : List ℕ → List Order → Option (List ℕ)
 template_at name orders = option_and_then if_template (standing template name orders)
@@ -83,3 +89,7 @@ data_at name orders = option_and_then if_data (standing page_data name orders)
 -- the names of a route's template and data
 abbrev pub route_at : List ℕ → List Order → Option (List ℕ × List ℕ)
 route_at path orders = option_and_then if_route (standing route path orders)
+
+-- the path that a redirect leads to
+abbrev pub redirect_at : List ℕ → List Order → Option (List ℕ)
+redirect_at path orders = option_and_then if_redirect (standing redirect path orders)

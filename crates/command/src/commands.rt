@@ -9,10 +9,11 @@ pub enum Kind {
     Partial,
     Data,
     Route,
+    Redirect,
 }
 
-/// What a command does. A template, a partial and data go by their name; a route by its path, with the names of its template and data.
-/// What is removed goes by its name too, a route by its path.
+/// What a command does. A template, a partial and data go by their name; a route by its path, with the names of its template and data; a
+/// redirect by its path, with the path that it leads to. What is removed goes by its name too, a route or a redirect by its path.
 #[derive(Drop)]
 pub enum Action {
     PutTemplate {
@@ -31,6 +32,10 @@ pub enum Action {
         path: String,
         template: String,
         page_data: String,
+    },
+    PutRedirect {
+        path: String,
+        target: String,
     },
     Remove {
         kind: Kind,

@@ -1,10 +1,13 @@
-ghost use Rattle.command.specs.Laws.{RowIsSpelled, FaultIsLeast, CommandHasNone, WrittenHolds};
-ghost use Rattle.command.specs.Laws.{StandingIsLast, TemplateIsLast, PartialIsLast, DataIsLast, RouteIsLast};
+ghost use Rattle.command.specs.Laws.{RowIsSpelled, OlderRowStays, NewRowIsOfRedirect, FaultIsLeast, CommandHasNone, WrittenHolds};
+ghost use Rattle.command.specs.Laws.{StandingIsLast, TemplateIsLast, PartialIsLast, DataIsLast, RouteIsLast, RedirectIsLast};
 ghost use Rattle.command.specs.Laws.{EffectiveGrows, ReleaseIsShortest, NextBegins, ReleaseStays};
 
-/// The rows of texts, and the least of a value's faults, as the table of commands has them.
+/// The rows of texts, and the least of a value's faults, as the table of commands has them. Each text that had a row before there were redirects
+/// has it still.
 pub fn readings_are_by_the_table()
     ensures row { RowIsSpelled }
+    ensures older { OlderRowStays }
+    ensures newer { NewRowIsOfRedirect }
     ensures least { FaultIsLeast }
     ensures none { CommandHasNone }
     ensures written { WrittenHolds }
@@ -17,6 +20,7 @@ pub fn the_last_command_counts()
     ensures partial { PartialIsLast }
     ensures page_data { DataIsLast }
     ensures route { RouteIsLast }
+    ensures redirect { RedirectIsLast }
 {}
 
 /// Effective commands and the lists of releases, as values are added.

@@ -1,6 +1,6 @@
 ghost use Rattle.std.specs.Prelude.{◌≡◌};
 ghost use Rattle.std.specs.List.{list_all};
-ghost use Rattle.command.specs.Reading.{is_name_byte, is_name, is_path_byte, is_path};
+ghost use Rattle.command.specs.Reading.{is_name_byte, is_name, is_path_byte, is_path, is_target};
 
 use site_ids::{MAX_NAME, MAX_PATH};
 
@@ -36,7 +36,7 @@ fn is_path_text(bytes: &[u8]) -> bool
     bytes.iter().all(|b| is_path_byte(*b))
 }
 
-/// Whether a word can be a route's path.
+/// Whether a word can be the path of a route or a redirect.
 pub(crate) fn is_path(word: &str) -> bool
     ensures { result ≡ is_path word.now }
 {
@@ -46,4 +46,11 @@ pub(crate) fn is_path(word: &str) -> bool
         && is_path_text(bytes)
         && !bytes.starts_with(b"/_")
         && !bytes.starts_with(b"/@")
+}
+
+/// Whether a word can be the path that a redirect leads to.
+pub(crate) fn is_target(word: &str) -> bool
+    ensures { result ≡ is_target word.now }
+{
+    is_path(word) && !word.as_bytes().starts_with(b"//")
 }

@@ -5,14 +5,14 @@ ghost use Rattle.mustache_parse.specs.Tree.{tree_of};
 ghost use Rattle.mustache_scan.specs.declared.fault.TemplateFault.{TemplateFault};
 ghost use Rattle.command.specs.Action.{Order};
 ghost use Rattle.command.specs.Reading.{is_name, is_path, is_removable, wrong_remove, row_reading, text_reading, ticket_of, value_reading, TakesMemory};
-ghost use Rattle.command.specs.Rows.{Row as TextRow, release_row, template_row, partial_row, data_row, route_row, remove_row, row_of};
+ghost use Rattle.command.specs.Rows.{Row as TextRow, release_row, template_row, partial_row, data_row, route_row, redirect_row, remove_row, row_of};
 ghost use Rattle.command.specs.Standing.{StandsFor, IsActionOf};
 ghost use Rattle.command.specs.View.{kind_view};
 ghost use Rattle.command.specs.Written.{HasLine};
 
 use crate::commands::{Action, Command, Kind};
 use crate::fault::CommandFault;
-use crate::names::{is_name, is_path};
+use crate::names::{is_name, is_path, is_target};
 use crate::rows::{Row, row_in};
 use byteorder::{BigEndian, ByteOrder};
 use context::{Data, DataFault};
@@ -77,6 +77,7 @@ fn action_of(alloc: Global, text: &str) -> Result<Action, CommandFault>
                 page_data,
             },
         ) => route_put(alloc, path, template, page_data),
+        Some(Row::Redirect { path, target }) => redirect_put(alloc, path, target),
         Some(Row::Remove { kind, name }) => removal(alloc, kind, name),
         Some(Row::Release) => Ok(Action::Release),
     }
@@ -155,6 +156,20 @@ fn route_put(
     })
 }
 
+fn redirect_put(alloc: Global, at: &str, target: &str) -> Result<Action, CommandFault>
+    ensures ok { IfOk result (λ a. IsActionOf a (row_reading (redirect_row at.now target.now))) }
+    ensures err { IfErr result (λ e. e ≢ CommandFault.OutOfMemory → row_reading (redirect_row at.now target.now) ≡ Err e) }
+    ensures line { IfErr result (λ e. e ≢ CommandFault.OutOfMemory → HasLine e) }
+{
+    if !(is_path(at) && is_target(target)) {
+        return Err(CommandFault::Path);
+    }
+    Ok(Action::PutRedirect {
+        path: String::from_str(alloc, at)?,
+        target: String::from_str(alloc, target)?,
+    })
+}
+
 fn good_name(of: &str) -> Result<(), CommandFault>
     ensures { result ≡ (if is_name of.now then Ok tt else Err CommandFault.Name) }
 {
@@ -175,7 +190,7 @@ fn good_path(at: &str) -> Result<(), CommandFault>
     }
 }
 
-/// What is wrong with what a remove names: a name, or the path of a route.
+/// What is wrong with what a remove names: a name, or the path of a route or a redirect.
 fn removable(kind: Kind, of: &str) -> Result<(), CommandFault>
     ensures { result ≡ (if is_removable (kind_view kind) of.now then Ok tt else Err (wrong_remove (kind_view kind))) }
 {
@@ -184,6 +199,7 @@ fn removable(kind: Kind, of: &str) -> Result<(), CommandFault>
         Kind::Partial => good_name(of),
         Kind::Data => good_name(of),
         Kind::Route => good_path(of),
+        Kind::Redirect => good_path(of),
     }
 }
 

@@ -1,6 +1,6 @@
 ghost use Rattle.std.specs.Prelude.{◌≡◌, ◌<◌, ◌++◌, ◌∷◌, [], option_map, codes, Some, None};
 ghost use Rattle.command.specs.Cuts.{after_front, cut_at};
-ghost use Rattle.command.specs.Rows.{is_word, named, kind_word, remove_of, removes_of, route_of, release_of, row_of};
+ghost use Rattle.command.specs.Rows.{is_word, named, kind_word, remove_of, removes_of, route_of, redirect_of, release_of, older_row_of, row_of};
 ghost use Rattle.command.specs.View.{kind_view, row_view, pair_view};
 
 use crate::commands::Kind;
@@ -24,6 +24,10 @@ pub(crate) enum Row<'a> {
         path: &'a str,
         template: &'a str,
         page_data: &'a str,
+    },
+    Redirect {
+        path: &'a str,
+        target: &'a str,
     },
     Remove {
         kind: Kind,
@@ -82,6 +86,19 @@ fn route(text: &str) -> Option<Row<'_>>
     }
 }
 
+fn redirect(text: &str) -> Option<Row<'_>>
+    ensures { option_map row_view result ≡ redirect_of text.now }
+{
+    let rest = after(text, "put redirect ")?;
+    let (path, rest) = cut(rest, ' ')?;
+    let (target, body) = cut(rest, '\n')?;
+    if is_word(path) && is_word(target) && body.is_empty() {
+        Some(Row::Redirect { path, target })
+    } else {
+        None
+    }
+}
+
 /// What stands before the name in a remove of that kind.
 fn remove_front(kind: Kind) -> &'static str
     ensures { result.now ≡ codes "remove " ++ (kind_word (kind_view kind) ++ (32 ∷ [])) }
@@ -91,6 +108,7 @@ fn remove_front(kind: Kind) -> &'static str
         Kind::Partial => "remove partial ",
         Kind::Data => "remove data ",
         Kind::Route => "remove route ",
+        Kind::Redirect => "remove redirect ",
     }
 }
 
@@ -105,7 +123,7 @@ fn remove(text: &str, kind: Kind) -> Option<Row<'_>>
     }
 }
 
-/// The row of a remove of any kind.
+/// The row of a remove of any kind but a redirect.
 fn removed(text: &str) -> Option<Row<'_>>
     ensures { option_map row_view result ≡ removes_of text.now }
 {
@@ -131,9 +149,9 @@ fn release(text: &str) -> Option<Row<'_>>
     }
 }
 
-/// The row that a text spells.
-pub(crate) fn row_in(text: &str) -> Option<Row<'_>>
-    ensures { option_map row_view result ≡ row_of text.now }
+/// The row that a text spelled before there were redirects.
+fn older_row(text: &str) -> Option<Row<'_>>
+    ensures { option_map row_view result ≡ older_row_of text.now }
 {
     if let Some((name, body)) = named(text, "put template ") {
         return Some(Row::Template { name, body });
@@ -151,4 +169,17 @@ pub(crate) fn row_in(text: &str) -> Option<Row<'_>>
         return Some(row);
     }
     release(text)
+}
+
+/// The row that a text spells.
+pub(crate) fn row_in(text: &str) -> Option<Row<'_>>
+    ensures { option_map row_view result ≡ row_of text.now }
+{
+    if let Some(row) = older_row(text) {
+        return Some(row);
+    }
+    if let Some(row) = redirect(text) {
+        return Some(row);
+    }
+    remove(text, Kind::Redirect)
 }

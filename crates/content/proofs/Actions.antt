@@ -6,11 +6,11 @@ use Rattle.context.specs.Whole.{Whole}
 use Rattle.context.specs.View.{data_view}
 use Rattle.context.specs.declared.tree.Data.{Data}
 use Rattle.mustache_parse.specs.Template.{TemplateSeen}
-use Rattle.command.specs.Action.{Kind, template, partial, page_data, route, Action, put_template, put_partial, put_data, put_route, remove, release, Order}
-use Rattle.command.specs.Site.{is_same_kind, is_about, if_put, if_template, if_partial, if_data, if_route}
+use Rattle.command.specs.Action.{Kind, template, partial, page_data, route, redirect, Action, put_template, put_partial, put_data, put_route, put_redirect, remove, release, Order}
+use Rattle.command.specs.Site.{is_same_kind, is_about, if_put, if_template, if_partial, if_data, if_route, if_redirect}
 use Rattle.command.specs.Standing.{StandsAs}
 use Rattle.command.specs.View.{kind_view}
-use Rattle.command.specs.declared.commands.Action.TheVariants.{PutTemplate, PutPartial, PutData, PutRoute, Remove, Release}
+use Rattle.command.specs.declared.commands.Action.TheVariants.{PutTemplate, PutPartial, PutData, PutRoute, PutRedirect, Remove, Release}
 use Rattle.command.specs.declared.commands.Kind.{Kind as CodeKind}
 use Rattle.content.specs.Answered.{answered}
 use Rattle.content.specs.View.{Named, SiteSeen, at_name, names_of}
@@ -25,6 +25,9 @@ IsData d whole = option_map data_view d ≡ whole
 abbrev pub IsTarget : Option Target → Option (List ℕ × List ℕ) → Type 0
 IsTarget t names = option_map names_of t ≡ names
 
+abbrev pub Leads : Option (String Global) → Option (List ℕ) → Type 0
+Leads found target = option_map string_bytes found ≡ target
+
 abbrev pub order : Ticket → Action → Order
 order ticket action = record { ticket = ticket; action = action }
 
@@ -35,16 +38,19 @@ Writes old new key v = (name : List ℕ) → at_name name new ≡ update bytes_e
 -- ---- a site whose one kind changed
 
 abbrev pub with_templates : SiteSeen → Named TemplateSeen → SiteSeen
-with_templates s new = record { tickets = s.tickets; templates = new; partials = s.partials; page_data = s.page_data; routes = s.routes }
+with_templates s new = record { tickets = s.tickets; templates = new; partials = s.partials; page_data = s.page_data; routes = s.routes; redirects = s.redirects }
 
 abbrev pub with_partials : SiteSeen → Named TemplateSeen → SiteSeen
-with_partials s new = record { tickets = s.tickets; templates = s.templates; partials = new; page_data = s.page_data; routes = s.routes }
+with_partials s new = record { tickets = s.tickets; templates = s.templates; partials = new; page_data = s.page_data; routes = s.routes; redirects = s.redirects }
 
 abbrev pub with_data : SiteSeen → Named Data → SiteSeen
-with_data s new = record { tickets = s.tickets; templates = s.templates; partials = s.partials; page_data = new; routes = s.routes }
+with_data s new = record { tickets = s.tickets; templates = s.templates; partials = s.partials; page_data = new; routes = s.routes; redirects = s.redirects }
 
 abbrev pub with_routes : SiteSeen → Named Target → SiteSeen
-with_routes s new = record { tickets = s.tickets; templates = s.templates; partials = s.partials; page_data = s.page_data; routes = new }
+with_routes s new = record { tickets = s.tickets; templates = s.templates; partials = s.partials; page_data = s.page_data; routes = new; redirects = s.redirects }
+
+abbrev pub with_redirects : SiteSeen → Named (String Global) → SiteSeen
+with_redirects s new = record { tickets = s.tickets; templates = s.templates; partials = s.partials; page_data = s.page_data; routes = s.routes; redirects = new }
 
 -- the action is about that kind and name alone
 abbrev About : Kind → List ℕ → Action → Type 0
@@ -57,6 +63,7 @@ templates_written site new os o key v written only here h = record {
   partials = stays IsOfText if_partial partial site.partials os o (only partial) h.partials;
   page_data = stays IsData if_data page_data site.page_data os o (only page_data) h.page_data;
   routes = stays IsTarget if_route route site.routes os o (only route) h.routes;
+  redirects = stays Leads if_redirect redirect site.redirects os o (only redirect) h.redirects;
 }
 
 partials_written : (site : SiteSeen) (new : Named TemplateSeen) (os : List Order) (o : Order) (key : List ℕ) (v : Option TemplateSeen) → Writes site.partials new key v
@@ -66,6 +73,7 @@ partials_written site new os o key v written only here h = record {
   partials = changes IsOfText if_partial partial site.partials new os o key v written (only partial) here h.partials;
   page_data = stays IsData if_data page_data site.page_data os o (only page_data) h.page_data;
   routes = stays IsTarget if_route route site.routes os o (only route) h.routes;
+  redirects = stays Leads if_redirect redirect site.redirects os o (only redirect) h.redirects;
 }
 
 data_written : (site : SiteSeen) (new : Named Data) (os : List Order) (o : Order) (key : List ℕ) (v : Option Data) → Writes site.page_data new key v
@@ -75,6 +83,7 @@ data_written site new os o key v written only here h = record {
   partials = stays IsOfText if_partial partial site.partials os o (only partial) h.partials;
   page_data = changes IsData if_data page_data site.page_data new os o key v written (only page_data) here h.page_data;
   routes = stays IsTarget if_route route site.routes os o (only route) h.routes;
+  redirects = stays Leads if_redirect redirect site.redirects os o (only redirect) h.redirects;
 }
 
 routes_written : (site : SiteSeen) (new : Named Target) (os : List Order) (o : Order) (key : List ℕ) (v : Option Target) → Writes site.routes new key v
@@ -84,6 +93,17 @@ routes_written site new os o key v written only here h = record {
   partials = stays IsOfText if_partial partial site.partials os o (only partial) h.partials;
   page_data = stays IsData if_data page_data site.page_data os o (only page_data) h.page_data;
   routes = changes IsTarget if_route route site.routes new os o key v written (only route) here h.routes;
+  redirects = stays Leads if_redirect redirect site.redirects os o (only redirect) h.redirects;
+}
+
+redirects_written : (site : SiteSeen) (new : Named (String Global)) (os : List Order) (o : Order) (key : List ℕ) (v : Option (String Global)) → Writes site.redirects new key v
+    → About redirect key o.action → Leads v (option_and_then if_redirect (if_put o.action)) → HasContents site os → HasContents (with_redirects site new) (os ++ o ∷ [])
+redirects_written site new os o key v written only here h = record {
+  templates = stays IsOfText if_template template site.templates os o (only template) h.templates;
+  partials = stays IsOfText if_partial partial site.partials os o (only partial) h.partials;
+  page_data = stays IsData if_data page_data site.page_data os o (only page_data) h.page_data;
+  routes = stays IsTarget if_route route site.routes os o (only route) h.routes;
+  redirects = changes Leads if_redirect redirect site.redirects new os o key v written (only redirect) here h.redirects;
 }
 
 -- ---- puts
@@ -101,6 +121,7 @@ template_put site new name t os ticket (put_template n body) written is h = (
 template_put site new name t os ticket (put_partial n body) written is h = absurd is
 template_put site new name t os ticket (put_data n whole) written is h = absurd is
 template_put site new name t os ticket (put_route p s f) written is h = absurd is
+template_put site new name t os ticket (put_redirect p x) written is h = absurd is
 template_put site new name t os ticket (remove k n) written is h = absurd is
 template_put site new name t os ticket release written is h = absurd is
 
@@ -113,6 +134,7 @@ partial_put site new name t os ticket (put_partial n body) written is h = (
 partial_put site new name t os ticket (put_template n body) written is h = absurd is
 partial_put site new name t os ticket (put_data n whole) written is h = absurd is
 partial_put site new name t os ticket (put_route p s f) written is h = absurd is
+partial_put site new name t os ticket (put_redirect p x) written is h = absurd is
 partial_put site new name t os ticket (remove k n) written is h = absurd is
 partial_put site new name t os ticket release written is h = absurd is
 
@@ -125,6 +147,7 @@ data_put site new name d os ticket (put_data n whole) written is h = (
 data_put site new name d os ticket (put_template n body) written is h = absurd is
 data_put site new name d os ticket (put_partial n body) written is h = absurd is
 data_put site new name d os ticket (put_route p s f) written is h = absurd is
+data_put site new name d os ticket (put_redirect p x) written is h = absurd is
 data_put site new name d os ticket (remove k n) written is h = absurd is
 data_put site new name d os ticket release written is h = absurd is
 
@@ -138,8 +161,22 @@ route_put site new path shows fills os ticket (put_route p s f) written is h = (
 route_put site new path shows fills os ticket (put_template n body) written is h = absurd is
 route_put site new path shows fills os ticket (put_partial n body) written is h = absurd is
 route_put site new path shows fills os ticket (put_data n whole) written is h = absurd is
+route_put site new path shows fills os ticket (put_redirect p x) written is h = absurd is
 route_put site new path shows fills os ticket (remove k n) written is h = absurd is
 route_put site new path shows fills os ticket release written is h = absurd is
+
+pub redirect_put : (site : SiteSeen) (new : Named (String Global)) (path target : String Global) (os : List Order) (ticket : Ticket) (a : Action)
+    → Writes site.redirects new (string_bytes path) (Some target) → StandsAs (PutRedirect path target) a → HasContents site os → Done (with_redirects site new) os ticket a
+redirect_put site new path target os ticket (put_redirect p x) written is h = (
+  redirects_written site new os (order ticket (put_redirect p x)) (string_bytes path) (Some target) written (λ k m. ap (λ y. is_same_kind redirect k && bytes_eq y m) (sym is.0)) (ap Some is.1) h,
+  refl,
+)
+redirect_put site new path target os ticket (put_template n body) written is h = absurd is
+redirect_put site new path target os ticket (put_partial n body) written is h = absurd is
+redirect_put site new path target os ticket (put_data n whole) written is h = absurd is
+redirect_put site new path target os ticket (put_route p s f) written is h = absurd is
+redirect_put site new path target os ticket (remove k n) written is h = absurd is
+redirect_put site new path target os ticket release written is h = absurd is
 
 -- ---- removes
 
@@ -162,6 +199,10 @@ pub route_removed : (site : SiteSeen) (new : Named Target) (key : List ℕ) (os 
     → HasContents site os → HasContents (with_routes site new) (os ++ o ∷ [])
 route_removed site new key os o written is h = routes_written site new os o key None written (about route key o.action is) (sym (ap (λ a. option_and_then if_route (if_put a)) is)) h
 
+pub redirect_removed : (site : SiteSeen) (new : Named (String Global)) (key : List ℕ) (os : List Order) (o : Order) → Writes site.redirects new key None → o.action ≡ remove redirect key
+    → HasContents site os → HasContents (with_redirects site new) (os ++ o ∷ [])
+redirect_removed site new key os o written is h = redirects_written site new os o key None written (about redirect key o.action is) (sym (ap (λ a. option_and_then if_redirect (if_put a)) is)) h
+
 -- ---- a release, and a remove by its kind
 
 pub released : (site : SiteSeen) (os : List Order) (ticket : Ticket) (a : Action) → StandsAs Release a → HasContents site os → HasContents site (os ++ order ticket a ∷ []) × (Released ≡ answered a)
@@ -172,6 +213,7 @@ released site os ticket release is h =
         partials = stays IsOfText if_partial partial site.partials os o (λ n. refl) h.partials;
         page_data = stays IsData if_data page_data site.page_data os o (λ n. refl) h.page_data;
         routes = stays IsTarget if_route route site.routes os o (λ n. refl) h.routes;
+        redirects = stays Leads if_redirect redirect site.redirects os o (λ n. refl) h.redirects;
       },
       refl,
     )
@@ -179,6 +221,7 @@ released site os ticket (put_template n body) is h = absurd is
 released site os ticket (put_partial n body) is h = absurd is
 released site os ticket (put_data n whole) is h = absurd is
 released site os ticket (put_route p s f) is h = absurd is
+released site os ticket (put_redirect p x) is h = absurd is
 released site os ticket (remove k n) is h = absurd is
 
 -- what a remove's order does
@@ -188,4 +231,5 @@ removes kind name (put_template n body) is = absurd is
 removes kind name (put_partial n body) is = absurd is
 removes kind name (put_data n whole) is = absurd is
 removes kind name (put_route p s f) is = absurd is
+removes kind name (put_redirect p x) is = absurd is
 removes kind name release is = absurd is

@@ -1,12 +1,12 @@
 -- Which lists of values a site stands for.
-use Rattle.std.specs.Prelude.{◌≡◌, ℕ, Bool, List, Option, None, Some, option_map}
+use Rattle.std.specs.Prelude.{◌≡◌, ℕ, Bool, List, Option, None, Some, option_map, string_bytes}
 use Rattle.std.specs.List.{list_any}
 use Rattle.site_ids.specs.declared.Ticket.{Ticket}
 use Rattle.context.specs.View.{data_view}
 use Rattle.mustache_parse.specs.Template.{TemplateSeen, IsTemplateOf}
 use Rattle.command.specs.Action.{Order}
 use Rattle.command.specs.Effective.{is_same_ticket, has_ticket, commands_of, effective}
-use Rattle.command.specs.Site.{template_at, partial_at, data_at, route_at}
+use Rattle.command.specs.Site.{template_at, partial_at, data_at, route_at, redirect_at}
 use Rattle.content.specs.View.{SiteSeen, at_name, names_of}
 
 -- a template is of the text, and there is none where there is no text
@@ -20,6 +20,7 @@ pub record HasContents (site : SiteSeen) (orders : List Order) : Type 0 where
   pub partials : (name : List ℕ) → IsOfText (at_name name site.partials) (partial_at name orders)
   pub page_data : (name : List ℕ) → option_map data_view (at_name name site.page_data) ≡ data_at name orders
   pub routes : (path : List ℕ) → option_map names_of (at_name path site.routes) ≡ route_at path orders
+  pub redirects : (path : List ℕ) → option_map string_bytes (at_name path site.redirects) ≡ redirect_at path orders
 
 abbrev pub is_held : Ticket → List Ticket → Bool
 is_held ticket tickets = list_any (is_same_ticket ticket) tickets

@@ -24,6 +24,7 @@ pub record SiteSeen : Type 0 where
   pub partials : Named TemplateSeen
   pub page_data : Named Data
   pub routes : Named Target
+  pub redirects : Named (String Global)
 
 -- what there is at a name
 abbrev pub at_name : {V : Type 0} → List ℕ → Named V → Option V

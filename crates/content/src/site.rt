@@ -2,7 +2,7 @@ ghost use Rattle.std.specs.Prelude.{◌≡◌, ◌≢◌, ℕ, List, [], ◌∷�
 ghost use Rattle.command.specs.Action.{Order, remove};
 ghost use Rattle.command.specs.Effective.{effective};
 ghost use Rattle.command.specs.Reading.{value_reading};
-ghost use Rattle.command.specs.Site.{template_at, partial_at, data_at, route_at};
+ghost use Rattle.command.specs.Site.{template_at, partial_at, data_at, route_at, redirect_at};
 ghost use Rattle.command.specs.Standing.{StandsAs, StandsFor};
 ghost use Rattle.command.specs.View.{kind_view, pair_view};
 ghost use Rattle.context.specs.View.{data_view};
@@ -30,6 +30,7 @@ pub struct Site {
     partials: SharedMap<String, Template>,
     page_data: SharedMap<String, Data>,
     routes: SharedMap<String, Target>,
+    redirects: SharedMap<String, String>,
 }
 
 impl Model for Site {
@@ -48,6 +49,7 @@ impl Model for Site {
       partials = s.partials;
       page_data = s.page_data;
       routes = s.routes;
+      redirects = s.redirects;
     } };
 }
 
@@ -73,6 +75,7 @@ impl Site {
             partials: SharedMap::new(alloc),
             page_data: SharedMap::new(alloc),
             routes: SharedMap::new(alloc),
+            redirects: SharedMap::new(alloc),
         }
     }
 
@@ -127,6 +130,7 @@ impl Site {
                 };
                 put(&mut self.routes, path, target)?
             }
+            Action::PutRedirect { path, target } => put(&mut self.redirects, path, target)?,
             Action::Remove { kind, name } => self.remove(kind, &name)?,
             Action::Release => return Ok(Applied::Released),
         }
@@ -144,6 +148,7 @@ impl Site {
             Kind::Partial => take_away(&mut self.partials, name),
             Kind::Data => take_away(&mut self.page_data, name),
             Kind::Route => take_away(&mut self.routes, name),
+            Kind::Redirect => take_away(&mut self.redirects, name),
         }
     }
 
@@ -158,6 +163,7 @@ impl Site {
             partials: self.partials.copy()?,
             page_data: self.page_data.copy()?,
             routes: self.routes.copy()?,
+            redirects: self.redirects.copy()?,
         })
     }
 
@@ -192,5 +198,13 @@ impl Site {
     {
         let target = self.routes.get(path)?;
         Some((target.template.as_str(), target.page_data.as_str()))
+    }
+
+    /// The path that the redirect at that path leads to.
+    pub fn redirect(&self, path: &str) -> Option<&str>
+        ensures { (values : List (List ℕ)) → IsSiteOf self.now values → option_map (λ target. target.now) result ≡ redirect_at path.now (effective values) }
+    {
+        let target = self.redirects.get(path)?;
+        Some(target.as_str())
     }
 }

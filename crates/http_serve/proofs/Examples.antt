@@ -1,7 +1,11 @@
 -- Examples, computed from the definitions.
-use Rattle.std.proofs.Common.{◌≡◌, [], codes, true, false, Some, None, Ok, Err, arith, refl}
+use Rattle.std.proofs.Common.{◌≡◌, ℕ, zero, suc, List, [], ◌∷◌, not, filter, codes, true, false, Some, None, Ok, Err, arith, refl}
 use Rattle.std.specs.Fmt.{digits}
+use Rattle.percent_encoding.specs.AsciiSet.{should_percent_encode}
+use Rattle.percent_encoding.specs.Percent.{percent_encode, percent_encode_byte}
+use Rattle.http_serve.specs.declared.replies.TheConstants.{ESCAPED}
 use Rattle.command.specs.declared.fault.CommandFault.TheVariants.{TooLong}
+use Rattle.release.specs.Page.{in_place, moved_to}
 use Rattle.http_serve.specs.declared.submission.Submission.TheVariants.{Queued}
 use Rattle.http_serve.specs.declared.submission.SubmitFault.TheVariants.{Command}
 use Rattle.http_serve.specs.Paths.{Names, submission, receipt, release}
@@ -10,12 +14,17 @@ use Rattle.http_serve.specs.Responses.{page_reply, refusal, wrong_method, outcom
 
 -- ---- responses
 
-a_page : print_reply false (page_reply (Some (record { status = 200; body = codes "Hi\n" })))
+-- the numbers below one, and then a list
+below : ℕ → List ℕ → List ℕ
+below zero later = later
+below (suc n) later = below n (n ∷ later)
+
+a_page : print_reply false (page_reply (Some (in_place 200 (codes "Hi\n"))))
     ≡ codes "HTTP/1.1 200 OK\r\nContent-Type: text/html; charset=utf-8\r\nContent-Length: 3\r\nConnection: close\r\n\r\nHi\n"
 unfolding reason digits
 a_page = refl
 
-to_head : print_reply true (page_reply (Some (record { status = 200; body = codes "Hi\n" })))
+to_head : print_reply true (page_reply (Some (in_place 200 (codes "Hi\n"))))
     ≡ codes "HTTP/1.1 200 OK\r\nContent-Type: text/html; charset=utf-8\r\nContent-Length: 3\r\nConnection: close\r\n\r\n"
 unfolding reason digits
 to_head = refl
@@ -24,6 +33,20 @@ no_page : print_reply false (page_reply None)
     ≡ codes "HTTP/1.1 404 Not Found\r\nContent-Type: text/plain; charset=utf-8\r\nContent-Length: 11\r\nConnection: close\r\n\r\nno release\n"
 unfolding reason digits
 no_page = refl
+
+moved : print_reply false (page_reply (Some (moved_to (codes "/h"))))
+    ≡ codes "HTTP/1.1 301 Moved Permanently\r\nContent-Type: text/plain; charset=utf-8\r\nLocation: /h\r\nContent-Length: 12\r\nConnection: close\r\n\r\nmoved to /h\n"
+unfolding reason digits percent_encode should_percent_encode percent_encode_byte
+moved = refl
+
+escaped : percent_encode ESCAPED (47 ∷ 195 ∷ 169 ∷ codes "?a=b%\\") ≡ codes "/%C3%A9%3Fa%3Db%25%5C"
+unfolding percent_encode should_percent_encode percent_encode_byte
+escaped = refl
+
+-- these bytes alone stand for themselves
+unescaped : filter (λ b. not (should_percent_encode ESCAPED b)) (below 256 []) ≡ codes "-./0123456789ABCDEFGHIJKLMNOPQRSTUVWXYZ_abcdefghijklmnopqrstuvwxyz~"
+unfolding should_percent_encode below
+unescaped = refl
 
 wants_get : print_reply false (wrong_method (codes "GET, HEAD"))
     ≡ codes "HTTP/1.1 405 Method Not Allowed\r\nContent-Type: text/plain; charset=utf-8\r\nAllow: GET, HEAD\r\nContent-Length: 19\r\nConnection: close\r\n\r\nmethod not allowed\n"

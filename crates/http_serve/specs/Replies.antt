@@ -1,12 +1,20 @@
 -- The bytes of a response (RFC 9112, sections 4 and 5).
-use Rattle.std.specs.Prelude.{ℕ, Bool, true, false, ◌==◌, if◌then◌else◌, List, [], ◌++◌, length, codes, Option, Some, None}
+use Rattle.std.specs.Prelude.{ℕ, Bool, true, false, ◌==◌, if◌then◌else◌, List, [], ◌++◌, length, codes}
 use Rattle.std.specs.Fmt.{decimal}
+use Rattle.percent_encoding.specs.Percent.{percent_encode}
+use Rattle.http_serve.specs.declared.replies.TheConstants.{ESCAPED}
 
--- a response before it is written: status, whether the body is a page, the methods allowed where another was used, and the body
+-- a line of the head that only some responses have: none, the path that a page moved to, or the methods allowed where another was used
+pub data OwnLine : Type 0 where
+  no_line : OwnLine
+  location : List ℕ → OwnLine
+  allow : List ℕ → OwnLine
+
+-- a response before it is written: status, whether the body is a page, its own line, and the body
 pub record Reply : Type 0 where
   pub status : ℕ
   pub is_page : Bool
-  pub allowed : Option (List ℕ)
+  pub own : OwnLine
   pub body : List ℕ
 
 -- the reason phrase; a status without one has none
@@ -14,6 +22,7 @@ unfoldable pub reason : ℕ → List ℕ
 reason status =
     if status == 200 then codes "OK"
     else (if status == 202 then codes "Accepted"
+    else (if status == 301 then codes "Moved Permanently"
     else (if status == 400 then codes "Bad Request"
     else (if status == 404 then codes "Not Found"
     else (if status == 405 then codes "Method Not Allowed"
@@ -24,12 +33,13 @@ reason status =
     else (if status == 500 then codes "Internal Server Error"
     else (if status == 501 then codes "Not Implemented"
     else (if status == 503 then codes "Service Unavailable"
-    else [])))))))))))
+    else []))))))))))))
 
--- the line of the methods allowed, if any, and then rest
-abbrev pub allow_before : Option (List ℕ) → List ℕ → List ℕ
-allow_before None rest = rest
-allow_before (Some methods) rest = codes "Allow: " ++ (methods ++ (codes "\r\n" ++ rest))
+-- its own line, and then rest (RFC 9110, sections 10.2.1 and 10.2.2)
+abbrev pub line_before : OwnLine → List ℕ → List ℕ
+line_before no_line rest = rest
+line_before (location path) rest = codes "Location: " ++ (percent_encode ESCAPED path ++ (codes "\r\n" ++ rest))
+line_before (allow methods) rest = codes "Allow: " ++ (methods ++ (codes "\r\n" ++ rest))
 
 -- the media type
 abbrev pub media_type : Bool → List ℕ
@@ -40,7 +50,7 @@ media_type false = codes "text/plain; charset=utf-8"
 abbrev pub reply_head : Reply → List ℕ
 reply_head r =
     codes "HTTP/1.1 " ++ (decimal r.status ++ (codes " " ++ (reason r.status ++ (codes "\r\nContent-Type: "
-    ++ (media_type r.is_page ++ (codes "\r\n" ++ allow_before r.allowed
+    ++ (media_type r.is_page ++ (codes "\r\n" ++ line_before r.own
     (codes "Content-Length: " ++ (decimal (length r.body) ++ codes "\r\nConnection: close\r\n\r\n"))))))))
 
 -- the response; to a HEAD request its head alone

@@ -7,7 +7,7 @@ use Rattle.http_read.specs.Requests.{Asked}
 use Rattle.http_serve.specs.declared.submission.Submission.TheVariants.{Queued, Already}
 use Rattle.http_serve.specs.declared.submission.SubmitFault.{SubmitFault}
 use Rattle.http_serve.specs.declared.submission.SubmitFault.TheVariants.{Command, Busy, Stopped, OutOfMemory}
-use Rattle.http_serve.specs.Replies.{Reply}
+use Rattle.http_serve.specs.Replies.{OwnLine, no_line, location, allow, Reply}
 use Rattle.http_serve.specs.Paths.{Place, Names, submission, receipt, newest, release, unknown, page}
 use Rattle.http_serve.specs.Services.{Outcome, Offered, Submits}
 
@@ -17,7 +17,7 @@ line text = text ++ 10 ∷ []
 
 -- a plain response
 abbrev pub plain : ℕ → List ℕ → Reply
-plain status text = record { status = status; is_page = false; allowed = None; body = line text }
+plain status text = record { status = status; is_page = false; own = no_line; body = line text }
 
 -- a request that is refused as it is read
 abbrev pub refusal : ℕ → Reply
@@ -31,17 +31,22 @@ refusal status = plain status (
 -- the method isn't one of the place's
 abbrev pub wrong_method : List ℕ → Reply
 wrong_method methods =
-    record { status = 405; is_page = false; allowed = Some methods; body = line (codes "method not allowed") }
+    record { status = 405; is_page = false; own = allow methods; body = line (codes "method not allowed") }
 
 -- the receipt of a ticket
 abbrev pub receipt_reply : Option ℕ → Reply
 receipt_reply None = plain 404 (codes "unknown")
 receipt_reply (Some n) = plain 200 (decimal n)
 
+-- the line of a page that moved
+abbrev pub moved_line : Option (List ℕ) → OwnLine
+moved_line None = no_line
+moved_line (Some path) = location path
+
 -- the page of a release, or that there is no such release
 abbrev pub page_reply : Option Page → Reply
 page_reply None = plain 404 (codes "no release")
-page_reply (Some p) = record { status = p.status; is_page = p.status == 200; allowed = None; body = p.body }
+page_reply (Some p) = record { status = p.status; is_page = p.status == 200; own = moved_line p.location; body = p.body }
 
 -- what GET and HEAD are answered at a place
 abbrev pub asked_reply : {S : Type 0} → Offered S → S → List ℕ → Place → Reply

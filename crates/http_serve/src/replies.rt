@@ -3,7 +3,28 @@ ghost use Rattle.std.specs.Prelude.{◌≡◌, IfOk, string_bytes};
 ghost use Rattle.http_serve.specs.Shown.{reply_of};
 ghost use Rattle.http_serve.specs.Replies.{reply_head, print_reply, reason, media_type};
 
+use percent_encoding::{AsciiSet, NON_ALPHANUMERIC, ascii_set, utf8_percent_encode};
 use std::alloc::{AllocError, Global};
+
+/// What a `Location` line escapes: each byte but letters, digits and these marks (RFC 3986, section 2.3), and the slash.
+pub(crate) const ESCAPED: AsciiSet = ascii_set!(
+    NON_ALPHANUMERIC
+        .remove(b'-')
+        .remove(b'.')
+        .remove(b'_')
+        .remove(b'~')
+        .remove(b'/')
+);
+
+/// A line of the head that only some responses have.
+#[derive(Drop)]
+pub(crate) enum OwnLine {
+    Absent,
+    /// The path that a page moved to.
+    Location(String),
+    /// The methods that are allowed, where another was used.
+    Allow(&'static str),
+}
 
 /// A response before it is written.
 #[derive(Drop)]
@@ -11,8 +32,7 @@ pub(crate) struct Response {
     pub status: u16,
     /// Whether the body is a page.
     pub is_page: bool,
-    /// The methods that are allowed, where another was used.
-    pub allowed: Option<&'static str>,
+    pub own: OwnLine,
     pub body: Vec<u8>,
 }
 
@@ -24,6 +44,7 @@ fn reason_of(status: u16) -> &'static str
     match status {
         200 => "OK",
         202 => "Accepted",
+        301 => "Moved Permanently",
         400 => "Bad Request",
         404 => "Not Found",
         405 => "Method Not Allowed",
@@ -57,13 +78,19 @@ fn head_of(alloc: Global, response: &Response) -> Result<String, AllocError>
     let reason = reason_of(status);
     let media = media_of(response.is_page);
     let size = response.body.len();
-    match response.allowed {
-        None => {
+    match &response.own {
+        OwnLine::Absent => {
             format!(in alloc;
                 "HTTP/1.1 {status} {reason}\r\nContent-Type: {media}\r\nContent-Length: {size}\r\nConnection: close\r\n\r\n"
             )
         }
-        Some(methods) => {
+        OwnLine::Location(path) => {
+            let path = utf8_percent_encode(path.as_str(), ESCAPED);
+            format!(in alloc;
+                "HTTP/1.1 {status} {reason}\r\nContent-Type: {media}\r\nLocation: {path}\r\nContent-Length: {size}\r\nConnection: close\r\n\r\n"
+            )
+        }
+        OwnLine::Allow(methods) => {
             format!(in alloc;
                 "HTTP/1.1 {status} {reason}\r\nContent-Type: {media}\r\nAllow: {methods}\r\nContent-Length: {size}\r\nConnection: close\r\n\r\n"
             )

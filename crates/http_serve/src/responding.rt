@@ -1,15 +1,16 @@
 //! The response to a request.
-ghost use Rattle.std.specs.Prelude.{◌≡◌, ◌⊎◌, IfOk, OnErr, Some, decimal, true, false};
+ghost use Rattle.std.specs.Prelude.{◌≡◌, ◌⊎◌, IfOk, OnErr, Some, decimal, option_map, string_bytes, true, false};
 ghost use Rattle.http_read.specs.Incoming.{request_of};
 ghost use Rattle.http_serve.specs.Connections.{IsResponse};
 ghost use Rattle.http_serve.specs.Paths.{submission};
 ghost use Rattle.http_serve.specs.Places.{place_shown};
+ghost use Rattle.http_serve.specs.Shown.{line_of as line_shown};
 ghost use Rattle.http_serve.specs.Replies.{Reply, print_reply};
-ghost use Rattle.http_serve.specs.Responses.{plain as plain_reply, refusal, wrong_method as wrong_reply, receipt_reply, page_reply, asked_reply, outcome_reply, line, RepliesToPost, RefusesPost, Refuses};
+ghost use Rattle.http_serve.specs.Responses.{plain as plain_reply, refusal, wrong_method as wrong_reply, receipt_reply, moved_line as moved_reply, page_reply, asked_reply, outcome_reply, line, RepliesToPost, RefusesPost, Refuses};
 ghost use Rattle.http_serve.specs.Services.{Outcome, Submits};
 
 use crate::places::{Place, place_of};
-use crate::replies::{Response, text_of};
+use crate::replies::{OwnLine, Response, text_of};
 use crate::service::Service;
 use crate::submission::{Submission, SubmitFault};
 use command::fault_line;
@@ -37,7 +38,7 @@ fn plain(alloc: Global, to_head: bool, status: u16, text: &str) -> Result<Vec<u8
         &Response {
             status,
             is_page: false,
-            allowed: None,
+            own: OwnLine::Absent,
             body,
         },
     )
@@ -54,7 +55,7 @@ fn wrong_method(alloc: Global, to_head: bool, methods: &'static str) -> Result<V
         &Response {
             status: 405,
             is_page: false,
-            allowed: Some(methods),
+            own: OwnLine::Allow(methods),
             body,
         },
     )
@@ -97,6 +98,16 @@ fn receipt<S: Service>(
     }
 }
 
+/// The line of a page that moved.
+fn moved_line(location: Option<String>) -> OwnLine
+    ensures { line_shown result ≡ moved_reply (option_map string_bytes location) }
+{
+    match location {
+        None => OwnLine::Absent,
+        Some(path) => OwnLine::Location(path),
+    }
+}
+
 /// The page of a release.
 fn page<S: Service>(
     alloc: Global,
@@ -108,15 +119,20 @@ fn page<S: Service>(
     ensures { IfOk result (λ bytes. bytes.items ≡ print_reply to_head (page_reply (S.offered.page_is service.now n path.now))) }
 {
     match service.answer(alloc, n, path) {
-        Ok(Answer { status, body }) => {
+        Ok(Answer {
+            status,
+            body,
+            location,
+        }) => {
             let body = body.into_bytes();
+            let own = moved_line(location);
             text_of(
                 alloc,
                 to_head,
                 &Response {
                     status,
                     is_page: status == 200,
-                    allowed: None,
+                    own,
                     body,
                 },
             )

@@ -30,7 +30,7 @@ fn pages_of_sites(rt: HostRuntime) -> Result<(), Fail> {
     let values =
         "put data d\n{\"n\":null,\"b\":true,\"c\":false,\"i\":-12,\"t\":\"<\\\"a\\\" & 'b'>\",\"s\":18446744073709551615}";
     let all = "put template t\n[{{n}}] {{b}} {{ c }} {{i}} {{\tt\n}} {{s}} {{none}}.";
-    let cases: [(&[&str], u8, &str); 10] = [
+    let cases: [(&[&str], u8, &str); 13] = [
         (&[t, "put data d\n{}", route, release], 0, "Hello, !\n"),
         (&["put template t\n", d, route, release], 0, ""),
         (
@@ -39,6 +39,17 @@ fn pages_of_sites(rt: HostRuntime) -> Result<(), Fail> {
             "[] true false -12 &lt;&quot;a&quot; &amp; 'b'&gt; 18446744073709551615 .",
         ),
         (&[t, d, "put route /x t d\n", release], 1, "not found\n"),
+        (&["put redirect / /x\n", release], 1, "moved to /x\n"),
+        (
+            &[t, "put redirect / /x\n", d, route, release],
+            0,
+            "Hello, world!\n",
+        ),
+        (
+            &["put redirect / /x\n", "remove redirect /\n", release],
+            1,
+            "not found\n",
+        ),
         (&[d, route, release], 1, "template missing\n"),
         (&[t, route, release], 1, "data missing\n"),
         (

@@ -3,12 +3,12 @@ use Rattle.std.proofs.Common.{◌≡◌, ℕ, List, [], ◌∷◌, codes, Some, 
 use Rattle.std.specs.Str.{is_utf8, chars}
 use Rattle.site_ids.specs.declared.Ticket.{Ticket}
 use Rattle.context.specs.Whole.{hash, no_members}
-use Rattle.command.specs.Action.{Action, put_template, put_data, put_route, remove, template, release, Order}
+use Rattle.command.specs.Action.{Action, put_template, put_data, put_route, put_redirect, remove, template, route, release, Order}
 use Rattle.command.specs.Effective.{firsts}
 use Rattle.command.specs.Releases.{release_count}
 use Rattle.command.specs.Written.{value_of}
 use Rattle.render.proofs.Examples.{computing}
-use Rattle.release.specs.Page.{no_template, not_found, released}
+use Rattle.release.specs.Page.{in_place, moved_to, no_template, not_found, page_of, released}
 use Rattle.release.specs.Receipts.{receipt_of}
 use lib.Utf8.{encode}
 
@@ -34,7 +34,7 @@ eight =
 two_releases : release_count (firsts eight) ≡ 2
 two_releases = refl
 
-first_release : released (firsts eight) 1 (codes "/") ≡ Some (record { status = 200; body = codes "v1\n" })
+first_release : released (firsts eight) 1 (codes "/") ≡ Some (in_place 200 (codes "v1\n"))
 unfolding computing
 first_release = refl
 
@@ -49,6 +49,18 @@ third_release = refl
 
 no_release : released (firsts eight) 0 (codes "/") ≡ None
 no_release = refl
+
+-- ---- redirects
+
+moved : page_of (order 1 (put_redirect (codes "/old") (codes "/")) ∷ []) (codes "/old") ≡ moved_to (codes "/")
+moved = refl
+
+-- a redirect leads on from a path without a route alone
+routed_first : page_of (order 1 (put_redirect (codes "/") (codes "/x")) ∷ order 2 (put_route (codes "/") (codes "t") (codes "d")) ∷ []) (codes "/") ≡ no_template
+routed_first = refl
+
+route_removed : page_of (order 1 (put_route (codes "/") (codes "t") (codes "d")) ∷ order 2 (put_redirect (codes "/") (codes "/x")) ∷ order 3 (remove route (codes "/")) ∷ []) (codes "/") ≡ moved_to (codes "/x")
+route_removed = refl
 
 -- ---- receipts
 

@@ -7,7 +7,7 @@ use Rattle.std.specs.List.{slice_get}
 use Rattle.std.specs.Map.{lookup}
 use Rattle.site_ids.specs.declared.TheConstants.{MAX_INSTANCE}
 use Rattle.site_ids.specs.declared.Ticket.{Ticket}
-use Rattle.command.specs.Action.{Action, put_template, put_partial, put_data, put_route, remove, release, Order}
+use Rattle.command.specs.Action.{Action, put_template, put_partial, put_data, put_route, put_redirect, remove, release, Order}
 use Rattle.command.specs.Effective.{is_same_ticket, commands_of, has_ticket, effective}
 use Rattle.command.specs.Reading.{value_reading}
 use Rattle.command.specs.Releases.{release_count, through}
@@ -128,6 +128,7 @@ passed values v live kept receipts is few unchanged none = by (value_reading v) 
     effect (put_partial n b) = inl refl
     effect (put_data n w) = inl refl
     effect (put_route p s f) = inl refl
+    effect (put_redirect p t) = inl refl
     effect (remove k n) = inl refl
     effect release = inr refl
 

@@ -1,6 +1,6 @@
 -- A list of values with one more at its end: its commands, and its releases.
 use Rattle.std.proofs.Common.{◌≡◌, ℕ, zero, suc, ◌+◌, ◌<◌, List, [], ◌∷◌, ◌++◌, Bool, true, false, cond, Result, Ok, Err, refl, sym, ap, ◌∙◌, append-nil, arith}
-use Rattle.command.specs.Action.{Action, put_template, put_partial, put_data, put_route, remove, release, Order}
+use Rattle.command.specs.Action.{Action, put_template, put_partial, put_data, put_route, put_redirect, remove, release, Order}
 use Rattle.command.specs.Effective.{commands_of, has_ticket, firsts, effective}
 use Rattle.command.specs.Reading.{value_reading}
 use Rattle.command.specs.Releases.{is_release, release_count, through}
@@ -29,6 +29,7 @@ counts values v = by (value_reading v) refl
     one (put_partial n b) = refl
     one (put_data n w) = refl
     one (put_route p s f) = refl
+    one (put_redirect p t) = refl
     one (remove k n) = refl
     one release = refl
 

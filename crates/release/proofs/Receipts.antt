@@ -5,7 +5,7 @@ use Rattle.std.proofs.lemmas.Option.{none-some}
 use Rattle.std.specs.List.{position_from}
 use Rattle.std.specs.Option.{is_some}
 use Rattle.site_ids.specs.declared.Ticket.{Ticket}
-use Rattle.command.specs.Action.{Action, put_template, put_partial, put_data, put_route, remove, release, Order}
+use Rattle.command.specs.Action.{Action, put_template, put_partial, put_data, put_route, put_redirect, remove, release, Order}
 use Rattle.command.specs.Effective.{commands_of, has_ticket, is_same_ticket}
 use Rattle.command.specs.Reading.{value_reading}
 use Rattle.command.specs.declared.fault.CommandFault.{CommandFault}
@@ -113,6 +113,7 @@ no_repeat (put_template n b) e = cc
 no_repeat (put_partial n b) e = cc
 no_repeat (put_data n w) e = cc
 no_repeat (put_route p s f) e = cc
+no_repeat (put_redirect p t) e = cc
 no_repeat (remove k n) e = cc
 no_repeat release e = cc
 

@@ -1,31 +1,39 @@
 -- The page of a site for a path, and the answer of a list of values for a release and a path.
-use Rattle.std.specs.Prelude.{ℕ, ◌&&◌, nat_lt, nat_le, if◌then◌else◌, codes, List, Option, None, Some, Result, Ok, Err}
+use Rattle.std.specs.Prelude.{ℕ, ◌&&◌, ◌++◌, nat_lt, nat_le, if◌then◌else◌, codes, List, Option, None, Some, Result, Ok, Err}
 use Rattle.mustache_parse.specs.Tree.{Tree, tree_of}
 use Rattle.mustache_scan.specs.declared.fault.TemplateFault.{TemplateFault}
 use Rattle.context.specs.Whole.{Whole}
 use Rattle.command.specs.Action.{Order}
 use Rattle.command.specs.Effective.{effective}
-use Rattle.command.specs.Site.{template_at, partial_at, data_at, route_at}
+use Rattle.command.specs.Site.{template_at, partial_at, data_at, route_at, redirect_at}
 use Rattle.command.specs.Releases.{release_count, through}
 use Rattle.render.specs.Meaning.{rendering}
 
--- a page: its status and its body
+-- a page: its status, its body, and the path that it moved to, if it did
 pub record Page : Type 0 where
   pub status : ℕ
   pub body : List ℕ
+  pub location : Option (List ℕ)
+
+-- a page that did not move
+abbrev pub in_place : ℕ → List ℕ → Page
+in_place status body = record { status = status; body = body; location = None }
+
+abbrev pub moved_to : List ℕ → Page
+moved_to target = record { status = 301; body = codes "moved to " ++ (target ++ codes "\n"); location = Some target }
 
 abbrev pub not_found : Page
-not_found = record { status = 404; body = codes "not found\n" }
+not_found = in_place 404 (codes "not found\n")
 
 abbrev pub no_template : Page
-no_template = record { status = 500; body = codes "template missing\n" }
+no_template = in_place 500 (codes "template missing\n")
 
 abbrev pub no_data : Page
-no_data = record { status = 500; body = codes "data missing\n" }
+no_data = in_place 500 (codes "data missing\n")
 
 abbrev pub shown : Option (List ℕ) → Page
-shown None = record { status = 500; body = codes "page over limit\n" }
-shown (Some t) = record { status = 200; body = t }
+shown None = in_place 500 (codes "page over limit\n")
+shown (Some t) = in_place 200 t
 
 -- a template's text over data, in the site that the commands leave; a text without a tree is never put
 abbrev pub rendered : List Order → Result Tree TemplateFault → Whole → Page
@@ -40,13 +48,17 @@ abbrev pub with_template : List Order → Option (List ℕ) → Option Whole →
 with_template orders None d = no_template
 with_template orders (Some t) d = with_data orders t d
 
-abbrev pub at_route : List Order → Option (List ℕ × List ℕ) → Page
-at_route orders None = not_found
-at_route orders (Some names) = with_template orders (template_at names.0 orders) (data_at names.1 orders)
+abbrev pub redirected : Option (List ℕ) → Page
+redirected None = not_found
+redirected (Some target) = moved_to target
 
--- the page that a list of commands leaves for a path: by its route, its template, its data
+abbrev pub at_route : List Order → List ℕ → Option (List ℕ × List ℕ) → Page
+at_route orders path None = redirected (redirect_at path orders)
+at_route orders path (Some names) = with_template orders (template_at names.0 orders) (data_at names.1 orders)
+
+-- the page that a list of commands leaves for a path: by its route, its template, its data; without a route by its redirect
 abbrev pub page_of : List Order → List ℕ → Page
-page_of orders path = at_route orders (route_at path orders)
+page_of orders path = at_route orders path (route_at path orders)
 
 -- the page of release n of a list of effective commands, or none where there is no such release
 abbrev pub released : List Order → ℕ → List ℕ → Option Page

@@ -1,12 +1,12 @@
 -- What releases keep, and what an answer stands for.
-use Rattle.std.specs.Prelude.{ℕ, List, map, string_bytes}
+use Rattle.std.specs.Prelude.{ℕ, List, map, option_map, string_bytes}
 use Rattle.release.specs.Page.{Page}
 use Rattle.release.specs.Keeping.{Keeps}
 use Rattle.release.specs.declared.answer.Answer.{Answer}
 use Rattle.release.specs.declared.releases.Releases.TheInside.{Inside}
 
 abbrev pub answer_view : Answer → Page
-answer_view a = record { status = a.status; body = string_bytes a.body }
+answer_view a = record { status = a.status; body = string_bytes a.body; location = option_map string_bytes a.location }
 
 abbrev pub values_fed : Inside → List (List ℕ)
 values_fed r = map (λ v. v.items) r.kept.fed.items

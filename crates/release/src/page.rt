@@ -2,7 +2,8 @@
 ghost use Rattle.std.specs.Prelude.{◌≡◌, ℕ, List, IfOk};
 ghost use Rattle.command.specs.Effective.{effective};
 ghost use Rattle.content.specs.Standing.{IsSiteOf};
-ghost use Rattle.release.specs.Page.{page_of};
+ghost use Rattle.command.specs.Site.{redirect_at};
+ghost use Rattle.release.specs.Page.{in_place, moved_to, redirected, page_of};
 ghost use Rattle.release.specs.Standing.{answer_view};
 
 use crate::answer::Answer;
@@ -31,19 +32,41 @@ impl Partials for SitePartials<'_> {
 }
 
 fn made(alloc: Global, status: u16, body: &str) -> Result<Answer, AllocError>
-    ensures { IfOk result (λ a. answer_view a ≡ record { status = status; body = body.now }) }
+    ensures { IfOk result (λ a. answer_view a ≡ in_place status body.now) }
 {
     Ok(Answer {
         status,
         body: String::from_str(alloc, body)?,
+        location: None,
     })
+}
+
+/// The page of a path that leads to another one.
+fn moved(alloc: Global, target: &str) -> Result<Answer, AllocError>
+    ensures { IfOk result (λ a. answer_view a ≡ moved_to target.now) }
+{
+    Ok(Answer {
+        status: 301,
+        body: format!(in alloc; "moved to {target}\n")?,
+        location: Some(String::from_str(alloc, target)?),
+    })
+}
+
+/// The page of a path without a route.
+fn unrouted(alloc: Global, site: &Site, path: &str) -> Result<Answer, AllocError>
+    ensures { IfOk result (λ a. (values : List (List ℕ)) → IsSiteOf site.now values → answer_view a ≡ redirected (redirect_at path.now (effective values))) }
+{
+    match site.redirect(path) {
+        Some(target) => moved(alloc, target),
+        None => made(alloc, 404, "not found\n"),
+    }
 }
 
 pub(crate) fn page(alloc: Global, site: &Site, path: &str) -> Result<Answer, AllocError>
     ensures { IfOk result (λ a. (values : List (List ℕ)) → IsSiteOf site.now values → answer_view a ≡ page_of (effective values) path.now) }
 {
     let Some((template, of)) = site.route(path) else {
-        return made(alloc, 404, "not found\n");
+        return unrouted(alloc, site, path);
     };
     let Some(template) = site.template(template) else {
         return made(alloc, 500, "template missing\n");
@@ -52,7 +75,11 @@ pub(crate) fn page(alloc: Global, site: &Site, path: &str) -> Result<Answer, All
         return made(alloc, 500, "data missing\n");
     };
     match render(alloc, template, page_data, &SitePartials { site }) {
-        Ok(body) => Ok(Answer { status: 200, body }),
+        Ok(body) => Ok(Answer {
+            status: 200,
+            body,
+            location: None,
+        }),
         Err(RenderFault::OverLimit) => made(alloc, 500, "page over limit\n"),
         Err(RenderFault::OutOfMemory) => Err(AllocError),
     }

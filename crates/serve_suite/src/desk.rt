@@ -2,6 +2,7 @@
 ghost use Rattle.std.specs.Prelude.{◌≡◌, IfOk, OnErr, IfSome, ⊤};
 ghost use Rattle.release.specs.Standing.{answer_view};
 ghost use Rattle.http_serve.specs.Services.{IsTold};
+ghost use Rattle.release.specs.Page.{in_place, moved_to};
 ghost use Rattle.serve_suite.specs.Desks.{page_at, shown_at};
 
 use command::{CommandFault, read, write};
@@ -42,11 +43,22 @@ pub(crate) fn open_desk(alloc: Global, page: &str, newest: u64) -> Desk<'_> {
 }
 
 fn made(alloc: Global, status: u16, body: &str) -> Result<Answer, AllocError>
-    ensures { IfOk result (λ a. answer_view a ≡ record { status = status; body = body.now }) }
+    ensures { IfOk result (λ a. answer_view a ≡ in_place status body.now) }
 {
     Ok(Answer {
         status,
         body: String::from_str(alloc, body)?,
+        location: None,
+    })
+}
+
+fn moved(alloc: Global, target: &str) -> Result<Answer, AllocError>
+    ensures { IfOk result (λ a. answer_view a ≡ moved_to target.now) }
+{
+    Ok(Answer {
+        status: 301,
+        body: format!(in alloc; "moved to {target}\n")?,
+        location: Some(String::from_str(alloc, target)?),
     })
 }
 
@@ -56,6 +68,8 @@ fn shown(alloc: Global, page: &str, n: u64, path: &str) -> Result<Answer, AllocE
     match path {
         "/h" => made(alloc, 200, if n == 1 { page } else { "later\n" }),
         "/lost" => made(alloc, 500, "template missing\n"),
+        "/old" => moved(alloc, "/h"),
+        "/alt" => moved(alloc, "/é"),
         _ => made(alloc, 404, "not found\n"),
     }
 }

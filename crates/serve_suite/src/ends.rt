@@ -114,7 +114,7 @@ pub(crate) fn served(alloc: Global, desk: &mut Desk<'_>, reader: Pieces<'_>) -> 
     served_into(alloc, desk, reader, usize::MAX, usize::MAX)
 }
 
-/// A response: status and reason; the type, and a line of allowed methods or nothing; the body.
+/// A response: status and reason; the type, and a line of its own or nothing; the body.
 pub(crate) type Row = (&'static str, &'static str, &'static str, &'static str);
 
 pub(crate) const HTML: &str = "text/html";
@@ -123,11 +123,11 @@ pub(crate) const PLAIN: &str = "text/plain";
 
 /// The bytes of the response, or of its head alone.
 pub(crate) fn response(alloc: Global, row: Row, to_head: bool) -> Result<String, AllocError> {
-    let (status, media, allow, body) = row;
+    let (status, media, own, body) = row;
     let size = body.len();
     let body = if to_head { "" } else { body };
     format!(in alloc;
-        "HTTP/1.1 {status}\r\nContent-Type: {media}; charset=utf-8\r\n{allow}Content-Length: {size}\r\nConnection: close\r\n\r\n{body}"
+        "HTTP/1.1 {status}\r\nContent-Type: {media}; charset=utf-8\r\n{own}Content-Length: {size}\r\nConnection: close\r\n\r\n{body}"
     )
 }
 

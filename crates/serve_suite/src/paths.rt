@@ -18,6 +18,20 @@ const LATER: Row = ("200 OK", HTML, "", "later\n");
 
 const SEVEN: Row = ("200 OK", PLAIN, "", "7\n");
 
+const MOVED: Row = (
+    "301 Moved Permanently",
+    PLAIN,
+    "Location: /h\r\n",
+    "moved to /h\n",
+);
+
+const MOVED_FAR: Row = (
+    "301 Moved Permanently",
+    PLAIN,
+    "Location: /%C3%A9\r\n",
+    "moved to /é\n",
+);
+
 const WANTS_POST: Row = (
     "405 Method Not Allowed",
     PLAIN,
@@ -33,7 +47,7 @@ const WANTS_GET: Row = (
 );
 
 /// Paths of two releases, and what GET answers; HEAD answers the same without the body, and POST wants GET or HEAD.
-const PATHS: [(&str, Row); 17] = [
+const PATHS: [(&str, Row); 20] = [
     ("/h", LATER),
     ("/@1/h", FIRST),
     ("/@2/h", LATER),
@@ -46,6 +60,9 @@ const PATHS: [(&str, Row); 17] = [
         "/lost",
         ("500 Internal Server Error", PLAIN, "", "template missing\n"),
     ),
+    ("/old", MOVED),
+    ("/@1/old", MOVED),
+    ("/alt", MOVED_FAR),
     ("/", NOT_FOUND),
     ("/H", NOT_FOUND),
     ("/h/", NOT_FOUND),

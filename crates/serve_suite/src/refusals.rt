@@ -35,6 +35,7 @@ fn connections(rt: HostRuntime) -> Result<(), Fail> {
             "GET /_submit/1/5 HTTP/1.1\r\nHost: a\r\n\r\n",
             "method not allowed\n",
         ),
+        ("GET /alt HTTP/1.1\r\nHost: a\r\n\r\n", "moved to /é\n"),
         ("GET /h HTTP/1.1\r\n\r\n", "bad request\n"),
         (
             "POST /_submit/1/5 HTTP/1.1\r\nHost: a\r\nContent-Length: 22\r\n\r\nput template t\n{{a}}{{",

@@ -68,6 +68,8 @@ fn values_and_lines(rt: HostRuntime) -> Result<(), Fail> {
         "put template t\n{{a}}",
         "put data d\n{\"a\":1}",
         "put route /x t d\n",
+        "put redirect /y /x\n",
+        "remove redirect /y\n",
         "release\n",
     ] {
         let value = written(alloc, ticket, text.as_bytes())?;

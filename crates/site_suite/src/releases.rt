@@ -98,3 +98,32 @@ fn no_commands(rt: &impl Abort, alloc: Global, releases: &mut Releases) -> Resul
 fn values_that_are_no_commands(rt: HostRuntime) -> Result<(), Fail> {
     no_commands(&rt, rt.alloc(), &mut Releases::new(rt.alloc()))
 }
+
+/// A page that moved, in releases of which the second has a route for its path and the third no more the redirect.
+fn moving(rt: &impl Abort, alloc: Global, releases: &mut Releases) -> Result<(), Fail> {
+    for (number, text) in [
+        (1, "put redirect /old /h\n"),
+        (2, "release\n"),
+        (3, "put route /old t d\n"),
+        (4, "release\n"),
+        (5, "remove route /old\n"),
+        (6, "remove redirect /old\n"),
+        (7, "release\n"),
+    ] {
+        let value = value_of(alloc, number, text)?;
+        let _ = feed(releases, &value)?;
+    }
+    let moved = releases.answer(1, "/old")?;
+    assert!(rt; moved.status == 301 && moved.body.as_str() == "moved to /h\n");
+    assert!(rt; matches!(&moved.location, Some(path) if path.as_str() == "/h"));
+    for (n, status) in [(2, 500), (3, 404)] {
+        let answer = releases.answer(n, "/old")?;
+        assert!(rt; answer.status == status && answer.location.is_none(), "{n}");
+    }
+    Ok(())
+}
+
+#[test]
+fn a_page_that_moved(rt: HostRuntime) -> Result<(), Fail> {
+    moving(&rt, rt.alloc(), &mut Releases::new(rt.alloc()))
+}

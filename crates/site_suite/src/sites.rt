@@ -22,6 +22,7 @@ fn greet(alloc: Global, site: &mut Site) -> Result<(), AllocError> {
         (2, "put partial t\n{{x}}"),
         (3, "put data d\n[null,true,{\"a\":[7,\"x\"],\"b\":-1}]"),
         (4, "put route / t d\n"),
+        (10, "put redirect /old /new\n"),
     ] {
         let _ = take(alloc, site, number, text)?;
     }
@@ -63,6 +64,7 @@ fn check_greeting(rt: &impl Abort, site: &Site) {
     assert!(rt; matches!(site.template("t"), Some(t) if prints(t, "Hello, ")));
     assert!(rt; matches!(site.partial("t"), Some(t) if names(t, "x")));
     assert!(rt; matches!(site.route("/"), Some((t, d)) if t == "t" && d == "d"));
+    assert_eq!(rt; site.redirect("/old"), Some("/new"));
     let Some(Data::List(items)) = site.data("d") else {
         panic!(rt; "no list");
     };
@@ -80,6 +82,12 @@ fn check_contents(rt: &impl Abort, alloc: Global, site: &mut Site) -> Result<(),
     assert!(rt; site.template("t").is_none() && site.partial("t").is_some());
     let _ = take(alloc, site, 6, "remove route /\n")?;
     assert!(rt; site.route("/").is_none());
+    assert!(rt; site.redirect("/").is_none() && site.route("/old").is_none());
+    let _ = take(alloc, site, 7, "remove route /old\n")?;
+    let _ = take(alloc, site, 8, "put redirect /old /\u{e9}?x\n")?;
+    assert_eq!(rt; site.redirect("/old"), Some("/\u{e9}?x"));
+    let _ = take(alloc, site, 9, "remove redirect /old\n")?;
+    assert!(rt; site.redirect("/old").is_none());
     Ok(())
 }
 
@@ -101,6 +109,8 @@ fn check_apart(
     assert_eq!(rt; take(alloc, copy, 4, "remove data d\n")?, Applied::Repeat);
     assert_eq!(rt; take(alloc, copy, 5, "remove data d\n")?, Applied::Changed);
     assert!(rt; copy.data("d").is_none() && site.data("d").is_some());
+    let _ = take(alloc, copy, 6, "remove redirect /old\n")?;
+    assert!(rt; copy.redirect("/old").is_none() && site.redirect("/old").is_some());
     assert!(rt; site.template("t").is_none());
     Ok(())
 }

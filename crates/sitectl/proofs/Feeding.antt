@@ -1,7 +1,7 @@
 -- The reading of an input, from what each value was answered with as it was fed.
 use Rattle.std.proofs.Common.{◌≡◌, ◌==◌, ◌<◌, ◌≤◌, ℕ, List, [], ◌∷◌, ◌++◌, Bool, true, false, cond, map, length, Option, Some, None, unwrap_or, Result, Ok, Err, refl, sym, ap, ◌∙◌, arith}
 use Rattle.std.proofs.lemmas.List.{map-append}
-use Rattle.command.specs.Action.{Action, put_template, put_partial, put_data, put_route, remove, release, Order}
+use Rattle.command.specs.Action.{Action, put_template, put_partial, put_data, put_route, put_redirect, remove, release, Order}
 use Rattle.command.specs.Effective.{has_ticket, effective}
 use Rattle.command.specs.Releases.{release_count}
 use Rattle.command.specs.declared.fault.CommandFault.{CommandFault}
@@ -17,6 +17,7 @@ answered_so false (put_template n x) is = cc
 answered_so false (put_partial n x) is = cc
 answered_so false (put_data n w) is = cc
 answered_so false (put_route p s f) is = cc
+answered_so false (put_redirect p t) is = cc
 answered_so false (remove k n) is = cc
 answered_so false release is = cc
 

@@ -1,7 +1,7 @@
 -- What a client sends, and what it reads and shows of an answer.
 use Rattle.std.specs.Prelude.{ℕ, ◌≡◌, ◌<◌, List, ◌++◌, length, codes, decimal}
 use Rattle.httparse.specs.Grammar.{ResponseHead, ReadsResponse, status_code}
-use Rattle.release.specs.Page.{Page}
+use Rattle.release.specs.Page.{in_place}
 use Rattle.site_ids.specs.declared.Ticket.{Ticket}
 use Rattle.sitectl.specs.declared.client.TheConstants.{FIELDS}
 use Rattle.sitectl.specs.Simulation.{page_lines}
@@ -16,8 +16,8 @@ abbrev pub get_request : List ℕ → List ℕ
 get_request target = codes "GET " ++ (target ++ codes " HTTP/1.1\r\nHost: localhost\r\nConnection: close\r\n\r\n")
 
 -- what was received is a head with this status, and then this body
-abbrev pub IsResponse : List ℕ → Page → Type 0
-IsResponse received page = (head : ResponseHead) × ReadsResponse received head page.body × (page.status ≡ status_code head)
+abbrev pub IsResponse : List ℕ → ℕ → List ℕ → Type 0
+IsResponse received status body = (head : ResponseHead) × ReadsResponse received head body × (status ≡ status_code head)
 
 -- no head with 16 field lines or fewer stands at the front
 abbrev pub HasNoAnswer : List ℕ → Type 0
@@ -25,4 +25,4 @@ HasNoAnswer received = (head : ResponseHead) (rest : List ℕ) → ReadsResponse
 
 -- status and length, and then the body, are what is shown of what was received
 abbrev pub IsShown : List ℕ → List ℕ → Type 0
-IsShown received printed = (page : Page) × IsResponse received page × (printed ≡ page_lines page)
+IsShown received printed = (status : ℕ) × (body : List ℕ) × IsResponse received status body × (printed ≡ page_lines (in_place status body))

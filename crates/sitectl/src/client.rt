@@ -8,7 +8,7 @@ use httparse::spans::{EMPTY_HEADER_SPAN, parse_response};
 use site_ids::Ticket;
 use std::alloc::{AllocError, Global};
 
-/// The most field lines of an answer. A server of this project gives five.
+/// The most field lines of an answer. A server of this project gives four at most.
 const FIELDS: usize = 16;
 
 /// A command text as a submission under a ticket.
@@ -41,7 +41,7 @@ pub(crate) fn get_request(alloc: Global, target: &[u8]) -> Result<Vec<u8>, Alloc
 
 /// The status and the body of an answer.
 fn answer_in(received: &[u8]) -> Option<(u16, &[u8])>
-    ensures { MatchOption result (HasNoAnswer received.now) (λ a. IsResponse received.now (record { status = a.0; body = a.1.now })) }
+    ensures { MatchOption result (HasNoAnswer received.now) (λ a. IsResponse received.now a.0 a.1.now) }
 {
     let mut spans = [EMPTY_HEADER_SPAN; FIELDS];
     match parse_response(received, &mut spans) {

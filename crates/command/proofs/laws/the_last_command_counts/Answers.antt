@@ -1,4 +1,4 @@
-use Rattle.command.proofs.SiteLemmas.{standing_is_last, template_is_last, partial_is_last, data_is_last, route_is_last}
+use Rattle.command.proofs.SiteLemmas.{standing_is_last, template_is_last, partial_is_last, data_is_last, route_is_last, redirect_is_last}
 use Rattle.command.proofs.laws.the_last_command_counts.Goals as goal
 
 pub returns-clause-standing : goal.returns-clause-standing
@@ -15,3 +15,6 @@ returns-clause-page_data c = data_is_last
 
 pub returns-clause-route : goal.returns-clause-route
 returns-clause-route c = route_is_last
+
+pub returns-clause-redirect : goal.returns-clause-redirect
+returns-clause-redirect c = redirect_is_last

@@ -1,6 +1,8 @@
 use Rattle.std.proofs.Common.{◌≡◌, ◌≢◌, Option, Some, Result, Ok, Err, sym, ap, ◌∙◌}
 use Rattle.std.specs.Option.{option_map}
 use Rattle.std.specs.Result.{IfErr}
+use Rattle.command.specs.Action.{release}
+use Rattle.command.specs.Reading.{text_reading}
 use Rattle.command.specs.Rows.{Row, release_row}
 use Rattle.command.specs.View.{row_view}
 use Rattle.command.specs.declared.fault.CommandFault.{CommandFault}
@@ -31,3 +33,11 @@ returns-in-Some-Route-clause-memory c = let s = c.in-Some-Route in has_row _ _ _
 
 pub returns-in-Some-Remove-clause-memory : goal.returns-in-Some-Remove-clause-memory
 returns-in-Some-Remove-clause-memory c = let s = c.in-Some-Remove in has_row _ _ _ _ _ c.row_in.ensures s.is s.field-0-is (λ e. cc)
+
+pub returns-in-Some-Redirect-clause-memory : goal.returns-in-Some-Redirect-clause-memory
+returns-in-Some-Redirect-clause-memory c = let s = c.in-Some-Redirect in has_row _ _ _ _ _ c.row_in.ensures s.is s.field-0-is (λ e. cc)
+
+pub returns-in-Some-Release-clause-ok : goal.returns-in-Some-Release-clause-ok
+returns-in-Some-Release-clause-ok c =
+    let s = c.in-Some-Release in
+    (release, ap text_reading (sym c.row_in.ensures ∙ ap (option_map row_view) (s.is ∙ ap Some s.field-0-is)), tt)

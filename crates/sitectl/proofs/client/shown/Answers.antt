@@ -3,7 +3,8 @@ use Rattle.sitectl.proofs.client.shown.Goals as goal
 
 pub returns : goal.returns
 returns c = (
-  record { status = c.in-Some.status; body = c.in-Some.body.now },
+  c.in-Some.status,
+  c.in-Some.body.now,
   c.in-Some.ensures,
   c.in_ok-extend_from_slice.ensures.items ∙ (ap (λ line. line ++ c.in-Some.body.now) (ap (λ v. v.items) c.into_bytes-text.ensures.value ∙ c.in_ok-line.ensures.ok) ∙ simp append_assoc),
 )

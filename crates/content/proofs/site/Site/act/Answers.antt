@@ -2,7 +2,7 @@ use Rattle.std.proofs.Common.{sym, subst}
 use Rattle.command.specs.Standing.{StandsAs}
 use Rattle.content.specs.Standing.{HasContents}
 use Rattle.content.specs.contracts.site.Site.{the_view}
-use Rattle.content.proofs.Actions.{template_put, partial_put, data_put, route_put, released}
+use Rattle.content.proofs.Actions.{template_put, partial_put, data_put, route_put, redirect_put, released}
 use Rattle.content.proofs.site.Site.act.Goals as goal
 
 pub returns-in-Release-clause-ok : goal.returns-in-Release-clause-ok
@@ -27,3 +27,8 @@ pub returns-in_ok-put-in-PutRoute-clause-ok : goal.returns-in_ok-put-in-PutRoute
 returns-in_ok-put-in-PutRoute-clause-ok c orders order stands h =
     route_put (the_view c.self-in-PutRoute.inside) c.put-in-PutRoute.new.map c.in-PutRoute.path c.in-PutRoute.template c.in-PutRoute.page_data orders order.ticket order.action c.in_ok-put-in-PutRoute.ensures.ok
     (subst (λ a. StandsAs a order.action) c.in-PutRoute.is stands) (subst (λ s. HasContents s orders) (sym c.self-in-PutRoute.view_is) h)
+
+pub returns-in_ok-put-in-PutRedirect-clause-ok : goal.returns-in_ok-put-in-PutRedirect-clause-ok
+returns-in_ok-put-in-PutRedirect-clause-ok c orders order stands h =
+    redirect_put (the_view c.self-in-PutRedirect.inside) c.put-in-PutRedirect.new.map c.in-PutRedirect.path c.in-PutRedirect.target orders order.ticket order.action c.in_ok-put-in-PutRedirect.ensures.ok
+    (subst (λ a. StandsAs a order.action) c.in-PutRedirect.is stands) (subst (λ s. HasContents s orders) (sym c.self-in-PutRedirect.view_is) h)

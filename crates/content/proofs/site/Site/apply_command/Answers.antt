@@ -30,7 +30,7 @@ returns-clause-ok c values v order reads stands is =
     taken (the_view was) (the_view (record c.self-2.inside { tickets = c.put.new.self })) values v order c.in_ok-done.done reads never site
     (λ t. ap (λ m. is_held t (keys m)) tickets
     ∙ subst (λ k. is_held t (keys (put ticket_cmp (ticket, tt) was.tickets)) ≡ cond (is_same_ticket k t) true (is_held t (keys was.tickets))) stands.0 (put_held ticket t was.tickets))
-    (record { templates = same.templates; partials = same.partials; page_data = same.page_data; routes = same.routes }, done.1)
+    (record { templates = same.templates; partials = same.partials; page_data = same.page_data; routes = same.routes; redirects = same.redirects }, done.1)
 
 pub same-self-in_err-put : goal.same-self-in_err-put
 same-self-in_err-put c = refl

@@ -3,7 +3,7 @@ use Rattle.command.specs.Action.{remove}
 use Rattle.command.specs.View.{kind_view}
 use Rattle.content.specs.Standing.{HasContents}
 use Rattle.content.specs.contracts.site.Site.{the_view}
-use Rattle.content.proofs.Actions.{template_removed, partial_removed, data_removed, route_removed}
+use Rattle.content.proofs.Actions.{template_removed, partial_removed, data_removed, route_removed, redirect_removed}
 use Rattle.content.proofs.Names.{on_ok}
 use Rattle.content.proofs.site.Site.remove.Goals as goal
 
@@ -34,3 +34,10 @@ returns-in-Route-clause-removed c =
     (λ written orders order is h.
     route_removed (the_view c.self.inside) c.take_away-in-Route.new.map c.args.name.now orders order written (is ∙ ap (λ k. remove (kind_view k) c.args.name.now) c.in-Route.is)
     (subst (λ s. HasContents s orders) (sym c.self.view_is) h)) c.take_away-in-Route.ensures.ok
+
+pub returns-in-Redirect-clause-removed : goal.returns-in-Redirect-clause-removed
+returns-in-Redirect-clause-removed c =
+    on_ok c.take_away-in-Redirect.result
+    (λ written orders order is h.
+    redirect_removed (the_view c.self.inside) c.take_away-in-Redirect.new.map c.args.name.now orders order written (is ∙ ap (λ k. remove (kind_view k) c.args.name.now) c.in-Redirect.is)
+    (subst (λ s. HasContents s orders) (sym c.self.view_is) h)) c.take_away-in-Redirect.ensures.ok
