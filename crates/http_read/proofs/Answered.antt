@@ -80,13 +80,13 @@ head_judged (Some xs) held bytes (Some more) spans f status of_head same kept (h
 pub answer_asks : (first mid now : Option (List ℕ)) (passed : Passed) (path : _) (of_head : Bool) (text : _)
     → IfSome first (ShowsHead (opened.Head passed path of_head) mid)
     → IfSome mid (ShowsBody (framing_meant passed.cut) (body.Got text) now)
-    → IfSome first (Shows (came.Request record { method = passed.method; path = path; body = text }) now)
+    → IfSome first (Shows (came.Request record { method = passed.method; path = path; keep = passed.keep; body = text }) now)
 answer_asks None mid now passed path of_head text opens reads = tt
 answer_asks (Some input) mid now passed path of_head text (h, rest, head, (passes, asks_for), is, after) reads =
     let b : ShowsBody (framing_meant passed.cut) (body.Got text) now rest =
     subst (λ m. IfSome m (ShowsBody (framing_meant passed.cut) (body.Got text) now)) after reads in (
       b.0,
-      (h, rest, head, (passes.sound, passes.named, asks_for, subst (λ f. ReadsBody f rest (got text.items b.0)) passes.framed b.1)),
+      (h, rest, head, (passes.sound, passes.named, asks_for, passes.keep, subst (λ f. ReadsBody f rest (got text.items b.0)) passes.framed b.1)),
       b.2,
     )
 

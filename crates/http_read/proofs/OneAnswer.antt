@@ -3,7 +3,7 @@ use Rattle.std.proofs.Common.{◌≡◌, ℕ, ◌⊎◌, Bool, true, false, true
 use Rattle.httparse.specs.Grammar.{RequestHead}
 use Rattle.percent_encoding.specs.Percent.{percent_decode}
 use Rattle.http_read.specs.Heads.{Reading, got, refused, ended, ReadsHead}
-use Rattle.http_read.specs.Checks.{head_fault, framing_of, pairs_of}
+use Rattle.http_read.specs.Checks.{head_fault, framing_of, keeps, pairs_of}
 use Rattle.http_read.specs.Targets.{AsksFor}
 use Rattle.http_read.specs.Bodies.{ReadsBody}
 use Rattle.http_read.specs.Requests.{Heard, asks, refuses, stops, Answers, Follows, is_head}
@@ -28,7 +28,7 @@ no_fault o s none some = true≢false (ap is_fault (sym some ∙ none))
 
 -- what comes of a body
 abbrev of_body : RequestHead → List ℕ → Reading (List ℕ) → Heard
-of_body head path (got body left) = asks (record { method = head.method; path = path; body = body }) left
+of_body head path (got body left) = asks (record { method = head.method; path = path; keep = keeps head.minor (pairs_of head); body = body }) left
 of_body head path (refused s) = refuses s (is_head head)
 of_body head path ended = stops
 
@@ -41,7 +41,7 @@ Kind head rest x =
     × ((r : Reading (List ℕ)) × ReadsBody (framing_of (pairs_of head)) rest r × (x ≡ of_body head path r)))))
 
 kind : (head : RequestHead) (rest : List ℕ) (x : Heard) → Follows head rest x → Kind head rest x
-kind head rest (asks request left) (sound, named, asks_for, reads) =
+kind head rest (asks request left) (sound, named, asks_for, kept, reads) =
     inr (inr (
       sound,
       (
@@ -50,7 +50,7 @@ kind head rest (asks request left) (sound, named, asks_for, reads) =
         (
           got request.body left,
           reads,
-          ap (λ m. asks (record { method = m; path = request.path; body = request.body }) left) named,
+          ap₂ (λ m k. asks (record { method = m; path = request.path; keep = k; body = request.body }) left) named kept,
         ),
       ),
     ))

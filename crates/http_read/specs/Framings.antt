@@ -9,18 +9,19 @@ use Rattle.http_read.specs.declared.judging.Judged.{Judged}
 use Rattle.http_read.specs.declared.judging.Judged.TheVariants.{Asks, Refused}
 use Rattle.http_read.specs.Methods.{method_name}
 use Rattle.http_read.specs.Targets.{AsksFor}
-use Rattle.http_read.specs.Checks.{FieldPair, Framing, fixed, chunked, framing_of, fault_of, head_fault, pairs_of}
+use Rattle.http_read.specs.Checks.{FieldPair, Framing, fixed, chunked, framing_of, fault_of, head_fault, keeps, pairs_of}
 
 -- the framing that is meant
 abbrev pub framing_meant : Cut → Framing
 framing_meant (Length n) = fixed n
 framing_meant Chunks = chunked
 
--- the head passes all tests, and this is its method and how its body is cut
+-- the head passes all tests, and this is its method, how its body is cut, and whether the connection may stay
 pub record Passes (minor : ℕ) (method : List ℕ) (fields : List FieldPair) (passed : Passed) : Type 0 where
   pub sound : fault_of minor method fields ≡ None
   pub named : method_name passed.method ≡ method
   pub framed : framing_meant passed.cut ≡ framing_of fields
+  pub keep : passed.keep ≡ keeps minor fields
 
 -- what is known of a whole head before its body is read
 abbrev pub Judges : RequestHead → Judged → Type 0

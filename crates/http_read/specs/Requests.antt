@@ -2,14 +2,15 @@
 use Rattle.std.specs.Prelude.{◌≡◌, ℕ, ◌⊎◌, Bool, false, List, codes, bytes_eq, Some, None}
 use Rattle.httparse.specs.Grammar.{RequestHead}
 use Rattle.http_read.specs.Heads.{got, refused, ended, ReadsHead}
-use Rattle.http_read.specs.Checks.{pairs_of, head_fault, framing_of}
+use Rattle.http_read.specs.Checks.{pairs_of, head_fault, framing_of, keeps}
 use Rattle.http_read.specs.Targets.{AsksFor}
 use Rattle.http_read.specs.Bodies.{ReadsBody}
 
--- what the server acts on
+-- what the server acts on; keep: the client lets the connection stay
 pub record Asked : Type 0 where
   pub method : List ℕ
   pub path : List ℕ
+  pub keep : Bool
   pub body : List ℕ
 
 -- a request and the bytes after it; a refusal by its status, and whether it is of a HEAD request; or an input that ended too early
@@ -26,7 +27,7 @@ is_head head = bytes_eq head.method (codes "HEAD")
 abbrev pub Follows : RequestHead → List ℕ → Heard → Type 0
 Follows head rest (asks request left) =
     (head_fault head ≡ None) × (request.method ≡ head.method) × AsksFor head.target request.path
-    × ReadsBody (framing_of (pairs_of head)) rest (got request.body left)
+    × (request.keep ≡ keeps head.minor (pairs_of head)) × ReadsBody (framing_of (pairs_of head)) rest (got request.body left)
 Follows head rest (refuses status of_head) =
     (of_head ≡ is_head head) × (
     (head_fault head ≡ Some status)

@@ -6,6 +6,7 @@ ghost use Rattle.http_read.specs.Methods.{method_name};
 ghost use Rattle.http_read.specs.Spans.{covered, LieIn};
 
 use crate::codings::codings_named;
+use crate::connection::keeps;
 use crate::fields::{count_named, first_named};
 use crate::incoming::Method;
 use crate::lengths::{Stated, number_in};
@@ -26,6 +27,8 @@ pub(crate) enum Cut {
 pub(crate) struct Passed {
     pub method: Method,
     pub cut: Cut,
+    /// Whether the connection may stay.
+    pub keep: bool,
 }
 
 /// The method of this name; names differ by case (RFC 9110, section 9.1).
@@ -96,7 +99,7 @@ fn length_named(bytes: &[u8], fields: &[HeaderSpan]) -> Result<usize, u16>
     }
 }
 
-/// The method, and how the body is cut; or the status of the first test that the head fails.
+/// The method, how the body is cut and whether the connection may stay; or the status of the first test that the head fails.
 pub(crate) fn pass(
     minor: u8,
     method: &[u8],
@@ -123,15 +126,18 @@ pub(crate) fn pass(
     let Some(method) = method_named(method) else {
         return Err(501);
     };
+    let keep = keeps(minor, bytes, fields);
     if count_named(bytes, fields, b"transfer-encoding") == 0 {
         Ok(Passed {
             method,
             cut: Cut::Length(stated),
+            keep,
         })
     } else {
         Ok(Passed {
             method,
             cut: Cut::Chunks,
+            keep,
         })
     }
 }

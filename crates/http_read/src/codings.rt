@@ -18,7 +18,7 @@ pub(crate) struct Codings {
 }
 
 /// What stands before the first comma, and after it.
-fn cut_at_comma(value: &[u8]) -> Option<(&[u8], &[u8])>
+pub(crate) fn cut_at_comma(value: &[u8]) -> Option<(&[u8], &[u8])>
     ensures { MatchOption result (comma_parts value.now ≡ value.now ∷ [])
         (λ cut. (comma_parts value.now ≡ cut.0.now ∷ comma_parts cut.1.now) × (length cut.1.now < length value.now)) }
 {
@@ -60,7 +60,7 @@ fn without_back(bytes: &[u8]) -> &[u8]
 
 /// The bytes without the spaces and tabs at both ends.
 #[tactic(auto, unfolding(httparse::specs::Grammar::trim_ows))]
-fn trimmed(bytes: &[u8]) -> &[u8]
+pub(crate) fn trimmed(bytes: &[u8]) -> &[u8]
     ensures { result.now ≡ trim_ows bytes.now }
 {
     without_back(without_front(bytes))

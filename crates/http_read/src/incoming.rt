@@ -14,6 +14,8 @@ pub struct Request {
     pub method: Method,
     /// The target's path, percent-decoded once, without the query.
     pub path: String,
+    /// Whether the client lets the connection stay: the request is of HTTP/1.1, and no Connection line says `close`.
+    pub keep: bool,
     /// At most 40,000 bytes; a body that came by chunks stands here without them.
     pub body: Vec<u8>,
 }

@@ -9,6 +9,7 @@ mod checks;
 mod chunk_lines;
 mod chunks;
 mod codings;
+mod connection;
 mod counted;
 mod fault;
 mod fields;

@@ -45,6 +45,7 @@ fn read_one<R: Read>(
         BodyRead::Got(body) => Ok(Incoming::Request(Request {
             method: passed.method,
             path,
+            keep: passed.keep,
             body,
         })),
         BodyRead::Refused(status) => Ok(Incoming::Refused { status, head }),

@@ -32,10 +32,10 @@ asked_responds service now request to_head place path text asking same named who
   spelled = whole ∙ ap (λ b. print_reply b (asked_reply service now path place)) (sym asking.head);
 }
 
-pub posted_responds : {S : Type 0} (service : Offered S) (now after : S) (path body said lent text : List ℕ) (m : Method) (place : Place) (reply : Reply)
+pub posted_responds : {S : Type 0} (service : Offered S) (now after : S) (path body said lent text : List ℕ) (m : Method) (keep : Bool) (place : Place) (reply : Reply)
     → m ≡ Post → said ≡ path → lent ≡ body → Names said place → RepliesToPost service now lent place after reply
-    → text ≡ print_reply false reply → IsResponse service now (record { method = method_name m; path = path; body = body }) after reply text
-posted_responds service now after path body said lent text m place reply is same whole named replied spelled = rw is (record {
+    → text ≡ print_reply false reply → IsResponse service now (record { method = method_name m; path = path; keep = keep; body = body }) after reply text
+posted_responds service now after path body said lent text m keep place reply is same whole named replied spelled = rw is (record {
   place = place;
   names = subst (λ p. Names p place) same named;
   replies = inl (refl, subst (λ b. RepliesToPost service now b place after reply) whole replied);

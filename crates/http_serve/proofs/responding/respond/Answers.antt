@@ -17,6 +17,6 @@ pub returns-in-Post-clause-answered : goal.returns-in-Post-clause-answered
 returns-in-Post-clause-answered g c = IfOk-weaker c.posted.result _ _
     (λ v (reply, replied, same). (
       reply,
-      posted_responds _ _ _ _ _ _ _ _ _ _ _ c.in-Post.is c.as_str-path.ensures.value c.as_slice.ensures.value c.place_of-place.ensures replied same,
+      posted_responds _ _ _ _ _ _ _ _ _ _ _ _ c.in-Post.is c.as_str-path.ensures.value c.as_slice.ensures.value c.place_of-place.ensures replied same,
     ))
     c.posted.ensures.answered
