@@ -5,7 +5,8 @@ use Rattle.site_ids.specs.Lists.{In}
 use Rattle.site_ids.specs.declared.value.Vote.{Vote}
 use Rattle.acceptor.specs.declared.slot.Slot.{Slot}
 use Rattle.acceptor.specs.Judging.{IsFreeBelow, IsFreeAt, IsVotedAt}
-use Rattle.durable.specs.Entries.{Entry, Promised, Voted, Raises, IsPromise, IsSlot}
+use Rattle.durable.specs.Entries.{Entry, Promised, PromisedSpan, Voted, Raises, IsPromise, IsSlot}
+use Rattle.site_ids.specs.Spans.{IsInSpan}
 use Rattle.durable.specs.Histories.{Advances}
 
 below : (a b c : BallotOf) → NotAbove a b → Below b c → Below a c
@@ -28,6 +29,13 @@ promise_advances es i b s is free = free_below es i b s.promised is.promise free
 
 pub promise_must : (es : List Entry) (i : ℕ) (b : BallotOf) (s : Slot) → IsSlot es i s → Advances es (Promised i b) → IsFreeBelow s.promised b
 promise_must es i b s is advances = must_be_below es i b s.promised is.promise advances
+
+-- a span advances where one of its instances rises, and nowhere else
+pub span_advances : (es : List Entry) (i k j : ℕ) (b : BallotOf) (s : Slot) → IsInSpan i k j → IsSlot es j s → IsFreeBelow s.promised b → Advances es (PromisedSpan i k b)
+span_advances es i k j b s within is free = (j, within, free_below es j b s.promised is.promise free)
+
+pub span_must : (es : List Entry) (i k : ℕ) (b : BallotOf) (slots : ℕ → Slot) → ((j : ℕ) → IsSlot es j (slots j)) → Advances es (PromisedSpan i k b) → (j : ℕ) × IsInSpan i k j × IsFreeBelow (slots j).promised b
+span_must es i k b slots are advances = (advances.0, advances.1, must_be_below es advances.0 b (slots advances.0).promised (are advances.0).promise advances.2)
 
 abbrev AllNotAbove : List Entry → ℕ → BallotOf → Type 0
 AllNotAbove es i b = (e : Entry) (c : BallotOf) → In es e → Raises e i c → NotAbove c b

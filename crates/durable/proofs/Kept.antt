@@ -1,12 +1,15 @@
 -- What is kept in memory, with one entry more.
-use Rattle.std.proofs.Common.{◌≡◌, ◌≢◌, ⊎_elim, ℕ, List, [], ◌∷◌, ◌++◌, Some, None, Bool, true, false, if◌then◌else◌, nat_eq, max, refl, sym, ◌∙◌, ap, subst, arith}
+use Rattle.std.proofs.Common.{◌≡◌, ◌≢◌, ◌⊎◌, ⊎_elim, ℕ, List, [], ◌∷◌, ◌++◌, Some, None, Bool, true, false, if◌then◌else◌, nat_eq, max, refl, sym, ◌∙◌, ap, subst, arith}
 use Rattle.std.proofs.lemmas.Bool.{cases_eq}
 use Rattle.std.proofs.lemmas.Bool.Decides.{nat_tests}
 use Rattle.site_ids.specs.Ids.{BallotOf, Below, NotAbove}
 use Rattle.acceptor.specs.declared.slot.Slot.{Slot}
 use Rattle.acceptor.specs.Steps.{with_promise, with_vote}
-use Rattle.durable.specs.Entries.{Entry, Round, Promised, Voted, Raises, IsSlot, last_vote, round_after, round_in}
+use Rattle.durable.specs.Entries.{Entry, Round, Promised, PromisedSpan, Voted, Raises, IsSlot, last_vote, round_after, round_in}
 use Rattle.durable.specs.Histories.{Advances}
+use Rattle.site_ids.specs.Spans.{IsInSpan}
+use Rattle.durable.specs.Raising.{IsRaised}
+use Rattle.durable.proofs.Spans.{slot_raised}
 use Rattle.durable.specs.Reading.{IsKept}
 use Rattle.durable.specs.Puts.{AreSlotsKept, AreSlotsAfter, Remembers, IsMemoryKept}
 use Rattle.durable.specs.Slots.{no_slot, slot_at}
@@ -57,6 +60,9 @@ slot_voted es i b v advances = record {
   vote = sym (vote_after-push i None es (Voted i b v ∷ []) ∙ ap (λ (x : Bool). if x then Some (record { ballot = b; value = v }) else last_vote i es) (number_itself i));
 }
 
+in_span : (i l k : ℕ) → IsInSpan i l k ⊎ (¬ IsInSpan i l k)
+in_span i l k = grind arith
+
 -- the slots after one entry more are those of the entries with it
 slots_after : (es : List Entry) (e : Entry) (old new : Slots) → Advances es e → ((i : ℕ) → IsSlot es i (slot_at old i)) → AreSlotsAfter e old new → (k : ℕ) → IsSlot (es ++ e ∷ []) k (slot_at new k)
 slots_after es (Round r) old new advances kept after k = subst (λ (s : Slot). IsSlot (es ++ Round r ∷ []) k s) (sym (after k)) (slot_unchanged es r k (slot_at old k) (kept k))
@@ -67,6 +73,12 @@ slots_after es (Promised i b) old new advances kept after k =
     (λ (other : k ≢ i). subst (λ (s : Slot). S k s) (sym (after.1 k other))
     (slot_kept es (Promised i b) k (slot_at old k) (λ c raises. other (sym raises.0)) (vote_after-push k None es (Promised i b ∷ [])) (kept k)))
     (cases_eq k i)
+slots_after es (PromisedSpan i l b) old new advances kept after k =
+    ⊎_elim
+    (λ (within : IsInSpan i l k). slot_raised es (PromisedSpan i l b) k b (slot_at old k) (slot_at new k) (within, refl) (λ d r. sym r.1) (vote_after-push k None es (PromisedSpan i l b ∷ [])) (kept k) (after.0 k within))
+    (λ (outside : ¬ IsInSpan i l k). subst (λ (s : Slot). IsSlot (es ++ PromisedSpan i l b ∷ []) k s) (sym (after.1 k outside))
+    (slot_kept es (PromisedSpan i l b) k (slot_at old k) (λ c raises. outside raises.0) (vote_after-push k None es (PromisedSpan i l b ∷ [])) (kept k)))
+    (in_span i l k)
 slots_after es (Voted i b v) old new advances kept after k =
     let S : ℕ → Slot → Type 0 = λ j s. IsSlot (es ++ Voted i b v ∷ []) j s in
     let test : k ≢ i → last_vote k (es ++ Voted i b v ∷ []) ≡ last_vote k es = λ other. vote_after-push k None es (Voted i b v ∷ [])
@@ -100,4 +112,5 @@ remembers_through e old mid new same remembers = record {
     slots_through : (e : Entry) (old mid new : Slots) → AreSlotsKept old mid → AreSlotsAfter e mid new → AreSlotsAfter e old new
     slots_through (Round r) old mid new same after = λ i. after i ∙ same i
     slots_through (Promised j b) old mid new same after = (after.0 ∙ ap (λ (s : Slot). with_promise s b) (same j), λ i other. after.1 i other ∙ same i)
+    slots_through (PromisedSpan j l b) old mid new same after = ((λ i within. subst (λ (s : Slot). IsRaised s b (slot_at new i)) (same i) (after.0 i within)), λ i outside. after.1 i outside ∙ same i)
     slots_through (Voted j b v) old mid new same after = (after.0, λ i other. after.1 i other ∙ same i)

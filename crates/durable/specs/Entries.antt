@@ -2,12 +2,14 @@
 use Rattle.std.specs.Prelude.{◌≡◌, ℕ, List, [], ◌∷◌, ◌++◌, Option, Some, None, max, nat_eq, if◌then◌else◌}
 use Rattle.site_ids.specs.Ids.{BallotOf, NotAbove}
 use Rattle.site_ids.specs.Lists.{In}
+use Rattle.site_ids.specs.Spans.{IsInSpan}
 use Rattle.site_ids.specs.declared.value.Vote.{Vote}
 use Rattle.acceptor.specs.declared.slot.Slot.{Slot}
 
 pub data Entry : Type 0 where
   Round : (round : ℕ) → Entry
   Promised : (instance : ℕ) (ballot : BallotOf) → Entry
+  PromisedSpan : (first : ℕ) (count : ℕ) (ballot : BallotOf) → Entry
   Voted : (instance : ℕ) (ballot : BallotOf) (value : List ℕ) → Entry
 
 -- the last round of the entries, or else r
@@ -15,6 +17,7 @@ abbrev pub round_after : ℕ → List Entry → ℕ
 round_after r [] = r
 round_after r (Round s ∷ es) = round_after s es
 round_after r (Promised i b ∷ es) = round_after r es
+round_after r (PromisedSpan i k b ∷ es) = round_after r es
 round_after r (Voted i b v ∷ es) = round_after r es
 
 -- the last round, 0 where there is none
@@ -26,6 +29,7 @@ abbrev pub vote_after : ℕ → Option Vote → List Entry → Option Vote
 vote_after i last [] = last
 vote_after i last (Round s ∷ es) = vote_after i last es
 vote_after i last (Promised j b ∷ es) = vote_after i last es
+vote_after i last (PromisedSpan j k b ∷ es) = vote_after i last es
 vote_after i last (Voted j b v ∷ es) = vote_after i (if nat_eq j i then Some (record { ballot = b; value = v }) else last) es
 
 -- the last vote at the instance, none where there is none
@@ -36,6 +40,7 @@ last_vote i es = vote_after i None es
 abbrev pub round_in : Entry → ℕ
 round_in (Round r) = r
 round_in (Promised i b) = b.round
+round_in (PromisedSpan i k b) = b.round
 round_in (Voted i b v) = b.round
 
 -- the greatest round that the entries record or promise, 0 where there are none
@@ -43,10 +48,11 @@ abbrev pub greatest_round : List Entry → ℕ
 greatest_round [] = 0
 greatest_round (e ∷ es) = max (round_in e) (greatest_round es)
 
--- the entry promises this ballot at the instance
+-- the entry promises this ballot at the instance. Where a higher one is promised there, it raises nothing
 abbrev pub Raises : Entry → ℕ → BallotOf → Type 0
 Raises (Round r) i b = ⊥
 Raises (Promised j c) i b = (j ≡ i) × (c ≡ b)
+Raises (PromisedSpan j k c) i b = IsInSpan j k i × (c ≡ b)
 Raises (Voted j c v) i b = (j ≡ i) × (c ≡ b)
 
 -- the greatest ballot among the promises and votes at the instance
@@ -58,6 +64,10 @@ IsPromise es i (Some b) = ((e : Entry) × In es e × Raises e i b) × ((e : Entr
 pub record IsSlot (es : List Entry) (i : ℕ) (s : Slot) : Type 0 where
   pub promise : IsPromise es i s.promised
   pub vote : s.vote ≡ last_vote i es
+
+-- the entry by which a ballot is promised at the k instances from i on: a span of one is one instance's
+abbrev pub promise_of : ℕ → ℕ → BallotOf → Entry
+promise_of i k b = if nat_eq k 1 then Promised i b else PromisedSpan i k b
 
 -- the entries with one more, where there is one
 abbrev pub with_entry : List Entry → Option Entry → List Entry

@@ -3,20 +3,27 @@ use Rattle.std.specs.Prelude.{◌≡◌, ◌≢◌, ℕ, ◌<◌, ◌≤◌, ◌
 use Rattle.site_ids.specs.declared.TheConstants.{MAX_VALUE}
 use Rattle.site_ids.specs.Ids.{BallotOf, IsInstance, IsBallot, Below, NotAbove}
 use Rattle.site_ids.specs.Lists.{In}
+use Rattle.site_ids.specs.Spans.{IsSpan, IsInSpan}
 use Rattle.site_ids.specs.declared.value.Vote.{Vote}
-use Rattle.durable.specs.Entries.{Entry, Round, Promised, Voted, Raises, last_round, last_vote}
+use Rattle.durable.specs.Entries.{Entry, Round, Promised, PromisedSpan, Voted, Raises, last_round, last_vote}
 
 -- its numbers are in their ranges, in a cluster of n nodes
 abbrev pub IsInRange : ℕ → Entry → Type 0
 IsInRange n (Round r) = (0 < r) × (r < 2 ^ 32)
 IsInRange n (Promised i b) = IsInstance i × IsBallot n b
+IsInRange n (PromisedSpan i k b) = (2 ≤ k) × IsSpan i k × IsBallot n b
 IsInRange n (Voted i b v) = IsInstance i × IsBallot n b × (length v ≤ MAX_VALUE)
 
--- A round is above the last one, a promise above each ballot raised at its instance. A vote is below none of them, and not at the ballot of
+-- each ballot raised at the instance is below this one
+abbrev pub IsAbove : List Entry → ℕ → BallotOf → Type 0
+IsAbove earlier i b = (e : Entry) (c : BallotOf) → In earlier e → Raises e i c → Below c b
+
+-- A round is above the last one, a promise above each ballot raised at its instance, that of a span at one of its instances at least. A vote is below none of them, and not at the ballot of
 -- the last vote there.
 abbrev pub Advances : List Entry → Entry → Type 0
 Advances earlier (Round r) = last_round earlier < r
-Advances earlier (Promised i b) = (e : Entry) (c : BallotOf) → In earlier e → Raises e i c → Below c b
+Advances earlier (Promised i b) = IsAbove earlier i b
+Advances earlier (PromisedSpan i k b) = (j : ℕ) × IsInSpan i k j × IsAbove earlier j b
 Advances earlier (Voted i b v) = ((e : Entry) (c : BallotOf) → In earlier e → Raises e i c → NotAbove c b) × ((vote : Vote) → last_vote i earlier ≡ Some vote → vote.ballot ≢ b)
 
 -- an entry may follow these

@@ -3,8 +3,10 @@ use Rattle.std.specs.Prelude.{◌≡◌, ◌≢◌, ◌⊎◌, ◌↔◌, ℕ, �
 use Rattle.site_ids.specs.declared.TheConstants.{MAX_RECORD}
 use Rattle.site_disk.specs.Model.{DiskState, LeavesOnly}
 use Rattle.acceptor.specs.Steps.{with_promise, with_vote}
+use Rattle.site_ids.specs.Spans.{IsInSpan}
 use Rattle.durable.specs.Append.{IsOpenAt}
-use Rattle.durable.specs.Entries.{Entry, Round, Promised, Voted, round_after, round_in}
+use Rattle.durable.specs.Raising.{IsRaised}
+use Rattle.durable.specs.Entries.{Entry, Round, Promised, PromisedSpan, Voted, round_after, round_in}
 use Rattle.durable.specs.Histories.{MayFollow}
 use Rattle.durable.specs.Spelling.{block, behind_gate}
 use Rattle.durable.specs.Keeping.{IsFound, Keeps}
@@ -29,6 +31,7 @@ AreOthersKept j old new = (i : ℕ) → i ≢ j → slot_at new i ≡ slot_at ol
 abbrev pub AreSlotsAfter : Entry → Slots → Slots → Type 0
 AreSlotsAfter (Round r) old new = AreSlotsKept old new
 AreSlotsAfter (Promised j b) old new = (slot_at new j ≡ with_promise (slot_at old j) b) × AreOthersKept j old new
+AreSlotsAfter (PromisedSpan j k b) old new = ((i : ℕ) → IsInSpan j k i → IsRaised (slot_at old i) b (slot_at new i)) × ((i : ℕ) → ¬ IsInSpan j k i → slot_at new i ≡ slot_at old i)
 AreSlotsAfter (Voted j b v) old new = (slot_at new j ≡ with_vote b v) × AreOthersKept j old new
 
 -- what is kept in memory after one entry more

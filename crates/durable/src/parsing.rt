@@ -2,6 +2,8 @@
 
 ghost use Rattle.std.specs.Prelude.{◌≡◌};
 ghost use Rattle.std.specs.Option.{IfSome, IfNone};
+ghost use Rattle.site_ids.specs.Ids.{BallotOf, IsBallot};
+ghost use Rattle.site_ids.specs.Spelling.{ballot_bytes};
 ghost use Rattle.durable.specs.Entries.{Entry};
 ghost use Rattle.durable.specs.Histories.{IsInRange};
 ghost use Rattle.durable.specs.Spelling.{payload as payload_of};
@@ -14,6 +16,7 @@ use site_ids::{Ballot, Cluster, Instance, MAX_VALUE};
 pub(crate) enum EntryRef<'a> {
     Round(u32),
     Promised(Instance, Ballot),
+    PromisedSpan(Instance, u8, Ballot),
     Voted(Instance, Ballot, &'a [u8]),
 }
 
@@ -24,6 +27,18 @@ pub(crate) enum Next<'a> {
     Damaged,
     /// An entry, and the length of its block.
     Found(EntryRef<'a>, usize),
+}
+
+// The ballot that the bytes spell.
+fn ballot_of(bytes: &[u8], cluster: Cluster) -> Option<Ballot>
+    ensures spelled { IfSome result (λ b. IsBallot cluster b × (bytes.now ≡ ballot_bytes b)) }
+    ensures no_other { IfNone result ((b : BallotOf) → IsBallot cluster b → bytes.now ≡ ballot_bytes b → ⊥) }
+{
+    let [a, b, c, d, node] = bytes else {
+        return None;
+    };
+    let node = cluster.node(*node)?;
+    Ballot::new(u32::from_be_bytes([*a, *b, *c, *d]), node)
 }
 
 // The entry that a payload spells.
@@ -39,6 +54,15 @@ fn entry_of(payload: &[u8], cluster: Cluster) -> Option<EntryRef<'_>>
                 None
             } else {
                 Some(EntryRef::Round(round))
+            }
+        }
+        [4, a, b, c, d, count, ballot @ ..] => {
+            let instance = Instance::new(u32::from_be_bytes([*a, *b, *c, *d]))?;
+            let ballot = ballot_of(ballot, cluster)?;
+            if 2 <= *count && instance.begins_span(*count) {
+                Some(EntryRef::PromisedSpan(instance, *count, ballot))
+            } else {
+                None
             }
         }
         [kind, a, b, c, d, e, f, g, h, node, value @ ..] => {

@@ -1,14 +1,15 @@
 //! Putting one entry more on record.
 
-ghost use Rattle.std.specs.Prelude.{◌≡◌, ◌+◌, ◌≤◌, ◌<◌, ◌^◌, IsErrOf, OnOk, OnErr, length, false, true};
+ghost use Rattle.std.specs.Prelude.{◌≡◌, ℕ, ◌+◌, ◌≤◌, ◌<◌, ◌^◌, IsErrOf, OnOk, OnErr, length, false, true};
 ghost use Rattle.site_ids.specs.declared.TheConstants.{MAX_VALUE};
 ghost use Rattle.site_disk.specs.Model.{CountsFailure};
 ghost use Rattle.site_ids.specs.Ids.{IsNode};
+ghost use Rattle.site_ids.specs.Spans.{IsSpan, IsInSpan};
 ghost use Rattle.acceptor.specs.Judging.{IsFreeBelow, IsFreeAt, IsVotedAt};
-ghost use Rattle.durable.specs.Entries.{Round, Promised, Voted};
+ghost use Rattle.durable.specs.Entries.{Round, Promised, PromisedSpan, Voted};
 
 use crate::append::append;
-use crate::spelling::{promise_behind, round_behind};
+use crate::spelling::{promise_behind, round_behind, span_behind};
 use crate::{Record, RecordFault};
 use site_disk::{Disk, DiskFailed};
 use site_ids::{Ballot, Instance};
@@ -56,6 +57,42 @@ impl<D: Disk> Record<D> {
         match self.append(&promise_behind(instance, ballot)) {
             Ok(()) => {
                 self.recorded.keep_promise(instance, ballot);
+                Ok(())
+            }
+            Err(DiskFailed) => Err(RecordFault::Device),
+        }
+    }
+
+    /// Records the promise of a span, which raises that of one of its instances at least. At `Ok` it is on the disk.
+    pub fn put_promise_span(
+        &mut self,
+        first: Instance,
+        count: u8,
+        ballot: Ballot,
+    ) -> Result<(), RecordFault>
+        requires of_cluster { IsNode self.old.cluster ballot.node }
+        requires long { 2 ≤ count }
+        requires span { IsSpan first count }
+        requires above { (at : ℕ) × IsInSpan first count at × IsFreeBelow (slot_at self.old.recorded.slots at).promised ballot }
+        ensures { Puts D.stands_for D.failed self.old self.new (PromisedSpan first count ballot) result }
+    {
+        if self.stopped {
+            return Err(RecordFault::Stopped);
+        }
+        if !self.has_room(11) {
+            return Err(RecordFault::Full);
+        }
+        if self
+            .recorded
+            .slots
+            .make_room_for_span(first, count)
+            .is_err()
+        {
+            return Err(RecordFault::OutOfMemory);
+        }
+        match self.append(&span_behind(first, count, ballot)) {
+            Ok(()) => {
+                self.recorded.keep_span(first, count, ballot);
                 Ok(())
             }
             Err(DiskFailed) => Err(RecordFault::Device),

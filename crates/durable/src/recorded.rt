@@ -1,7 +1,9 @@
 //! What the entries of a file record.
 
-ghost use Rattle.std.specs.Prelude.{◌≡◌, []};
-ghost use Rattle.durable.specs.Entries.{Round, Promised, Voted};
+ghost use Rattle.std.specs.Prelude.{◌≡◌, ℕ, []};
+ghost use Rattle.durable.specs.Entries.{Round, Promised, PromisedSpan, Voted};
+ghost use Rattle.durable.specs.Raising.{IsSpanned};
+ghost use Rattle.site_ids.specs.Spans.{IsSpan, IsInSpan};
 
 use crate::RecordFault;
 use crate::parsing::EntryRef;
@@ -57,6 +59,17 @@ impl Recorded {
         self.greatest = self.greatest.max(ballot.round());
     }
 
+    /// Keeps the promise of a span where there is room for its slots.
+    pub(crate) fn keep_span(&mut self, first: Instance, count: u8, ballot: Ballot)
+        requires span { IsSpan first count }
+        requires room { (at : ℕ) → IsInSpan first count at → IsThere self.old.slots at }
+        ensures remembers { Remembers self.old self.new (PromisedSpan first count ballot) }
+        ensures gate { self.new.gate ≡ self.old.gate }
+    {
+        self.slots.promise_span(first, count, ballot);
+        self.greatest = self.greatest.max(ballot.round());
+    }
+
     /// Keeps a vote where there is room for the slot.
     pub(crate) fn keep_vote(&mut self, instance: Instance, vote: Vote)
         requires { IsThere self.old.slots instance }
@@ -69,11 +82,13 @@ impl Recorded {
 
     /// Takes one entry more, if it advances those before it.
     pub(crate) fn take(&mut self, alloc: Global, entry: EntryRef<'_>) -> Result<(), RecordFault>
+        requires { IsSpanned (meaning entry) }
         ensures { Takes (meaning entry.entry) self.old self.new result }
     {
         match entry {
             EntryRef::Round(round) => self.take_round(round),
             EntryRef::Promised(instance, ballot) => self.take_promise(instance, ballot),
+            EntryRef::PromisedSpan(first, count, ballot) => self.take_span(first, count, ballot),
             EntryRef::Voted(instance, ballot, value) => {
                 self.take_vote(alloc, instance, ballot, value)
             }
@@ -98,6 +113,18 @@ impl Recorded {
         };
         self.slots.make_room(instance)?;
         self.keep_promise(instance, ballot);
+        Ok(())
+    }
+
+    fn take_span(&mut self, first: Instance, count: u8, ballot: Ballot) -> Result<(), RecordFault>
+        requires { IsSpan first count }
+        ensures { Takes (PromisedSpan first count ballot) self.old self.new result }
+    {
+        if !self.slots.rises(first, count, ballot) {
+            return Err(RecordFault::Damaged);
+        }
+        self.slots.make_room_for_span(first, count)?;
+        self.keep_span(first, count, ballot);
         Ok(())
     }
 

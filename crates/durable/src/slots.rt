@@ -1,8 +1,11 @@
 //! What a node has promised and voted at each instance.
 
-ghost use Rattle.std.specs.Prelude.{◌≡◌, ◌≢◌, ◌≤◌, ◌<◌, ◌^◌, ℕ, None, Some, OnOk, IfOk, length};
+ghost use Rattle.std.specs.Prelude.{◌≡◌, ◌≢◌, ◌↔◌, IsTrue, ◌≤◌, ◌<◌, ◌^◌, ℕ, None, Some, OnOk, IfOk, length};
 ghost use Rattle.site_ids.specs.declared.TheConstants.{MAX_VALUE};
 ghost use Rattle.site_ids.specs.Ids.{IsInstance};
+ghost use Rattle.site_ids.specs.Spans.{IsSpan, IsInSpan};
+ghost use Rattle.acceptor.specs.Judging.{IsFreeBelow};
+ghost use Rattle.durable.specs.Raising.{IsRaised};
 ghost use Rattle.durable.specs.Entries.{Voted};
 ghost use Rattle.durable.specs.Spelling.{behind_gate};
 
@@ -57,6 +60,7 @@ impl Slots {
     pub(crate) fn make_room(&mut self, at: Instance) -> Result<(), AllocError>
         ensures same { (other : ℕ) → slot_at self.new other ≡ slot_at self.old other }
         ensures room { OnOk result (IsThere self.new at) }
+        ensures kept { (other : ℕ) → IsThere self.old other → IsThere self.new other }
     {
         if self.map.get(&at.number()).is_some() {
             return Ok(());
@@ -65,11 +69,86 @@ impl Slots {
         Ok(())
     }
 
+    /// Makes room for the slot of each instance of a span, which changes none of them.
+    pub(crate) fn make_room_for_span(
+        &mut self,
+        first: Instance,
+        count: u8,
+    ) -> Result<(), AllocError>
+        requires { IsSpan first count }
+        ensures same { (other : ℕ) → slot_at self.new other ≡ slot_at self.old other }
+        ensures room { OnOk result ((at : ℕ) → IsInSpan first count at → IsThere self.new at) }
+    {
+        let mut past = 0;
+        while past < count {
+            if let Some(at) = Instance::new(first.number() + past as u32) {
+                self.make_room(at)?;
+            }
+            past += 1;
+        }
+        Ok(())
+    }
+
+    /// The ballot is above the promise of an instance of the span, or none stands there.
+    pub(crate) fn rises(&self, first: Instance, count: u8, ballot: Ballot) -> bool
+        requires { IsSpan first count }
+        ensures { IsTrue result ↔ ((at : ℕ) × IsInSpan first count at × IsFreeBelow (slot_at self.now at).promised ballot) }
+    {
+        let mut past = 0;
+        while past < count {
+            if let Some(at) = Instance::new(first.number() + past as u32) {
+                if self.is_free(at, ballot) {
+                    return true;
+                }
+            }
+            past += 1;
+        }
+        false
+    }
+
+    fn is_free(&self, at: Instance, ballot: Ballot) -> bool
+        ensures { IsTrue result ↔ IsFreeBelow (slot_at self.now at).promised ballot }
+    {
+        match self.get(at).promised {
+            None => true,
+            Some(promised) => promised < ballot,
+        }
+    }
+
+    /// Raises the promise of an instance where it is below the ballot, or none stands, and there is room for the slot.
+    fn raise(&mut self, at: Instance, ballot: Ballot)
+        requires { IsThere self.old at }
+        ensures raised { IsRaised (slot_at self.old at) ballot (slot_at self.new at) }
+        ensures others { (other : ℕ) → other ≢ at → slot_at self.new other ≡ slot_at self.old other }
+        ensures room { (other : ℕ) → IsThere self.old other → IsThere self.new other }
+    {
+        if self.is_free(at, ballot) {
+            self.promise(at, ballot);
+        }
+    }
+
+    /// So each instance of a span.
+    pub(crate) fn promise_span(&mut self, first: Instance, count: u8, ballot: Ballot)
+        requires span { IsSpan first count }
+        requires room { (at : ℕ) → IsInSpan first count at → IsThere self.old at }
+        ensures raised { (at : ℕ) → IsInSpan first count at → IsRaised (slot_at self.old at) ballot (slot_at self.new at) }
+        ensures others { (at : ℕ) → ¬ IsInSpan first count at → slot_at self.new at ≡ slot_at self.old at }
+    {
+        let mut past = 0;
+        while past < count {
+            if let Some(at) = Instance::new(first.number() + past as u32) {
+                self.raise(at, ballot);
+            }
+            past += 1;
+        }
+    }
+
     /// Raises a promise where there is room for the slot.
     pub(crate) fn promise(&mut self, at: Instance, ballot: Ballot)
         requires { IsThere self.old at }
         ensures promised { slot_at self.new at ≡ with_promise (slot_at self.old at) ballot }
         ensures others { (other : ℕ) → other ≢ at → slot_at self.new other ≡ slot_at self.old other }
+        ensures kept { (other : ℕ) → IsThere self.old other → IsThere self.new other }
     {
         if let Some(slot) = self.map.get_mut(&at.number()) {
             slot.promised = Some(ballot);

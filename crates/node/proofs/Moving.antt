@@ -2,6 +2,7 @@
 use Rattle.std.proofs.Common.{◌≡◌, ◌≢◌, ◌⊎◌, inl, inr, ⊎_elim, ℕ, zero, suc, ◌<◌, ◌≤◌, max, Option, Some, None, Result, Ok, Err, List, [], ◌∷◌, length, refl, sym, ap, subst, ◌∙◌, arith}
 use Rattle.site_ids.specs.Ids.{BallotOf, Below, NotAbove, IsInstance}
 use Rattle.site_ids.specs.Lists.{In}
+use Rattle.site_ids.specs.Spans.{IsInSpan}
 use Rattle.site_ids.specs.Majorities.{Majority}
 use Rattle.site_ids.specs.declared.value.Vote.{Vote}
 use Rattle.site_ids.proofs.BallotLemmas.{one_of_three}
@@ -13,7 +14,7 @@ use Rattle.acceptor.specs.declared.judging.PrepareVerdict.TheVariants as to_prep
 use Rattle.acceptor.specs.declared.judging.ProposeVerdict.{ProposeVerdict}
 use Rattle.acceptor.specs.declared.judging.ProposeVerdict.TheVariants as to_proposal
 use Rattle.acceptor.specs.Judging.{IsFreeAt, IsVotedAt, IsVotedFor, JudgesPrepare, JudgesProposal}
-use Rattle.durable.specs.Entries.{Entry, Round, Promised, Voted, Raises, IsPromise, IsSlot, last_vote}
+use Rattle.durable.specs.Entries.{Entry, Round, Promised, PromisedSpan, Voted, Raises, IsPromise, IsSlot, last_vote}
 use Rattle.command.specs.Action.{Order}
 use Rattle.command.specs.Reading.{value_reading}
 use Rattle.command.specs.declared.fault.CommandFault.{CommandFault}
@@ -63,12 +64,16 @@ RaisesOne e i = ((b : BallotOf) × Raises e i b × ((c : BallotOf) → Raises e 
 equal : (j i : ℕ) → (j ≡ i) ⊎ (j ≢ i)
 equal j i = grind arith
 
+in_span : (j k i : ℕ) → IsInSpan j k i ⊎ (¬ IsInSpan j k i)
+in_span j k i = grind arith
+
 raised_at : (e : Entry) (j i : ℕ) (b : BallotOf) → ((c : BallotOf) → Raises e i c → (j ≡ i) × (b ≡ c)) → (j ≡ i → Raises e i b) → RaisesOne e i
 raised_at e j i b only at = ⊎_elim (λ is. inl (b, at is, λ c r. (only c r).1)) (λ apart. inr (λ c r. apart (only c r).0)) (equal j i)
 
 raised : (e : Entry) (i : ℕ) → RaisesOne e i
 raised (Round r) i = inr (λ c k. k)
 raised (Promised j b) i = raised_at (Promised j b) j i b (λ c r. r) (λ is. (is, refl))
+raised (PromisedSpan j k b) i = ⊎_elim (λ within. inl (b, (within, refl), λ c r. r.1)) (λ outside. inr (λ c r. outside r.0)) (in_span j k i)
 raised (Voted j b v) i = raised_at (Voted j b v) j i b (λ c r. r) (λ is. (is, refl))
 
 abbrev Promises : List Entry → ℕ → Type 0

@@ -14,7 +14,7 @@ use Rattle.wire.specs.declared.message.Message.TheVariants.{Prepare, Promise, Pr
 use Rattle.wire.specs.Messages.{IsMessage}
 use Rattle.acceptor.specs.declared.slot.Slot.{Slot}
 use Rattle.acceptor.specs.Steps.{Answer as Reply, promise, accepted, nack, no_answer, prepare, proposal, Steps}
-use Rattle.durable.specs.Entries.{Entry, Round, Promised, Voted, Raises, IsPromise, IsSlot, vote_after}
+use Rattle.durable.specs.Entries.{Entry, Round, Promised, PromisedSpan, Voted, Raises, IsPromise, IsSlot, vote_after}
 use Rattle.durable.specs.Histories.{IsInRange, IsHistory}
 use Rattle.learner.specs.ToldVotes.{told_vote, HasMajority}
 use Rattle.std.specs.Option.{ok_or}
@@ -224,6 +224,7 @@ entry_in_range n es e history here = let at = at_member es e here in (history at
 raised_in_range : (n : ℕ) (e : Entry) (i : ℕ) (b : BallotOf) → IsInRange n e → Raises e i b → IsBallot n b
 raised_in_range n (Round r) i b range raises = absurd raises
 raised_in_range n (Promised j c) i b range raises = subst (IsBallot n) raises.1 range.1
+raised_in_range n (PromisedSpan j k c) i b range raises = subst (IsBallot n) raises.1 range.2
 raised_in_range n (Voted j c v) i b range raises = subst (IsBallot n) raises.1 range.1
 
 promise_in_range : (n : ℕ) (es : List Entry) (i : ℕ) (slot : Slot) (c : BallotOf) → IsHistory n es → IsSlot es i slot → slot.promised ≡ Some c → IsBallot n c
@@ -235,6 +236,7 @@ vote_stands : (i : ℕ) (last : Option Vote) (es : List Entry) (w : Vote) → vo
 vote_stands i last [] w e = inr e
 vote_stands i last (Round s ∷ es) w e = ⊎_elim (λ (h : (j : ℕ) × In es (Voted j w.ballot w.value)). inl (h.0, inr h.1)) (λ h. inr h) (vote_stands i last es w e)
 vote_stands i last (Promised j b ∷ es) w e = ⊎_elim (λ (h : (j : ℕ) × In es (Voted j w.ballot w.value)). inl (h.0, inr h.1)) (λ h. inr h) (vote_stands i last es w e)
+vote_stands i last (PromisedSpan j k b ∷ es) w e = ⊎_elim (λ (h : (j : ℕ) × In es (Voted j w.ballot w.value)). inl (h.0, inr h.1)) (λ h. inr h) (vote_stands i last es w e)
 vote_stands i last (Voted j b v ∷ es) w e =
     ⊎_elim (λ (h : (j : ℕ) × In es (Voted j w.ballot w.value)). inl (h.0, inr h.1)) (λ h. go (nat_eq j i) h) (vote_stands i (cond (nat_eq j i) (Some (record { ballot = b; value = v })) last) es w e)
   where

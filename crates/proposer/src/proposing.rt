@@ -1,10 +1,11 @@
-ghost use Rattle.std.specs.Prelude.{◌≡◌, ◌+◌, ◌<◌, ℕ, max, None, Some, Option, OnOk, OnErr, IfOk, MatchResult};
+ghost use Rattle.std.specs.Prelude.{◌≡◌, ◌+◌, ◌<◌, ℕ, max, None, Some, Option, OnOk, OnErr, IfOk, IfErr, MatchResult, length, map};
 ghost use Rattle.std.specs.Option.{option_map};
 ghost use Rattle.site_ids.specs.declared.TheConstants.{MAX_ROUND};
 ghost use Rattle.site_ids.specs.Ids.{IsNode};
+ghost use Rattle.site_ids.specs.Spans.{IsSpan, IsInSpan};
 ghost use Rattle.site_ids.specs.Lists.{put_at};
 ghost use Rattle.proposer.specs.declared.fault.ProposerFault.TheVariants.{RoundsUsedUp};
-ghost use Rattle.proposer.specs.Attempts.{Attempt, AreOpen, opened, latest};
+ghost use Rattle.proposer.specs.Attempts.{Attempt, AreOpen, opened, opened_span, latest};
 ghost use Rattle.proposer.specs.Standing.{Attempting, HasRoom, Promised};
 ghost use Rattle.proposer.specs.Best.{vote_told};
 
@@ -70,6 +71,7 @@ impl Proposer {
         ensures same { (self.new.cluster ≡ self.old.cluster) × (self.new.me ≡ self.old.me) × (self.new.heard ≡ self.old.heard) }
         ensures stays { (attempts : ℕ → Option Attempt) → Attempting self.old attempts → Attempting self.new attempts }
         ensures room { OnOk result (HasRoom self.new instance) }
+        ensures kept { (other : ℕ) → HasRoom self.old other → HasRoom self.new other }
     {
         if self.attempts.get(&instance.number()).is_none() {
             self.attempts.insert(instance.number(), None)?;
@@ -84,6 +86,7 @@ impl Proposer {
         requires { HasRoom self.old instance }
         ensures same { (self.new.cluster ≡ self.old.cluster) × (self.new.me ≡ self.old.me) × (self.new.heard ≡ self.old.heard) }
         ensures opened { (attempts : ℕ → Option Attempt) → Attempting self.old attempts → Attempting self.new (put_at attempts instance (Some (opened ballot own))) }
+        ensures kept { (other : ℕ) → HasRoom self.old other → HasRoom self.new other }
     {
         let attempt = OpenAttempt {
             ballot,
@@ -93,6 +96,23 @@ impl Proposer {
             proposed: false,
         };
         let _ = self.attempts.insert(instance.number(), Some(attempt));
+    }
+
+    /// Opens an attempt at each instance from this one on, for each of the values, all at one ballot, where room was made. It takes no memory.
+    pub fn open_span(&mut self, first: Instance, ballot: Ballot, values: Vec<Value>)
+        requires span { IsSpan first (length values.items) }
+        requires room { (at : ℕ) → IsInSpan first (length values.items) at → HasRoom self.old at }
+        ensures same { (self.new.cluster ≡ self.old.cluster) × (self.new.me ≡ self.old.me) × (self.new.heard ≡ self.old.heard) }
+        ensures opened { (attempts : ℕ → Option Attempt) → Attempting self.old attempts → Attempting self.new (opened_span attempts first ballot values.items) }
+    {
+        let mut past = 0;
+        for own in values {
+            let Some(at) = Instance::new(first.number() + past) else {
+                return;
+            };
+            self.open(at, ballot, own);
+            past += 1;
+        }
     }
 
     /// Makes room for an attempt of a copy of the value, and opens it.
@@ -109,6 +129,51 @@ impl Proposer {
         let own = Value::copied_from(self.alloc, own)?;
         self.make_room(instance)?;
         self.open(instance, ballot, own);
+        Ok(())
+    }
+
+    /// Makes room for an attempt at each of so many instances, from one on, which changes none of them.
+    pub fn make_room_for_span(&mut self, first: Instance, count: u8) -> Result<(), AllocError>
+        requires { IsSpan first count }
+        ensures same { (self.new.cluster ≡ self.old.cluster) × (self.new.me ≡ self.old.me) × (self.new.heard ≡ self.old.heard) }
+        ensures stays { (attempts : ℕ → Option Attempt) → Attempting self.old attempts → Attempting self.new attempts }
+        ensures room { OnOk result ((at : ℕ) → IsInSpan first count at → HasRoom self.new at) }
+    {
+        let mut past = 0;
+        while past < count {
+            if let Some(at) = Instance::new(first.number() + past as u32) {
+                self.make_room(at)?;
+            }
+            past += 1;
+        }
+        Ok(())
+    }
+
+    /// Makes room for an attempt of each of the values, and opens them from this instance on, all at one ballot. Refused, it opens none and hands
+    /// the values back.
+    pub fn start_span(
+        &mut self,
+        first: Instance,
+        ballot: Ballot,
+        own: Vec<Vec<u8>>,
+    ) -> Result<(), (AllocError, Vec<Vec<u8>>)>
+        requires { IsSpan first (length own.items) }
+        ensures same { (self.new.cluster ≡ self.old.cluster) × (self.new.me ≡ self.old.me) × (self.new.heard ≡ self.old.heard) }
+        ensures ok { OnOk result ((attempts : ℕ → Option Attempt) → Attempting self.old attempts → Attempting self.new (opened_span attempts first ballot (map (λ v. v.items) own.items))) }
+        ensures err { OnErr result ((attempts : ℕ → Option Attempt) → Attempting self.old attempts → Attempting self.new attempts) }
+        ensures back { IfErr result (λ e. e.1 ≡ own) }
+    {
+        let mut values = Vec::new(self.alloc);
+        if let Err(wanted) = values.reserve(own.len()) {
+            return Err((wanted, own));
+        }
+        if let Err(wanted) = self.make_room_for_span(first, own.len() as u8) {
+            return Err((wanted, own));
+        }
+        for bytes in own {
+            values.push_reserved(Value::from_bytes(bytes));
+        }
+        self.open_span(first, ballot, values);
         Ok(())
     }
 

@@ -2,7 +2,7 @@
 //!
 //! An entry is spelled by its length, its kind, numbers of fixed lengths and, of a vote, its value. Where the byte stands in the length, the
 //! other entry is a vote for a beginning of the value, since nothing stands behind the last one; in the kind, it is the other one of a promise
-//! and a vote for the empty value; and else in a number or the value.
+//! and a vote for the empty value; and else in a number or the value. No record whose bytes are changed here has the promise of a span.
 use crate::entry::Entry;
 use site_ids::{Ballot, Cluster, Instance, Value, Vote};
 use std::alloc::{AllocError, Global};
@@ -62,6 +62,7 @@ pub fn places(entry: &Entry) -> usize {
     match entry {
         Entry::Round(_) => 4,
         Entry::Promised(..) => 9,
+        Entry::PromisedSpan(..) => 10,
         Entry::Voted(_, vote) => vote.value.as_bytes().len().saturating_add(9),
     }
 }
@@ -82,6 +83,7 @@ pub fn changed(
                 None => None,
             })
         }
+        Entry::PromisedSpan(..) => Ok(None),
         Entry::Voted(instance, voted) => vote(alloc, cluster, *instance, voted, place, byte),
     }
 }
@@ -100,7 +102,7 @@ fn vote_for(
 pub fn others(alloc: Global, entry: &Entry) -> Result<Vec<Entry>, AllocError> {
     let mut others = Vec::new(alloc);
     match entry {
-        Entry::Round(_) => {}
+        Entry::Round(_) | Entry::PromisedSpan(..) => {}
         Entry::Promised(instance, ballot) => {
             others.push(vote_for(alloc, *instance, *ballot, b"")?)?;
         }

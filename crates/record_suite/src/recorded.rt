@@ -31,7 +31,7 @@ pub fn greatest_round(entries: &[Entry]) -> u32
     for entry in entries {
         let round = match entry {
             Entry::Round(round) => *round,
-            Entry::Promised(_, ballot) => ballot.round(),
+            Entry::Promised(_, ballot) | Entry::PromisedSpan(_, _, ballot) => ballot.round(),
             Entry::Voted(_, vote) => vote.ballot.round(),
         };
         greatest = greatest.max(round);

@@ -3,6 +3,7 @@
 ghost use Rattle.std.specs.Prelude.{◌≡◌, ◌<◌, ◌^◌, ◌∷◌, ◌++◌, length, IfOk, OnOk};
 ghost use Rattle.byteorder.specs.Endian.{big_bytes};
 ghost use Rattle.site_ids.specs.Spelling.{ballot_bytes};
+ghost use Rattle.durable.specs.Entries.{PromisedSpan};
 ghost use Rattle.durable.specs.Histories.{IsHistory};
 ghost use Rattle.durable.specs.Spelling.{head, payload, block, blocks};
 ghost use Rattle.record_suite.specs.Meaning.{meaning, meanings};
@@ -24,6 +25,17 @@ fn front(size: u32, kind: u8, instance: Instance, ballot: Ballot) -> [u8; 15]
     bytes
 }
 
+/// The promise of a span behind its open gate.
+fn span_block(first: Instance, count: u8, ballot: Ballot) -> [u8; 16]
+    ensures { result ≡ block (PromisedSpan first count ballot) }
+{
+    let node = ballot.node().number();
+    let mut bytes = [1, 0, 0, 0, 11, 4, 0, 0, 0, 0, count, 0, 0, 0, 0, node];
+    BigEndian::write_u32(&mut bytes[6..], first.number());
+    BigEndian::write_u32(&mut bytes[11..], ballot.round());
+    bytes
+}
+
 /// Appends the entry behind its open gate.
 fn push_block(bytes: &mut Vec<u8>, entry: &Entry) -> Result<(), AllocError>
     requires { length (payload (meaning entry.now)) < 2 ^ 32 }
@@ -37,6 +49,9 @@ fn push_block(bytes: &mut Vec<u8>, entry: &Entry) -> Result<(), AllocError>
         }
         Entry::Promised(instance, ballot) => {
             bytes.extend_from_slice(&front(10, 2, *instance, *ballot))
+        }
+        Entry::PromisedSpan(first, count, ballot) => {
+            bytes.extend_from_slice(&span_block(*first, *count, *ballot))
         }
         Entry::Voted(instance, vote) => {
             let value = vote.value.as_bytes();

@@ -1,9 +1,10 @@
 //! Places of the log.
 
-ghost use Rattle.std.specs.Prelude.{◌≡◌, MatchOption};
+ghost use Rattle.std.specs.Prelude.{◌≡◌, ◌↔◌, IsTrue, MatchOption};
 ghost use Rattle.site_ids.specs.Ids.{IsInstance};
+ghost use Rattle.site_ids.specs.Spans.{IsSpan};
 
-use crate::MAX_INSTANCE;
+use crate::{MAX_INSTANCE, MAX_SPAN};
 use std::marker::Model;
 
 /// A place of the log, from 1 on.
@@ -44,5 +45,12 @@ impl Instance {
         ensures range { IsInstance result }
     {
         self.number
+    }
+
+    /// Whether this one and those behind it, so many in all, are a span.
+    pub fn begins_span(self, count: u8) -> bool
+        ensures { IsTrue result ↔ IsSpan self count }
+    {
+        1 <= count && count <= MAX_SPAN && self.number + count as u32 <= MAX_INSTANCE + 1
     }
 }

@@ -1,7 +1,6 @@
-use Rattle.std.proofs.Common.{refl, ◌∙◌, ap, subst}
+use Rattle.std.proofs.Common.{refl, subst}
 use Rattle.acceptor.specs.declared.slot.Slot.{Slot}
 use Rattle.acceptor.specs.Judging.{IsFreeBelow}
-use Rattle.acceptor.specs.Steps.{with_promise}
 use Rattle.durable.specs.Entries.{Promised}
 use Rattle.durable.proofs.Advances.{promise_advances}
 use Rattle.durable.proofs.Kept.{kept_through}
