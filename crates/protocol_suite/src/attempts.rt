@@ -1,7 +1,7 @@
 //! Proposals, votes told and chosen values, by worked rows.
 use crate::samples::{
     ballot, cluster_of, copied, instance, is_prepare, is_proposal, is_propose, node_of, promised,
-    voted,
+    started, three_values, voted,
 };
 use chosen_log::{ChosenLog, LearnFault, Learned};
 use learner::Learner;
@@ -97,6 +97,46 @@ fn attempts_at_two_instances_are_apart(rt: HostRuntime) -> Result<(), Fail> {
     assert!(rt; is_proposal(&made, instance(7)?, first, b"X"));
     assert!(rt; is_propose(&proposer.resend(instance(7)?)?, first, b"X"));
     assert!(rt; is_prepare(&proposer.resend(instance(8)?)?, second));
+    Ok(())
+}
+
+#[test]
+fn attempts_of_a_span_share_a_ballot(rt: HostRuntime) -> Result<(), Fail> {
+    let alloc = rt.alloc();
+    let three = cluster_of(3)?;
+    let own = ballot(3, 1)?;
+    let mut proposer = Proposer::new(alloc, three, node_of(three, 1)?);
+    started(
+        &mut proposer,
+        instance(6)?,
+        own,
+        three_values(alloc, b"ABC")?,
+    )?;
+    assert_eq!(rt; proposer.attempts(), 3);
+    assert!(rt; promised(&mut proposer, three, 3, ballot(2, 1)?, None)?.is_none());
+    assert!(rt; promised(&mut proposer, three, 1, own, None)?.is_none());
+    let made = promised(&mut proposer, three, 2, own, None)?;
+    assert!(rt; is_proposal(&made, instance(7)?, own, b"B"));
+    for (at, value) in [(6, b"A"), (7, b"B"), (8, b"C")] {
+        let message = proposer.resend(instance(at)?)?;
+        assert_eq!(rt; is_propose(&message, own, value), at == 7);
+        assert_eq!(rt; is_prepare(&message, own), at != 7);
+    }
+    // A span that begins within it stands in the place of what it has there.
+    let later = ballot(4, 1)?;
+    started(
+        &mut proposer,
+        instance(7)?,
+        later,
+        three_values(alloc, b"DEF")?,
+    )?;
+    assert_eq!(rt; proposer.attempts(), 4);
+    for (at, ballot) in [(6, own), (7, later), (8, later), (9, later)] {
+        assert!(rt;
+            is_prepare(&proposer.resend(instance(at)?)?, ballot),
+            "{at}"
+        );
+    }
     Ok(())
 }
 

@@ -3,7 +3,8 @@
 ghost use Rattle.std.specs.Prelude.{◌≡◌};
 
 use crate::samples::{
-    ballot, cluster_of, copied, instance, is_proposal, is_propose, node_of, voted,
+    ballot, cluster_of, copied, instance, is_proposal, is_propose, node_of, started, three_values,
+    voted,
 };
 use chosen_log::{ChosenLog, LearnFault, Learned};
 use learner::Learner;
@@ -83,6 +84,21 @@ fn proposals(rt: HostRuntime) -> Result<(), Fail> {
         Err(_) => proposer.resend(instance(7)?)?,
     };
     assert!(rt; is_propose(&message, own, b"prior"));
+    Ok(())
+}
+
+#[test]
+fn spans(rt: HostRuntime) -> Result<(), Fail> {
+    let alloc = rt.alloc();
+    let three = cluster_of(3)?;
+    let own = ballot(2, 1)?;
+    let values = match three_values(alloc, b"ABC") {
+        Ok(values) => values,
+        Err(_) => three_values(alloc, b"ABC")?,
+    };
+    let mut proposer = Proposer::new(alloc, three, node_of(three, 1)?);
+    started(&mut proposer, instance(6)?, own, values)?;
+    assert_eq!(rt; proposer.attempts(), 3);
     Ok(())
 }
 

@@ -4,7 +4,7 @@ ghost use Rattle.site_ids.specs.Ids.{IsNode};
 
 use proposer::{Proposal, Proposer};
 use site_ids::{Ballot, Cluster, Instance, NodeId, Value, Vote};
-use std::alloc::Global;
+use std::alloc::{AllocError, Global};
 use std::test::Fail;
 use wire::Message;
 
@@ -55,6 +55,37 @@ pub(crate) fn promised(
 {
     let from = node_of(cluster, number)?;
     Ok(proposer.on_promise(from, instance(7)?, own, prior)?)
+}
+
+/// Three values of one byte.
+pub(crate) fn three_values(alloc: Global, bytes: &[u8; 3]) -> Result<Vec<Vec<u8>>, AllocError> {
+    let mut values = Vec::new(alloc);
+    for byte in bytes {
+        values.push(Vec::from_slice(alloc, &[*byte])?)?;
+    }
+    Ok(values)
+}
+
+/// Opens an attempt of each of the values. Refused for want of memory it opens none, and is tried again.
+pub(crate) fn started(
+    proposer: &mut Proposer,
+    first: Instance,
+    ballot: Ballot,
+    values: Vec<Vec<u8>>,
+) -> Result<(), Fail>
+    ensures { proposer.new.cluster ≡ proposer.old.cluster }
+{
+    let open = proposer.attempts();
+    if !first.begins_span(values.len() as u8) || values.len() > 64 {
+        return Err(Fail::from("no span"));
+    }
+    let Err((_wanted, values)) = proposer.start_span(first, ballot, values) else {
+        return Ok(());
+    };
+    if proposer.attempts() != open || proposer.start_span(first, ballot, values).is_err() {
+        return Err(Fail::from("a refused span is not as before"));
+    }
+    Ok(())
 }
 
 pub(crate) fn is_proposal(

@@ -2,7 +2,8 @@
 //!
 //! An entry is spelled by its length, its kind, numbers of fixed lengths and, of a vote, its value. Where the byte stands in the length, the
 //! other entry is a vote for a beginning of the value, since nothing stands behind the last one; in the kind, it is the other one of a promise
-//! and a vote for the empty value; and else in a number or the value. No record whose bytes are changed here has the promise of a span.
+//! and a vote for the empty value, or a vote for one byte in place of a span's promise; and else in a number or the value. No record here has a
+//! vote for one byte.
 use crate::entry::Entry;
 use site_ids::{Ballot, Cluster, Instance, Value, Vote};
 use std::alloc::{AllocError, Global};
@@ -57,6 +58,23 @@ fn vote(
     Ok(Some(Entry::Voted(instance, Vote { ballot, value })))
 }
 
+/// Four bytes are the first instance's, the next is the count.
+fn span(
+    cluster: Cluster,
+    first: Instance,
+    count: u8,
+    promised: Ballot,
+    place: usize,
+    byte: u8,
+) -> Option<Entry> {
+    if place == 4 {
+        return Some(Entry::PromisedSpan(first, byte, promised));
+    }
+    let place = if place < 4 { place } else { place - 1 };
+    let (first, promised) = ballot(cluster, first, promised, place, byte)?;
+    Some(Entry::PromisedSpan(first, count, promised))
+}
+
 /// How many bytes an entry has behind its kind.
 pub fn places(entry: &Entry) -> usize {
     match entry {
@@ -83,7 +101,9 @@ pub fn changed(
                 None => None,
             })
         }
-        Entry::PromisedSpan(..) => Ok(None),
+        Entry::PromisedSpan(first, count, promised) => {
+            Ok(span(cluster, *first, *count, *promised, place, byte))
+        }
         Entry::Voted(instance, voted) => vote(alloc, cluster, *instance, voted, place, byte),
     }
 }
@@ -98,13 +118,39 @@ fn vote_for(
     Ok(Entry::Voted(instance, Vote { ballot, value }))
 }
 
-/// Votes for the beginnings of a vote's value, or for the empty one in place of a promise, and a promise in place of a vote.
-pub fn others(alloc: Global, entry: &Entry) -> Result<Vec<Entry>, AllocError> {
+/// The vote for one byte that is spelled as the promise of a span but for its kind: the count is the first byte of its round, the last byte of
+/// the promised round its node, and the promised node its value.
+fn vote_in_span(
+    alloc: Global,
+    cluster: Cluster,
+    first: Instance,
+    count: u8,
+    promised: Ballot,
+) -> Result<Option<Entry>, AllocError> {
+    let [a, b, c, d] = promised.round().to_be_bytes();
+    let Some(node) = cluster.node(d) else {
+        return Ok(None);
+    };
+    let Some(ballot) = Ballot::new(u32::from_be_bytes([count, a, b, c]), node) else {
+        return Ok(None);
+    };
+    let value = [promised.node().number()];
+    Ok(Some(vote_for(alloc, first, ballot, &value)?))
+}
+
+/// Votes for the beginnings of a vote's value, or for the empty one in place of a promise, or for one byte in place of a span's, and a promise in
+/// place of a vote.
+pub fn others(alloc: Global, cluster: Cluster, entry: &Entry) -> Result<Vec<Entry>, AllocError> {
     let mut others = Vec::new(alloc);
     match entry {
-        Entry::Round(_) | Entry::PromisedSpan(..) => {}
+        Entry::Round(_) => {}
         Entry::Promised(instance, ballot) => {
             others.push(vote_for(alloc, *instance, *ballot, b"")?)?;
+        }
+        Entry::PromisedSpan(first, count, ballot) => {
+            if let Some(vote) = vote_in_span(alloc, cluster, *first, *count, *ballot)? {
+                others.push(vote)?;
+            }
         }
         Entry::Voted(instance, vote) => {
             let value = vote.value.as_bytes();

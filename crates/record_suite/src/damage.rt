@@ -1,6 +1,6 @@
 //! A record cut at each byte, and with each byte changed. What these bytes come to is computed from the definition of a record.
 use crate::entry::Entry;
-use crate::listed::{Listed, RECORD, entries, with_byte};
+use crate::listed::{Listed, RECORD, SPANNED, entries, spanned, with_byte};
 use crate::recorded::{greatest_round, is_slot, last_round, last_vote};
 use crate::samples::{disk_of, one_of_three};
 use crate::standing::{refusal, stands_for};
@@ -42,6 +42,15 @@ const COUNT: usize = 4 * 255
     + 2
     + 2 * 255;
 
+/// And with the record of a span. At its two gates each byte but 1; in the kind the one of a vote for a byte; each count from 2 to 64 but its own.
+const SPANNED_COUNT: usize = 2 * 255
+    // The kind, the first instance, the count, the ballot.
+    + 1
+    + (15 + 255 + 254)
+    + 62
+    + (3 * 255 + 254)
+    + 2;
+
 fn is_slot_of(record: &Record<MemDisk>, history: &[Entry], instance: Instance) -> bool {
     is_slot(history, instance, record.slot(instance))
 }
@@ -58,13 +67,32 @@ fn tells_first(record: &Record<MemDisk>, history: &[Entry]) -> bool {
     true
 }
 
-/// Whether the record tells the slots of the instances that a history names.
-fn tells_named(record: &Record<MemDisk>, history: &[Entry]) -> bool {
-    for entry in history {
-        if let Entry::Promised(instance, _) | Entry::Voted(instance, _) = entry {
-            if !is_slot_of(record, history, *instance) {
+/// Whether the record tells the slots of so many instances, from one on, as far as there are any.
+fn tells_span(record: &Record<MemDisk>, history: &[Entry], first: Instance, count: u8) -> bool {
+    for past in 0..count {
+        if let Some(instance) = Instance::new(first.number() + past as u32) {
+            if !is_slot_of(record, history, instance) {
                 return false;
             }
+        }
+    }
+    true
+}
+
+/// Whether the record tells the slots of the instances that a history names, and of the one behind a span.
+fn tells_named(record: &Record<MemDisk>, history: &[Entry]) -> bool {
+    for entry in history {
+        let told = match entry {
+            Entry::Round(_) => true,
+            Entry::Promised(instance, _) | Entry::Voted(instance, _) => {
+                is_slot_of(record, history, *instance)
+            }
+            Entry::PromisedSpan(first, count, _) => {
+                tells_span(record, history, *first, count.saturating_add(1))
+            }
+        };
+        if !told {
+            return false;
         }
     }
     true
@@ -111,7 +139,7 @@ fn a_record_cut_at_each_byte(rt: HostRuntime) -> Result<(), Fail> {
     let alloc = rt.alloc();
     let entries = entries(alloc)?;
     for gate in [0, 1] {
-        let bytes = with_byte(35, gate);
+        let bytes = with_byte(alloc, &RECORD, 35, gate)?;
         for len in 0..=bytes.len() {
             let history = beginning(alloc, &bytes[..len], &entries)?;
             assert!(rt;
@@ -126,15 +154,21 @@ fn a_record_cut_at_each_byte(rt: HostRuntime) -> Result<(), Fail> {
 #[test]
 fn a_record_with_each_byte_changed(rt: HostRuntime) -> Result<(), Fail> {
     let alloc = rt.alloc();
-    let listed = Listed::new(alloc)?;
-    for place in 0..RECORD.len() {
-        for byte in 0..=255 {
-            let bytes = with_byte(place, byte);
-            if bytes != RECORD {
-                assert!(rt;
-                    comes_to(alloc, &bytes, listed.at(place, byte))?,
-                    "{byte} at {place}"
-                );
+    for (record, entries) in [
+        (&RECORD[..], entries(alloc)?),
+        (&SPANNED[..], spanned(alloc)?),
+    ] {
+        let listed = Listed::new(alloc, record, &entries)?;
+        for place in 0..record.len() {
+            for byte in 0..=255 {
+                let bytes = with_byte(alloc, record, place, byte)?;
+                if bytes.as_slice() != record {
+                    assert!(rt;
+                        comes_to(alloc, &bytes, listed.at(place, byte))?,
+                        "{byte} at {place} of {}",
+                        record.len()
+                    );
+                }
             }
         }
     }
@@ -157,7 +191,7 @@ fn is_such(history: &[Entry], count: usize, round: u32, value: &str) -> bool {
 }
 
 /// The first row that is wrong.
-fn wrong_row(listed: &Listed) -> Option<(usize, u8)> {
+fn wrong_row(listed: &Listed<'_>) -> Option<(usize, u8)> {
     for (place, byte, want) in LISTED {
         let is_right = match (listed.at(place, byte), want) {
             (Some(history), Some((count, round, value))) => {
@@ -175,8 +209,11 @@ fn wrong_row(listed: &Listed) -> Option<(usize, u8)> {
 
 #[test]
 fn the_list_has_what_is_worked_out(rt: HostRuntime) -> Result<(), Fail> {
-    let listed = Listed::new(rt.alloc())?;
+    let alloc = rt.alloc();
+    let listed = Listed::new(alloc, &RECORD, &entries(alloc)?)?;
     assert_eq!(rt; listed.len(), COUNT);
     assert_eq!(rt; wrong_row(&listed), None);
+    let listed = Listed::new(alloc, &SPANNED, &spanned(alloc)?)?;
+    assert_eq!(rt; listed.len(), SPANNED_COUNT);
     Ok(())
 }

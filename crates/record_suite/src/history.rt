@@ -42,7 +42,7 @@ fn is_in_range(cluster: Cluster, entry: &Entry) -> bool
 }
 
 /// Whether no ballot from this one on is promised.
-fn is_free_below(promised: &Option<Ballot>, ballot: Ballot) -> bool
+pub fn is_free_below(promised: &Option<Ballot>, ballot: Ballot) -> bool
     ensures { IsTrue result ↔ IsFreeBelow promised.now ballot }
 {
     match promised {

@@ -21,5 +21,7 @@ pub mod recorded;
 mod records;
 #[cfg(test)]
 mod samples;
+#[cfg(test)]
+mod spans;
 pub mod spelling;
 pub mod standing;

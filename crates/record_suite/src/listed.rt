@@ -29,12 +29,30 @@ pub fn entries(alloc: Global) -> Result<Vec<Entry>, Fail> {
     Ok(entries)
 }
 
-pub fn with_byte(place: usize, byte: u8) -> [u8; 53] {
-    let mut bytes = RECORD;
+/// The record of node 2 of 3 whose one entry is the promise of (1, 1) at the three instances from 5 on. At 10 its gate, at 26 the last one.
+pub const SPANNED: [u8; 27] =
+    *b"SITEREC1\x02\x03\x01\x00\x00\x00\x0b\x04\x00\x00\x00\x05\x03\x00\x00\x00\x01\x01\x00";
+
+/// Its history.
+pub fn spanned(alloc: Global) -> Result<Vec<Entry>, Fail> {
+    let (first, ballot) = first_ballot(5)?;
+    let mut entries = Vec::new(alloc);
+    entries.push(Entry::PromisedSpan(first, 3, ballot))?;
+    Ok(entries)
+}
+
+/// A record with this byte at a place.
+pub fn with_byte(
+    alloc: Global,
+    record: &[u8],
+    place: usize,
+    byte: u8,
+) -> Result<Vec<u8>, AllocError> {
+    let mut bytes = Vec::from_slice(alloc, record)?;
     if let Some(there) = bytes.get_mut(place) {
         *there = byte;
     }
-    bytes
+    Ok(bytes)
 }
 
 fn copies(alloc: Global, entries: &[Entry]) -> Result<Vec<Entry>, AllocError> {
@@ -47,24 +65,26 @@ fn copies(alloc: Global, entries: &[Entry]) -> Result<Vec<Entry>, AllocError> {
 
 /// Histories by the place and the byte with which a record stands for them.
 #[derive(Drop)]
-pub struct Listed {
+pub struct Listed<'a> {
     alloc: Global,
     cluster: Cluster,
     node: NodeId,
+    record: &'a [u8],
     histories: BTreeMap<(usize, u8), Vec<Entry>>,
 }
 
-impl Listed {
-    /// Of the record.
-    pub fn new(alloc: Global) -> Result<Listed, Fail> {
+impl<'a> Listed<'a> {
+    /// Of this record, with this history.
+    pub fn new(alloc: Global, record: &'a [u8], entries: &[Entry]) -> Result<Listed<'a>, Fail> {
         let (cluster, node) = one_of_three(2)?;
         let mut listed = Listed {
             alloc,
             cluster,
             node,
+            record,
             histories: BTreeMap::new(alloc),
         };
-        listed.list_all(&entries(alloc)?)?;
+        listed.list_all(entries)?;
         Ok(listed)
     }
 
@@ -81,7 +101,7 @@ impl Listed {
 
     /// Lists these entries where the record with this byte stands for them.
     fn list_at(&mut self, place: usize, byte: u8, entries: &[Entry]) -> Result<(), AllocError> {
-        let file = with_byte(place, byte);
+        let file = with_byte(self.alloc, self.record, place, byte)?;
         if stands_for(self.alloc, self.cluster, self.node, &file, entries)? {
             let history = copies(self.alloc, entries)?;
             self.histories.insert((place, byte), history)?;
@@ -97,7 +117,7 @@ impl Listed {
         }
         let bytes = spelled(self.alloc, self.cluster, self.node, entries)?;
         for (place, byte) in bytes.iter().enumerate() {
-            if RECORD.get(place) != Some(byte) {
+            if self.record.get(place) != Some(byte) {
                 return self.list_at(place, *byte, entries);
             }
         }
@@ -128,7 +148,7 @@ impl Listed {
                 }
             }
         }
-        for other in others(self.alloc, entry)? {
+        for other in others(self.alloc, self.cluster, entry)? {
             self.list_with(entries, at, other)?;
         }
         Ok(())

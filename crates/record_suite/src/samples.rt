@@ -1,4 +1,10 @@
 //! Records of node 2 of three, on disks in memory.
+ghost use Rattle.std.specs.Option.{IfSome};
+ghost use Rattle.site_ids.specs.Spans.{IsInSpan};
+ghost use Rattle.acceptor.specs.Judging.{IsFreeBelow};
+ghost use Rattle.durable.specs.Slots.{slot_at};
+
+use crate::history::is_free_below;
 use acceptor::{PrepareVerdict, ProposeVerdict, judge_prepare, judge_propose};
 use durable::{Record, RecordFault};
 use site_disk::{Disk, MemDisk};
@@ -89,6 +95,44 @@ pub fn put_promise<D: Disk>(
     match judge_prepare(record.slot(instance), ballot) {
         PrepareVerdict::Promise => record.put_promise(instance, ballot),
         _ => Err(RecordFault::NotARecord),
+    }
+}
+
+/// An instance of a span at which an acceptor would promise.
+fn rising<D: Disk>(
+    store: &Record<D>,
+    first: Instance,
+    count: u8,
+    ballot: Ballot,
+) -> Option<Instance>
+    ensures { IfSome result (λ at. IsInSpan first count at × IsFreeBelow (slot_at store.now.recorded.slots at).promised ballot) }
+{
+    for past in 0..count {
+        if let Some(at) = Instance::new(first.number() + past as u32) {
+            if is_free_below(&store.slot(at).promised, ballot) {
+                return Some(at);
+            }
+        }
+    }
+    None
+}
+
+/// Puts the promise of a span of two or more. `NotARecord` where it is none, or an acceptor would promise at none of its instances.
+pub fn put_span<D: Disk>(
+    record: &mut Record<D>,
+    first: Instance,
+    count: u8,
+    ballot: Ballot,
+) -> Result<(), RecordFault> {
+    if record.cluster().node(ballot.node().number()).is_none() {
+        return Err(RecordFault::NotARecord);
+    }
+    if count < 2 || !first.begins_span(count) {
+        return Err(RecordFault::NotARecord);
+    }
+    match rising(record, first, count, ballot) {
+        Some(_) => record.put_promise_span(first, count, ballot),
+        None => Err(RecordFault::NotARecord),
     }
 }
 
