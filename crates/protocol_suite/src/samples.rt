@@ -76,7 +76,7 @@ pub(crate) fn started(
     ensures { proposer.new.cluster ≡ proposer.old.cluster }
 {
     let open = proposer.attempts();
-    if !first.begins_span(values.len() as u8) || values.len() > 64 {
+    if values.len() > 64 || !first.begins_span(values.len() as u8) {
         return Err(Fail::from("no span"));
     }
     let Err((_wanted, values)) = proposer.start_span(first, ballot, values) else {
