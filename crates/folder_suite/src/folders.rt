@@ -1,5 +1,5 @@
 //! Folders by their files.
-use site_folder::{Folder, SiteFile, Weight, folder_of, pages_of};
+use site_folder::{BEGINNING, Folder, SiteFile, Weight, folder_of, pages_of};
 use std::alloc::{AllocError, Global};
 use std::process::Abort;
 use std::test::Fail;
@@ -94,6 +94,25 @@ fn the_pages_of_a_folder(rt: HostRuntime) -> Result<(), Fail> {
         assert_eq!(rt; page.body.as_str(), *body);
         assert!(rt; page.fault(alloc)?.is_none());
     }
+    Ok(())
+}
+
+#[test]
+fn a_small_site_to_start_from(rt: HostRuntime) -> Result<(), Fail> {
+    let alloc = rt.alloc();
+    let mut found = Vec::new(alloc);
+    for (path, text) in BEGINNING {
+        found.push(SiteFile {
+            path: String::from_str(alloc, path)?,
+            bytes: Vec::from_slice(alloc, text.as_bytes())?,
+        })?;
+    }
+    let folder = folder_of(alloc, &found)?;
+    let lines = told(alloc, &folder)?;
+    assert_eq!(rt; lines.as_str(), "");
+    let pages = pages_of(alloc, &folder)?;
+    assert_eq!(rt; pages.len(), 2);
+    assert!(rt; pages.iter().all(|page| page.status == 200));
     Ok(())
 }
 

@@ -1,8 +1,8 @@
 //! What the words do.
 use crate::files::{below, files_of, is_free, write_file};
 use crate::halt::Halt;
-use crate::line::{Word, word_in};
-use site_folder::{Copies, Finding, Folder, NoCopy, Page, Weight, folder_of, pages_of};
+use crate::line::{USAGE, Word, word_in};
+use site_folder::{BEGINNING, Copies, Finding, Folder, NoCopy, Page, Weight, folder_of, pages_of};
 use std::alloc::Global;
 use std::env;
 use std::io::{self, Write};
@@ -51,6 +51,47 @@ struct Whole {
     bad: bool,
 }
 
+/// Tells how many files and folders were passed over, if any.
+fn tell_passed_over<E: Write>(
+    alloc: Global,
+    err: &mut E,
+    name: &str,
+    count: usize,
+) -> Result<(), Halt> {
+    if count == 0 {
+        return Ok(());
+    }
+    let line = format!(in alloc;
+        "{name}: {count} files and folders passed over: names with a dot before or a ~ behind, README, and by --ignore others"
+    )?;
+    say(err, line.as_str())
+}
+
+/// Reads the files of a folder, and what they say.
+fn read_files<R: Files + AllocGlobal + Clone + Drop, E: Write>(
+    rt: &R,
+    err: &mut E,
+    name: &str,
+    ignore: bool,
+) -> Result<Folder, Halt> {
+    let found = files_of(rt, name, ignore)?;
+    tell_passed_over(rt.alloc(), err, name, found.passed_over.len())?;
+    Ok(folder_of(rt.alloc(), &found.files)?)
+}
+
+/// The pages of a folder without a fault, and whether one of them has a fault, which is told.
+fn read_pages<E: Write>(
+    alloc: Global,
+    err: &mut E,
+    name: &str,
+    folder: &Folder,
+) -> Result<(Vec<Page>, bool), Halt> {
+    let pages = pages_of(alloc, folder)?;
+    let faults = page_faults(alloc, &pages)?;
+    let bad = tell(alloc, err, name, &faults)?;
+    Ok((pages, bad))
+}
+
 /// Reads a folder, and tells all that is wrong with it.
 fn read_whole<R: Files + AllocGlobal + Clone + Drop, E: Write>(
     rt: &R,
@@ -59,22 +100,15 @@ fn read_whole<R: Files + AllocGlobal + Clone + Drop, E: Write>(
     ignore: bool,
 ) -> Result<Whole, Halt> {
     let alloc = rt.alloc();
-    let found = files_of(rt, name, ignore)?;
-    if !found.passed_over.is_empty() {
-        let count = found.passed_over.len();
-        let line = format!(in alloc;
-            "{name}: {count} files and folders passed over: names with a dot before or a ~ behind, README, and by --ignore others"
-        )?;
-        say(err, line.as_str())?;
+    let folder = read_files(rt, err, name, ignore)?;
+    if tell(alloc, err, name, &folder.findings)? {
+        return Ok(Whole {
+            folder,
+            pages: Vec::new(alloc),
+            bad: true,
+        });
     }
-    let folder = folder_of(alloc, &found.files)?;
-    let mut bad = tell(alloc, err, name, &folder.findings)?;
-    let mut pages = Vec::new(alloc);
-    if !bad {
-        pages = pages_of(alloc, &folder)?;
-        let faults = page_faults(alloc, &pages)?;
-        bad = tell(alloc, err, name, &faults)?;
-    }
+    let (pages, bad) = read_pages(alloc, err, name, &folder)?;
     Ok(Whole { folder, pages, bad })
 }
 
@@ -158,6 +192,28 @@ fn export<R: Files + AllocGlobal + Clone + Drop, E: Write>(
     Ok(0)
 }
 
+/// Writes a small site into a folder that is absent or empty.
+fn begin<R: Files + AllocGlobal + Clone + Drop, W: Write, E: Write>(
+    rt: &R,
+    out: &mut W,
+    err: &mut E,
+    folder: &str,
+) -> Result<u8, Halt> {
+    let alloc = rt.alloc();
+    if !is_free(rt, folder)? {
+        let line = format!(in alloc; "{folder}: is not an empty folder")?;
+        say(err, line.as_str())?;
+        return Ok(1);
+    }
+    for (path, text) in BEGINNING {
+        let whole = below(alloc, folder, path)?;
+        write_file(rt, whole.as_str(), text)?;
+    }
+    let line = format!(in alloc; "{folder}: a site of two pages; change data/start.json, then: sitepub check {folder}")?;
+    say(out, line.as_str())?;
+    Ok(0)
+}
+
 fn done<R: Files + AllocGlobal + Clone + Drop, W: Write, E: Write>(
     rt: &R,
     out: &mut W,
@@ -165,6 +221,11 @@ fn done<R: Files + AllocGlobal + Clone + Drop, W: Write, E: Write>(
     word: Word<'_>,
 ) -> Result<u8, Halt> {
     match word {
+        Word::Help => {
+            say(out, USAGE)?;
+            Ok(0)
+        }
+        Word::New { folder } => begin(rt, out, err, folder),
         Word::Check { folder, ignore } => check(rt, out, err, folder, ignore),
         Word::Export {
             folder,
@@ -188,7 +249,7 @@ fn said<R: Files + Env + AllocGlobal + Clone + Drop, W: Write, E: Write>(
     };
     match word_in(alloc, words.as_slice())? {
         Some(word) => done(rt, out, err, word),
-        None => Ok(2),
+        None => Err(Halt::Line),
     }
 }
 
