@@ -1,4 +1,4 @@
-use Rattle.std.proofs.Common.{◌≡◌, ℕ, List, length, Option, Some, None, IsSome, IsTrue, arith, rules}
+use Rattle.std.proofs.Common.{◌≡◌, Option, Some, None, IsSome, IsTrue, arith, rules}
 use Rattle.proposer.specs.Attempts.{Attempt}
 use Rattle.node.proofs.Elsewhere.{tried_elsewhere}
 use Rattle.node.proofs.running.Node.tried_elsewhere.Goals as goal
