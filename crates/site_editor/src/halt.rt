@@ -1,0 +1,52 @@
+use clap::error::ErrorKind;
+use std::alloc::{AllocError, AllocFailed};
+use std::io;
+use thiserror::Error;
+
+/// Why a word came to no end.
+#[derive(Debug, Drop, Error)]
+pub(crate) enum Halt {
+    /// What `clap` says of the command line, help among it.
+    #[error("{0}")]
+    Line(clap::Error),
+    #[error("error: invalid UTF-8 was detected in one or more arguments")]
+    NotUtf8,
+    /// A file or a folder, and what the system says of it.
+    #[error("{0}: {1}")]
+    File(String, io::Error),
+    #[error("standard output could not be written")]
+    Write,
+    #[error("out of memory")]
+    OutOfMemory,
+}
+
+impl From<AllocError> for Halt {
+    fn from(_refused: AllocError) -> Halt {
+        Halt::OutOfMemory
+    }
+}
+
+impl<T: Drop> From<AllocFailed<T>> for Halt {
+    fn from(_refused: AllocFailed<T>) -> Halt {
+        Halt::OutOfMemory
+    }
+}
+
+impl From<clap::Error> for Halt {
+    fn from(refused: clap::Error) -> Halt {
+        match refused.kind() {
+            ErrorKind::OutOfMemory => Halt::OutOfMemory,
+            _ => Halt::Line(refused),
+        }
+    }
+}
+
+impl Halt {
+    /// The exit status: 2 for a command line that is none, else 1.
+    pub(crate) fn status(&self) -> u8 {
+        match self {
+            Halt::Line(_) | Halt::NotUtf8 => 2,
+            Halt::File(_, _) | Halt::Write | Halt::OutOfMemory => 1,
+        }
+    }
+}

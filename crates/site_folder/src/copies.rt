@@ -1,0 +1,96 @@
+//! Which file of a static copy a page is.
+use std::alloc::{AllocError, Global};
+use std::collections::BTreeMap;
+
+/// The endings by which a path is a file's as it is.
+const ENDINGS: [&str; 7] = [".html", ".css", ".js", ".json", ".svg", ".txt", ".xml"];
+
+/// Why a page has no file of its own.
+#[derive(Clone, Copy, Debug, PartialEq, Eq)]
+pub enum NoCopy {
+    /// Its path has an empty part, `.` or `..`.
+    NoPath,
+    /// Another page has its file, or a folder of that name, or a file where its folder would be.
+    Taken,
+}
+
+/// What stands at a path of a static copy.
+#[derive(Clone, Copy, PartialEq, Eq)]
+enum Place {
+    File,
+    Folder,
+}
+
+/// The files of a static copy, and the folders that they stand in.
+#[derive(Drop)]
+pub struct Copies {
+    alloc: Global,
+    taken: BTreeMap<String, Place>,
+}
+
+/// Whether each part of a path can name a file.
+fn has_parts(path: &str) -> bool {
+    path.split('/')
+        .all(|part| !part.is_empty() && part != "." && part != "..")
+}
+
+/// The file of a page without regard to others: `index.html` for `/`, `a/index.html` for `/a` and `/a/`, `a.css` for `/a.css`.
+fn file_of(alloc: Global, path: &str) -> Result<Option<String>, AllocError> {
+    let below = path.strip_prefix('/').unwrap_or(path);
+    if below.is_empty() {
+        return Ok(Some(String::from_str(alloc, "index.html")?));
+    }
+    let bare = below.strip_suffix('/').unwrap_or(below);
+    if !has_parts(bare) {
+        return Ok(None);
+    }
+    if ENDINGS.iter().any(|ending| below.ends_with(*ending)) {
+        return Ok(Some(String::from_str(alloc, bare)?));
+    }
+    Ok(Some(format!(in alloc; "{bare}/index.html")?))
+}
+
+/// The folders in which a file stands, the outermost first.
+fn folders_of(alloc: Global, file: &str) -> Result<Vec<String>, AllocError> {
+    let mut folders = Vec::new(alloc);
+    let mut folder = String::new(alloc);
+    for part in file.split('/') {
+        if !folder.is_empty() {
+            folders.push(folder.clone()?)?;
+            folder.push('/')?;
+        }
+        folder.push_str(part)?;
+    }
+    Ok(folders)
+}
+
+impl Copies {
+    /// No files.
+    pub fn new(alloc: Global) -> Copies {
+        Copies {
+            alloc,
+            taken: BTreeMap::new(alloc),
+        }
+    }
+
+    /// Takes the file of a page, as a path below the copy's folder.
+    pub fn take(&mut self, path: &str) -> Result<Result<String, NoCopy>, AllocError> {
+        let Some(file) = file_of(self.alloc, path)? else {
+            return Ok(Err(NoCopy::NoPath));
+        };
+        if self.taken.contains_key(file.as_str()) {
+            return Ok(Err(NoCopy::Taken));
+        }
+        let folders = folders_of(self.alloc, file.as_str())?;
+        for folder in folders.iter() {
+            if self.taken.get(folder.as_str()) == Some(&Place::File) {
+                return Ok(Err(NoCopy::Taken));
+            }
+        }
+        for folder in folders {
+            drop(self.taken.insert(folder, Place::Folder)?);
+        }
+        drop(self.taken.insert(file.clone()?, Place::File)?);
+        Ok(Ok(file))
+    }
+}

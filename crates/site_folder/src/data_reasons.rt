@@ -1,0 +1,185 @@
+//! Where and why a text is no data.
+use serde_json::Value;
+use std::alloc::{AllocError, Global};
+
+/// What is wrong, and the byte at which it is.
+#[derive(Drop)]
+pub(crate) struct Slip {
+    pub at: usize,
+    pub reason: String,
+}
+
+/// The first byte of a line, counted from 1.
+fn line_start(bytes: &[u8], line: usize) -> usize {
+    let mut seen = 1usize;
+    let mut start = 0;
+    for (i, b) in bytes.iter().enumerate() {
+        if seen >= line {
+            break;
+        }
+        if *b == b'\n' {
+            seen = seen.saturating_add(1);
+            start = i + 1;
+        }
+    }
+    start
+}
+
+fn is_blank(b: u8) -> bool {
+    matches!(b, b' ' | b'\t' | b'\n' | b'\r')
+}
+
+/// The last byte that is no blank, a space where there is none.
+fn last_of(bytes: &[u8]) -> u8 {
+    bytes
+        .iter()
+        .rev()
+        .copied()
+        .find(|b| !is_blank(*b))
+        .unwrap_or(b' ')
+}
+
+/// Whether a value or a key can end in the byte.
+fn is_end(b: u8) -> bool {
+    matches!(b, b'"' | b'}' | b']' | b'0'..=b'9' | b'a'..=b'z')
+}
+
+/// Whether a value or a key can begin with the byte.
+fn is_start(b: u8) -> bool {
+    matches!(b, b'"' | b'{' | b'[' | b'-' | b'0'..=b'9' | b'a'..=b'z' | b'A'..=b'Z')
+}
+
+/// Why a byte can't stand behind what stands before it.
+fn reason_at(alloc: Global, before: u8, here: u8) -> Result<String, AllocError> {
+    let reason = match (before, here) {
+        (b',', b'}' | b']') => "no JSON: the comma before this has to go",
+        (b',', b',') => "no JSON: one comma too many",
+        (_, b'\'') => "no JSON: texts and keys stand between double quotes",
+        (_, b'/' | b'#') => "no JSON: there are no comments",
+        (_, b'\n' | b'\r' | b'\t') => {
+            "no JSON: a text holds no line break and no tab: write \\n or \\t, or close it with a double quote"
+        }
+        (before, here) if is_end(before) && is_start(here) => {
+            "no JSON: a comma is missing before this, or a colon behind a key"
+        }
+        (_, here) if (33..127).contains(&here) => {
+            let c = char::from(here);
+            return format!(in alloc; "no JSON: `{c}` can't stand here");
+        }
+        _ => "no JSON: this can't stand here",
+    };
+    String::from_str(alloc, reason)
+}
+
+/// Why bytes that are no JSON are none.
+pub(crate) fn json_slip(alloc: Global, bytes: &[u8]) -> Result<Slip, AllocError> {
+    if bytes.starts_with(b"\xef\xbb\xbf") {
+        return Ok(Slip {
+            at: 0,
+            reason: String::from_str(
+                alloc,
+                "the file begins with a byte order mark: save it as UTF-8 without one",
+            )?,
+        });
+    }
+    let fault = match Value::from_slice(alloc, bytes) {
+        Ok(_) => {
+            return Ok(Slip {
+                at: 0,
+                reason: String::from_str(alloc, "no JSON")?,
+            });
+        }
+        Err(fault) => fault,
+    };
+    if fault.is_memory() {
+        return Err(AllocError);
+    }
+    let start = line_start(bytes, fault.line());
+    let at = start
+        .saturating_add(fault.column().saturating_sub(1))
+        .min(bytes.len());
+    if fault.is_eof() || at == bytes.len() {
+        let reason = "no JSON: the file ends too early: a `}`, a `]` or a double quote is missing";
+        return Ok(Slip {
+            at: bytes.len(),
+            reason: String::from_str(alloc, reason)?,
+        });
+    }
+    Ok(Slip {
+        at,
+        reason: reason_at(alloc, last_of(&bytes[..at]), bytes[at])?,
+    })
+}
+
+fn is_number_byte(b: u8) -> bool {
+    matches!(b, b'0'..=b'9' | b'-' | b'+' | b'.' | b'e' | b'E')
+}
+
+/// Whether a number of JSON is one that data may have.
+fn is_whole(number: &str) -> bool {
+    number != "-0" && (number.parse::<i64>().is_ok() || number.parse::<u64>().is_ok())
+}
+
+/// Where the reading of a text of JSON is: outside of its texts, in one, or behind a backslash in one.
+#[derive(Clone, Copy, PartialEq, Eq)]
+enum Inside {
+    Nothing,
+    Text,
+    Escape,
+}
+
+fn step(inside: Inside, b: u8) -> Inside {
+    match (inside, b) {
+        (Inside::Nothing, b'"') => Inside::Text,
+        (Inside::Nothing, _) => Inside::Nothing,
+        (Inside::Text, b'"') => Inside::Nothing,
+        (Inside::Text, b'\\') => Inside::Escape,
+        (Inside::Text | Inside::Escape, _) => Inside::Text,
+    }
+}
+
+/// The number at the front.
+fn number_at(bytes: &[u8]) -> &str {
+    let len = bytes.iter().take_while(|b| is_number_byte(**b)).count();
+    match bytes.get(..len) {
+        Some(number) => str::from_utf8(number).unwrap_or(""),
+        None => "",
+    }
+}
+
+/// The first number of a text of JSON that is not whole, or too large.
+pub(crate) fn number_slip(alloc: Global, bytes: &[u8]) -> Result<Slip, AllocError> {
+    let mut inside = Inside::Nothing;
+    let mut behind = b' ';
+    for (at, b) in bytes.iter().enumerate() {
+        if inside == Inside::Nothing
+            && is_number_byte(*b)
+            && !is_number_byte(behind)
+            && !is_letter(*b)
+        {
+            let number = number_at(&bytes[at..]);
+            if !is_whole(number) {
+                return Ok(Slip {
+                    at,
+                    reason: format!(in alloc;
+                        "the number {number} is not whole, or too large: write it as a text, \"{number}\""
+                    )?,
+                });
+            }
+        }
+        inside = step(inside, *b);
+        behind = *b;
+    }
+    Ok(Slip {
+        at: 0,
+        reason: String::from_str(
+            alloc,
+            "a number is not whole, or too large: write it as a text",
+        )?,
+    })
+}
+
+/// Whether the byte is a letter that numbers have: no number begins with one.
+fn is_letter(b: u8) -> bool {
+    matches!(b, b'e' | b'E')
+}

@@ -1,0 +1,122 @@
+//! The pages of a folder, as a node shows them; those that moved as files that lead on.
+use crate::finding::{Finding, Weight};
+use crate::folder::Folder;
+use crate::moved::moved_page;
+use crate::place::Place;
+use command::write;
+use release::{Answer, AnswerFault, Releases};
+use site_ids::{MAX_INSTANCE, Ticket};
+use std::alloc::{AllocError, Global};
+
+/// A page: its path, its line of `routes` or `redirects`, its status and its text.
+#[derive(Drop)]
+pub struct Page {
+    pub path: String,
+    pub file: &'static str,
+    pub line: usize,
+    pub status: u16,
+    pub body: String,
+}
+
+/// The releases of a text after those before, under the next ticket. Past the last instance nothing is fed.
+fn feed(alloc: Global, releases: &mut Releases, text: &[u8]) -> Result<(), AllocError> {
+    let number = releases.len() as u64;
+    if number < u64::from(MAX_INSTANCE) {
+        let value = write(alloc, Ticket { editor: 0, number }, text)?;
+        let _ = releases.feed(&value)?;
+    }
+    Ok(())
+}
+
+/// The page at a path of the first release; nothing where there is none.
+fn page_at(releases: &Releases, path: &str) -> Result<Option<Answer>, AllocError> {
+    match releases.answer(1, path) {
+        Ok(answer) => Ok(Some(answer)),
+        Err(AnswerFault::NoSuchRelease) => Ok(None),
+        Err(AnswerFault::OutOfMemory) => Err(AllocError),
+    }
+}
+
+/// The release of a folder's commands alone.
+fn release_of(alloc: Global, folder: &Folder) -> Result<Releases, AllocError> {
+    let mut releases = Releases::new(alloc);
+    for command in folder.commands.iter() {
+        feed(alloc, &mut releases, &command.text)?;
+    }
+    feed(alloc, &mut releases, b"release\n")?;
+    Ok(releases)
+}
+
+/// Adds the pages of a folder's routes, in order.
+fn push_routes(
+    folder: &Folder,
+    releases: &Releases,
+    pages: &mut Vec<Page>,
+) -> Result<(), AllocError> {
+    for route in folder.routes.iter() {
+        if let Some(answer) = page_at(releases, route.path.as_str())? {
+            pages.push(Page {
+                path: route.path.clone()?,
+                file: "routes",
+                line: route.line,
+                status: answer.status,
+                body: answer.body,
+            })?;
+        }
+    }
+    Ok(())
+}
+
+/// Adds the pages of a folder's redirects, in order: of a path that leads on a file that does so. A path with a route has a page already.
+fn push_redirects(
+    alloc: Global,
+    folder: &Folder,
+    releases: &Releases,
+    pages: &mut Vec<Page>,
+) -> Result<(), AllocError> {
+    for redirect in folder.redirects.iter() {
+        let Some(answer) = page_at(releases, redirect.path.as_str())? else {
+            continue;
+        };
+        if let Some(target) = &answer.location {
+            pages.push(Page {
+                path: redirect.path.clone()?,
+                file: "redirects",
+                line: redirect.line,
+                status: answer.status,
+                body: moved_page(alloc, target.as_str())?,
+            })?;
+        }
+    }
+    Ok(())
+}
+
+/// The pages of a folder in a release of its commands alone: of its routes, then of its redirects whose paths have no route, each in order.
+pub fn pages_of(alloc: Global, folder: &Folder) -> Result<Vec<Page>, AllocError> {
+    let releases = release_of(alloc, folder)?;
+    let mut pages = Vec::new(alloc);
+    push_routes(folder, &releases, &mut pages)?;
+    push_redirects(alloc, folder, &releases, &mut pages)?;
+    Ok(pages)
+}
+
+impl Page {
+    /// What is wrong with the page, if it is none: neither shown nor moved.
+    pub fn fault(&self, alloc: Global) -> Result<Option<Finding>, AllocError> {
+        if self.status == 200 || self.status == 301 {
+            return Ok(None);
+        }
+        let path = self.path.as_str();
+        let why = self.body.as_str().trim_end();
+        Ok(Some(Finding {
+            weight: Weight::Fault,
+            file: String::from_str(alloc, self.file)?,
+            place: Some(Place {
+                line: self.line,
+                column: 1,
+            }),
+            reason: format!(in alloc; "{path}: {why}")?,
+            label: None,
+        }))
+    }
+}

@@ -1,0 +1,94 @@
+//! Which part of a site a file is, by its path.
+use command::Kind;
+
+/// What a file of a folder is to the site.
+#[derive(Clone, Copy)]
+pub(crate) enum Role<'a> {
+    /// The text of a template, a partial or data, and its name.
+    Text(Kind, &'a str),
+    Routes,
+    Redirects,
+    Removes,
+    /// What an editor keeps of what was published.
+    Published,
+    /// No part of a site, and meant so: a name with a dot before or a `~` behind, or a `README`.
+    PassedOver,
+    /// No part of a site, and why.
+    Wrong(&'static str),
+}
+
+/// Whether a name in a path says that a file is none of the site's.
+fn is_hidden(name: &str) -> bool {
+    name.starts_with('.') || name.ends_with('~')
+}
+
+/// Whether the file or folder at a path below a site's folder is none of the site's, and meant so: a name in it begins with a dot or ends in `~`, or it
+/// is a `README`.
+pub fn is_passed_over(path: &str) -> bool {
+    path.starts_with("README") || path.split('/').any(|name| is_hidden(name))
+}
+
+fn text_role<'a>(kind: Kind, rest: &'a str, ending: &str, wrong: &'static str) -> Role<'a> {
+    match rest.strip_suffix(ending) {
+        Some(name) if !name.is_empty() => Role::Text(kind, name),
+        _ => Role::Wrong(wrong),
+    }
+}
+
+/// The role of the file at a path below the folder.
+pub(crate) fn role_of(path: &str) -> Role<'_> {
+    if is_passed_over(path) {
+        return Role::PassedOver;
+    }
+    match path {
+        "routes" => return Role::Routes,
+        "redirects" => return Role::Redirects,
+        "removes" => return Role::Removes,
+        "published" => return Role::Published,
+        _ => {}
+    }
+    if let Some(rest) = path.strip_prefix("templates/") {
+        return text_role(
+            Kind::Template,
+            rest,
+            ".mustache",
+            "is no .mustache file: rename it, or move it out of the folder",
+        );
+    }
+    if let Some(rest) = path.strip_prefix("partials/") {
+        return text_role(
+            Kind::Partial,
+            rest,
+            ".mustache",
+            "is no .mustache file: rename it, or move it out of the folder",
+        );
+    }
+    if let Some(rest) = path.strip_prefix("data/") {
+        return text_role(
+            Kind::Data,
+            rest,
+            ".json",
+            "is no .json file: rename it, or move it out of the folder",
+        );
+    }
+    Role::Wrong(
+        "is no part of a site (templates, partials, data, routes, redirects, removes): move it out of the folder, or --ignore",
+    )
+}
+
+/// Whether the file at a path below a site's folder says something of the site.
+pub fn is_of_site(path: &str) -> bool {
+    matches!(
+        role_of(path),
+        Role::Text(_, _) | Role::Routes | Role::Redirects | Role::Removes
+    )
+}
+
+/// Whether files of a site stand in the folder at a path below its folder, or further below.
+pub fn is_part(path: &str) -> bool {
+    let top = match path.split_once('/') {
+        Some((top, _)) => top,
+        None => path,
+    };
+    matches!(top, "templates" | "partials" | "data")
+}
