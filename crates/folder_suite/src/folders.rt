@@ -1,5 +1,5 @@
 //! Folders by their files.
-use site_folder::{Folder, SiteFile, Weight, folder_of, pages_of};
+use site_folder::{BEGINNING, Folder, SiteFile, Weight, folder_of, pages_of};
 use std::alloc::{AllocError, Global};
 use std::process::Abort;
 use std::test::Fail;
@@ -93,6 +93,49 @@ fn the_pages_of_a_folder(rt: HostRuntime) -> Result<(), Fail> {
         assert_eq!(rt; place.as_str(), *at);
         assert_eq!(rt; page.body.as_str(), *body);
         assert!(rt; page.fault(alloc)?.is_none());
+    }
+    Ok(())
+}
+
+/// The pages of the small site to start from, each with what stands between its head and its foot.
+const BEGUN: [(&str, &str); 2] = [
+    (
+        "/",
+        "<h1>A site</h1>
+<p>Change data/start.json, and look again.</p>
+<ul>
+<li>templates: how pages look</li>
+<li>data: what they say</li>
+<li>routes: where they are</li>
+</ul>
+",
+    ),
+    (
+        "/about",
+        "<h1>About</h1>
+<p>Who writes here, and how to reach us.</p>
+",
+    ),
+];
+
+#[test]
+fn a_small_site_to_start_from(rt: HostRuntime) -> Result<(), Fail> {
+    let alloc = rt.alloc();
+    let mut found = Vec::new(alloc);
+    for (path, text) in BEGINNING {
+        found.push(SiteFile {
+            path: String::from_str(alloc, path)?,
+            bytes: Vec::from_slice(alloc, text.as_bytes())?,
+        })?;
+    }
+    let folder = folder_of(alloc, &found)?;
+    let lines = told(alloc, &folder)?;
+    assert_eq!(rt; lines.as_str(), "");
+    let pages = pages_of(alloc, &folder)?;
+    assert_eq!(rt; pages.len(), BEGUN.len());
+    for (page, (path, text)) in pages.iter().zip(BEGUN.iter()) {
+        assert!(rt; page.path.as_str() == *path && page.status == 200);
+        assert!(rt; page.body.as_str().contains(*text));
     }
     Ok(())
 }

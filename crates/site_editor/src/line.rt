@@ -5,6 +5,10 @@ use std::alloc::Global;
 /// What `sitepub` is told to do.
 #[derive(Clone, Copy, Debug)]
 pub(crate) enum Word<'a> {
+    /// Writes a small site to start from.
+    New {
+        folder: &'a str,
+    },
     /// Tells all that is wrong with a folder.
     Check {
         folder: &'a str,
@@ -18,10 +22,10 @@ pub(crate) enum Word<'a> {
     },
 }
 
-fn folder_argument<'a>(alloc: Global) -> Arg<'a> {
+fn folder_argument<'a>(alloc: Global, help: &'static str) -> Arg<'a> {
     Arg::new(alloc, "folder")
         .value_name("FOLDER")
-        .help("The folder of the site")
+        .help(help)
         .required(true)
         .action(ArgAction::Set)
 }
@@ -33,11 +37,19 @@ fn ignore_flag<'a>(alloc: Global) -> Arg<'a> {
         .action(ArgAction::SetTrue)
 }
 
+fn new_word<'a>(alloc: Global) -> Result<Command<'a>, Error> {
+    Ok(
+        Command::new(alloc, "new")
+            .about("Writes a small site to start from")
+            .arg(folder_argument(alloc, "The folder of the site, empty or absent"))?,
+    )
+}
+
 fn check_word<'a>(alloc: Global) -> Result<Command<'a>, Error> {
     Ok(
         Command::new(alloc, "check")
             .about("Tells all that is wrong with a folder, each with its place and what to do")
-            .arg(folder_argument(alloc))?
+            .arg(folder_argument(alloc, "The folder of the site"))?
             .arg(ignore_flag(alloc))?,
     )
 }
@@ -46,7 +58,7 @@ fn export_word<'a>(alloc: Global) -> Result<Command<'a>, Error> {
     Ok(
         Command::new(alloc, "export")
             .about("Writes a static copy of a folder's pages")
-            .arg(folder_argument(alloc))?
+            .arg(folder_argument(alloc, "The folder of the site"))?
             .arg(
                 Arg::new(alloc, "out")
                     .value_name("OUT")
@@ -63,6 +75,7 @@ fn matches_of<'a>(alloc: Global, words: &'a [String]) -> Result<ArgMatches<'a>, 
         .about("What an editor does with a folder of a site")
         .after_help("Example:\n  sitepub check examples/prices/1")
         .subcommand_required(true)
+        .subcommand(new_word(alloc)?)?
         .subcommand(check_word(alloc)?)?
         .subcommand(export_word(alloc)?)?
         .try_get_matches_from(words)
@@ -77,6 +90,9 @@ fn text<'a>(matches: &ArgMatches<'a>, id: &str) -> &'a str {
 pub(crate) fn word_in<'a>(alloc: Global, words: &'a [String]) -> Result<Option<Word<'a>>, Error> {
     let matches = matches_of(alloc, words)?;
     match matches.subcommand() {
+        Some(("new", found)) => Ok(Some(Word::New {
+            folder: text(found, "folder"),
+        })),
         Some(("check", found)) => Ok(Some(Word::Check {
             folder: text(found, "folder"),
             ignore: found.get_flag("ignore"),

@@ -2,7 +2,7 @@
 use crate::files::{below, files_of, is_free, write_file};
 use crate::halt::Halt;
 use crate::line::{Word, word_in};
-use site_folder::{Copies, Finding, Folder, NoCopy, Page, Weight, folder_of, pages_of};
+use site_folder::{BEGINNING, Copies, Finding, Folder, NoCopy, Page, Weight, folder_of, pages_of};
 use std::alloc::Global;
 use std::env;
 use std::io::{self, Write};
@@ -201,6 +201,20 @@ fn write_pages<R: Files + AllocGlobal, E: Write>(
     Ok(0)
 }
 
+/// Whether files can be written into a folder, as it is absent or empty. That it isn't is told.
+fn takes_files<R: Files + AllocGlobal + Clone + Drop, E: Write>(
+    rt: &R,
+    err: &mut E,
+    folder: &str,
+) -> Result<bool, Halt> {
+    let free = is_free(rt, folder)?;
+    if !free {
+        let line = format!(in rt.alloc(); "{folder}: is not an empty folder")?;
+        say(err, line.as_str())?;
+    }
+    Ok(free)
+}
+
 fn export<R: Files + AllocGlobal + Clone + Drop, E: Write>(
     rt: &R,
     err: &mut E,
@@ -208,15 +222,34 @@ fn export<R: Files + AllocGlobal + Clone + Drop, E: Write>(
     to: &str,
     ignore: bool,
 ) -> Result<u8, Halt> {
-    if !is_free(rt, to)? {
-        let line = format!(in rt.alloc(); "{to}: is not an empty folder")?;
-        say(err, line.as_str())?;
+    if !takes_files(rt, err, to)? {
         return Ok(1);
     }
     match read_clean(rt, err, folder, ignore)? {
         Some(clean) => write_pages(rt, err, folder, to, &clean.pages),
         None => Ok(1),
     }
+}
+
+/// Writes a small site to start from.
+fn begin<R: Files + AllocGlobal + Clone + Drop, W: Write, E: Write>(
+    rt: &R,
+    out: &mut W,
+    err: &mut E,
+    folder: &str,
+) -> Result<u8, Halt> {
+    if !takes_files(rt, err, folder)? {
+        return Ok(1);
+    }
+    for (path, text) in BEGINNING {
+        let whole = below(rt.alloc(), folder, path)?;
+        write_file(rt, whole.as_str(), text)?;
+    }
+    let line = format!(in rt.alloc();
+        "{folder}: a site of two pages; change data/start.json, then: sitepub check {folder}"
+    )?;
+    say(out, line.as_str())?;
+    Ok(0)
 }
 
 fn done<R: Files + AllocGlobal + Clone + Drop, W: Write, E: Write>(
@@ -226,6 +259,7 @@ fn done<R: Files + AllocGlobal + Clone + Drop, W: Write, E: Write>(
     word: Word<'_>,
 ) -> Result<u8, Halt> {
     match word {
+        Word::New { folder } => begin(rt, out, err, folder),
         Word::Check { folder, ignore } => check(rt, out, err, folder, ignore),
         Word::Export {
             folder,

@@ -3,9 +3,10 @@
 //! Nothing here reads a file: `site_editor` does. `folder.rt` goes over the files, `judging.rt` asks `command` whether a text is a command, and
 //! where it is none `template_reasons.rt`, `data_reasons.rt` and `reasons.rt` say why, for people: the place, and what to do. `lines.rt` reads
 //! `routes`, `redirects` and `removes`. `checks.rt` looks for what is named and isn't there. `pages.rt` renders each route, as a node would, `moved.rt`
-//! makes the file of a page that moved, and `copies.rt` says which file of a static copy a page is.
+//! makes the file of a page that moved, and `copies.rt` says which file of a static copy a page is. `beginning.rt` has a small site to start from.
 #![tactic(auto)]
 
+mod beginning;
 mod checks;
 mod copies;
 mod data_reasons;
@@ -21,6 +22,7 @@ mod reasons;
 mod roles;
 mod template_reasons;
 
+pub use beginning::BEGINNING;
 pub use copies::{Copies, NoCopy};
 pub use file::SiteFile;
 pub use finding::{Finding, Weight};

@@ -1,4 +1,4 @@
-//! `sitepub check FOLDER`, `sitepub export FOLDER OUT`: what an editor does with a folder of a site.
+//! `sitepub new FOLDER`, `sitepub check FOLDER`, `sitepub export FOLDER OUT`: what an editor does with a folder of a site.
 #![tactic(auto)]
 
 use site_editor::sitepub;
