@@ -173,10 +173,11 @@ fn files_that_are_passed_over(rt: HostRuntime) -> Result<(), Fail> {
 #[test]
 fn all_faults_of_all_files(rt: HostRuntime) -> Result<(), Fail> {
     let alloc = rt.alloc();
-    let rows: [(&str, &[u8]); 5] = [
+    let rows: [(&str, &[u8]); 6] = [
         ("data/b.json", b"[1,]"),
         ("data/c.json", b"{}"),
         ("partials/q.mustache", b"{{>p}}\n {{>q}}{{>p}}"),
+        ("removes", b"data c\nroute /x\nroute /x\n"),
         ("routes", b"/ t b\n/a u c\n/a/ u c\n/ u d\n"),
         ("templates/t.mustache", b"{{/x}}"),
     ];
@@ -185,10 +186,12 @@ fn all_faults_of_all_files(rt: HostRuntime) -> Result<(), Fail> {
         "templates/t.mustache:1:1: `{{/x}}` ends nothing: no section is open [5 Template 5 NoSection at 0]
 data/b.json:1:4: no JSON: the comma before this has to go [6 Data 1 NotJson]
 routes:4:1: the route / stands in line 1 already
+removes:3:1: line 2 removes the same
 routes:2:1: there is no templates/u.mustache
 routes:3:1: there is no templates/u.mustache
 routes:4:1: there is no templates/u.mustache
 routes:4:1: there is no data/d.json
+removes:1:1: the data c is put by this folder: take this line out, or what puts it
 routes:3:1: warning: /a/ and /a are two paths, which readers take for one
 partials/q.mustache:1:1: warning: there is no partials/p.mustache, so nothing is printed here
 partials/q.mustache:2:8: warning: there is no partials/p.mustache, so nothing is printed here

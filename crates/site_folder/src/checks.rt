@@ -1,39 +1,29 @@
-//! What is wrong with a folder beyond its files: routes that name what isn't there, redirects that lead nowhere, partials that aren't there, and paths
+//! What is wrong with a folder beyond its files: routes that name what isn't there, redirects that lead nowhere, what is put and removed, partials that aren't there, and paths
 //! that readers take for one.
-ghost use Rattle.site_folder.specs.Texts.{AreCommands};
-
 use crate::finding::Finding;
-use crate::folder::{Reading, key_of};
+use crate::names::{Names, key_of};
 use crate::place::Place;
-use crate::reasons::{fault_in, warning_in};
+use crate::reasons::{line_fault, warning_in};
+use crate::roles::LineFile;
 use command::Kind;
 use std::alloc::{AllocError, Global};
 
 /// A fault of a line of `routes`: something isn't there.
 fn missing(alloc: Global, line: usize, what: &str) -> Result<Finding, AllocError> {
     let reason = format!(in alloc; "there is no {what}")?;
-    fault_in(
-        alloc,
-        "routes",
-        Some(Place { line, column: 1 }),
-        reason.as_str(),
-    )
+    line_fault(alloc, LineFile::Routes, line, reason.as_str())
 }
 
-impl Reading {
-    /// Finds what is wrong with a folder whose files are all read.
-    pub(crate) fn check(&mut self) -> Result<(), AllocError>
-        ensures { AreCommands self.old.folder.commands.items → AreCommands self.new.folder.commands.items }
-    {
+impl Names {
+    /// What is wrong with a folder whose files are all read.
+    pub(crate) fn check(&self) -> Result<Vec<Finding>, AllocError> {
         let mut findings = Vec::new(self.alloc);
         self.check_routes(&mut findings)?;
         self.check_redirects(&mut findings)?;
+        self.check_removes(&mut findings)?;
         self.check_slashes(&mut findings)?;
         self.check_calls(&mut findings)?;
-        for finding in findings {
-            self.find(finding)?;
-        }
-        Ok(())
+        Ok(findings)
     }
 
     /// The line that puts a name of a kind, 0 where a file does.
@@ -44,7 +34,7 @@ impl Reading {
 
     /// Finds the routes that name what isn't there.
     fn check_routes(&self, findings: &mut Vec<Finding>) -> Result<(), AllocError> {
-        for route in self.folder.routes.iter() {
+        for route in self.routes.iter() {
             let template = route.template.as_str();
             let page_data = route.page_data.as_str();
             if self.line_of(Kind::Template, template)?.is_none() {
@@ -61,7 +51,7 @@ impl Reading {
 
     /// Warns of redirects that nobody follows, as their path has a route, and of those that lead to no page of the folder.
     fn check_redirects(&self, findings: &mut Vec<Finding>) -> Result<(), AllocError> {
-        for redirect in self.folder.redirects.iter() {
+        for redirect in self.redirects.iter() {
             let path = redirect.path.as_str();
             let target = redirect.target.as_str();
             let reason = if let Some(line) = self.line_of(Kind::Route, path)? {
@@ -82,9 +72,24 @@ impl Reading {
         Ok(())
     }
 
+    /// Finds what is removed and put as well.
+    fn check_removes(&self, findings: &mut Vec<Finding>) -> Result<(), AllocError> {
+        for (key, line) in self.removed.iter() {
+            let key = key.as_str();
+            if self.found.contains_key(key) {
+                let reason = format!(in self.alloc;
+                    "the {key} is put by this folder: take this line out, or what puts it"
+                )?;
+                let finding = line_fault(self.alloc, LineFile::Removes, *line, reason.as_str())?;
+                findings.push(finding)?;
+            }
+        }
+        Ok(())
+    }
+
     /// Warns of paths that differ by a slash at their end alone.
     fn check_slashes(&self, findings: &mut Vec<Finding>) -> Result<(), AllocError> {
-        for route in self.folder.routes.iter() {
+        for route in self.routes.iter() {
             let path = route.path.as_str();
             let Some(bare) = path.strip_suffix('/') else {
                 continue;

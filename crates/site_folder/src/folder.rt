@@ -1,18 +1,12 @@
-//! A folder's files, each by its role, and the lines of `routes`, `redirects` and `removes`.
-ghost use Rattle.std.specs.Prelude.{IfOk};
-ghost use Rattle.site_folder.specs.Texts.{IsCommandText, AreCommands};
+//! A folder: its commands, its pages, and what is wrong with it.
+ghost use Rattle.std.specs.Prelude.{◌≡◌, false, IfOk};
+ghost use Rattle.site_folder.specs.Folders.{has_fault, IsWhole};
+ghost use Rattle.site_folder.specs.Texts.{AreCommands};
 
 use crate::file::SiteFile;
 use crate::finding::Finding;
-use crate::judging::{Refusal, refused};
-use crate::lines::{Line, kind_word, lines_in, redirect_in, removal_in, route_in};
-use crate::place::{Place, place_of};
-use crate::reasons::{fault_in, file_fault, no_text};
-use crate::roles::{Role, role_of};
-use crate::template_reasons::calls_of;
-use command::{CommandFault, Kind};
+use crate::reading::Reading;
 use std::alloc::{AllocError, Global};
-use std::collections::BTreeMap;
 
 /// A command of a folder: its text.
 #[derive(Drop)]
@@ -37,14 +31,6 @@ pub struct Redirect {
     pub line: usize,
 }
 
-/// A partial that a file calls.
-#[derive(Drop)]
-pub(crate) struct PartialCall {
-    pub name: String,
-    pub file: String,
-    pub place: Place,
-}
-
 /// What a folder is: its commands in order, all but the release; its pages, and those that moved; and what is wrong with it.
 #[derive(Drop)]
 pub struct Folder {
@@ -54,299 +40,19 @@ pub struct Folder {
     pub findings: Vec<Finding>,
 }
 
-/// A folder while it is read.
-#[derive(Drop)]
-pub(crate) struct Reading {
-    pub alloc: Global,
-    pub folder: Folder,
-    /// What is put, a kind and a name each, parted by a space; and its line, 0 where a file puts it.
-    pub found: BTreeMap<String, usize>,
-    pub calls: Vec<PartialCall>,
-}
-
-/// A kind and a name, parted by a space.
-pub(crate) fn key_of(alloc: Global, kind: Kind, name: &str) -> Result<String, AllocError> {
-    let kind = kind_word(kind);
-    format!(in alloc; "{kind} {name}")
-}
-
-/// Adds a command.
-fn take(commands: &mut Vec<FolderCommand>, text: Vec<u8>) -> Result<(), AllocError>
-    requires { IsCommandText text.items }
-    ensures { AreCommands commands.old.items → AreCommands commands.new.items }
-{
-    commands.push(FolderCommand { text })?;
-    Ok(())
-}
-
-impl Reading {
-    fn new(alloc: Global) -> Reading
-        ensures { AreCommands result.folder.commands.items }
-    {
-        Reading {
-            alloc,
-            folder: Folder {
-                commands: Vec::new(alloc),
-                routes: Vec::new(alloc),
-                redirects: Vec::new(alloc),
-                findings: Vec::new(alloc),
-            },
-            found: BTreeMap::new(alloc),
-            calls: Vec::new(alloc),
-        }
-    }
-
-    pub(crate) fn find(&mut self, finding: Finding) -> Result<(), AllocError>
-        ensures { AreCommands self.old.folder.commands.items → AreCommands self.new.folder.commands.items }
-    {
-        self.folder.findings.push(finding)?;
-        Ok(())
-    }
-
-    /// Takes a text as a command, unless it is none.
-    fn judge(&mut self, text: Vec<u8>) -> Result<Option<Refusal>, AllocError>
-        ensures { AreCommands self.old.folder.commands.items → AreCommands self.new.folder.commands.items }
-    {
-        match refused(self.alloc, &text)? {
-            Some(refusal) => Ok(Some(refusal)),
-            None => {
-                take(&mut self.folder.commands, text)?;
-                Ok(None)
-            }
-        }
-    }
-
-    /// Takes a file that is the text of a template, a partial or data.
-    fn text(&mut self, kind: Kind, name: &str, file: &SiteFile) -> Result<(), AllocError>
-        ensures { AreCommands self.old.folder.commands.items → AreCommands self.new.folder.commands.items }
-    {
-        let _ = self.found.insert(key_of(self.alloc, kind, name)?, 0)?;
-        let path = file.path.as_str();
-        let body = match str::from_utf8(&file.bytes) {
-            Ok(body) => body,
-            Err(wrong) => {
-                let finding = no_text(self.alloc, path, &file.bytes, wrong.valid_up_to())?;
-                return self.find(finding);
-            }
-        };
-        let word = kind_word(kind);
-        let head = format!(in self.alloc; "put {word} {name}\n")?;
-        let mut text = Vec::from_slice(self.alloc, head.as_bytes())?;
-        text.extend_from_slice(body.as_bytes())?;
-        if let Some(refusal) = self.judge(text)? {
-            let finding = file_fault(self.alloc, path, head.len(), body, refusal)?;
-            return self.find(finding);
-        }
-        match kind {
-            Kind::Template => self.partials(path, body),
-            Kind::Partial => self.partials(path, body),
-            _ => Ok(()),
-        }
-    }
-
-    /// Takes the partials that a text calls.
-    fn partials(&mut self, path: &str, body: &str) -> Result<(), AllocError>
-        ensures { AreCommands self.old.folder.commands.items → AreCommands self.new.folder.commands.items }
-    {
-        for call in calls_of(self.alloc, body)?.iter() {
-            self.calls.push(PartialCall {
-                name: String::from_str(self.alloc, call.name)?,
-                file: String::from_str(self.alloc, path)?,
-                place: place_of(body.as_bytes(), call.at),
-            })?;
-        }
-        Ok(())
-    }
-
-    /// A fault of a line.
-    fn line_fault(&mut self, file: &str, line: usize, reason: &str) -> Result<(), AllocError>
-        ensures { AreCommands self.old.folder.commands.items → AreCommands self.new.folder.commands.items }
-    {
-        let place = Some(Place { line, column: 1 });
-        let finding = fault_in(self.alloc, file, place, reason)?;
-        self.find(finding)
-    }
-
-    /// Takes a line of `routes`.
-    fn route(&mut self, line: &Line<'_>) -> Result<(), AllocError>
-        ensures { AreCommands self.old.folder.commands.items → AreCommands self.new.folder.commands.items }
-    {
-        let Some(route) = route_in(line) else {
-            return self.line_fault(
-                "routes",
-                line.number,
-                "a line is PATH TEMPLATE DATA, three words",
-            );
-        };
-        let (path, template, page_data) = (route.path, route.template, route.page_data);
-        let text = format!(in self.alloc; "put route {path} {template} {page_data}\n")?;
-        if let Some(refusal) = self.judge(Vec::from_slice(self.alloc, text.as_bytes())?)? {
-            return self.line_fault("routes", line.number, line_reason(&refusal.fault));
-        }
-        self.folder.routes.push(Route {
-            path: String::from_str(self.alloc, path)?,
-            template: String::from_str(self.alloc, template)?,
-            page_data: String::from_str(self.alloc, page_data)?,
-            line: line.number,
-        })?;
-        self.twice("routes", Kind::Route, path, line.number)
-    }
-
-    /// Takes a line of `redirects`.
-    fn redirect(&mut self, line: &Line<'_>) -> Result<(), AllocError>
-        ensures { AreCommands self.old.folder.commands.items → AreCommands self.new.folder.commands.items }
-    {
-        let Some(redirect) = redirect_in(line) else {
-            return self.line_fault("redirects", line.number, "a line is PATH TARGET, two words");
-        };
-        let (path, target) = (redirect.path, redirect.target);
-        let text = format!(in self.alloc; "put redirect {path} {target}\n")?;
-        if self
-            .judge(Vec::from_slice(self.alloc, text.as_bytes())?)?
-            .is_some()
-        {
-            return self.line_fault("redirects", line.number, REDIRECT_REASON);
-        }
-        self.folder.redirects.push(Redirect {
-            path: String::from_str(self.alloc, path)?,
-            target: String::from_str(self.alloc, target)?,
-            line: line.number,
-        })?;
-        self.twice("redirects", Kind::Redirect, path, line.number)
-    }
-
-    /// Notes the line of a path, and finds one that had it before.
-    fn twice(&mut self, file: &str, kind: Kind, path: &str, line: usize) -> Result<(), AllocError>
-        ensures { AreCommands self.old.folder.commands.items → AreCommands self.new.folder.commands.items }
-    {
-        let key = key_of(self.alloc, kind, path)?;
-        if let Some(before) = self.found.insert(key, line)? {
-            let word = kind_word(kind);
-            let reason = format!(in self.alloc;
-                "the {word} {path} stands in line {before} already"
-            )?;
-            return self.line_fault(file, line, reason.as_str());
-        }
-        Ok(())
-    }
-
-    /// Takes a line of `removes`.
-    fn removal(&mut self, line: &Line<'_>) -> Result<(), AllocError>
-        ensures { AreCommands self.old.folder.commands.items → AreCommands self.new.folder.commands.items }
-    {
-        let Some((kind, name)) = removal_in(line) else {
-            return self.line_fault(
-                "removes",
-                line.number,
-                "a line is KIND NAME, two words, KIND one of template, partial, data, route and redirect",
-            );
-        };
-        let word = kind_word(kind);
-        let text = format!(in self.alloc; "remove {word} {name}\n")?;
-        if let Some(refusal) = self.judge(Vec::from_slice(self.alloc, text.as_bytes())?)? {
-            return self.line_fault("removes", line.number, line_reason(&refusal.fault));
-        }
-        Ok(())
-    }
-
-    /// Takes a line of `routes`, `redirects` or `removes`.
-    fn line(&mut self, line: &Line<'_>, of: Lines) -> Result<(), AllocError>
-        ensures { AreCommands self.old.folder.commands.items → AreCommands self.new.folder.commands.items }
-    {
-        match of {
-            Lines::Routes => self.route(line),
-            Lines::Redirects => self.redirect(line),
-            Lines::Removes => self.removal(line),
-        }
-    }
-
-    /// Takes `routes`, `redirects` or `removes`.
-    fn lines(&mut self, file: &SiteFile, of: Lines) -> Result<(), AllocError>
-        ensures { AreCommands self.old.folder.commands.items → AreCommands self.new.folder.commands.items }
-    {
-        let text = match str::from_utf8(&file.bytes) {
-            Ok(text) => text,
-            Err(wrong) => {
-                let at = wrong.valid_up_to();
-                let finding = no_text(self.alloc, file.path.as_str(), &file.bytes, at)?;
-                return self.find(finding);
-            }
-        };
-        for line in lines_in(self.alloc, text)?.iter() {
-            self.line(line, of)?;
-        }
-        Ok(())
-    }
-
-    /// Takes a file by its role, where it is of this pass.
-    fn file(&mut self, pass: Pass, file: &SiteFile) -> Result<(), AllocError>
-        ensures { AreCommands self.old.folder.commands.items → AreCommands self.new.folder.commands.items }
-    {
-        match (pass, role_of(file.path.as_str())) {
-            (Pass::Texts(of), Role::Text(kind, name)) if of == kind => self.text(kind, name, file),
-            (Pass::Lines(Lines::Routes), Role::Routes) => self.lines(file, Lines::Routes),
-            (Pass::Lines(Lines::Redirects), Role::Redirects) => self.lines(file, Lines::Redirects),
-            (Pass::Lines(Lines::Removes), Role::Removes) => self.lines(file, Lines::Removes),
-            (Pass::Others, Role::Wrong(reason)) => {
-                let finding = fault_in(self.alloc, file.path.as_str(), None, reason)?;
-                self.find(finding)
-            }
-            _ => Ok(()),
-        }
-    }
-}
-
-/// The files whose lines are commands.
-#[derive(Clone, Copy)]
-enum Lines {
-    Routes,
-    Redirects,
-    Removes,
-}
-
-/// The files that a pass over the folder takes.
-#[derive(Clone, Copy)]
-enum Pass {
-    Texts(Kind),
-    Lines(Lines),
-    Others,
-}
-
-/// The passes in the order of their commands.
-const PASSES: [Pass; 7] = [
-    Pass::Texts(Kind::Template),
-    Pass::Texts(Kind::Partial),
-    Pass::Texts(Kind::Data),
-    Pass::Lines(Lines::Routes),
-    Pass::Lines(Lines::Redirects),
-    Pass::Lines(Lines::Removes),
-    Pass::Others,
-];
-
-/// Why the command of a line of `redirects` is none, and what to do.
-const REDIRECT_REASON: &str =
-    "a path and its target begin with /, with neither /_ nor /@, have 200 bytes at most, and no blank; a target begins with one / alone";
-
-/// Why a line's command is none, and what to do.
-fn line_reason(fault: &CommandFault) -> &'static str {
-    match fault {
-        CommandFault::Path => {
-            "a path begins with /, with neither /_ nor /@, has 200 bytes at most, and no blank"
-        }
-        _ => { "a name is 1 to 64 of the letters a to z and A to Z, digits, _ - . and /" }
-    }
-}
-
-/// Reads a folder: all its commands, and all that is wrong with it. What is no command is none of them.
+/// Reads a folder: all its commands, and all that is wrong with it. What is no command is none of them; and where nothing is a fault, none is left out.
 pub fn folder_of(alloc: Global, files: &[SiteFile]) -> Result<Folder, AllocError>
-    ensures { IfOk result (λ f. AreCommands f.commands.items) }
+    ensures commands { IfOk result (λ f. AreCommands f.commands.items) }
+    ensures whole { IfOk result (λ f. has_fault f.findings.items ≡ false → IsWhole files.now f.commands.items) }
 {
     let mut reading = Reading::new(alloc);
-    for pass in PASSES {
-        for file in files {
-            reading.file(pass, file)?;
-        }
-    }
+    reading.commands(files)?;
+    reading.foreign(files)?;
     reading.check()?;
-    Ok(reading.folder)
+    Ok(Folder {
+        commands: reading.taken.commands,
+        routes: reading.names.routes,
+        redirects: reading.names.redirects,
+        findings: reading.taken.findings,
+    })
 }

@@ -1,94 +1,81 @@
 //! The lines of `routes`, `redirects` and `removes`.
-use command::Kind;
-use std::alloc::{AllocError, Global};
+ghost use Rattle.std.specs.Prelude.{◌≡◌, ◌==◌, ◌++◌, IfOk, OnOk, map, flat_map};
+ghost use Rattle.std.specs.List.{slice_split};
+ghost use Rattle.site_folder.specs.Lines.{is_blank, words_of, is_said, said, lines_said};
+ghost use Rattle.site_folder.specs.View.{words_view};
 
-/// A line of `routes`: a path, and the names of its template and its data.
-#[derive(Clone, Copy)]
-pub(crate) struct RouteLine<'a> {
-    pub path: &'a str,
-    pub template: &'a str,
-    pub page_data: &'a str,
-}
+use std::alloc::{AllocError, Global};
 
 /// A line that says something: its words, and its number from 1.
 #[derive(Drop)]
 pub(crate) struct Line<'a> {
-    pub words: Vec<&'a str>,
+    pub words: Vec<&'a [u8]>,
     pub number: usize,
 }
 
-/// The lines of a text that say something: neither empty nor a comment, which begins with `#`. Words are parted by any blanks, and a carriage
-/// return is one.
-pub(crate) fn lines_in(alloc: Global, text: &str) -> Result<Vec<Line<'_>>, AllocError> {
+fn is_blank(b: u8) -> bool
+    ensures { result ≡ is_blank b }
+{
+    b == b' ' || b == b'\t' || b == 0x0c || b == b'\r'
+}
+
+fn lines_of(alloc: Global, text: &[u8]) -> Result<Vec<&[u8]>, AllocError>
+    ensures { IfOk result (λ v. map (λ line. line.now) v.items ≡ slice_split (λ b. b == 10) text.now) }
+{
+    text.split(|b| *b == b'\n').collect(alloc)
+}
+
+fn words_of(alloc: Global, line: &[u8]) -> Result<Vec<&[u8]>, AllocError>
+    ensures { IfOk result (λ v. map (λ word. word.now) v.items ≡ words_of line.now) }
+{
+    line.split(|b| is_blank(*b))
+        .filter(|word| !word.is_empty())
+        .collect(alloc)
+}
+
+/// Whether a line says something: it has words, and is no comment.
+fn is_said(words: &[&[u8]]) -> bool
+    ensures { result ≡ is_said (map (λ word. word.now) words.now) }
+{
+    match words {
+        [] => false,
+        [first, ..] => !first.starts_with(b"#"),
+    }
+}
+
+/// Takes the line of these words, if it says something.
+fn take_said<'a>(
+    found: &mut Vec<Line<'a>>,
+    words: Vec<&'a [u8]>,
+    number: usize,
+) -> Result<(), AllocError>
+    ensures { OnOk result (map words_view found.new.items ≡ map words_view found.old.items ++ said (map (λ word. word.now) words.items)) }
+{
+    if !is_said(&words) {
+        return Ok(());
+    }
+    found.push(Line { words, number })?;
+    Ok(())
+}
+
+/// Those of some lines that say something.
+fn said_in<'a>(alloc: Global, lines: &[&'a [u8]]) -> Result<Vec<Line<'a>>, AllocError>
+    ensures { IfOk result (λ v. map words_view v.items ≡ flat_map (λ line. said (words_of line.now)) lines.now) }
+{
     let mut found = Vec::new(alloc);
-    for (i, line) in text.split('\n').enumerate() {
-        let words: Vec<&str> = line.split_ascii_whitespace().collect(alloc)?;
-        if words.first().is_some_and(|word| !word.starts_with('#')) {
-            found.push(Line {
-                words,
-                number: i.saturating_add(1),
-            })?;
-        }
+    let mut number: usize = 0;
+    for line in lines {
+        number = number.saturating_add(1);
+        take_said(&mut found, words_of(alloc, *line)?, number)?;
     }
     Ok(found)
 }
 
-/// What a line of `routes` says.
-pub(crate) fn route_in<'a>(line: &Line<'a>) -> Option<RouteLine<'a>> {
-    match line.words.as_slice() {
-        [path, template, page_data] => Some(RouteLine {
-            path: *path,
-            template: *template,
-            page_data: *page_data,
-        }),
-        _ => None,
-    }
-}
-
-/// A line of `redirects`: a path, and the path that it leads to.
-#[derive(Clone, Copy)]
-pub(crate) struct RedirectLine<'a> {
-    pub path: &'a str,
-    pub target: &'a str,
-}
-
-/// What a line of `redirects` says.
-pub(crate) fn redirect_in<'a>(line: &Line<'a>) -> Option<RedirectLine<'a>> {
-    match line.words.as_slice() {
-        [path, target] => Some(RedirectLine {
-            path: *path,
-            target: *target,
-        }),
-        _ => None,
-    }
-}
-
-fn kind_in(word: &str) -> Option<Kind> {
-    match word {
-        "template" => Some(Kind::Template),
-        "partial" => Some(Kind::Partial),
-        "data" => Some(Kind::Data),
-        "route" => Some(Kind::Route),
-        "redirect" => Some(Kind::Redirect),
-        _ => None,
-    }
-}
-
-/// What a line of `removes` says: a kind and a name, of a route or a redirect its path.
-pub(crate) fn removal_in<'a>(line: &Line<'a>) -> Option<(Kind, &'a str)> {
-    match line.words.as_slice() {
-        [word, name] => Some((kind_in(*word)?, *name)),
-        _ => None,
-    }
-}
-
-/// The word by which commands call a kind.
-pub(crate) fn kind_word(kind: Kind) -> &'static str {
-    match kind {
-        Kind::Template => "template",
-        Kind::Partial => "partial",
-        Kind::Data => "data",
-        Kind::Route => "route",
-        Kind::Redirect => "redirect",
-    }
+/// The lines of a text that say something: neither empty nor a comment, which begins with `#`. Words are parted by any blanks, and a carriage
+/// return is one.
+pub(crate) fn lines_in(alloc: Global, text: &[u8]) -> Result<Vec<Line<'_>>, AllocError>
+    ensures { IfOk result (λ v. map words_view v.items ≡ lines_said text.now) }
+{
+    let lines = lines_of(alloc, text)?;
+    said_in(alloc, &lines)
 }

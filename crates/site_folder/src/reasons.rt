@@ -1,8 +1,13 @@
-//! Why a file's text is no command, for people.
+//! Why a file's text or a line of it is no command, for people.
+ghost use Rattle.std.specs.Prelude.{◌≡◌, IfOk};
+ghost use Rattle.site_folder.specs.declared.finding.Weight.TheVariants.{Fault};
+
 use crate::data_reasons::{json_slip, number_slip};
 use crate::finding::{Finding, Weight};
 use crate::judging::Refusal;
+use crate::lines::Line;
 use crate::place::{Place, place_of};
+use crate::roles::LineFile;
 use crate::template_reasons::template_reason;
 use command::CommandFault;
 use context::DataFault;
@@ -15,7 +20,9 @@ pub(crate) fn fault_in(
     file: &str,
     place: Option<Place>,
     reason: &str,
-) -> Result<Finding, AllocError> {
+) -> Result<Finding, AllocError>
+    ensures { IfOk result (λ f. f.weight ≡ Fault) }
+{
     Ok(Finding {
         weight: Weight::Fault,
         file: String::from_str(alloc, file)?,
@@ -23,6 +30,51 @@ pub(crate) fn fault_in(
         reason: String::from_str(alloc, reason)?,
         label: None,
     })
+}
+
+/// A fault of a line.
+pub(crate) fn line_fault(
+    alloc: Global,
+    of: LineFile,
+    line: usize,
+    reason: &str,
+) -> Result<Finding, AllocError>
+    ensures { IfOk result (λ f. f.weight ≡ Fault) }
+{
+    fault_in(alloc, of.name(), Some(Place { line, column: 1 }), reason)
+}
+
+/// Whether a word names a kind.
+fn is_kind(word: &[u8]) -> bool {
+    let kinds: [&[u8]; 5] = [b"template", b"partial", b"data", b"route", b"redirect"];
+    kinds.iter().any(|kind| *kind == word)
+}
+
+/// Why a path or a name of a line is none, and what to do.
+fn word_reason(of: LineFile, fault: &CommandFault) -> &'static str {
+    match (of, fault) {
+        (LineFile::Redirects, _) => {
+            "a path and its target begin with /, with neither /_ nor /@, have 200 bytes at most, and no blank; a target begins with one / alone"
+        }
+        (_, CommandFault::Path) => {
+            "a path begins with /, with neither /_ nor /@, has 200 bytes at most, and no blank"
+        }
+        _ => { "a name is 1 to 64 of the letters a to z and A to Z, digits, _ - . and /" }
+    }
+}
+
+/// Why a line is no command, and what to do.
+pub(crate) fn line_reason(of: LineFile, line: &Line<'_>, fault: &CommandFault) -> &'static str {
+    match (of, line.words.as_slice()) {
+        (LineFile::Routes, [_, _, _]) => word_reason(of, fault),
+        (LineFile::Redirects, [_, _]) => word_reason(of, fault),
+        (LineFile::Removes, [kind, _]) if is_kind(*kind) => word_reason(of, fault),
+        (LineFile::Routes, _) => "a line is PATH TEMPLATE DATA, three words",
+        (LineFile::Redirects, _) => "a line is PATH TARGET, two words",
+        (LineFile::Removes, _) => {
+            "a line is KIND NAME, two words, KIND one of template, partial, data, route and redirect"
+        }
+    }
 }
 
 /// A warning of a line or a place of a file.
@@ -47,7 +99,9 @@ pub(crate) fn no_text(
     file: &str,
     bytes: &[u8],
     at: usize,
-) -> Result<Finding, AllocError> {
+) -> Result<Finding, AllocError>
+    ensures { IfOk result (λ f. f.weight ≡ Fault) }
+{
     fault_in(
         alloc,
         file,
@@ -68,7 +122,9 @@ pub(crate) fn file_fault(
     head: usize,
     text: &str,
     refusal: Refusal,
-) -> Result<Finding, AllocError> {
+) -> Result<Finding, AllocError>
+    ensures { IfOk result (λ f. f.weight ≡ Fault) }
+{
     let (place, reason) = match &refusal.fault {
         CommandFault::TooLong => {
             let has = text.len();
