@@ -447,13 +447,15 @@ static void value(uint64_t instance) {
 static void datagram(void) {
     const int kind = mostly(9) ? 1 + (int)chance(7) : (int)chance(256);
     const uint64_t instance = edge(alike ? 60 : 4);
-    number_of(mostly(9) ? 1 : chance(256), 1);
+    const int spans = kind == 1 && chance(2);
+    number_of(mostly(9) ? 1 + (uint64_t)spans : chance(256), 1);
     number_of(kind, 1);
     number_of(mostly(9) ? 1 + chance(3) : chance(256), 1);
     number_of(instance, 4);
     if (kind != 6 && kind != 7) ballot();
     if (kind == 2) { const int prior = mostly(5); number_of(prior, 1); if (prior) { ballot(); value(instance); } }
     if (kind == 5) ballot();
+    if (spans) { static const uint64_t counts[] = {0, 1, 63, 64, 65, 255}; number_of(mostly(8) ? 2 + chance(20) : SOME(counts), 1); }
     if (kind == 3 || kind == 4 || kind == 7) value(instance);
     if (mostly(alike ? 0 : 2)) spoil(0, 1 + chance(3));
 }

@@ -125,6 +125,9 @@ fn without_a_tick(rt: &impl Abort, desk: &mut Desk, server: &mut Server<MemLink>
     passes(rt, "none", none, 0, 0);
     last_to_all(rt, server, sent, 3, "01060100000001");
     server.submit(rt, 1, "release\n");
+    let nothing = server.drive_with(desk, 0, LastCall::Nothing);
+    passes(rt, "nothing", nothing, 0, 0);
+    last_to_all(rt, server, sent, 3, "01060100000001");
     let one = server.drive_with(desk, 0, LastCall::Widen);
     passes(rt, "one", one, 0, 0);
     let widened = sent.saturating_add(3);

@@ -1,6 +1,7 @@
 -- An outbox that only grows.
-use Rattle.std.proofs.Common.{◌≡◌, Result, Ok, Err, is_ok, List, [], ◌∷◌, ◌++◌, refl, sym, ap, ◌∙◌, append-nil, append_assoc}
+use Rattle.std.proofs.Common.{◌≡◌, Result, Ok, Err, is_ok, List, [], ◌∷◌, ◌++◌, sym, ap, ◌∙◌, append-nil, append_assoc}
 use Rattle.std.specs.Prelude.{IsOk, if◌then◌else◌}
+use Rattle.std.specs.Result.{OnErr}
 use Rattle.wire.specs.declared.message.Message.{Message}
 use Rattle.node.specs.declared.to.To.{To}
 use Rattle.node.specs.Standing.{OnlyGrows}
@@ -19,3 +20,7 @@ many_more before mid pushed after x xs same added more = more ∙ ap (λ l. l ++
 pub when_ok : {T E X : Type 0} (r : Result T E) (x y after : X) → IsOk r → after ≡ (if is_ok r then x else y) → after ≡ x
 when_ok (Ok t) x y after ok is = is
 when_ok (Err e) x y after ok is = absurd (cc)
+
+pub on_err : {T E A : Type 0} (r : Result T E) → A → OnErr r A
+on_err (Ok x) a = tt
+on_err (Err y) a = a

@@ -1,18 +1,21 @@
--- What a widening finds: the least free instance, and the oldest untried value.
-use Rattle.std.proofs.Common.{◌≡◌, ◌≢◌, ◌⊎◌, inl, inr, ⊎_elim, ℕ, zero, suc, ◌+◌, ◌<◌, ◌≤◌, true, Option, Some, None, List, [], ◌∷◌, ◌++◌, length, take, refl, sym, ap, subst, ◌∙◌, arith}
+-- What a widening finds: the least free instance and those behind it, and the oldest untried values.
+use Rattle.std.proofs.Common.{◌≡◌, ◌≢◌, ◌⊎◌, inl, inr, ⊎_elim, ℕ, zero, suc, ◌+◌, ◌-◌, ◌<◌, ◌≤◌, true, false, Option, Some, None, List, [], ◌∷◌, ◌++◌, length, take, drop, append-nil, take-append-drop, refl, sym, ap, subst, ◌∙◌, arith}
 use Rattle.std.specs.Prelude.{slice_get}
+use Rattle.std.specs.Str.{bytes_eq}
 use Rattle.std.specs.Option.{option_map}
+use Rattle.std.proofs.lemmas.List.{take_all}
+use Rattle.std.proofs.lemmas.Slice.Eq.{bytes_eq-Decides}
 use Rattle.site_ids.specs.Ids.{IsInstance}
-use Rattle.site_ids.specs.Lists.{In}
+use Rattle.site_ids.proofs.MemberLemmas.{in_get}
 use Rattle.proposer.specs.Attempts.{Attempt}
-use Rattle.proposer.specs.declared.TheConstants.{MAX_ATTEMPTS}
 use Rattle.node.specs.declared.queue.Waiting.{Waiting}
 use Rattle.node.specs.Nodes.{Value, Node, IsUnknown, IsFirstUnknown}
-use Rattle.node.specs.Calls.{IsFree, IsNextFree, IsTried, IsNextValue}
+use Rattle.node.specs.Calls.{IsFree, IsNextFree, IsTried, IsUntried, AreUntried, IsNextSpan}
 use Rattle.node.specs.Tidy.{IsTidy}
-use Rattle.node.specs.Waiting.{IsWaiting, AreWaiting}
+use Rattle.node.specs.Waiting.{AreWaiting}
+use Rattle.node.specs.Widening.{IsFreeRun, IsOldestUntried, AreOldest, PushesUntried}
 use Rattle.node.proofs.Gaps.{one_first}
-use Rattle.node.proofs.Windows.{from_first, within_window, next_in}
+use Rattle.node.proofs.Windows.{from_first, within_window, untried_stays}
 
 order : (m n : ℕ) → (m < n) ⊎ (n ≤ m)
 order m n = grind arith
@@ -32,7 +35,7 @@ one_more_not_free s first past none here j from below free = ⊎_elim
     (λ less. none j from less free)
     (last_or_not j (first + past) (omega (arith, below)))
 
-pub next_found : (s : Node) (first past i : ℕ) → IsFirstUnknown s.known first → NoneFree s first past → past < 8 → i ≡ first + past → IsFree s i → IsNextFree s i
+pub next_found : (s : Node) (first past i : ℕ) → IsFirstUnknown s.known first → NoneFree s first past → past < 64 → i ≡ first + past → IsFree s i → IsNextFree s i
 next_found s first past i is none near at free = record {
   first = first;
   is_first = is;
@@ -42,63 +45,71 @@ next_found s first past i is none near at free = record {
 }
 
 -- there is none further
-pub no_next : (s : Node) (first past : ℕ) → IsFirstUnknown s.known first → NoneFree s first past → ((j : ℕ) → IsInstance j → j < first + 8 → j < first + past) → (i : ℕ) → ¬ IsNextFree s i
+pub no_next : (s : Node) (first past : ℕ) → IsFirstUnknown s.known first → NoneFree s first past → ((j : ℕ) → IsInstance j → j < first + 64 → j < first + past) → (i : ℕ) → ¬ IsNextFree s i
 no_next s first past is none short i next =
     let near = next.near in
     let same : next.first ≡ first = one_first s.known first next.first is next.is_first in
     none i (from_first s.known first i is next.free.instance next.free.unknown) (short i next.free.instance (omega (arith, near, same))) next.free
 
-pub past_last : (first past : ℕ) → IsInstance first → ¬ IsInstance (first + past) → (j : ℕ) → IsInstance j → j < first + 8 → j < first + past
+pub past_last : (first past : ℕ) → IsInstance first → ¬ IsInstance (first + past) → (j : ℕ) → IsInstance j → j < first + 64 → j < first + past
 past_last first past is none j instance near = ⊎_elim (λ less. less) (λ far. absurd (none (omega (arith, is.0), omega (arith, far, instance.1)))) (order j (first + past))
 
 -- no such instance is there, by the number that was added to
 pub not_there : (n first past : ℕ) → n ≡ first → ¬ IsInstance (n + past) → ¬ IsInstance (first + past)
 not_there n first past is none = subst (λ (m : ℕ). ¬ IsInstance (m + past)) is none
 
-pub all_seen : (first past : ℕ) → past ≤ 8 → 8 ≤ past → (j : ℕ) → IsInstance j → j < first + 8 → j < first + past
+pub all_seen : (first past : ℕ) → past ≤ 64 → 64 ≤ past → (j : ℕ) → IsInstance j → j < first + 64 → j < first + past
 all_seen first past within done j instance near = omega (arith, within, done, near)
 
 -- ---- a value
 
 -- no attempt at so many instances from the first on has the value as its own
-abbrev pub NoneTries : Node → Value → ℕ → ℕ → Type 0
+abbrev NoneTries : Node → Value → ℕ → ℕ → Type 0
 NoneTries s v first past = (j : ℕ) (a : Attempt) → first ≤ j → j < first + past → s.attempts j ≡ Some a → a.own ≢ v
 
-pub one_more_tries_not : (s : Node) (v : Value) (first past : ℕ) → NoneTries s v first past → ((a : Attempt) → s.attempts (first + past) ≡ Some a → a.own ≢ v) → NoneTries s v first (past + 1)
+one_more_tries_not : (s : Node) (v : Value) (first past : ℕ) → NoneTries s v first past → ((a : Attempt) → s.attempts (first + past) ≡ Some a → a.own ≢ v) → NoneTries s v first (suc past)
 one_more_tries_not s v first past none here j a from below is = ⊎_elim
     (λ (e : j ≡ first + past). here a (subst (λ (n : ℕ). s.attempts n ≡ Some a) e is))
     (λ less. none j a from less is)
     (last_or_not j (first + past) (omega (arith, below)))
 
-pub not_tried : (s : Node) (v : Value) (first past : ℕ) → IsTidy s → IsFirstUnknown s.known first → NoneTries s v first past → ((j : ℕ) → IsInstance j → j < first + 8 → j < first + past) → ¬ IsTried s v
-not_tried s v first past tidy is none short tried =
+own_or_not : (o : Option Attempt) (v : Value) → ((a : Attempt) × (o ≡ Some a) × (a.own ≡ v)) ⊎ ((a : Attempt) → o ≡ Some a → a.own ≢ v)
+own_or_not None v = inr (λ a e. absurd (cc))
+own_or_not (Some a) v =
+    let decides = bytes_eq-Decides a.own v in
+    elim (bytes_eq a.own v) as (λ t. bytes_eq a.own v ≡ t → ((c : Attempt) × (Some a ≡ Some c) × (c.own ≡ v)) ⊎ ((c : Attempt) → Some a ≡ Some c → c.own ≢ v)) [
+      | true ↦ λ is. inl (a, refl, decides.0 is)
+      | false ↦ λ is. inr (λ c e own. clash (sym (decides.1 (ap (λ (x : Attempt). x.own) (same a c e) ∙ own)) ∙ is))
+    ] refl
+  where
+    same : (a c : Attempt) → Some a ≡ Some c → a ≡ c
+    same a c e = cc
+
+    clash : true ≡ false → ⊥
+    clash e = cc
+
+tried_within : (s : Node) (v : Value) (first past : ℕ) → IsTried s v ⊎ NoneTries s v first past
+tried_within s v first zero = inr (λ j a from below is. absurd (omega (arith, from, below)))
+tried_within s v first (suc past) = ⊎_elim
+    (λ tried. inl tried)
+    (λ none. ⊎_elim
+    (λ (here : (a : Attempt) × (s.attempts (first + past) ≡ Some a) × (a.own ≡ v)). inl (first + past, here.0, here.1, here.2))
+    (λ not. inr (one_more_tries_not s v first past none not))
+    (own_or_not (s.attempts (first + past)) v))
+    (tried_within s v first past)
+
+-- attempts stand in the window, so whether one has the value as its own is decided there
+pub tried_or_not : (s : Node) (first : ℕ) → IsTidy s → IsFirstUnknown s.known first → (v : Value) → IsTried s v ⊎ (¬ IsTried s v)
+tried_or_not s first tidy is v = ⊎_elim
+    (λ tried. inl tried)
+    (λ none. inr (λ (tried : IsTried s v).
     let at = tidy.attempted tried.0 tried.1 tried.2 in
-    none tried.0 tried.1 (from_first s.known first tried.0 is at.instance at.unknown) (short tried.0 at.instance (within_window s.known first tried.0 is at)) tried.2 tried.3
+    none tried.0 tried.1 (from_first s.known first tried.0 is at.instance at.unknown) (within_window s.known first tried.0 is at) tried.2 tried.3))
+    (tried_within s v first 64)
 
 -- the own value of an attempt, or none
 abbrev pub own_of : Option Attempt → Option Value
 own_of o = option_map (λ a. a.own) o
-
-pub own_there : (o : Option Attempt) (v : Value) → Some v ≡ own_of o → (a : Attempt) × (o ≡ Some a) × (a.own ≡ v)
-own_there None v e = absurd (cc)
-own_there (Some a) v e = (a, (λ _. Some a), inside v a.own e)
-  where
-    inside : (x y : Value) → Some x ≡ Some y → y ≡ x
-    inside x y e = cc
-
-pub own_same : (o : Option Attempt) (u v : Value) → Some u ≡ own_of o → (a : Attempt) → o ≡ Some a → a.own ≡ v → u ≡ v
-own_same None u v e a is own = absurd (cc)
-own_same (Some c) u v e a is own = inside u c.own e ∙ ap (λ (x : Attempt). x.own) (same c a is) ∙ own
-  where
-    inside : (x y : Value) → Some x ≡ Some y → x ≡ y
-    inside x y e = cc
-
-    same : (x y : Attempt) → Some x ≡ Some y → x ≡ y
-    same x y e = cc
-
-pub own_none : (o : Option Attempt) (v : Value) → None ≡ own_of o → (a : Attempt) → o ≡ Some a → a.own ≢ v
-own_none None v e a is own = absurd (cc)
-own_none (Some c) v e a is own = absurd (cc)
 
 -- ---- what is looked up at an instance
 
@@ -125,70 +136,168 @@ not_unknown s i copied v known some none = clash v (sym (sym some ∙ known ∙ 
 pub not_untried : (s : Node) (i : ℕ) (own : Option Value) (v : Value) → own ≡ own_of (s.attempts i) → own ≡ Some v → ¬ (s.attempts i ≡ None)
 not_untried s i own v tried some none = some_own (s.attempts i) v (sym some ∙ tried) none
 
--- ---- the oldest untried value
+-- ---- instances one behind the other
 
--- all of what is kept of the oldest values is tried
-abbrev pub AllTried : Node → List Waiting → Type 0
-AllTried s ws = (w : Waiting) → In ws w → IsTried s w.value
+-- all from this one up to another, which isn't among them
+abbrev pub FreeUpTo : Node → ℕ → ℕ → Type 0
+FreeUpTo s i next = (j : ℕ) → i ≤ j → j < next → IsFree s j
 
-take_more : (ws : List Waiting) (n : ℕ) (x w : Waiting) → slice_get ws n ≡ Some x → In (take (suc n) ws) w → In (take n ws) w ⊎ (x ≡ w)
-take_more [] n x w got k = absurd (cc)
-take_more (y ∷ ws) zero x w got k = ⊎_elim (λ (e : y ≡ w). inr (first x y got ∙ e)) (λ none. absurd (no_member ws none)) k
+pub free_first : (s : Node) (i next : ℕ) → IsNextFree s i → next ≡ i + 1 → FreeUpTo s i next
+free_first s i next is e j from below = subst (IsFree s) (same i next j e from below) is.free
   where
-    first : (x y : Waiting) → Some y ≡ Some x → x ≡ y
-    first x y e = cc
+    same : (i next j : ℕ) → next ≡ i + 1 → i ≤ j → j < next → i ≡ j
+    same i next j e from below = omega (arith, e, from, below)
 
-    no_member : (ws : List Waiting) → In (take 0 ws) w → ⊥
-    no_member [] k = k
-    no_member (z ∷ ws) k = k
-take_more (y ∷ ws) (suc n) x w got k = ⊎_elim (λ e. inl (inl e)) (λ later. ⊎_elim (λ a. inl (inr a)) (λ b. inr b) (take_more ws n x w got later)) k
+pub free_more : (s : Node) (i next : ℕ) → FreeUpTo s i next → IsFree s next → FreeUpTo s i (next + 1)
+free_more s i next free here j from below = ⊎_elim (λ (e : j ≡ next). subst (IsFree s) (sym e) here) (λ less. free j from less) (last_or_not j next below)
 
-pub one_more_tried : (s : Node) (ws : List Waiting) (n : ℕ) (x : Waiting) → slice_get ws n ≡ Some x → AllTried s (take n ws) → IsTried s x.value → AllTried s (take (n + 1) ws)
-one_more_tried s ws n x got all here =
-    let next : n + 1 ≡ suc n = omega arith in
-    subst (λ (k : ℕ). AllTried s (take k ws)) (sym next)
-    (λ w k. ⊎_elim (λ earlier. all w earlier) (λ (e : x ≡ w). subst (λ (y : Waiting). IsTried s y.value) e here) (take_more ws n x w got k))
+pub free_run : (s : Node) (first i next k : ℕ) → FreeUpTo s i next → i < next → next ≤ first + 64 → (next ≡ first + 64) ⊎ (¬ IsFree s next) → k ≡ next - i → IsFreeRun s first i k
+free_run s first i next k free some near ends is =
+    let at : next ≡ i + k = omega (arith, is, some) in
+    record {
+      some = omega (arith, is, some);
+      free = λ j within. free j within.0 (omega (arith, within.1, at));
+      near = omega (arith, at, near);
+      ends = ⊎_elim (λ last. inl (omega (arith, at, last))) (λ none. inr (λ more. none (subst (IsFree s) (sym at) more))) ends;
+    }
 
--- what waits at a place splits the values
-record IsSplit (ws : List Waiting) (vs : List Value) (n : ℕ) (x : Waiting) : Type 0 where
-  older : List Value
-  newer : List Value
-  is : vs ≡ older ++ x.value ∷ newer
-  kept : (u : Value) → In older u → (w : Waiting) × In (take n ws) w × (w.value ≡ u)
+-- ---- the oldest untried values
 
-split_at : (ws : List Waiting) (vs : List Value) (n : ℕ) (x : Waiting) → AreWaiting ws vs → slice_get ws n ≡ Some x → IsSplit ws vs n x
-split_at [] vs n x are got = absurd (cc)
-split_at (y ∷ ws) [] n x are got = absurd are
-split_at (y ∷ ws) (v ∷ vs) zero x are got = record { older = []; newer = vs; is = ap (λ (z : Value). z ∷ vs) (sym are.0.value ∙ ap (λ (w : Waiting). w.value) (first x y got)); kept = λ u k. absurd k }
+-- what waits at a place has its value there
+pub value_waits : (ws : List Waiting) (vs : List Value) (n : ℕ) (x : Waiting) → AreWaiting ws vs → slice_get ws n ≡ Some x → slice_get vs n ≡ Some x.value
+value_waits [] vs n x are got = absurd (cc)
+value_waits (y ∷ ws) [] n x are got = absurd are
+value_waits (y ∷ ws) (v ∷ vs) zero x are got = ap Some (sym are.0.value ∙ ap (λ (w : Waiting). w.value) (first x y got))
   where
     first : (x y : Waiting) → Some y ≡ Some x → y ≡ x
     first x y e = cc
-split_at (y ∷ ws) (v ∷ vs) (suc n) x are got =
-    let rest = split_at ws vs n x are.1 got in
+value_waits (y ∷ ws) (v ∷ vs) (suc n) x are got = value_waits ws vs n x are.1 got
+
+pub as_many_wait : (ws : List Waiting) (vs : List Value) → AreWaiting ws vs → length ws ≡ length vs
+as_many_wait [] [] are = refl
+as_many_wait [] (v ∷ vs) are = absurd are
+as_many_wait (w ∷ ws) [] are = absurd are
+as_many_wait (w ∷ ws) (v ∷ vs) are = ap suc (as_many_wait ws vs are.1)
+
+take_push : (vs : List Value) (n : ℕ) (v : Value) → slice_get vs n ≡ Some v → take (n + 1) vs ≡ take n vs ++ v ∷ []
+take_push vs n v got = subst (λ (k : ℕ). take k vs ≡ take n vs ++ v ∷ []) (next n) (by vs n v got)
+  where
+    next : (n : ℕ) → suc n ≡ n + 1
+    next n = omega arith
+
+    by : (vs : List Value) (n : ℕ) (v : Value) → slice_get vs n ≡ Some v → take (suc n) vs ≡ take n vs ++ v ∷ []
+    by [] n v got = absurd (cc)
+    by (u ∷ vs) zero v got = let e = head u v got in ap (λ (x : Value). x ∷ []) e ∙ sym (nothing_before u v vs)
+      where
+        head : (u v : Value) → Some u ≡ Some v → u ≡ v
+        head u v e = cc
+
+        nothing_before : (u v : Value) (vs : List Value) → take 0 (u ∷ vs) ++ v ∷ [] ≡ v ∷ []
+        nothing_before u v vs = refl
+    by (u ∷ vs) (suc n) v got = ap (λ (l : List Value). u ∷ l) (by vs n v got)
+
+pub untried_tried : (s : Node) (vs left : List Value) (v : Value) → AreUntried s vs left → IsTried s v → AreUntried s (vs ++ v ∷ []) left
+untried_tried s [] left v are tried = inl (tried, are)
+untried_tried s (u ∷ vs) left v are tried = ⊎_elim
+    (λ (x : IsTried s u × AreUntried s vs left). inl (x.0, untried_tried s vs left v x.1 tried))
+    (λ (x : (¬ IsTried s u) × ((rest : List Value) × (left ≡ u ∷ rest) × AreUntried s vs rest)). inr (x.0, (x.1.0, x.1.1, untried_tried s vs x.1.0 v x.1.2 tried)))
+    are
+
+-- of two lists, one behind the other
+pub untried_both : (s : Node) (us vs xs ys : List Value) → AreUntried s us xs → AreUntried s vs ys → AreUntried s (us ++ vs) (xs ++ ys)
+untried_both s [] vs xs ys a b = subst (λ (l : List Value). AreUntried s vs (l ++ ys)) (sym a) b
+untried_both s (u ∷ us) vs xs ys a b = ⊎_elim
+    (λ (x : IsTried s u × AreUntried s us xs). inl (x.0, untried_both s us vs xs ys x.1 b))
+    (λ (x : (¬ IsTried s u) × ((rest : List Value) × (xs ≡ u ∷ rest) × AreUntried s us rest)).
+    inr (x.0, (x.1.0 ++ ys, ap (λ (l : List Value). l ++ ys) x.1.1, untried_both s us vs x.1.0 ys x.1.2 b)))
+    a
+
+pub one_untried : (s : Node) (v : Value) → ¬ IsTried s v → AreUntried s (v ∷ []) (v ∷ [])
+one_untried s v untried = inr (untried, ([], refl, refl))
+
+one_tried : (s : Node) (v : Value) → IsTried s v → AreUntried s (v ∷ []) []
+one_tried s v tried = inl (tried, refl)
+
+-- one value more is looked at
+pub untried_more : (s : Node) (n : ℕ) (v : Value) (before after : List Value) → slice_get s.pending n ≡ Some v → AreUntried s (take n s.pending) before → PushesUntried s.attempts v before after → AreUntried s (take (n + 1) s.pending) after
+untried_more s n v before after got are pushes =
+    subst (λ (l : List Value). AreUntried s l after) (sym (take_push s.pending n v got))
+    (⊎_elim
+    (λ (x : IsTried s v × (after ≡ before)). subst (λ (l : List Value). AreUntried s (take n s.pending ++ v ∷ []) l) (sym x.1) (untried_tried s (take n s.pending) before v are x.0))
+    (λ (x : (¬ IsTried s v) × (after ≡ before ++ v ∷ [])). subst (λ (l : List Value). AreUntried s (take n s.pending ++ v ∷ []) l) (sym x.1) (untried_both s (take n s.pending) (v ∷ []) before (v ∷ []) are (one_untried s v x.0)))
+    pushes)
+
+-- the oldest of them is the first that is left
+pub untried_first : (s : Node) (n : ℕ) (v : Value) (after : List Value) → slice_get s.pending n ≡ Some v → IsOldestUntried s n → after ≡ v ∷ [] → AreUntried s (take (n + 1) s.pending) after
+untried_first s n v after got is one =
+    let same : is.value ≡ v = both is.value v (sym is.there ∙ got) in
+    untried_more s n v [] after got is.before (inr (subst (λ (x : Value). ¬ IsTried s x) same is.untried, one))
+  where
+    both : (u v : Value) → Some u ≡ Some v → u ≡ v
+    both u v e = cc
+
+pub none_taken : (s : Node) (vs : List Value) → AreUntried s (take 0 vs) []
+none_taken s [] = refl
+none_taken s (v ∷ vs) = refl
+
+pub tried_more : (s : Node) (n : ℕ) (v : Value) → slice_get s.pending n ≡ Some v → AreUntried s (take n s.pending) [] → IsTried s v → AreUntried s (take (n + 1) s.pending) []
+tried_more s n v got are tried = untried_more s n v [] [] got are (inl (tried, refl))
+
+-- those that are left, of any values
+rest_untried : (s : Node) → ((v : Value) → IsTried s v ⊎ (¬ IsTried s v)) → (vs : List Value) → (left : List Value) × AreUntried s vs left
+rest_untried s decided [] = ([], refl)
+rest_untried s decided (v ∷ vs) =
+    let rest = rest_untried s decided vs in
+    ⊎_elim (λ tried. (rest.0, inl (tried, rest.1))) (λ untried. (v ∷ rest.0, inr (untried, (rest.0, refl, rest.1)))) (decided v)
+
+whole_is : (vs : List Value) (n : ℕ) → take n vs ++ drop n vs ≡ vs
+whole_is vs n = take-append-drop n vs
+
+-- so many of them
+pub oldest_many : (s : Node) (first n most : ℕ) (values : List Value) → IsTidy s → IsFirstUnknown s.known first → AreUntried s (take n s.pending) values → length values ≡ most → AreOldest s most values
+oldest_many s first n most values tidy is are many =
+    let rest = rest_untried s (tried_or_not s first tidy is) (drop n s.pending) in
     record {
-      older = v ∷ rest.older;
-      newer = rest.newer;
-      is = ap (λ (l : List Value). v ∷ l) rest.is;
-      kept = λ u k. ⊎_elim (λ (e : v ≡ u). (y, inl refl, are.0.value ∙ e)) (λ later. let at = rest.kept u later in (at.0, inr at.1, at.2)) k;
+      left = rest.0;
+      oldest = subst (λ (l : List Value). AreUntried s l (values ++ rest.0)) (whole_is s.pending n) (untried_both s (take n s.pending) (drop n s.pending) values rest.0 are rest.1);
+      few = omega (arith, many);
+      all = inr many;
     }
 
-pub next_value : (s : Node) (ws : List Waiting) (n : ℕ) (x : Waiting) → AreWaiting ws s.pending → slice_get ws n ≡ Some x → AllTried s (take n ws) → ¬ IsTried s x.value → IsNextValue s x.value
-next_value s ws n x are got all untried =
-    let at = split_at ws s.pending n x are got in
+-- all of them
+pub oldest_all : (s : Node) (n most : ℕ) (values : List Value) → length s.pending ≤ n → length values ≤ most → AreUntried s (take n s.pending) values → AreOldest s most values
+oldest_all s n most values end few are = record {
+  left = [];
+  oldest = subst (λ (l : List Value). AreUntried s s.pending l) (sym (append-nil values)) (subst (λ (l : List Value). AreUntried s l values) (take_all n s.pending end) are);
+  few = few;
+  all = inl refl;
+}
+
+-- there is none
+pub none_untried : (s : Node) (n : ℕ) → length s.pending ≤ n → AreUntried s (take n s.pending) [] → (v : Value) → ¬ IsUntried s v
+none_untried s n end are v untried = untried_stays s s.pending [] v (subst (λ (l : List Value). AreUntried s l []) (take_all n s.pending end) are) untried.0 untried.1
+
+pub oldest_is_untried : (s : Node) (n : ℕ) → IsOldestUntried s n → (v : Value) × IsUntried s v
+oldest_is_untried s n is = (is.value, (in_get s.pending n is.value is.there, is.untried))
+
+-- ---- the span
+
+-- the shorter of a run of instances and the values for them
+pub next_span : (s : Node) (first i k : ℕ) (values : List Value) → IsFirstUnknown s.known first → IsNextFree s i → IsFreeRun s first i k → AreOldest s k values → 1 ≤ length values → IsNextSpan s i values
+next_span s first i k values is next run oldest some =
+    let here : next.first ≡ first = one_first s.known first next.first is next.is_first in
+    let near = run.near in
+    let few = oldest.few in
     record {
-      older = at.older;
-      newer = at.newer;
-      pending = at.is;
-      tried = λ u k. let kept = at.kept u k in subst (IsTried s) kept.2 (all kept.0 kept.1);
-      untried = untried;
+      start = next;
+      some = some;
+      left = oldest.left;
+      oldest = oldest.oldest;
+      near = omega (arith, here, near, few);
+      free = λ j within. run.free j (within.0, omega (arith, within.1, few));
+      ends = ⊎_elim
+          (λ none. inl none)
+          (λ (all : length values ≡ k).
+          inr (⊎_elim (λ last. inl (omega (arith, here, last, all))) (λ taken. inr (λ more. taken (subst (λ (n : ℕ). IsFree s (i + n)) all more))) run.ends))
+          oldest.all;
     }
-
-kept_of : (ws : List Waiting) (vs : List Value) (v : Value) → AreWaiting ws vs → In vs v → (w : Waiting) × In ws w × (w.value ≡ v)
-kept_of ws [] v are k = absurd k
-kept_of [] (u ∷ vs) v are k = absurd are
-kept_of (w ∷ ws) (u ∷ vs) v are k = ⊎_elim (λ (e : u ≡ v). (w, inl refl, are.0.value ∙ e)) (λ later. let r = kept_of ws vs v are.1 later in (r.0, inr r.1, r.2)) k
-
-pub no_value : (s : Node) (ws : List Waiting) → AreWaiting ws s.pending → AllTried s ws → (v : Value) → ¬ IsNextValue s v
-no_value s ws are all v next =
-    let kept = kept_of ws s.pending v are (next_in s v next) in
-    next.untried (subst (IsTried s) kept.2 (all kept.0 kept.1))

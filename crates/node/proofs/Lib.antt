@@ -13,6 +13,7 @@ pub mod Examples
 pub mod Stepping
 pub mod Opening
 pub mod Preparing
+pub mod Judging
 pub mod KnownValues
 pub mod Queueing
 pub mod LearnedParts

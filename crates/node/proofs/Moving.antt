@@ -1,8 +1,9 @@
 -- At a node that runs no call is stuck.
-use Rattle.std.proofs.Common.{◌≡◌, ◌≢◌, ◌⊎◌, inl, inr, ⊎_elim, ℕ, zero, suc, ◌<◌, ◌≤◌, max, Option, Some, None, Result, Ok, Err, List, [], ◌∷◌, length, refl, sym, ap, subst, ◌∙◌, arith}
+use Rattle.std.proofs.Common.{◌≡◌, ◌≢◌, ◌⊎◌, inl, inr, ⊎_elim, ℕ, zero, suc, ◌+◌, ◌<◌, ◌≤◌, max, Option, Some, None, Result, Ok, Err, List, [], ◌∷◌, ◌++◌, length, length-append, append_assoc, refl, sym, ap, subst, ◌∙◌, arith}
 use Rattle.site_ids.specs.Ids.{BallotOf, Below, NotAbove, IsInstance}
 use Rattle.site_ids.specs.Lists.{In}
 use Rattle.site_ids.specs.Spans.{IsInSpan}
+use Rattle.proposer.specs.declared.TheConstants.{MAX_ATTEMPTS}
 use Rattle.site_ids.specs.Majorities.{Majority}
 use Rattle.site_ids.specs.declared.value.Vote.{Vote}
 use Rattle.site_ids.proofs.BallotLemmas.{one_of_three}
@@ -14,7 +15,7 @@ use Rattle.acceptor.specs.declared.judging.PrepareVerdict.TheVariants as to_prep
 use Rattle.acceptor.specs.declared.judging.ProposeVerdict.{ProposeVerdict}
 use Rattle.acceptor.specs.declared.judging.ProposeVerdict.TheVariants as to_proposal
 use Rattle.acceptor.specs.Judging.{IsFreeAt, IsVotedAt, IsVotedFor, JudgesPrepare, JudgesProposal}
-use Rattle.durable.specs.Entries.{Entry, Round, Promised, PromisedSpan, Voted, Raises, IsPromise, IsSlot, last_vote}
+use Rattle.durable.specs.Entries.{Entry, Round, Promised, PromisedSpan, Voted, Raises, IsPromise, IsSlot, last_vote, promise_of}
 use Rattle.command.specs.Action.{Order}
 use Rattle.command.specs.Reading.{value_reading}
 use Rattle.command.specs.declared.fault.CommandFault.{CommandFault}
@@ -26,14 +27,15 @@ use Rattle.node.specs.declared.fault.NodeFault.TheVariants as fault
 use Rattle.node.specs.Nodes.{Value, Node, IsKnown, IsFirstUnknown, AllKnown}
 use Rattle.node.specs.Tickets.{IsHeld}
 use Rattle.node.specs.Effects.{quiet, learned}
-use Rattle.node.specs.Deliveries.{reached_by, with_vote}
-use Rattle.node.specs.Calls.{submit, tick, widen, ask, deliver, fresh_ballot, HasRound, oldest, resent, MayWiden, queued}
+use Rattle.node.specs.Deliveries.{Judged, AreJudged, reached_by, with_vote}
+use Rattle.node.specs.Calls.{submit, tick, widen, ask, deliver, fresh_ballot, HasRound, oldest, IsFree, IsNextFree, IsTried, AreUntried, IsNextSpan, MayWiden, queued}
 use Rattle.node.specs.Tidy.{IsTidy}
 use Rattle.node.specs.Stuck.{IsStuck, NeverStuck}
 use Rattle.node.proofs.Gaps.{not_all_known}
+use Rattle.node.proofs.Windows.{untried_stays}
 use Rattle.node.proofs.SendingAgain.{open_past, all_in_window}
 use Rattle.node.proofs.FreshAttempts.{ticks, begins}
-use Rattle.node.proofs.Verdicts.{prepares, proposes}
+use Rattle.node.proofs.Verdicts.{judged_as, steps_so, changes_or_not, proposes}
 
 -- against a contradiction anything holds or does not
 cases : {P : Type 0} → ((P ⊎ (¬ P)) → ⊥) → ⊥
@@ -121,6 +123,23 @@ on_prepare s b none (Some c) is =
     (λ (high : Below b c). none (to_prepare.Nack c) (is, high))
     more)
     (one_of_three c b).0
+
+-- the judgement of so many instances, and whether a slot changes
+abbrev AnyChanges : List Judged → Type 0
+AnyChanges xs = ((x : Judged) × In xs x × (x.after ≢ x.slot)) ⊎ ((x : Judged) → In xs x → x.after ≡ x.slot)
+
+one_changes : (x : Judged) (xs : List Judged) → (x.after ≡ x.slot) ⊎ (x.after ≢ x.slot) → AnyChanges xs → AnyChanges (x ∷ xs)
+one_changes x xs here rest = ⊎_elim
+    (λ same. ⊎_elim (λ (r : (y : Judged) × In xs y × (y.after ≢ y.slot)). inl (r.0, inr r.1, r.2)) (λ none. inr (λ y k. ⊎_elim (λ e. subst (λ (z : Judged). z.after ≡ z.slot) e same) (λ m. none y m) k)) rest)
+    (λ other. inl (x, inl refl, other))
+    here
+
+on_span : (es : List Entry) (b : BallotOf) (k i : ℕ) → ((xs : List Judged) → length xs ≡ k → AreJudged es b i xs → AnyChanges xs → ⊥) → ⊥
+on_span es b zero i none = none [] refl tt (inr (λ x k. absurd k))
+on_span es b (suc k) i none =
+    let at = slot es i in
+    on_prepare at.0 b (λ verdict judged. on_span es b k (suc i) (λ xs counted each any.
+    none (judged_as b at.0 verdict ∷ xs) (ap suc counted) (at.1, steps_so at.0 b verdict judged, each) (one_changes (judged_as b at.0 verdict) xs (changes_or_not at.0 b verdict judged) any))) at.0.promised refl
 
 free_proposal : (s : Slot) (b : BallotOf) (v : Value) → ((verdict : ProposeVerdict) → ¬ JudgesProposal s b v verdict) → IsFreeAt s.promised b → ⊥
 free_proposal s b v none free =
@@ -245,9 +264,11 @@ on_chosen n p s q i v stuck =
     (given (s.known i))
 
 on_message : (n p : ℕ) (s : Node) (m : Message) → IsStuck n p s (deliver m) → ⊥
-on_message n p s (Prepare q i b) stuck =
-    let at = slot s.entries i in
-    on_prepare at.0 b (λ verdict judged. stuck.no_effect _ (prepares p (record s { reached = reached_by s.reached (Prepare q i b) }) i b at.0 verdict at.1 judged)) at.0.promised refl
+on_message n p s (Prepare q i b k) stuck =
+    on_span s.entries b k i (λ xs counted each any. ⊎_elim
+    (λ changed. stuck.no_effect _ (record { judged = xs; entry = Some (promise_of i k b); counted = counted; each = each; records = (changed, refl); is = refl }))
+    (λ same. stuck.no_effect _ (record { judged = xs; entry = None; counted = counted; each = each; records = same; is = refl }))
+    any)
 on_message n p s (Propose q i b v) stuck =
     let at = slot s.entries i in
     on_proposal at.0 b v (λ verdict judged. stuck.no_effect _ (proposes p (record s { reached = reached_by s.reached (Propose q i b v) }) i b v at.0 verdict at.1 judged)) at.0.promised refl
@@ -257,17 +278,65 @@ on_message n p s (Nack q i b c) stuck = stuck.no_effect (quiet (record s { heard
 on_message n p s (Ask q i) stuck = ⊎_elim (λ (known : (v : Value) × (s.known i ≡ Some v)). stuck.no_effect _ (inl (known.0, known.1, refl))) (λ unknown. stuck.no_effect _ (inr (unknown, refl))) (given (s.known i))
 on_message n p s (Chosen q i v) stuck = on_chosen n p s q i v stuck
 
+-- ---- a widening
+
+free_or_not : (s : Node) (i : ℕ) → ((IsFree s i ⊎ (¬ IsFree s i)) → ⊥) → ⊥
+free_or_not s i h = cases h
+
+untried_of : (s : Node) (vs : List Value) → ((left : List Value) → AreUntried s vs left → ⊥) → ⊥
+untried_of s [] none = none [] refl
+untried_of s (v ∷ vs) none = untried_of s vs (λ left are. cases (λ (tried : IsTried s v ⊎ (¬ IsTried s v)). ⊎_elim (λ yes. none left (inl (yes, are))) (λ no. none (v ∷ left) (inr (no, (left, refl, are)))) tried))
+
+-- as many instances as are free, for these values and as many of those left
+run_on : (s : Node) (i : ℕ) (start : IsNextFree s i) (values left : List Value) → 1 ≤ length values → AreUntried s s.pending (values ++ left) → i + length values ≤ start.first + MAX_ATTEMPTS
+    → ((j : ℕ) → IsInSpan i (length values) j → IsFree s j) → ((all : List Value) → IsNextSpan s i all → ⊥) → ⊥
+run_on s i start values [] some oldest near free none = none values (record { start = start; some = some; left = []; oldest = oldest; near = near; free = free; ends = inl refl })
+run_on s i start values (v ∷ left) some oldest near free none =
+    ⊎_elim
+    (λ full. none values (record { start = start; some = some; left = v ∷ left; oldest = oldest; near = near; free = free; ends = inr (inl full) }))
+    (λ room. free_or_not s (i + length values) (λ next. ⊎_elim
+    (λ yes. run_on s i start (values ++ v ∷ []) left (omega (arith, longer)) (subst (λ (l : List Value). AreUntried s s.pending l) (sym (append_assoc values (v ∷ []) left)) oldest) (omega (arith, longer, room))
+    (λ j within. ⊎_elim (λ inside. free j inside) (λ (e : j ≡ i + length values). subst (IsFree s) (sym e) yes) (last_or_not j within)) none)
+    (λ no. none values (record { start = start; some = some; left = v ∷ left; oldest = oldest; near = near; free = free; ends = inr (inr no) }))
+    next))
+    (full_or_not (i + length values) (start.first + MAX_ATTEMPTS) near)
+  where
+    longer : length (values ++ v ∷ []) ≡ length values + 1
+    longer = length-append values (v ∷ [])
+
+    full_or_not : (a b : ℕ) → a ≤ b → (a ≡ b) ⊎ (a < b)
+    full_or_not a b h = grind (arith, h)
+
+    last_or_not : (j : ℕ) → IsInSpan i (length (values ++ v ∷ [])) j → IsInSpan i (length values) j ⊎ (j ≡ i + length values)
+    last_or_not j within = by j (length values) (within.0, (let high = within.1 in omega (arith, longer, high)))
+      where
+        by : (j k : ℕ) → (i ≤ j) × (j < i + (k + 1)) → IsInSpan i k j ⊎ (j ≡ i + k)
+        by j k h = grind (arith, h.0, h.1)
+
+next_span : (s : Node) → MayWiden s → ((i : ℕ) (values : List Value) → IsNextSpan s i values → ⊥) → ⊥
+next_span s may none = untried_of s s.pending (λ left are. from left are (untried_stays s s.pending left may.1.0 are may.1.1.0 may.1.1.1))
+  where
+    from : (left : List Value) → AreUntried s s.pending left → In left may.1.0 → ⊥
+    from [] are k = k
+    from (v ∷ left) are k =
+        let start = may.0.1 in
+        let near = start.near in
+        run_on s may.0.0 start (v ∷ []) left (omega arith) are (omega (arith, near)) (λ j within. subst (IsFree s) (only may.0.0 j within) start.free) (none may.0.0)
+      where
+        only : (i j : ℕ) → IsInSpan i 1 j → i ≡ j
+        only i j within = omega (arith, within.0, within.1)
+
 pub never_stuck : NeverStuck
 never_stuck n p s (submit v) runs tidy stuck = on_value n p s v tidy stuck (value_reading v) refl
 never_stuck n p s tick runs tidy stuck =
     at_gap s (λ full. stuck.no_cause fault.InstancesUsedUp (λ e. cc) full)
     (λ i first. cases (λ (round : HasRound s ⊎ (¬ HasRound s)).
-    ⊎_elim (λ yes. stuck.no_effect _ (ticks p s i (fresh_ballot p s) (oldest s.pending) (open_past s.attempts i 7) (all_in_window s i tidy first) first yes refl refl)) (λ no. stuck.no_cause fault.RoundsUsedUp (λ e. cc) (not_all_known s i first, no)) round))
+    ⊎_elim (λ yes. stuck.no_effect _ (ticks p s i (fresh_ballot p s) (oldest s.pending) (open_past s.attempts i 63) (all_in_window s i tidy first) first yes refl refl)) (λ no. stuck.no_cause fault.RoundsUsedUp (λ e. cc) (not_all_known s i first, no)) round))
 never_stuck n p s widen runs tidy stuck =
     cases (λ (may : MayWiden s ⊎ (¬ MayWiden s)).
     ⊎_elim
     (λ (at : MayWiden s). cases (λ (round : HasRound s ⊎ (¬ HasRound s)).
-    ⊎_elim (λ yes. stuck.no_effect _ (inl (begins p s at.0.0 (fresh_ballot p s) at.1.0 at.0.1 at.1.1 yes refl))) (λ no. stuck.no_cause fault.RoundsUsedUp (λ e. cc) (at, no)) round))
+    ⊎_elim (λ yes. next_span s at (λ i values next. stuck.no_effect _ (inl (begins p s i (fresh_ballot p s) values next yes refl)))) (λ no. stuck.no_cause fault.RoundsUsedUp (λ e. cc) (at, no)) round))
     (λ none. stuck.no_effect (quiet s) (inr (none, refl)))
     may)
 never_stuck n p s ask runs tidy stuck = at_gap s (λ full. stuck.no_cause fault.InstancesUsedUp (λ e. cc) full) (λ i first. stuck.no_effect _ (record { instance = i; first = first; is = refl }))

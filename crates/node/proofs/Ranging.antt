@@ -1,9 +1,10 @@
 -- What a node hands out is in its ranges.
-use Rattle.std.proofs.Common.{◌≡◌, ◌⊎◌, ⊎_elim, inl, inr, ℕ, ◌<◌, ◌≤◌, max, Bool, true, false, cond, not, leb, Option, Some, None, Result, Ok, Err, List, [], ◌∷◌, ◌++◌, length, map, refl, sym, ap, subst, ◌∙◌, arith}
+use Rattle.std.proofs.Common.{◌≡◌, ◌⊎◌, ⊎_elim, inl, inr, ℕ, suc, ◌+◌, ◌<◌, ◌≤◌, max, Bool, true, false, cond, not, leb, Option, Some, None, Result, Ok, Err, List, [], ◌∷◌, ◌++◌, length, map, refl, sym, ap, subst, ◌∙◌, arith}
 use Rattle.std.specs.Prelude.{nat_eq, filter, IfSome}
 use Rattle.std.proofs.lemmas.Bool.Decides.{nat_tests}
 use Rattle.std.proofs.lemmas.Bool.{cases_eq}
 use Rattle.site_ids.specs.Ids.{BallotOf, IsNode, IsInstance, IsBallot}
+use Rattle.site_ids.specs.Spans.{IsSpan}
 use Rattle.site_ids.specs.Lists.{In, put_at}
 use Rattle.site_ids.specs.Majorities.{Majority}
 use Rattle.site_ids.specs.declared.value.Vote.{Vote}
@@ -25,18 +26,18 @@ use Rattle.command.specs.declared.fault.CommandFault.{CommandFault}
 use Rattle.command.specs.declared.fault.CommandFault.TheVariants.{TooLong, Form}
 use Rattle.command.specs.Action.{Order}
 use Rattle.command.specs.Reading.{read_row, with_ticket, ticket_of, text_row}
-use Rattle.proposer.specs.Attempts.{Answer, Attempt, opened, latest, senders, Chooses, Counts, with_answer, waiting, proposing, TakesPromise}
+use Rattle.proposer.specs.Attempts.{Answer, Attempt, opened, opened_span, latest, senders, Chooses, Counts, with_answer, waiting, proposing, TakesPromise}
 use Rattle.node.specs.declared.to.To.{To}
 use Rattle.node.specs.declared.to.To.TheVariants.{One, All}
 use Rattle.node.specs.Nodes.{Value, Node, IsKnown, IsUnknown}
 use Rattle.node.specs.Tickets.{IsCommand, IsHeld, has_same_ticket}
 use Rattle.node.specs.Effects.{Effect, quiet, says, learned}
-use Rattle.node.specs.Deliveries.{prepare_out, propose_out, promise_out, with_vote, Counted, ByKind}
+use Rattle.node.specs.Deliveries.{Judged, AreJudged, prepare_out, span_out, propose_out, promise_out, with_vote, Counted, ByKind}
 use Rattle.node.specs.Calls.{Call, submit, tick, widen, ask, deliver, queued, oldest, fresh_ballot, HasRound, resent, Begins, MayWiden, Does}
 use Rattle.node.specs.Endings.{Whole, Refused, Failed}
 use Rattle.node.specs.Tidy.{IsTidy}
 use Rattle.node.specs.Ranges.{IsAttemptInRange, HasRanges, IsCallInRange, OpensInRange, StaysInRange, SaysMessages}
-use Rattle.node.proofs.Windows.{next_in}
+use Rattle.node.proofs.Windows.{next_in, next_is_span}
 
 same_some : {X : Type 0} (x y : X) → Some x ≡ Some y → x ≡ y
 same_some x y e = cc
@@ -143,7 +144,7 @@ by_effect : {n : ℕ} (effect e : Effect) → effect ≡ e → HasRanges n e.aft
 by_effect {n = n} effect e is h = subst (λ (x : Effect). HasRanges n x.after) (sym is) h
 
 delivery_ranges : (n p : ℕ) (s : Node) (m : Message) (effect : Effect) → HasRanges n s → IsMessage n m → ByKind n p s m effect → HasRanges n effect.after
-delivery_ranges n p s (Prepare q i b) effect h m how = by_effect effect (record { entry = how.entry; after = s; out = _ }) how.is h
+delivery_ranges n p s (Prepare q i b k) effect h m how = by_effect effect (record { entry = how.entry; after = s; out = _ }) how.is h
 delivery_ranges n p s (Propose q i b v) effect h m how = by_effect effect (record { entry = how.entry; after = s; out = _ }) how.is h
 delivery_ranges n p s (Promise q i b prior) effect h m how =
     by_effect effect (record { entry = None; after = record s { attempts = how.attempts }; out = _ }) how.is
@@ -171,13 +172,17 @@ delivery_ranges n p s (Chosen q i v) effect h m how =
     (λ (x : (s.known i ≡ Some v) × (effect ≡ quiet s)). by_effect effect (quiet s) x.1 h)
     how
 
--- a fresh attempt of a value within the limit
-begun_ranges : (n p : ℕ) (s : Node) (i : ℕ) (v : Value) → IsNode n p → HasRanges n s → HasRound s → length v ≤ MAX_VALUE → HasRanges n (record s { attempts = put_at s.attempts i (Some (opened (fresh_ballot p s) v)) })
-begun_ranges n p s i v node h round fits = record {
-  known = h.known;
-  pending = h.pending;
-  attempts = put_attempt n s.attempts i (opened (fresh_ballot p s) v) h.attempts (record { ballot = (omega arith, round, node); own = fits; proposed = λ u e. absurd (no_value u e); told = λ x w k e. absurd k });
-}
+-- fresh attempts of values within the limit
+begun_attempts : (n p : ℕ) (s : Node) (values : List Value) (i : ℕ) (attempts : ℕ → Option Attempt) → IsNode n p → HasRound s → ((v : Value) → In values v → length v ≤ MAX_VALUE)
+    → ((j : ℕ) (a : Attempt) → attempts j ≡ Some a → IsAttemptInRange n a) → (j : ℕ) (a : Attempt) → opened_span attempts i (fresh_ballot p s) values j ≡ Some a → IsAttemptInRange n a
+begun_attempts n p s [] i attempts node round fits h = h
+begun_attempts n p s (v ∷ vs) i attempts node round fits h =
+    begun_attempts n p s vs _ (put_at attempts i (Some (opened (fresh_ballot p s) v))) node round (λ u k. fits u (inr k))
+    (put_attempt n attempts i (opened (fresh_ballot p s) v) h (record { ballot = (omega arith, round, node); own = fits v (inl refl); proposed = λ u e. absurd (no_value u e); told = λ x w k e. absurd k }))
+
+begun_ranges : (n p : ℕ) (s : Node) (i : ℕ) (values : List Value) → IsNode n p → HasRanges n s → HasRound s → ((v : Value) → In values v → length v ≤ MAX_VALUE)
+    → HasRanges n (record s { attempts = opened_span s.attempts i (fresh_ballot p s) values })
+begun_ranges n p s i values node h round fits = record { known = h.known; pending = h.pending; attempts = begun_attempts n p s values i s.attempts node round fits h.attempts }
 
 call_ranges : (n p : ℕ) (s : Node) (call : Call) (effect : Effect) → IsNode n p → HasRanges n s → IsCallInRange n call → Does n p s call effect → HasRanges n effect.after
 call_ranges n p s (submit v) effect node h m how =
@@ -191,12 +196,13 @@ call_ranges n p s (submit v) effect node h m how =
     how
 call_ranges n p s tick effect node h m how =
     by_effect effect (record { entry = _; after = record s { attempts = put_at s.attempts how.instance (Some (opened (fresh_ballot p s) (oldest s.pending))) }; out = _ }) how.is
-    (begun_ranges n p s how.instance (oldest s.pending) node h how.round (oldest_short s.pending h.pending))
+    (begun_ranges n p s how.instance (oldest s.pending ∷ []) node h how.round
+    (λ v k. ⊎_elim (λ (e : oldest s.pending ≡ v). subst (λ (x : Value). length x ≤ MAX_VALUE) e (oldest_short s.pending h.pending)) (λ none. absurd none) k))
 call_ranges n p s widen effect node h m how =
     ⊎_elim
     (λ (x : Begins p s effect).
-    by_effect effect (record { entry = _; after = record s { attempts = put_at s.attempts x.instance (Some (opened (fresh_ballot p s) x.value)) }; out = _ }) x.is
-    (begun_ranges n p s x.instance x.value node h x.round (h.pending x.value (next_in s x.value x.next))))
+    by_effect effect (record { entry = _; after = record s { attempts = opened_span s.attempts x.instance (fresh_ballot p s) x.values }; out = _ }) x.is
+    (begun_ranges n p s x.instance x.values node h x.round (λ v k. h.pending v (next_in s x.instance x.values x.span v k))))
     (λ (x : (¬ MayWiden s) × (effect ≡ quiet s)). by_effect effect (quiet s) x.1 h)
     how
 call_ranges n p s ask effect node h m how = by_effect effect (says s _ _) how.is h
@@ -293,6 +299,17 @@ propose_says n p i b v es slot after (nack c) node instance ballot fits history 
 propose_says n p i b v es slot after (promise prior) node instance ballot fits history is step = no_message n
 propose_says n p i b v es slot after no_answer node instance ballot fits history is step = no_message n
 
+says_both : (n : ℕ) (xs ys : List (To × Message)) → Says n xs → Says n ys → Says n (xs ++ ys)
+says_both n [] ys a b x k = b x k
+says_both n (z ∷ xs) ys a b x k = ⊎_elim (λ e. a x (inl e)) (λ later. says_both n xs ys (λ y m. a y (inr m)) b x later) k
+
+span_says : (n p i : ℕ) (b : BallotOf) (es : List Entry) (xs : List Judged) → IsNode n p → 1 ≤ i → i + length xs ≤ 1000001 → IsBallot n b → IsHistory n es → AreJudged es b i xs → Says n (span_out p i b xs)
+span_says n p i b es [] node low high ballot history each = no_message n
+span_says n p i b es (x ∷ xs) node low high ballot history each =
+    says_both n (prepare_out p i b x.answer) (span_out p (suc i) b xs)
+    (prepare_says n p i b es x.slot x.after x.answer node (low, omega (arith, high)) ballot history each.0 each.1)
+    (span_says n p (suc i) b es xs node (omega arith) (omega (arith, high)) ballot history each.2)
+
 by_out : (n : ℕ) (effect e : Effect) → effect ≡ e → Says n e.out → Says n effect.out
 by_out n effect e is h = subst (λ (x : Effect). Says n x.out) (sym is) h
 
@@ -304,8 +321,9 @@ promise_says n p s q i b prior after (Some v) node instance ballot fits h step =
     one_message n All (Propose p i b v) (record { sender = node; instance = instance; ballots = ballot; fits = chosen_short step.0.own (with_answer step.0 q prior) v a.own (with_one n step.0 q prior a fits) step.4 })
 
 delivery_says : (n p : ℕ) (s : Node) (m : Message) (effect : Effect) → IsNode n p → IsHistory n s.entries → HasRanges n s → IsMessage n m → ByKind n p s m effect → Says n effect.out
-delivery_says n p s (Prepare q i b) effect node history h m how =
-    by_out n effect (record { entry = how.entry; after = s; out = prepare_out p i b how.answer }) how.is (prepare_says n p i b s.entries how.slot how.after how.answer node m.instance m.ballots history how.on_record how.step)
+delivery_says n p s (Prepare q i b k) effect node history h m how =
+    by_out n effect (record { entry = how.entry; after = s; out = span_out p i b how.judged }) how.is
+    (span_says n p i b s.entries how.judged node m.instance.0 (let counted = how.counted in omega (arith, counted, m.fits.3)) m.ballots history how.each)
 delivery_says n p s (Propose q i b v) effect node history h m how =
     by_out n effect (record { entry = how.entry; after = s; out = propose_out p i b v how.answer }) how.is (propose_says n p i b v s.entries how.slot how.after how.answer node m.instance m.ballots m.fits history how.on_record how.step)
 delivery_says n p s (Promise q i b prior) effect node history h m how =
@@ -334,9 +352,12 @@ delivery_says n p s (Chosen q i v) effect node history h m how =
     (λ (x : (s.known i ≡ Some v) × (effect ≡ quiet s)). by_out n effect (quiet s) x.1 (no_message n))
     how
 
+span_of_one : (i : ℕ) → IsInstance i → IsSpan i 1
+span_of_one i at = (omega arith, omega arith, at.0, omega (arith, at.1))
+
 -- the latest message of an attempt in range
 latest_says : (n p i : ℕ) (a : Attempt) → IsNode n p → IsInstance i → IsAttemptInRange n a → (made : Option Value) → a.proposal ≡ made → IsMessage n (latest p i a.ballot made)
-latest_says n p i a node instance range None is = record { sender = node; instance = instance; ballots = range.ballot; fits = tt }
+latest_says n p i a node instance range None is = record { sender = node; instance = instance; ballots = range.ballot; fits = span_of_one i instance }
 latest_says n p i a node instance range (Some v) is = record { sender = node; instance = instance; ballots = range.ballot; fits = range.proposed v is }
 
 again_says : (n p : ℕ) (xs : List (ℕ × Attempt)) → IsNode n p → ((x : ℕ × Attempt) → In xs x → IsInstance x.0 × IsAttemptInRange n x.1) → Says n (map (resent p) xs)
@@ -347,8 +368,8 @@ again_says n p (y ∷ ys) node each x k =
     (λ (e : resent p y ≡ x). subst (λ (z : To × Message). IsMessage n z.1) e (latest_says n p y.0 y.1 node here.0 here.1 y.1.proposal refl))
     (λ later. again_says n p ys node (λ z m. each z (inr m)) x later) k
 
-fresh_says : (n p : ℕ) (s : Node) (i : ℕ) → IsNode n p → IsInstance i → HasRound s → IsMessage n (Prepare p i (fresh_ballot p s))
-fresh_says n p s i node instance round = record { sender = node; instance = instance; ballots = (omega arith, round, node); fits = tt }
+fresh_says : (n p : ℕ) (s : Node) (i k : ℕ) → IsNode n p → IsInstance i → IsSpan i k → HasRound s → IsMessage n (Prepare p i (fresh_ballot p s) k)
+fresh_says n p s i k node instance span round = record { sender = node; instance = instance; ballots = (omega arith, round, node); fits = span }
 
 call_says : (n p : ℕ) (s : Node) (call : Call) (effect : Effect) → IsNode n p → IsHistory n s.entries → IsTidy s → HasRanges n s → IsCallInRange n call → Does n p s call effect → Says n effect.out
 call_says n p s (submit v) effect node history tidy h m how =
@@ -360,13 +381,13 @@ call_says n p s tick effect node history tidy h m how =
     let i = how.instance in
     let b = fresh_ballot p s in
     let again = again_says n p how.elsewhere node (λ x k. let at = (how.open_elsewhere.each x k).1 in ((tidy.attempted x.0 x.1 at).instance, h.attempts x.0 x.1 at)) in
-    by_out n effect (record { entry = _; after = record s { attempts = _ }; out = (All, Prepare p i b) ∷ map (resent p) how.elsewhere }) how.is
-    (λ x k. ⊎_elim (λ (e : (All, Prepare p i b) ≡ x). subst (λ (y : To × Message). IsMessage n y.1) e (fresh_says n p s i node how.first.instance how.round)) (λ later. again x later) k)
+    by_out n effect (record { entry = _; after = record s { attempts = _ }; out = (All, Prepare p i b 1) ∷ map (resent p) how.elsewhere }) how.is
+    (λ x k. ⊎_elim (λ (e : (All, Prepare p i b 1) ≡ x). subst (λ (y : To × Message). IsMessage n y.1) e (fresh_says n p s i 1 node how.first.instance (span_of_one i how.first.instance) how.round)) (λ later. again x later) k)
 call_says n p s widen effect node history tidy h m how =
     ⊎_elim
     (λ (x : Begins p s effect).
-    by_out n effect (record { entry = _; after = record s { attempts = _ }; out = (All, Prepare p x.instance (fresh_ballot p s)) ∷ [] }) x.is
-    (one_message n All (Prepare p x.instance (fresh_ballot p s)) (fresh_says n p s x.instance node x.free.free.instance x.round)))
+    by_out n effect (record { entry = _; after = record s { attempts = _ }; out = (All, Prepare p x.instance (fresh_ballot p s) (length x.values)) ∷ [] }) x.is
+    (one_message n All (Prepare p x.instance (fresh_ballot p s) (length x.values)) (fresh_says n p s x.instance (length x.values) node x.span.start.free.instance (next_is_span s x.instance x.values x.span) x.round)))
     (λ (x : (¬ MayWiden s) × (effect ≡ quiet s)). by_out n effect (quiet s) x.1 (no_message n))
     how
 call_says n p s ask effect node history tidy h m how =

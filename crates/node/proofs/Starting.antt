@@ -1,17 +1,17 @@
--- A fresh attempt: the ballot that it takes, and the whole ending of a call that begins it.
-use Rattle.std.proofs.Common.{◌≡◌, ℕ, suc, ◌+◌, ◌<◌, max, false, Option, Some, List, [], ◌∷◌, ◌++◌, refl, sym, ap, subst, ◌∙◌, arith}
+-- Fresh attempts: the ballot that they take, and the whole ending of a call that begins them.
+use Rattle.std.proofs.Common.{◌≡◌, ℕ, suc, ◌+◌, ◌<◌, max, false, Option, List, [], ◌∷◌, ◌++◌, refl, sym, ap, subst, ◌∙◌, arith}
 use Rattle.std.specs.Prelude.{◌↔◌}
 use Rattle.site_ids.specs.declared.TheConstants.{MAX_ROUND}
 use Rattle.site_disk.specs.Model.{DiskState}
 use Rattle.site_ids.specs.Ids.{BallotOf}
-use Rattle.site_ids.specs.Lists.{In, put_at}
+use Rattle.site_ids.specs.Lists.{In}
 use Rattle.wire.specs.declared.message.Message.{Message}
 use Rattle.wire.specs.declared.message.Message.TheVariants.{Prepare}
 use Rattle.durable.specs.Entries.{Round, last_round}
 use Rattle.durable.specs.Puts.{IsPut, Acknowledges}
 use Rattle.learner.specs.Votes.{IsTold}
 use Rattle.learner.specs.declared.learning.Learner.{Learner}
-use Rattle.proposer.specs.Attempts.{Attempt, opened}
+use Rattle.proposer.specs.Attempts.{Attempt, opened_span}
 use Rattle.proposer.specs.Standing.{Attempting}
 use Rattle.node.specs.declared.known.Known.{Known}
 use Rattle.node.specs.declared.queue.Queue.{Queue}
@@ -47,24 +47,24 @@ module _ {D : Type 0} where
       let same = ap (λ (b : BallotOf). b.round) (next_is_fresh code s parts) in
       omega (arith, same, last, has)
 
-  -- the round is on record, and the attempt is open
-  pub record Starts (stands_for : D → DiskState → Type 0) (failed : D → ℕ) (old new : Running D) (i : ℕ) (b : BallotOf) (own : Value) : Type 0 where
+  -- the round is on record, and an attempt for each of the values is open
+  pub record Starts (stands_for : D → DiskState → Type 0) (failed : D → ℕ) (old new : Running D) (i : ℕ) (b : BallotOf) (values : List Value) : Type 0 where
     pub put : IsPut failed old.store new.store (Round b.round)
     pub acknowledged : Acknowledges stands_for old.store new.store (Round b.round)
-    pub attempts : (attempts : ℕ → Option Attempt) → Attempting old.proposer attempts → Attempting new.proposer (put_at attempts i (Some (opened b own)))
+    pub attempts : (attempts : ℕ → Option Attempt) → Attempting old.proposer attempts → Attempting new.proposer (opened_span attempts i b values)
     pub heard : new.proposer.heard ≡ old.proposer.heard
     pub learner : new.learner ≡ old.learner
     pub known : new.known ≡ old.known
     pub queue : new.queue ≡ old.queue
     pub reached : new.reached ≡ old.reached
 
-  pub started : (stands_for : D → DiskState → Type 0) (failed : D → ℕ) (old new : Running D) (s : Node) (call : Call) (i : ℕ) (b : BallotOf) (own : Value) (again : List (To × Message)) → IsNodeOf old s → old.store.stopped ≡ false → KeepsOthers old new
-      → Does old.cluster old.me s call (begun old.me s i b own again) → Starts stands_for failed old new i b own → Done stands_for old new call ((All, Prepare old.me i b) ∷ again) s
-  started stands_for failed old new s call i b own again stands runs others does starts =
+  pub started : (stands_for : D → DiskState → Type 0) (failed : D → ℕ) (old new : Running D) (s : Node) (call : Call) (i : ℕ) (b : BallotOf) (values : List Value) (k : ℕ) (again : List (To × Message)) → IsNodeOf old s → old.store.stopped ≡ false → KeepsOthers old new
+      → Does old.cluster old.me s call (begun old.me s i b values k again) → Starts stands_for failed old new i b values → Done stands_for old new call ((All, Prepare old.me i b k) ∷ again) s
+  started stands_for failed old new s call i b values k again stands runs others does starts =
       let parts = stands.parts in
-      let t : Node = record s { entries = s.entries ++ Round b.round ∷ []; attempts = put_at s.attempts i (Some (opened b own)) } in
+      let t : Node = record s { entries = s.entries ++ Round b.round ∷ []; attempts = opened_span s.attempts i b values } in
       record {
-        effect = begun old.me s i b own again;
+        effect = begun old.me s i b values k again;
         does = does;
         handed = refl;
         parts = record {

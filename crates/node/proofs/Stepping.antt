@@ -203,7 +203,7 @@ module _ {D : Type 0} where
       stands = stands_after old new call ending out s t others in_range stands ends parts;
       on_disk = on_disk;
       outbox = told;
-      few = says_few old.cluster old.me s t call ending out ends stands.tidy;
+      few = says_few old.cluster old.me s t call ending out ends stands.tidy in_range;
       messages = says_messages old.cluster old.me s t call ending out old.of_cluster stands.parts.on_record.history stands.tidy stands.ranges in_range ends;
     }
 

@@ -2,7 +2,9 @@ pub mod Nodes
 pub mod Tickets
 pub mod Effects
 pub mod Deliveries
+pub mod Judgements
 pub mod Calls
+pub mod Widening
 pub mod Again
 pub mod Endings
 pub mod Laws

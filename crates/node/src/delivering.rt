@@ -26,8 +26,9 @@ impl<D: Disk> Node<D> {
             Message::Prepare {
                 instance,
                 ballot,
+                count,
                 ..
-            } => self.on_prepare(*instance, *ballot, outbox),
+            } => self.on_prepare(*instance, *count, *ballot, outbox),
             Message::Promise {
                 from,
                 instance,

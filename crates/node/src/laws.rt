@@ -1,7 +1,7 @@
 ghost use Rattle.node.specs.Laws.{BeginningStays, KnownStays, MarkStays, OneEntry};
-ghost use Rattle.node.specs.Ranges.{OpensInRange, SaysMessages, StaysInRange};
+ghost use Rattle.node.specs.Ranges.{OpensInRange, SaysFew, SaysMessages, StaysInRange};
 ghost use Rattle.node.specs.Stuck.{NeverStuck};
-ghost use Rattle.node.specs.Tidy.{CommandsShareTheirOwn, OpensTidy, SaysFew, SharingIsMutual, StaysTidy};
+ghost use Rattle.node.specs.Tidy.{CommandsShareTheirOwn, OpensTidy, SharingIsMutual, StaysTidy};
 
 /// A call loses nothing that is known, puts at most one entry on record, and neither arms the device nor disarms it.
 pub fn calls_forget_nothing()
@@ -11,8 +11,8 @@ pub fn calls_forget_nothing()
     ensures mark { MarkStays }
 {}
 
-/// Attempts stand at unknown instances less than `MAX_ATTEMPTS` past the first unknown one, votes at unknown ones, and what is pending has tickets of its
-/// own. So a call hands out few messages.
+/// Attempts stand at unknown instances less than `MAX_ATTEMPTS` past the first unknown one, and where one is open, each unknown instance below it has one.
+/// Votes stand at unknown instances, and what is pending has tickets of its own. So a call hands out few messages.
 pub fn nodes_stay_tidy()
     ensures opens { OpensTidy }
     ensures stays { StaysTidy }

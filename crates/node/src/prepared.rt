@@ -1,12 +1,18 @@
-//! A prepare that is delivered.
+//! A prepare that is delivered: each instance of its span is judged by itself.
 
-ghost use Rattle.std.specs.Prelude.{◌≡◌, ◌≢◌, ℕ, IfOk, IsErrOf, false};
+ghost use Rattle.std.specs.Prelude.{◌≡◌, ◌+◌, ◌-◌, ℕ, IfOk, OnOk, OnErr, IsErrOf, false};
 ghost use Rattle.site_ids.specs.Ids.{IsNode};
+ghost use Rattle.site_ids.specs.Spans.{IsSpan, IsInSpan};
+ghost use Rattle.acceptor.specs.Judging.{IsFreeBelow};
+ghost use Rattle.durable.specs.Entries.{promise_of};
+ghost use Rattle.durable.specs.Puts.{Puts};
+ghost use Rattle.durable.specs.Slots.{slot_at};
 ghost use Rattle.wire.specs.Messages.{IsMessage};
 
 use crate::messages::{nack, promise};
 use crate::{Node, NodeFault, Outbox};
 use acceptor::{PrepareVerdict, judge_prepare};
+use durable::{Record, RecordFault};
 use site_disk::Disk;
 use site_ids::{Ballot, Instance, Vote};
 use std::alloc::{AllocError, Global};
@@ -21,52 +27,123 @@ fn copy_of(alloc: Global, vote: &Option<Vote>) -> Result<Option<Vote>, AllocErro
     }
 }
 
+/// Puts the promise of a span that raises one of its instances at least. That of one instance is an entry of its own kind.
+fn put_promises<D: Disk>(
+    store: &mut Record<D>,
+    first: Instance,
+    count: u8,
+    ballot: Ballot,
+) -> Result<(), RecordFault>
+    requires of_cluster { IsNode store.old.cluster ballot.node }
+    requires span { IsSpan first count }
+    requires above { (at : ℕ) × IsInSpan first count at × IsFreeBelow (slot_at store.old.recorded.slots at).promised ballot }
+    ensures { Puts D.stands_for D.failed store.old store.new (promise_of first count ballot) result }
+{
+    if count == 1 {
+        return store.put_promise(first, ballot);
+    }
+    store.put_promise_span(first, count, ballot)
+}
+
+/// What a prepare of a span comes to.
+#[derive(Drop)]
+pub(crate) struct Judgement {
+    /// Whether a promise rises.
+    rises: bool,
+    /// The answers, by instance.
+    answers: Outbox,
+}
+
 impl<D: Disk> Node<D> {
     ghost use Rattle.node.specs.Calls.{deliver};
     ghost use Rattle.node.specs.Standing.{IsEvent, OnlyGrows, KeepsOthers, CountsDevice, ending_of};
+    ghost use Rattle.node.specs.Judgements.{IsJudgement, JudgesMore, IsOwed};
 
-    /// A promise is on record before it is handed out.
+    /// A promise is on record before it is handed out: that of a span as one entry, whole, also where few of its
+    /// instances rise. The answers are made before, so nothing is left to refuse behind the put.
     pub(crate) fn on_prepare(
         &mut self,
-        instance: Instance,
+        first: Instance,
+        count: u8,
         ballot: Ballot,
         outbox: &mut Outbox,
     ) -> Result<(), NodeFault>
         requires running { self.old.store.stopped ≡ false }
         requires of_cluster { IsNode self.old.cluster ballot.node }
-        ensures event { (from : ℕ) → IsMessage self.old.cluster (Message.Prepare from instance ballot) → IsEvent D.stands_for self.old self.new (deliver (Message.Prepare from instance ballot)) (ending_of result) outbox.old.items outbox.new.items }
+        requires span { IsSpan first count }
+        ensures event { (from : ℕ) → IsMessage self.old.cluster (Message.Prepare from first ballot count) → IsEvent D.stands_for self.old self.new (deliver (Message.Prepare from first ballot count)) (ending_of result) outbox.old.items outbox.new.items }
         ensures counts { CountsDevice result (D.failed self.old.store.disk) (D.failed self.new.store.disk) }
         ensures grows { OnlyGrows outbox.old.items outbox.new.items }
         ensures others { KeepsOthers self.old self.new }
     {
-        let reached = self.reached.max(instance.number());
-        let slot = self.store.slot(instance);
+        let reached = self.reached.max(first.number() + count as u32 - 1);
+        let mut judgement = self.judge_span(first, count, ballot)?;
+        outbox.reserve(judgement.answers.len())?;
+        if !judgement.rises {
+            let _ = outbox.append(&mut judgement.answers);
+            self.reached = reached;
+            return Ok(());
+        }
+        put_promises(&mut self.store, first, count, ballot)?;
+        let _ = outbox.append(&mut judgement.answers);
+        self.reached = reached;
+        Ok(())
+    }
+
+    /// Judges each instance of a span. Nothing changes. Memory is wanted only where an instance is owed an answer.
+    fn judge_span(
+        &self,
+        first: Instance,
+        count: u8,
+        ballot: Ballot,
+    ) -> Result<Judgement, AllocError>
+        requires { IsSpan first count }
+        ensures ok { IfOk result (λ told. IsJudgement (slot_at self.now.store.recorded.slots) self.now.me first ballot count told) }
+        ensures err { OnErr result ((at : ℕ) × IsInSpan first count at × IsOwed (slot_at self.now.store.recorded.slots at) ballot) }
+    {
+        let mut judgement = Judgement {
+            rises: false,
+            answers: Vec::new(self.alloc),
+        };
+        let mut past = 0;
+        while past < count {
+            let Some(at) = Instance::new(first.number() + past as u32) else {
+                return Ok(judgement);
+            };
+            self.judge(at, ballot, &mut judgement)?;
+            past += 1;
+        }
+        Ok(judgement)
+    }
+
+    /// Judges one instance more. A silent one takes no memory.
+    fn judge(
+        &self,
+        at: Instance,
+        ballot: Ballot,
+        judgement: &mut Judgement,
+    ) -> Result<(), AllocError>
+        ensures ok { OnOk result (JudgesMore (slot_at self.now.store.recorded.slots at) self.now.me at ballot judgement.old judgement.new) }
+        ensures err { OnErr result (IsOwed (slot_at self.now.store.recorded.slots at) ballot) }
+    {
+        let slot = self.store.slot(at);
         match judge_prepare(slot, ballot) {
             PrepareVerdict::Promise => {
-                outbox.reserve(1)?;
                 let prior = copy_of(self.alloc, &slot.vote)?;
-                self.store.put_promise(instance, ballot)?;
-                outbox.push_reserved(promise(self.me, instance, ballot, prior));
-                self.reached = reached;
+                judgement.answers.push(promise(self.me, at, ballot, prior))?;
+                judgement.rises = true;
                 Ok(())
             }
             PrepareVerdict::Again => {
-                outbox.reserve(1)?;
                 let prior = copy_of(self.alloc, &slot.vote)?;
-                outbox.push_reserved(promise(self.me, instance, ballot, prior));
-                self.reached = reached;
+                judgement.answers.push(promise(self.me, at, ballot, prior))?;
                 Ok(())
             }
             PrepareVerdict::Nack(promised) => {
-                outbox.reserve(1)?;
-                outbox.push_reserved(nack(self.me, instance, ballot, promised));
-                self.reached = reached;
+                judgement.answers.push(nack(self.me, at, ballot, promised))?;
                 Ok(())
             }
-            PrepareVerdict::Silent => {
-                self.reached = reached;
-                Ok(())
-            }
+            PrepareVerdict::Silent => Ok(()),
         }
     }
 }

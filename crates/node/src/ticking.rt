@@ -40,6 +40,7 @@ impl<D: Disk> Node<D> {
                 from: self.me,
                 instance,
                 ballot,
+                count: 1,
             },
         ));
         let _ = outbox.append(&mut again);

@@ -1,21 +1,26 @@
-//! A widening: a fresh attempt at the least free instance.
+//! A widening: fresh attempts at the least free instance and on.
 
-ghost use Rattle.std.specs.Prelude.{◌≡◌, ◌↔◌, ℕ, None, Some, IfOk, IsErrOf, IsTrue, MatchOption};
+ghost use Rattle.std.specs.Prelude.{◌≡◌, ◌↔◌, ◌+◌, ◌<◌, ◌≤◌, ℕ, List, Option, None, Some, IfOk, IfSome, OnOk, IsErrOf, IsTrue, MatchOption, length};
+ghost use Rattle.site_ids.specs.Spans.{IsSpan};
+ghost use Rattle.proposer.specs.declared.TheConstants.{MAX_ATTEMPTS};
 ghost use Rattle.proposer.specs.Attempts.{Attempt};
+ghost use Rattle.proposer.specs.Standing.{Attempting};
 
 use crate::{Node, NodeFault, Outbox, To, WINDOW};
 use site_disk::Disk;
 use site_ids::{Instance, Value};
+use std::alloc::AllocError;
 use wire::Message;
 
 impl<D: Disk> Node<D> {
     ghost use Rattle.node.specs.Nodes.{Node as AbstractNode, Value as Bytes, IsUnknown, IsFirstUnknown};
-    ghost use Rattle.node.specs.Calls.{IsTried, IsNextFree, IsNextValue, MayWiden, widen as widening};
+    ghost use Rattle.node.specs.Calls.{IsUntried, IsNextFree, MayWiden, widen as widening};
+    ghost use Rattle.node.specs.Widening.{IsFreeRun, IsOldestUntried, AreOldest, PushesUntried};
     ghost use Rattle.node.specs.Standing.{IsNodeOf, IsEvent, TakesRound, OnlyGrows, KeepsOthers, CountsDevice, ending_of};
 
-    /// A fresh round goes on record, and an attempt at the least free instance begins with it, for the oldest value that
-    /// is pending and that no attempt has as its own. Without such an instance or value it answers false, and nothing
-    /// happens.
+    /// A fresh round goes on record, and attempts at the least free instance and on begin with it, as long as the next
+    /// one is free and in reach, for the oldest values that are pending and that no attempt has as its own. One prepare
+    /// for all of them goes out. Without such an instance or value it answers false, and nothing happens.
     pub fn widen(&mut self, outbox: &mut Outbox) -> Result<bool, NodeFault>
         ensures event { IsEvent D.stands_for self.old self.new widening (ending_of result) outbox.old.items outbox.new.items }
         ensures widened { IfOk result (λ widened. (s : AbstractNode) → IsNodeOf self.old s → IsTrue widened ↔ MayWiden s) }
@@ -33,23 +38,26 @@ impl<D: Disk> Node<D> {
         let Some(instance) = self.next_free(first) else {
             return Ok(false);
         };
-        let Some(value) = self.next_value(first) else {
+        let Some(oldest) = self.next_untried() else {
             return Ok(false);
         };
         let Ok(ballot) = self.proposer.next_ballot(self.store.round()) else {
             return Err(NodeFault::RoundsUsedUp);
         };
         outbox.reserve(1)?;
-        let own = Value::copied_from(self.alloc, value)?;
-        self.proposer.make_room(instance)?;
+        let most = self.free_run(first, instance);
+        let values = self.untried(oldest, most)?;
+        let count = values.len() as u8;
+        self.proposer.make_room_for_span(instance, count)?;
         self.store.put_round(ballot.round())?;
-        self.proposer.open(instance, ballot, own);
+        self.proposer.open_span(instance, ballot, values);
         outbox.push_reserved((
             To::All,
             Message::Prepare {
                 from: self.me,
                 instance,
                 ballot,
+                count,
             },
         ));
         Ok(true)
@@ -57,7 +65,8 @@ impl<D: Disk> Node<D> {
 
     /// The least free instance, from the first unknown one on.
     fn next_free(&self, first: Instance) -> Option<Instance>
-        ensures { (s : AbstractNode) → IsNodeOf self.now s → IsFirstUnknown s.known first → MatchOption result ((i : ℕ) → ¬ IsNextFree s i) (λ i. IsNextFree s i) }
+        ensures least { (s : AbstractNode) → IsNodeOf self.now s → IsFirstUnknown s.known first → MatchOption result ((i : ℕ) → ¬ IsNextFree s i) (λ i. IsNextFree s i) }
+        ensures near { IfSome result (λ i. (first ≤ i) × (i < first + MAX_ATTEMPTS)) }
     {
         let mut past = 0;
         while past < WINDOW {
@@ -68,6 +77,26 @@ impl<D: Disk> Node<D> {
             past += 1;
         }
         None
+    }
+
+    /// How many instances are free one behind the other, from a free one on, up to the window's end.
+    fn free_run(&self, first: Instance, instance: Instance) -> usize
+        requires near { (first ≤ instance) × (instance < first + MAX_ATTEMPTS) }
+        ensures free { (s : AbstractNode) → IsNodeOf self.now s → IsFirstUnknown s.known first → IsNextFree s instance → IsFreeRun s first instance result }
+        ensures span { IsSpan instance result }
+    {
+        let end = first.number() + WINDOW;
+        let mut next = instance.number() + 1;
+        while next < end {
+            let Some(at) = Instance::new(next) else {
+                return (next - instance.number()) as usize;
+            };
+            if !self.is_free(at) {
+                return (next - instance.number()) as usize;
+            }
+            next += 1;
+        }
+        (next - instance.number()) as usize
     }
 
     /// It is unknown, and has no attempt.
@@ -83,42 +112,56 @@ impl<D: Disk> Node<D> {
         }
     }
 
-    /// The oldest pending value that no attempt has as its own.
-    fn next_value(&self, first: Instance) -> Option<&[u8]>
-        ensures { (s : AbstractNode) → IsNodeOf self.now s → IsFirstUnknown s.known first → MatchOption result ((v : Bytes) → ¬ IsNextValue s v) (λ v. IsNextValue s v.now) }
+    /// The place in the queue of the oldest value that no attempt has as its own.
+    fn next_untried(&self) -> Option<usize>
+        ensures oldest { (s : AbstractNode) → IsNodeOf self.now s → MatchOption result ((v : Bytes) → ¬ IsUntried s v) (λ n. IsOldestUntried s n) }
+        ensures within { IfSome result (λ n. n < length self.now.queue.items.items) }
     {
-        for waiting in &self.queue.items {
-            if !self.is_tried(first, waiting.value.as_bytes()) {
-                return Some(waiting.value.as_bytes());
+        for place in 0..self.queue.len() {
+            let Some(value) = self.queue.value_at(place) else {
+                return None;
+            };
+            if !self.proposer.tries(value.as_bytes()) {
+                return Some(place);
             }
         }
         None
     }
 
-    /// An attempt has the value as its own.
-    fn is_tried(&self, first: Instance, value: &[u8]) -> bool
-        ensures { (s : AbstractNode) → IsNodeOf self.now s → IsFirstUnknown s.known first → IsTrue result ↔ IsTried s value.now }
+    /// Copies of the values that no attempt has as its own, from the oldest on, which stands here in the queue: all of
+    /// them, or so many.
+    fn untried(&self, oldest: usize, most: usize) -> Result<Vec<Value>, AllocError>
+        requires within { oldest < length self.now.queue.items.items }
+        requires some { 1 ≤ most }
+        ensures oldest { IfOk result (λ values. (s : AbstractNode) (first : ℕ) → IsNodeOf self.now s → IsFirstUnknown s.known first → IsOldestUntried s oldest → AreOldest s most values.items) }
+        ensures few { IfOk result (λ values. (1 ≤ length values.items) × (length values.items ≤ most)) }
     {
-        let mut past = 0;
-        while past < WINDOW {
-            let Some(instance) = Instance::new(first.number() + past) else {
-                return false;
+        let mut values = Vec::new(self.alloc);
+        let Some(first) = self.queue.value_at(oldest) else {
+            return Ok(values);
+        };
+        values.push(first.try_clone(self.alloc)?)?;
+        for place in oldest + 1..self.queue.len() {
+            let Some(value) = self.queue.value_at(place) else {
+                return Ok(values);
             };
-            if self.tries(instance, value) {
-                return true;
+            if values.len() == most {
+                return Ok(values);
             }
-            past += 1;
+            self.push_untried(value, &mut values)?;
         }
-        false
+        Ok(values)
     }
 
-    /// The attempt at an instance has the value as its own.
-    fn tries(&self, instance: Instance, value: &[u8]) -> bool
-        ensures { (s : AbstractNode) → IsNodeOf self.now s → IsTrue result ↔ ((a : Attempt) × (s.attempts instance ≡ Some a) × (a.own ≡ value.now)) }
+    /// A copy of the value behind what is there, unless an attempt has it as its own.
+    fn push_untried(&self, value: &Value, values: &mut Vec<Value>) -> Result<(), AllocError>
+        ensures pushes { OnOk result ((attempts : ℕ → Option Attempt) → Attempting self.now.proposer attempts → PushesUntried attempts value.now values.old.items values.new.items) }
+        ensures few { OnOk result ((length values.old.items ≤ length values.new.items) × (length values.new.items ≤ length values.old.items + 1)) }
     {
-        match self.proposer.own_value(instance) {
-            Some(own) => own.as_bytes() == value,
-            None => false,
+        if self.proposer.tries(value.as_bytes()) {
+            return Ok(());
         }
+        values.push(value.try_clone(self.alloc)?)?;
+        Ok(())
     }
 }

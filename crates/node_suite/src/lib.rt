@@ -14,4 +14,6 @@ mod rows;
 #[cfg(test)]
 mod samples;
 #[cfg(test)]
+mod spans;
+#[cfg(test)]
 mod widening;

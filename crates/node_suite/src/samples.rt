@@ -40,6 +40,7 @@ pub(crate) fn prepare(from: NodeId, round: u32) -> Result<Message, Halt> {
         from,
         instance: instance(1)?,
         ballot: ballot(round, from)?,
+        count: 1,
     })
 }
 

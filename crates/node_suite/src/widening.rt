@@ -8,11 +8,11 @@ use std::process::Abort;
 use std::test::Fail;
 use wire::Message;
 
-/// What a node does, and what it has prepared then, all messages since the last such look: instances and rounds.
+/// What a node does, and what it has prepared then, all messages since the last such look: instances, rounds and counts.
 #[derive(Clone, Copy, Debug)]
 enum Step {
-    /// A release, by the number of its ticket.
-    Submit(u64),
+    /// Releases, by the numbers of their tickets, up to one.
+    Submit(u64, u64),
     /// The no-op is told as chosen at an instance.
     Chosen(u32),
     Tick,
@@ -20,29 +20,30 @@ enum Step {
     /// A nack tells of a promise of that round.
     Nack(u32),
     Arm,
-    Prepares(&'static [(u32, u32)]),
+    Prepares(&'static [(u32, u32, u8)]),
 }
 
-fn is_prepare(said: &(To, Message), at: u32, round: u32) -> bool {
+fn is_prepare(said: &(To, Message), at: u32, round: u32, of: u8) -> bool {
     match said {
         (
             To::All,
             Message::Prepare {
                 instance,
                 ballot,
+                count,
                 ..
             },
-        ) => instance.number() == at && ballot.round() == round,
+        ) => instance.number() == at && ballot.round() == round && *count == of,
         _ => false,
     }
 }
 
-fn are_prepares(out: &Outbox, wanted: &[(u32, u32)]) -> bool {
+fn are_prepares(out: &Outbox, wanted: &[(u32, u32, u8)]) -> bool {
     if out.len() != wanted.len() {
         return false;
     }
-    for (said, (at, round)) in out.iter().zip(wanted) {
-        if !is_prepare(said, *at, *round) {
+    for (said, (at, round, of)) in out.iter().zip(wanted) {
+        if !is_prepare(said, *at, *round, *of) {
             return false;
         }
     }
@@ -51,9 +52,11 @@ fn are_prepares(out: &Outbox, wanted: &[(u32, u32)]) -> bool {
 
 fn act(rt: &impl Abort, node: &mut Peer, step: Step) -> Result<(), Halt> {
     match step {
-        Step::Submit(number) => {
-            let release = value(node.alloc(), number, "release\n")?;
-            let _ = node.submit(release.as_slice())?;
+        Step::Submit(first, last) => {
+            for number in first..=last {
+                let release = value(node.alloc(), number, "release\n")?;
+                let _ = node.submit(release.as_slice())?;
+            }
         }
         Step::Chosen(at) => {
             let message = chosen(node.alloc(), node.other(2)?, at, b"")?;
@@ -86,22 +89,19 @@ fn play(rt: &impl Abort, node: &mut Peer, steps: &[Step]) -> Result<(), Fail> {
     Ok(act_all(rt, node, steps)?)
 }
 
-/// Each value is tried once, at the least free instance, with a round of its own. A tick takes the oldest value, and
-/// sends the others' messages again, by instance.
+/// Each value is tried once, from the least free instance on, all with one round and one prepare. A tick takes the
+/// oldest value, and sends the others' messages again, by instance: each prepare of one.
 #[test]
 fn three_values_are_tried_at_once(rt: HostRuntime) -> Result<(), Fail> {
     let steps = [
         Step::Widen(Ok(false)),
-        Step::Submit(1),
-        Step::Submit(2),
-        Step::Submit(3),
+        Step::Submit(1, 3),
         Step::Tick,
-        Step::Widen(Ok(true)),
         Step::Widen(Ok(true)),
         Step::Widen(Ok(false)),
-        Step::Prepares(&[(1, 1), (2, 2), (3, 3)]),
+        Step::Prepares(&[(1, 1, 1), (2, 2, 2)]),
         Step::Tick,
-        Step::Prepares(&[(1, 4), (2, 2), (3, 3)]),
+        Step::Prepares(&[(1, 3, 1), (2, 2, 1), (3, 2, 1)]),
         Step::Widen(Ok(false)),
         Step::Prepares(&[]),
     ];
@@ -109,35 +109,36 @@ fn three_values_are_tried_at_once(rt: HostRuntime) -> Result<(), Fail> {
     play(&rt, &mut node, &steps)
 }
 
-/// A known instance isn't free, nor one more than 7 past the first unknown one.
+/// A known instance isn't free, so the next prepare begins behind it.
+#[test]
+fn a_span_ends_at_a_known_instance(rt: HostRuntime) -> Result<(), Fail> {
+    let steps = [
+        Step::Chosen(3),
+        Step::Submit(1, 9),
+        Step::Widen(Ok(true)),
+        Step::Widen(Ok(true)),
+        Step::Widen(Ok(false)),
+        Step::Prepares(&[(1, 1, 2), (4, 2, 7)]),
+    ];
+    let mut node = Peer::fresh(rt.alloc(), 3)?;
+    play(&rt, &mut node, &steps)
+}
+
+/// No instance more than 63 past the first unknown one is tried.
 #[test]
 fn a_widening_stays_in_the_window(rt: HostRuntime) -> Result<(), Fail> {
     let steps = [
-        Step::Chosen(2),
-        Step::Submit(1),
-        Step::Submit(2),
-        Step::Submit(3),
-        Step::Submit(4),
-        Step::Submit(5),
-        Step::Submit(6),
-        Step::Submit(7),
-        Step::Submit(8),
-        Step::Submit(9),
-        Step::Widen(Ok(true)),
-        Step::Widen(Ok(true)),
-        Step::Prepares(&[(1, 1), (3, 2)]),
-        Step::Widen(Ok(true)),
-        Step::Widen(Ok(true)),
-        Step::Widen(Ok(true)),
-        Step::Widen(Ok(true)),
+        Step::Submit(1, 64),
+        Step::Tick,
         Step::Widen(Ok(true)),
         Step::Widen(Ok(false)),
-        Step::Prepares(&[(4, 3), (5, 4), (6, 5), (7, 6), (8, 7)]),
+        Step::Prepares(&[(1, 1, 1), (2, 2, 63)]),
+        Step::Chosen(2),
+        Step::Widen(Ok(false)),
         Step::Chosen(1),
         Step::Widen(Ok(true)),
-        Step::Widen(Ok(true)),
         Step::Widen(Ok(false)),
-        Step::Prepares(&[(9, 8), (10, 9)]),
+        Step::Prepares(&[(65, 3, 2)]),
     ];
     let mut node = Peer::fresh(rt.alloc(), 3)?;
     play(&rt, &mut node, &steps)
@@ -149,7 +150,7 @@ fn a_widening_needs_a_round(rt: HostRuntime) -> Result<(), Fail> {
     let steps = [
         Step::Nack(MAX_ROUND),
         Step::Widen(Ok(false)),
-        Step::Submit(1),
+        Step::Submit(1, 1),
         Step::Widen(Err(NodeFault::RoundsUsedUp)),
         Step::Prepares(&[]),
     ];
@@ -163,7 +164,7 @@ fn a_widening_needs_a_disk(rt: HostRuntime) -> Result<(), Fail> {
     let steps = [
         Step::Arm,
         Step::Widen(Ok(false)),
-        Step::Submit(1),
+        Step::Submit(1, 1),
         Step::Widen(Err(NodeFault::Device)),
         Step::Widen(Err(NodeFault::Stopped)),
         Step::Prepares(&[]),

@@ -46,7 +46,7 @@ module _ {X : Type 0} where
   above_with j k None ks i here rest h = rest h
   above_with j k (Some x) ks i here rest h = ⊎_elim (λ (e : k ≡ i). subst (λ (n : ℕ). j < n) e (less j k here)) rest h
 
-  above : (j : ℕ) (es : List (ℕ × Option X)) (i : ℕ) → AllByRecursion (λ y. nat_cmp j y ≡ Less) (keys_of es) → In (open_keys es) i → j < i
+  pub above : (j : ℕ) (es : List (ℕ × Option X)) (i : ℕ) → AllByRecursion (λ y. nat_cmp j y ≡ Less) (keys_of es) → In (open_keys es) i → j < i
   above j [] i all h = absurd h
   above j (e ∷ es) i all h = above_with j e.0 e.1 (open_keys es) i all.0 (above j es i all.1) h
 
@@ -60,10 +60,10 @@ module _ {X : Type 0} where
       let up : (i : ℕ) → In (open_keys es) i → e.0 < i = λ i. above e.0 es i (sorted_head nat_cmp e.0 (keys_of es) sorted) in
       distinct_with e.0 e.1 (open_keys es) up (all_distinct es (sorted_tail nat_cmp e.0 (keys_of es) sorted))
 
-  at_here : (i : ℕ) (e : ℕ × Option X) (es : List (ℕ × Option X)) → i ≡ e.0 → at i (e ∷ es) ≡ e.1
+  pub at_here : (i : ℕ) (e : ℕ × Option X) (es : List (ℕ × Option X)) → i ≡ e.0 → at i (e ∷ es) ≡ e.1
   at_here i e es same = ap (λ (o : Option (Option X)). unwrap_or o None) (lookup_head (is_at (nat_cmp i)) e es (grind (arith, nat_tests)))
 
-  at_rest : (i : ℕ) (e : ℕ × Option X) (es : List (ℕ × Option X)) → i ≢ e.0 → at i (e ∷ es) ≡ at i es
+  pub at_rest : (i : ℕ) (e : ℕ × Option X) (es : List (ℕ × Option X)) → i ≢ e.0 → at i (e ∷ es) ≡ at i es
   at_rest i e es other = ap (λ (o : Option (Option X)). unwrap_or o None) (lookup_tail (is_at (nat_cmp i)) e es (grind (arith, nat_tests)))
 
   here_with : (k : ℕ) (o : Option X) (ks : List ℕ) → ((i : ℕ) → In ks i → k < i) → In (keys_with k o ks) k ↔ IsSome o

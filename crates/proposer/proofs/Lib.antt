@@ -3,3 +3,4 @@ pub mod Answering
 pub mod Taking
 pub mod Examples
 pub mod CountingOpen
+pub mod Trying

@@ -1,4 +1,4 @@
-ghost use Rattle.std.specs.Prelude.{◌≡◌, ◌+◌, ◌<◌, ℕ, max, None, Some, Option, OnOk, OnErr, IfOk, IfErr, MatchResult, length, map};
+ghost use Rattle.std.specs.Prelude.{◌≡◌, ◌↔◌, ◌+◌, ◌<◌, ℕ, max, None, Some, Option, OnOk, OnErr, IfOk, IfErr, IsTrue, MatchResult, length, map};
 ghost use Rattle.std.specs.Option.{option_map};
 ghost use Rattle.site_ids.specs.declared.TheConstants.{MAX_ROUND};
 ghost use Rattle.site_ids.specs.Ids.{IsNode};
@@ -15,6 +15,16 @@ use site_ids::{Ballot, Cluster, Instance, MAX_ROUND, NodeId, Value, Vote};
 use std::alloc::{AllocError, Global};
 use std::collections::BTreeMap;
 use wire::Message;
+
+// An attempt is there, and has the value as its own.
+fn has_own(attempt: &Option<OpenAttempt>, value: &[u8]) -> bool
+    ensures { IsTrue result ↔ ((a : OpenAttempt) × (attempt.now ≡ Some a) × (a.own ≡ value.now)) }
+{
+    match attempt {
+        Some(attempt) => attempt.own.as_bytes() == value,
+        None => false,
+    }
+}
 
 /// A value to propose, at an attempt's instance and ballot.
 #[derive(Debug, Drop)]
@@ -226,6 +236,7 @@ impl Proposer {
                 from: self.me,
                 instance,
                 ballot: attempt.ballot,
+                count: 1,
             }));
         }
         let value = proposed_value(&attempt.own, &attempt.best).try_clone(self.alloc)?;
@@ -258,6 +269,18 @@ impl Proposer {
             Some(Some(attempt)) => Some(&attempt.own),
             _ => None,
         }
+    }
+
+    /// Whether an open attempt has the value as its own.
+    pub fn tries(&self, value: &[u8]) -> bool
+        ensures { (attempts : ℕ → Option Attempt) → Attempting self.now attempts → IsTrue result ↔ ((i : ℕ) × (a : Attempt) × (attempts i ≡ Some a) × (a.own ≡ value.now)) }
+    {
+        for attempt in self.attempts.values() {
+            if has_own(attempt, value) {
+                return true;
+            }
+        }
+        false
     }
 
     /// Closes the attempt at an instance, if one is open.

@@ -6,8 +6,12 @@ use std::test::Fail;
 use wire::{MAX_MESSAGE, Message, WireFault, decode, encode};
 
 /// One spelling of each kind, in a cluster of three.
-const SPELLINGS: [&str; 10] = [
+const SPELLINGS: [&str; 14] = [
     "010102000000010000000102",
+    "02010100000005000000020103",
+    "020103000f423f000000010302",
+    "020103000f4201000000010340",
+    "02010200000001000000010202",
     "01020200000001000000010300",
     "0102020000000100000001030100000001010000001400000001000000000000000572656c656173650a",
     "01030100000102000000010100000000",
@@ -20,7 +24,19 @@ const SPELLINGS: [&str; 10] = [
 ];
 
 /// Bytes that are no message of a cluster of three, each for one reason.
-const MALFORMED: [&str; 22] = [
+const MALFORMED: [&str; 32] = [
+    // A span of none, of one, of sixty-five, and one past the last instance.
+    "02010100000005000000020100",
+    "02010100000005000000020101",
+    "02010100000005000000020141",
+    "020101000f423f000000020103",
+    // A count in version 1, and other kinds in version 2, with a count and without.
+    "01010100000005000000020103",
+    "0202020000000100000001030002",
+    "02020200000001000000010300",
+    "0205030000000100000001010000000202",
+    "02060300000002",
+    "03010100000005000000020103",
     // Another version, another kind.
     "000102000000010000000102",
     "020102000000010000000102",
@@ -124,10 +140,16 @@ fn a_prepare_by_its_fields(rt: HostRuntime) -> Result<(), Fail> {
     let message = decode(alloc, &bytes, three()?)?;
     assert_eq!(rt; message.from(), node(2)?);
     assert_eq!(rt; message.instance().number(), 1);
-    let Message::Prepare { ballot: found, .. } = message else {
+    let Message::Prepare {
+        ballot: found,
+        count,
+        ..
+    } = message
+    else {
         return Err(Fail::from("another kind"));
     };
     assert_eq!(rt; found, ballot(1, 2)?);
+    assert_eq!(rt; count, 1);
     Ok(())
 }
 

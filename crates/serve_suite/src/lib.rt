@@ -3,6 +3,8 @@
 #![tactic(auto)]
 
 #[cfg(test)]
+mod behind_turns;
+#[cfg(test)]
 mod cuts;
 #[cfg(test)]
 mod desk;

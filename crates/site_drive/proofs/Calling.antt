@@ -9,6 +9,7 @@ use Rattle.node.specs.declared.fault.NodeFault.{NodeFault}
 use Rattle.node.specs.declared.fault.NodeFault.TheVariants as fault
 use Rattle.node.specs.declared.to.To.{To}
 use Rattle.node.specs.declared.running.Node.{Node as Running}
+use Rattle.node.proofs.Windows.{begins_may}
 use Rattle.node.specs.Nodes.{Node, WantsTick}
 use Rattle.node.specs.Calls.{Call, tick, widen, ask, Begins, MayWiden}
 use Rattle.node.specs.Effects.{Effect, quiet}
@@ -16,7 +17,7 @@ use Rattle.node.specs.Endings.{Ending, Whole, Ends}
 use Rattle.node.specs.Standing.{IsNodeOf, IsEvent, KeepsOthers, ending_by}
 use Rattle.site_drive.specs.Drives.{Begin}
 use Rattle.site_drive.specs.Leading.{NodeLeads, Called}
-use Rattle.site_drive.specs.declared.last_call.LastCall.TheVariants.{TickOrAsk, Widen, Ask}
+use Rattle.site_drive.specs.declared.last_call.LastCall.TheVariants.{TickOrAsk, Widen, Ask, Nothing}
 
 -- what is handed out fits
 abbrev pub AllFit : List (To × Message) → Type 0
@@ -37,7 +38,7 @@ Widening n p before after s next = (count : ℕ) × (out : List (To × Message))
 pub quiet_out : (n p : ℕ) (s next : Node) (out : List (To × Message)) → ¬ MayWiden s → Ends n p s widen Whole out next → out ≡ []
 quiet_out n p s next out none how =
     ⊎_elim
-    (λ (x : Begins p s how.effect). absurd (none ((x.instance, x.free), (x.value, x.next))))
+    (λ (x : Begins p s how.effect). absurd (none (begins_may p s how.effect x)))
     (λ (x : (¬ MayWiden s) × (how.effect ≡ quiet s)). how.handed_out ∙ ap (λ (e : Effect). e.out) x.1)
     how.does
 
@@ -65,6 +66,10 @@ module _ {D : Type 0} (stands_for : D → DiskState → Type 0) where
 
   pub none_begun : (old : Running D) (n p : ℕ) (before : List (To × Message)) → NodeLeads stands_for old old (Widening n p before before)
   none_begun old n p before = record { leads = λ s stands. (s, (0, [], sym (append-nil before), (refl, refl), λ x k. absurd k), stands, λ d on. (d, on)) }
+
+  -- behind turns that nothing is called behind
+  pub none_called : (old : Running D) (n p : ℕ) (before : List (To × Message)) → NodeLeads stands_for old old (Called Nothing n p Whole before before)
+  none_called old n p before = record { leads = λ s stands. (s, ([], sym (append-nil before), (refl, refl, refl), λ x k. absurd k), stands, λ d on. (d, on)) }
 
   -- ---- this and then that, of one node
 

@@ -12,7 +12,7 @@ use Rattle.node.specs.Calls.{tick, widen, ask, deliver, MayWiden}
 use Rattle.node.specs.Endings.{Ending, Whole, Refused, Ends}
 use Rattle.node.specs.Standing.{ending_by}
 use Rattle.site_drive.specs.declared.last_call.LastCall.{LastCall}
-use Rattle.site_drive.specs.declared.last_call.LastCall.TheVariants.{TickOrAsk, Widen, Ask}
+use Rattle.site_drive.specs.declared.last_call.LastCall.TheVariants.{TickOrAsk, Widen, Ask, Nothing}
 
 -- ---- turns
 
@@ -105,11 +105,12 @@ TicksOrAsks n p s ending out next =
     (WantsTick s × (((ending ≢ Whole) × Ends n p s tick ending out next) ⊎ TicksAndWidens n p s ending out next))
     ⊎ ((¬ WantsTick s) × Ends n p s ask ending out next)
 
--- the calls behind the last turn end so
+-- the calls behind the last turn end so, where there is one
 abbrev pub EndsLast : LastCall → ℕ → ℕ → Node → Ending → List (To × Message) → Node → Type 0
 EndsLast TickOrAsk n p s ending out next = TicksOrAsks n p s ending out next
 EndsLast Widen n p s ending out next = Widens n p s ending out next
 EndsLast Ask n p s ending out next = Ends n p s ask ending out next
+EndsLast Nothing n p s ending out next = (ending ≡ Whole) × (out ≡ []) × (next ≡ s)
 
 -- they are whole, or passed over, as every instance is known
 abbrev pub EndsTurns : LastCall → ℕ → ℕ → Node → List (To × Message) → Node → Type 0

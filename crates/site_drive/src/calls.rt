@@ -52,6 +52,7 @@ impl Desk {
             LastCall::TickOrAsk => self.tick_or_ask(node),
             LastCall::Widen => self.widen_all(node),
             LastCall::Ask => node.ask(&mut self.outbox),
+            LastCall::Nothing => Ok(()),
         }
     }
 

@@ -7,4 +7,6 @@ pub enum LastCall {
     Widen,
     /// A question, whether a tick is wanted or not.
     Ask,
+    /// None.
+    Nothing,
 }

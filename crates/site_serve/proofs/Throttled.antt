@@ -1,11 +1,13 @@
 -- What a throttled link's sends keep.
-use Rattle.std.proofs.Common.{◌≡◌, inl, inr, ℕ, ◌%◌, true, false, Option, Some, None, List, [], ◌∷◌, ◌++◌, refl, sym, ap, subst, ◌∙◌, append-nil, append_assoc, replicate}
-use Rattle.std.proofs.lemmas.List.Elements.{All-weaker, All-set, All-replicate}
+use Rattle.std.proofs.Common.{◌≡◌, inl, inr, ℕ, zero, suc, ◌*◌, true, false, Option, Some, None, List, [], ◌∷◌, ◌++◌, refl, sym, ap, subst, ◌∙◌, append-nil, append_assoc, replicate}
+use Rattle.std.proofs.lemmas.List.Elements.{All-weaker, All-set, All-replicate, All-head, All-tail}
 use Rattle.std.specs.List.{All}
-use Rattle.std.specs.Option.{IfSome, IsSomeAnd}
+use Rattle.std.specs.Prelude.{slice_get}
+use Rattle.std.specs.Option.{IfSome}
 use Rattle.std.specs.declared.time.Instant.{Instant}
+use Rattle.proposer.specs.declared.TheConstants.{MAX_ATTEMPTS}
 use Rattle.site_ids.proofs.MemberLemmas.{in_left, in_last}
-use Rattle.site_serve.specs.Throttling.{IsAttemptMessage, IsLately, WentLately, noted, HoldsBack, WentTo, GoesOut, Throttles}
+use Rattle.site_serve.specs.Throttling.{IsAttemptMessage, WentLately, place_of, noted, HoldsBack, WentTo, GoesOut, Throttles}
 use Rattle.site_serve.specs.declared.attempt_message.AttemptMessage.{AttemptMessage}
 use Rattle.site_serve.specs.declared.lately.Lately.{Lately}
 use Rattle.site_serve.specs.declared.lately.Sent.{Sent}
@@ -37,23 +39,27 @@ all_still : (out : List (ℕ × List ℕ)) (x : ℕ × List ℕ) (sent : List (O
 all_still out x sent went = All-weaker (Went out) (Went (out ++ x ∷ [])) (still_went out x) sent went
 
 one_more : (out : List (ℕ × List ℕ)) (l : Lately) (s : Sent) (d : List ℕ) → IsAttemptMessage d s.message → All (Went out) l.sent → All (Went (out ++ (s.to, d) ∷ [])) (noted l s).sent
-one_more out l s d is went = All-set (Went (out ++ (s.to, d) ∷ [])) l.sent (l.next % 144) (Some s) (d, in_last out (s.to, d), is) (all_still out (s.to, d) l.sent went)
+one_more out l s d is went = All-set (Went (out ++ (s.to, d) ∷ [])) l.sent (place_of s.message s.to) (Some s) (d, in_last out (s.to, d), is) (all_still out (s.to, d) l.sent went)
 
-slot_went : (out : List (ℕ × List ℕ)) (m : AttemptMessage) (to : ℕ) (now : Instant) (slot : Option Sent) → IsSomeAnd slot (IsLately m to now) → Went out slot → WentTo out to m
-slot_went out m to now None lately went = absurd lately
-slot_went out m to now (Some s) lately went = subst (λ p. WentTo out p m) lately.node (subst (WentTo out s.to) lately.same went)
+all_get : {X : Type 0} (P : X → Type 0) (xs : List X) (k : ℕ) (x : X) → slice_get xs k ≡ Some x → All P xs → P x
+all_get P [] k x got all = absurd (cc)
+all_get {X} P (y ∷ xs) zero x got all = subst P (same y x got) (All-head P y xs all)
+  where
+    same : (y x : X) → Some y ≡ Some x → y ≡ x
+    same y x e = cc
+all_get P (y ∷ xs) (suc k) x got all = all_get P xs k x got (All-tail P y xs all)
 
 lately_went : (out : List (ℕ × List ℕ)) (l : Lately) (m : AttemptMessage) (to : ℕ) (now : Instant) → WentLately l m to now → All (Went out) l.sent → WentTo out to m
-lately_went out l m to now (k, slot, below, at, lately) went = slot_went out m to now slot lately (subst (Went out) at (went k slot below))
+lately_went out l m to now (s, there, lately) went = subst (λ p. WentTo out p m) lately.node (subst (WentTo out s.to) lately.same (all_get (Went out) l.sent (place_of m to) (Some s) there went))
 
 -- ---- a link at its start
 
-pub at_first : (given : List (ℕ × List ℕ) → Type 0) (l : Lately) → l.sent ≡ replicate 144 None → given [] → Throttles given l []
+pub at_first : (given : List (ℕ × List ℕ) → Type 0) (l : Lately) → l.sent ≡ replicate (18 * MAX_ATTEMPTS) None → given [] → Throttles given l []
 at_first given l none within = record {
   out = [];
   within = within;
   goes = refl;
-  went = subst (All (Went [])) (sym none) (All-replicate (Went []) 144 None tt);
+  went = subst (All (Went [])) (sym none) (All-replicate (Went []) (18 * MAX_ATTEMPTS) None tt);
 }
 
 -- ---- a send

@@ -4,5 +4,6 @@ pub mod Placing
 pub mod Patience
 pub mod Rounds
 pub mod Throttling
+pub mod Turns
 pub mod Running
 pub mod Runs

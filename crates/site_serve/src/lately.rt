@@ -1,14 +1,12 @@
 //! Which prepares and proposals went out lately.
 
-ghost use Rattle.std.specs.Prelude.{◌≡◌, ◌↔◌, IsTrue, replicate};
+ghost use Rattle.std.specs.Prelude.{◌≡◌, ◌↔◌, ◌*◌, IsTrue, replicate};
+ghost use Rattle.proposer.specs.declared.TheConstants.{MAX_ATTEMPTS};
 ghost use Rattle.site_serve.specs.Throttling.{IsLately, WentLately, HoldsBack, noted};
 
-use crate::attempt_message::{AttemptMessage, attempt_message_in};
+use crate::attempt_message::{AttemptMessage, PLACES, attempt_message_in};
 use site_ids::NodeId;
 use std::time::Instant;
-
-/// How many are remembered: two of each of eight attempts, to each of nine nodes.
-const KEPT: usize = 144;
 
 /// For how many milliseconds an equal one is held back.
 const HOLD: u128 = 100;
@@ -31,20 +29,18 @@ impl Sent {
     }
 }
 
-/// Those that went out last: a ring, in which the next one takes the place of the oldest.
+/// The one that went out last at each place.
 #[derive(Drop)]
 pub(crate) struct Lately {
-    sent: [Option<Sent>; KEPT],
-    next: usize,
+    sent: [Option<Sent>; PLACES],
 }
 
 impl Lately {
     pub(crate) fn new() -> Lately
-        ensures { result.sent ≡ replicate 144 None }
+        ensures { result.sent ≡ replicate (18 * MAX_ATTEMPTS) None }
     {
         Lately {
-            sent: [None; KEPT],
-            next: 0,
+            sent: [None; PLACES],
         }
     }
 
@@ -52,16 +48,18 @@ impl Lately {
     fn has(&self, message: AttemptMessage, to: NodeId, now: Instant) -> bool
         ensures { IsTrue result ↔ WentLately self.now message to now }
     {
-        self.sent.iter().any(|slot| slot.is_some_and(|sent| sent.is_lately(message, to, now)))
+        match self.sent[message.place(to)] {
+            Some(sent) => sent.is_lately(message, to, now),
+            None => false,
+        }
     }
 
-    /// It takes the place of the oldest.
+    /// It takes the place of the one that stood there.
     fn note(&mut self, sent: Sent)
         ensures { self.new ≡ noted self.old sent }
     {
-        let oldest = self.next % KEPT;
-        self.sent[oldest] = Some(sent);
-        self.next = oldest + 1;
+        let place = sent.message.place(sent.to);
+        self.sent[place] = Some(sent);
     }
 
     /// Whether a datagram is held back at this time: it is a prepare or a proposal, and an equal one went to that node lately. Else it is noted, where it is one.

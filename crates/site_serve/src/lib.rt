@@ -7,6 +7,7 @@ mod calm;
 mod client;
 mod connections;
 mod door;
+mod due;
 mod engine;
 mod halt;
 mod lately;
@@ -25,6 +26,7 @@ mod throttled_link;
 mod watch;
 
 pub use connections::{answer_connection, limit_waiting};
+pub use due::Due;
 pub use engine::sited;
 pub use http_read::Counted;
 pub use requests::serve_requests;

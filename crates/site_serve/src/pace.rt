@@ -1,5 +1,6 @@
 //! When a patient server tries again, when it asks, and how long it rests.
 
+use crate::due::Due;
 use site_drive::LastCall;
 use std::rt::Clock;
 use std::thread;
@@ -126,19 +127,28 @@ impl Pace {
         self.since = Instant::now(clock).ok();
     }
 
-    /// A tick at once for a value that nobody tries; else a question or a tick where it is due, which begins now, and else widenings.
-    pub(crate) fn due<C: Clock>(&mut self, clock: &C, answered: bool, wanted: bool) -> LastCall {
-        if self.fresh {
-            LastCall::TickOrAsk
-        } else if self.asks_now(clock, answered) {
+    /// What is called behind a turn, the first of a round or a later one. A question or a tick that is due begins by that.
+    pub(crate) fn due<C: Clock>(
+        &mut self,
+        clock: &C,
+        answered: bool,
+        wanted: bool,
+        first: bool,
+    ) -> LastCall {
+        let due = Due {
+            fresh: self.fresh,
+            question: self.asks_now(clock, answered),
+            tick: self.ticks_now(clock, wanted),
+            first,
+        };
+        let last = due.last_call();
+        if last == LastCall::Ask {
             self.begin_question(clock);
-            LastCall::Ask
-        } else if self.ticks_now(clock, wanted) {
-            self.begin_tick(clock);
-            LastCall::TickOrAsk
-        } else {
-            LastCall::Widen
         }
+        if last == LastCall::TickOrAsk && !self.fresh {
+            self.begin_tick(clock);
+        }
+        last
     }
 
     /// Rests behind a round in which nothing came: no datagram and no client.

@@ -24,13 +24,14 @@ const TURNS: u32 = 257;
 /// How many connections it serves at most.
 const CONNECTIONS: u32 = 16;
 
-/// One turn, and then the call that is due.
+/// One turn, the first of a round or a later one, and then the call that is due.
 fn take_turn<D: Disk, C: Clock>(
     clock: &C,
     desk: &mut Desk,
     served: &mut Served<D>,
     link: &mut PatientLink,
     pace: &mut Pace,
+    first: bool,
 ) -> Result<(), Halt>
     ensures ok { OnOk result (LeadsTo D.stands_for ⟦<PatientLink as Link>⟧.received ⟦<PatientLink as Link>⟧.given served.old.node served.new.node link.old link.new (TakesTurn served.old.node.cluster served.old.node.me served.new.node.releases)) }
     ensures fault { IfErr result (λ why. LeadsTo D.stands_for ⟦<PatientLink as Link>⟧.received ⟦<PatientLink as Link>⟧.given served.old.node served.new.node link.old link.new (BreaksTurn served.old.node.cluster served.old.node.me why)) }
@@ -40,7 +41,7 @@ fn take_turn<D: Disk, C: Clock>(
 {
     let wanted = served.node.wants_tick();
     pace.note(clock, served.node.known(), wanted, link.stirs());
-    let last = pace.due(clock, link.answered(), wanted);
+    let last = pace.due(clock, link.answered(), wanted, first);
     desk.drive_with(&mut served.node, link, 1, last)?;
     Ok(())
 }
@@ -63,7 +64,7 @@ fn take_turns<D: Disk, C: Clock>(
     let mut turns = 0;
     let mut more = true;
     while more && turns < TURNS {
-        take_turn(clock, desk, served, link, pace)?;
+        take_turn(clock, desk, served, link, pace, turns == 0)?;
         more = link.came();
         turns += 1;
     }

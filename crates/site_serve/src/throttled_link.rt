@@ -1,6 +1,7 @@
 //! A link that sends no prepare and no proposal again at once.
 
-ghost use Rattle.std.specs.Prelude.{◌≡◌, [], replicate};
+ghost use Rattle.std.specs.Prelude.{◌≡◌, ◌*◌, [], replicate};
+ghost use Rattle.proposer.specs.declared.TheConstants.{MAX_ATTEMPTS};
 ghost use Rattle.site_serve.specs.Throttling.{Throttles};
 
 use crate::lately::Lately;
@@ -20,7 +21,7 @@ pub(crate) struct ThrottledLink<'c, L, C> {
 impl<'c, L: Link, C: Clock> ThrottledLink<'c, L, C> {
     /// It was given nothing yet.
     pub(crate) fn new(link: L, clock: &'c C) -> ThrottledLink<'c, L, C>
-        ensures value { (result.link ≡ link) × (result.lately.sent ≡ replicate 144 None) }
+        ensures value { (result.link ≡ link) × (result.lately.sent ≡ replicate (18 * MAX_ATTEMPTS) None) }
         ensures given { L.given link [] → Throttles (L.given link) result.lately [] }
     {
         ThrottledLink {

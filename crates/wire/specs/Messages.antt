@@ -3,11 +3,12 @@ use Rattle.std.specs.Prelude.{ℕ, ◌≤◌, length, ⊤}
 use Rattle.std.specs.Option.{IfSome}
 use Rattle.site_ids.specs.declared.TheConstants.{MAX_VALUE}
 use Rattle.site_ids.specs.Ids.{IsNode, IsInstance, IsBallot}
+use Rattle.site_ids.specs.Spans.{IsSpan}
 use Rattle.wire.specs.declared.message.Message.{Message}
 use Rattle.wire.specs.declared.message.Message.TheVariants.{Prepare, Promise, Propose, Accepted, Nack, Ask, Chosen}
 
 abbrev pub sender_of : Message → ℕ
-sender_of (Prepare q i b) = q
+sender_of (Prepare q i b k) = q
 sender_of (Promise q i b prior) = q
 sender_of (Propose q i b v) = q
 sender_of (Accepted q i b v) = q
@@ -16,7 +17,7 @@ sender_of (Ask q i) = q
 sender_of (Chosen q i v) = q
 
 abbrev pub instance_of : Message → ℕ
-instance_of (Prepare q i b) = i
+instance_of (Prepare q i b k) = i
 instance_of (Promise q i b prior) = i
 instance_of (Propose q i b v) = i
 instance_of (Accepted q i b v) = i
@@ -26,7 +27,7 @@ instance_of (Chosen q i v) = i
 
 -- kinds are numbered in this order
 abbrev pub kind_of : Message → ℕ
-kind_of (Prepare q i b) = 1
+kind_of (Prepare q i b k) = 1
 kind_of (Promise q i b prior) = 2
 kind_of (Propose q i b v) = 3
 kind_of (Accepted q i b v) = 4
@@ -34,9 +35,9 @@ kind_of (Nack q i b c) = 5
 kind_of (Ask q i) = 6
 kind_of (Chosen q i v) = 7
 
--- each value has at most 32,768 bytes
+-- each value has at most 32,768 bytes, and a prepare's span is one
 abbrev pub Fits : Message → Type 0
-Fits (Prepare q i b) = ⊤
+Fits (Prepare q i b k) = IsSpan i k
 Fits (Promise q i b prior) = IfSome prior (λ vote. length vote.value ≤ MAX_VALUE)
 Fits (Propose q i b v) = length v ≤ MAX_VALUE
 Fits (Accepted q i b v) = length v ≤ MAX_VALUE
@@ -46,7 +47,7 @@ Fits (Chosen q i v) = length v ≤ MAX_VALUE
 
 -- each ballot has its round in range, and one of the n nodes
 abbrev pub HasBallots : ℕ → Message → Type 0
-HasBallots n (Prepare q i b) = IsBallot n b
+HasBallots n (Prepare q i b k) = IsBallot n b
 HasBallots n (Promise q i b prior) = IsBallot n b × IfSome prior (λ vote. IsBallot n vote.ballot)
 HasBallots n (Propose q i b v) = IsBallot n b
 HasBallots n (Accepted q i b v) = IsBallot n b

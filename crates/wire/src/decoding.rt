@@ -21,39 +21,40 @@ pub(crate) struct Head {
 pub fn decode(alloc: Global, bytes: &[u8], cluster: Cluster) -> Result<Message, WireFault>
     ensures { Decodes cluster bytes.now result }
 {
-    let Some((kind, head, fields)) = head_at(cluster, bytes) else {
+    let Some((version, kind, head, fields)) = head_at(cluster, bytes) else {
         return Err(WireFault::Malformed);
     };
-    match kind {
-        1 => prepare(cluster, head, fields),
-        2 => promise(alloc, cluster, head, fields),
-        3 => propose(alloc, cluster, head, fields),
-        4 => accepted(alloc, cluster, head, fields),
-        5 => nack(cluster, head, fields),
-        6 => ask(cluster, head, fields),
-        7 => chosen(alloc, cluster, head, fields),
+    match (version, kind) {
+        (1, 1) => prepare(cluster, head, fields),
+        (1, 2) => promise(alloc, cluster, head, fields),
+        (1, 3) => propose(alloc, cluster, head, fields),
+        (1, 4) => accepted(alloc, cluster, head, fields),
+        (1, 5) => nack(cluster, head, fields),
+        (1, 6) => ask(cluster, head, fields),
+        (1, 7) => chosen(alloc, cluster, head, fields),
+        (2, 1) => prepare_span(cluster, head, fields),
         _ => Err(WireFault::Malformed),
     }
 }
 
-// The kind and the head at the front of a datagram of version 1, and its fields.
-fn head_at(cluster: Cluster, bytes: &[u8]) -> Option<(u8, Head, &[u8])>
-    ensures found { IfSome result (λ r. IsHead cluster r.1 × (bytes.now ≡ datagram r.0 r.1 r.2.now)) }
+// The version, the kind and the head at the front of a datagram, and its fields.
+fn head_at(cluster: Cluster, bytes: &[u8]) -> Option<(u8, u8, Head, &[u8])>
+    ensures found { IfSome result (λ r. IsHead cluster r.2 × (bytes.now ≡ datagram r.0 r.1 r.2 r.3.now)) }
     ensures none { IfNone result ((m : Message) → ¬ Spells cluster bytes.now m) }
 {
-    let [1, kind, from, rest @ ..] = bytes else {
+    let [version, kind, from, rest @ ..] = bytes else {
         return None;
     };
     let from = cluster.node(*from)?;
     let Some((instance, fields)) = instance_at(rest) else {
         return None;
     };
-    Some((*kind, Head { from, instance }, fields))
+    Some((*version, *kind, Head { from, instance }, fields))
 }
 
 fn prepare(cluster: Cluster, head: Head, fields: &[u8]) -> Result<Message, WireFault>
     requires { IsHead cluster head }
-    ensures { Decodes cluster (datagram 1 head fields.now) result }
+    ensures { Decodes cluster (datagram 1 1 head fields.now) result }
 {
     let Head { from, instance } = head;
     match ballot_in(cluster, fields) {
@@ -61,14 +62,35 @@ fn prepare(cluster: Cluster, head: Head, fields: &[u8]) -> Result<Message, WireF
             from,
             instance,
             ballot,
+            count: 1,
         }),
         None => Err(WireFault::Malformed),
     }
 }
 
+// One of two instances or more.
+fn prepare_span(cluster: Cluster, head: Head, fields: &[u8]) -> Result<Message, WireFault>
+    requires { IsHead cluster head }
+    ensures { Decodes cluster (datagram 2 1 head fields.now) result }
+{
+    let Head { from, instance } = head;
+    let Some((ballot, count)) = ballot_at(cluster, fields) else {
+        return Err(WireFault::Malformed);
+    };
+    match count {
+        [count] if 2 <= *count && instance.begins_span(*count) => Ok(Message::Prepare {
+            from,
+            instance,
+            ballot,
+            count: *count,
+        }),
+        _ => Err(WireFault::Malformed),
+    }
+}
+
 fn promise(alloc: Global, cluster: Cluster, head: Head, fields: &[u8]) -> Result<Message, WireFault>
     requires { IsHead cluster head }
-    ensures { Decodes cluster (datagram 2 head fields.now) result }
+    ensures { Decodes cluster (datagram 1 2 head fields.now) result }
 {
     let Head { from, instance } = head;
     let Some((ballot, mark)) = ballot_at(cluster, fields) else {
@@ -95,7 +117,7 @@ fn promise_with_prior(
 ) -> Result<Message, WireFault>
     requires head { IsHead cluster head }
     requires ballot { IsBallot cluster ballot }
-    ensures { Decodes cluster (datagram 2 head (ballot_bytes ballot ++ 1 ∷ vote.now)) result }
+    ensures { Decodes cluster (datagram 1 2 head (ballot_bytes ballot ++ 1 ∷ vote.now)) result }
 {
     let Head { from, instance } = head;
     let Some((voted, value)) = vote_in(cluster, vote) else {
@@ -116,7 +138,7 @@ fn promise_with_prior(
 
 fn propose(alloc: Global, cluster: Cluster, head: Head, fields: &[u8]) -> Result<Message, WireFault>
     requires { IsHead cluster head }
-    ensures { Decodes cluster (datagram 3 head fields.now) result }
+    ensures { Decodes cluster (datagram 1 3 head fields.now) result }
 {
     let Head { from, instance } = head;
     let Some((ballot, value)) = vote_in(cluster, fields) else {
@@ -138,7 +160,7 @@ fn accepted(
     fields: &[u8],
 ) -> Result<Message, WireFault>
     requires { IsHead cluster head }
-    ensures { Decodes cluster (datagram 4 head fields.now) result }
+    ensures { Decodes cluster (datagram 1 4 head fields.now) result }
 {
     let Head { from, instance } = head;
     let Some((ballot, value)) = vote_in(cluster, fields) else {
@@ -155,7 +177,7 @@ fn accepted(
 
 fn nack(cluster: Cluster, head: Head, fields: &[u8]) -> Result<Message, WireFault>
     requires { IsHead cluster head }
-    ensures { Decodes cluster (datagram 5 head fields.now) result }
+    ensures { Decodes cluster (datagram 1 5 head fields.now) result }
 {
     let Head { from, instance } = head;
     let Some((asked, rest)) = ballot_at(cluster, fields) else {
@@ -174,7 +196,7 @@ fn nack(cluster: Cluster, head: Head, fields: &[u8]) -> Result<Message, WireFaul
 
 fn ask(cluster: Cluster, head: Head, fields: &[u8]) -> Result<Message, WireFault>
     requires { IsHead cluster head }
-    ensures { Decodes cluster (datagram 6 head fields.now) result }
+    ensures { Decodes cluster (datagram 1 6 head fields.now) result }
 {
     let Head { from, instance } = head;
     if fields.is_empty() {
@@ -186,7 +208,7 @@ fn ask(cluster: Cluster, head: Head, fields: &[u8]) -> Result<Message, WireFault
 
 fn chosen(alloc: Global, cluster: Cluster, head: Head, fields: &[u8]) -> Result<Message, WireFault>
     requires { IsHead cluster head }
-    ensures { Decodes cluster (datagram 7 head fields.now) result }
+    ensures { Decodes cluster (datagram 1 7 head fields.now) result }
 {
     let Head { from, instance } = head;
     let Some(value) = value_in(fields) else {

@@ -1,15 +1,18 @@
 ghost use Rattle.std.specs.Prelude.{◌≡◌, ◌↔◌, IsTrue};
 ghost use Rattle.wire.specs.Messages.{sender_of, instance_of, kind_of, Fits};
+ghost use Rattle.wire.specs.Spelling.{version_of};
 
 use site_ids::{Ballot, Instance, MAX_VALUE, NodeId, Value, Vote};
 
-/// What one node tells others about one instance.
+/// What one node tells others about one instance, or asks about a span of them.
 #[derive(Debug, Drop)]
 pub enum Message {
+    /// Asks for the promise of a ballot at each of so many instances, from one on.
     Prepare {
         from: NodeId,
         instance: Instance,
         ballot: Ballot,
+        count: u8,
     },
     Promise {
         from: NodeId,
@@ -78,6 +81,16 @@ impl Message {
         }
     }
 
+    /// The version of its spelling.
+    pub(crate) fn version(&self) -> u8
+        ensures { result ≡ version_of self.now }
+    {
+        match self {
+            Message::Prepare { count, .. } if *count != 1 => 2,
+            _ => 1,
+        }
+    }
+
     /// The number of its kind in a datagram.
     pub(crate) fn kind(&self) -> u8
         ensures { result ≡ kind_of self.now }
@@ -93,12 +106,17 @@ impl Message {
         }
     }
 
-    /// Whether its value, if it has one, is within the limit.
+    /// Whether its value, if it has one, is within the limit, and its span, if it has one, is one.
     pub fn fits(&self) -> bool
         ensures { IsTrue result ↔ Fits self.now }
     {
         match self {
-            Message::Prepare { .. } | Message::Nack { .. } | Message::Ask { .. } => true,
+            Message::Prepare {
+                instance,
+                count,
+                ..
+            } => instance.begins_span(*count),
+            Message::Nack { .. } | Message::Ask { .. } => true,
             Message::Promise { prior: None, .. } => true,
             Message::Promise {
                 prior: Some(vote),

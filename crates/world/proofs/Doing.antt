@@ -1,15 +1,16 @@
 -- What each call does at a node by tables, computed, and that it does so.
-use Rattle.std.proofs.Common.{◌≡◌, ◌≢◌, ◌⊎◌, inl, inr, ℕ, zero, suc, ◌+◌, ◌<◌, ◌≤◌, ◌^◌, max, true, false, not, Option, Some, None, Result, Ok, Err, List, [], ◌∷◌, ◌++◌, filter, length, refl, sym, ap, subst, ⊎_elim, arith, ◌∙◌}
+use Rattle.std.proofs.Common.{◌≡◌, ◌≢◌, ◌⊎◌, inl, inr, ℕ, zero, suc, ◌+◌, ◌<◌, ◌≤◌, ◌^◌, max, true, false, not, Option, Some, None, Result, Ok, Err, List, [], ◌∷◌, ◌++◌, filter, length, length-append, append_assoc, refl, sym, ap, subst, ⊎_elim, arith, ◌∙◌}
 use Rattle.std.specs.Prelude.{nat_eq}
 use Rattle.site_ids.specs.declared.TheConstants.{MAX_INSTANCE}
 use Rattle.site_ids.specs.Ids.{BallotOf, Below, NotAbove, IsInstance}
 use Rattle.site_ids.specs.Lists.{In, put_at}
+use Rattle.site_ids.specs.Spans.{IsInSpan}
 use Rattle.site_ids.specs.declared.value.Vote.{Vote}
 use Rattle.wire.specs.declared.message.Message.{Message}
 use Rattle.wire.specs.declared.message.Message.TheVariants.{Prepare, Promise, Propose, Accepted, Nack, Ask, Chosen}
 use Rattle.durable.specs.Entries.{Round, last_round}
 use Rattle.proposer.specs.declared.TheConstants.{MAX_ATTEMPTS}
-use Rattle.proposer.specs.Attempts.{Answer, Attempt, opened as opened_attempt, waiting, proposing, senders, with_answer, Counts, ToldNone, Highest, Chooses}
+use Rattle.proposer.specs.Attempts.{Answer, Attempt, opened as opened_attempt, opened_span, waiting, proposing, senders, with_answer, Counts, ToldNone, Highest, Chooses}
 use Rattle.learner.specs.ToldVotes.{ToldVote, told_vote}
 use Rattle.command.specs.Action.{Order}
 use Rattle.command.specs.Reading.{value_reading}
@@ -18,8 +19,8 @@ use Rattle.node.specs.declared.to.To.TheVariants.{One, All}
 use Rattle.node.specs.Nodes.{Value, IsFirstUnknown}
 use Rattle.node.specs.Tickets.{IsHeld, has_same_ticket}
 use Rattle.node.specs.Deliveries.{reached_by, OnPromise, OnAccepted, OnAsk, OnChosen, ByKind}
-use Rattle.node.specs.Calls.{Call, submit, tick, widen, ask, deliver, oldest, IsFree, IsNextFree, IsTried, IsNextValue, Does}
-use Rattle.node.proofs.Windows.{from_first}
+use Rattle.node.specs.Calls.{Call, submit, tick, widen, ask, deliver, oldest, IsFree, IsNextFree, IsTried, AreUntried, IsNextSpan, Does}
+use Rattle.node.proofs.Windows.{from_first, untried_stays}
 use Rattle.world.proofs.Lists.{put_at_cases}
 use Rattle.world.proofs.Order.{not_above_itself, not_above_trans, below_is_not_above}
 use Rattle.world.proofs.Told.{Told, both, otherwise, numbers, no_more, ballots, ballot_order, values, among, majority, are_many}
@@ -185,7 +186,7 @@ on_chosen t i v = elim (map_of t.known i) as (λ o. map_of t.known i ≡ o → O
 -- ---- a delivery
 
 abbrev pub by_kind : (n p : ℕ) (t : NodeBy) (m : Message) → Option (Done (ByKind n p (node_by t) m))
-by_kind n p t (Prepare q i b) = Some (on_prepare p t i b)
+by_kind n p t (Prepare q i b k) = Some (on_prepare p t i b k)
 by_kind n p t (Promise q i b prior) = Some (on_promise n p t q i b prior)
 by_kind n p t (Propose q i b v) = Some (on_propose p t i b v)
 by_kind n p t (Accepted q i b v) = Some (on_accepted n t q i b v)
@@ -284,7 +285,7 @@ ticked n p t = elim (first_unknown t) [
       | Some alone ↦ Some (record {
         entry = Some (Round (fresh_of p t).round);
         after = record t { attempts = (first.0, Some (opened_attempt (fresh_of p t) (oldest t.pending))) ∷ t.attempts };
-        out = (All, Prepare p first.0 (fresh_of p t)) ∷ [];
+        out = (All, Prepare p first.0 (fresh_of p t) 1) ∷ [];
         does = record {
           instance = first.0;
           elsewhere = [];
@@ -309,6 +310,26 @@ pub past_tried : (t : NodeBy) (j : ℕ) (a : Attempt) → map_of t.attempts j �
 past_tried t j a is from k free =
     let low = from k free in
     ⊎_elim (λ (e : k ≡ j). absurd (no_such a (sym free.untried ∙ subst (λ i. map_of t.attempts i ≡ Some a) (sym e) is))) (λ apart. omega (arith, low, apart)) (numbers k j)
+
+pub only_one : (i j : ℕ) → IsInSpan i 1 j → i ≡ j
+only_one i j within = omega (arith, within.0, within.1)
+
+pub first_near : (i first : ℕ) → i < first + MAX_ATTEMPTS → i + 1 ≤ first + MAX_ATTEMPTS
+first_near i first near = omega (arith, near)
+
+pub longer_some : (values : List Value) (v : Value) → 1 ≤ length (values ++ v ∷ [])
+longer_some values v = omega (arith, length-append values (v ∷ []))
+
+pub longer_near : (a b i : ℕ) (values : List Value) (v : Value) → a ≤ b → a ≢ b → a ≡ i + length values → i + length (values ++ v ∷ []) ≤ b
+longer_near a b i values v near apart is = omega (arith, near, apart, is, length-append values (v ∷ []))
+
+pub longer_free : (t : NodeBy) (i : ℕ) (values : List Value) (v : Value) → ((j : ℕ) → IsInSpan i (length values) j → IsFree (node_by t) j) → IsFree (node_by t) (i + length values)
+    → (j : ℕ) → IsInSpan i (length (values ++ v ∷ [])) j → IsFree (node_by t) j
+longer_free t i values v free further j within = ⊎_elim (λ inside. free j inside) (λ (e : j ≡ i + length values). subst (IsFree (node_by t)) (sym e) further)
+    (by j (length values) (within.0, (let high = within.1 in omega (arith, length-append values (v ∷ []), high))))
+  where
+    by : (j k : ℕ) → (i ≤ j) × (j < i + (k + 1)) → IsInSpan i k j ⊎ (j ≡ i + k)
+    by j k h = grind (arith, h.0, h.1)
 
 abbrev pub free_from : (t : NodeBy) (first : ℕ) → IsFirstUnknown (map_of t.known) first → (fuel j : ℕ) → ((k : ℕ) → IsFree (node_by t) k → j ≤ k) → Option ((i : ℕ) × IsNextFree (node_by t) i)
 free_from t first is zero j from = None
@@ -345,46 +366,84 @@ tried_at xs v (k ∷ ks) = elim (tried_at xs v ks) [
 abbrev pub tried : (t : NodeBy) (v : Value) → Told (IsTried (node_by t) v)
 tried t v = elim (tried_at t.attempts v (keys t.attempts)) [ inl found ↦ inl found | inr none ↦ inr (λ x. none x.0 x.1 (is_key t.attempts x.0 x.1 x.2) x.2 x.3) ]
 
--- the oldest of the values that isn't tried, with those before and behind it
-abbrev pub Untried : NodeBy → List Value → Type 0
-Untried t us = (v : Value) × (older : List Value) × (newer : List Value) × (us ≡ older ++ v ∷ newer) × ((u : Value) → In older u → IsTried (node_by t) u) × ¬ IsTried (node_by t) v
+-- the values that aren't tried
+abbrev pub untried_in : (t : NodeBy) (us : List Value) → (left : List Value) × AreUntried (node_by t) us left
+untried_in t [] = ([], refl)
+untried_in t (u ∷ us) =
+    let rest = untried_in t us in
+    elim (tried t u) [
+      | inl so ↦ (rest.0, inl (so, rest.1))
+      | inr none ↦ (u ∷ rest.0, inr (none, (rest.0, refl, rest.1)))
+    ]
 
-abbrev pub untried_in : (t : NodeBy) (us : List Value) → Option (Untried t us)
-untried_in t [] = None
-untried_in t (u ∷ us) = elim (tried t u) [
-  | inr none ↦ Some (u, [], us, refl, (λ x k. absurd k), none)
-  | inl so ↦ elim (untried_in t us) [
-    | None ↦ None
-    | Some r ↦ Some (r.0, u ∷ r.1, r.2, ap (λ l. u ∷ l) r.3, (λ x k. ⊎_elim (λ (e : u ≡ x). subst (λ y. IsTried (node_by t) y) e so) (λ h. r.4 x h) k), r.5)
+abbrev pub is_free : (t : NodeBy) (j : ℕ) → Told (IsFree (node_by t) j)
+is_free t j = elim (map_of t.known j) as (λ o. map_of t.known j ≡ o → Told (IsFree (node_by t) j)) [
+  | Some v ↦ λ known. inr (λ free. no_such v (sym free.unknown ∙ known))
+  | None ↦ λ unknown. elim (map_of t.attempts j) as (λ o. map_of t.attempts j ≡ o → Told (IsFree (node_by t) j)) [
+    | Some a ↦ λ tries. inr (λ free. no_such a (sym free.untried ∙ tries))
+    | None ↦ λ untried. elim (both (no_more 1 j) (no_more j MAX_INSTANCE)) [
+      | inl h ↦ inl (record { instance = h; unknown = unknown; untried = untried })
+      | inr past ↦ inr (λ free. past free.instance)
+    ]
+  ] refl
+] refl
+
+abbrev pub NextSpan : NodeBy → ℕ → Type 0
+NextSpan t i = (values : List Value) × IsNextSpan (node_by t) i values
+
+-- as many instances as are free, for these values and as many of those left
+abbrev pub grow : (t : NodeBy) (i : ℕ) (start : IsNextFree (node_by t) i) (values left : List Value) → 1 ≤ length values → AreUntried (node_by t) t.pending (values ++ left)
+    → i + length values ≤ start.first + MAX_ATTEMPTS → ((j : ℕ) → IsInSpan i (length values) j → IsFree (node_by t) j) → NextSpan t i
+grow t i start values [] some oldest_ near free = (values, record { start = start; some = some; left = []; oldest = oldest_; near = near; free = free; ends = inl refl })
+grow t i start values (v ∷ left) some oldest_ near free = elim (numbers (i + length values) (start.first + MAX_ATTEMPTS)) [
+  | inl full ↦ (values, record { start = start; some = some; left = v ∷ left; oldest = oldest_; near = near; free = free; ends = inr (inl full) })
+  | inr room ↦ elim (is_free t (i + length values)) [
+    | inr closed ↦ (values, record { start = start; some = some; left = v ∷ left; oldest = oldest_; near = near; free = free; ends = inr (inr closed) })
+    | inl further ↦ grow t i start (values ++ v ∷ []) left (longer_some values v) (subst (λ (l : List Value). AreUntried (node_by t) t.pending l) (sym (append_assoc values (v ∷ []) left)) oldest_)
+        (longer_near (i + length values) (start.first + MAX_ATTEMPTS) i values v near room refl) (longer_free t i values v free further)
   ]
 ]
 
+abbrev pub opened_table : Table Attempt → ℕ → BallotOf → List Value → Table Attempt
+opened_table xs i b [] = xs
+opened_table xs i b (v ∷ vs) = opened_table ((i, Some (opened_attempt b v)) ∷ xs) (suc i) b vs
+
+pub opened_by_table : (xs : Table Attempt) (i : ℕ) (b : BallotOf) (vs : List Value) → map_of (opened_table xs i b vs) ≡ opened_span (map_of xs) i b vs
+opened_by_table xs i b [] = refl
+opened_by_table xs i b (v ∷ vs) = opened_by_table ((i, Some (opened_attempt b v)) ∷ xs) (suc i) b vs
+
+abbrev pub begun : (n p : ℕ) (t : NodeBy) (i : ℕ) → NextSpan t i → suc (suc (max (last_round t.entries) t.heard)) ≤ 2 ^ 32 → Done (Does n p (node_by t) widen)
+begun n p t i next round = record {
+  entry = Some (Round (fresh_of p t).round);
+  after = record t { attempts = opened_table t.attempts i (fresh_of p t) next.0 };
+  out = (All, Prepare p i (fresh_of p t) (length next.0)) ∷ [];
+  does = inl (record {
+    instance = i;
+    values = next.0;
+    span = next.1;
+    round = round;
+    is = λ m. record {
+      entry = Some (Round (fresh_of p t).round);
+      after = record (node_by t) { attempts = opened_by_table t.attempts i (fresh_of p t) next.0 m };
+      out = (All, Prepare p i (fresh_of p t) (length next.0)) ∷ [];
+    };
+  });
+}
+
 abbrev pub widened : (n p : ℕ) (t : NodeBy) → Option (Done (Does n p (node_by t) widen))
-widened n p t = elim (first_unknown t) [
-  | None ↦ None
-  | Some first ↦ elim (free_from t first.0 first.1 MAX_ATTEMPTS first.0 (λ k free. from_first (map_of t.known) first.0 k first.1 free.instance free.unknown)) [
+widened n p t = let u = untried_in t t.pending in elim (u.0) as (λ l. AreUntried (node_by t) t.pending l → Option (Done (Does n p (node_by t) widen))) [
+  | [] ↦ λ none. Some (record { entry = None; after = t; out = []; does = inr ((λ may. untried_stays (node_by t) t.pending [] may.1.0 none may.1.1.0 may.1.1.1), refl) })
+  | v ∷ left ↦ λ are. elim (first_unknown t) [
     | None ↦ None
-    | Some free ↦ elim (untried_in t t.pending) [
+    | Some first ↦ elim (free_from t first.0 first.1 MAX_ATTEMPTS first.0 (λ k free. from_first (map_of t.known) first.0 k first.1 free.instance free.unknown)) [
       | None ↦ None
-      | Some next ↦ elim (no_more (suc (suc (max (last_round t.entries) t.heard))) (2 ^ 32)) [
+      | Some free ↦ elim (no_more (suc (suc (max (last_round t.entries) t.heard))) (2 ^ 32)) [
         | inr used ↦ None
-        | inl round ↦ Some (record {
-          entry = Some (Round (fresh_of p t).round);
-          after = record t { attempts = (free.0, Some (opened_attempt (fresh_of p t) next.0)) ∷ t.attempts };
-          out = (All, Prepare p free.0 (fresh_of p t)) ∷ [];
-          does = inl (record {
-            instance = free.0;
-            value = next.0;
-            free = free.1;
-            next = record { older = next.1; newer = next.2; pending = next.3; tried = next.4; untried = next.5 };
-            round = round;
-            is = refl;
-          });
-        })
+        | inl round ↦ Some (begun n p t free.0 (grow t free.0 free.1 (v ∷ []) left (omega arith) are (first_near free.0 free.1.first free.1.near) (λ j within. subst (IsFree (node_by t)) (only_one free.0 j within) free.1.free)) round)
       ]
     ]
   ]
-]
+] u.1
 
 -- ---- a question
 

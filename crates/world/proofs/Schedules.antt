@@ -7,20 +7,23 @@ use Rattle.site_ids.specs.Ids.{BallotOf}
 use Rattle.site_ids.specs.Lists.{In}
 use Rattle.site_ids.proofs.MemberLemmas.{in_get}
 use Rattle.wire.specs.declared.message.Message.{Message}
-use Rattle.wire.specs.declared.message.Message.TheVariants.{Accepted}
+use Rattle.wire.specs.declared.message.Message.TheVariants.{Accepted, Promise, Nack}
 use Rattle.command.specs.Action.{Order, release}
 use Rattle.command.specs.Effective.{effective}
 use Rattle.command.specs.Reading.{value_reading}
 use Rattle.command.specs.Releases.{release_count}
 use Rattle.command.specs.Written.{value_of}
-use Rattle.node.specs.Nodes.{Value}
+use Rattle.durable.specs.Entries.{Promised, PromisedSpan, Voted}
+use Rattle.node.specs.declared.to.To.TheVariants.{One}
+use Rattle.node.specs.Nodes.{Value, Up}
 use Rattle.world.specs.declared.event.Event.{Event}
 use Rattle.world.specs.declared.event.Event.TheVariants.{Submit, Tick, Ask, Deliver, Arm, Crash, Restart}
 use Rattle.world.specs.Decided.{Decides, Publishes}
-use Rattle.world.specs.Worked.{at, duel, DuelIsTaken, VoteIsKept, VoteIsLost, gap, gap_closes, GapIsWaitedFor, OpeningsAreTaken, last_of_three, LastOfThreeIsKnown, crash_of_three, CrashOfThreeIsTaken}
+use Rattle.world.specs.Worked.{at, duel, DuelIsTaken, VoteIsKept, VoteIsLost, gap, gap_closes, GapIsWaitedFor, OpeningsAreTaken, last_of_three, LastOfThreeIsKnown, crash_of_three, CrashOfThreeIsTaken, higher_span, HigherSpanIsTaken}
 use Rattle.world.specs.Agreement.{SomeSchedulePublishes}
 use Rattle.world.proofs.Told.{IsSo, the_told, majority}
-use Rattle.world.proofs.Tables.{world_by, started}
+use Rattle.world.proofs.Tables.{NodeBy, opened_by, world_by, started}
+use Rattle.world.proofs.DoingVotes.{on_prepare}
 use Rattle.world.proofs.Computing.{Step, as_is, failing, keeping, all_as_is, events_of, run, the, Ran}
 
 -- ---- values
@@ -255,3 +258,47 @@ crash_of_three_is_taken = record {
   takes = ran_crash.1;
   said = refl;
 }
+
+-- ---- a higher span
+
+abbrev in_higher : List Step
+in_higher = all_as_is (higher_span (a_release 1) (a_release 2) (a_release 3) (a_release 4) (a_release 5))
+
+ran_higher : Ran 3 started in_higher
+unfolding is_utf8 chars encode
+ran_higher = the (run 3 started in_higher) tt
+
+pub higher_span_is_taken : HigherSpanIsTaken
+unfolding ran_higher is_utf8 chars encode
+higher_span_is_taken = record {
+  a = a_release 1;
+  b = a_release 2;
+  c = a_release 3;
+  d = a_release 4;
+  e = a_release 5;
+  w = world_by ran_higher.0;
+  takes = ran_higher.1;
+  said = refl;
+  recorded = refl;
+}
+
+-- ---- a span over slots of three kinds
+
+-- instance 5 promised (1, 1), instance 6 promised (3, 2), instance 7 promised (2, 1) and voted there
+abbrev before : NodeBy
+before = record (opened_by Up [] None) { entries = Promised 5 (at 1 1) ∷ Promised 6 (at 3 2) ∷ Promised 7 (at 2 1) ∷ Voted 7 (at 2 1) [] ∷ [] }
+
+-- one entry of the whole span, a promise at 5, a refusal at 6, and nothing at 7
+one_entry : (on_prepare 2 before 5 (at 2 1) 3).entry ≡ Some (PromisedSpan 5 3 (at 2 1))
+one_entry = refl
+
+two_answers : (on_prepare 2 before 5 (at 2 1) 3).out ≡ (One 1, Promise 2 5 (at 2 1) None) ∷ (One 1, Nack 2 6 (at 2 1) (at 3 2)) ∷ []
+two_answers = refl
+
+-- a span of one is one instance's entry
+short_entry : (on_prepare 2 before 5 (at 2 1) 1).entry ≡ Some (Promised 5 (at 2 1))
+short_entry = refl
+
+-- and where nothing rises there is none
+no_entry : (on_prepare 2 before 6 (at 2 1) 2).entry ≡ None
+no_entry = refl

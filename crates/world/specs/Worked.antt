@@ -9,6 +9,7 @@ use Rattle.world.specs.declared.event.Event.{Event}
 use Rattle.world.specs.declared.event.Event.TheVariants.{Submit, Tick, Widen, Ask, Deliver, Arm, Crash, Restart}
 use Rattle.world.specs.Worlds.{World, start}
 use Rattle.world.specs.Taking.{TakesAll}
+use Rattle.durable.specs.Entries.{PromisedSpan, Voted}
 use Rattle.world.specs.Decided.{Decides, Publishes}
 
 abbrev pub at : ℕ → ℕ → BallotOf
@@ -28,8 +29,8 @@ duel a b =
 
 abbrev pub said_in_duel : Value → Value → List Message
 said_in_duel a b =
-    say.Prepare 1 1 (at 1 1)
-    ∷ say.Prepare 2 1 (at 1 2)
+    say.Prepare 1 1 (at 1 1) 1
+    ∷ say.Prepare 2 1 (at 1 2) 1
     ∷ say.Promise 1 1 (at 1 1) None
     ∷ say.Promise 2 1 (at 1 1) None
     ∷ say.Promise 2 1 (at 1 2) None
@@ -41,7 +42,7 @@ said_in_duel a b =
     ∷ say.Propose 2 1 (at 1 2) b
     ∷ say.Accepted 2 1 (at 1 2) b
     ∷ say.Accepted 3 1 (at 1 2) b
-    ∷ say.Prepare 1 2 (at 2 1)
+    ∷ say.Prepare 1 2 (at 2 1) 1
     ∷ []
 
 pub record DuelIsTaken : Type 0 where
@@ -65,7 +66,7 @@ vote_in_flight a choice =
     ∷ Deliver 3 6 ∷ []
 
 abbrev pub said_before_crash : Value → List Message
-said_before_crash a = say.Prepare 1 1 (at 1 1) ∷ say.Promise 1 1 (at 1 1) None ∷ say.Promise 2 1 (at 1 1) None ∷ say.Propose 1 1 (at 1 1) a ∷ []
+said_before_crash a = say.Prepare 1 1 (at 1 1) 1 ∷ say.Promise 1 1 (at 1 1) None ∷ say.Promise 2 1 (at 1 1) None ∷ say.Propose 1 1 (at 1 1) a ∷ []
 
 -- the crash leaves the vote: node 2 tells it, and node 3 proposes its value
 pub record VoteIsKept : Type 0 where
@@ -74,7 +75,7 @@ pub record VoteIsKept : Type 0 where
   pub w : World
   pub takes : TakesAll 3 start (vote_in_flight a 1) w
   pub said : w.sent
-      ≡ said_before_crash a ++ (say.Prepare 3 1 (at 1 3) ∷ say.Promise 2 1 (at 1 3) (Some (vote (at 1 1) a)) ∷ say.Promise 3 1 (at 1 3) None ∷ say.Propose 3 1 (at 1 3) a ∷ [])
+      ≡ said_before_crash a ++ (say.Prepare 3 1 (at 1 3) 1 ∷ say.Promise 2 1 (at 1 3) (Some (vote (at 1 1) a)) ∷ say.Promise 3 1 (at 1 3) None ∷ say.Propose 3 1 (at 1 3) a ∷ [])
 
 -- it leaves none: nobody voted, and node 3 proposes the no-op
 pub record VoteIsLost : Type 0 where
@@ -82,7 +83,7 @@ pub record VoteIsLost : Type 0 where
   pub some : a ≢ []
   pub w : World
   pub takes : TakesAll 3 start (vote_in_flight a 7) w
-  pub said : w.sent ≡ said_before_crash a ++ (say.Prepare 3 1 (at 1 3) ∷ say.Promise 2 1 (at 1 3) None ∷ say.Promise 3 1 (at 1 3) None ∷ say.Propose 3 1 (at 1 3) [] ∷ [])
+  pub said : w.sent ≡ said_before_crash a ++ (say.Prepare 3 1 (at 1 3) 1 ∷ say.Promise 2 1 (at 1 3) None ∷ say.Promise 3 1 (at 1 3) None ∷ say.Propose 3 1 (at 1 3) [] ∷ [])
 
 -- ---- a release over a gap
 
@@ -125,12 +126,12 @@ openings a =
 
 abbrev pub said_over_openings : Value → List Message
 said_over_openings a =
-    say.Prepare 1 1 (at 1 1)
+    say.Prepare 1 1 (at 1 1) 1
     ∷ say.Promise 1 1 (at 1 1) None
     ∷ say.Promise 2 1 (at 1 1) None
     ∷ say.Propose 1 1 (at 1 1) a
     ∷ say.Accepted 1 1 (at 1 1) a
-    ∷ say.Prepare 3 1 (at 1 3)
+    ∷ say.Prepare 3 1 (at 1 3) 1
     ∷ say.Promise 1 1 (at 1 3) (Some (vote (at 1 1) a))
     ∷ say.Promise 3 1 (at 1 3) None
     ∷ say.Nack 3 1 (at 1 1) (at 1 3)
@@ -155,13 +156,17 @@ pub record OpeningsAreTaken : Type 0 where
 abbrev pub three_begun : Value → Value → Value → List Event
 three_begun a b c = Submit 1 a ∷ Submit 1 b ∷ Submit 1 c ∷ Tick 1 ∷ Widen 1 ∷ Widen 1 ∷ []
 
--- a round for each of the three
+-- a round for the first, and one for the span of the other two: then nothing is left to widen for
 abbrev pub said_by_three : List Message
-said_by_three = say.Prepare 1 1 (at 1 1) ∷ say.Prepare 1 2 (at 2 1) ∷ say.Prepare 1 3 (at 3 1) ∷ []
+said_by_three = say.Prepare 1 1 (at 1 1) 1 ∷ say.Prepare 1 2 (at 2 1) 2 ∷ []
+
+-- nodes 1 and 2 promise the span, each by one entry and for each of its instances
+abbrev pub promised_by_two : List Message
+promised_by_two = say.Promise 1 2 (at 2 1) None ∷ say.Promise 1 3 (at 2 1) None ∷ say.Promise 2 2 (at 2 1) None ∷ say.Promise 2 3 (at 2 1) None ∷ []
 
 -- Node 1 tries its three values at once, and node 2 helps it with the last one: node 3 knows that, and nothing below it
 abbrev pub last_of_three : Value → Value → Value → List Event
-last_of_three a b c = three_begun a b c ++ (Deliver 1 2 ∷ Deliver 2 2 ∷ Deliver 1 3 ∷ Deliver 1 4 ∷ Deliver 1 5 ∷ Deliver 2 5 ∷ Deliver 3 6 ∷ Deliver 3 7 ∷ [])
+last_of_three a b c = three_begun a b c ++ (Deliver 1 1 ∷ Deliver 2 1 ∷ Deliver 1 3 ∷ Deliver 1 5 ∷ Deliver 1 6 ∷ Deliver 2 6 ∷ Deliver 3 7 ∷ Deliver 3 8 ∷ [])
 
 pub record LastOfThreeIsKnown : Type 0 where
   pub a : Value
@@ -169,9 +174,7 @@ pub record LastOfThreeIsKnown : Type 0 where
   pub c : Value
   pub w : World
   pub takes : TakesAll 3 start (last_of_three a b c) w
-  pub said : w.sent
-      ≡ said_by_three
-      ++ (say.Promise 1 3 (at 3 1) None ∷ say.Promise 2 3 (at 3 1) None ∷ say.Propose 1 3 (at 3 1) c ∷ say.Accepted 1 3 (at 3 1) c ∷ say.Accepted 2 3 (at 3 1) c ∷ [])
+  pub said : w.sent ≡ said_by_three ++ promised_by_two ++ (say.Propose 1 3 (at 2 1) c ∷ say.Accepted 1 3 (at 2 1) c ∷ say.Accepted 2 3 (at 2 1) c ∷ [])
   pub third : (w.node 3).known 3 ≡ Some c
   pub second : (w.node 3).known 2 ≡ None
 
@@ -180,7 +183,7 @@ pub record LastOfThreeIsKnown : Type 0 where
 abbrev pub crash_of_three : Value → Value → Value → Value → Value → List Event
 crash_of_three a b c d e =
     three_begun a b c
-    ++ (Deliver 1 1 ∷ Deliver 2 1 ∷ Deliver 1 3 ∷ Deliver 1 4 ∷ Deliver 2 5 ∷ Crash 1 0 ∷ Submit 3 d ∷ Submit 3 e ∷ Tick 3 ∷ Widen 3 ∷ Deliver 2 8 ∷ Deliver 3 8 ∷ Deliver 3 9 ∷ Deliver 3 10 ∷ [])
+    ++ (Deliver 1 1 ∷ Deliver 2 1 ∷ Deliver 1 2 ∷ Deliver 1 4 ∷ Deliver 2 6 ∷ Crash 1 0 ∷ Submit 3 d ∷ Submit 3 e ∷ Tick 3 ∷ Widen 3 ∷ Deliver 2 9 ∷ Deliver 3 9 ∷ Deliver 3 10 ∷ Deliver 3 11 ∷ [])
 
 pub record CrashOfThreeIsTaken : Type 0 where
   pub a : Value
@@ -192,14 +195,42 @@ pub record CrashOfThreeIsTaken : Type 0 where
   pub w : World
   pub takes : TakesAll 3 start (crash_of_three a b c d e) w
   pub said : w.sent
-      ≡ said_by_three
-      ++ (say.Promise 1 2 (at 2 1) None
-      ∷ say.Promise 2 2 (at 2 1) None
-      ∷ say.Propose 1 2 (at 2 1) b
+      ≡ said_by_three ++ promised_by_two
+      ++ (say.Propose 1 2 (at 2 1) b
       ∷ say.Accepted 2 2 (at 2 1) b
-      ∷ say.Prepare 3 1 (at 1 3)
-      ∷ say.Prepare 3 2 (at 2 3)
+      ∷ say.Prepare 3 1 (at 1 3) 1
+      ∷ say.Prepare 3 2 (at 2 3) 1
       ∷ say.Promise 2 2 (at 2 3) (Some (vote (at 2 1) b))
       ∷ say.Promise 3 2 (at 2 3) None
       ∷ say.Propose 3 2 (at 2 3) b
       ∷ [])
+
+-- ---- a higher span
+
+-- Node 1's span of two is promised by nodes 1 and 2, and node 2 votes at its first instance. Node 3, with two values of its own, takes the same span at a higher ballot: node 2
+-- promises both instances by one entry, and tells the vote at the first. Node 1's proposal at the second comes late, and is refused
+abbrev pub higher_span : Value → Value → Value → Value → Value → List Event
+higher_span a b c d e =
+    three_begun a b c
+    ++ (Deliver 1 1 ∷ Deliver 2 1 ∷ Deliver 1 2 ∷ Deliver 1 4 ∷ Deliver 2 6 ∷ Deliver 1 3 ∷ Deliver 1 5 ∷ Submit 3 a ∷ Submit 3 d ∷ Submit 3 e ∷ Tick 3 ∷ Widen 3 ∷ Deliver 2 10 ∷ Deliver 2 8 ∷ [])
+
+pub record HigherSpanIsTaken : Type 0 where
+  pub a : Value
+  pub b : Value
+  pub c : Value
+  pub d : Value
+  pub e : Value
+  pub w : World
+  pub takes : TakesAll 3 start (higher_span a b c d e) w
+  pub said : w.sent
+      ≡ said_by_three ++ promised_by_two
+      ++ (say.Propose 1 2 (at 2 1) b
+      ∷ say.Accepted 2 2 (at 2 1) b
+      ∷ say.Propose 1 3 (at 2 1) c
+      ∷ say.Prepare 3 1 (at 1 3) 1
+      ∷ say.Prepare 3 2 (at 2 3) 2
+      ∷ say.Promise 2 2 (at 2 3) (Some (vote (at 2 1) b))
+      ∷ say.Promise 2 3 (at 2 3) None
+      ∷ say.Nack 2 3 (at 2 1) (at 2 3)
+      ∷ [])
+  pub recorded : (w.node 2).entries ≡ PromisedSpan 2 2 (at 2 1) ∷ Voted 2 (at 2 1) b ∷ PromisedSpan 2 2 (at 2 3) ∷ []

@@ -141,16 +141,17 @@ impl Group {
         }
     }
 
-    /// The instance and the round of a prepare.
-    fn prepared(&self, index: usize) -> Option<(u32, u32)> {
+    /// The first instance, the round and the count of a prepare.
+    fn prepared(&self, index: usize) -> Option<(u32, u32, u8)> {
         match self.world.sent(index) {
             Some(
                 Message::Prepare {
                     instance,
                     ballot,
+                    count,
                     ..
                 },
-            ) => Some((instance.number(), ballot.round())),
+            ) => Some((instance.number(), ballot.round(), *count)),
             _ => None,
         }
     }
@@ -230,8 +231,8 @@ impl Group {
                 assert_eq!(rt; self.kind(count.saturating_sub(1)), Some(kind));
                 Ok(())
             }
-            Step::Prepares(index, at, round) => {
-                assert_eq!(rt; self.prepared(index), Some((at, round)), "{step:?}");
+            Step::Prepares(index, at, round, count) => {
+                assert_eq!(rt; self.prepared(index), Some((at, round, count)), "{step:?}");
                 Ok(())
             }
             _ => match self.event(step)? {

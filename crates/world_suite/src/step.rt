@@ -21,8 +21,8 @@ pub(crate) enum Step {
     Page(u8, u64, &'static str, u16, &'static str),
     /// So many messages were handed out, and the last one was of that kind.
     Last(usize, Kind),
-    /// A message is a prepare at that instance, of that round.
-    Prepares(usize, u32, u32),
+    /// A message is a prepare from that instance on, of that round and count.
+    Prepares(usize, u32, u32, u8),
 }
 
 #[derive(Clone, Copy, Debug, PartialEq, Eq)]

@@ -6,7 +6,7 @@ use world::NodeState;
 
 const RELEASE: &str = "release\n";
 
-/// A tick and two widenings begin attempts at three instances, each with a round of its own, and a third widening none.
+/// A tick and a widening begin attempts at three instances, the widening two of them with one round and one prepare, and a second widening none.
 #[test]
 fn three_values_are_tried_at_once(rt: HostRuntime) -> Result<(), Fail> {
     let steps = [
@@ -16,15 +16,12 @@ fn three_values_are_tried_at_once(rt: HostRuntime) -> Result<(), Fail> {
         Step::Submit(1, 3, "put template t\nc"),
         Step::Tick(1),
         Step::Last(1, Kind::Prepare),
-        Step::Prepares(0, 1, 1),
+        Step::Prepares(0, 1, 1, 1),
         Step::Widen(1),
         Step::Last(2, Kind::Prepare),
-        Step::Prepares(1, 2, 2),
+        Step::Prepares(1, 2, 2, 2),
         Step::Widen(1),
-        Step::Last(3, Kind::Prepare),
-        Step::Prepares(2, 3, 3),
-        Step::Widen(1),
-        Step::Last(3, Kind::Prepare),
+        Step::Last(2, Kind::Prepare),
         Step::Settle,
         Step::Shows(3, NodeState::Up, 3, 0),
         Step::Widen(1),
@@ -42,16 +39,17 @@ fn a_tick_sends_the_other_attempts_again(rt: HostRuntime) -> Result<(), Fail> {
         Step::Submit(1, 3, RELEASE),
         Step::Tick(1),
         Step::Widen(1),
-        Step::Widen(1),
-        Step::Deliver(2, 2),
-        Step::Deliver(3, 2),
+        Step::Deliver(2, 1),
+        Step::Last(4, Kind::Promise(false)),
+        Step::Deliver(3, 1),
+        Step::Last(6, Kind::Promise(false)),
         Step::Deliver(1, 3),
-        Step::Deliver(1, 4),
-        Step::Last(6, Kind::Propose),
+        Step::Deliver(1, 5),
+        Step::Last(7, Kind::Propose),
         Step::Tick(1),
-        Step::Last(9, Kind::Propose),
-        Step::Prepares(6, 1, 4),
-        Step::Prepares(7, 2, 2),
+        Step::Last(10, Kind::Propose),
+        Step::Prepares(7, 1, 3, 1),
+        Step::Prepares(8, 2, 2, 1),
         Step::Settle,
         Step::Shows(2, NodeState::Up, 3, 3),
     ];
@@ -70,16 +68,13 @@ fn a_duel_over_three_instances(rt: HostRuntime) -> Result<(), Fail> {
         Step::Submit(2, 6, RELEASE),
         Step::Tick(1),
         Step::Widen(1),
-        Step::Widen(1),
         Step::Tick(2),
         Step::Widen(2),
-        Step::Widen(2),
-        Step::Last(6, Kind::Prepare),
+        Step::Last(4, Kind::Prepare),
         Step::Settle,
         Step::Shows(1, NodeState::Up, 3, 3),
         Step::Shows(2, NodeState::Up, 3, 3),
         Step::Tick(1),
-        Step::Widen(1),
         Step::Widen(1),
         Step::Settle,
         Step::Shows(1, NodeState::Up, 6, 6),
@@ -99,17 +94,16 @@ fn a_crash_with_three_attempts_open(rt: HostRuntime) -> Result<(), Fail> {
         Step::Submit(3, 5, RELEASE),
         Step::Tick(1),
         Step::Widen(1),
-        Step::Widen(1),
         Step::Deliver(2, 1),
         Step::Deliver(1, 1),
-        Step::Deliver(1, 3),
+        Step::Deliver(1, 2),
         Step::Deliver(1, 4),
-        Step::Last(6, Kind::Propose),
-        Step::Deliver(2, 5),
-        Step::Last(7, Kind::Accepted),
+        Step::Last(7, Kind::Propose),
+        Step::Deliver(2, 6),
+        Step::Last(8, Kind::Accepted),
         Step::Crash(1, 0),
         Step::Widen(1),
-        Step::Last(7, Kind::Accepted),
+        Step::Last(8, Kind::Accepted),
         Step::Tick(3),
         Step::Widen(3),
         Step::Settle,
@@ -126,4 +120,33 @@ fn a_crash_with_three_attempts_open(rt: HostRuntime) -> Result<(), Fail> {
         Step::Shows(1, NodeState::Up, 3, 3),
     ];
     Ok(play(&rt, rt.alloc(), 3, &steps)?)
+}
+
+/// A crash of an acceptor in the put of a span's promise: its entry is kept, or lost. Either way the span is brought through by the other two.
+#[test]
+fn a_crash_in_the_promise_of_a_span(rt: HostRuntime) -> Result<(), Fail> {
+    for choice in [0, 1, 7] {
+        let steps = [
+            Step::Submit(1, 1, RELEASE),
+            Step::Submit(1, 2, RELEASE),
+            Step::Submit(1, 3, RELEASE),
+            Step::Tick(1),
+            Step::Widen(1),
+            Step::Prepares(1, 2, 2, 2),
+            Step::Arm(2, 3),
+            Step::Deliver(2, 1),
+            Step::Last(2, Kind::Prepare),
+            Step::Shows(2, NodeState::Stopped, 0, 0),
+            Step::Crash(2, choice),
+            Step::Deliver(1, 1),
+            Step::Deliver(3, 1),
+            Step::Last(6, Kind::Promise(false)),
+            Step::Restart(2),
+            Step::Settle,
+            Step::Shows(1, NodeState::Up, 3, 3),
+            Step::Shows(3, NodeState::Up, 3, 3),
+        ];
+        play(&rt, rt.alloc(), 3, &steps)?;
+    }
+    Ok(())
 }

@@ -1,6 +1,5 @@
-use Rattle.std.proofs.Common.{◌≡◌, Option, rules, refl, sym, ap, subst, ◌∙◌}
+use Rattle.std.proofs.Common.{rules, ap, ◌∙◌}
 use Rattle.std.specs.Option.{option_map, option_copied}
-use Rattle.node.specs.Nodes.{Value}
 use Rattle.node.proofs.Choosing.{free_there, not_unknown, not_untried}
 use Rattle.node.proofs.running.Node.is_free.Goals as goal
 

@@ -9,20 +9,20 @@ use Rattle.node.proofs.running.Node.next_free.Goals as goal
 off : true ≡ false → ⊥
 off e = cc
 
-pub returns-in_err-instance : goal.returns-in_err-instance
-returns-in_err-instance g c s stands first =
+pub returns-in_err-instance-clause-least : goal.returns-in_err-instance-clause-least
+returns-in_err-instance-clause-least g c s stands first =
     let l = c.loop-past in
     rw c.from_residual.ensures (no_next s c.args.first l.past first (l.invariant.none s stands) (past_last c.args.first l.past first.instance (not_there c.number.result c.args.first l.past c.number.ensures.is c.in_err-instance.ensures)))
 
-pub returns-then-is_free : goal.returns-then-is_free
-returns-then-is_free g c s stands first =
+pub returns-then-is_free-clause-least : goal.returns-then-is_free-clause-least
+returns-then-is_free-clause-least g c s stands first =
     let l = c.loop-past in
     next_found s c.args.first l.past c.in_ok-instance.instance first (l.invariant.none s stands) c.loop-past-test.true
     (c.in_ok-instance.ensures.0 ∙ ap (λ (n : ℕ). n + l.past) c.number.ensures.is)
     (let free = (c.is_free.ensures s stands).0 (is_true c.is_free.result c.if-is_free.true) in record { instance = subst IsInstance (sym c.in_ok-instance.ensures.0) c.in_ok-instance.ensures.1; unknown = free.0; untried = free.1 })
 
-pub returns : goal.returns
-returns g c s stands first =
+pub returns-clause-least : goal.returns-clause-least
+returns-clause-least g c s stands first =
     let l = c.loop-past in
     no_next s c.args.first l.past first (l.invariant.none s stands) (all_seen c.args.first l.past l.invariant.within c.loop-past-test.false)
 

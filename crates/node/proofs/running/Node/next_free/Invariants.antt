@@ -6,9 +6,9 @@ use Rattle.node.proofs.running.Node.next_free.Given as goal
 
 abbrev pub invariant-loop-past : goal.invariant-loop-past
 invariant-loop-past g l = record {
-  within : l.past ≤ 8;
+  within : l.past ≤ 64;
   none : (s : Node) → IsNodeOf l.self s → NoneFree s l.first l.past;
 }
 
 abbrev pub decreases-loop-past : goal.decreases-loop-past
-decreases-loop-past g l = 8 - l.past
+decreases-loop-past g l = 64 - l.past

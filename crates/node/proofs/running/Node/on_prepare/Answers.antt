@@ -1,110 +1,95 @@
-use Rattle.std.proofs.Common.{Option, max, [], ◌∷◌, ◌++◌, refl, sym, ap, ◌∙◌, append-nil}
-use Rattle.site_ids.specs.declared.value.Vote.{Vote}
-use Rattle.acceptor.specs.declared.judging.PrepareVerdict.TheVariants as verdict
-use Rattle.wire.specs.declared.message.Message.TheVariants.{Prepare, Promise, Nack}
-use Rattle.durable.specs.Entries.{Promised}
-use Rattle.wire.specs.declared.message.Message.{Message}
-use Rattle.node.specs.declared.to.To.{To}
-use Rattle.node.specs.declared.to.To.TheVariants.{One}
+use Rattle.std.proofs.Common.{◌≡◌, ◌≢◌, ℕ, ◌+◌, ◌-◌, max, true, [], ◌++◌, length, refl, sym, ap, ◌∙◌, arith}
+use Rattle.site_ids.specs.Spans.{last_of}
+use Rattle.wire.specs.declared.message.Message.TheVariants.{Prepare}
+use Rattle.durable.specs.Entries.{promise_of}
 use Rattle.node.specs.Calls.{deliver}
-use Rattle.node.proofs.Preparing.{prepare_does, prepare_takes}
-use Rattle.node.proofs.Verdicts.{prepare_effect}
-use Rattle.node.proofs.Stepping.{delivery_wants, Handed, is_up, touched, put_fails, put_whole, quiet_whole}
-use Rattle.node.proofs.Adding.{one_more}
+use Rattle.node.specs.Deliveries.{span_out}
+use Rattle.node.proofs.Preparing.{prepare_takes, answers_take, rises_where, rises_takes, prepare_rises, prepare_stays}
+use Rattle.node.proofs.Stepping.{delivery_wants, Handed, is_up, put_fails, put_whole, quiet_whole}
+use Rattle.node.proofs.Adding.{when_ok}
 use Rattle.node.proofs.running.Node.on_prepare.Goals as goal
 
-pub returns-in_err-put_promise-in-Promise-clause-event : goal.returns-in_err-put_promise-in-Promise-clause-event
-returns-in_err-put_promise-in-Promise-clause-event g c from in_range =
-    let stands_for = g.D.Disk.stands_for in
+-- a span of which an instance rises is put
+pub put_promises-requires-clause-above : goal.put_promises-requires-clause-above
+put_promises-requires-clause-above g c =
+    rises_where c.args.self.now c.args.first c.args.ballot c.args.count c.in_ok-judgement.judgement c.in_ok-judgement.ensures.ok c.if-not-judgement.false
+
+pub returns-in_err-judgement-clause-event : goal.returns-in_err-judgement-clause-event
+returns-in_err-judgement-clause-event g c from in_range =
     let old = c.args.self.now in
-    let i = c.args.instance in
-    let b = c.args.ballot in
-    let slot = c.slot-slot.result.now in
-    let failed = c.in_err-put_promise-in-Promise in
-    let told = c.from_residual-in_err-put_promise-in-Promise in
-    put_fails stands_for g.D.Disk.failed old _ (Promised i b) (record { me = refl; cluster = refl; releases = refl }) c.requires.running (deliver (Prepare from i b)) failed.field-0.0 told.result _ _ in_range
-    (record { learner = refl; known = refl; queue = refl; attempts = λ a are. are; heard = refl }) refl c.reserve.ensures.items failed.ensures told.ensures.1
-    (λ s stands. (prepare_effect old.me (touched i s) i b slot verdict.Promise, prepare_does old i slot c.slot-slot.ensures from b verdict.Promise c.in-Promise.ensures s stands, refl))
-    (λ s stands. (is_up old s stands.parts c.requires.running, prepare_takes old i slot c.slot-slot.ensures b verdict.Promise c.in-Promise.ensures (λ e. cc) s stands))
+    delivery_wants g.D.Disk.stands_for old _ (Prepare from c.args.first c.args.ballot c.args.count) c.from_residual.result _ _ (record { me = refl; cluster = refl; releases = refl }) c.requires.running in_range
+    (prepare_takes old c.args.first c.args.ballot c.args.count from c.in_err-judgement.ensures.err)
+    refl c.from_residual.ensures.1 refl (record { learner = refl; known = refl; queue = refl; attempts = λ a are. are; heard = refl }) refl
 
-pub returns-in_ok-put_promise-in-Promise-clause-event : goal.returns-in_ok-put_promise-in-Promise-clause-event
-returns-in_ok-put_promise-in-Promise-clause-event g c from in_range =
-    let stands_for = g.D.Disk.stands_for in
+-- no room is missing for no answers
+pub returns-in_err-reserve-clause-event : goal.returns-in_err-reserve-clause-event
+returns-in_err-reserve-clause-event g c from in_range =
     let old = c.args.self.now in
-    let i = c.args.instance in
-    let b = c.args.ballot in
-    let slot = c.slot-slot.result.now in
-    let out : Handed = c.promise.result ∷ [] in
-    put_whole stands_for g.D.Disk.failed old _ (deliver (Prepare from i b)) (Promised i b) i _ _ ((One b.node, Promise old.me i b slot.vote) ∷ []) out (record { me = refl; cluster = refl; releases = refl }) c.requires.running in_range
-    (record { learner = refl; known = refl; queue = refl; attempts = λ a are. are; heard = refl }) (c.max-reached.ensures ∙ ap (max old.reached) c.number.ensures.is) c.in_ok-put_promise-in-Promise.ensures.put c.in_ok-put_promise-in-Promise.ensures.acknowledged
-    (c.push_reserved.ensures.items ∙ ap (λ (l : Handed). l ++ out) c.reserve.ensures.items)
-    (ap (λ (v : Option Vote). (One b.node, Promise old.me i b v) ∷ []) (sym c.in_ok-prior-in-Promise.ensures) ∙ ap (λ (x : To × Message). x ∷ []) (sym c.promise.ensures))
-    (prepare_does old i slot c.slot-slot.ensures from b verdict.Promise c.in-Promise.ensures)
+    let told = c.in_ok-judgement.judgement in
+    let some : told.answers.items ≢ [] = λ none.
+    let empty = ap (λ (l : Handed). length l) none in
+    omega (arith, empty, told.answers.ok.0, c.args.outbox.now.ok.1, c.len.ensures, c.in_err-reserve.ensures.full) in
+    delivery_wants g.D.Disk.stands_for old _ (Prepare from c.args.first c.args.ballot c.args.count) c.from_residual-in_err-reserve.result _ _ (record { me = refl; cluster = refl; releases = refl }) c.requires.running in_range
+    (prepare_takes old c.args.first c.args.ballot c.args.count from (answers_take old c.args.first c.args.ballot c.args.count told c.in_ok-judgement.ensures.ok some))
+    c.reserve.ensures.items c.from_residual-in_err-reserve.ensures.1 refl (record { learner = refl; known = refl; queue = refl; attempts = λ a are. are; heard = refl }) refl
 
-pub returns-in_ok-prior-in-Again-clause-event : goal.returns-in_ok-prior-in-Again-clause-event
-returns-in_ok-prior-in-Again-clause-event g c from in_range =
-    let stands_for = g.D.Disk.stands_for in
+pub returns-then-not-judgement-clause-event : goal.returns-then-not-judgement-clause-event
+returns-then-not-judgement-clause-event g c from in_range =
     let old = c.args.self.now in
-    let i = c.args.instance in
+    let i = c.args.first in
     let b = c.args.ballot in
-    let slot = c.slot-slot.result.now in
-    let out : Handed = c.promise-in-Again.result ∷ [] in
-    quiet_whole stands_for old _ (deliver (Prepare from i b)) i _ _ ((One b.node, Promise old.me i b slot.vote) ∷ []) out (record { me = refl; cluster = refl; releases = refl }) c.requires.running in_range refl
-    (record { learner = refl; known = refl; queue = refl; attempts = λ a are. are; heard = refl }) (c.max-reached.ensures ∙ ap (max old.reached) c.number.ensures.is)
-    (c.push_reserved-in-Again.ensures.items ∙ ap (λ (l : Handed). l ++ out) c.reserve-in-Again.ensures.items)
-    (ap (λ (v : Option Vote). (One b.node, Promise old.me i b v) ∷ []) (sym c.in_ok-prior-in-Again.ensures) ∙ ap (λ (x : To × Message). x ∷ []) (sym c.promise-in-Again.ensures))
-    (prepare_does old i slot c.slot-slot.ensures from b verdict.Again c.in-Again.ensures)
+    let k = c.args.count in
+    let told = c.in_ok-judgement.judgement in
+    let is = c.in_ok-judgement.ensures.ok in
+    let out : Handed = told.answers.items in
+    quiet_whole g.D.Disk.stands_for old _ (deliver (Prepare from i b k)) (last_of i k) _ _ (span_out old.me i b is.judged) out (record { me = refl; cluster = refl; releases = refl }) c.requires.running in_range refl
+    (record { learner = refl; known = refl; queue = refl; attempts = λ a are. are; heard = refl }) (c.max-reached.ensures ∙ ap (λ (n : ℕ). max old.reached (n + k - 1)) c.number.ensures.is)
+    (when_ok c.append.result _ _ _ (c.append.ensures.succeeds (omega (arith, c.in_ok-reserve.ensures.ok, c.len.ensures))) c.append.ensures.items ∙ ap (λ (l : Handed). l ++ out) c.reserve.ensures.items)
+    (sym is.answers)
+    (prepare_stays old i b k told is from c.if-not-judgement.true)
 
-pub returns-in_ok-reserve-in-Nack-clause-event : goal.returns-in_ok-reserve-in-Nack-clause-event
-returns-in_ok-reserve-in-Nack-clause-event g c from in_range =
-    let stands_for = g.D.Disk.stands_for in
+pub returns-in_err-put_promises-clause-event : goal.returns-in_err-put_promises-clause-event
+returns-in_err-put_promises-clause-event g c from in_range =
     let old = c.args.self.now in
-    let i = c.args.instance in
+    let i = c.args.first in
     let b = c.args.ballot in
-    let slot = c.slot-slot.result.now in
-    let out : Handed = c.nack.result ∷ [] in
-    quiet_whole stands_for old _ (deliver (Prepare from i b)) i _ _ ((One b.node, Nack old.me i b c.in-Nack.promised) ∷ []) out (record { me = refl; cluster = refl; releases = refl }) c.requires.running in_range refl
-    (record { learner = refl; known = refl; queue = refl; attempts = λ a are. are; heard = refl }) (c.max-reached.ensures ∙ ap (max old.reached) c.number.ensures.is)
-    (c.push_reserved-in-Nack.ensures.items ∙ ap (λ (l : Handed). l ++ out) c.reserve-in-Nack.ensures.items) (ap (λ (x : To × Message). x ∷ []) (sym c.nack.ensures))
-    (prepare_does old i slot c.slot-slot.ensures from b (verdict.Nack c.in-Nack.promised) c.in-Nack.ensures)
+    let k = c.args.count in
+    let told = c.in_ok-judgement.judgement in
+    let is = c.in_ok-judgement.ensures.ok in
+    let rises : told.rises ≡ true = c.if-not-judgement.false in
+    let failed = c.in_err-put_promises in
+    let fault = c.from_residual-in_err-put_promises in
+    put_fails g.D.Disk.stands_for g.D.Disk.failed old _ (promise_of i k b) (record { me = refl; cluster = refl; releases = refl }) c.requires.running (deliver (Prepare from i b k)) failed.field-0.0 fault.result _ _ in_range
+    (record { learner = refl; known = refl; queue = refl; attempts = λ a are. are; heard = refl }) refl c.reserve.ensures.items failed.ensures fault.ensures.1
+    (λ s stands. (_, prepare_rises old i b k told is from rises s stands, refl))
+    (λ s stands. (is_up old s stands.parts c.requires.running, prepare_takes old i b k from (rises_takes old i b k told is rises) s stands))
 
-pub returns-in-Silent-clause-event : goal.returns-in-Silent-clause-event
-returns-in-Silent-clause-event g c from in_range =
-    let stands_for = g.D.Disk.stands_for in
+pub returns-clause-event : goal.returns-clause-event
+returns-clause-event g c from in_range =
     let old = c.args.self.now in
-    let i = c.args.instance in
+    let i = c.args.first in
     let b = c.args.ballot in
-    let slot = c.slot-slot.result.now in
-    quiet_whole stands_for old _ (deliver (Prepare from i b)) i _ _ [] [] (record { me = refl; cluster = refl; releases = refl }) c.requires.running in_range refl
-    (record { learner = refl; known = refl; queue = refl; attempts = λ a are. are; heard = refl }) (c.max-reached.ensures ∙ ap (max old.reached) c.number.ensures.is)
-    (sym (append-nil c.args.outbox.now.items)) refl
-    (prepare_does old i slot c.slot-slot.ensures from b verdict.Silent c.in-Silent.ensures)
+    let k = c.args.count in
+    let told = c.in_ok-judgement.judgement in
+    let is = c.in_ok-judgement.ensures.ok in
+    let out : Handed = told.answers.items in
+    put_whole g.D.Disk.stands_for g.D.Disk.failed old _ (deliver (Prepare from i b k)) (promise_of i k b) (last_of i k) _ _ (span_out old.me i b is.judged) out (record { me = refl; cluster = refl; releases = refl }) c.requires.running in_range
+    (record { learner = refl; known = refl; queue = refl; attempts = λ a are. are; heard = refl }) (c.max-reached.ensures ∙ ap (λ (n : ℕ). max old.reached (n + k - 1)) c.number.ensures.is)
+    c.in_ok-put_promises.ensures.put c.in_ok-put_promises.ensures.acknowledged
+    (when_ok c.append-2.result _ _ _ (c.append-2.ensures.succeeds (omega (arith, c.in_ok-reserve.ensures.ok, c.len.ensures))) c.append-2.ensures.items ∙ ap (λ (l : Handed). l ++ out) c.reserve.ensures.items)
+    (sym is.answers)
+    (prepare_rises old i b k told is from c.if-not-judgement.false)
 
-pub returns-in_err-reserve-in-Promise-clause-event : goal.returns-in_err-reserve-in-Promise-clause-event
-returns-in_err-reserve-in-Promise-clause-event g c from in_range =
-    delivery_wants g.D.Disk.stands_for c.args.self.now _ (Prepare from c.args.instance c.args.ballot) c.from_residual.result _ _ (record { me = refl; cluster = refl; releases = refl }) c.requires.running in_range (prepare_takes c.args.self.now c.args.instance c.slot-slot.result.now c.slot-slot.ensures c.args.ballot verdict.Promise c.in-Promise.ensures (λ e. cc)) c.reserve.ensures.items c.from_residual.ensures.1 refl (record { learner = refl; known = refl; queue = refl; attempts = λ a are. are; heard = refl }) refl
+pub returns-then-not-judgement-clause-grows : goal.returns-then-not-judgement-clause-grows
+returns-then-not-judgement-clause-grows g c = (
+  c.in_ok-judgement.judgement.answers.items,
+  when_ok c.append.result _ _ _ (c.append.ensures.succeeds (omega (arith, c.in_ok-reserve.ensures.ok, c.len.ensures))) c.append.ensures.items
+      ∙ ap (λ (l : Handed). l ++ c.in_ok-judgement.judgement.answers.items) c.reserve.ensures.items,
+)
 
-pub returns-in_err-prior-in-Promise-clause-event : goal.returns-in_err-prior-in-Promise-clause-event
-returns-in_err-prior-in-Promise-clause-event g c from in_range =
-    delivery_wants g.D.Disk.stands_for c.args.self.now _ (Prepare from c.args.instance c.args.ballot) c.from_residual-in_err-prior-in-Promise.result _ _ (record { me = refl; cluster = refl; releases = refl }) c.requires.running in_range (prepare_takes c.args.self.now c.args.instance c.slot-slot.result.now c.slot-slot.ensures c.args.ballot verdict.Promise c.in-Promise.ensures (λ e. cc)) c.reserve.ensures.items c.from_residual-in_err-prior-in-Promise.ensures.1 refl (record { learner = refl; known = refl; queue = refl; attempts = λ a are. are; heard = refl }) refl
-
-pub returns-in_err-reserve-in-Again-clause-event : goal.returns-in_err-reserve-in-Again-clause-event
-returns-in_err-reserve-in-Again-clause-event g c from in_range =
-    delivery_wants g.D.Disk.stands_for c.args.self.now _ (Prepare from c.args.instance c.args.ballot) c.from_residual-in_err-reserve-in-Again.result _ _ (record { me = refl; cluster = refl; releases = refl }) c.requires.running in_range (prepare_takes c.args.self.now c.args.instance c.slot-slot.result.now c.slot-slot.ensures c.args.ballot verdict.Again c.in-Again.ensures (λ e. cc)) c.reserve-in-Again.ensures.items c.from_residual-in_err-reserve-in-Again.ensures.1 refl (record { learner = refl; known = refl; queue = refl; attempts = λ a are. are; heard = refl }) refl
-
-pub returns-in_err-prior-in-Again-clause-event : goal.returns-in_err-prior-in-Again-clause-event
-returns-in_err-prior-in-Again-clause-event g c from in_range =
-    delivery_wants g.D.Disk.stands_for c.args.self.now _ (Prepare from c.args.instance c.args.ballot) c.from_residual-in_err-prior-in-Again.result _ _ (record { me = refl; cluster = refl; releases = refl }) c.requires.running in_range (prepare_takes c.args.self.now c.args.instance c.slot-slot.result.now c.slot-slot.ensures c.args.ballot verdict.Again c.in-Again.ensures (λ e. cc)) c.reserve-in-Again.ensures.items c.from_residual-in_err-prior-in-Again.ensures.1 refl (record { learner = refl; known = refl; queue = refl; attempts = λ a are. are; heard = refl }) refl
-
-pub returns-in_err-reserve-in-Nack-clause-event : goal.returns-in_err-reserve-in-Nack-clause-event
-returns-in_err-reserve-in-Nack-clause-event g c from in_range =
-    delivery_wants g.D.Disk.stands_for c.args.self.now _ (Prepare from c.args.instance c.args.ballot) c.from_residual-in_err-reserve-in-Nack.result _ _ (record { me = refl; cluster = refl; releases = refl }) c.requires.running in_range (prepare_takes c.args.self.now c.args.instance c.slot-slot.result.now c.slot-slot.ensures c.args.ballot (verdict.Nack c.in-Nack.promised) c.in-Nack.ensures (λ e. cc)) c.reserve-in-Nack.ensures.items c.from_residual-in_err-reserve-in-Nack.ensures.1 refl (record { learner = refl; known = refl; queue = refl; attempts = λ a are. are; heard = refl }) refl
-
-pub returns-in_ok-put_promise-in-Promise-clause-grows : goal.returns-in_ok-put_promise-in-Promise-clause-grows
-returns-in_ok-put_promise-in-Promise-clause-grows g c = one_more _ _ _ _ c.reserve.ensures.items c.push_reserved.ensures.items
-
-pub returns-in_ok-prior-in-Again-clause-grows : goal.returns-in_ok-prior-in-Again-clause-grows
-returns-in_ok-prior-in-Again-clause-grows g c = one_more _ _ _ _ c.reserve-in-Again.ensures.items c.push_reserved-in-Again.ensures.items
-
-pub returns-in_ok-reserve-in-Nack-clause-grows : goal.returns-in_ok-reserve-in-Nack-clause-grows
-returns-in_ok-reserve-in-Nack-clause-grows g c = one_more _ _ _ _ c.reserve-in-Nack.ensures.items c.push_reserved-in-Nack.ensures.items
+pub returns-clause-grows : goal.returns-clause-grows
+returns-clause-grows g c = (
+  c.in_ok-judgement.judgement.answers.items,
+  when_ok c.append-2.result _ _ _ (c.append-2.ensures.succeeds (omega (arith, c.in_ok-reserve.ensures.ok, c.len.ensures))) c.append-2.ensures.items
+      ∙ ap (λ (l : Handed). l ++ c.in_ok-judgement.judgement.answers.items) c.reserve.ensures.items,
+)

@@ -1,5 +1,4 @@
-use Rattle.std.proofs.Common.{Result, Ok, Err}
-use Rattle.std.specs.Result.{OnErr}
+use Rattle.node.proofs.Adding.{on_err}
 use Rattle.node.proofs.Gaps.{items_begin, fed_items, taken_known, all_taken, not_all}
 use Rattle.node.proofs.running.Node.publish.Goals as goal
 
@@ -39,10 +38,6 @@ returns-clause-ok g c = (
       let old = items_begin c.args.self.now.releases prefix (fed_items log s prefix c.args.self.now.releases parts.known.values c.prefix.ensures.each c.prefix.ensures.gap stands.fed) in
       all_taken log s prefix c.feed.new.releases parts.known.values c.prefix.ensures.each c.prefix.ensures.gap (c.feed.ensures.begins old) c.in_ok-feed.ensures.all,
 )
-
-on_err : {T E A : Type 0} (r : Result T E) → A → OnErr r A
-on_err (Ok x) a = tt
-on_err (Err y) a = a
 
 pub returns-in_err-feed-clause-short : goal.returns-in_err-feed-clause-short
 returns-in_err-feed-clause-short g c =

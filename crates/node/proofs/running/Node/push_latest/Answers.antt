@@ -1,5 +1,4 @@
-use Rattle.std.proofs.Common.{◌≡◌, Some, None, Option, sym, ap, subst, ◌∙◌}
-use Rattle.wire.specs.declared.message.Message.{Message}
+use Rattle.std.proofs.Common.{sym, ap, ◌∙◌}
 use Rattle.node.proofs.SendingAgain.{one_sent, none_sent, latest_of}
 use Rattle.node.proofs.running.Node.push_latest.Goals as goal
 

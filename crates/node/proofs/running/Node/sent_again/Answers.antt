@@ -1,4 +1,4 @@
-use Rattle.std.proofs.Common.{◌≡◌, ◌+◌, ℕ, suc, map, sym, ap, subst, ◌∙◌, arith}
+use Rattle.std.proofs.Common.{◌≡◌, ◌+◌, ℕ, suc, ap, ◌∙◌, arith}
 use Rattle.node.specs.Again.{with_latest}
 use Rattle.node.proofs.Choosing.{not_there}
 use Rattle.node.proofs.SendingAgain.{sent_short, sent_all, sent_more, open_past}

@@ -8,11 +8,11 @@ use Rattle.node.proofs.running.Node.sent_again.Given as goal
 -- so many instances behind the first were looked at
 abbrev pub invariant-loop-past : goal.invariant-loop-past
 invariant-loop-past g l = record {
-  within : l.past ≤ 8;
+  within : l.past ≤ 64;
   count : ℕ;
   counted : l.past ≡ suc count;
   sent : (attempts : ℕ → Option Attempt) → Attempting l.self.proposer attempts → l.again.items ≡ map (resent l.self.me) (open_past attempts l.first count);
 }
 
 abbrev pub decreases-loop-past : goal.decreases-loop-past
-decreases-loop-past g l = 8 - l.past
+decreases-loop-past g l = 64 - l.past

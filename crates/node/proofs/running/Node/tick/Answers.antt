@@ -1,4 +1,4 @@
-use Rattle.std.proofs.Common.{◌≡◌, ℕ, ◌+◌, ◌<◌, max, false, Some, [], ◌∷◌, ◌++◌, refl, sym, ap, subst, ◌∙◌, arith}
+use Rattle.std.proofs.Common.{◌≡◌, ℕ, ◌+◌, ◌<◌, max, false, Some, [], ◌∷◌, refl, sym, ap, subst, ◌∙◌, arith}
 use Rattle.site_ids.specs.declared.TheConstants.{MAX_ROUND}
 use Rattle.site_ids.specs.Ids.{BallotOf}
 use Rattle.durable.specs.Entries.{Round}
@@ -25,9 +25,9 @@ wants_it old s i stands runs gap low = (is_up old s stands.parts runs, (not_all_
 
 -- the tick that the code makes of what it found
 ticks_so : {D : Type 0} (old : Running D) (s : Node) (i : ℕ) (b : BallotOf) (own : Value) (again : Handed) → IsNodeOf old s → IsGap old.known.log i → max old.store.recorded.round old.proposer.heard < MAX_ROUND → b ≡ next_of old → own ≡ oldest s.pending
-    → IsSentAgain old.me s i again → Ticks old.me s (begun old.me s i b own again)
+    → IsSentAgain old.me s i again → Ticks old.me s (begun old.me s i b (own ∷ []) 1 again)
 ticks_so old s i b own again stands gap low next oldest_is sent =
-    subst (λ (l : Handed). Ticks old.me s (begun old.me s i b own l)) (sym sent.is)
+    subst (λ (l : Handed). Ticks old.me s (begun old.me s i b (own ∷ []) 1 l)) (sym sent.is)
     (ticks old.me s i b own sent.elsewhere sent.are (first_unknown old.known.log s.known i stands.parts.known.values gap) (has_round old s stands.parts low) (next ∙ next_is_fresh old s stands.parts) oldest_is)
 
 pub returns-in_default-clause-event : goal.returns-in_default-clause-event
@@ -100,7 +100,7 @@ returns-in_err-put_round-clause-event g c =
     let low : max old.store.recorded.round old.proposer.heard < MAX_ROUND = omega (arith, ap (λ r. max r old.proposer.heard) c.round.ensures, c.in-Ok.ensures.1) in
     put_fails g.D.Disk.stands_for g.D.Disk.failed old _ (Round c.round-2.result) (record { me = refl; cluster = refl; releases = refl }) runs ticking failed.field-0.0 told.result _ _ tt (record { learner = refl; known = refl; queue = refl; attempts = c.make_room.ensures.stays; heard = c.make_room.ensures.same.2 }) refl c.reserve.ensures.items failed.ensures.put told.ensures.1
     (λ s stands. (
-      begun old.me s i b c.in_ok-own.own c.in_ok-again.again.items,
+      begun old.me s i b (c.in_ok-own.own ∷ []) 1 c.in_ok-again.again.items,
       ticks_so old s i b c.in_ok-own.own c.in_ok-again.again.items stands c.in-Some.ensures low (c.in-Ok.ensures.0 ∙ ap next c.round.ensures) (c.in_ok-own.ensures ∙ c.oldest.ensures s.pending stands.parts.pending)
           (c.in_ok-again.ensures s (record {
             parts = record {
@@ -128,10 +128,10 @@ returns-clause-event g c =
     let b = c.in-Ok.ballot in
     let put = c.in_ok-put_round.ensures.put in
     let next : ℕ → BallotOf = λ r. record { round = max r old.proposer.heard + 1; node = old.proposer.me } in
-    let out : Handed = (All, Prepare old.me i b) ∷ c.in_ok-again.again.items in
+    let out : Handed = (All, Prepare old.me i b 1) ∷ c.in_ok-again.again.items in
     let low : max old.store.recorded.round old.proposer.heard < MAX_ROUND = omega (arith, ap (λ r. max r old.proposer.heard) c.round.ensures, c.in-Ok.ensures.1) in
     whole g.D.Disk.stands_for old _ ticking _ _ out (record { me = refl; cluster = refl; releases = refl }) runs tt (many_more c.args.outbox.now.items _ _ _ _ _ c.reserve.ensures.items c.push_reserved.ensures.items (when_ok c.append.result _ _ _ (c.append.ensures.succeeds (omega (arith, c.in_ok-reserve.ensures.ok, c.push_reserved.ensures.len, c.push_reserved.ensures.capacity, c.len.ensures))) c.append.ensures.items))
-    (λ s stands. started g.D.Disk.stands_for g.D.Disk.failed old _ s ticking i b c.in_ok-own.own c.in_ok-again.again.items stands runs (record { me = refl; cluster = refl; releases = refl })
+    (λ s stands. started g.D.Disk.stands_for g.D.Disk.failed old _ s ticking i b (c.in_ok-own.own ∷ []) 1 c.in_ok-again.again.items stands runs (record { me = refl; cluster = refl; releases = refl })
     (ticks_so old s i b c.in_ok-own.own c.in_ok-again.again.items stands c.in-Some.ensures low (c.in-Ok.ensures.0 ∙ ap next c.round.ensures) (c.in_ok-own.ensures ∙ c.oldest.ensures s.pending stands.parts.pending)
     (c.in_ok-again.ensures s (record {
       parts = record {

@@ -1,0 +1,41 @@
+//! What a patient server calls behind a turn.
+
+ghost use Rattle.std.specs.Prelude.{◌≡◌};
+ghost use Rattle.site_serve.specs.Turns.{call_behind};
+
+use site_drive::LastCall;
+
+/// What stands as a turn begins.
+#[derive(Clone, Copy, Debug, PartialEq, Eq, Drop)]
+pub struct Due {
+    /// A value was just submitted, and nobody tries one.
+    pub fresh: bool,
+    /// A question is due.
+    pub question: bool,
+    /// A tick is due.
+    pub tick: bool,
+    /// It is the first turn of a round: what came in a burst before was taken in.
+    pub first: bool,
+}
+
+impl Due {
+    /// A tick at once for a value that nobody tries; else a question or a tick that is due; else widenings, behind the first turn of a round alone, so that the
+    /// values that came in one burst share a prepare.
+    pub fn last_call(self) -> LastCall
+        ensures { result ≡ call_behind self }
+    {
+        if self.fresh {
+            return LastCall::TickOrAsk;
+        }
+        if self.question {
+            return LastCall::Ask;
+        }
+        if self.tick {
+            return LastCall::TickOrAsk;
+        }
+        if self.first {
+            return LastCall::Widen;
+        }
+        LastCall::Nothing
+    }
+}
