@@ -1,8 +1,8 @@
 -- What a node that has published all was fed: its known prefix.
-use Rattle.std.proofs.Common.{◌≡◌, ◌≢◌, ℕ, zero, suc, ◌-◌, ◌<◌, ◌≤◌, Option, Some, None, List, [], ◌∷◌, length, refl, sym, ap, subst, ◌∙◌, arith}
+use Rattle.std.proofs.Common.{◌≡◌, ℕ, zero, suc, ◌-◌, ◌<◌, Option, Some, None, List, [], ◌∷◌, length, refl, sym, ap, subst, ◌∙◌, arith}
 use Rattle.std.specs.Prelude.{slice_get}
 use Rattle.site_ids.specs.Ids.{IsNode}
-use Rattle.node.specs.Nodes.{Value, Up, Node, opened, BeginsKnown, IsKnownPrefix}
+use Rattle.node.specs.Nodes.{Value, Up, Node, opened, IsKnownPrefix}
 use Rattle.world.specs.declared.places.Place.{Place}
 use Rattle.world.specs.declared.places.Place.TheVariants.{Open, Bare}
 use Rattle.world.specs.declared.whole.World.{World as Code}
@@ -12,7 +12,7 @@ use Rattle.world.specs.Telling.{fed_in, fed_at}
 
 -- ---- a known prefix
 
-there_at : {X : Type 0} (xs : List X) (k : ℕ) → k < length xs → (x : X) × (slice_get xs k ≡ Some x)
+pub there_at : {X : Type 0} (xs : List X) (k : ℕ) → k < length xs → (x : X) × (slice_get xs k ≡ Some x)
 there_at [] k below = absurd (omega (arith, below))
 there_at (x ∷ xs) zero below = (x, refl)
 there_at (x ∷ xs) (suc k) below = there_at xs k (omega (arith, below))

@@ -32,3 +32,14 @@ pub mod Beginning
 pub mod Asked
 pub mod Fed
 pub mod Answering
+pub mod Calm
+pub mod QuietLists
+pub mod QuietAnswers
+pub mod Stages
+pub mod Going
+pub mod Attempting
+pub mod Bounds
+pub mod Overbidding
+pub mod Quieting
+pub mod Stretching
+pub mod QuietWorked

@@ -8,3 +8,6 @@ pub mod Places
 pub mod Steps
 pub mod Telling
 pub mod Answering
+pub mod Quiet
+pub mod Quieting
+pub mod QuietWorked

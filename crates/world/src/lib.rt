@@ -14,7 +14,8 @@ mod whole;
 pub use event::Event;
 pub use fault::{AskFault, WorldFault};
 pub use laws::{
-    every_schedule_agrees, runs_are_schedules, worked_schedules_are_taken, worlds_answer_as_one,
+    every_schedule_agrees, quiet_stretches_decide, runs_are_schedules, worked_plans_are_taken,
+    worked_schedules_are_taken, worlds_answer_as_one,
 };
 pub use state::NodeState;
 pub use whole::World;
