@@ -4,6 +4,7 @@ use crate::peer::Peer;
 use crate::samples::{ballot, copied, instance};
 use node::{NodeFault, To};
 use site_ids::Ballot;
+use std::alloc::Global;
 use std::process::Abort;
 use std::test::Fail;
 use wire::Message;
@@ -91,117 +92,166 @@ fn answers(rt: &impl Abort, node: &mut Peer, to: u8, wanted: &[Answer]) -> Resul
     Ok(())
 }
 
-/// Node 1, with instance 5 promised to (1, 1), 6 to (3, 2), 7 voted for at (2, 1).
-fn of_three_kinds(rt: &impl Abort, node: &mut Peer) -> Result<(), Halt> {
-    node.hand(&prepare(node, 1, 5, 1, 1)?)?;
-    answers(rt, node, 1, &[Answer::Promise(5)])?;
-    node.hand(&prepare(node, 2, 6, 1, 3)?)?;
-    answers(rt, node, 2, &[Answer::Promise(6)])?;
-    node.hand(&propose(node, 1, 7, 2)?)?;
-    node.forget_said();
+/// What comes to node 1, and what it answers.
+#[derive(Clone, Copy, Debug)]
+enum Step {
+    /// A prepare of a node, from an instance on, of so many, at that round.
+    Prepare(u8, u32, u8, u32),
+    /// The same, as the device fails in its put: nothing is handed out.
+    Fails(u8, u32, u8, u32),
+    /// A proposal of a node at an instance, at that round. Its vote isn't looked at.
+    Propose(u8, u32, u32),
+    /// All that was handed out since the last look, all to one node.
+    Answers(u8, &'static [Answer]),
+    /// As many messages were handed out since the last look.
+    Many(usize),
+}
+
+fn act(rt: &impl Abort, node: &mut Peer, step: Step) -> Result<(), Halt> {
+    match step {
+        Step::Prepare(from, first, count, round) => {
+            let message = prepare(node, from, first, count, round)?;
+            node.hand(&message)?;
+        }
+        Step::Fails(from, first, count, round) => {
+            let message = prepare(node, from, first, count, round)?;
+            node.arm(0);
+            assert_eq!(rt; node.hand(&message), Err(Halt::Node(NodeFault::Device)));
+            assert_eq!(rt; node.out().len(), 0);
+        }
+        Step::Propose(from, at, round) => {
+            let message = propose(node, from, at, round)?;
+            node.hand(&message)?;
+            node.forget_said();
+        }
+        Step::Answers(to, wanted) => answers(rt, node, to, wanted)?,
+        Step::Many(count) => {
+            assert_eq!(rt; node.out().len(), count);
+            node.forget_said();
+        }
+    }
     Ok(())
 }
 
-fn each_by_itself(rt: &impl Abort, node: &mut Peer) -> Result<(), Halt> {
-    of_three_kinds(rt, node)?;
-    node.hand(&prepare(node, 1, 5, 3, 2)?)?;
-    answers(rt, node, 1, &[Answer::Promise(5), Answer::Nack(6, 3)])
+fn act_all(rt: &impl Abort, node: &mut Peer, steps: &[Step]) -> Result<(), Halt> {
+    for step in steps {
+        act(rt, node, *step)?;
+    }
+    Ok(())
 }
+
+/// Steps of a fresh node of three.
+fn play(rt: &impl Abort, alloc: Global, steps: &[Step]) -> Result<(), Halt> {
+    let mut node = Peer::fresh(alloc, 3)?;
+    act_all(rt, &mut node, steps)
+}
+
+/// Steps of a fresh node of three, and further ones behind a crash that loses what was not synced.
+fn play_over_a_crash(
+    rt: &impl Abort,
+    alloc: Global,
+    before: &[Step],
+    behind: &[Step],
+) -> Result<(), Halt> {
+    let mut node = Peer::fresh(alloc, 3)?;
+    act_all(rt, &mut node, before)?;
+    let mut node = node.again(Some(0))?;
+    act_all(rt, &mut node, behind)
+}
+
+/// Instance 5 is promised to (1, 1), 6 to (3, 2), 7 has a vote at (2, 1): then a prepare of all three is promised, refused, and not answered.
+const THREE_KINDS: [Step; 7] = [
+    Step::Prepare(1, 5, 1, 1),
+    Step::Answers(1, &[Answer::Promise(5)]),
+    Step::Prepare(2, 6, 1, 3),
+    Step::Answers(2, &[Answer::Promise(6)]),
+    Step::Propose(1, 7, 2),
+    Step::Prepare(1, 5, 3, 2),
+    Step::Answers(1, &[Answer::Promise(5), Answer::Nack(6, 3)]),
+];
 
 /// Each instance of a span is judged by itself: a promise, a refusal, and nothing.
 #[test]
 fn slots_of_three_kinds_answer_each_by_itself(rt: HostRuntime) -> Result<(), Fail> {
-    let mut node = Peer::fresh(rt.alloc(), 3)?;
-    each_by_itself(&rt, &mut node)?;
-    Ok(())
+    Ok(play(&rt, rt.alloc(), &THREE_KINDS)?)
 }
 
 /// What was promised is kept, and nothing else of the span was raised.
 #[test]
 fn a_span_is_kept_over_a_crash(rt: HostRuntime) -> Result<(), Fail> {
-    let mut node = Peer::fresh(rt.alloc(), 3)?;
-    each_by_itself(&rt, &mut node)?;
-    let mut node = node.again(Some(0))?;
-    node.hand(&prepare(&node, 3, 5, 3, 1)?)?;
-    answers(
-        &rt,
-        &mut node,
-        3,
-        &[Answer::Nack(5, 2), Answer::Nack(6, 3), Answer::Nack(7, 2)],
-    )?;
-    Ok(())
+    let behind = [
+        Step::Many(0),
+        Step::Prepare(3, 5, 3, 1),
+        Step::Answers(
+            3,
+            &[Answer::Nack(5, 2), Answer::Nack(6, 3), Answer::Nack(7, 2)],
+        ),
+    ];
+    Ok(play_over_a_crash(&rt, rt.alloc(), &THREE_KINDS, &behind)?)
 }
 
-/// Two spans that overlap by halves: the lower one is refused where the higher one was promised, and promised elsewhere. The higher one then tells the vote.
+/// Two spans that overlap by halves: the lower one is refused where the higher one was promised, and promised elsewhere. A third one, above both, is told the vote.
 #[test]
 fn two_spans_overlap_by_halves(rt: HostRuntime) -> Result<(), Fail> {
-    let mut node = Peer::fresh(rt.alloc(), 3)?;
-    node.hand(&prepare(&node, 3, 3, 4, 2)?)?;
-    answers(
-        &rt,
-        &mut node,
-        3,
-        &[
-            Answer::Promise(3),
-            Answer::Promise(4),
-            Answer::Promise(5),
-            Answer::Promise(6),
-        ],
-    )?;
-    node.hand(&prepare(&node, 2, 1, 4, 1)?)?;
-    answers(
-        &rt,
-        &mut node,
-        2,
-        &[
-            Answer::Promise(1),
-            Answer::Promise(2),
-            Answer::Nack(3, 2),
-            Answer::Nack(4, 2),
-        ],
-    )?;
-    node.hand(&propose(&node, 2, 2, 1)?)?;
-    node.forget_said();
-    node.hand(&prepare(&node, 3, 1, 4, 5)?)?;
-    answers(
-        &rt,
-        &mut node,
-        3,
-        &[
-            Answer::Promise(1),
-            Answer::Told(2, 1),
-            Answer::Promise(3),
-            Answer::Promise(4),
-        ],
-    )?;
-    Ok(())
+    let steps = [
+        Step::Prepare(3, 3, 4, 2),
+        Step::Answers(
+            3,
+            &[
+                Answer::Promise(3),
+                Answer::Promise(4),
+                Answer::Promise(5),
+                Answer::Promise(6),
+            ],
+        ),
+        Step::Prepare(2, 1, 4, 1),
+        Step::Answers(
+            2,
+            &[
+                Answer::Promise(1),
+                Answer::Promise(2),
+                Answer::Nack(3, 2),
+                Answer::Nack(4, 2),
+            ],
+        ),
+        Step::Propose(2, 2, 1),
+        Step::Prepare(3, 1, 4, 5),
+        Step::Answers(
+            3,
+            &[
+                Answer::Promise(1),
+                Answer::Told(2, 1),
+                Answer::Promise(3),
+                Answer::Promise(4),
+            ],
+        ),
+    ];
+    Ok(play(&rt, rt.alloc(), &steps)?)
 }
 
 /// Sixty-four instances, the last of them the last there is, of which the last alone rises.
 #[test]
 fn the_last_of_a_long_span_rises(rt: HostRuntime) -> Result<(), Fail> {
-    let mut node = Peer::fresh(rt.alloc(), 3)?;
-    node.hand(&prepare(&node, 3, 999_937, 63, 1)?)?;
-    node.forget_said();
-    node.hand(&prepare(&node, 3, 999_937, 64, 1)?)?;
-    assert_eq!(rt; node.out().len(), 64);
-    let mut node = node.again(Some(0))?;
-    node.forget_said();
-    node.hand(&prepare(&node, 2, 1_000_000, 1, 1)?)?;
-    answers(&rt, &mut node, 2, &[Answer::Nack(1_000_000, 1)])?;
-    Ok(())
+    let before = [
+        Step::Prepare(3, 999_937, 63, 1),
+        Step::Many(63),
+        Step::Prepare(3, 999_937, 64, 1),
+        Step::Many(64),
+    ];
+    let behind = [
+        Step::Prepare(2, 1_000_000, 1, 1),
+        Step::Answers(2, &[Answer::Nack(1_000_000, 1)]),
+    ];
+    Ok(play_over_a_crash(&rt, rt.alloc(), &before, &behind)?)
 }
 
 /// A device that fails in the put hands nothing out, and raises nothing.
 #[test]
 fn a_span_that_is_not_put_answers_nothing(rt: HostRuntime) -> Result<(), Fail> {
-    let mut node = Peer::fresh(rt.alloc(), 3)?;
-    node.arm(0);
-    let spans = prepare(&node, 3, 1, 3, 1)?;
-    assert_eq!(rt; node.hand(&spans), Err(Halt::Node(NodeFault::Device)));
-    assert_eq!(rt; node.out().len(), 0);
-    let mut node = node.again(Some(0))?;
-    node.hand(&prepare(&node, 2, 2, 1, 1)?)?;
-    answers(&rt, &mut node, 2, &[Answer::Promise(2)])?;
-    Ok(())
+    let before = [Step::Fails(3, 1, 3, 1)];
+    let behind = [
+        Step::Prepare(2, 2, 1, 1),
+        Step::Answers(2, &[Answer::Promise(2)]),
+    ];
+    Ok(play_over_a_crash(&rt, rt.alloc(), &before, &behind)?)
 }
