@@ -7,7 +7,7 @@ use std::rt::Files;
 use std::{fs, io};
 
 /// So many folders are looked into, and no more: a link may lead back.
-const MAX_FOLDERS: u32 = 100_000;
+const MAX_FOLDERS: u32 = 10_000;
 
 /// The files of a folder, in the order of their paths, and the paths that were passed over.
 #[derive(Drop)]
@@ -126,6 +126,9 @@ pub(crate) fn files_of<R: Files + AllocGlobal + Clone + Drop>(
             break;
         };
         look_in(rt, root, folder.as_str(), &mut search)?;
+    }
+    if !search.pending.is_empty() {
+        return Err(Halt::ManyFolders);
     }
     let mut files = Vec::new(alloc);
     for (path, bytes) in search.files {

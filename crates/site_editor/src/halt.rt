@@ -14,6 +14,8 @@ pub(crate) enum Halt {
     /// A file or a folder, and what the system says of it.
     #[error("{0}: {1}")]
     File(String, io::Error),
+    #[error("more than 10,000 folders: a link may lead back")]
+    ManyFolders,
     #[error("standard output could not be written")]
     Write,
     #[error("out of memory")]
@@ -46,7 +48,7 @@ impl Halt {
     pub(crate) fn status(&self) -> u8 {
         match self {
             Halt::Line(_) | Halt::NotUtf8 => 2,
-            Halt::File(_, _) | Halt::Write | Halt::OutOfMemory => 1,
+            Halt::File(_, _) | Halt::ManyFolders | Halt::Write | Halt::OutOfMemory => 1,
         }
     }
 }

@@ -9,7 +9,7 @@ pub(crate) enum Word<'a> {
     New {
         folder: &'a str,
     },
-    /// Tells all that is wrong with a folder.
+    /// Tells what is wrong with a folder.
     Check {
         folder: &'a str,
         ignore: bool,
@@ -48,7 +48,7 @@ fn new_word<'a>(alloc: Global) -> Result<Command<'a>, Error> {
 fn check_word<'a>(alloc: Global) -> Result<Command<'a>, Error> {
     Ok(
         Command::new(alloc, "check")
-            .about("Tells all that is wrong with a folder, each with its place and what to do")
+            .about("Tells what is wrong with a folder, each fault with its place and what to do")
             .arg(folder_argument(alloc, "The folder of the site"))?
             .arg(ignore_flag(alloc))?,
     )
