@@ -25,3 +25,4 @@ pub mod Unread
 pub mod Counting
 pub mod TicketSets
 pub mod Adding
+pub mod Elsewhere

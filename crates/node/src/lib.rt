@@ -21,6 +21,7 @@ mod queue;
 mod running;
 mod submitted;
 mod submitting;
+mod telling;
 mod tickets;
 mod ticking;
 mod to;
