@@ -3,7 +3,7 @@ use Rattle.std.proofs.Common.{◌≡◌, ℕ, ◌<◌, ◌^◌, List, [], ◌∷
 use Rattle.std.proofs.lemmas.Fmt.{decimal_injective}
 use Rattle.std.proofs.lemmas.List.{append_cancel_left}
 use Rattle.site_ids.specs.Ids.{IsNode}
-use Rattle.schedule_engine.specs.Schedule.{Line, submit_line, tick_line, widen_line, ask_line, restart_line, deliver_line, arm_line, crash_line, settle_line, show_line, get_line, words, body, spelled, Fits}
+use Rattle.schedule_engine.specs.Schedule.{Line, submit_line, tick_line, widen_line, ask_line, restart_line, deliver_line, arm_line, crash_line, settle_line, quiet_line, show_line, get_line, words, body, spelled, Fits}
 use Rattle.engine_parts.specs.Submissions.{joined}
 use Rattle.schedule_engine.specs.Laws.{OneLine}
 use Rattle.engine_parts.proofs.CutLemmas.{lacks-decimal}
@@ -44,6 +44,7 @@ same_line (submit_line p t x) (deliver_line p' i') rest others hl hm e more = le
 same_line (submit_line p t x) (arm_line p' i') rest others hl hm e more = let starts = begins_so _ _ e in absurd (omega (arith, starts.0, starts.1))
 same_line (submit_line p t x) (crash_line p' i') rest others hl hm e more = let starts = begins_so _ _ e in absurd (omega (arith, starts.0, starts.1))
 same_line (submit_line p t x) settle_line rest others hl hm e more = let starts = begins_so _ _ e in absurd (omega (arith, starts.0, starts.1))
+same_line (submit_line p t x) (quiet_line p') rest others hl hm e more = let starts = begins_so _ _ e in absurd (omega (arith, starts.0, starts.1))
 same_line (submit_line p t x) (show_line p') rest others hl hm e more = let starts = begins_so _ _ e in absurd (omega (arith, starts.0, starts.1))
 same_line (submit_line p t x) (get_line p' n' path') rest others hl hm e more = let starts = begins_so _ _ e in absurd (omega (arith, starts.0, starts.1))
 same_line (tick_line p) (submit_line p' t' x') rest others hl hm e more = let starts = begins_so _ _ e in absurd (omega (arith, starts.0, starts.1))
@@ -55,6 +56,7 @@ same_line (tick_line p) (deliver_line p' i') rest others hl hm e more = let star
 same_line (tick_line p) (arm_line p' i') rest others hl hm e more = let starts = begins_so _ _ e in absurd (omega (arith, starts.0, starts.1))
 same_line (tick_line p) (crash_line p' i') rest others hl hm e more = let starts = begins_so _ _ e in absurd (omega (arith, starts.0, starts.1))
 same_line (tick_line p) settle_line rest others hl hm e more = let starts = begins_so _ _ e in absurd (omega (arith, starts.0, starts.1))
+same_line (tick_line p) (quiet_line p') rest others hl hm e more = let starts = begins_so _ _ e in absurd (omega (arith, starts.0, starts.1))
 same_line (tick_line p) (show_line p') rest others hl hm e more = let starts = begins_so _ _ e in absurd (omega (arith, starts.0, starts.1))
 same_line (tick_line p) (get_line p' n' path') rest others hl hm e more = let starts = begins_so _ _ e in absurd (omega (arith, starts.0, starts.1))
 same_line (widen_line p) (submit_line p' t' x') rest others hl hm e more = let starts = begins_so _ _ e in absurd (omega (arith, starts.0, starts.1))
@@ -66,6 +68,7 @@ same_line (widen_line p) (deliver_line p' i') rest others hl hm e more = let sta
 same_line (widen_line p) (arm_line p' i') rest others hl hm e more = let starts = begins_so _ _ e in absurd (omega (arith, starts.0, starts.1))
 same_line (widen_line p) (crash_line p' i') rest others hl hm e more = let starts = begins_so _ _ e in absurd (omega (arith, starts.0, starts.1))
 same_line (widen_line p) settle_line rest others hl hm e more = let starts = begins_so _ _ e in absurd (omega (arith, starts.0, starts.1))
+same_line (widen_line p) (quiet_line p') rest others hl hm e more = let starts = begins_so _ _ e in absurd (omega (arith, starts.0, starts.1))
 same_line (widen_line p) (show_line p') rest others hl hm e more = let starts = begins_so _ _ e in absurd (omega (arith, starts.0, starts.1))
 same_line (widen_line p) (get_line p' n' path') rest others hl hm e more = let starts = begins_so _ _ e in absurd (omega (arith, starts.0, starts.1))
 same_line (ask_line p) (submit_line p' t' x') rest others hl hm e more = let starts = begins_so _ _ e in absurd (omega (arith, starts.0, starts.1))
@@ -77,6 +80,7 @@ same_line (ask_line p) (deliver_line p' i') rest others hl hm e more = let start
 same_line (ask_line p) (arm_line p' i') rest others hl hm e more = let starts = begins_so _ _ e in absurd (omega (arith, starts.0, starts.1))
 same_line (ask_line p) (crash_line p' i') rest others hl hm e more = let starts = begins_so _ _ e in absurd (omega (arith, starts.0, starts.1))
 same_line (ask_line p) settle_line rest others hl hm e more = let starts = begins_so _ _ e in absurd (omega (arith, starts.0, starts.1))
+same_line (ask_line p) (quiet_line p') rest others hl hm e more = let starts = begins_so _ _ e in absurd (omega (arith, starts.0, starts.1))
 same_line (ask_line p) (show_line p') rest others hl hm e more = let starts = begins_so _ _ e in absurd (omega (arith, starts.0, starts.1))
 same_line (ask_line p) (get_line p' n' path') rest others hl hm e more = let starts = begins_so _ _ e in absurd (omega (arith, starts.0, starts.1))
 same_line (restart_line p) (submit_line p' t' x') rest others hl hm e more = let starts = begins_so _ _ e in absurd (omega (arith, starts.0, starts.1))
@@ -88,6 +92,7 @@ same_line (restart_line p) (deliver_line p' i') rest others hl hm e more = let s
 same_line (restart_line p) (arm_line p' i') rest others hl hm e more = let starts = begins_so _ _ e in absurd (omega (arith, starts.0, starts.1))
 same_line (restart_line p) (crash_line p' i') rest others hl hm e more = let starts = begins_so _ _ e in absurd (omega (arith, starts.0, starts.1))
 same_line (restart_line p) settle_line rest others hl hm e more = let starts = begins_so _ _ e in absurd (omega (arith, starts.0, starts.1))
+same_line (restart_line p) (quiet_line p') rest others hl hm e more = let starts = begins_so _ _ e in absurd (omega (arith, starts.0, starts.1))
 same_line (restart_line p) (show_line p') rest others hl hm e more = let starts = begins_so _ _ e in absurd (omega (arith, starts.0, starts.1))
 same_line (restart_line p) (get_line p' n' path') rest others hl hm e more = let starts = begins_so _ _ e in absurd (omega (arith, starts.0, starts.1))
 same_line (deliver_line p i) (submit_line p' t' x') rest others hl hm e more = let starts = begins_so _ _ e in absurd (omega (arith, starts.0, starts.1))
@@ -99,6 +104,7 @@ same_line (deliver_line p i) (deliver_line p' i') rest others hl hm e more = one
 same_line (deliver_line p i) (arm_line p' i') rest others hl hm e more = let starts = begins_so _ _ e in absurd (omega (arith, starts.0, starts.1))
 same_line (deliver_line p i) (crash_line p' i') rest others hl hm e more = let starts = begins_so _ _ e in absurd (omega (arith, starts.0, starts.1))
 same_line (deliver_line p i) settle_line rest others hl hm e more = let starts = begins_so _ _ e in absurd (omega (arith, starts.0, starts.1))
+same_line (deliver_line p i) (quiet_line p') rest others hl hm e more = let starts = begins_so _ _ e in absurd (omega (arith, starts.0, starts.1))
 same_line (deliver_line p i) (show_line p') rest others hl hm e more = let starts = begins_so _ _ e in absurd (omega (arith, starts.0, starts.1))
 same_line (deliver_line p i) (get_line p' n' path') rest others hl hm e more = let starts = begins_so _ _ e in absurd (omega (arith, starts.0, starts.1))
 same_line (arm_line p i) (submit_line p' t' x') rest others hl hm e more = let starts = begins_so _ _ e in absurd (omega (arith, starts.0, starts.1))
@@ -110,6 +116,7 @@ same_line (arm_line p i) (deliver_line p' i') rest others hl hm e more = let sta
 same_line (arm_line p i) (arm_line p' i') rest others hl hm e more = one_pair arm_line (codes "arm ") p i p' i' rest others hl.0 hm.0 (omega arith) (omega arith) e more
 same_line (arm_line p i) (crash_line p' i') rest others hl hm e more = let starts = begins_so _ _ e in absurd (omega (arith, starts.0, starts.1))
 same_line (arm_line p i) settle_line rest others hl hm e more = let starts = begins_so _ _ e in absurd (omega (arith, starts.0, starts.1))
+same_line (arm_line p i) (quiet_line p') rest others hl hm e more = let starts = begins_so _ _ e in absurd (omega (arith, starts.0, starts.1))
 same_line (arm_line p i) (show_line p') rest others hl hm e more = let starts = begins_so _ _ e in absurd (omega (arith, starts.0, starts.1))
 same_line (arm_line p i) (get_line p' n' path') rest others hl hm e more = let starts = begins_so _ _ e in absurd (omega (arith, starts.0, starts.1))
 same_line (crash_line p i) (submit_line p' t' x') rest others hl hm e more = let starts = begins_so _ _ e in absurd (omega (arith, starts.0, starts.1))
@@ -121,6 +128,7 @@ same_line (crash_line p i) (deliver_line p' i') rest others hl hm e more = let s
 same_line (crash_line p i) (arm_line p' i') rest others hl hm e more = let starts = begins_so _ _ e in absurd (omega (arith, starts.0, starts.1))
 same_line (crash_line p i) (crash_line p' i') rest others hl hm e more = one_pair crash_line (codes "crash ") p i p' i' rest others hl.0 hm.0 (omega arith) (omega arith) e more
 same_line (crash_line p i) settle_line rest others hl hm e more = let starts = begins_so _ _ e in absurd (omega (arith, starts.0, starts.1))
+same_line (crash_line p i) (quiet_line p') rest others hl hm e more = let starts = begins_so _ _ e in absurd (omega (arith, starts.0, starts.1))
 same_line (crash_line p i) (show_line p') rest others hl hm e more = let starts = begins_so _ _ e in absurd (omega (arith, starts.0, starts.1))
 same_line (crash_line p i) (get_line p' n' path') rest others hl hm e more = let starts = begins_so _ _ e in absurd (omega (arith, starts.0, starts.1))
 same_line settle_line (submit_line p' t' x') rest others hl hm e more = let starts = begins_so _ _ e in absurd (omega (arith, starts.0, starts.1))
@@ -132,8 +140,21 @@ same_line settle_line (deliver_line p' i') rest others hl hm e more = let starts
 same_line settle_line (arm_line p' i') rest others hl hm e more = let starts = begins_so _ _ e in absurd (omega (arith, starts.0, starts.1))
 same_line settle_line (crash_line p' i') rest others hl hm e more = let starts = begins_so _ _ e in absurd (omega (arith, starts.0, starts.1))
 same_line settle_line settle_line rest others hl hm e more = (refl, more)
+same_line settle_line (quiet_line p') rest others hl hm e more = let starts = begins_so _ _ e in absurd (omega (arith, starts.0, starts.1))
 same_line settle_line (show_line p') rest others hl hm e more = let starts = begins_so _ _ e in absurd (omega (arith, starts.0, starts.1))
 same_line settle_line (get_line p' n' path') rest others hl hm e more = let starts = begins_so _ _ e in absurd (omega (arith, starts.0, starts.1))
+same_line (quiet_line p) (submit_line p' t' x') rest others hl hm e more = let starts = begins_so _ _ e in absurd (omega (arith, starts.0, starts.1))
+same_line (quiet_line p) (tick_line p') rest others hl hm e more = let starts = begins_so _ _ e in absurd (omega (arith, starts.0, starts.1))
+same_line (quiet_line p) (widen_line p') rest others hl hm e more = let starts = begins_so _ _ e in absurd (omega (arith, starts.0, starts.1))
+same_line (quiet_line p) (ask_line p') rest others hl hm e more = let starts = begins_so _ _ e in absurd (omega (arith, starts.0, starts.1))
+same_line (quiet_line p) (restart_line p') rest others hl hm e more = let starts = begins_so _ _ e in absurd (omega (arith, starts.0, starts.1))
+same_line (quiet_line p) (deliver_line p' i') rest others hl hm e more = let starts = begins_so _ _ e in absurd (omega (arith, starts.0, starts.1))
+same_line (quiet_line p) (arm_line p' i') rest others hl hm e more = let starts = begins_so _ _ e in absurd (omega (arith, starts.0, starts.1))
+same_line (quiet_line p) (crash_line p' i') rest others hl hm e more = let starts = begins_so _ _ e in absurd (omega (arith, starts.0, starts.1))
+same_line (quiet_line p) settle_line rest others hl hm e more = let starts = begins_so _ _ e in absurd (omega (arith, starts.0, starts.1))
+same_line (quiet_line p) (quiet_line p') rest others hl hm e more = one_node quiet_line (codes "quiet ") p p' rest others hl hm e more
+same_line (quiet_line p) (show_line p') rest others hl hm e more = let starts = begins_so _ _ e in absurd (omega (arith, starts.0, starts.1))
+same_line (quiet_line p) (get_line p' n' path') rest others hl hm e more = let starts = begins_so _ _ e in absurd (omega (arith, starts.0, starts.1))
 same_line (show_line p) (submit_line p' t' x') rest others hl hm e more = let starts = begins_so _ _ e in absurd (omega (arith, starts.0, starts.1))
 same_line (show_line p) (tick_line p') rest others hl hm e more = let starts = begins_so _ _ e in absurd (omega (arith, starts.0, starts.1))
 same_line (show_line p) (widen_line p') rest others hl hm e more = let starts = begins_so _ _ e in absurd (omega (arith, starts.0, starts.1))
@@ -143,6 +164,7 @@ same_line (show_line p) (deliver_line p' i') rest others hl hm e more = let star
 same_line (show_line p) (arm_line p' i') rest others hl hm e more = let starts = begins_so _ _ e in absurd (omega (arith, starts.0, starts.1))
 same_line (show_line p) (crash_line p' i') rest others hl hm e more = let starts = begins_so _ _ e in absurd (omega (arith, starts.0, starts.1))
 same_line (show_line p) settle_line rest others hl hm e more = let starts = begins_so _ _ e in absurd (omega (arith, starts.0, starts.1))
+same_line (show_line p) (quiet_line p') rest others hl hm e more = let starts = begins_so _ _ e in absurd (omega (arith, starts.0, starts.1))
 same_line (show_line p) (show_line p') rest others hl hm e more = one_node show_line (codes "show ") p p' rest others hl hm e more
 same_line (show_line p) (get_line p' n' path') rest others hl hm e more = let starts = begins_so _ _ e in absurd (omega (arith, starts.0, starts.1))
 same_line (get_line p n path) (submit_line p' t' x') rest others hl hm e more = let starts = begins_so _ _ e in absurd (omega (arith, starts.0, starts.1))
@@ -154,6 +176,7 @@ same_line (get_line p n path) (deliver_line p' i') rest others hl hm e more = le
 same_line (get_line p n path) (arm_line p' i') rest others hl hm e more = let starts = begins_so _ _ e in absurd (omega (arith, starts.0, starts.1))
 same_line (get_line p n path) (crash_line p' i') rest others hl hm e more = let starts = begins_so _ _ e in absurd (omega (arith, starts.0, starts.1))
 same_line (get_line p n path) settle_line rest others hl hm e more = let starts = begins_so _ _ e in absurd (omega (arith, starts.0, starts.1))
+same_line (get_line p n path) (quiet_line p') rest others hl hm e more = let starts = begins_so _ _ e in absurd (omega (arith, starts.0, starts.1))
 same_line (get_line p n path) (show_line p') rest others hl hm e more = let starts = begins_so _ _ e in absurd (omega (arith, starts.0, starts.1))
 same_line (get_line p n path) (get_line p' n' path') rest others hl hm e more =
     let first = one_word (codes "get ") (joined (words (get_line p n path))) (decimal p) (decimal n ++ (32 ∷ path)) p' (decimal n' ++ (32 ∷ path')) (lacks-decimal 32 p (omega arith) (omega arith)) refl (omega arith) e in

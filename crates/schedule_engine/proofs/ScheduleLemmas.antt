@@ -4,7 +4,7 @@ use Rattle.std.proofs.lemmas.Fmt.{decimal_injective}
 use Rattle.site_ids.specs.Ids.{IsNode}
 use Rattle.site_ids.specs.declared.Ticket.{Ticket}
 use Rattle.engine_parts.specs.Cuts.{Lacks, IsCut}
-use Rattle.schedule_engine.specs.Schedule.{Line, submit_line, tick_line, widen_line, ask_line, restart_line, deliver_line, arm_line, crash_line, settle_line, show_line, get_line, submit_words, words, body, spelled, Fits, HasNoLine, GetsNoLine, spelled_nodes, HasNoNodes, GetsNoNodes}
+use Rattle.schedule_engine.specs.Schedule.{Line, submit_line, tick_line, widen_line, ask_line, restart_line, deliver_line, arm_line, crash_line, settle_line, quiet_line, show_line, get_line, submit_words, words, body, spelled, Fits, HasNoLine, GetsNoLine, spelled_nodes, HasNoNodes, GetsNoNodes}
 use Rattle.engine_parts.specs.Submissions.{joined, FitsSubmission}
 use Rattle.engine_parts.proofs.CutLemmas.{Same, no_cut, one_cut}
 use Rattle.engine_parts.proofs.CutLemmas.{lacks-decimal}
@@ -28,6 +28,7 @@ lacks-words (deliver_line p index) ok = lacks-behind (codes "deliver ") _ refl (
 lacks-words (arm_line p calls) ok = lacks-behind (codes "arm ") _ refl (lacks-number p _ (omega arith) (lacks-last calls (omega arith)))
 lacks-words (crash_line p choice) ok = lacks-behind (codes "crash ") _ refl (lacks-number p _ (omega arith) (lacks-last choice (omega arith)))
 lacks-words settle_line ok = lacks-codes 10 (codes "settle") refl
+lacks-words (quiet_line p) ok = lacks-behind (codes "quiet ") _ refl (lacks-last p (omega arith))
 lacks-words (show_line p) ok = lacks-behind (codes "show ") _ refl (lacks-last p (omega arith))
 lacks-words (get_line p n path) ok = lacks-behind (codes "get ") _ refl (lacks-number p _ (omega arith) (lacks-number n _ (omega arith) ok.2.no_newline))
 
@@ -59,6 +60,7 @@ of_neither head (deliver_line p index) plain submission ok e = plain (deliver_li
 of_neither head (arm_line p calls) plain submission ok e = plain (arm_line p calls) ok refl e
 of_neither head (crash_line p choice) plain submission ok e = plain (crash_line p choice) ok refl e
 of_neither head settle_line plain submission ok e = plain settle_line ok refl e
+of_neither head (quiet_line p) plain submission ok e = plain (quiet_line p) ok refl e
 of_neither head (show_line p) plain submission ok e = plain (show_line p) ok refl e
 of_neither head (get_line p n path) plain submission ok e = plain (get_line p n path) ok refl e
 
@@ -87,6 +89,7 @@ text_of p ticket len after (deliver_line q index) rest hp ok is whole = let star
 text_of p ticket len after (arm_line q calls) rest hp ok is whole = let starts = begins_so _ _ is in absurd (omega (arith, starts.0, starts.1))
 text_of p ticket len after (crash_line q choice) rest hp ok is whole = let starts = begins_so _ _ is in absurd (omega (arith, starts.0, starts.1))
 text_of p ticket len after settle_line rest hp ok is whole = let starts = begins_so _ _ is in absurd (omega (arith, starts.0, starts.1))
+text_of p ticket len after (quiet_line q) rest hp ok is whole = let starts = begins_so _ _ is in absurd (omega (arith, starts.0, starts.1))
 text_of p ticket len after (show_line q) rest hp ok is whole = let starts = begins_so _ _ is in absurd (omega (arith, starts.0, starts.1))
 text_of p ticket len after (get_line q n path) rest hp ok is whole = let starts = begins_so _ _ is in absurd (omega (arith, starts.0, starts.1))
 

@@ -9,6 +9,8 @@ use Rattle.world.specs.declared.event.Event.{Event}
 use Rattle.world.specs.declared.event.Event.TheVariants.{Deliver}
 use Rattle.world.specs.declared.fault.WorldFault.{WorldFault}
 use Rattle.world.specs.declared.fault.WorldFault.TheVariants.{BadEvent}
+use Rattle.world.specs.Quiet.{IsQuiet, IsShort}
+use Rattle.world.specs.Quieting.{AreUp, Learns}
 use Rattle.world.specs.Taking.{TakesAll, IsBad, MeetsBadEvent}
 use Rattle.world.specs.Telling.{fed_at}
 use Rattle.world.specs.Worlds.{World}
@@ -24,8 +26,8 @@ use Rattle.engine_parts.specs.declared.ends.InputFault.TheVariants as input
 use Rattle.schedule_engine.specs.declared.simulator.SimFault.{SimFault}
 use Rattle.schedule_engine.specs.declared.simulator.Simulation.{Simulation}
 use Rattle.schedule_engine.specs.declared.simulator.SimFault.TheVariants as sim
-use Rattle.schedule_engine.specs.Schedule.{Line, submit_line, tick_line, widen_line, ask_line, restart_line, deliver_line, arm_line, crash_line, settle_line, show_line, get_line}
-use Rattle.schedule_engine.specs.Simulation.{Moment, IsMoment, Takes, to_each, deliveries, event_of, HasRelease, IsPage, IsNoPage, Does, TakesOne}
+use Rattle.schedule_engine.specs.Schedule.{Line, submit_line, tick_line, widen_line, ask_line, restart_line, deliver_line, arm_line, crash_line, settle_line, quiet_line, show_line, get_line}
+use Rattle.schedule_engine.specs.Simulation.{Moment, IsMoment, Takes, to_each, deliveries, event_of, HasRelease, IsPage, IsNoPage, Does, TakesOne, TakesPlan}
 use Rattle.schedule_engine.specs.SimulationEnds.{IsStart}
 use Rattle.engine_parts.specs.Feeds.{Grown, ReadEnds}
 use Rattle.schedule_engine.specs.Stepping.{FillEnds, BeginEnds, HappenEnds, moment_of, sim_fault}
@@ -185,6 +187,7 @@ does_one n old new (deliver_line p index) event printed is t = t
 does_one n old new (arm_line p calls) event printed is t = t
 does_one n old new (crash_line p choice) event printed is t = t
 does_one n old new settle_line event printed is t = cc
+does_one n old new (quiet_line p) event printed is t = cc
 does_one n old new (show_line p) event printed is t = cc
 does_one n old new (get_line p r path) event printed is t = cc
 
@@ -201,6 +204,37 @@ pub happened_settle : (old new : Simulation) (text : String Global) → string_b
 happened_settle old new text none all ok = λ n events m.
     let s = ok n events m in
     (events ++ deliveries n old.settled s.0, s.2.moment, (record { count = s.0; takes = s.2; settled = s.1; none_left = all }, none))
+
+-- ---- a quiet line
+
+abbrev Learning : ℕ → Code → Code → List Event → ℕ → Type 0
+Learning n old new past p = (reached : Reached old past) → IsQuiet n reached.world p → AreUp n new → (u : World) → IsWorldOf new u → Learns n reached.world p u
+
+-- a plan of a quiet state that was taken, or an empty one
+pub planned : (n : ℕ) (old new : Simulation) (events plan : List Event) (p : ℕ) → IsMoment n (moment_of old events) → IsShort old.world.cluster plan
+    → ((w : World) → IsWorldOf old.world w → ¬ IsQuiet old.world.cluster w p → plan ≡ []) → RunEnds old.world new.world plan (Ok tt) → new.world.cluster ≡ old.world.cluster → Reached new.world (events ++ plan) → new.settled ≡ old.settled
+    → Learning old.world.cluster old.world new.world events p → TakesPlan n (moment_of old events) p (moment_of new (events ++ plan))
+planned n old new events plan p m short none ends whose reached settled learns = record {
+  plan = plan;
+  short = subst (λ k. IsShort k plan) m.whose short;
+  none = λ w stands un. none w stands (λ quiet. un (subst (λ k. IsQuiet k w p) m.whose quiet));
+  takes = took n (moment_of old events) (moment_of new (events ++ plan)) plan ends whose reached refl m;
+  learns = subst (λ k. Learning k old.world new.world events p) m.whose learns;
+  settled = settled;
+}
+
+pub happened_plan : (old new : Simulation) (p : ℕ) (text : String Global) → string_bytes text ≡ [] → IsNode old.world.cluster p
+    → ((n : ℕ) (events : List Event) → IsMoment n (moment_of old events) → (later : List Event) × TakesPlan n (moment_of old events) p (moment_of new later)) → HappenEnds old new (quiet_line p) (Ok text)
+happened_plan old new p text none node ok = λ n events m. let t = ok n events m in (t.0, t.1.takes.moment, (subst (λ (k : ℕ). IsNode k p) m.whose node, t.1, none))
+
+-- the fault of one
+pub plan_fault : (old new : Simulation) (p : ℕ) (e : SimFault) (r : Result (String Global) SimFault) → r ≡ Err e → (e ≡ sim.BadLine) ⊎ (e ≡ sim.OutOfMemory) → (e ≡ sim.BadLine → ¬ IsNode old.world.cluster p) → HappenEnds old new (quiet_line p) r
+plan_fault old new p sim.BadLine r is k bad = rw is (bad refl)
+plan_fault old new p sim.BadEvent r is (inl k) bad = cc
+plan_fault old new p sim.BadEvent r is (inr k) bad = cc
+plan_fault old new p sim.OutOfMemory r is k bad = rw is tt
+plan_fault old new p sim.Read r is (inl k) bad = cc
+plan_fault old new p sim.Read r is (inr k) bad = cc
 
 -- ---- messages to all nodes
 

@@ -17,6 +17,7 @@ pub data Line : Type 0 where
   arm_line : (p calls : ℕ) → Line
   crash_line : (p choice : ℕ) → Line
   settle_line : Line
+  quiet_line : (p : ℕ) → Line
   show_line : (p : ℕ) → Line
   get_line : (p n : ℕ) (path : List ℕ) → Line
 
@@ -33,6 +34,7 @@ words (deliver_line p index) = codes "deliver" ∷ decimal p ∷ decimal index �
 words (arm_line p calls) = codes "arm" ∷ decimal p ∷ decimal calls ∷ []
 words (crash_line p choice) = codes "crash" ∷ decimal p ∷ decimal choice ∷ []
 words settle_line = codes "settle" ∷ []
+words (quiet_line p) = codes "quiet" ∷ decimal p ∷ []
 words (show_line p) = codes "show" ∷ decimal p ∷ []
 words (get_line p n path) = codes "get" ∷ decimal p ∷ decimal n ∷ path ∷ []
 
@@ -61,6 +63,7 @@ Fits (deliver_line p index) = IsNode 9 p × (index < 2 ^ 64)
 Fits (arm_line p calls) = IsNode 9 p × (calls < 2 ^ 32)
 Fits (crash_line p choice) = IsNode 9 p × (choice < 2 ^ 8)
 Fits settle_line = ⊤
+Fits (quiet_line p) = IsNode 9 p
 Fits (show_line p) = IsNode 9 p
 Fits (get_line p n path) = IsNode 9 p × (n < 2 ^ 64) × IsPath path
 

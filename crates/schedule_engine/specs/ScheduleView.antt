@@ -8,7 +8,7 @@ use Rattle.schedule_engine.specs.declared.schedule.Found.TheVariants as found
 use Rattle.schedule_engine.specs.declared.schedule.FoundNodes.{FoundNodes}
 use Rattle.schedule_engine.specs.declared.schedule.FoundNodes.TheVariants as found_nodes
 use Rattle.engine_parts.specs.declared.words.Submission.{Submission}
-use Rattle.schedule_engine.specs.Schedule.{Line, submit_line, tick_line, widen_line, ask_line, restart_line, deliver_line, arm_line, crash_line, settle_line, show_line, get_line, submit_words, Fits, spelled, HasNoLine, GetsNoLine, spelled_nodes, HasNoNodes, GetsNoNodes}
+use Rattle.schedule_engine.specs.Schedule.{Line, submit_line, tick_line, widen_line, ask_line, restart_line, deliver_line, arm_line, crash_line, settle_line, quiet_line, show_line, get_line, submit_words, Fits, spelled, HasNoLine, GetsNoLine, spelled_nodes, HasNoNodes, GetsNoNodes}
 
 abbrev pub line_view : Code → Line
 line_view (code.Submit node ticket text) = submit_line node ticket text.now
@@ -20,6 +20,7 @@ line_view (code.Deliver node index) = deliver_line node index
 line_view (code.Arm node calls) = arm_line node calls
 line_view (code.Crash node choice) = crash_line node choice
 line_view code.Settle = settle_line
+line_view (code.Quiet node) = quiet_line node
 line_view (code.Show node) = show_line node
 line_view (code.Get node release path) = get_line node release path.now
 

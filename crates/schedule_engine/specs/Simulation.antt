@@ -12,12 +12,14 @@ use Rattle.world.specs.declared.event.Event.TheVariants.{Submit, Tick, Widen, As
 use Rattle.world.specs.declared.state.NodeState.{NodeState}
 use Rattle.world.specs.declared.state.NodeState.TheVariants as told
 use Rattle.world.specs.declared.whole.World.{World as Code}
+use Rattle.world.specs.Quiet.{IsQuiet, IsShort}
+use Rattle.world.specs.Quieting.{AreUp, Learns}
 use Rattle.world.specs.Standing.{IsWorldOf, IsPublishedAt}
 use Rattle.world.specs.Steps.{LeadsTo, Reached, IsAnswer}
 use Rattle.world.specs.Taking.{TakesAll, IsBad}
 use Rattle.world.specs.Telling.{mode_told}
 use Rattle.world.specs.Worlds.{World}
-use Rattle.schedule_engine.specs.Schedule.{Line, submit_line, tick_line, widen_line, ask_line, restart_line, deliver_line, arm_line, crash_line, settle_line, show_line, get_line}
+use Rattle.schedule_engine.specs.Schedule.{Line, submit_line, tick_line, widen_line, ask_line, restart_line, deliver_line, arm_line, crash_line, settle_line, quiet_line, show_line, get_line}
 use Rattle.engine_parts.specs.Answers.{answer_lines}
 
 -- a running world, the events that it has taken since the start, and the least index that no settle has taken
@@ -68,6 +70,16 @@ pub record Settles (n : ℕ) (old new : Moment) : Type 0 where
   pub takes : Takes n old (deliveries n old.settled count) new
   pub settled : new.settled ≡ old.settled + count
   pub none_left : length (messages_of new.world.sent.items) ≤ new.settled
+
+-- Two ticks and 8 n deliveries at most, after which node p knows what was its first unknown instance, unless a device failed meanwhile. None outside of a
+-- quiet state
+pub record TakesPlan (n : ℕ) (old : Moment) (p : ℕ) (new : Moment) : Type 0 where
+  pub plan : List Event
+  pub short : IsShort n plan
+  pub none : (w : World) → IsWorldOf old.world w → ¬ IsQuiet n w p → plan ≡ []
+  pub takes : Takes n old plan new
+  pub learns : (reached : Reached old.world old.events) → IsQuiet n reached.world p → AreUp n new.world → (u : World) → IsWorldOf new.world u → Learns n reached.world p u
+  pub settled : new.settled ≡ old.settled
 
 -- ---- what is printed
 
@@ -124,12 +136,14 @@ pub record TakesOne (n : ℕ) (old : Moment) (line : Line) (printed : List ℕ) 
 -- what is printed, and the moment after the line
 abbrev pub Does : ℕ → Moment → Line → List ℕ → Moment → Type 0
 Does n old settle_line printed new = Settles n old new × (printed ≡ [])
+Does n old (quiet_line p) printed new = IsNode n p × TakesPlan n old p new × (printed ≡ [])
 Does n old (show_line p) printed new = IsNode n p × IsShown old p printed × (new ≡ old)
 Does n old (get_line p r path) printed new = IsNode n p × (IsPage old p r path printed ⊎ IsNoPage old p r path printed) × (new ≡ old)
 Does n old line printed new = TakesOne n old line printed new
 
--- a question to none of the nodes
+-- a quiet line of none of the nodes, or a question to none
 abbrev pub AsksNone : ℕ → Line → Type 0
+AsksNone n (quiet_line p) = ¬ IsNode n p
 AsksNone n (show_line p) = ¬ IsNode n p
 AsksNone n (get_line p r path) = ¬ IsNode n p
 AsksNone n _ = ⊥

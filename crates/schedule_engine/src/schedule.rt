@@ -46,6 +46,9 @@ pub(crate) enum Line<'a> {
         choice: u8,
     },
     Settle,
+    Quiet {
+        node: NodeId,
+    },
     Show {
         node: NodeId,
     },
@@ -133,6 +136,9 @@ fn plain_line(head: &[u8]) -> Option<Line<'_>>
     }
     if let Some(node) = node_after(head, "restart ") {
         return Some(Line::Restart { node });
+    }
+    if let Some(node) = node_after(head, "quiet ") {
+        return Some(Line::Quiet { node });
     }
     if let Some(node) = node_after(head, "show ") {
         return Some(Line::Show { node });

@@ -3,7 +3,7 @@ ghost use Rattle.std.specs.Prelude.{◌≡◌, ◌⊎◌, ℕ, List, [], ◌∷�
 ghost use Rattle.http_read.specs.Bytes.{end_of, IsGiven};
 ghost use Rattle.node.specs.Effects.{messages_of};
 ghost use Rattle.schedule_engine.specs.ScheduleView.{line_view};
-ghost use Rattle.schedule_engine.specs.Simulation.{Moment, IsMoment, Takes, event_of, to_each, deliveries, state_word, IsShown, got, page_lines, IsPage, IsNoPage};
+ghost use Rattle.schedule_engine.specs.Simulation.{Moment, IsMoment, Takes, TakesPlan, event_of, to_each, deliveries, state_word, IsShown, got, page_lines, IsPage, IsNoPage};
 ghost use Rattle.release.specs.Standing.{answer_view};
 ghost use Rattle.schedule_engine.specs.SimulationEnds.{IsStart, HasSimulated};
 ghost use Rattle.schedule_engine.specs.Stepping.{sim_fault, moment_of, HappenEnds, FillEnds, NextEnds, BeginEnds, IsSaid};
@@ -96,7 +96,7 @@ fn event_in(alloc: Global, line: &Line<'_>) -> Result<Option<Event>, AllocError>
             node: *node,
             choice: *choice,
         },
-        Line::Settle | Line::Show { .. } | Line::Get { .. } => return Ok(None),
+        Line::Settle | Line::Quiet { .. } | Line::Show { .. } | Line::Get { .. } => return Ok(None),
     };
     Ok(Some(event))
 }
@@ -192,6 +192,24 @@ impl Simulation {
         Ok(())
     }
 
+    /// Takes the events by which a node learns its next value in a quiet state; outside of one there are none.
+    fn quiet(&mut self, node: NodeId) -> Result<(), SimFault>
+        ensures ok { OnOk result (IsNode self.old.world.cluster node × ((n : ℕ) (events : List AbstractEvent) → IsMoment n (moment_of self.old events)
+            → (later : List AbstractEvent) × TakesPlan n (moment_of self.old events) node (moment_of self.new later))) }
+        ensures bad { IsErrOf result SimFault.BadLine → ¬ IsNode self.old.world.cluster node }
+        ensures faults { IfErr result (λ e. (e ≡ SimFault.BadLine) ⊎ (e ≡ SimFault.OutOfMemory)) }
+    {
+        if self.world.cluster().size() < node.number() {
+            return Err(SimFault::BadLine);
+        }
+        let plan = self.world.quiet_plan(node)?;
+        match self.world.run(plan.as_slice()) {
+            Ok(()) => Ok(()),
+            // (a disk in memory that isn't armed fails for want of memory alone)
+            Err(_) => Err(SimFault::OutOfMemory),
+        }
+    }
+
     /// The line of `show`.
     fn shown(&self, alloc: Global, node: NodeId) -> Result<String, SimFault>
         ensures ok { IfOk result (λ text. IsNode self.now.world.cluster node × ((n : ℕ) (events : List AbstractEvent) → IsMoment n (moment_of self.now events) → IsShown (moment_of self.now events) node (string_bytes text))) }
@@ -241,6 +259,10 @@ impl Simulation {
             } => self.got(alloc, *node, *release, path),
             Line::Settle => {
                 self.settle()?;
+                Ok(String::new(alloc))
+            }
+            Line::Quiet { node } => {
+                self.quiet(*node)?;
                 Ok(String::new(alloc))
             }
             _ => match event_in(alloc, line)? {

@@ -42,4 +42,9 @@ pub mod Bounds
 pub mod Overbidding
 pub mod Quieting
 pub mod Stretching
+mod Firsts
+mod AllQuiet
+mod Overbidders
+mod Pushing
+mod QuietPlans
 pub mod QuietWorked

@@ -99,28 +99,28 @@ module _ (n p c e : ℕ) where
       let f1 = all_each_to p (c + 2 + e + m) m in
       omega (arith, a, b, d, a1, b1, d1, f1)
 
-short_1 : (n p c e : ℕ) → 1 ≤ n → IsShort n (one_attempt n p c e)
-short_1 n p c e some = record {
+pub attempt_is_short : (n p c e : ℕ) → 1 ≤ n → IsShort n (one_attempt n p c e)
+attempt_is_short n p c e some = record {
   calm = attempt_calm n p c e;
   ticked = let t = attempt_ticks n p c e in omega (arith, t);
   delivered = let d = attempt_deliveries n p c e in omega (arith, d, some);
 }
 
-short_2 : (n p q c d e : ℕ) → 1 ≤ n → IsShort n (overbid_first p q c e (one_attempt n p d e))
-short_2 n p q c d e some = record {
+pub refused_is_short : (n p q c d e : ℕ) → 1 ≤ n → IsShort n (overbid_first p q c e (one_attempt n p d e))
+refused_is_short n p q c d e some = record {
   calm = attempt_calm n p d e;
   ticked = let t = attempt_ticks n p d e in omega (arith, t);
   delivered = let x = attempt_deliveries n p d e in omega (arith, x, some);
 }
 
-some_nodes : (n p : ℕ) → IsNode n p → 1 ≤ n
+pub some_nodes : (n p : ℕ) → IsNode n p → 1 ≤ n
 some_nodes n p node = let a = node.0 in let b = node.1 in omega (arith, a, b)
 
 pub plans_are_short : PlansAreShort
 plans_are_short n p w events node plan =
     ⊎_elim
-    (λ x. subst (λ l. IsShort n l) (sym x.1) (short_1 n p (length w.sent) (length plan.elsewhere) (some_nodes n p node)))
-    (λ x. subst (λ l. IsShort n l) (sym x.2) (short_2 n p x.0 (length w.sent) (length w.sent + 2 + length plan.elsewhere) (length plan.elsewhere) (some_nodes n p node)))
+    (λ x. subst (λ l. IsShort n l) (sym x.1) (attempt_is_short n p (length w.sent) (length plan.elsewhere) (some_nodes n p node)))
+    (λ x. subst (λ l. IsShort n l) (sym x.2) (refused_is_short n p x.0 (length w.sent) (length w.sent + 2 + length plan.elsewhere) (length plan.elsewhere) (some_nodes n p node)))
     plan.is
 
 -- ---- in a quiet state

@@ -1,5 +1,5 @@
 -- That a quiet stretch decides.
-use Rattle.std.specs.Prelude.{◌≡◌, ℕ, Some, None, Result, Ok, Err, List, take, slice_get, ⊤}
+use Rattle.std.specs.Prelude.{◌≡◌, ◌++◌, ℕ, Some, None, Result, Ok, Err, List, take, slice_get, ⊤}
 use Rattle.site_ids.specs.Ids.{IsNode}
 use Rattle.durable.specs.Entries.{last_vote}
 use Rattle.node.specs.Nodes.{Value, IsFirstUnknown}
@@ -36,6 +36,15 @@ QuietDecides = (n p : ℕ) (past events : List Event) (w after : World) → Runs
 abbrev pub PlansAreGood : Type 0
 PlansAreGood = (n p k : ℕ) (past events : List Event) (w after : World) (event : Event) → Runs n start past w → IsNode n p → IsQuiet n w p → IsPlan n w p events
     → TakesAll n w (take k events) after → AllRun n after → slice_get events k ≡ Some event → ¬ IsBad n after.sent event
+
+-- ---- calls
+
+-- some events more: in a quiet state they are its plan, and they are short
+pub record PushesPlan (code : Code) (p : ℕ) (old new : List Event) : Type 0 where
+  pub plan : List Event
+  pub pushed : new ≡ old ++ plan
+  pub short : IsShort code.cluster plan
+  pub is : (w : World) → IsWorldOf code w → IsQuiet code.cluster w p → IsPlan code.cluster w p plan
 
 -- ---- a run
 

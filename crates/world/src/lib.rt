@@ -1,13 +1,16 @@
 //! A cluster's nodes and the list of all messages ever handed out: events, schedules, that every schedule agrees, and a world that runs.
 #![tactic(auto)]
 
+mod bid;
 mod event;
 mod fault;
 mod halt;
 mod laws;
 mod passing;
 mod places;
+mod plan;
 mod queries;
+mod quiet;
 mod state;
 mod whole;
 

@@ -1,15 +1,18 @@
 //! One node of a world: running, stopped or down.
 
-ghost use Rattle.std.specs.Prelude.{◌≡◌, ◌≢◌, ◌<◌, ◌⊎◌, ℕ, [], Some, None, length, slice_get, IfOk, IfErr, OnOk, OnErr};
+ghost use Rattle.std.specs.Prelude.{◌≡◌, ◌≢◌, ◌<◌, ◌⊎◌, ◌↔◌, ℕ, List, [], Some, None, IsTrue, length, slice_get, IfOk, IfErr, OnOk, OnErr, MatchOption};
 
 use crate::Event;
 use crate::passing::passed;
 use durable::{Record, RecordFault};
 use node::{Node, Outbox};
 use site_disk::MemDisk;
-use site_ids::{Cluster, NodeId};
+use site_ids::{Ballot, Cluster, Instance, MAX_ROUND, NodeId};
 use std::alloc::{AllocError, Global};
 use std::mem;
+
+/// The greatest round that leaves two more.
+const LAST_QUIET_ROUND: u32 = MAX_ROUND - 2;
 
 #[derive(Drop)]
 pub(crate) enum Place {
@@ -25,13 +28,17 @@ impl Place {
     ghost use Rattle.durable.specs.Keeping.{Keeps};
     ghost use Rattle.wire.specs.declared.message.Message.{Message as AbstractMessage};
     ghost use Rattle.wire.specs.Messages.{IsMessage};
-    ghost use Rattle.node.specs.Nodes.{Node as AbstractNode, Up, Down, opened};
+    ghost use Rattle.node.specs.Nodes.{Node as AbstractNode, Up, Down, opened, IsFirstUnknown};
     ghost use Rattle.node.specs.Effects.{messages_of};
-    ghost use Rattle.node.specs.Calls.{submit as submission, tick as ticking, widen as widening, ask as asking, deliver as delivery};
+    ghost use Rattle.node.specs.Calls.{submit as submission, tick as ticking, widen as widening, ask as asking, deliver as delivery, fresh_ballot, HasRound, AreOpenElsewhere};
+    ghost use Rattle.proposer.specs.Attempts.{Attempt};
     ghost use Rattle.node.specs.Standing.{OnlyGrows};
     ghost use Rattle.site_ids.specs.Ids.{IsNode};
     ghost use Rattle.world.specs.declared.event.Event.TheVariants.{Arm};
     ghost use Rattle.world.specs.Standing.{IsPlaceOf, HasPublished};
+    ghost use Rattle.world.specs.Quiet.{IsQuietAt};
+    ghost use Rattle.acceptor.specs.declared.slot.Slot.{Slot};
+    ghost use Rattle.durable.specs.Entries.{IsSlot};
     ghost use Rattle.world.specs.Taking.{node_of, IsUnsent};
     ghost use Rattle.world.specs.Places.{EventTurns, EventWants, Turns, Wants, IsUp, RefusesOpening, CallTurns, CallWants, NodeTakes, Settled};
 
@@ -131,6 +138,48 @@ impl Place {
                 node.arm(calls);
                 *armed = true;
             }
+        }
+    }
+
+    /// The node runs, its disk is not armed, and each round on record leaves two more.
+    pub(crate) fn is_quiet(&self) -> bool
+        ensures { (n p : ℕ) (s : AbstractNode) → IsPlaceOf n p self.now s → IsTrue result ↔ IsQuietAt s }
+    {
+        match self {
+            Place::Bare(_) => false,
+            Place::Open { node, armed } => {
+                !node.is_stopped() && !*armed && node.greatest_round() <= LAST_QUIET_ROUND
+            }
+        }
+    }
+
+    /// What a node that runs has promised at an instance.
+    pub(crate) fn promised(&self, instance: Instance) -> Option<Ballot>
+        ensures { (n p : ℕ) (s : AbstractNode) → IsPlaceOf n p self.now s → s.mode ≡ Up → (slot : Slot) × IsSlot s.entries instance slot × (result ≡ slot.promised) }
+    {
+        match self {
+            Place::Bare(_) => None,
+            Place::Open { node, .. } => node.slot(instance).promised,
+        }
+    }
+
+    /// The ballot of its next attempt, None where rounds are used up.
+    pub(crate) fn next_ballot(&self) -> Option<Ballot>
+        ensures { (n p : ℕ) (s : AbstractNode) → IsPlaceOf n p self.now s → s.mode ≡ Up → MatchOption result (¬ HasRound s) (λ b. (b ≡ fresh_ballot p s) × HasRound s) }
+    {
+        match self {
+            Place::Bare(_) => None,
+            Place::Open { node, .. } => node.next_ballot(),
+        }
+    }
+
+    /// How many attempts of a node that runs are open but that at its first unknown instance.
+    pub(crate) fn tried_elsewhere(&self, first: Instance) -> u8
+        ensures { (n p : ℕ) (s : AbstractNode) (elsewhere : List (ℕ × Attempt)) → IsPlaceOf n p self.now s → s.mode ≡ Up → IsFirstUnknown s.known first → AreOpenElsewhere s first elsewhere → result ≡ length elsewhere }
+    {
+        match self {
+            Place::Bare(_) => 0,
+            Place::Open { node, .. } => node.tried_elsewhere(first),
         }
     }
 

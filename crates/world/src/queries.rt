@@ -45,7 +45,7 @@ impl World {
         self.sent.len()
     }
 
-    fn place(&self, node: NodeId) -> &Place
+    pub(crate) fn place(&self, node: NodeId) -> &Place
         requires { node ≤ self.now.cluster }
         ensures { slice_get self.now.places.items (node - 1) ≡ Some result.now }
     {

@@ -43,6 +43,22 @@ pub(crate) fn value(alloc: Global, number: u64, text: &str) -> Result<Value, Hal
     }
 }
 
+/// How many ticks and deliveries these events are; none where another event is among them.
+fn counts(events: &[Event]) -> (usize, usize) {
+    let ticks = events
+        .iter()
+        .filter(|event| matches!(event, Event::Tick { .. }))
+        .count();
+    let deliveries = events
+        .iter()
+        .filter(|event| matches!(event, Event::Deliver { .. }))
+        .count();
+    if ticks.saturating_add(deliveries) != events.len() {
+        return (0, 0);
+    }
+    (ticks, deliveries)
+}
+
 fn kind_of(message: &Message) -> Kind {
     match message {
         Message::Prepare { .. } => Kind::Prepare,
@@ -176,6 +192,15 @@ impl Group {
         }
     }
 
+    /// A plan that is refused memory is made once more.
+    fn plan(&self, number: u8) -> Result<Vec<Event>, Halt> {
+        let node = self.node(number)?;
+        match self.world.quiet_plan(node) {
+            Ok(plan) => Ok(plan),
+            Err(_) => Ok(self.world.quiet_plan(node)?),
+        }
+    }
+
     /// The event of a step, if it is one.
     fn event(&self, step: Step) -> Result<Option<Event>, Halt> {
         let event = match step {
@@ -216,6 +241,15 @@ impl Group {
     pub(crate) fn act(&mut self, rt: &impl Abort, step: Step) -> Result<(), Halt> {
         match step {
             Step::Settle => self.settle(),
+            Step::Quiet(number) => {
+                let plan = self.plan(number)?;
+                self.run_on(plan.as_slice())
+            }
+            Step::Plans(number, ticks, deliveries) => {
+                let plan = self.plan(number)?;
+                assert_eq!(rt; counts(plan.as_slice()), (ticks, deliveries), "{step:?}");
+                Ok(())
+            }
             Step::Shows(number, state, known, newest) => {
                 let shown = self.shown(number)?;
                 assert_eq!(rt; shown, (state, known, newest), "{step:?}");

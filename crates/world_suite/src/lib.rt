@@ -7,6 +7,8 @@ mod group;
 #[cfg(test)]
 mod halt;
 #[cfg(test)]
+mod quiet;
+#[cfg(test)]
 mod records;
 #[cfg(test)]
 mod refusals;

@@ -15,6 +15,10 @@ pub(crate) enum Step {
     Restart(u8),
     /// Each message that no such step has taken reaches all nodes, and so do those that come of it.
     Settle,
+    /// Its quiet plan.
+    Quiet(u8),
+    /// How many ticks and deliveries its quiet plan has.
+    Plans(u8, usize, usize),
     /// Its state, how many values it knows, and its newest release.
     Shows(u8, NodeState, u32, u64),
     /// The page of a release and a path: its status and body.

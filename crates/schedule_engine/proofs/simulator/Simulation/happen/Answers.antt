@@ -2,7 +2,7 @@ use Rattle.std.proofs.Common.{◌∙◌, ap, sym, subst, Err, Ok, rules}
 use Rattle.std.proofs.lemmas.Result.{err_from_is_err_and}
 use Rattle.schedule_engine.specs.ScheduleView.{line_view}
 use Rattle.schedule_engine.specs.Stepping.{HappenEnds}
-use Rattle.schedule_engine.proofs.Simulating.{settle_fault, take_fault, happened_one, happened_settle, asked_page}
+use Rattle.schedule_engine.proofs.Simulating.{settle_fault, take_fault, happened_one, happened_settle, happened_plan, plan_fault, asked_page}
 use Rattle.schedule_engine.proofs.simulator.Simulation.happen.Goals as goal
 
 pub returns-in_err-settle-in-Settle : goal.returns-in_err-settle-in-Settle
@@ -29,3 +29,14 @@ returns-in_ok-take-in-Some c =
 pub returns-in-Get : goal.returns-in-Get
 returns-in-Get c =
     subst (λ l. HappenEnds c.args.self.now c.args.self.now (line_view l) c.got.result) (sym c.in-Get.is) (asked_page c.args.self.now _ _ _ c.got.result c.got.ensures.ok c.got.ensures.bad c.got.ensures.faults)
+
+pub returns-in_err-quiet-in-Quiet : goal.returns-in_err-quiet-in-Quiet
+returns-in_err-quiet-in-Quiet c =
+    let p = err_from_is_err_and c.from_residual-in_err-quiet-in-Quiet.result c.from_residual-in_err-quiet-in-Quiet.ensures.1 in
+    subst (λ l. HappenEnds c.args.self.now c.quiet.new.self (line_view l) c.from_residual-in_err-quiet-in-Quiet.result) (sym c.in-Quiet.is)
+    (plan_fault c.args.self.now c.quiet.new.self c.in-Quiet.node c.in_err-quiet-in-Quiet.field-0.0 _ (p.1 ∙ ap Err p.2) c.in_err-quiet-in-Quiet.ensures.faults (λ is. c.in_err-quiet-in-Quiet.ensures.bad (ap Err is)))
+
+pub returns-in_ok-quiet-in-Quiet : goal.returns-in_ok-quiet-in-Quiet
+returns-in_ok-quiet-in-Quiet c =
+    subst (λ l. HappenEnds c.args.self.now c.quiet.new.self (line_view l) (Ok c.new-in-Quiet.result)) (sym c.in-Quiet.is)
+    (happened_plan c.args.self.now c.quiet.new.self c.in-Quiet.node c.new-in-Quiet.result (search rules) c.in_ok-quiet-in-Quiet.ensures.ok.0 c.in_ok-quiet-in-Quiet.ensures.ok.1)

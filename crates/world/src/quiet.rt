@@ -1,0 +1,116 @@
+//! A quiet state, and the plan by which a node learns its first unknown instance in it.
+
+ghost use Rattle.std.specs.Prelude.{◌≡◌, ◌↔◌, ◌≤◌, ℕ, [], List, Result, IfOk, OnOk, IsTrue, MatchOption};
+ghost use Rattle.world.specs.declared.event.Event.{Event as AbstractEvent};
+ghost use Rattle.world.specs.declared.fault.WorldFault.{WorldFault as AbstractFault};
+ghost use Rattle.world.specs.declared.whole.World.{World as AbstractCode};
+ghost use Rattle.world.specs.Worlds.{World as AbstractWorld};
+
+use crate::bid::Bid;
+use crate::plan::{push_attempt, push_overbid};
+use crate::{Event, World};
+use site_ids::{Ballot, Instance, NodeId};
+use std::alloc::AllocError;
+
+impl World {
+    ghost use Rattle.site_ids.specs.Ids.{IsNode};
+    ghost use Rattle.node.specs.Nodes.{IsFirstUnknown};
+    ghost use Rattle.node.specs.Calls.{fresh_ballot};
+    ghost use Rattle.world.specs.Quiet.{AllRun, HasNoneAbove, IsQuiet, IsQuietAt, IsShort, Overbids};
+    ghost use Rattle.world.specs.Quieting.{AreUp, LearnsBy, PushesPlan};
+    ghost use Rattle.world.specs.Standing.{IsWorldOf};
+    ghost use Rattle.world.specs.Steps.{Reached, RunEnds};
+
+    /// Whether all nodes run with no disk armed, the node has an unknown instance, and no round that was recorded or
+    /// promised is above 4,294,967,293.
+    pub fn is_quiet(&self, node: NodeId) -> bool
+        requires { node ≤ self.now.cluster }
+        ensures { (w : AbstractWorld) → IsWorldOf self.now w → IsTrue result ↔ IsQuiet self.now.cluster w node }
+    {
+        self.first_unknown(node).is_some() && self.are_quiet()
+    }
+
+    /// Events by which the node learns its first unknown instance from a quiet state: two ticks and 8 n deliveries at
+    /// most. Outside of one there are none.
+    ///
+    /// Whatever was promised, voted for or attempted, and whatever is on its way: a tick, and its messages to the first
+    /// nodes that make a majority and back. Where one of these has promised a higher ballot, its refusal comes first.
+    pub fn quiet_plan(&self, node: NodeId) -> Result<Vec<Event>, AllocError>
+        requires { node ≤ self.now.cluster }
+        ensures short { IfOk result (λ plan. IsShort self.now.cluster plan.items) }
+        ensures none { IfOk result (λ plan. (w : AbstractWorld) → IsWorldOf self.now w → ¬ IsQuiet self.now.cluster w node → plan.items ≡ []) }
+        ensures decides { IfOk result (λ plan. (past : List AbstractEvent) (reached : Reached self.now past) (new : AbstractCode) (ended : Result (Unit {0}) AbstractFault)
+            → IsQuiet self.now.cluster reached.world node → new.cluster ≡ self.now.cluster → RunEnds self.now new plan.items ended → AreUp self.now.cluster new
+            → LearnsBy self.now.cluster reached.world node new ended) }
+    {
+        let mut plan = Vec::new(self.alloc);
+        if self.is_quiet(node) {
+            self.push_plan(node, &mut plan)?;
+        }
+        Ok(plan)
+    }
+
+    // The first instance that a node doesn't know.
+    fn first_unknown(&self, node: NodeId) -> Option<Instance>
+        requires { node ≤ self.now.cluster }
+        ensures { (w : AbstractWorld) → IsWorldOf self.now w → MatchOption result ((i : ℕ) → ¬ IsFirstUnknown (w.node node).known i) (λ i. IsFirstUnknown (w.node node).known i) }
+    {
+        Instance::new(self.known(node).saturating_add(1))
+    }
+
+    // Each node runs with no disk armed, and has rounds left.
+    fn are_quiet(&self) -> bool
+        ensures { (w : AbstractWorld) → IsWorldOf self.now w → IsTrue result ↔ ((q : ℕ) → IsNode self.now.cluster q → IsQuietAt (w.node q)) }
+    {
+        let mut seen = 0;
+        while let Some(place) = self.places.get(seen) {
+            if !place.is_quiet() {
+                return false;
+            }
+            seen += 1;
+        }
+        true
+    }
+
+    // The plan of a quiet state.
+    fn push_plan(&self, node: NodeId, plan: &mut Vec<Event>) -> Result<(), AllocError>
+        requires { node ≤ self.now.cluster }
+        ensures { OnOk result (PushesPlan self.now node plan.old.items plan.new.items) }
+    {
+        let Some(instance) = self.first_unknown(node) else {
+            return Ok(());
+        };
+        let again = self.place(node).tried_elsewhere(instance);
+        match self.refuser(node, instance) {
+            None => push_attempt(plan, self.cluster, node, &self.sent, again),
+            Some(highest) => push_overbid(plan, self.cluster, node, highest, &self.sent, again),
+        }
+    }
+
+    // The node that refuses another's next attempt, if one of the first nodes that make a majority does: the highest promise of all.
+    fn refuser(&self, node: NodeId, instance: Instance) -> Option<NodeId>
+        requires { node ≤ self.now.cluster }
+        ensures { (w : AbstractWorld) → IsWorldOf self.now w → IsQuiet self.now.cluster w node
+            → MatchOption result (HasNoneAbove self.now.cluster w instance (fresh_ballot node (w.node node))) (λ q. Overbids self.now.cluster w instance (fresh_ballot node (w.node node)) q) }
+    {
+        let ballot = self.place(node).next_ballot()?;
+        self.overbidder(instance, ballot)
+    }
+
+    // Of the first nodes that make a majority the one whose promise at the instance is the highest above the ballot.
+    fn overbidder(&self, instance: Instance, ballot: Ballot) -> Option<NodeId>
+        ensures { (w : AbstractWorld) → IsWorldOf self.now w → AllRun self.now.cluster w → MatchOption result (HasNoneAbove self.now.cluster w instance ballot) (λ q. Overbids self.now.cluster w instance ballot q) }
+    {
+        let cluster = self.cluster();
+        let mut highest = Bid { ballot, node: None };
+        let mut seen = 0;
+        while seen < cluster.quorum() {
+            let Some(node) = cluster.node(seen + 1) else {
+                return highest.node;
+            };
+            highest = highest.or_promised(node, self.place(node).promised(instance));
+            seen += 1;
+        }
+        highest.node
+    }
+}
