@@ -1,5 +1,5 @@
 -- Steps of the simulator.
-use Rattle.std.proofs.Common.{◌≡◌, ◌⊎◌, append-nil, String, Global, string_bytes, ℕ, zero, suc, ◌<◌, ◌≤◌, ◌+◌, List, [], ◌∷◌, ◌++◌, length, Some, refl, sym, ap, ◌∙◌, subst, arith, append_assoc, Option, Bool, Result, Ok, Err, inl, inr}
+use Rattle.std.proofs.Common.{◌≡◌, ◌⊎◌, append-nil, String, Global, string_bytes, ℕ, zero, suc, ◌<◌, ◌≤◌, ◌+◌, List, [], ◌∷◌, ◌++◌, length, Some, None, refl, sym, ap, ◌∙◌, subst, arith, append_assoc, Option, Bool, Result, Ok, Err, inl, inr}
 use Rattle.std.specs.Prelude.{IfOk, IfErr, IsErrOf}
 use Rattle.command.specs.Effective.{effective}
 use Rattle.command.specs.Releases.{release_count}
@@ -177,6 +177,9 @@ asked_page s p r path (Err sim.OutOfMemory) ok bad faults = tt
 asked_page s p r path (Err sim.Read) ok bad (inl k) = cc
 asked_page s p r path (Err sim.Read) ok bad (inr k) = cc
 
+no_event : (event : Event) → ◌≡◌ {A = Option Event} None (Some event) → ⊥
+no_event event is = cc
+
 does_one : (n : ℕ) (old new : Moment) (line : Line) (event : Event) (printed : List ℕ) → event_of line ≡ Some event → TakesOne n old line printed new → Does n old line printed new
 does_one n old new (submit_line p ticket text) event printed is t = t
 does_one n old new (tick_line p) event printed is t = t
@@ -186,10 +189,10 @@ does_one n old new (restart_line p) event printed is t = t
 does_one n old new (deliver_line p index) event printed is t = t
 does_one n old new (arm_line p calls) event printed is t = t
 does_one n old new (crash_line p choice) event printed is t = t
-does_one n old new settle_line event printed is t = cc
-does_one n old new (quiet_line p) event printed is t = cc
-does_one n old new (show_line p) event printed is t = cc
-does_one n old new (get_line p r path) event printed is t = cc
+does_one n old new settle_line event printed is t = absurd (no_event event is)
+does_one n old new (quiet_line p) event printed is t = absurd (no_event event is)
+does_one n old new (show_line p) event printed is t = absurd (no_event event is)
+does_one n old new (get_line p r path) event printed is t = absurd (no_event event is)
 
 pub happened_one : (old new : Simulation) (line : Line) (event : Event) (text : String Global) → event_of line ≡ Some event → string_bytes text ≡ [] → new.settled ≡ old.settled
     → ((n : ℕ) (events : List Event) → IsMoment n (moment_of old events) → Takes n (moment_of old events) (event ∷ []) (moment_of new (events ++ event ∷ []))) → HappenEnds old new line (Ok text)
