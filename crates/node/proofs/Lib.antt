@@ -1,6 +1,8 @@
 pub mod Knowing
 pub mod Sharing
 pub mod Windows
+pub mod OnRecord
+pub mod ToldAgain
 pub mod Tidying
 pub mod Gaps
 pub mod Saying

@@ -28,7 +28,8 @@ use Rattle.node.specs.Nodes.{Value, Node, IsKnown, IsFirstUnknown, AllKnown}
 use Rattle.node.specs.Tickets.{IsHeld}
 use Rattle.node.specs.Effects.{quiet, learned}
 use Rattle.node.specs.Deliveries.{Judged, AreJudged, reached_by, with_vote}
-use Rattle.node.specs.Calls.{submit, tick, widen, ask, deliver, fresh_ballot, HasRound, oldest, IsFree, IsNextFree, IsTried, AreUntried, IsNextSpan, MayWiden, queued}
+use Rattle.node.specs.Calls.{submit, tick, widen, ask, tell, deliver, fresh_ballot, HasRound, oldest, IsFree, IsNextFree, IsTried, AreUntried, IsNextSpan, MayWiden, queued}
+use Rattle.node.specs.Tellings.{tells}
 use Rattle.node.specs.Tidy.{IsTidy}
 use Rattle.node.specs.Stuck.{IsStuck, NeverStuck}
 use Rattle.node.proofs.Gaps.{not_all_known}
@@ -340,4 +341,5 @@ never_stuck n p s widen runs tidy stuck =
     (λ none. stuck.no_effect (quiet s) (inr (none, refl)))
     may)
 never_stuck n p s ask runs tidy stuck = at_gap s (λ full. stuck.no_cause fault.InstancesUsedUp (λ e. cc) full) (λ i first. stuck.no_effect _ (record { instance = i; first = first; is = refl }))
+never_stuck n p s (tell to i) runs tidy stuck = stuck.no_effect (tells p s to i) refl
 never_stuck n p s (deliver m) runs tidy stuck = on_message n p s m stuck

@@ -1,6 +1,6 @@
 -- What a node hands out is in its ranges.
-use Rattle.std.proofs.Common.{◌≡◌, ◌⊎◌, ⊎_elim, inl, inr, ℕ, suc, ◌+◌, ◌<◌, ◌≤◌, max, Bool, true, false, cond, not, leb, Option, Some, None, Result, Ok, Err, List, [], ◌∷◌, ◌++◌, length, map, refl, sym, ap, subst, ◌∙◌, arith}
-use Rattle.std.specs.Prelude.{nat_eq, filter, IfSome}
+use Rattle.std.proofs.Common.{◌≡◌, ⊎_elim, inl, inr, ℕ, suc, ◌+◌, ◌<◌, ◌≤◌, max, Bool, true, false, cond, not, leb, Option, Some, None, Result, Ok, Err, List, [], ◌∷◌, ◌++◌, length, map, refl, sym, ap, subst, ◌∙◌, arith}
+use Rattle.std.specs.Prelude.{filter, IfSome}
 use Rattle.std.proofs.lemmas.Bool.Decides.{nat_tests}
 use Rattle.std.proofs.lemmas.Bool.{cases_eq}
 use Rattle.site_ids.specs.Ids.{BallotOf, IsNode, IsInstance, IsBallot}
@@ -15,7 +15,7 @@ use Rattle.wire.specs.declared.message.Message.TheVariants.{Prepare, Promise, Pr
 use Rattle.wire.specs.Messages.{IsMessage}
 use Rattle.acceptor.specs.declared.slot.Slot.{Slot}
 use Rattle.acceptor.specs.Steps.{Answer as Reply, promise, accepted, nack, no_answer, prepare, proposal, Steps}
-use Rattle.durable.specs.Entries.{Entry, Round, Promised, PromisedSpan, Voted, Raises, IsPromise, IsSlot, vote_after}
+use Rattle.durable.specs.Entries.{Entry, Round, Promised, PromisedSpan, Voted, Raises, IsPromise, IsSlot, last_vote}
 use Rattle.durable.specs.Histories.{IsInRange, IsHistory}
 use Rattle.learner.specs.ToldVotes.{told_vote, HasMajority}
 use Rattle.std.specs.Option.{ok_or}
@@ -33,10 +33,13 @@ use Rattle.node.specs.Nodes.{Value, Node, IsKnown, IsUnknown}
 use Rattle.node.specs.Tickets.{IsCommand, IsHeld, has_same_ticket}
 use Rattle.node.specs.Effects.{Effect, quiet, says, learned}
 use Rattle.node.specs.Deliveries.{Judged, AreJudged, prepare_out, span_out, propose_out, promise_out, with_vote, Counted, ByKind}
-use Rattle.node.specs.Calls.{Call, submit, tick, widen, ask, deliver, queued, oldest, fresh_ballot, HasRound, resent, Begins, MayWiden, Does}
+use Rattle.node.specs.Calls.{Call, submit, tick, widen, ask, tell, deliver, queued, oldest, fresh_ballot, HasRound, resent, Begins, MayWiden, Does}
 use Rattle.node.specs.Endings.{Whole, Refused, Failed}
+use Rattle.node.specs.Tellings.{tells}
 use Rattle.node.specs.Tidy.{IsTidy}
 use Rattle.node.specs.Ranges.{IsAttemptInRange, HasRanges, IsCallInRange, OpensInRange, StaysInRange, SaysMessages}
+use Rattle.node.proofs.OnRecord.{last_vote-in, entry_in_range}
+use Rattle.node.proofs.ToldAgain.{IsToldOf, each_told}
 use Rattle.node.proofs.Windows.{next_in, next_is_span}
 
 same_some : {X : Type 0} (x y : X) → Some x ≡ Some y → x ≡ y
@@ -206,6 +209,7 @@ call_ranges n p s widen effect node h m how =
     (λ (x : (¬ MayWiden s) × (effect ≡ quiet s)). by_effect effect (quiet s) x.1 h)
     how
 call_ranges n p s ask effect node h m how = by_effect effect (says s _ _) how.is h
+call_ranges n p s (tell to i) effect node h m how = by_effect effect (tells p s to i) how h
 call_ranges n p s (deliver m) effect node h is how = delivery_ranges n p (record s { reached = _ }) m effect (same_ranges n s (record s { reached = _ }) h refl refl refl) is how
 
 pub opens_in_range : OpensInRange
@@ -218,15 +222,6 @@ stays_in_range n p s new call Failed out node h m how = subst (HasRanges n) (sym
 
 -- ---- what is on record is in its ranges
 
-at_member : {X : Type 0} (xs : List X) (x : X) → In xs x → (before : List X) × (after : List X) × (xs ≡ before ++ x ∷ after)
-at_member [] x h = absurd h
-at_member {X = X} (y ∷ xs) x h =
-    let rest : In xs x → (before : List X) × (after : List X) × (xs ≡ before ++ x ∷ after) = at_member xs x in
-    ⊎_elim (λ (e : y ≡ x). ([], xs, ap (λ z. z ∷ xs) e)) (λ k. let r = rest k in (y ∷ r.0, r.1, ap (λ zs. y ∷ zs) r.2)) h
-
-entry_in_range : (n : ℕ) (es : List Entry) (e : Entry) → IsHistory n es → In es e → IsInRange n e
-entry_in_range n es e history here = let at = at_member es e here in (history at.0 e at.1 at.2).in_range
-
 raised_in_range : (n : ℕ) (e : Entry) (i : ℕ) (b : BallotOf) → IsInRange n e → Raises e i b → IsBallot n b
 raised_in_range n (Round r) i b range raises = absurd raises
 raised_in_range n (Promised j c) i b range raises = subst (IsBallot n) raises.1 range.1
@@ -238,29 +233,8 @@ promise_in_range n es i slot c history is e =
     let raised = subst (λ (p : Option BallotOf). IsPromise es i p) e is.promise in
     raised_in_range n raised.0.0 i c (entry_in_range n es raised.0.0 history raised.0.1) raised.0.2
 
-vote_stands : (i : ℕ) (last : Option Vote) (es : List Entry) (w : Vote) → vote_after i last es ≡ Some w → ((j : ℕ) × In es (Voted j w.ballot w.value)) ⊎ (last ≡ Some w)
-vote_stands i last [] w e = inr e
-vote_stands i last (Round s ∷ es) w e = ⊎_elim (λ (h : (j : ℕ) × In es (Voted j w.ballot w.value)). inl (h.0, inr h.1)) (λ h. inr h) (vote_stands i last es w e)
-vote_stands i last (Promised j b ∷ es) w e = ⊎_elim (λ (h : (j : ℕ) × In es (Voted j w.ballot w.value)). inl (h.0, inr h.1)) (λ h. inr h) (vote_stands i last es w e)
-vote_stands i last (PromisedSpan j k b ∷ es) w e = ⊎_elim (λ (h : (j : ℕ) × In es (Voted j w.ballot w.value)). inl (h.0, inr h.1)) (λ h. inr h) (vote_stands i last es w e)
-vote_stands i last (Voted j b v ∷ es) w e =
-    ⊎_elim (λ (h : (j : ℕ) × In es (Voted j w.ballot w.value)). inl (h.0, inr h.1)) (λ h. go (nat_eq j i) h) (vote_stands i (cond (nat_eq j i) (Some (record { ballot = b; value = v })) last) es w e)
-  where
-    go : (t : Bool) → cond t (Some (record { ballot = b; value = v })) last ≡ Some w → ((k : ℕ) × In (Voted j b v ∷ es) (Voted k w.ballot w.value)) ⊎ (last ≡ Some w)
-    go true h =
-        let same : ◌≡◌ {A = Vote} (record { ballot = b; value = v }) w = cc in
-        inl (j, inl (λ k. Voted j (same k).ballot (same k).value))
-    go false h = inr h
-
 vote_in_range : (n : ℕ) (es : List Entry) (i : ℕ) (slot : Slot) (w : Vote) → IsHistory n es → IsSlot es i slot → slot.vote ≡ Some w → IsBallot n w.ballot × (length w.value ≤ MAX_VALUE)
-vote_in_range n es i slot w history is e =
-    ⊎_elim
-    (λ (h : (j : ℕ) × In es (Voted j w.ballot w.value)). let range = entry_in_range n es (Voted h.0 w.ballot w.value) history h.1 in (range.1, range.2))
-    (λ (h : ◌≡◌ {A = Option Vote} None (Some w)). absurd (clash w h))
-    (vote_stands i None es w (sym is.vote ∙ e))
-  where
-    clash : (w : Vote) → ◌≡◌ {A = Option Vote} None (Some w) → ⊥
-    clash w h = cc
+vote_in_range n es i slot w history is e = let range = entry_in_range n es (Voted i w.ballot w.value) history (last_vote-in i es w (sym is.vote ∙ e)) in (range.1, range.2)
 
 -- ---- messages
 
@@ -371,6 +345,18 @@ again_says n p (y ∷ ys) node each x k =
 fresh_says : (n p : ℕ) (s : Node) (i k : ℕ) → IsNode n p → IsInstance i → IsSpan i k → HasRound s → IsMessage n (Prepare p i (fresh_ballot p s) k)
 fresh_says n p s i k node instance span round = record { sender = node; instance = instance; ballots = (omega arith, round, node); fits = span }
 
+-- a known value is in its range, and so is a vote on record
+told_says : (n p : ℕ) (s : Node) (i : ℕ) (m : Message) → IsNode n p → IsHistory n s.entries → HasRanges n s → IsToldOf p s m i → IsMessage n m
+told_says n p s i m node history h told =
+    ⊎_elim
+    (λ (x : (v : Value) × (s.known i ≡ Some v) × (m ≡ Chosen p i v)).
+    let range = h.known i x.0 x.1 in
+    subst (IsMessage n) (sym x.2) (record { sender = node; instance = range.0; ballots = tt; fits = range.1 }))
+    (λ (x : (w : Vote) × In s.entries (Voted i w.ballot w.value) × (last_vote i s.entries ≡ Some w) × (s.known i ≡ None) × (m ≡ Accepted p i w.ballot w.value)).
+    let range = entry_in_range n s.entries (Voted i x.0.ballot x.0.value) history x.1 in
+    subst (IsMessage n) (sym x.4) (record { sender = node; instance = range.0; ballots = range.1; fits = range.2 }))
+    told.is
+
 call_says : (n p : ℕ) (s : Node) (call : Call) (effect : Effect) → IsNode n p → IsHistory n s.entries → IsTidy s → HasRanges n s → IsCallInRange n call → Does n p s call effect → Says n effect.out
 call_says n p s (submit v) effect node history tidy h m how =
     ⊎_elim
@@ -392,6 +378,7 @@ call_says n p s widen effect node history tidy h m how =
     how
 call_says n p s ask effect node history tidy h m how =
     by_out n effect (says s All (Ask p how.instance)) how.is (one_message n All (Ask p how.instance) (record { sender = node; instance = how.first.instance; ballots = tt; fits = tt }))
+call_says n p s (tell to i) effect node history tidy h m how = by_out n effect (tells p s to i) how (λ x k. let told = each_told p s to i x k in told_says n p s told.0 x.1 node history h told.2)
 call_says n p s (deliver m) effect node history tidy h is how = delivery_says n p (record s { reached = _ }) m effect node history (same_ranges n s (record s { reached = _ }) h refl refl refl) is how
 
 pub says_messages : SaysMessages

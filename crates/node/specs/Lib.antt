@@ -2,6 +2,7 @@ pub mod Nodes
 pub mod Tickets
 pub mod Effects
 pub mod Deliveries
+pub mod Tellings
 pub mod Judgements
 pub mod Calls
 pub mod Widening

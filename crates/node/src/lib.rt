@@ -17,6 +17,7 @@ mod prepared;
 mod promised;
 mod proposed;
 mod publishing;
+mod queries;
 mod queue;
 mod running;
 mod submitted;
@@ -36,3 +37,9 @@ pub use to::{Outbox, To};
 
 /// Attempts stand at so many instances, from the first unknown one on.
 pub(crate) const WINDOW: u32 = MAX_ATTEMPTS as u32;
+
+/// A telling is of so many instances.
+pub const MAX_TOLD: u32 = 64;
+
+/// Its values have so many bytes in all at most: those of a few nodes that tell as one fit into the buffer of a socket.
+pub const MAX_TOLD_BYTES: usize = 65_536;

@@ -16,4 +16,6 @@ mod samples;
 #[cfg(test)]
 mod spans;
 #[cfg(test)]
+mod told_again;
+#[cfg(test)]
 mod widening;

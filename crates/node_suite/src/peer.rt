@@ -4,7 +4,7 @@ ghost use Rattle.site_ids.specs.Ids.{IsNode};
 
 use crate::halt::Halt;
 use durable::{Record, RecordFault};
-use node::{Node, NodeFault, Outbox, Submitted};
+use node::{Node, NodeFault, Outbox, Submitted, To};
 use site_disk::MemDisk;
 use site_ids::{Cluster, Instance, NodeId, Ticket};
 use std::alloc::Global;
@@ -135,6 +135,10 @@ impl Peer {
 
     pub(crate) fn ask(&mut self) -> Result<(), NodeFault> {
         self.node.ask(&mut self.out)
+    }
+
+    pub(crate) fn tell(&mut self, to: To, first: Instance) -> Result<(), NodeFault> {
+        self.node.tell(to, first, &mut self.out)
     }
 
     pub(crate) fn submit(&mut self, value: &[u8]) -> Result<Submitted, NodeFault> {

@@ -3,10 +3,10 @@
 use crate::halt::Halt;
 use crate::peer::Peer;
 use crate::samples::{
-    accepted, asked_instance, ballot, chosen, prepare, prepared_round, promise, propose, proposes,
-    question, told_vote, value,
+    accepted, asked_instance, ballot, chosen, instance, prepare, prepared_round, promise, propose,
+    proposes, question, told_vote, value,
 };
-use node::NodeFault;
+use node::{NodeFault, To};
 use std::alloc::Global;
 use std::process::Abort;
 use std::test::Fail;
@@ -16,6 +16,8 @@ use wire::Message;
 enum Step {
     Submit,
     Ask,
+    /// All are told from instance 1 on.
+    Tell,
     Tick,
     Widen,
     Publish,
@@ -69,6 +71,7 @@ fn act(node: &mut Peer, step: Step) -> Result<(), Halt> {
             Ok(())
         }
         Step::Ask => Ok(node.ask()?),
+        Step::Tell => Ok(node.tell(To::All, instance(1)?)?),
         Step::Tick => Ok(node.tick()?),
         Step::Widen => {
             let _ = node.widen()?;
@@ -191,5 +194,13 @@ fn values_told(rt: HostRuntime) -> Result<(), Fail> {
     let steps = [Step::Hear(Said::Chosen), Step::Hear(Said::Question)];
     let node = after(&rt, rt.alloc(), &steps)?;
     assert!(rt; node.known() == 1 && node.out().len() == 1);
+    Ok(())
+}
+
+#[test]
+fn tellings(rt: HostRuntime) -> Result<(), Fail> {
+    let steps = [Step::Hear(Said::Propose), Step::Tell];
+    let node = after(&rt, rt.alloc(), &steps)?;
+    assert_eq!(rt; node.out().len(), 2);
     Ok(())
 }

@@ -3,7 +3,7 @@ use Rattle.std.proofs.Common.{◌≡◌, ℕ, ◌<◌, ◌^◌, List, [], ◌∷
 use Rattle.std.proofs.lemmas.Fmt.{decimal_injective}
 use Rattle.std.proofs.lemmas.List.{append_cancel_left}
 use Rattle.site_ids.specs.Ids.{IsNode}
-use Rattle.schedule_engine.specs.Schedule.{Line, submit_line, tick_line, widen_line, ask_line, restart_line, deliver_line, arm_line, crash_line, settle_line, quiet_line, show_line, get_line, words, body, spelled, Fits}
+use Rattle.schedule_engine.specs.Schedule.{Line, submit_line, tick_line, widen_line, ask_line, tell_line, restart_line, deliver_line, arm_line, crash_line, settle_line, quiet_line, show_line, get_line, words, body, spelled, Fits}
 use Rattle.engine_parts.specs.Submissions.{joined}
 use Rattle.schedule_engine.specs.Laws.{OneLine}
 use Rattle.engine_parts.proofs.CutLemmas.{lacks-decimal}
@@ -39,6 +39,7 @@ same_line (submit_line p t x) (submit_line p' t' x') rest others hl hm e more =
 same_line (submit_line p t x) (tick_line p') rest others hl hm e more = let starts = begins_so _ _ e in absurd (omega (arith, starts.0, starts.1))
 same_line (submit_line p t x) (widen_line p') rest others hl hm e more = let starts = begins_so _ _ e in absurd (omega (arith, starts.0, starts.1))
 same_line (submit_line p t x) (ask_line p') rest others hl hm e more = let starts = begins_so _ _ e in absurd (omega (arith, starts.0, starts.1))
+same_line (submit_line p t x) (tell_line p' i') rest others hl hm e more = let starts = begins_so _ _ e in absurd (omega (arith, starts.0, starts.1))
 same_line (submit_line p t x) (restart_line p') rest others hl hm e more = let starts = begins_so _ _ e in absurd (omega (arith, starts.0, starts.1))
 same_line (submit_line p t x) (deliver_line p' i') rest others hl hm e more = let starts = begins_so _ _ e in absurd (omega (arith, starts.0, starts.1))
 same_line (submit_line p t x) (arm_line p' i') rest others hl hm e more = let starts = begins_so _ _ e in absurd (omega (arith, starts.0, starts.1))
@@ -51,6 +52,7 @@ same_line (tick_line p) (submit_line p' t' x') rest others hl hm e more = let st
 same_line (tick_line p) (tick_line p') rest others hl hm e more = one_node tick_line (codes "tick ") p p' rest others hl hm e more
 same_line (tick_line p) (widen_line p') rest others hl hm e more = let starts = begins_so _ _ e in absurd (omega (arith, starts.0, starts.1))
 same_line (tick_line p) (ask_line p') rest others hl hm e more = let starts = begins_so _ _ e in absurd (omega (arith, starts.0, starts.1))
+same_line (tick_line p) (tell_line p' i') rest others hl hm e more = let starts = begins_so _ _ e in absurd (omega (arith, starts.0, starts.1))
 same_line (tick_line p) (restart_line p') rest others hl hm e more = let starts = begins_so _ _ e in absurd (omega (arith, starts.0, starts.1))
 same_line (tick_line p) (deliver_line p' i') rest others hl hm e more = let starts = begins_so _ _ e in absurd (omega (arith, starts.0, starts.1))
 same_line (tick_line p) (arm_line p' i') rest others hl hm e more = let starts = begins_so _ _ e in absurd (omega (arith, starts.0, starts.1))
@@ -63,6 +65,7 @@ same_line (widen_line p) (submit_line p' t' x') rest others hl hm e more = let s
 same_line (widen_line p) (tick_line p') rest others hl hm e more = let starts = begins_so _ _ e in absurd (omega (arith, starts.0, starts.1))
 same_line (widen_line p) (widen_line p') rest others hl hm e more = one_node widen_line (codes "widen ") p p' rest others hl hm e more
 same_line (widen_line p) (ask_line p') rest others hl hm e more = let starts = begins_so _ _ e in absurd (omega (arith, starts.0, starts.1))
+same_line (widen_line p) (tell_line p' i') rest others hl hm e more = let starts = begins_so _ _ e in absurd (omega (arith, starts.0, starts.1))
 same_line (widen_line p) (restart_line p') rest others hl hm e more = let starts = begins_so _ _ e in absurd (omega (arith, starts.0, starts.1))
 same_line (widen_line p) (deliver_line p' i') rest others hl hm e more = let starts = begins_so _ _ e in absurd (omega (arith, starts.0, starts.1))
 same_line (widen_line p) (arm_line p' i') rest others hl hm e more = let starts = begins_so _ _ e in absurd (omega (arith, starts.0, starts.1))
@@ -75,6 +78,7 @@ same_line (ask_line p) (submit_line p' t' x') rest others hl hm e more = let sta
 same_line (ask_line p) (tick_line p') rest others hl hm e more = let starts = begins_so _ _ e in absurd (omega (arith, starts.0, starts.1))
 same_line (ask_line p) (widen_line p') rest others hl hm e more = let starts = begins_so _ _ e in absurd (omega (arith, starts.0, starts.1))
 same_line (ask_line p) (ask_line p') rest others hl hm e more = one_node ask_line (codes "ask ") p p' rest others hl hm e more
+same_line (ask_line p) (tell_line p' i') rest others hl hm e more = let starts = begins_so _ _ e in absurd (omega (arith, starts.0, starts.1))
 same_line (ask_line p) (restart_line p') rest others hl hm e more = let starts = begins_so _ _ e in absurd (omega (arith, starts.0, starts.1))
 same_line (ask_line p) (deliver_line p' i') rest others hl hm e more = let starts = begins_so _ _ e in absurd (omega (arith, starts.0, starts.1))
 same_line (ask_line p) (arm_line p' i') rest others hl hm e more = let starts = begins_so _ _ e in absurd (omega (arith, starts.0, starts.1))
@@ -83,10 +87,24 @@ same_line (ask_line p) settle_line rest others hl hm e more = let starts = begin
 same_line (ask_line p) (quiet_line p') rest others hl hm e more = let starts = begins_so _ _ e in absurd (omega (arith, starts.0, starts.1))
 same_line (ask_line p) (show_line p') rest others hl hm e more = let starts = begins_so _ _ e in absurd (omega (arith, starts.0, starts.1))
 same_line (ask_line p) (get_line p' n' path') rest others hl hm e more = let starts = begins_so _ _ e in absurd (omega (arith, starts.0, starts.1))
+same_line (tell_line p i) (submit_line p' t' x') rest others hl hm e more = let starts = begins_so _ _ e in absurd (omega (arith, starts.0, starts.1))
+same_line (tell_line p i) (tick_line p') rest others hl hm e more = let starts = begins_so _ _ e in absurd (omega (arith, starts.0, starts.1))
+same_line (tell_line p i) (widen_line p') rest others hl hm e more = let starts = begins_so _ _ e in absurd (omega (arith, starts.0, starts.1))
+same_line (tell_line p i) (ask_line p') rest others hl hm e more = let starts = begins_so _ _ e in absurd (omega (arith, starts.0, starts.1))
+same_line (tell_line p i) (tell_line p' i') rest others hl hm e more = one_pair tell_line (codes "tell ") p i p' i' rest others hl.0 hm.0 (omega arith) (omega arith) e more
+same_line (tell_line p i) (restart_line p') rest others hl hm e more = let starts = begins_so _ _ e in absurd (omega (arith, starts.0, starts.1))
+same_line (tell_line p i) (deliver_line p' i') rest others hl hm e more = let starts = begins_so _ _ e in absurd (omega (arith, starts.0, starts.1))
+same_line (tell_line p i) (arm_line p' i') rest others hl hm e more = let starts = begins_so _ _ e in absurd (omega (arith, starts.0, starts.1))
+same_line (tell_line p i) (crash_line p' i') rest others hl hm e more = let starts = begins_so _ _ e in absurd (omega (arith, starts.0, starts.1))
+same_line (tell_line p i) settle_line rest others hl hm e more = let starts = begins_so _ _ e in absurd (omega (arith, starts.0, starts.1))
+same_line (tell_line p i) (quiet_line p') rest others hl hm e more = let starts = begins_so _ _ e in absurd (omega (arith, starts.0, starts.1))
+same_line (tell_line p i) (show_line p') rest others hl hm e more = let starts = begins_so _ _ e in absurd (omega (arith, starts.0, starts.1))
+same_line (tell_line p i) (get_line p' n' path') rest others hl hm e more = let starts = begins_so _ _ e in absurd (omega (arith, starts.0, starts.1))
 same_line (restart_line p) (submit_line p' t' x') rest others hl hm e more = let starts = begins_so _ _ e in absurd (omega (arith, starts.0, starts.1))
 same_line (restart_line p) (tick_line p') rest others hl hm e more = let starts = begins_so _ _ e in absurd (omega (arith, starts.0, starts.1))
 same_line (restart_line p) (widen_line p') rest others hl hm e more = let starts = begins_so _ _ e in absurd (omega (arith, starts.0, starts.1))
 same_line (restart_line p) (ask_line p') rest others hl hm e more = let starts = begins_so _ _ e in absurd (omega (arith, starts.0, starts.1))
+same_line (restart_line p) (tell_line p' i') rest others hl hm e more = let starts = begins_so _ _ e in absurd (omega (arith, starts.0, starts.1))
 same_line (restart_line p) (restart_line p') rest others hl hm e more = one_node restart_line (codes "restart ") p p' rest others hl hm e more
 same_line (restart_line p) (deliver_line p' i') rest others hl hm e more = let starts = begins_so _ _ e in absurd (omega (arith, starts.0, starts.1))
 same_line (restart_line p) (arm_line p' i') rest others hl hm e more = let starts = begins_so _ _ e in absurd (omega (arith, starts.0, starts.1))
@@ -99,6 +117,7 @@ same_line (deliver_line p i) (submit_line p' t' x') rest others hl hm e more = l
 same_line (deliver_line p i) (tick_line p') rest others hl hm e more = let starts = begins_so _ _ e in absurd (omega (arith, starts.0, starts.1))
 same_line (deliver_line p i) (widen_line p') rest others hl hm e more = let starts = begins_so _ _ e in absurd (omega (arith, starts.0, starts.1))
 same_line (deliver_line p i) (ask_line p') rest others hl hm e more = let starts = begins_so _ _ e in absurd (omega (arith, starts.0, starts.1))
+same_line (deliver_line p i) (tell_line p' i') rest others hl hm e more = let starts = begins_so _ _ e in absurd (omega (arith, starts.0, starts.1))
 same_line (deliver_line p i) (restart_line p') rest others hl hm e more = let starts = begins_so _ _ e in absurd (omega (arith, starts.0, starts.1))
 same_line (deliver_line p i) (deliver_line p' i') rest others hl hm e more = one_pair deliver_line (codes "deliver ") p i p' i' rest others hl.0 hm.0 (omega arith) (omega arith) e more
 same_line (deliver_line p i) (arm_line p' i') rest others hl hm e more = let starts = begins_so _ _ e in absurd (omega (arith, starts.0, starts.1))
@@ -111,6 +130,7 @@ same_line (arm_line p i) (submit_line p' t' x') rest others hl hm e more = let s
 same_line (arm_line p i) (tick_line p') rest others hl hm e more = let starts = begins_so _ _ e in absurd (omega (arith, starts.0, starts.1))
 same_line (arm_line p i) (widen_line p') rest others hl hm e more = let starts = begins_so _ _ e in absurd (omega (arith, starts.0, starts.1))
 same_line (arm_line p i) (ask_line p') rest others hl hm e more = let starts = begins_so _ _ e in absurd (omega (arith, starts.0, starts.1))
+same_line (arm_line p i) (tell_line p' i') rest others hl hm e more = let starts = begins_so _ _ e in absurd (omega (arith, starts.0, starts.1))
 same_line (arm_line p i) (restart_line p') rest others hl hm e more = let starts = begins_so _ _ e in absurd (omega (arith, starts.0, starts.1))
 same_line (arm_line p i) (deliver_line p' i') rest others hl hm e more = let starts = begins_so _ _ e in absurd (omega (arith, starts.0, starts.1))
 same_line (arm_line p i) (arm_line p' i') rest others hl hm e more = one_pair arm_line (codes "arm ") p i p' i' rest others hl.0 hm.0 (omega arith) (omega arith) e more
@@ -123,6 +143,7 @@ same_line (crash_line p i) (submit_line p' t' x') rest others hl hm e more = let
 same_line (crash_line p i) (tick_line p') rest others hl hm e more = let starts = begins_so _ _ e in absurd (omega (arith, starts.0, starts.1))
 same_line (crash_line p i) (widen_line p') rest others hl hm e more = let starts = begins_so _ _ e in absurd (omega (arith, starts.0, starts.1))
 same_line (crash_line p i) (ask_line p') rest others hl hm e more = let starts = begins_so _ _ e in absurd (omega (arith, starts.0, starts.1))
+same_line (crash_line p i) (tell_line p' i') rest others hl hm e more = let starts = begins_so _ _ e in absurd (omega (arith, starts.0, starts.1))
 same_line (crash_line p i) (restart_line p') rest others hl hm e more = let starts = begins_so _ _ e in absurd (omega (arith, starts.0, starts.1))
 same_line (crash_line p i) (deliver_line p' i') rest others hl hm e more = let starts = begins_so _ _ e in absurd (omega (arith, starts.0, starts.1))
 same_line (crash_line p i) (arm_line p' i') rest others hl hm e more = let starts = begins_so _ _ e in absurd (omega (arith, starts.0, starts.1))
@@ -135,6 +156,7 @@ same_line settle_line (submit_line p' t' x') rest others hl hm e more = let star
 same_line settle_line (tick_line p') rest others hl hm e more = let starts = begins_so _ _ e in absurd (omega (arith, starts.0, starts.1))
 same_line settle_line (widen_line p') rest others hl hm e more = let starts = begins_so _ _ e in absurd (omega (arith, starts.0, starts.1))
 same_line settle_line (ask_line p') rest others hl hm e more = let starts = begins_so _ _ e in absurd (omega (arith, starts.0, starts.1))
+same_line settle_line (tell_line p' i') rest others hl hm e more = let starts = begins_so _ _ e in absurd (omega (arith, starts.0, starts.1))
 same_line settle_line (restart_line p') rest others hl hm e more = let starts = begins_so _ _ e in absurd (omega (arith, starts.0, starts.1))
 same_line settle_line (deliver_line p' i') rest others hl hm e more = let starts = begins_so _ _ e in absurd (omega (arith, starts.0, starts.1))
 same_line settle_line (arm_line p' i') rest others hl hm e more = let starts = begins_so _ _ e in absurd (omega (arith, starts.0, starts.1))
@@ -147,6 +169,7 @@ same_line (quiet_line p) (submit_line p' t' x') rest others hl hm e more = let s
 same_line (quiet_line p) (tick_line p') rest others hl hm e more = let starts = begins_so _ _ e in absurd (omega (arith, starts.0, starts.1))
 same_line (quiet_line p) (widen_line p') rest others hl hm e more = let starts = begins_so _ _ e in absurd (omega (arith, starts.0, starts.1))
 same_line (quiet_line p) (ask_line p') rest others hl hm e more = let starts = begins_so _ _ e in absurd (omega (arith, starts.0, starts.1))
+same_line (quiet_line p) (tell_line p' i') rest others hl hm e more = let starts = begins_so _ _ e in absurd (omega (arith, starts.0, starts.1))
 same_line (quiet_line p) (restart_line p') rest others hl hm e more = let starts = begins_so _ _ e in absurd (omega (arith, starts.0, starts.1))
 same_line (quiet_line p) (deliver_line p' i') rest others hl hm e more = let starts = begins_so _ _ e in absurd (omega (arith, starts.0, starts.1))
 same_line (quiet_line p) (arm_line p' i') rest others hl hm e more = let starts = begins_so _ _ e in absurd (omega (arith, starts.0, starts.1))
@@ -159,6 +182,7 @@ same_line (show_line p) (submit_line p' t' x') rest others hl hm e more = let st
 same_line (show_line p) (tick_line p') rest others hl hm e more = let starts = begins_so _ _ e in absurd (omega (arith, starts.0, starts.1))
 same_line (show_line p) (widen_line p') rest others hl hm e more = let starts = begins_so _ _ e in absurd (omega (arith, starts.0, starts.1))
 same_line (show_line p) (ask_line p') rest others hl hm e more = let starts = begins_so _ _ e in absurd (omega (arith, starts.0, starts.1))
+same_line (show_line p) (tell_line p' i') rest others hl hm e more = let starts = begins_so _ _ e in absurd (omega (arith, starts.0, starts.1))
 same_line (show_line p) (restart_line p') rest others hl hm e more = let starts = begins_so _ _ e in absurd (omega (arith, starts.0, starts.1))
 same_line (show_line p) (deliver_line p' i') rest others hl hm e more = let starts = begins_so _ _ e in absurd (omega (arith, starts.0, starts.1))
 same_line (show_line p) (arm_line p' i') rest others hl hm e more = let starts = begins_so _ _ e in absurd (omega (arith, starts.0, starts.1))
@@ -171,6 +195,7 @@ same_line (get_line p n path) (submit_line p' t' x') rest others hl hm e more = 
 same_line (get_line p n path) (tick_line p') rest others hl hm e more = let starts = begins_so _ _ e in absurd (omega (arith, starts.0, starts.1))
 same_line (get_line p n path) (widen_line p') rest others hl hm e more = let starts = begins_so _ _ e in absurd (omega (arith, starts.0, starts.1))
 same_line (get_line p n path) (ask_line p') rest others hl hm e more = let starts = begins_so _ _ e in absurd (omega (arith, starts.0, starts.1))
+same_line (get_line p n path) (tell_line p' i') rest others hl hm e more = let starts = begins_so _ _ e in absurd (omega (arith, starts.0, starts.1))
 same_line (get_line p n path) (restart_line p') rest others hl hm e more = let starts = begins_so _ _ e in absurd (omega (arith, starts.0, starts.1))
 same_line (get_line p n path) (deliver_line p' i') rest others hl hm e more = let starts = begins_so _ _ e in absurd (omega (arith, starts.0, starts.1))
 same_line (get_line p n path) (arm_line p' i') rest others hl hm e more = let starts = begins_so _ _ e in absurd (omega (arith, starts.0, starts.1))

@@ -26,7 +26,7 @@ use Rattle.engine_parts.specs.declared.ends.InputFault.TheVariants as input
 use Rattle.schedule_engine.specs.declared.simulator.SimFault.{SimFault}
 use Rattle.schedule_engine.specs.declared.simulator.Simulation.{Simulation}
 use Rattle.schedule_engine.specs.declared.simulator.SimFault.TheVariants as sim
-use Rattle.schedule_engine.specs.Schedule.{Line, submit_line, tick_line, widen_line, ask_line, restart_line, deliver_line, arm_line, crash_line, settle_line, quiet_line, show_line, get_line}
+use Rattle.schedule_engine.specs.Schedule.{Line, submit_line, tick_line, widen_line, ask_line, tell_line, restart_line, deliver_line, arm_line, crash_line, settle_line, quiet_line, show_line, get_line}
 use Rattle.schedule_engine.specs.Simulation.{Moment, IsMoment, Takes, to_each, deliveries, event_of, HasRelease, IsPage, IsNoPage, Does, TakesOne, TakesPlan}
 use Rattle.schedule_engine.specs.SimulationEnds.{IsStart}
 use Rattle.engine_parts.specs.Feeds.{Grown, ReadEnds}
@@ -185,6 +185,7 @@ does_one n old new (submit_line p ticket text) event printed is t = t
 does_one n old new (tick_line p) event printed is t = t
 does_one n old new (widen_line p) event printed is t = t
 does_one n old new (ask_line p) event printed is t = t
+does_one n old new (tell_line p first) event printed is t = t
 does_one n old new (restart_line p) event printed is t = t
 does_one n old new (deliver_line p index) event printed is t = t
 does_one n old new (arm_line p calls) event printed is t = t

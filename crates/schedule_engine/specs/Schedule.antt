@@ -1,7 +1,7 @@
 -- The lines of a schedule, and how each is spelled.
 use Rattle.std.specs.Prelude.{ℕ, ◌≢◌, ◌<◌, ◌^◌, List, [], ◌∷◌, ◌++◌, length, codes, decimal, ⊤}
 use Rattle.std.specs.Str.{IsUtf8}
-use Rattle.site_ids.specs.Ids.{IsNode}
+use Rattle.site_ids.specs.Ids.{IsNode, IsInstance}
 use Rattle.site_ids.specs.declared.Ticket.{Ticket}
 use Rattle.engine_parts.specs.Cuts.{Lacks}
 use Rattle.engine_parts.specs.Submissions.{numbers, joined, FitsSubmission}
@@ -12,6 +12,7 @@ pub data Line : Type 0 where
   tick_line : (p : ℕ) → Line
   widen_line : (p : ℕ) → Line
   ask_line : (p : ℕ) → Line
+  tell_line : (p first : ℕ) → Line
   restart_line : (p : ℕ) → Line
   deliver_line : (p index : ℕ) → Line
   arm_line : (p calls : ℕ) → Line
@@ -29,6 +30,7 @@ words (submit_line p ticket text) = submit_words p ticket (length text)
 words (tick_line p) = codes "tick" ∷ decimal p ∷ []
 words (widen_line p) = codes "widen" ∷ decimal p ∷ []
 words (ask_line p) = codes "ask" ∷ decimal p ∷ []
+words (tell_line p first) = codes "tell" ∷ decimal p ∷ decimal first ∷ []
 words (restart_line p) = codes "restart" ∷ decimal p ∷ []
 words (deliver_line p index) = codes "deliver" ∷ decimal p ∷ decimal index ∷ []
 words (arm_line p calls) = codes "arm" ∷ decimal p ∷ decimal calls ∷ []
@@ -58,6 +60,7 @@ Fits (submit_line p ticket text) = FitsSubmission p ticket (length text)
 Fits (tick_line p) = IsNode 9 p
 Fits (widen_line p) = IsNode 9 p
 Fits (ask_line p) = IsNode 9 p
+Fits (tell_line p first) = IsNode 9 p × IsInstance first
 Fits (restart_line p) = IsNode 9 p
 Fits (deliver_line p index) = IsNode 9 p × (index < 2 ^ 64)
 Fits (arm_line p calls) = IsNode 9 p × (calls < 2 ^ 32)

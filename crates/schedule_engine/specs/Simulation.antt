@@ -8,7 +8,7 @@ use Rattle.node.specs.Nodes.{Value, Down, Node, IsKnownPrefix}
 use Rattle.release.specs.Page.{Page}
 use Rattle.site_ids.specs.Ids.{IsNode}
 use Rattle.world.specs.declared.event.Event.{Event}
-use Rattle.world.specs.declared.event.Event.TheVariants.{Submit, Tick, Widen, Ask, Deliver, Arm, Crash, Restart}
+use Rattle.world.specs.declared.event.Event.TheVariants.{Submit, Tick, Widen, Ask, Tell, Deliver, Arm, Crash, Restart}
 use Rattle.world.specs.declared.state.NodeState.{NodeState}
 use Rattle.world.specs.declared.state.NodeState.TheVariants as told
 use Rattle.world.specs.declared.whole.World.{World as Code}
@@ -19,7 +19,7 @@ use Rattle.world.specs.Steps.{LeadsTo, Reached, IsAnswer}
 use Rattle.world.specs.Taking.{TakesAll, IsBad}
 use Rattle.world.specs.Telling.{mode_told}
 use Rattle.world.specs.Worlds.{World}
-use Rattle.schedule_engine.specs.Schedule.{Line, submit_line, tick_line, widen_line, ask_line, restart_line, deliver_line, arm_line, crash_line, settle_line, quiet_line, show_line, get_line}
+use Rattle.schedule_engine.specs.Schedule.{Line, submit_line, tick_line, widen_line, ask_line, tell_line, restart_line, deliver_line, arm_line, crash_line, settle_line, quiet_line, show_line, get_line}
 use Rattle.engine_parts.specs.Answers.{answer_lines}
 
 -- a running world, the events that it has taken since the start, and the least index that no settle has taken
@@ -42,6 +42,7 @@ event_of (submit_line p ticket text) = Some (Submit p (value_of ticket text))
 event_of (tick_line p) = Some (Tick p)
 event_of (widen_line p) = Some (Widen p)
 event_of (ask_line p) = Some (Ask p)
+event_of (tell_line p first) = Some (Tell p first)
 event_of (restart_line p) = Some (Restart p)
 event_of (deliver_line p index) = Some (Deliver p index)
 event_of (arm_line p calls) = Some (Arm p calls)

@@ -1,9 +1,9 @@
 //! The lines of a schedule.
 ghost use Rattle.std.specs.Prelude.{◌≡◌, ◌≢◌, ℕ, List, ◌∷◌, ◌++◌, ◌<◌, ◌≤◌, ◌^◌, MatchOption, codes, decimal, [], Some, None};
-ghost use Rattle.site_ids.specs.Ids.{IsNode};
+ghost use Rattle.site_ids.specs.Ids.{IsNode, IsInstance};
 ghost use Rattle.engine_parts.specs.Cuts.{Lacks, IsCut};
 ghost use Rattle.site_ids.specs.declared.Ticket.{Ticket as AbstractTicket};
-ghost use Rattle.schedule_engine.specs.Schedule.{Line as AbstractLine, words, submit_words, Fits, IsPath, body, arm_line, crash_line, get_line};
+ghost use Rattle.schedule_engine.specs.Schedule.{Line as AbstractLine, words, submit_words, Fits, IsPath, body, tell_line, arm_line, crash_line, get_line};
 ghost use Rattle.engine_parts.specs.Submissions.{joined, FitsSubmission};
 ghost use Rattle.schedule_engine.specs.ScheduleView.{line_view, submission_words, IsFound, IsFoundNodes};
 ghost use Rattle.engine_parts.specs.Submissions.{submission_fits};
@@ -11,7 +11,7 @@ ghost use Rattle.engine_parts.specs.Submissions.{submission_fits};
 use engine_parts::{
     Submission, after, cut, number_at_node, read_node, read_number, submission_after, word_after,
 };
-use site_ids::{Cluster, NodeId, Ticket};
+use site_ids::{Cluster, Instance, NodeId, Ticket};
 
 /// A line behind the first, with the words of it that vary. A node of it need not be one of the schedule's nodes.
 #[derive(Clone, Copy, Debug)]
@@ -29,6 +29,10 @@ pub(crate) enum Line<'a> {
     },
     Ask {
         node: NodeId,
+    },
+    Tell {
+        node: NodeId,
+        first: Instance,
     },
     Restart {
         node: NodeId,
@@ -93,6 +97,14 @@ fn arming(head: &[u8]) -> Option<(NodeId, u32)>
     Some((node, u32::try_from(calls).ok()?))
 }
 
+fn telling(head: &[u8]) -> Option<(NodeId, Instance)>
+    ensures { MatchOption result ((p first : ℕ) → IsNode 9 p → IsInstance first → head.now ≢ joined (words (tell_line p first)))
+        (λ r. IsNode 9 r.0 × IsInstance r.1 × (head.now ≡ joined (words (tell_line r.0 r.1)))) }
+{
+    let (node, first) = number_at_node(head, "tell ")?;
+    Some((node, Instance::new(u32::try_from(first).ok()?)?))
+}
+
 fn crashing(head: &[u8]) -> Option<(NodeId, u8)>
     ensures { MatchOption result ((p choice : ℕ) → IsNode 9 p → choice < 2 ^ 8 → head.now ≢ joined (words (crash_line p choice)))
         (λ r. IsNode 9 r.0 × (r.1 < 2 ^ 8) × (head.now ≡ joined (words (crash_line r.0 r.1)))) }
@@ -145,6 +157,9 @@ fn plain_line(head: &[u8]) -> Option<Line<'_>>
     }
     if let Some((node, index)) = number_at_node(head, "deliver ") {
         return Some(Line::Deliver { node, index });
+    }
+    if let Some((node, first)) = telling(head) {
+        return Some(Line::Tell { node, first });
     }
     if let Some((node, calls)) = arming(head) {
         return Some(Line::Arm { node, calls });

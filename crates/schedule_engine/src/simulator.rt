@@ -83,6 +83,10 @@ fn event_in(alloc: Global, line: &Line<'_>) -> Result<Option<Event>, AllocError>
         Line::Tick { node } => Event::Tick { node: *node },
         Line::Widen { node } => Event::Widen { node: *node },
         Line::Ask { node } => Event::Ask { node: *node },
+        Line::Tell { node, first } => Event::Tell {
+            node: *node,
+            instance: *first,
+        },
         Line::Restart { node } => Event::Restart { node: *node },
         Line::Deliver { node, index } => Event::Deliver {
             node: *node,

@@ -8,13 +8,10 @@ use Rattle.durable.specs.Entries.{Entry, Round, Promised, PromisedSpan, Voted, R
 use Rattle.node.specs.Calls.{fresh_ballot, HasRound}
 use Rattle.world.specs.declared.event.Event.{Event}
 use Rattle.world.specs.Worlds.{World, Runs, start}
-use Rattle.world.proofs.Entries.{vote_after-in}
+use Rattle.node.proofs.OnRecord.{last_vote-in}
 use Rattle.world.proofs.Growing.{sound}
 use Rattle.world.proofs.Agreed.{heard_is_promised}
 use Rattle.world.specs.Quiet.{IsQuiet}
-
-no_vote : (x : Vote) → ◌≡◌ {A = Option Vote} None (Some x) → ⊥
-no_vote x e = cc
 
 last_within : (r : ℕ) (es : List Entry) → round_after r es ≤ max r (greatest_round es)
 last_within r [] = omega arith
@@ -37,10 +34,6 @@ raised_within (x ∷ es) e i c k h =
     (λ k. let r = raised_within es e i c k h in omega (arith, r))
     k
 
--- the last vote at an instance was raised there
-pub vote_raised : (i : ℕ) (es : List Entry) (x : Vote) → last_vote i es ≡ Some x → In es (Voted i x.ballot x.value)
-vote_raised i es x e = ⊎_elim (λ k. k) (λ none. absurd (no_vote x none)) (vote_after-in i None es x e)
-
 pub round_least : (a b : BallotOf) → NotAbove a b → a.round ≤ b.round
 round_least a b h = grind arith
 
@@ -62,7 +55,7 @@ module _ (n p : ℕ) (past : List Event) (w : World) (runs : Runs n start past w
 pub fresh_unvoted : (n p : ℕ) (past : List Event) (w : World) → Runs n start past w → (q i : ℕ) (x : Vote) → last_vote i (w.node q).entries ≡ Some x → x.ballot ≢ fresh_ballot p (w.node p)
 fresh_unvoted n p past w runs q i x e same =
     let good = sound n past w runs in
-    let made = (good.nodes q).votes i x.ballot x.value (inl (vote_raised i (w.node q).entries x e)) in
+    let made = (good.nodes q).votes i x.ballot x.value (inl (last_vote-in i (w.node q).entries x e)) in
     let low : x.ballot.round ≤ last_round (w.node x.ballot.node).entries = (good.messages (Propose made.0 i x.ballot x.value) made.1).0 in
     let here : (fresh_ballot p (w.node p)).round ≤ last_round (w.node p).entries = subst (λ (c : BallotOf). c.round ≤ last_round (w.node c.node).entries) same low in
     too_high (last_round (w.node p).entries) (w.node p).heard here

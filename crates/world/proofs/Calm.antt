@@ -10,7 +10,7 @@ use Rattle.node.specs.Effects.{Effect, recorded, messages_of}
 use Rattle.node.specs.Calls.{Call, tick, deliver, HasRound, Does}
 use Rattle.node.specs.Endings.{Ending, Whole, Refused, Failed, Ends, Refuses, Contradicts}
 use Rattle.world.specs.declared.event.Event.{Event}
-use Rattle.world.specs.declared.event.Event.TheVariants.{Submit, Tick, Widen, Ask, Deliver, Arm, Crash, Restart}
+use Rattle.world.specs.declared.event.Event.TheVariants.{Submit, Tick, Widen, Ask, Tell, Deliver, Arm, Crash, Restart}
 use Rattle.world.specs.Worlds.{World, Moves, Becomes, CallsAt, Calls}
 use Rattle.world.specs.Taking.{IsTaken, Takes, TakesAll}
 use Rattle.world.proofs.Moving.{either}
@@ -135,6 +135,7 @@ module _ (n : ℕ) where
   run_before (Submit p v ∷ events) w after calm how up = absurd calm
   run_before (Widen p ∷ events) w after calm how up = absurd calm
   run_before (Ask p ∷ events) w after calm how up = absurd calm
+  run_before (Tell p i ∷ events) w after calm how up = absurd calm
   run_before (Arm p k ∷ events) w after calm how up = absurd calm
   run_before (Crash p k ∷ events) w after calm how up = absurd calm
   run_before (Restart p ∷ events) w after calm how up = absurd calm
@@ -158,6 +159,7 @@ calm_both (Deliver p k ∷ xs) ys a b = calm_both xs ys a b
 calm_both (Submit p v ∷ xs) ys a b = absurd a
 calm_both (Widen p ∷ xs) ys a b = absurd a
 calm_both (Ask p ∷ xs) ys a b = absurd a
+calm_both (Tell p i ∷ xs) ys a b = absurd a
 calm_both (Arm p k ∷ xs) ys a b = absurd a
 calm_both (Crash p k ∷ xs) ys a b = absurd a
 calm_both (Restart p ∷ xs) ys a b = absurd a

@@ -15,11 +15,13 @@ use Rattle.learner.specs.ToldVotes.{ToldVote, told_vote}
 use Rattle.command.specs.Action.{Order}
 use Rattle.command.specs.Reading.{value_reading}
 use Rattle.command.specs.declared.fault.CommandFault.{CommandFault}
+use Rattle.node.specs.declared.to.To.{To}
 use Rattle.node.specs.declared.to.To.TheVariants.{One, All}
+use Rattle.node.specs.Tellings.{tells}
 use Rattle.node.specs.Nodes.{Value, IsFirstUnknown}
 use Rattle.node.specs.Tickets.{IsHeld, has_same_ticket}
 use Rattle.node.specs.Deliveries.{reached_by, OnPromise, OnAccepted, OnAsk, OnChosen, ByKind}
-use Rattle.node.specs.Calls.{Call, submit, tick, widen, ask, deliver, oldest, IsFree, IsNextFree, IsTried, AreUntried, IsNextSpan, Does}
+use Rattle.node.specs.Calls.{Call, submit, tick, widen, ask, tell, deliver, oldest, IsFree, IsNextFree, IsTried, AreUntried, IsNextSpan, Does}
 use Rattle.node.proofs.Windows.{from_first, untried_stays}
 use Rattle.world.proofs.Lists.{put_at_cases}
 use Rattle.world.proofs.Order.{not_above_itself, not_above_trans, below_is_not_above}
@@ -453,6 +455,11 @@ asked n p t = elim (first_unknown t) [
   | Some first ↦ Some (record { entry = None; after = t; out = (All, Ask p first.0) ∷ []; does = record { instance = first.0; first = first.1; is = refl } })
 ]
 
+-- ---- a telling
+
+abbrev pub told : (n p : ℕ) (t : NodeBy) (to : To) (i : ℕ) → Done (Does n p (node_by t) (tell to i))
+told n p t to i = record { entry = None; after = t; out = (tells p (node_by t) to i).out; does = refl }
+
 -- ---- all calls
 
 -- what the call does, if it is one that is computed here: a ticket that is held, or what has a cause of refusal, isn't
@@ -461,4 +468,5 @@ done n p t (submit v) = submitted n p t v (value_reading v) refl
 done n p t tick = ticked n p t
 done n p t widen = widened n p t
 done n p t ask = asked n p t
+done n p t (tell to i) = Some (told n p t to i)
 done n p t (deliver m) = by_kind n p (record t { reached = reached_by t.reached m }) m

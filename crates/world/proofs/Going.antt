@@ -7,7 +7,7 @@ use Rattle.node.specs.Nodes.{Down}
 use Rattle.node.specs.Effects.{messages_of}
 use Rattle.node.specs.Calls.{Call, deliver}
 use Rattle.world.specs.declared.event.Event.{Event}
-use Rattle.world.specs.declared.event.Event.TheVariants.{Submit, Tick, Widen, Ask, Deliver, Arm, Crash, Restart}
+use Rattle.world.specs.declared.event.Event.TheVariants.{Submit, Tick, Widen, Ask, Tell, Deliver, Arm, Crash, Restart}
 use Rattle.world.specs.Worlds.{World, Becomes, CallsAt, Calls}
 use Rattle.world.specs.Taking.{IsTaken, Takes, TakesAll, IsBad}
 use Rattle.world.specs.Quiet.{AllRun, AreCalm, to_each, each_to}
@@ -31,6 +31,7 @@ module _ (n : ℕ) where
   calm_take (suc k) (Submit p v ∷ events) calm = absurd calm
   calm_take (suc k) (Widen p ∷ events) calm = absurd calm
   calm_take (suc k) (Ask p ∷ events) calm = absurd calm
+  calm_take (suc k) (Tell p i ∷ events) calm = absurd calm
   calm_take (suc k) (Arm p j ∷ events) calm = absurd calm
   calm_take (suc k) (Crash p j ∷ events) calm = absurd calm
   calm_take (suc k) (Restart p ∷ events) calm = absurd calm
@@ -41,6 +42,7 @@ module _ (n : ℕ) where
   tail_calm (Submit p v) events calm = absurd calm
   tail_calm (Widen p) events calm = absurd calm
   tail_calm (Ask p) events calm = absurd calm
+  tail_calm (Tell p i) events calm = absurd calm
   tail_calm (Arm p j) events calm = absurd calm
   tail_calm (Crash p j) events calm = absurd calm
   tail_calm (Restart p) events calm = absurd calm

@@ -5,11 +5,12 @@ use Rattle.std.specs.Result.{OnOk, OnErr}
 use Rattle.site_ids.proofs.MemberLemmas.{in_get}
 use Rattle.wire.specs.declared.message.Message.{Message}
 use Rattle.wire.specs.Messages.{IsMessage}
+use Rattle.node.specs.declared.to.To.TheVariants.{All}
 use Rattle.node.specs.Nodes.{Node, Up, Down}
 use Rattle.node.specs.Effects.{messages_of}
-use Rattle.node.specs.Calls.{submit, tick, widen, ask, deliver}
+use Rattle.node.specs.Calls.{submit, tick, widen, ask, tell, deliver}
 use Rattle.world.specs.declared.event.Event.{Event}
-use Rattle.world.specs.declared.event.Event.TheVariants.{Submit, Tick, Widen, Ask, Deliver, Arm, Crash, Restart}
+use Rattle.world.specs.declared.event.Event.TheVariants.{Submit, Tick, Widen, Ask, Tell, Deliver, Arm, Crash, Restart}
 use Rattle.world.specs.declared.places.Place.{Place}
 use Rattle.world.specs.Taking.{node_of, IsUnsent}
 use Rattle.world.specs.Places.{Handed, NodeTakes, Settled, Turns, Wants, IsUp, CallTurns, CallWants, EventTurns, EventWants}
@@ -71,6 +72,9 @@ module _ {T E : Type 0} (r : Result T E) (n : ℕ) (event : Event) (old new : Pl
   pub asks : (q : ℕ) → event ≡ Ask q → OnOk r ((k p : ℕ) → CallTurns k p ask old new before after) → OnOk r (EventTurns n event old new before after)
   asks q is told = on_ok r (λ turns. turns_for n event (Ask q) old new before after is (λ messages. turns n q)) told
 
+  pub tells : (q i : ℕ) → event ≡ Tell q i → OnOk r ((k p : ℕ) → CallTurns k p (tell All i) old new before after) → OnOk r (EventTurns n event old new before after)
+  tells q i is told = on_ok r (λ turns. turns_for n event (Tell q i) old new before after is (λ messages. turns n q)) told
+
   pub delivers : (q index : ℕ) → event ≡ Deliver q index → index < length before
       → OnOk r ((m : Message) → slice_get (messages_of before) index ≡ Some m → (k p : ℕ) → IsMessage k m → CallTurns k p (deliver m) old new before after) → OnOk r (EventTurns n event old new before after)
   delivers q index is below told =
@@ -100,6 +104,9 @@ module _ {T E : Type 0} (r : Result T E) (n : ℕ) (event : Event) (old new : Pl
 
   pub ask_wants : (q : ℕ) → event ≡ Ask q → OnErr r ((k p : ℕ) → CallWants k p ask old new before after) → OnErr r (EventWants n (node_of event) event old new before after)
   ask_wants q is told = on_err r (λ wants. wants_for n event (Ask q) old new before after is (wants n q)) told
+
+  pub tell_wants : (q i : ℕ) → event ≡ Tell q i → OnErr r ((k p : ℕ) → CallWants k p (tell All i) old new before after) → OnErr r (EventWants n (node_of event) event old new before after)
+  tell_wants q i is told = on_err r (λ wants. wants_for n event (Tell q i) old new before after is (wants n q)) told
 
   pub deliver_wants : (q index : ℕ) → event ≡ Deliver q index → OnErr r ((k p : ℕ) → Wants k p IsUp old new before after) → OnErr r (EventWants n (node_of event) event old new before after)
   deliver_wants q index is told = on_err r (λ wants. wants_for n event (Deliver q index) old new before after is (wants n q)) told

@@ -12,6 +12,7 @@ pub mod Calling
 pub mod Accepting
 pub mod Promising
 pub mod Delivering
+pub mod Retelling
 pub mod Ticking
 pub mod Running
 pub mod Growing

@@ -8,13 +8,14 @@ use Rattle.site_ids.proofs.MapLemmas.{put_here, put_other}
 use Rattle.site_ids.proofs.MemberLemmas.{in_split}
 use Rattle.wire.specs.declared.message.Message.{Message}
 use Rattle.wire.specs.Messages.{IsMessage}
+use Rattle.node.specs.declared.to.To.TheVariants.{All}
 use Rattle.node.specs.Nodes.{Up, Down, Node, opened}
 use Rattle.node.specs.Effects.{messages_of}
-use Rattle.node.specs.Calls.{Call, submit, tick, widen, ask, deliver}
+use Rattle.node.specs.Calls.{Call, submit, tick, widen, ask, tell, deliver}
 use Rattle.node.specs.declared.fault.NodeFault.TheVariants.{OutOfMemory}
 use Rattle.node.specs.Endings.{Refuses}
 use Rattle.world.specs.declared.event.Event.{Event}
-use Rattle.world.specs.declared.event.Event.TheVariants.{Submit, Tick, Widen, Ask, Deliver, Arm, Crash, Restart}
+use Rattle.world.specs.declared.event.Event.TheVariants.{Submit, Tick, Widen, Ask, Tell, Deliver, Arm, Crash, Restart}
 use Rattle.world.specs.declared.places.Place.{Place}
 use Rattle.world.specs.declared.places.Place.TheVariants.{Open, Bare}
 use Rattle.world.specs.declared.whole.World.{World as Code}
@@ -80,6 +81,7 @@ takes_of n w (Submit p v) next out here how = called n w p next out here (submit
 takes_of n w (Tick p) next out here how = called n w p next out here tick how
 takes_of n w (Widen p) next out here how = called n w p next out here widen how
 takes_of n w (Ask p) next out here how = called n w p next out here ask how
+takes_of n w (Tell p i) next out here how = called n w p next out here (tell All i) how
 takes_of n w (Deliver p index) next out here how = record { message = how.0; was_sent = how.1; calls = called n w p next out here (deliver how.0) how.2 }
 takes_of n w (Arm p calls) next out here how = armed n w p next out here how.1 how.0
 takes_of n w (Crash p choice) next out here how = record { entries = how.0; settles = how.1; becomes = moves_as n w p next out here (opened Down how.0 None) how.2 how.3 }
@@ -241,6 +243,7 @@ step_not_taken old new (Submit p v) k place x here below places same at got want
 step_not_taken old new (Tick p) k place x here below places same at got wants = step_wanted old new p k place x here below places same at got (λ s. Refuses s tick OutOfMemory) wants
 step_not_taken old new (Widen p) k place x here below places same at got wants = step_wanted old new p k place x here below places same at got (λ s. Refuses s widen OutOfMemory) wants
 step_not_taken old new (Ask p) k place x here below places same at got wants = step_wanted old new p k place x here below places same at got (λ s. Refuses s ask OutOfMemory) wants
+step_not_taken old new (Tell p i) k place x here below places same at got wants = step_wanted old new p k place x here below places same at got (λ s. Refuses s (tell All i) OutOfMemory) wants
 step_not_taken old new (Deliver p index) k place x here below places same at got wants = step_wanted old new p k place x here below places same at got IsUp wants
 step_not_taken old new (Arm p calls) k place x here below places same at got wants = absurd wants
 step_not_taken old new (Crash p choice) k place x here below places same at got wants = absurd wants

@@ -21,7 +21,8 @@ use Rattle.world.proofs.Calm.{Acts, deliver_acts, for_each}
 use Rattle.world.proofs.QuietLists.{quorum_within}
 use Rattle.world.proofs.QuietAnswers.{IsClear, SameMind, same_mind, Nacks, nacks}
 use Rattle.world.proofs.Attempting.{Ticked, ticked, first_behind, longer}
-use Rattle.world.proofs.Bounds.{raised_within, vote_raised, round_least}
+use Rattle.node.proofs.OnRecord.{last_vote-in}
+use Rattle.world.proofs.Bounds.{raised_within, round_least}
 
 -- what is left of a refused attempt
 pub record Heard (n p i : ℕ) (w after : World) (elsewhere : List (ℕ × Attempt)) : Type 0 where
@@ -139,7 +140,7 @@ module _ (n p i : ℕ) (w : World) (elsewhere : List (ℕ × Attempt)) (node : I
             };
             clear = λ r is. record {
               below = λ e c k raised. inl (low_3 r e c is k raised);
-              unvoted = λ x last same. let h = low_3 r (Voted i x.ballot x.value) x.ballot is (vote_raised i (w3.node r).entries x last) (refl, refl) in let e : x.ballot.round ≡ (fresh_ballot p (w3.node p)).round = ap (λ (y : BallotOf). y.round) same in
+              unvoted = λ x last same. let h = low_3 r (Voted i x.ballot x.value) x.ballot is (last_vote-in i (w3.node r).entries x last) (refl, refl) in let e : x.ballot.round ≡ (fresh_ballot p (w3.node p)).round = ap (λ (y : BallotOf). y.round) same in
                   omega (arith, h, e);
             };
             sent = let l = longer w3.sent w2.sent (messages_of acts_3.effect.out) acts_3.sent in let j = long_2 in let none : length (messages_of acts_3.effect.out) ≡ 0 = ap (λ (x : Effect). length (messages_of x.out)) acts_3.does in omega (arith, l, j, none);

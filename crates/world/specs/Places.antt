@@ -6,13 +6,14 @@ use Rattle.wire.specs.Messages.{IsMessage}
 use Rattle.durable.specs.Entries.{Entry}
 use Rattle.durable.specs.Keeping.{Settles}
 use Rattle.node.specs.declared.to.To.{To}
+use Rattle.node.specs.declared.to.To.TheVariants.{All}
 use Rattle.node.specs.Nodes.{Mode, Up, Down, Node, opened}
 use Rattle.node.specs.Effects.{messages_of}
-use Rattle.node.specs.Calls.{Call, submit, tick, widen, ask, deliver}
+use Rattle.node.specs.Calls.{Call, submit, tick, widen, ask, tell, deliver}
 use Rattle.node.specs.declared.fault.NodeFault.TheVariants.{OutOfMemory}
 use Rattle.node.specs.Endings.{Ending, Refuses, Ends}
 use Rattle.world.specs.declared.event.Event.{Event}
-use Rattle.world.specs.declared.event.Event.TheVariants.{Submit, Tick, Widen, Ask, Deliver, Arm, Crash, Restart}
+use Rattle.world.specs.declared.event.Event.TheVariants.{Submit, Tick, Widen, Ask, Tell, Deliver, Arm, Crash, Restart}
 use Rattle.world.specs.declared.places.Place.{Place}
 use Rattle.world.specs.Taking.{IsTaken, node_of}
 use Rattle.world.specs.Standing.{IsPlaceOf, HasPublished}
@@ -37,6 +38,7 @@ NodeTakes n p sent s (Submit q v) out next = AtNode n p s (submit v) out next
 NodeTakes n p sent s (Tick q) out next = AtNode n p s tick out next
 NodeTakes n p sent s (Widen q) out next = AtNode n p s widen out next
 NodeTakes n p sent s (Ask q) out next = AtNode n p s ask out next
+NodeTakes n p sent s (Tell q i) out next = AtNode n p s (tell All i) out next
 NodeTakes n p sent s (Deliver q index) out next = (message : Message) × (slice_get sent index ≡ Some message) × AtNode n p s (deliver message) out next
 NodeTakes n p sent s (Arm q calls) out next = (out ≡ []) × (((s.mode ≢ Down) × (next ≡ record s { armed = true })) ⊎ ((s.mode ≡ Down) × (next ≡ s)))
 NodeTakes n p sent s (Crash q choice) out next = Settled Down s out next
@@ -84,6 +86,7 @@ EventWants n p (Submit q v) old new before after = CallWants n p (submit v) old 
 EventWants n p (Tick q) old new before after = CallWants n p tick old new before after
 EventWants n p (Widen q) old new before after = CallWants n p widen old new before after
 EventWants n p (Ask q) old new before after = CallWants n p ask old new before after
+EventWants n p (Tell q i) old new before after = CallWants n p (tell All i) old new before after
 EventWants n p (Deliver q index) old new before after = Wants n p IsUp old new before after
 
 -- all of them are messages of the cluster

@@ -5,7 +5,7 @@ ghost use Rattle.std.specs.Prelude.{◌≡◌, ◌≢◌, ◌<◌, ◌⊎◌, �
 use crate::Event;
 use crate::passing::passed;
 use durable::{Record, RecordFault};
-use node::{Node, Outbox};
+use node::{Node, Outbox, To};
 use site_disk::MemDisk;
 use site_ids::{Ballot, Cluster, Instance, MAX_ROUND, NodeId};
 use std::alloc::{AllocError, Global};
@@ -30,7 +30,7 @@ impl Place {
     ghost use Rattle.wire.specs.Messages.{IsMessage};
     ghost use Rattle.node.specs.Nodes.{Node as AbstractNode, Up, Down, opened, IsFirstUnknown};
     ghost use Rattle.node.specs.Effects.{messages_of};
-    ghost use Rattle.node.specs.Calls.{submit as submission, tick as ticking, widen as widening, ask as asking, deliver as delivery, fresh_ballot, HasRound, AreOpenElsewhere};
+    ghost use Rattle.node.specs.Calls.{submit as submission, tick as ticking, widen as widening, ask as asking, tell as telling, deliver as delivery, fresh_ballot, HasRound, AreOpenElsewhere};
     ghost use Rattle.proposer.specs.Attempts.{Attempt};
     ghost use Rattle.node.specs.Standing.{OnlyGrows};
     ghost use Rattle.site_ids.specs.Ids.{IsNode};
@@ -97,6 +97,17 @@ impl Place {
         match self {
             Place::Bare(_) => Ok(()),
             Place::Open { node, .. } => passed(node.ask(sent)),
+        }
+    }
+
+    pub(crate) fn tell(&mut self, first: Instance, sent: &mut Outbox) -> Result<(), AllocError>
+        ensures ok { OnOk result ((n p : ℕ) → CallTurns n p (telling To.All first) self.old self.new sent.old.items sent.new.items) }
+        ensures err { OnErr result ((n p : ℕ) → CallWants n p (telling To.All first) self.old self.new sent.old.items sent.new.items) }
+        ensures grows { OnlyGrows sent.old.items sent.new.items }
+    {
+        match self {
+            Place::Bare(_) => Ok(()),
+            Place::Open { node, .. } => passed(node.tell(To::All, first, sent)),
         }
     }
 
@@ -270,6 +281,7 @@ impl Place {
             Event::Tick { .. } => self.tick(sent),
             Event::Widen { .. } => self.widen(sent),
             Event::Ask { .. } => self.ask(sent),
+            Event::Tell { instance, .. } => self.tell(*instance, sent),
             Event::Deliver { index, .. } => self.deliver(alloc, *index, sent),
             Event::Arm { calls, .. } => {
                 self.arm(*calls);

@@ -5,7 +5,7 @@ use crate::halt::Halt;
 use crate::step::{Kind, Step};
 use command::write;
 use release::Answer;
-use site_ids::{Cluster, NodeId, Ticket, Value};
+use site_ids::{Cluster, Instance, NodeId, Ticket, Value};
 use std::alloc::Global;
 use std::process::Abort;
 use wire::Message;
@@ -217,6 +217,10 @@ impl Group {
             Step::Ask(number) => Event::Ask {
                 node: self.node(number)?,
             },
+            Step::Tell(number, first) => Event::Tell {
+                node: self.node(number)?,
+                instance: Instance::new(first).ok_or(Halt::NotThere)?,
+            },
             Step::Deliver(number, index) => Event::Deliver {
                 node: self.node(number)?,
                 index,
@@ -241,6 +245,10 @@ impl Group {
     pub(crate) fn act(&mut self, rt: &impl Abort, step: Step) -> Result<(), Halt> {
         match step {
             Step::Settle => self.settle(),
+            Step::Lose => {
+                self.settled = self.world.sent_count();
+                Ok(())
+            }
             Step::Quiet(number) => {
                 let plan = self.plan(number)?;
                 self.run_on(plan.as_slice())

@@ -21,4 +21,6 @@ mod simulator;
 #[cfg(test)]
 mod step;
 #[cfg(test)]
+mod told_again;
+#[cfg(test)]
 mod widened;

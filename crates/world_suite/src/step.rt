@@ -9,12 +9,16 @@ pub(crate) enum Step {
     Tick(u8),
     Widen(u8),
     Ask(u8),
+    /// It tells all others, from an instance on.
+    Tell(u8, u32),
     Deliver(u8, usize),
     Arm(u8, u32),
     Crash(u8, u8),
     Restart(u8),
     /// Each message that no such step has taken reaches all nodes, and so do those that come of it.
     Settle,
+    /// What no such step has taken reaches nobody.
+    Lose,
     /// Its quiet plan.
     Quiet(u8),
     /// How many ticks and deliveries its quiet plan has.

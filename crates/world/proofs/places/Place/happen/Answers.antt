@@ -1,5 +1,5 @@
 use Rattle.std.proofs.Common.{[]}
-use Rattle.world.proofs.Happening.{is_sent, submits, ticks, widens, asks, delivers, arms, crashes, restarts, submit_wants, tick_wants, widen_wants, ask_wants, deliver_wants}
+use Rattle.world.proofs.Happening.{is_sent, submits, ticks, widens, asks, tells, delivers, arms, crashes, restarts, submit_wants, tick_wants, widen_wants, ask_wants, tell_wants, deliver_wants}
 use Rattle.world.proofs.places.Place.happen.Goals as goal
 
 pub returns-in-Submit-clause-ok : goal.returns-in-Submit-clause-ok
@@ -25,6 +25,12 @@ returns-in-Ask-clause-ok g = asks _ g.args.cluster _ _ _ _ _ _ g.in-Ask.is g.ask
 
 pub returns-in-Ask-clause-err : goal.returns-in-Ask-clause-err
 returns-in-Ask-clause-err g = ask_wants _ g.args.cluster _ _ _ _ _ _ g.in-Ask.is g.ask.ensures.err
+
+pub returns-in-Tell-clause-ok : goal.returns-in-Tell-clause-ok
+returns-in-Tell-clause-ok g = tells _ g.args.cluster _ _ _ _ _ _ _ g.in-Tell.is g.tell.ensures.ok
+
+pub returns-in-Tell-clause-err : goal.returns-in-Tell-clause-err
+returns-in-Tell-clause-err g = tell_wants _ g.args.cluster _ _ _ _ _ _ _ g.in-Tell.is g.tell.ensures.err
 
 pub deliver-requires : goal.deliver-requires
 deliver-requires g = is_sent _ _ _ _ g.in-Deliver.is g.requires.message
