@@ -141,6 +141,43 @@ fn questions_and_widenings_need_no_tick(rt: HostRuntime) {
     without_a_tick(&rt, &mut desk, &mut server);
 }
 
+/// Node 3 asks for what it is told behind the answer; whatever else comes is no question.
+fn told_behind_a_question(rt: &impl Abort, desk: &mut Desk, server: &mut Server<MemLink>) {
+    hear(rt, server, 9);
+    for turn in 0..9 {
+        passes(
+            rt,
+            "a turn",
+            server.drive_with(desk, 1, LastCall::Nothing),
+            u32::from(turn == 8),
+            0,
+        );
+        let asked = desk.asked();
+        assert_eq!(rt; asked.is_some(), turn == 4 || turn == 7, "turn {turn}");
+        let Some((to, first)) = asked else {
+            continue;
+        };
+        assert!(rt; to.number() == 3 && first.number() == 1);
+        let sent = server.link.sent().len();
+        let last = LastCall::Tell { to, first };
+        passes(rt, "a telling", server.drive_with(desk, 0, last), 0, 0);
+        let told = if turn == 4 {
+            "0104010000000100000001020000000107"
+        } else {
+            "010701000000010000000107"
+        };
+        server.sent(rt, sent, 3, told);
+        assert_eq!(rt; server.link.sent().len(), sent.saturating_add(1));
+    }
+}
+
+#[test]
+fn a_telling_goes_to_who_asked(rt: HostRuntime) {
+    let mut desk = Desk::new(rt.alloc()).expect(&rt, "a desk");
+    let mut server = server(&rt, rt.alloc(), 3);
+    told_behind_a_question(&rt, &mut desk, &mut server);
+}
+
 fn one_for_all(rt: &impl Abort, alloc: Global, size: u8) {
     let mut server = server(rt, alloc, size);
     passes(rt, "a question", server.drive(0), 0, 0);

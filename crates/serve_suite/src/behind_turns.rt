@@ -1,29 +1,44 @@
 //! What a patient server calls behind a turn.
 use site_drive::LastCall;
+use site_ids::{Cluster, Instance, NodeId};
 use site_serve::Due;
 use std::process::Abort;
 
-/// What stands (fresh, a question, a tick, the first turn), and what is called: the first of them that applies.
-const CALLS: [(bool, bool, bool, bool, LastCall); 8] = [
-    (false, false, false, false, LastCall::Nothing),
-    (false, false, false, true, LastCall::Widen),
-    (false, false, true, false, LastCall::TickOrAsk),
-    (false, false, true, true, LastCall::TickOrAsk),
-    (false, true, false, true, LastCall::Ask),
-    (false, true, true, false, LastCall::Ask),
-    (true, false, false, false, LastCall::TickOrAsk),
-    (true, true, true, true, LastCall::TickOrAsk),
+/// What stands (fresh, a telling, a question, a tick, the first turn), and what is called: the first of them that applies; a telling where none is given.
+const CALLS: [(bool, bool, bool, bool, bool, Option<LastCall>); 11] = [
+    (false, false, false, false, false, Some(LastCall::Nothing)),
+    (false, false, false, false, true, Some(LastCall::Widen)),
+    (false, false, false, true, false, Some(LastCall::TickOrAsk)),
+    (false, false, false, true, true, Some(LastCall::TickOrAsk)),
+    (false, false, true, false, true, Some(LastCall::Ask)),
+    (false, false, true, true, false, Some(LastCall::Ask)),
+    (false, true, false, false, false, None),
+    (false, true, true, true, true, None),
+    (true, false, false, false, false, Some(LastCall::TickOrAsk)),
+    (true, false, true, true, true, Some(LastCall::TickOrAsk)),
+    (true, true, true, true, true, Some(LastCall::TickOrAsk)),
 ];
+
+/// Node 2, and instance 7.
+fn told() -> Option<(NodeId, Instance)> {
+    Some((Cluster::new(3)?.node(2)?, Instance::new(7)?))
+}
 
 #[test]
 fn one_call_is_due_behind_a_turn(rt: HostRuntime) {
-    for (fresh, question, tick, first, call) in CALLS {
+    let (to, first_told) = told().expect(&rt, "a node and an instance");
+    for (fresh, telling, question, tick, first, call) in CALLS {
         let due = Due {
             fresh,
+            telling: telling.then_some((to, first_told)),
             question,
             tick,
             first,
         };
-        assert_eq!(rt; due.last_call(), call, "{due:?}");
+        let tell = LastCall::Tell {
+            to,
+            first: first_told,
+        };
+        assert_eq!(rt; due.last_call(), call.unwrap_or(tell), "{due:?}");
     }
 }

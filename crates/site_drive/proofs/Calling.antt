@@ -8,16 +8,17 @@ use Rattle.wire.specs.Messages.{Fits}
 use Rattle.node.specs.declared.fault.NodeFault.{NodeFault}
 use Rattle.node.specs.declared.fault.NodeFault.TheVariants as fault
 use Rattle.node.specs.declared.to.To.{To}
+use Rattle.node.specs.declared.to.To.TheVariants.{One}
 use Rattle.node.specs.declared.running.Node.{Node as Running}
 use Rattle.node.proofs.Windows.{begins_may}
 use Rattle.node.specs.Nodes.{Node, WantsTick}
-use Rattle.node.specs.Calls.{Call, tick, widen, ask, Begins, MayWiden}
+use Rattle.node.specs.Calls.{Call, tick, widen, ask, tell, Begins, MayWiden}
 use Rattle.node.specs.Effects.{Effect, quiet}
 use Rattle.node.specs.Endings.{Ending, Whole, Ends}
 use Rattle.node.specs.Standing.{IsNodeOf, IsEvent, KeepsOthers, ending_by}
 use Rattle.site_drive.specs.Drives.{Begin}
 use Rattle.site_drive.specs.Leading.{NodeLeads, Called}
-use Rattle.site_drive.specs.declared.last_call.LastCall.TheVariants.{TickOrAsk, Widen, Ask, Nothing}
+use Rattle.site_drive.specs.declared.last_call.LastCall.TheVariants.{TickOrAsk, Widen, Ask, Tell, Nothing}
 
 -- what is handed out fits
 abbrev pub AllFit : List (To × Message) → Type 0
@@ -149,3 +150,7 @@ module _ {D : Type 0} (stands_for : D → DiskState → Type 0) where
     pub asked : IsEvent stands_for old new ask ending before after → NodeLeads stands_for old new (Called Ask old.cluster old.me ending before after)
     asked event =
         eased old new (Calls old old.cluster old.me ask ending before after) (Called Ask old.cluster old.me ending before after) (λ s t h. h.1) (one_call old new ask ending before after event)
+
+    pub told : (q i : ℕ) → IsEvent stands_for old new (tell (One q) i) ending before after → NodeLeads stands_for old new (Called (Tell q i) old.cluster old.me ending before after)
+    told q i event =
+        eased old new (Calls old old.cluster old.me (tell (One q) i) ending before after) (Called (Tell q i) old.cluster old.me ending before after) (λ s t h. h.1) (one_call old new (tell (One q) i) ending before after event)

@@ -5,16 +5,17 @@ use Rattle.wire.specs.declared.message.Message.{Message}
 use Rattle.node.specs.declared.fault.NodeFault.{NodeFault}
 use Rattle.node.specs.declared.fault.NodeFault.TheVariants.{OutOfMemory, InstancesUsedUp}
 use Rattle.node.specs.declared.to.To.{To}
+use Rattle.node.specs.declared.to.To.TheVariants.{One}
 use Rattle.node.specs.declared.running.Node.{Node as Running}
 use Rattle.node.specs.Nodes.{Node, IsKnownPrefix}
-use Rattle.node.specs.Calls.{Call, tick, widen, ask, Begins, MayWiden, Does}
+use Rattle.node.specs.Calls.{Call, tick, widen, ask, tell, Begins, MayWiden, Does}
 use Rattle.node.specs.Effects.{Effect, quiet}
 use Rattle.node.specs.Endings.{Ending, Whole, Refused, Failed, Ends}
 use Rattle.node.specs.Standing.{ending_by}
 use Rattle.site_drive.specs.Drives.{Begin, Widens, EndsLast, EndsTurns, sent_of, Scene, Exchanges, GivesUp, Closes, GivesUpLast, DrivesWith, GivesUpDrivingWith}
 use Rattle.site_drive.specs.Leading.{NodeLeads, Called, LeadsTo, StaysWhose}
 use Rattle.site_drive.specs.declared.last_call.LastCall.{LastCall}
-use Rattle.site_drive.specs.declared.last_call.LastCall.TheVariants.{TickOrAsk, Widen, Ask, Nothing}
+use Rattle.site_drive.specs.declared.last_call.LastCall.TheVariants.{TickOrAsk, Widen, Ask, Tell, Nothing}
 use Rattle.site_drive.proofs.Calling.{AllFit, eased}
 use Rattle.site_drive.proofs.ManyTurns.{leads_on, of_same}
 
@@ -124,6 +125,7 @@ last_knows TickOrAsk n p s next ending out (inl (wants, inr all)) =
 last_knows TickOrAsk n p s next ending out (inr asks) = same_known n p s next ask ending out (ask_knows n p s) asks.1
 last_knows Widen n p s next ending out widens = widens_know n p s next ending out widens
 last_knows Ask n p s next ending out asks = same_known n p s next ask ending out (ask_knows n p s) asks
+last_knows (Tell q i) n p s next ending out tells = same_known n p s next (tell (One q) i) ending out (λ effect how. ap (λ (e : Effect). e.after.known) how) tells
 last_knows Nothing n p s next ending out none = ap (λ (t : Node). t.known) none.2
 
 known_stays : (last : LastCall) (n p : ℕ) (s next : Node) (out : List (To × Message)) → EndsTurns last n p s out next → next.known ≡ s.known

@@ -1,5 +1,5 @@
 -- Failures of the device, over many calls.
-use Rattle.std.proofs.Common.{◌≡◌, ℕ, Result, Ok, Err, refl, sym, ap, subst, ◌∙◌}
+use Rattle.std.proofs.Common.{◌≡◌, ℕ, Result, Ok, Err, sym, ap, subst, ◌∙◌}
 use Rattle.std.specs.Result.{IsErrAnd}
 use Rattle.durable.specs.declared.record.Record.{Record}
 use Rattle.node.specs.declared.fault.NodeFault.{NodeFault}

@@ -8,11 +8,11 @@ use Rattle.node.specs.declared.fault.NodeFault.TheVariants.{OutOfMemory, Instanc
 use Rattle.node.specs.declared.to.To.{To}
 use Rattle.node.specs.declared.to.To.TheVariants.{One, All}
 use Rattle.node.specs.Nodes.{Node, WantsTick, IsKnownPrefix}
-use Rattle.node.specs.Calls.{tick, widen, ask, deliver, MayWiden}
+use Rattle.node.specs.Calls.{tick, widen, ask, tell, deliver, MayWiden}
 use Rattle.node.specs.Endings.{Ending, Whole, Refused, Ends}
 use Rattle.node.specs.Standing.{ending_by}
 use Rattle.site_drive.specs.declared.last_call.LastCall.{LastCall}
-use Rattle.site_drive.specs.declared.last_call.LastCall.TheVariants.{TickOrAsk, Widen, Ask, Nothing}
+use Rattle.site_drive.specs.declared.last_call.LastCall.TheVariants.{TickOrAsk, Widen, Ask, Tell, Nothing}
 
 -- ---- turns
 
@@ -110,6 +110,7 @@ abbrev pub EndsLast : LastCall → ℕ → ℕ → Node → Ending → List (To 
 EndsLast TickOrAsk n p s ending out next = TicksOrAsks n p s ending out next
 EndsLast Widen n p s ending out next = Widens n p s ending out next
 EndsLast Ask n p s ending out next = Ends n p s ask ending out next
+EndsLast (Tell q i) n p s ending out next = Ends n p s (tell (One q) i) ending out next
 EndsLast Nothing n p s ending out next = (ending ≡ Whole) × (out ≡ []) × (next ≡ s)
 
 -- they are whole, or passed over, as every instance is known

@@ -13,7 +13,7 @@ ghost use Rattle.site_drive.specs.Leading.{LeadsTo, NodeLeads, Called};
 use crate::desk::Desk;
 use crate::sending::send_all;
 use crate::{LastCall, Link};
-use node::{Node, NodeFault};
+use node::{Node, NodeFault, To};
 use site_disk::Disk;
 
 impl Desk {
@@ -52,6 +52,7 @@ impl Desk {
             LastCall::TickOrAsk => self.tick_or_ask(node),
             LastCall::Widen => self.widen_all(node),
             LastCall::Ask => node.ask(&mut self.outbox),
+            LastCall::Tell { to, first } => node.tell(To::One(to), first, &mut self.outbox),
             LastCall::Nothing => Ok(()),
         }
     }

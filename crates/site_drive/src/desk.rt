@@ -4,6 +4,7 @@ ghost use Rattle.std.specs.Prelude.{◌≡◌, ◌+◌, [], length, IfOk};
 ghost use Rattle.wire.specs.declared.TheConstants.{MAX_MESSAGE};
 
 use node::Outbox;
+use site_ids::{Instance, NodeId};
 use std::alloc::{AllocError, Global};
 use wire::MAX_MESSAGE;
 
@@ -17,6 +18,8 @@ pub struct Desk {
     pub(crate) outbox: Outbox,
     /// Calls of the link that failed.
     pub(crate) failed: u64,
+    /// Who asked for which instance, where the last turn delivered a question.
+    pub(crate) asked: Option<(NodeId, Instance)>,
     ghost room: { length datagram.items ≡ MAX_MESSAGE + 1 },
 }
 
@@ -33,6 +36,14 @@ impl Desk {
             spelling: Vec::new(alloc),
             outbox: Vec::new(alloc),
             failed: 0,
+            asked: None,
         })
+    }
+
+    /// Who asked for which instance, where the last turn delivered a question.
+    pub fn asked(&self) -> Option<(NodeId, Instance)>
+        ensures { result ≡ self.now.asked }
+    {
+        self.asked
     }
 }

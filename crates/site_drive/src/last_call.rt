@@ -1,3 +1,5 @@
+use site_ids::{Instance, NodeId};
+
 /// What is called behind the last turn.
 #[derive(Clone, Copy, Debug, PartialEq, Eq, Drop)]
 pub enum LastCall {
@@ -7,6 +9,8 @@ pub enum LastCall {
     Widen,
     /// A question, whether a tick is wanted or not.
     Ask,
+    /// What is known and was voted for from an instance on, told again to a node.
+    Tell { to: NodeId, first: Instance },
     /// None.
     Nothing,
 }

@@ -17,7 +17,16 @@ use crate::sending::send_all;
 use crate::{Link, LinkFailed};
 use node::{Node, NodeFault};
 use site_disk::Disk;
-use wire::{WireFault, decode};
+use site_ids::{Instance, NodeId};
+use wire::{Message, WireFault, decode};
+
+/// Who asks for which instance, if the message is a question.
+fn question_in(message: &Message) -> Option<(NodeId, Instance)> {
+    match message {
+        Message::Ask { from, instance } => Some((*from, *instance)),
+        _ => None,
+    }
+}
 
 impl Desk {
     /// Receives once: how many bytes came. A failure is counted, and nothing came.
@@ -29,6 +38,7 @@ impl Desk {
         ensures counted { Counted self.old.failed self.new.failed (L.failed link.old) (L.failed link.new) }
         ensures outbox { self.new.outbox ≡ self.old.outbox }
     {
+        self.asked = None;
         match link.receive(self.datagram.as_mut_slice()) {
             Ok(came) => came,
             Err(LinkFailed) => {
@@ -59,10 +69,13 @@ impl Desk {
             return Ok(0);
         };
         match decode(self.alloc, &self.datagram[..n], node.cluster()) {
-            Ok(message) => match node.deliver(&message, &mut self.outbox) {
-                Ok(()) => Ok(0),
-                Err(fault) => Err(fault),
-            },
+            Ok(message) => {
+                self.asked = question_in(&message);
+                match node.deliver(&message, &mut self.outbox) {
+                    Ok(()) => Ok(0),
+                    Err(fault) => Err(fault),
+                }
+            }
             Err(WireFault::Malformed) => Ok(1),
             Err(WireFault::OutOfMemory) => Err(NodeFault::OutOfMemory),
         }

@@ -4,12 +4,15 @@ ghost use Rattle.std.specs.Prelude.{◌≡◌};
 ghost use Rattle.site_serve.specs.Turns.{call_behind};
 
 use site_drive::LastCall;
+use site_ids::{Instance, NodeId};
 
 /// What stands as a turn begins.
 #[derive(Clone, Copy, Debug, PartialEq, Eq, Drop)]
 pub struct Due {
     /// A value was just submitted, and nobody tries one.
     pub fresh: bool,
+    /// Whom to tell, and from which instance on, where a telling is due.
+    pub telling: Option<(NodeId, Instance)>,
     /// A question is due.
     pub question: bool,
     /// A tick is due.
@@ -19,13 +22,16 @@ pub struct Due {
 }
 
 impl Due {
-    /// A tick at once for a value that nobody tries; else a question or a tick that is due; else widenings, behind the first turn of a round alone, so that the
+    /// A tick at once for a value that nobody tries; else a telling, a question or a tick that is due; else widenings, behind the first turn of a round alone, so that the
     /// values that came in one burst share a prepare.
     pub fn last_call(self) -> LastCall
         ensures { result ≡ call_behind self }
     {
         if self.fresh {
             return LastCall::TickOrAsk;
+        }
+        if let Some((to, first)) = self.telling {
+            return LastCall::Tell { to, first };
         }
         if self.question {
             return LastCall::Ask;

@@ -2,6 +2,7 @@
 #![tactic(auto)]
 
 mod addresses;
+mod asking;
 mod attempt_message;
 mod calm;
 mod client;
@@ -15,6 +16,7 @@ mod openings;
 mod pace;
 mod patient;
 mod patient_link;
+mod questions;
 mod requests;
 mod rounds;
 mod saying;
@@ -25,6 +27,7 @@ mod sockets;
 mod throttled_link;
 mod watch;
 
+pub use asking::{Asking, Telling};
 pub use connections::{answer_connection, limit_waiting};
 pub use due::Due;
 pub use engine::sited;

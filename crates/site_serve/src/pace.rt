@@ -1,13 +1,21 @@
 //! When a patient server tries again, when it asks, and how long it rests.
 
+use crate::asking::Asking;
 use crate::due::Due;
+use crate::questions::Questions;
+use node::Node;
+use site_disk::Disk;
 use site_drive::LastCall;
+use site_ids::{Instance, NodeId};
 use std::rt::Clock;
 use std::thread;
 use std::time::{Duration, Instant};
 
 /// How many milliseconds lie between questions that nobody answers.
 const ASKING: u64 = 400;
+
+/// What 64 values that were on record take to be told, in milliseconds: those that are decided meanwhile take longer.
+const QUICK: u64 = 20;
 
 /// The patience grows with the ticks since an instance became known, up to so many times.
 const MOST: u32 = 3;
@@ -31,7 +39,7 @@ fn step(patience: u64, node: u8) -> u64 {
 }
 
 /// Whether so many milliseconds have passed. Where the clock cannot tell, they have.
-fn has_passed<C: Clock>(clock: &C, since: Option<Instant>, millis: u64) -> bool {
+pub(crate) fn has_passed<C: Clock>(clock: &C, since: Option<Instant>, millis: u64) -> bool {
     let Some(since) = since else {
         return true;
     };
@@ -62,9 +70,12 @@ pub(crate) struct Pace {
     since: Option<Instant>,
     // whether a value was just submitted, and nobody tries one
     fresh: bool,
-    // when it asked last, and how many values were known then
+    // when it asked last, how many values were known then, and how many datagrams of attempts had come
     asked: Option<Instant>,
     known_then: u32,
+    attempts_then: u64,
+    // those of others
+    questions: Questions,
     // how many rounds went by in which nothing but questions came
     idle: u32,
     // how many datagrams had come that are none: at the last turn, and at the last rest
@@ -82,6 +93,8 @@ impl Pace {
             fresh: false,
             asked: None,
             known_then: 0,
+            attempts_then: 0,
+            questions: Questions::new(),
             idle: 0,
             heard: 0,
             stirs: 0,
@@ -104,15 +117,33 @@ impl Pace {
         self.heard = heard;
     }
 
-    /// Whether a question is due: after its time, and at once where the last one was answered, and more is known by that.
-    fn asks_now<C: Clock>(&self, clock: &C, answered: bool) -> bool {
-        (answered && self.known != self.known_then) || has_passed(clock, self.asked, ASKING)
+    /// The question of another node, where one came.
+    pub(crate) fn hear(&mut self, question: Option<(NodeId, Instance)>) {
+        self.questions.hear(question);
+    }
+
+    /// Whether nobody was seen to try a value since it asked last, with so many datagrams of attempts that came.
+    fn is_calm(&self, attempts: u64) -> bool {
+        attempts == self.attempts_then
+    }
+
+    /// Whether a question is due, with nothing that waits or something, and so many datagrams of attempts that came.
+    fn asks_now<C: Clock>(&self, clock: &C, drained: bool, attempts: u64) -> bool {
+        let asking = Asking {
+            learned: self.known.saturating_sub(self.known_then),
+            quick: !has_passed(clock, self.asked, QUICK),
+            drained,
+            calm: self.is_calm(attempts),
+            passed: has_passed(clock, self.asked, ASKING),
+        };
+        asking.is_due()
     }
 
     /// It asks.
-    fn begin_question<C: Clock>(&mut self, clock: &C) {
+    fn begin_question<C: Clock>(&mut self, clock: &C, attempts: u64) {
         self.asked = Instant::now(clock).ok();
         self.known_then = self.known;
+        self.attempts_then = attempts;
     }
 
     /// Whether a tick is wanted, and has been for so long that it is due: longer behind each such tick.
@@ -127,28 +158,45 @@ impl Pace {
         self.since = Instant::now(clock).ok();
     }
 
-    /// What is called behind a turn, the first of a round or a later one. A question or a tick that is due begins by that.
-    pub(crate) fn due<C: Clock>(
+    /// What is called behind a turn, the first of a round or a later one, with so many datagrams of attempts that came. A telling, a question or a tick that
+    /// is due begins by that.
+    pub(crate) fn due<C: Clock, D: Disk>(
         &mut self,
         clock: &C,
-        answered: bool,
+        node: &Node<D>,
+        attempts: u64,
         wanted: bool,
         first: bool,
     ) -> LastCall {
         let due = Due {
             fresh: self.fresh,
-            question: self.asks_now(clock, answered),
+            telling: self.next_telling(clock, node, attempts),
+            question: self.asks_now(clock, first, attempts),
             tick: self.ticks_now(clock, wanted),
             first,
         };
         let last = due.last_call();
         if last == LastCall::Ask {
-            self.begin_question(clock);
+            self.begin_question(clock, attempts);
         }
         if last == LastCall::TickOrAsk && !self.fresh {
             self.begin_tick(clock);
         }
         last
+    }
+
+    /// The next telling, unless a value was just submitted: then it waits.
+    fn next_telling<C: Clock, D: Disk>(
+        &mut self,
+        clock: &C,
+        node: &Node<D>,
+        attempts: u64,
+    ) -> Option<(NodeId, Instance)> {
+        if self.fresh {
+            return None;
+        }
+        let calm = self.is_calm(attempts);
+        self.questions.next(clock, node, calm)
     }
 
     /// Rests behind a round in which nothing came: no datagram and no client.

@@ -41,8 +41,9 @@ fn take_turn<D: Disk, C: Clock>(
 {
     let wanted = served.node.wants_tick();
     pace.note(clock, served.node.known(), wanted, link.stirs());
-    let last = pace.due(clock, link.answered(), wanted, first);
+    let last = pace.due(clock, &served.node, link.attempts(), wanted, first);
     desk.drive_with(&mut served.node, link, 1, last)?;
+    pace.hear(desk.asked());
     Ok(())
 }
 

@@ -10,8 +10,12 @@ use site_ids::NodeId;
 /// How many bytes a question has: it is the one message of that length.
 const ASK: usize = 7;
 
-/// The second byte of an answer to a question.
-const CHOSEN: u8 = 7;
+/// The second byte of a prepare, a promise and a proposal: they are of an attempt.
+const PREPARE: u8 = 1;
+
+const PROMISE: u8 = 2;
+
+const PROPOSE: u8 = 3;
 
 /// A link and a door, with what the last receive came to.
 #[derive(Drop)]
@@ -19,7 +23,7 @@ pub(crate) struct PatientLink {
     link: UdpLink,
     door: Door,
     came: bool,
-    answered: bool,
+    attempts: u64,
     stirs: u64,
 }
 
@@ -31,7 +35,7 @@ impl PatientLink {
             link,
             door,
             came: false,
-            answered: false,
+            attempts: 0,
             stirs: 0,
         }
     }
@@ -41,9 +45,9 @@ impl PatientLink {
         self.came
     }
 
-    /// Whether it gave an answer to a question.
-    pub(crate) fn answered(&self) -> bool {
-        self.answered
+    /// How many datagrams came that are of an attempt.
+    pub(crate) fn attempts(&self) -> u64 {
+        self.attempts
     }
 
     /// How many datagrams came that are no questions.
@@ -72,11 +76,12 @@ impl Link for PatientLink {
 
     fn receive(&mut self, buf: &mut [u8]) -> Result<Option<usize>, LinkFailed> {
         self.came = false;
-        self.answered = false;
         let came = self.link.receive(buf)?;
         if let Some(n) = came {
             self.came = true;
-            self.answered = buf.get(1) == Some(&CHOSEN);
+            if matches!(buf.get(1), Some(&(PREPARE | PROMISE | PROPOSE))) {
+                self.attempts = self.attempts.saturating_add(1);
+            }
             if n != ASK {
                 self.stirs = self.stirs.saturating_add(1);
             }

@@ -3,7 +3,7 @@ use Rattle.node.specs.declared.fault.NodeFault.TheVariants.{InstancesUsedUp}
 use Rattle.node.specs.Standing.{ending_by}
 use Rattle.site_drive.proofs.Closing.{Ended, whole, used_up, refused}
 use Rattle.node.specs.declared.fault.NodeFault.TheVariants.{Device}
-use Rattle.site_drive.proofs.Failing.{none_failed, all_fine, none_of, counts_on}
+use Rattle.site_drive.proofs.Failing.{none_failed, all_fine, none_of}
 use Rattle.site_drive.proofs.desk.Desk.last_call.Goals as goal
 
 pub returns-in-Ok-clause-ok : goal.returns-in-Ok-clause-ok

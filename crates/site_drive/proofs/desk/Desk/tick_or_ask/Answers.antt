@@ -1,4 +1,4 @@
-use Rattle.std.proofs.Common.{◌≡◌, true, false, refl, ap, sym, subst, ◌∙◌}
+use Rattle.std.proofs.Common.{◌≡◌, true, false, refl, sym, subst, ◌∙◌}
 use Rattle.node.specs.Standing.{ending_of, ending_by}
 use Rattle.site_drive.specs.declared.last_call.LastCall.TheVariants.{TickOrAsk}
 use Rattle.site_drive.proofs.Calling.{asked_instead, tick_short, not_whole, ticked}
