@@ -11,6 +11,7 @@ use Rattle.site_ledger.specs.Histories.{Event, plans, releases, releases_again, 
 use Rattle.site_ledger.specs.Laws.{EachTicketHasOneText}
 use Rattle.site_ledger.specs.Plans.{plan_of}
 use Rattle.site_ledger.specs.Steps.{is_idle, has_unshown, numbered, with_tickets, noted, without, received_as, with_text}
+use Rattle.site_ledger.proofs.Receipts.{number_found}
 
 -- the text has that number
 abbrev pub IsNumberOf : List (List ℕ) → ℕ → List ℕ → Type 0
@@ -102,14 +103,6 @@ notes false texts book g is given of = record {
   each = All-filter (λ h. not (eqb h.number g.number)) (IsGiven texts) book.sent of.each;
   last = of.last;
 }
-
-number_found : (number : ℕ) (sent : List Given) (g : Given) → find (λ h. eqb h.number number) sent ≡ Some g → g.number ≡ number
-number_found number [] g is = cc
-number_found number (h ∷ sent) g is = number_head (eqb h.number number) refl is (number_found number sent g)
-  where
-  number_head : (b : Bool) → eqb h.number number ≡ b → cond b (Some h) (find (λ u. eqb u.number number) sent) ≡ Some g → (find (λ u. eqb u.number number) sent ≡ Some g → g.number ≡ number) → g.number ≡ number
-  number_head true e is later = let same : h ≡ g = cc in let here : h.number ≡ number = grind arith in ap (λ (u : Given). u.number) (sym same) ∙ here
-  number_head false e is later = later is
 
 receives_one : (number : ℕ) (r : Option Given) (texts : List (List ℕ)) (book : Book) → find (λ h. eqb h.number number) book.sent ≡ r → IsOf texts book → Grows texts (received_as number r book)
 receives_one number None texts book is of = stays texts book of

@@ -7,7 +7,7 @@ use crate::fault::LedgerFault;
 use crate::head::are_about_one;
 use crate::planning::plan_of;
 use crate::released::Released;
-use crate::sent::{Sent, numbered};
+use crate::sent::{Sent, drop_under, numbered, under};
 use std::alloc::{AllocError, Global};
 use std::marker::Model;
 
@@ -44,7 +44,7 @@ impl Model for Ledger {
 /// Keeps one more text: of each kind and name the last.
 fn keep(kept: &mut Vec<String>, text: String) -> Result<(), AllocError>
     ensures ok { OnOk result (map string_bytes kept.new.items ≡ with_text (string_bytes text) (map string_bytes kept.old.items)) }
-    ensures err { OnErr result (kept.new ≡ kept.old) }
+    ensures err { OnErr result (kept.new.items ≡ kept.old.items) }
 {
     kept.reserve(1)?;
     kept.retain(|had| !are_about_one(text.as_str(), had.as_str()));
@@ -54,7 +54,7 @@ fn keep(kept: &mut Vec<String>, text: String) -> Result<(), AllocError>
 
 impl Ledger {
     ghost use Rattle.site_ledger.specs.Books.{fresh};
-    ghost use Rattle.site_ledger.specs.Steps.{is_idle, has_unshown, with_tickets, planned, release_planned, received, released_again};
+    ghost use Rattle.site_ledger.specs.Steps.{is_idle, has_unshown, with_tickets, planned, release_planned, noted, received, released_again};
     ghost use Rattle.site_ledger.specs.Plans.{plan_of};
 
     /// Of an editor that has published nothing.
@@ -185,21 +185,30 @@ impl Ledger {
         Ok(())
     }
 
+    /// The group has the text of the ticket.
+    fn hold(&mut self, number: u64, text: String) -> Result<(), AllocError>
+        ensures ok { OnOk result (self.new ≡ noted (record { number = number; text = string_bytes text }) self.old) }
+        ensures err { OnErr result (self.new ≡ self.old) }
+    {
+        if text.as_str() == RELEASE {
+            self.last_release = number;
+            Ok(())
+        } else {
+            keep(&mut self.kept, text)
+        }
+    }
+
     /// Notes that the command of a ticket has its receipt.
     pub fn receive(&mut self, number: u64) -> Result<(), AllocError>
         ensures ok { OnOk result (self.new ≡ received number self.old) }
         ensures err { OnErr result (self.new ≡ self.old) }
     {
-        let Some(found) = self.sent.iter().find(|sent| sent.number == number) else {
+        let Some(found) = under(&self.sent, number) else {
             return Ok(());
         };
-        if found.text.as_str() == RELEASE {
-            self.last_release = number;
-        } else {
-            let text = found.text.clone()?;
-            keep(&mut self.kept, text)?;
-        }
-        self.sent.retain(|sent| sent.number != number);
+        let text = found.text.clone()?;
+        self.hold(number, text)?;
+        drop_under(&mut self.sent, number);
         Ok(())
     }
 

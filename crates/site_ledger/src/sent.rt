@@ -1,4 +1,4 @@
-ghost use Rattle.std.specs.Prelude.{◌≡◌, ◌+◌, ◌<◌, ◌^◌, length, map, IfOk, string_bytes};
+ghost use Rattle.std.specs.Prelude.{◌≡◌, ◌==◌, ◌+◌, ◌<◌, ◌^◌, length, map, filter, find, not, option_map, IfOk, string_bytes};
 ghost use Rattle.site_ledger.specs.Steps.{numbered};
 ghost use Rattle.site_ledger.specs.View.{given_view};
 
@@ -27,4 +27,18 @@ pub(crate) fn numbered(
         number += 1;
     }
     Ok(sent)
+}
+
+/// What is on its way under a number.
+pub(crate) fn under(sent: &[Sent], number: u64) -> Option<&Sent>
+    ensures { option_map (λ s. given_view s.now) result ≡ find (λ g. g.number == number) (map given_view sent.now) }
+{
+    sent.iter().find(|sent| sent.number == number)
+}
+
+/// Takes what is under a number off its way.
+pub(crate) fn drop_under(sent: &mut Vec<Sent>, number: u64)
+    ensures { map given_view sent.new.items ≡ filter (λ g. not (g.number == number)) (map given_view sent.old.items) }
+{
+    sent.retain(|sent| sent.number != number);
 }
