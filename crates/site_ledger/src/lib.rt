@@ -10,10 +10,12 @@ mod head;
 mod laws;
 mod ledger;
 mod planning;
+mod reading;
 mod released;
 mod sent;
+mod spelling;
 
-pub use fault::LedgerFault;
+pub use fault::{LedgerFault, ReadFault};
 pub use laws::each_ticket_has_one_text;
 pub use ledger::Ledger;
 pub use released::Released;
