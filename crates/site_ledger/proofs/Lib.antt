@@ -1,3 +1,4 @@
 pub mod Listing
 pub mod Receipts
 pub mod Tickets
+pub mod Words

@@ -1,5 +1,5 @@
 //! A ledger, read back from the text of a file.
-ghost use Rattle.std.specs.Prelude.{◌≡◌, ◌↔◌, true, nat_eq, codes, Err, IfOk, IfErr, IsTrue};
+ghost use Rattle.std.specs.Prelude.{◌≡◌, ◌≢◌, ◌↔◌, true, nat_eq, codes, Err, IfOk, IfErr};
 ghost use Rattle.std.specs.List.{starts_with};
 ghost use Rattle.site_ledger.specs.Spelling.{spelled};
 
@@ -29,7 +29,9 @@ enum Entry<'a> {
 
 impl<'a> Rest<'a> {
     /// The first line, and what follows it.
-    fn line(self) -> Result<(&'a str, Rest<'a>), ReadFault> {
+    fn line(self) -> Result<(&'a str, Rest<'a>), ReadFault>
+        ensures { IfErr result (λ e. e ≢ ReadFault.Old) }
+    {
         match self.text.split_once('\n') {
             Some((line, text)) => Ok((
                 line,
@@ -43,7 +45,9 @@ impl<'a> Rest<'a> {
     }
 
     /// The number of a line that has a word before it.
-    fn number(self, word: &str) -> Result<(u64, Rest<'a>), ReadFault> {
+    fn number(self, word: &str) -> Result<(u64, Rest<'a>), ReadFault>
+        ensures { IfErr result (λ e. e ≢ ReadFault.Old) }
+    {
         let (line, rest) = self.line()?;
         match line.split_once(' ') {
             Some((first, number)) if first == word => Ok((self.parsed(number)?, rest)),
@@ -52,12 +56,16 @@ impl<'a> Rest<'a> {
     }
 
     /// A number of the first line.
-    fn parsed(self, number: &str) -> Result<u64, ReadFault> {
+    fn parsed(self, number: &str) -> Result<u64, ReadFault>
+        ensures { IfErr result (λ e. e ≢ ReadFault.Old) }
+    {
         number.parse().map_err(|_| ReadFault::Line(self.line))
     }
 
     /// A text of so many bytes, and a newline behind it.
-    fn counted(self, length: u64) -> Result<(&'a str, Rest<'a>), ReadFault> {
+    fn counted(self, length: u64) -> Result<(&'a str, Rest<'a>), ReadFault>
+        ensures { IfErr result (λ e. e ≢ ReadFault.Old) }
+    {
         let fault = ReadFault::Line(self.line);
         let (text, after) = self.text.split_at_checked(length as usize).ok_or(fault)?;
         let after = after.strip_prefix('\n').ok_or(fault)?;
@@ -71,7 +79,9 @@ impl<'a> Rest<'a> {
         ))
     }
 
-    fn entry(self, alloc: Global) -> Result<(Entry<'a>, Rest<'a>), ReadFault> {
+    fn entry(self, alloc: Global) -> Result<(Entry<'a>, Rest<'a>), ReadFault>
+        ensures { IfErr result (λ e. e ≢ ReadFault.Old) }
+    {
         let (line, rest) = self.line()?;
         let words: Vec<&str> = line.split(' ').collect(alloc)?;
         match words.as_slice() {
@@ -97,7 +107,9 @@ impl<'a> Rest<'a> {
 }
 
 impl Ledger {
-    fn enter(&mut self, alloc: Global, entry: Entry<'_>) -> Result<(), ReadFault> {
+    fn enter(&mut self, alloc: Global, entry: Entry<'_>) -> Result<(), ReadFault>
+        ensures { IfErr result (λ e. e ≢ ReadFault.Old) }
+    {
         match entry {
             Entry::Released(released) => self.log.push(released)?,
             Entry::Kept(text) => self.kept.push(String::from_str(alloc, text)?)?,
@@ -111,7 +123,9 @@ impl Ledger {
 }
 
 /// The ledger that a text looks like.
-fn parsed(alloc: Global, text: &str) -> Result<Ledger, ReadFault> {
+fn parsed(alloc: Global, text: &str) -> Result<Ledger, ReadFault>
+    ensures { IfErr result (λ e. e ≢ ReadFault.Old) }
+{
     let (version, rest) = Rest { text, line: 1 }.number("published")?;
     let (editor, rest) = rest.number("editor")?;
     let (next, rest) = rest.number("next")?;
