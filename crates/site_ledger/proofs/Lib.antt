@@ -1,4 +1,7 @@
 pub mod Listing
+pub mod Members
 pub mod Receipts
+pub mod Subjects
 pub mod Tickets
+pub mod Turning
 pub mod Words

@@ -41,7 +41,8 @@ found_head : {X : Type 0} (t : Bool) (p : X → Bool) (P : X → Type 0) (y x : 
 found_head true p P y x xs here later is = let same : y ≡ x = cc in subst P same here
 found_head false p P y x xs here later is = later is
 
-found : {X : Type 0} (p : X → Bool) (P : X → Type 0) (xs : List X) (x : X) → All P xs → find p xs ≡ Some x → P x
+-- what is found has what each has
+pub found : {X : Type 0} (p : X → Bool) (P : X → Type 0) (xs : List X) (x : X) → All P xs → find p xs ≡ Some x → P x
 found p P [] x all is = cc
 found p P (y ∷ xs) x all is = found_head (p y) p P y x xs (All-head P y xs all) (found p P xs x (All-tail P y xs all)) is
 

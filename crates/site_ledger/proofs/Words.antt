@@ -17,10 +17,15 @@ other x c is = grind arith
 
 -- ---- a line's front
 
+take_one : (n x : ℕ) (xs : List ℕ) → take (1 + n) (x ∷ xs) ≡ x ∷ take n xs
+take_one n x xs = let next : 1 + n ≡ suc n = omega arith in ap (λ (k : ℕ). take k (x ∷ xs)) next
+
 before_head : (t : Bool) (c x : ℕ) (xs : List ℕ) → eqb x c ≡ t → lacks c (before_first (λ b. eqb b c) xs) ≡ true
-    → lacks c (take (cond (not t) (suc (position_or_len (λ b. eqb b c) xs)) 0) (x ∷ xs)) ≡ true
+    → lacks c (take (cond (not t) (1 + position_or_len (λ b. eqb b c) xs) 0) (x ∷ xs)) ≡ true
 before_head true c x xs is later = refl
-before_head false c x xs is later = rw is later
+before_head false c x xs is later =
+    let found : lacks c (x ∷ before_first (λ b. eqb b c) xs) ≡ true = rw is later in
+    subst (λ zs. lacks c zs ≡ true) (sym (take_one (position_or_len (λ b. eqb b c) xs) x xs)) found
 
 pub before_lacks : (c : ℕ) (xs : List ℕ) → lacks c (before_first (λ b. eqb b c) xs) ≡ true
 before_lacks c [] = refl
@@ -38,13 +43,13 @@ pub before_it : (c : ℕ) (xs ys : List ℕ) → lacks c xs ≡ true → before_
 before_it c [] ys is = let here : eqb c c ≡ true = search rules in rw here
 before_it c (x ∷ xs) ys is =
     let parts = both (not (eqb x c)) (lacks c xs) is in
-    rw (parts.0) (ap (λ zs. x ∷ zs) (before_it c xs ys parts.1))
+    rw (parts.0) (take_one (position_or_len (λ b. eqb b c) (xs ++ (c ∷ ys))) x (xs ++ (c ∷ ys)) ∙ ap (λ zs. x ∷ zs) (before_it c xs ys parts.1))
 
 pub before_none : (c : ℕ) (xs : List ℕ) → lacks c xs ≡ true → before_first (λ b. eqb b c) xs ≡ xs
 before_none c [] is = refl
 before_none c (x ∷ xs) is =
     let parts = both (not (eqb x c)) (lacks c xs) is in
-    rw (parts.0) (ap (λ zs. x ∷ zs) (before_none c xs parts.1))
+    rw (parts.0) (take_one (position_or_len (λ b. eqb b c) xs) x xs ∙ ap (λ zs. x ∷ zs) (before_none c xs parts.1))
 
 -- ---- cuts
 
@@ -93,6 +98,12 @@ lacks_rest c (x ∷ xs) ys is =
     let parts = both (not (eqb x c)) (lacks c (xs ++ ys)) is in
     lacks_rest c xs ys parts.1
 
+lacks_both : (c : ℕ) (xs ys : List ℕ) → lacks c xs ≡ true → lacks c ys ≡ true → lacks c (xs ++ ys) ≡ true
+lacks_both c [] ys front rest = rest
+lacks_both c (x ∷ xs) ys front rest =
+    let parts = both (not (eqb x c)) (lacks c xs) front in
+    rw (parts.0) (lacks_both c xs ys parts.1 rest)
+
 -- ---- heads
 
 -- no space and no newline stands in the kind or the name
@@ -129,6 +140,18 @@ has_words text head is =
     let line : List ℕ = before_first (λ b. eqb b 10) text in
     first_cut line (cut_at 32 line) head (before_lacks 10 text) (cut_is 32 line) is
 
+-- the line of a removal
+line_of : (head : Head) → HasWords head → before_first (λ b. eqb b 10) (removal head) ≡ codes "remove " ++ (head.kind ++ (32 ∷ head.name))
+line_of head words =
+    let clean : lacks 10 (codes "remove " ++ (head.kind ++ (32 ∷ head.name))) ≡ true = lacks_both 10 head.kind (32 ∷ head.name) words.kind_line words.name_line in
+    let shape : removal head ≡ (codes "remove " ++ (head.kind ++ (32 ∷ head.name))) ++ (10 ∷ []) = ap (λ zs. codes "remove " ++ zs) (sym (append_assoc head.kind (32 ∷ head.name) (10 ∷ []))) in
+    ap (before_first (λ b. eqb b 10)) shape ∙ before_it 10 (codes "remove " ++ (head.kind ++ (32 ∷ head.name))) [] clean
+
 -- the head of a removal
 pub removal_head : (head : Head) → HasWords head → head_of (removal head) ≡ Some (record { verb = codes "remove"; kind = head.kind; name = head.name })
-removal_head head words = ?
+removal_head head words =
+    let inner : cut_at 32 (head.kind ++ (32 ∷ head.name)) ≡ Some (head.kind, head.name) = cut_it 32 head.kind head.name words.kind in
+    let named : before_first (λ b. eqb b 32) head.name ≡ head.name = before_none 32 head.name words.name in
+    ap (λ line. option_and_then (λ p. option_map (head_with p.0) (cut_at 32 p.1)) (cut_at 32 line)) (line_of head words)
+    ∙ ap (option_map (head_with (codes "remove"))) inner
+    ∙ ap (λ (n : List ℕ). let h : Head = record { verb = codes "remove"; kind = head.kind; name = n } in Some h) named

@@ -35,6 +35,14 @@ are_about_one t u = is_same_subject (head_of t) (head_of u)
 abbrev pub puts : Head → Bool
 puts head = bytes_eq head.verb (codes "put")
 
+abbrev pub puts_by : Option Head → Bool
+puts_by (Some head) = puts head
+puts_by None = false
+
+-- the text puts something
+abbrev pub is_put : List ℕ → Bool
+is_put text = puts_by (head_of text)
+
 -- the command that removes what a head names
 abbrev pub removal : Head → List ℕ
 removal head = codes "remove " ++ (head.kind ++ (32 ∷ (head.name ++ (10 ∷ []))))
