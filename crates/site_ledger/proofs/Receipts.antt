@@ -1,5 +1,5 @@
 -- What a receipt leaves.
-use Rattle.std.proofs.Common.{◌≡◌, ℕ, List, [], ◌∷◌, Bool, true, false, cond, Option, Some, None, eqb, sym, ap, ◌∙◌, refl, arith}
+use Rattle.std.proofs.Common.{◌≡◌, ℕ, List, [], ◌∷◌, Bool, true, false, cond, Some, None, eqb, sym, ap, ◌∙◌, refl, arith}
 use Rattle.std.specs.List.{find}
 use Rattle.site_ledger.specs.Books.{Given, Book}
 use Rattle.site_ledger.specs.Steps.{noted, without, received_as, received}

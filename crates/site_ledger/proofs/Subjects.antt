@@ -1,14 +1,13 @@
 -- What two texts are about.
-use Rattle.std.proofs.Common.{◌≡◌, ℕ, List, [], ◌∷◌, ◌++◌, Bool, true, false, cond, not, ◌&&◌, ◌⊎◌, inl, inr, codes, Option, Some, None, IsSome, option_and_then, Contains, refl, sym, ap, subst, ◌∙◌}
+use Rattle.std.proofs.Common.{◌≡◌, ℕ, List, Bool, true, false, cond, not, ◌&&◌, ◌⊎◌, inl, inr, codes, Option, Some, None, option_and_then, Contains, refl, sym, ap, ◌∙◌}
 use Rattle.std.specs.List.{list_any, filter_map}
 use Rattle.std.specs.Str.{bytes_eq}
 use Rattle.std.proofs.lemmas.List.Elements.{Contains-append_cases, Contains-append_left, Contains-append_right}
 use Rattle.std.proofs.lemmas.Slice.Eq.{bytes_eq-Decides}
-use Rattle.site_ledger.specs.Heads.{Head, head_of, is_about, is_same_subject, are_about_one, puts, puts_by, is_put, removal, release_text}
-use Rattle.site_ledger.specs.Laws.{AreApart, AreAbout}
+use Rattle.site_ledger.specs.Heads.{Head, head_of, is_about, is_same_subject, are_about_one, puts, puts_by, is_put, removal}
 use Rattle.site_ledger.specs.Plans.{missing, removal_by, removal_of, plan_of}
-use Rattle.site_ledger.proofs.Members.{filtered, passes, keeps, none_passes, some_passes, given_by, gives, tested}
-use Rattle.site_ledger.proofs.Words.{both, HasWords, has_words, removal_head}
+use Rattle.site_ledger.proofs.Members.{filtered, passes, keeps, none_passes, given_by, gives}
+use Rattle.site_ledger.proofs.Words.{both, has_words, removal_head}
 
 -- the two have one kind and one name
 pub record OneSubject (t u : List ℕ) : Type 0 where
@@ -102,14 +101,14 @@ pub plan_cases : (kept wanted : List (List ℕ)) (p : List ℕ) → Contains (pl
     → (Contains wanted p × (list_any (bytes_eq p) kept ≡ false)) ⊎ IsRemoval kept wanted p
 plan_cases kept wanted p is = by_cases (Contains-append_cases (missing kept wanted) (filter_map (removal_of wanted) kept) p is)
   where
-  by_cases : Contains (missing kept wanted) p ⊎ Contains (filter_map (removal_of wanted) kept) p → (Contains wanted p × (list_any (bytes_eq p) kept ≡ false)) ⊎ IsRemoval kept wanted p
-  by_cases (inl one) = inl (filtered (λ t. not (list_any (bytes_eq t) kept)) wanted p one, no_not (list_any (bytes_eq p) kept) (passes (λ t. not (list_any (bytes_eq t) kept)) wanted p one))
-  by_cases (inr other) = inr (removed kept wanted p other)
+    by_cases : Contains (missing kept wanted) p ⊎ Contains (filter_map (removal_of wanted) kept) p → (Contains wanted p × (list_any (bytes_eq p) kept ≡ false)) ⊎ IsRemoval kept wanted p
+    by_cases (inl one) = inl (filtered (λ t. not (list_any (bytes_eq t) kept)) wanted p one, no_not (list_any (bytes_eq p) kept) (passes (λ t. not (list_any (bytes_eq t) kept)) wanted p one))
+    by_cases (inr other) = inr (removed kept wanted p other)
 
 pub planned_missing : (kept wanted : List (List ℕ)) (p : List ℕ) → Contains wanted p → list_any (bytes_eq p) kept ≡ false → Contains (plan_of kept wanted) p
 planned_missing kept wanted p is none =
     Contains-append_left (missing kept wanted) (filter_map (removal_of wanted) kept) p
-        (keeps (λ t. not (list_any (bytes_eq t) kept)) wanted p is (ap not none))
+    (keeps (λ t. not (list_any (bytes_eq t) kept)) wanted p is (ap not none))
 
 pub planned_removal : (kept wanted : List (List ℕ)) (p : List ℕ) → Contains (filter_map (removal_of wanted) kept) p → Contains (plan_of kept wanted) p
 planned_removal kept wanted p is = Contains-append_right (missing kept wanted) (filter_map (removal_of wanted) kept) p is
@@ -125,5 +124,5 @@ never_both kept wanted w p there gone same =
     let no : is_about gone.head (head_of w) ≡ false = none_passes (λ t. is_about gone.head (head_of t)) wanted w gone.unnamed there in
     absurd (cc)
   where
-  some_is : (a b : Head) → Some a ≡ Some b → a ≡ b
-  some_is a b is = cc
+    some_is : (a b : Head) → Some a ≡ Some b → a ≡ b
+    some_is a b is = cc

@@ -1,9 +1,9 @@
 -- A history gives one ticket to each of its texts: the k-th text has the number k, from 1.
-use Rattle.std.proofs.Common.{◌≡◌, ℕ, zero, suc, ◌+◌, ◌<◌, List, [], ◌∷◌, ◌++◌, length, Bool, true, false, cond, ◌&&◌, nat_lt, not, filter, eqb, Option, Some, None, slice_get, All, Contains, refl, sym, ap, subst, ◌∙◌, arith}
+use Rattle.std.proofs.Common.{◌≡◌, ℕ, zero, suc, ◌+◌, ◌<◌, List, [], ◌∷◌, ◌++◌, length, Bool, true, false, cond, ◌&&◌, nat_lt, not, eqb, Option, Some, None, slice_get, All, refl, sym, ap, subst, ◌∙◌, arith}
 use Rattle.std.specs.List.{find}
 use Rattle.std.specs.Str.{bytes_eq}
 use Rattle.std.proofs.lemmas.List.{append_assoc, append-nil, length-append}
-use Rattle.std.proofs.lemmas.List.Elements.{All-nil, All-cons, All-head, All-tail, All-weaker, All-filter, All-contains}
+use Rattle.std.proofs.lemmas.List.Elements.{All-nil, All-cons, All-head, All-tail, All-filter, All-contains}
 use Rattle.std.proofs.lemmas.Slice.Eq.{bytes_eq-Decides}
 use Rattle.site_ledger.specs.Books.{Given, Book, fresh}
 use Rattle.site_ledger.specs.Heads.{release_text}
@@ -58,7 +58,7 @@ numbered_given texts (t ∷ plan) next is =
     let length_is : next + 1 ≡ suc (length (texts ++ (t ∷ []))) = omega (arith, length-append texts (t ∷ [])) in
     let later : All (IsGiven ((texts ++ (t ∷ [])) ++ plan)) (numbered (next + 1) plan) = numbered_given (texts ++ (t ∷ [])) plan (next + 1) length_is in
     All-cons (IsGiven (texts ++ (t ∷ plan))) (record { number = next; text = t }) (numbered (next + 1) plan) first
-        (subst (λ ts. All (IsGiven ts) (numbered (next + 1) plan)) (append_assoc texts (t ∷ []) plan) later)
+    (subst (λ ts. All (IsGiven ts) (numbered (next + 1) plan)) (append_assoc texts (t ∷ []) plan) later)
 
 abbrev Grows : List (List ℕ) → Book → Type 0
 Grows texts book = (more : List (List ℕ)) × IsOf (texts ++ more) book
@@ -68,11 +68,14 @@ stays texts book of = ([], subst (λ ts. IsOf ts book) (sym (append-nil texts)) 
 
 gives : (b : Bool) (texts plan : List (List ℕ)) (book : Book) → IsOf texts book → Grows texts (cond b (with_tickets plan book) book)
 gives false texts plan book of = stays texts book of
-gives true texts plan book of = (plan, record {
+gives true texts plan book of = (
+  plan,
+  record {
     next = omega (arith, of.next, length-append texts plan);
     each = numbered_given texts plan book.next of.next;
     last = λ some. still texts plan book.last_release release_text (of.last some);
-})
+  },
+)
 
 -- the last release is on its way alone
 abbrev once_more : Book → Book

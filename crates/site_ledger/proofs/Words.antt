@@ -1,6 +1,6 @@
 -- The words of a first line, and that a removal has the kind and the name that it was made of.
-use Rattle.std.proofs.Common.{◌≡◌, ◌≢◌, ℕ, zero, suc, ◌+◌, ◌<◌, List, [], ◌∷◌, ◌++◌, length, take, Bool, true, false, cond, not, ◌&&◌, eqb, codes, Option, Some, None, option_map, option_and_then, refl, sym, ap, subst, ◌∙◌, append_assoc, arith, rules}
-use Rattle.std.specs.List.{list_all, before_first, position_or_len, prefix_len}
+use Rattle.std.proofs.Common.{◌≡◌, ℕ, zero, suc, ◌+◌, List, [], ◌∷◌, ◌++◌, take, Bool, true, false, cond, not, ◌&&◌, eqb, codes, Option, Some, None, option_map, option_and_then, refl, sym, ap, subst, ◌∙◌, append_assoc, arith, rules}
+use Rattle.std.specs.List.{list_all, before_first, position_or_len}
 use Rattle.command.specs.Cuts.{cut_at}
 use Rattle.site_ledger.specs.Heads.{Head, head_with, head_of, removal}
 

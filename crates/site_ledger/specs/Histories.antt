@@ -2,7 +2,6 @@
 use Rattle.std.specs.Prelude.{ℕ, List, [], ◌∷◌}
 use Rattle.site_ledger.specs.Books.{Book}
 use Rattle.site_ledger.specs.Steps.{planned, release_planned, received, released_again}
-use Rattle.site_ledger.specs.declared.released.Released.{Released}
 
 pub data Event : Type 0 where
   -- a folder's texts are planned

@@ -1,8 +1,10 @@
 -- What holds of ledgers, whatever was planned, interrupted and received.
 use Rattle.std.specs.Prelude.{◌≡◌, ◌↔◌, ℕ, List, [], map, true, IsSome, Contains}
-use Rattle.site_ledger.specs.Books.{Given, fresh}
+use Rattle.site_ledger.specs.Books.{Given, Book, fresh}
 use Rattle.site_ledger.specs.Heads.{head_of, are_about_one, is_put}
 use Rattle.site_ledger.specs.Histories.{Event, receives, after_all}
+use Rattle.site_ledger.specs.Sizes.{FitsBook}
+use Rattle.site_ledger.specs.Spelling.{spelled}
 use Rattle.site_ledger.specs.Steps.{planned}
 
 -- two ledgers of one history, the later with any events more: a ticket that both have on its way has one text
@@ -30,3 +32,7 @@ PlanTurns = (editor : ℕ) (events : List Event) (wanted : List (List ℕ)) (num
     → (after_all (map receives numbers) (planned wanted (after_all events (fresh editor)))).sent ≡ []
     → (t : List ℕ) → is_put t ≡ true
     → Contains (after_all (map receives numbers) (planned wanted (after_all events (fresh editor)))).kept t ↔ Contains wanted t
+
+-- a text spells one ledger at most: what is read back is what was written
+abbrev pub SpellsOne : Type 0
+SpellsOne = (book other : Book) → FitsBook book → FitsBook other → spelled book ≡ spelled other → book ≡ other

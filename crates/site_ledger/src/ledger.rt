@@ -1,5 +1,5 @@
 //! What an editor keeps of its publications.
-ghost use Rattle.std.specs.Prelude.{◌≡◌, ◌≤◌, ◌+◌, ◌++◌, ◌^◌, [], ◌∷◌, length, map, Err, OnOk, OnErr, string_bytes};
+ghost use Rattle.std.specs.Prelude.{◌≡◌, ◌≤◌, ◌+◌, ◌++◌, ◌^◌, [], ◌∷◌, length, map, true, Err, OnOk, OnErr, string_bytes};
 ghost use Rattle.site_ledger.specs.Steps.{with_text};
 ghost use Rattle.site_ledger.specs.View.{given_view};
 
@@ -142,7 +142,7 @@ impl Ledger {
 
     /// Plans what turns the texts that the group has into the wanted ones, each about another kind and name.
     pub fn plan(&mut self, alloc: Global, wanted: &[&str]) -> Result<(), LedgerFault>
-        requires { self.old.sent ≡ [] }
+        requires { is_idle self.old ≡ true }
         ensures ok { OnOk result (self.new ≡ planned (map (λ t. t.now) wanted.now) self.old) }
         ensures err { OnErr result (self.new ≡ self.old) }
         ensures tickets { result ≡ Err LedgerFault.NoTickets → 2 ^ 64 ≤ self.old.next + length (plan_of self.old.kept (map (λ t. t.now) wanted.now)) }
@@ -153,7 +153,7 @@ impl Ledger {
 
     /// Plans the release of what the group has, where tickets were given since the last one.
     pub fn plan_release(&mut self, alloc: Global) -> Result<(), LedgerFault>
-        requires { self.old.sent ≡ [] }
+        requires { is_idle self.old ≡ true }
         ensures ok { OnOk result (self.new ≡ release_planned self.old) }
         ensures err { OnErr result (self.new ≡ self.old) }
         ensures tickets { result ≡ Err LedgerFault.NoTickets → 2 ^ 64 ≤ self.old.next + 1 }
@@ -169,7 +169,7 @@ impl Ledger {
     /// Puts the last release on its way once more, under its own ticket, where there is one: nodes that were all down learn their log once
     /// something is decided, and a ticket that was given does no harm.
     pub fn release_again(&mut self, alloc: Global) -> Result<(), AllocError>
-        requires { self.old.sent ≡ [] }
+        requires { is_idle self.old ≡ true }
         ensures ok { OnOk result (self.new ≡ released_again self.old) }
         ensures err { OnErr result (self.new ≡ self.old) }
     {

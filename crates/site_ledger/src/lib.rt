@@ -16,7 +16,7 @@ mod sent;
 mod spelling;
 
 pub use fault::{LedgerFault, ReadFault};
-pub use laws::{each_ticket_has_one_text, plans_turn_sites};
+pub use laws::{each_ticket_has_one_text, files_keep_ledgers, plans_turn_sites};
 pub use ledger::Ledger;
 pub use released::Released;
 pub use sent::Sent;

@@ -64,7 +64,11 @@ fn removals(alloc: Global, kept: &[String], wanted: &[&str]) -> Result<Vec<Strin
 }
 
 /// The texts of a plan: what is missing, in the order in which it is wanted, then the removals.
-pub(crate) fn plan_of(alloc: Global, kept: &[String], wanted: &[&str]) -> Result<Vec<String>, AllocError>
+pub(crate) fn plan_of(
+    alloc: Global,
+    kept: &[String],
+    wanted: &[&str],
+) -> Result<Vec<String>, AllocError>
     ensures { IfOk result (λ v. map string_bytes v.items ≡ plan_of (map string_bytes kept.now) (map (λ t. t.now) wanted.now)) }
 {
     let mut plan = missing(alloc, kept, wanted)?;

@@ -1,4 +1,4 @@
-use Rattle.std.proofs.Common.{◌≡◌, map, not, take, string_bytes}
+use Rattle.std.proofs.Common.{◌≡◌, map, take, string_bytes}
 use Rattle.site_ledger.specs.Plans.{missing}
 use Rattle.site_ledger.proofs.planning.missing.Given as goal
 

@@ -7,6 +7,6 @@ use Rattle.site_ledger.proofs.planning.removals.Goals.{in-Some+in_ok-push, in_de
 pub loop-text-preserved : goal.loop-text-preserved
 loop-text-preserved c =
     elim c.match-branch-2.branch [
-      in-Some+in_ok-push w ↦ grind (arith, common_steps, filter_map-append)
-    | in_default w ↦ grind (arith, common_steps, filter_map-append)
+      | in-Some+in_ok-push w ↦ grind (arith, common_steps, filter_map-append)
+      | in_default w ↦ grind (arith, common_steps, filter_map-append)
     ]

@@ -1,7 +1,6 @@
-use Rattle.std.proofs.Common.{◌≡◌, map, take, string_bytes}
+use Rattle.std.proofs.Common.{◌≡◌, take, string_bytes}
 use Rattle.std.specs.List.{flat_map}
 use Rattle.site_ledger.specs.Spelling.{released_line}
-use Rattle.site_ledger.specs.View.{given_view}
 use Rattle.site_ledger.proofs.spelling.log_lines.Given as goal
 
 -- those so far

@@ -1,4 +1,4 @@
-use Rattle.std.proofs.Common.{◌≡◌, List, ℕ, Some, map, eqb, string_bytes, ap, ◌∙◌, rules, arith}
+use Rattle.std.proofs.Common.{◌≡◌, List, map, eqb, string_bytes, ap, ◌∙◌, arith}
 use Rattle.std.specs.List.{find}
 use Rattle.std.proofs.lemmas.Grind.{common_steps}
 use Rattle.site_ledger.specs.Books.{Given, Book}
@@ -20,6 +20,6 @@ returns-clause-ok c =
     ap (λ (s : List Given). record (the_view c.self-2.inside) { sent = s }) c.drop_under.ensures
     ∙ ap (without c.args.number) (c.self-2.view_is ∙ c.in_ok-hold.ensures.ok)
     ∙ text_under c.args.number (string_bytes c.in_ok-text.text) c.args.self.now (given_view c.in-Some.found.now) (
-        c.in-Some.ensures
-        ∙ ap (λ ss. find (λ (g : Given). eqb g.number c.args.number) (map given_view ss)) c.deref.ensures.value
-        ∙ ap (λ (b : Book). find (λ (g : Given). eqb g.number c.args.number) b.sent) c.self.view_is) text
+    c.in-Some.ensures
+    ∙ ap (λ ss. find (λ (g : Given). eqb g.number c.args.number) (map given_view ss)) c.deref.ensures.value
+    ∙ ap (λ (b : Book). find (λ (g : Given). eqb g.number c.args.number) b.sent) c.self.view_is) text
