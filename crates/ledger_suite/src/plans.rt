@@ -1,0 +1,76 @@
+//! A history of a ledger, step by step.
+use crate::samples::{commands, told};
+use site_ledger::Ledger;
+use std::alloc::Global;
+use std::process::Abort;
+use std::test::Fail;
+
+/// What happens to a ledger.
+#[derive(Clone, Copy)]
+enum Step {
+    /// The commands of a folder are planned, a letter each.
+    Plan(&'static str),
+    Release,
+    ReleaseAgain,
+    Receive(u64),
+}
+
+/// Each step, and the ledger after it.
+const HISTORY: [(Step, &str); 24] = [
+    (Step::Release, "1 0 "),
+    (Step::ReleaseAgain, "1 0 "),
+    (Step::Plan(""), "1 0 "),
+    (Step::Plan("TA"), "3 0  1T 2A"),
+    (Step::Receive(3), "3 0  1T 2A"),
+    (Step::Receive(2), "3 0 A 1T"),
+    (Step::Receive(2), "3 0 A 1T"),
+    (Step::Receive(1), "3 0 AT"),
+    (Step::Plan("TA"), "3 0 AT"),
+    (Step::Release, "4 0 AT 3!"),
+    (Step::Receive(3), "4 3 AT"),
+    (Step::Release, "4 3 AT"),
+    (Step::ReleaseAgain, "4 3 AT 3!"),
+    (Step::Receive(3), "4 3 AT"),
+    (Step::Plan("BR"), "7 3 AT 4B 5R 6t"),
+    (Step::Receive(4), "7 3 TB 5R 6t"),
+    (Step::Receive(6), "7 3 Bt 5R"),
+    (Step::Receive(5), "7 3 BtR"),
+    (Step::Plan("RT"), "9 3 BtR 7T 8a"),
+    (Step::Receive(7), "9 3 BRT 8a"),
+    (Step::Receive(8), "9 3 RTa"),
+    (Step::Plan(""), "11 3 RTa 9r 10t"),
+    (Step::Receive(9), "11 3 Tar 10t"),
+    (Step::Receive(10), "11 3 art"),
+];
+
+fn take(rt: &impl Abort, alloc: Global, ledger: &mut Ledger, step: Step) -> Result<(), Fail> {
+    match step {
+        Step::Plan(letters) => {
+            let wanted = commands(alloc, letters)?;
+            assert!(rt; ledger.is_idle());
+            ledger.plan(alloc, &wanted)?;
+        }
+        Step::Release => {
+            assert!(rt; ledger.is_idle());
+            ledger.plan_release(alloc)?;
+        }
+        Step::ReleaseAgain => {
+            assert!(rt; ledger.is_idle());
+            ledger.release_again(alloc)?;
+        }
+        Step::Receive(number) => ledger.receive(number)?,
+    }
+    Ok(())
+}
+
+#[test]
+fn history(rt: HostRuntime) -> Result<(), Fail> {
+    let alloc = rt.alloc();
+    let mut ledger = Ledger::new(alloc, 7);
+    for (step, wanted) in HISTORY {
+        take(&rt, alloc, &mut ledger, step)?;
+        assert_eq!(rt; told(alloc, &ledger)?.as_str(), wanted);
+    }
+    assert_eq!(rt; ledger.editor(), 7);
+    Ok(())
+}

@@ -1,0 +1,9 @@
+pub mod Books
+pub mod Heads
+pub mod Histories
+pub mod Laws
+pub mod Plans
+pub mod Sizes
+pub mod Spelling
+pub mod Steps
+pub mod View

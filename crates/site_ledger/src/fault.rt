@@ -1,0 +1,68 @@
+use std::alloc::{AllocError, AllocFailed};
+use thiserror::Error;
+
+/// Why nothing was planned.
+#[derive(Clone, Copy, Debug, Drop, PartialEq, Eq, Error)]
+pub enum LedgerFault {
+    #[error("the editor has no tickets left: publish as another editor")]
+    NoTickets,
+    #[error("out of memory")]
+    OutOfMemory,
+}
+
+impl From<AllocError> for LedgerFault {
+    ghost use Rattle.std.specs.Prelude.{◌≡◌};
+    ghost use Rattle.site_ledger.specs.declared.fault.LedgerFault.TheVariants.{OutOfMemory};
+
+    ghost from_gives = { λ _ e. e ≡ OutOfMemory };
+
+    fn from(_refused: AllocError) -> LedgerFault {
+        LedgerFault::OutOfMemory
+    }
+}
+
+impl<T: Drop> From<AllocFailed<T>> for LedgerFault {
+    ghost use Rattle.std.specs.Prelude.{◌≡◌};
+    ghost use Rattle.site_ledger.specs.declared.fault.LedgerFault.TheVariants.{OutOfMemory};
+
+    ghost from_gives = { λ _ e. e ≡ OutOfMemory };
+
+    fn from(_refused: AllocFailed<T>) -> LedgerFault {
+        LedgerFault::OutOfMemory
+    }
+}
+
+/// Why a text is no ledger.
+#[derive(Clone, Copy, Debug, Drop, PartialEq, Eq, Error)]
+pub enum ReadFault {
+    /// It is what `tools/publish` kept.
+    #[error("written by tools/publish: publish with that once more, until it says that nothing has changed; then remove this file and publish with sitepub, as a new editor")]
+    Old,
+    /// The line of that number, from 1, is the first that no ledger has.
+    #[error("line {0} is none that sitepub wrote: take the file as it was, or remove it and publish as a new editor")]
+    Line(usize),
+    #[error("out of memory")]
+    OutOfMemory,
+}
+
+impl From<AllocError> for ReadFault {
+    ghost use Rattle.std.specs.Prelude.{◌≡◌};
+    ghost use Rattle.site_ledger.specs.declared.fault.ReadFault.TheVariants.{OutOfMemory};
+
+    ghost from_gives = { λ _ e. e ≡ OutOfMemory };
+
+    fn from(_refused: AllocError) -> ReadFault {
+        ReadFault::OutOfMemory
+    }
+}
+
+impl<T: Drop> From<AllocFailed<T>> for ReadFault {
+    ghost use Rattle.std.specs.Prelude.{◌≡◌};
+    ghost use Rattle.site_ledger.specs.declared.fault.ReadFault.TheVariants.{OutOfMemory};
+
+    ghost from_gives = { λ _ e. e ≡ OutOfMemory };
+
+    fn from(_refused: AllocFailed<T>) -> ReadFault {
+        ReadFault::OutOfMemory
+    }
+}

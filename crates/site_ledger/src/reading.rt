@@ -1,0 +1,183 @@
+//! A ledger, read back from the text of a file.
+ghost use Rattle.std.specs.Prelude.{◌≡◌, ◌≢◌, ◌↔◌, true, nat_eq, codes, Err, IfOk, IfErr};
+ghost use Rattle.std.specs.List.{starts_with};
+ghost use Rattle.site_ledger.specs.Spelling.{spelled};
+
+use crate::fault::ReadFault;
+use crate::ledger::Ledger;
+use crate::released::Released;
+use crate::sent::Sent;
+use std::alloc::Global;
+
+/// The version of the file.
+const VERSION: u64 = 2;
+
+/// What is left of a text, and the number of its first line.
+#[derive(Clone, Copy)]
+struct Rest<'a> {
+    text: &'a str,
+    line: usize,
+}
+
+/// What stands behind the front lines.
+#[derive(Clone, Copy)]
+enum Entry<'a> {
+    Released(Released),
+    Kept(&'a str),
+    Sent(u64, &'a str),
+}
+
+impl<'a> Rest<'a> {
+    /// The first line, and what follows it.
+    fn line(self) -> Result<(&'a str, Rest<'a>), ReadFault>
+        ensures { IfErr result (λ e. e ≢ ReadFault.Old) }
+    {
+        match self.text.split_once('\n') {
+            Some((line, text)) => Ok((
+                line,
+                Rest {
+                    text,
+                    line: self.line.saturating_add(1),
+                },
+            )),
+            None => Err(ReadFault::Line(self.line)),
+        }
+    }
+
+    /// The number of a line that has a word before it.
+    fn number(self, word: &str) -> Result<(u64, Rest<'a>), ReadFault>
+        ensures { IfErr result (λ e. e ≢ ReadFault.Old) }
+    {
+        let (line, rest) = self.line()?;
+        match line.split_once(' ') {
+            Some((first, number)) if first == word => Ok((self.parsed(number)?, rest)),
+            _ => Err(ReadFault::Line(self.line)),
+        }
+    }
+
+    /// A number of the first line.
+    fn parsed(self, number: &str) -> Result<u64, ReadFault>
+        ensures { IfErr result (λ e. e ≢ ReadFault.Old) }
+    {
+        number.parse().map_err(|_| ReadFault::Line(self.line))
+    }
+
+    /// A text of so many bytes, and a newline behind it.
+    fn counted(self, length: u64) -> Result<(&'a str, Rest<'a>), ReadFault>
+        ensures { IfErr result (λ e. e ≢ ReadFault.Old) }
+    {
+        let fault = ReadFault::Line(self.line);
+        let (text, after) = self.text.split_at_checked(length as usize).ok_or(fault)?;
+        let after = after.strip_prefix('\n').ok_or(fault)?;
+        let lines = text.as_bytes().iter().filter(|b| **b == b'\n').count();
+        Ok((
+            text,
+            Rest {
+                text: after,
+                line: self.line.saturating_add(lines).saturating_add(1),
+            },
+        ))
+    }
+
+    fn entry(self, alloc: Global) -> Result<(Entry<'a>, Rest<'a>), ReadFault>
+        ensures { IfErr result (λ e. e ≢ ReadFault.Old) }
+    {
+        let (line, rest) = self.line()?;
+        let words: Vec<&str> = line.split(' ').collect(alloc)?;
+        match words.as_slice() {
+            ["released", release, time, commands] => {
+                let released = Released {
+                    release: self.parsed(release)?,
+                    time: self.parsed(time)?,
+                    commands: self.parsed(commands)?,
+                };
+                Ok((Entry::Released(released), rest))
+            }
+            ["has", length] => {
+                let (text, rest) = rest.counted(self.parsed(length)?)?;
+                Ok((Entry::Kept(text), rest))
+            }
+            ["sent", number, length] => {
+                let (text, rest) = rest.counted(self.parsed(length)?)?;
+                Ok((Entry::Sent(self.parsed(number)?, text), rest))
+            }
+            _ => Err(ReadFault::Line(self.line)),
+        }
+    }
+}
+
+impl Ledger {
+    fn enter(&mut self, alloc: Global, entry: Entry<'_>) -> Result<(), ReadFault>
+        ensures { IfErr result (λ e. e ≢ ReadFault.Old) }
+    {
+        match entry {
+            Entry::Released(released) => self.log.push(released)?,
+            Entry::Kept(text) => self.kept.push(String::from_str(alloc, text)?)?,
+            Entry::Sent(number, text) => {
+                let text = String::from_str(alloc, text)?;
+                self.sent.push(Sent { number, text })?;
+            }
+        }
+        Ok(())
+    }
+}
+
+/// The ledger that a text looks like.
+fn parsed(alloc: Global, text: &str) -> Result<Ledger, ReadFault>
+    ensures { IfErr result (λ e. e ≢ ReadFault.Old) }
+{
+    let (version, rest) = Rest { text, line: 1 }.number("published")?;
+    let (editor, rest) = rest.number("editor")?;
+    let (next, rest) = rest.number("next")?;
+    let (last_release, mut rest) = rest.number("last_release")?;
+    let Ok(editor) = u32::try_from(editor) else {
+        return Err(ReadFault::Line(2));
+    };
+    if version != VERSION {
+        return Err(ReadFault::Line(1));
+    }
+    let mut ledger = Ledger::new(alloc, editor);
+    ledger.next = next;
+    ledger.last_release = last_release;
+    for _ in 0..text.len() {
+        if rest.text.is_empty() {
+            return Ok(ledger);
+        }
+        let (entry, after) = rest.entry(alloc)?;
+        ledger.enter(alloc, entry)?;
+        rest = after;
+    }
+    Ok(ledger)
+}
+
+/// The number of the first line in which two texts differ.
+fn first_difference(text: &str, other: &str) -> usize {
+    let same = text
+        .as_bytes()
+        .iter()
+        .zip(other.as_bytes())
+        .take_while(|(a, b)| a == b)
+        .filter(|(a, _)| **a == b'\n')
+        .count();
+    same.saturating_add(1)
+}
+
+impl Ledger {
+    /// Reads the text of a file back. What it reads is spelled by that very text, so that another spelling of a number, or entries in another order,
+    /// are a fault in the first line that a ledger would spell otherwise.
+    pub fn read(alloc: Global, text: &str) -> Result<Ledger, ReadFault>
+        ensures ok { IfOk result (λ ledger. spelled ledger ≡ text.now) }
+        ensures old { result ≡ Err ReadFault.Old ↔ starts_with nat_eq text.now (codes "editor ") ≡ true }
+    {
+        if text.starts_with("editor ") {
+            return Err(ReadFault::Old);
+        }
+        let ledger = parsed(alloc, text)?;
+        let again = ledger.spelled(alloc)?;
+        if again.as_str() == text {
+            Ok(ledger)
+        } else {
+            Err(ReadFault::Line(first_difference(text, again.as_str())))
+        }
+    }
+}

@@ -1,0 +1,10 @@
+/// A release as the log keeps it.
+#[derive(Clone, Copy, Debug, Drop, PartialEq, Eq)]
+pub struct Released {
+    /// Its number, as the group counts releases.
+    pub release: u64,
+    /// When it was seen first, in seconds since 1970.
+    pub time: u64,
+    /// How many commands it shows that none showed before.
+    pub commands: u64,
+}
