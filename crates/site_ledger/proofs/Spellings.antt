@@ -30,16 +30,16 @@ digits_lack : (c : ℕ) (bs : List ℕ) → 10 ≤ digit_value c → AllDigits 1
 digits_lack c [] none all = refl
 digits_lack c (b ∷ bs) none all = rw (other_byte c b all.0 none) (digits_lack c bs none all.1)
 
-decimal_lacks : (c n : ℕ) → 10 ≤ digit_value c → Fits n → lacks c (decimal n) ≡ true
+pub decimal_lacks : (c n : ℕ) → 10 ≤ digit_value c → Fits n → lacks c (decimal n) ≡ true
 decimal_lacks c n none fits = digits_lack c (decimal n) none (decimal_is_IsNumeral n fits).0.1
 
-decimals : (m n : ℕ) → Fits m → Fits n → decimal m ≡ decimal n → m ≡ n
+pub decimals : (m n : ℕ) → Fits m → Fits n → decimal m ≡ decimal n → m ≡ n
 decimals m n first second is = sym (decimal_is_IsNumeral m first).1 ∙ ap (digits_value 10) is ∙ (decimal_is_IsNumeral n second).1
 
 pairs : (p q : List ℕ × List ℕ) → Some p ≡ Some q → p ≡ q
 pairs p q is = cc
 
-number_then : (c m n : ℕ) (xs ys : List ℕ) → 10 ≤ digit_value c → Fits m → Fits n → decimal m ++ (c ∷ xs) ≡ decimal n ++ (c ∷ ys) → (m ≡ n) × (xs ≡ ys)
+pub number_then : (c m n : ℕ) (xs ys : List ℕ) → 10 ≤ digit_value c → Fits m → Fits n → decimal m ++ (c ∷ xs) ≡ decimal n ++ (c ∷ ys) → (m ≡ n) × (xs ≡ ys)
 number_then c m n xs ys none first second is =
     let cuts = sym (cut_it c (decimal m) xs (decimal_lacks c m none first)) ∙ ap (cut_at c) is ∙ cut_it c (decimal n) ys (decimal_lacks c n none second) in
     let parts = pairs (decimal m, xs) (decimal n, ys) cuts in
@@ -54,17 +54,17 @@ same_front t u xs ys long is = (
 
 -- ---- lines and entries
 
-newline : 10 ≤ digit_value 10
+pub newline : 10 ≤ digit_value 10
 newline = omega arith
 
-space : 10 ≤ digit_value 32
+pub space : 10 ≤ digit_value 32
 space = omega arith
 
 same_released : (a b : Released) → a.release ≡ b.release → a.time ≡ b.time → a.commands ≡ b.commands → a ≡ b
 same_released a b release time commands =
     ap (λ (n : ℕ). record a { release = n }) release ∙ ap (λ (n : ℕ). record b { time = n; commands = a.commands }) time ∙ ap (λ (n : ℕ). record b { commands = n }) commands
 
-released_one : (a b : Released) (xs ys : List ℕ) → FitsReleased a → FitsReleased b → released_line a ++ xs ≡ released_line b ++ ys → (a ≡ b) × (xs ≡ ys)
+pub released_one : (a b : Released) (xs ys : List ℕ) → FitsReleased a → FitsReleased b → released_line a ++ xs ≡ released_line b ++ ys → (a ≡ b) × (xs ≡ ys)
 released_one a b xs ys first second is =
     let last_a : List ℕ = decimal a.commands ++ (10 ∷ []) in
     let last_b : List ℕ = decimal b.commands ++ (10 ∷ []) in
@@ -82,13 +82,13 @@ text_then t u xs ys long is =
     let fronts = same_front t u (10 ∷ xs) (10 ∷ ys) long (sym (append_assoc t (10 ∷ []) xs) ∙ is ∙ append_assoc u (10 ∷ []) ys) in
     (fronts.0, ap (drop 1) fronts.1)
 
-kept_one : (t u xs ys : List ℕ) → FitsText t → FitsText u → kept_entry t ++ xs ≡ kept_entry u ++ ys → (t ≡ u) × (xs ≡ ys)
+pub kept_one : (t u xs ys : List ℕ) → FitsText t → FitsText u → kept_entry t ++ xs ≡ kept_entry u ++ ys → (t ≡ u) × (xs ≡ ys)
 kept_one t u xs ys first second is =
     let long = number_then 10 (length t) (length u) ((t ++ (10 ∷ [])) ++ xs) ((u ++ (10 ∷ [])) ++ ys) newline first second
     (sym (append_assoc (decimal (length t)) (10 ∷ (t ++ (10 ∷ []))) xs) ∙ ap (drop 4) is ∙ append_assoc (decimal (length u)) (10 ∷ (u ++ (10 ∷ []))) ys) in
     text_then t u xs ys long.0 long.1
 
-sent_one : (g h : Given) (xs ys : List ℕ) → FitsGiven g → FitsGiven h → sent_entry g ++ xs ≡ sent_entry h ++ ys → (g ≡ h) × (xs ≡ ys)
+pub sent_one : (g h : Given) (xs ys : List ℕ) → FitsGiven g → FitsGiven h → sent_entry g ++ xs ≡ sent_entry h ++ ys → (g ≡ h) × (xs ≡ ys)
 sent_one g h xs ys first second is =
     let last_g : List ℕ = decimal (length g.text) ++ (10 ∷ (g.text ++ (10 ∷ []))) in
     let last_h : List ℕ = decimal (length h.text) ++ (10 ∷ (h.text ++ (10 ∷ []))) in
@@ -101,58 +101,57 @@ sent_one g h xs ys first second is =
 
 -- ---- sections
 
--- the list begins with the byte
-abbrev starts : ℕ → List ℕ → Bool
-starts b [] = false
-starts b (x ∷ xs) = eqb x b
-
--- entries that begin with a byte of their own, before what doesn't
-section : {A : Type 0} (f : A → List ℕ) (P : A → Type 0) (b : ℕ) → ((a : A) (xs : List ℕ) → starts b (f a ++ xs) ≡ true)
+-- entries, before what begins with none
+pub section : {A : Type 0} (f : A → List ℕ) (P : A → Type 0)
     → ((a c : A) (xs ys : List ℕ) → P a → P c → f a ++ xs ≡ f c ++ ys → (a ≡ c) × (xs ≡ ys))
-    → (more cs : List A) (xs ys : List ℕ) → All P more → All P cs → starts b xs ≡ false → starts b ys ≡ false → flat_map f more ++ xs ≡ flat_map f cs ++ ys → (more ≡ cs) × (xs ≡ ys)
-section f P b lead one [] [] xs ys first second absent none is = (refl, is)
-section f P b lead one [] (c ∷ cs) xs ys first second absent none is =
-    let yes : starts b xs ≡ true = ap (starts b) (is ∙ append_assoc (f c) (flat_map f cs) ys) ∙ lead c (flat_map f cs ++ ys) in
-    absurd (cc)
-section f P b lead one (a ∷ more) [] xs ys first second absent none is =
-    let yes : starts b ys ≡ true = ap (starts b) (sym is ∙ append_assoc (f a) (flat_map f more) xs) ∙ lead a (flat_map f more ++ xs) in
-    absurd (cc)
-section f P b lead one (a ∷ more) (c ∷ cs) xs ys first second absent none is =
+    → (more cs : List A) (xs ys : List ℕ) → All P more → All P cs → Stops f P xs → Stops f P ys → flat_map f more ++ xs ≡ flat_map f cs ++ ys → (more ≡ cs) × (xs ≡ ys)
+section f P one [] [] xs ys first second stops ends is = (refl, is)
+section f P one [] (c ∷ cs) xs ys first second stops ends is = absurd (stops c (flat_map f cs ++ ys) (All-head P c cs second) (is ∙ append_assoc (f c) (flat_map f cs) ys))
+section f P one (a ∷ more) [] xs ys first second stops ends is = absurd (ends a (flat_map f more ++ xs) (All-head P a more first) (sym is ∙ append_assoc (f a) (flat_map f more) xs))
+section f P one (a ∷ more) (c ∷ cs) xs ys first second stops ends is =
     let head = one a c (flat_map f more ++ xs) (flat_map f cs ++ ys) (All-head P a more first) (All-head P c cs second)
     (sym (append_assoc (f a) (flat_map f more) xs) ∙ is ∙ append_assoc (f c) (flat_map f cs) ys) in
-    let rest = section f P b lead one more cs xs ys (All-tail P a more first) (All-tail P c cs second) absent none head.1 in
+    let rest = section f P one more cs xs ys (All-tail P a more first) (All-tail P c cs second) stops ends head.1 in
     (ap (λ x. x ∷ more) head.0 ∙ ap (λ zs. c ∷ zs) rest.0, rest.1)
 
-no_released : (kept : List (List ℕ)) (sent : List Given) → starts 114 (flat_map kept_entry kept ++ flat_map sent_entry sent) ≡ false
-no_released [] [] = refl
-no_released [] (g ∷ sent) = refl
-no_released (t ∷ kept) sent = refl
+-- two lists that begin with other bytes
+first_byte : (b c : ℕ) (xs ys : List ℕ) → b ∷ xs ≡ c ∷ ys → b ≡ c
+first_byte b c xs ys is = cc
 
-no_kept : (sent : List Given) → starts 104 (flat_map sent_entry sent) ≡ false
-no_kept [] = refl
-no_kept (g ∷ sent) = refl
+no_byte : (c : ℕ) (ys : List ℕ) → [] ≡ c ∷ ys → ⊥
+no_byte c ys is = cc
 
-record SameFront (book other : Book) : Type 0 where
-  editor : book.editor ≡ other.editor
-  next : book.next ≡ other.next
-  last_release : book.last_release ≡ other.last_release
-  rest : flat_map released_line book.log ++ (flat_map kept_entry book.kept ++ flat_map sent_entry book.sent)
-      ≡ flat_map released_line other.log ++ (flat_map kept_entry other.kept ++ flat_map sent_entry other.sent)
+pub no_released : (kept : List (List ℕ)) (sent : List Given) → Stops released_line FitsReleased (flat_map kept_entry kept ++ flat_map sent_entry sent)
+no_released [] [] a rest fits is = no_byte _ _ is
+no_released [] (g ∷ sent) a rest fits is = let byte : 115 ≡ 114 = first_byte _ _ _ _ is in absurd (omega arith)
+no_released (t ∷ kept) sent a rest fits is = let byte : 104 ≡ 114 = first_byte _ _ _ _ is in absurd (omega arith)
 
-fronts : (book other : Book) → FitsBook book → FitsBook other → spelled book ≡ spelled other → SameFront book other
-fronts book other first second is =
-    let rest_a : List ℕ = flat_map released_line book.log ++ (flat_map kept_entry book.kept ++ flat_map sent_entry book.sent) in
-    let rest_b : List ℕ = flat_map released_line other.log ++ (flat_map kept_entry other.kept ++ flat_map sent_entry other.sent) in
-    let last_a : List ℕ = decimal book.last_release ++ (10 ∷ []) in
-    let last_b : List ℕ = decimal other.last_release ++ (10 ∷ []) in
-    let next_a : List ℕ = decimal book.next ++ (codes "\nlast_release " ++ last_a) in
-    let next_b : List ℕ = decimal other.next ++ (codes "\nlast_release " ++ last_b) in
-    let editor = number_then 10 book.editor other.editor ((codes "next " ++ next_a) ++ rest_a) ((codes "next " ++ next_b) ++ rest_b) newline first.editor second.editor
-    (sym (append_assoc (decimal book.editor) (codes "\nnext " ++ next_a) rest_a) ∙ ap (drop 19) is ∙ append_assoc (decimal other.editor) (codes "\nnext " ++ next_b) rest_b) in
-    let next = number_then 10 book.next other.next ((codes "last_release " ++ last_a) ++ rest_a) ((codes "last_release " ++ last_b) ++ rest_b) newline first.next second.next
-    (sym (append_assoc (decimal book.next) (codes "\nlast_release " ++ last_a) rest_a) ∙ ap (drop 5) editor.1 ∙ append_assoc (decimal other.next) (codes "\nlast_release " ++ last_b) rest_b) in
-    let last = number_then 10 book.last_release other.last_release rest_a rest_b newline first.last_release second.last_release
-    (sym (append_assoc (decimal book.last_release) (10 ∷ []) rest_a) ∙ ap (drop 13) next.1 ∙ append_assoc (decimal other.last_release) (10 ∷ []) rest_b) in
+pub no_kept : (sent : List Given) → Stops kept_entry FitsText (flat_map sent_entry sent)
+no_kept [] a rest fits is = no_byte _ _ is
+no_kept (g ∷ sent) a rest fits is = let byte : 115 ≡ 104 = first_byte _ _ _ _ is in absurd (omega arith)
+
+pub no_sent : Stops sent_entry FitsGiven []
+no_sent a rest fits is = no_byte _ _ is
+
+pub record SameFront (e e' n n' l l' : ℕ) (xs ys : List ℕ) : Type 0 where
+  pub editor : e ≡ e'
+  pub next : n ≡ n'
+  pub last_release : l ≡ l'
+  pub rest : xs ≡ ys
+
+pub fronts : (e e' n n' l l' : ℕ) (xs ys : List ℕ) → Fits e → Fits e' → Fits n → Fits n' → Fits l → Fits l'
+    → front_lines e n l ++ xs ≡ front_lines e' n' l' ++ ys → SameFront e e' n n' l l' xs ys
+fronts e e' n n' l l' xs ys fits_e fits_e' fits_n fits_n' fits_l fits_l' is =
+    let last_a : List ℕ = decimal l ++ (10 ∷ []) in
+    let last_b : List ℕ = decimal l' ++ (10 ∷ []) in
+    let next_a : List ℕ = decimal n ++ (codes "\nlast_release " ++ last_a) in
+    let next_b : List ℕ = decimal n' ++ (codes "\nlast_release " ++ last_b) in
+    let editor = number_then 10 e e' ((codes "next " ++ next_a) ++ xs) ((codes "next " ++ next_b) ++ ys) newline fits_e fits_e'
+    (sym (append_assoc (decimal e) (codes "\nnext " ++ next_a) xs) ∙ ap (drop 19) is ∙ append_assoc (decimal e') (codes "\nnext " ++ next_b) ys) in
+    let next = number_then 10 n n' ((codes "last_release " ++ last_a) ++ xs) ((codes "last_release " ++ last_b) ++ ys) newline fits_n fits_n'
+    (sym (append_assoc (decimal n) (codes "\nlast_release " ++ last_a) xs) ∙ ap (drop 5) editor.1 ∙ append_assoc (decimal n') (codes "\nlast_release " ++ last_b) ys) in
+    let last = number_then 10 l l' xs ys newline fits_l fits_l'
+    (sym (append_assoc (decimal l) (10 ∷ []) xs) ∙ ap (drop 13) next.1 ∙ append_assoc (decimal l') (10 ∷ []) ys) in
     record { editor = editor.0; next = next.0; last_release = last.0; rest = last.1 }
 
 same_book : (book other : Book) → book.editor ≡ other.editor → book.next ≡ other.next → book.last_release ≡ other.last_release
@@ -165,14 +164,20 @@ same_book book other editor next last_release log kept sent =
     ∙ ap (λ (ts : List (List ℕ)). record other { kept = ts; sent = book.sent }) kept
     ∙ ap (λ (gs : List Given). record other { sent = gs }) sent
 
+pub fits_editor : (n : ℕ) → n < 2 ^ 32 → Fits n
+fits_editor n small = omega arith
+
 pub spells_one : SpellsOne
 spells_one book other first second is =
-    let front = fronts book other first second is in
-    let log = section released_line FitsReleased 114 (λ a xs. refl) released_one book.log other.log
+    let front = fronts book.editor other.editor book.next other.next book.last_release other.last_release
+    (flat_map released_line book.log ++ (flat_map kept_entry book.kept ++ flat_map sent_entry book.sent))
+    (flat_map released_line other.log ++ (flat_map kept_entry other.kept ++ flat_map sent_entry other.sent))
+    (fits_editor book.editor first.editor) (fits_editor other.editor second.editor) first.next second.next first.last_release second.last_release is in
+    let log = section released_line FitsReleased released_one book.log other.log
     (flat_map kept_entry book.kept ++ flat_map sent_entry book.sent) (flat_map kept_entry other.kept ++ flat_map sent_entry other.sent)
     first.log second.log (no_released book.kept book.sent) (no_released other.kept other.sent) front.rest in
-    let kept = section kept_entry FitsText 104 (λ t xs. refl) kept_one book.kept other.kept (flat_map sent_entry book.sent) (flat_map sent_entry other.sent)
+    let kept = section kept_entry FitsText kept_one book.kept other.kept (flat_map sent_entry book.sent) (flat_map sent_entry other.sent)
     first.kept second.kept (no_kept book.sent) (no_kept other.sent) log.1 in
-    let sent = section sent_entry FitsGiven 115 (λ g xs. refl) sent_one book.sent other.sent [] []
-    first.sent second.sent refl refl (append-nil (flat_map sent_entry book.sent) ∙ kept.1 ∙ sym (append-nil (flat_map sent_entry other.sent))) in
+    let sent = section sent_entry FitsGiven sent_one book.sent other.sent [] []
+    first.sent second.sent no_sent no_sent (append-nil (flat_map sent_entry book.sent) ∙ kept.1 ∙ sym (append-nil (flat_map sent_entry other.sent))) in
     same_book book other front.editor front.next front.last_release log.0 kept.0 sent.0

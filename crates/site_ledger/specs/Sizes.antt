@@ -16,7 +16,7 @@ abbrev pub FitsGiven : Given → Type 0
 FitsGiven g = Fits g.number × Fits (length g.text)
 
 pub record FitsBook (book : Book) : Type 0 where
-  pub editor : Fits book.editor
+  pub editor : book.editor < 2 ^ 32
   pub next : Fits book.next
   pub last_release : Fits book.last_release
   pub log : All FitsReleased book.log

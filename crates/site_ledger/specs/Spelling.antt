@@ -1,5 +1,5 @@
 -- A ledger as the text of a file.
-use Rattle.std.specs.Prelude.{ℕ, List, [], ◌∷◌, ◌++◌, length, codes, decimal}
+use Rattle.std.specs.Prelude.{◌≢◌, ℕ, List, [], ◌∷◌, ◌++◌, length, codes, decimal}
 use Rattle.std.specs.List.{flat_map}
 use Rattle.site_ledger.specs.Books.{Given, Book}
 use Rattle.site_ledger.specs.declared.released.Released.{Released}
@@ -27,3 +27,7 @@ abbrev pub spelled : Book → List ℕ
 spelled book =
     front_lines book.editor book.next book.last_release
     ++ (flat_map released_line book.log ++ (flat_map kept_entry book.kept ++ flat_map sent_entry book.sent))
+
+-- no entry begins the text
+abbrev pub Stops : {A : Type 0} → (A → List ℕ) → (A → Type 0) → List ℕ → Type 0
+Stops {A} entry P text = (a : A) (rest : List ℕ) → P a → text ≢ entry a ++ rest

@@ -3,6 +3,7 @@ use Rattle.std.specs.Prelude.{string_bytes}
 use Rattle.site_ledger.specs.Books.{Given}
 use Rattle.site_ledger.specs.Heads.{Head}
 use Rattle.site_ledger.specs.declared.head.Head.{Head as CodeHead}
+use Rattle.site_ledger.specs.declared.reading.Way.{Way}
 use Rattle.site_ledger.specs.declared.sent.Sent.{Sent}
 
 abbrev pub head_view : CodeHead → Head
@@ -10,3 +11,6 @@ head_view h = record { verb = h.verb.now; kind = h.kind.now; name = h.name.now }
 
 abbrev pub given_view : Sent → Given
 given_view s = record { number = s.number; text = string_bytes s.text }
+
+abbrev pub way_view : Way → Given
+way_view w = record { number = w.number; text = w.text.now }

@@ -1,183 +1,217 @@
 //! A ledger, read back from the text of a file.
-ghost use Rattle.std.specs.Prelude.{◌≡◌, ◌≢◌, ◌↔◌, true, nat_eq, codes, Err, IfOk, IfErr};
-ghost use Rattle.std.specs.List.{starts_with};
-ghost use Rattle.site_ledger.specs.Spelling.{spelled};
+ghost use Rattle.std.specs.Prelude.{◌≡◌, ◌≢◌, ◌↔◌, ◌<◌, ◌^◌, ◌++◌, ◌∷◌, ℕ, List, true, nat_eq, codes, decimal, length, map, All, Err, IfOk, IfErr, MatchOption, MatchResult, string_bytes};
+ghost use Rattle.std.specs.List.{flat_map, starts_with};
+ghost use Rattle.site_ledger.specs.Books.{Given, Book};
+ghost use Rattle.site_ledger.specs.Sizes.{Fits, FitsReleased, FitsText, FitsGiven, FitsBook};
+ghost use Rattle.site_ledger.specs.Spelling.{front_lines, released_line, kept_entry, sent_entry, spelled, Stops};
+ghost use Rattle.site_ledger.specs.View.{given_view, way_view};
 
 use crate::fault::ReadFault;
 use crate::ledger::Ledger;
 use crate::released::Released;
 use crate::sent::Sent;
-use std::alloc::Global;
+use engine_parts::read_number;
+use std::alloc::{AllocError, Global};
 
-/// The version of the file.
-const VERSION: u64 = 2;
-
-/// What is left of a text, and the number of its first line.
-#[derive(Clone, Copy)]
-struct Rest<'a> {
-    text: &'a str,
-    line: usize,
-}
-
-/// What stands behind the front lines.
-#[derive(Clone, Copy)]
-enum Entry<'a> {
-    Released(Released),
-    Kept(&'a str),
-    Sent(u64, &'a str),
-}
-
-impl<'a> Rest<'a> {
-    /// The first line, and what follows it.
-    fn line(self) -> Result<(&'a str, Rest<'a>), ReadFault>
-        ensures { IfErr result (λ e. e ≢ ReadFault.Old) }
-    {
-        match self.text.split_once('\n') {
-            Some((line, text)) => Ok((
-                line,
-                Rest {
-                    text,
-                    line: self.line.saturating_add(1),
-                },
-            )),
-            None => Err(ReadFault::Line(self.line)),
-        }
-    }
-
-    /// The number of a line that has a word before it.
-    fn number(self, word: &str) -> Result<(u64, Rest<'a>), ReadFault>
-        ensures { IfErr result (λ e. e ≢ ReadFault.Old) }
-    {
-        let (line, rest) = self.line()?;
-        match line.split_once(' ') {
-            Some((first, number)) if first == word => Ok((self.parsed(number)?, rest)),
-            _ => Err(ReadFault::Line(self.line)),
-        }
-    }
-
-    /// A number of the first line.
-    fn parsed(self, number: &str) -> Result<u64, ReadFault>
-        ensures { IfErr result (λ e. e ≢ ReadFault.Old) }
-    {
-        number.parse().map_err(|_| ReadFault::Line(self.line))
-    }
-
-    /// A text of so many bytes, and a newline behind it.
-    fn counted(self, length: u64) -> Result<(&'a str, Rest<'a>), ReadFault>
-        ensures { IfErr result (λ e. e ≢ ReadFault.Old) }
-    {
-        let fault = ReadFault::Line(self.line);
-        let (text, after) = self.text.split_at_checked(length as usize).ok_or(fault)?;
-        let after = after.strip_prefix('\n').ok_or(fault)?;
-        let lines = text.as_bytes().iter().filter(|b| **b == b'\n').count();
-        Ok((
-            text,
-            Rest {
-                text: after,
-                line: self.line.saturating_add(lines).saturating_add(1),
-            },
-        ))
-    }
-
-    fn entry(self, alloc: Global) -> Result<(Entry<'a>, Rest<'a>), ReadFault>
-        ensures { IfErr result (λ e. e ≢ ReadFault.Old) }
-    {
-        let (line, rest) = self.line()?;
-        let words: Vec<&str> = line.split(' ').collect(alloc)?;
-        match words.as_slice() {
-            ["released", release, time, commands] => {
-                let released = Released {
-                    release: self.parsed(release)?,
-                    time: self.parsed(time)?,
-                    commands: self.parsed(commands)?,
-                };
-                Ok((Entry::Released(released), rest))
-            }
-            ["has", length] => {
-                let (text, rest) = rest.counted(self.parsed(length)?)?;
-                Ok((Entry::Kept(text), rest))
-            }
-            ["sent", number, length] => {
-                let (text, rest) = rest.counted(self.parsed(length)?)?;
-                Ok((Entry::Sent(self.parsed(number)?, text), rest))
-            }
-            _ => Err(ReadFault::Line(self.line)),
-        }
-    }
-}
-
-impl Ledger {
-    fn enter(&mut self, alloc: Global, entry: Entry<'_>) -> Result<(), ReadFault>
-        ensures { IfErr result (λ e. e ≢ ReadFault.Old) }
-    {
-        match entry {
-            Entry::Released(released) => self.log.push(released)?,
-            Entry::Kept(text) => self.kept.push(String::from_str(alloc, text)?)?,
-            Entry::Sent(number, text) => {
-                let text = String::from_str(alloc, text)?;
-                self.sent.push(Sent { number, text })?;
-            }
-        }
-        Ok(())
-    }
-}
-
-/// The ledger that a text looks like.
-fn parsed(alloc: Global, text: &str) -> Result<Ledger, ReadFault>
-    ensures { IfErr result (λ e. e ≢ ReadFault.Old) }
+/// What follows a front.
+fn after<'a>(text: &'a str, front: &str) -> Option<&'a str>
+    ensures { MatchOption result ((rest : List ℕ) → text.now ≢ front.now ++ rest) (λ rest. text.now ≡ front.now ++ rest.now) }
 {
-    let (version, rest) = Rest { text, line: 1 }.number("published")?;
-    let (editor, rest) = rest.number("editor")?;
-    let (next, rest) = rest.number("next")?;
-    let (last_release, mut rest) = rest.number("last_release")?;
-    let Ok(editor) = u32::try_from(editor) else {
-        return Err(ReadFault::Line(2));
-    };
-    if version != VERSION {
-        return Err(ReadFault::Line(1));
-    }
-    let mut ledger = Ledger::new(alloc, editor);
-    ledger.next = next;
-    ledger.last_release = last_release;
-    for _ in 0..text.len() {
-        if rest.text.is_empty() {
-            return Ok(ledger);
-        }
-        let (entry, after) = rest.entry(alloc)?;
-        ledger.enter(alloc, entry)?;
-        rest = after;
-    }
-    Ok(ledger)
+    text.strip_prefix(front)
 }
 
-/// The number of the first line in which two texts differ.
-fn first_difference(text: &str, other: &str) -> usize {
-    let same = text
+/// A number, and what follows the character behind it.
+fn number(text: &str, end: char) -> Option<(u64, &str)>
+    requires { end < 48 }
+    ensures { MatchOption result ((n : ℕ) (xs : List ℕ) → Fits n → text.now ≢ decimal n ++ (end ∷ xs)) (λ p. Fits p.0 × (text.now ≡ decimal p.0 ++ (end ∷ p.1.now))) }
+{
+    let (digits, rest) = text.split_once(end)?;
+    Some((read_number(digits.as_bytes())?, rest))
+}
+
+/// A number behind a front, and what follows the character behind it.
+fn number_after<'a>(text: &'a str, front: &str, end: char) -> Option<(u64, &'a str)>
+    requires { end < 48 }
+    ensures { MatchOption result ((n : ℕ) (xs : List ℕ) → Fits n → text.now ≢ front.now ++ (decimal n ++ (end ∷ xs))) (λ p. Fits p.0 × (text.now ≡ front.now ++ (decimal p.0 ++ (end ∷ p.1.now)))) }
+{
+    number(after(text, front)?, end)
+}
+
+/// A text of so many bytes, and what follows the newline behind it.
+fn counted(text: &str, length: u64) -> Option<(&str, &str)>
+    ensures { MatchOption result ((t xs : List ℕ) → length t ≡ length → text.now ≢ t ++ (10 ∷ xs)) (λ p. (length p.0.now ≡ length) × (text.now ≡ p.0.now ++ (10 ∷ p.1.now))) }
+{
+    let (counted, rest) = text.split_at_checked(length as usize)?;
+    Some((counted, after(rest, "\n")?))
+}
+
+/// A release, and what follows its line.
+fn released_in(text: &str) -> Option<(Released, &str)>
+    ensures { MatchOption result (Stops released_line FitsReleased text.now) (λ p. FitsReleased p.0 × (text.now ≡ released_line p.0 ++ p.1.now)) }
+{
+    let (release, rest) = number_after(text, "released ", ' ')?;
+    let (time, rest) = number(rest, ' ')?;
+    let (commands, rest) = number(rest, '\n')?;
+    Some((
+        Released {
+            release,
+            time,
+            commands,
+        },
+        rest,
+    ))
+}
+
+/// A text that the group has, and what follows its entry.
+fn kept_in(text: &str) -> Option<(&str, &str)>
+    ensures { MatchOption result (Stops kept_entry FitsText text.now) (λ p. FitsText p.0.now × (text.now ≡ kept_entry p.0.now ++ p.1.now)) }
+{
+    let (length, rest) = number_after(text, "has ", '\n')?;
+    counted(rest, length)
+}
+
+/// A text on its way.
+#[derive(Clone, Copy)]
+struct Way<'a> {
+    number: u64,
+    text: &'a str,
+}
+
+/// A text on its way, and what follows its entry.
+fn sent_in(text: &str) -> Option<(Way<'_>, &str)>
+    ensures { MatchOption result (Stops sent_entry FitsGiven text.now) (λ p. FitsGiven (way_view p.0) × (text.now ≡ sent_entry (way_view p.0) ++ p.1.now)) }
+{
+    let (ticket, rest) = number_after(text, "sent ", ' ')?;
+    let (length, rest) = number(rest, '\n')?;
+    let (text, rest) = counted(rest, length)?;
+    Some((
+        Way {
+            number: ticket,
+            text,
+        },
+        rest,
+    ))
+}
+
+/// The releases that a text begins with, and what follows them.
+fn log_in(alloc: Global, text: &str) -> Result<(Vec<Released>, &str), AllocError>
+    ensures { IfOk result (λ p. (text.now ≡ flat_map released_line p.0.items ++ p.1.now) × All FitsReleased p.0.items × Stops released_line FitsReleased p.1.now) }
+{
+    let mut log = Vec::new(alloc);
+    let mut rest = text;
+    while let Some((released, more)) = released_in(rest) {
+        log.push(released)?;
+        rest = more;
+    }
+    Ok((log, rest))
+}
+
+/// The texts that the group has, with which a text begins, and what follows them.
+fn texts_in(alloc: Global, text: &str) -> Result<(Vec<String>, &str), AllocError>
+    ensures { IfOk result (λ p. (text.now ≡ flat_map kept_entry (map string_bytes p.0.items) ++ p.1.now) × All FitsText (map string_bytes p.0.items) × Stops kept_entry FitsText p.1.now) }
+{
+    let mut kept = Vec::new(alloc);
+    let mut rest = text;
+    while let Some((had, more)) = kept_in(rest) {
+        kept.push(String::from_str(alloc, had)?)?;
+        rest = more;
+    }
+    Ok((kept, rest))
+}
+
+/// What is on its way, with which a text begins, and what follows it.
+fn way_in(alloc: Global, text: &str) -> Result<(Vec<Sent>, &str), AllocError>
+    ensures { IfOk result (λ p. (text.now ≡ flat_map sent_entry (map given_view p.0.items) ++ p.1.now) × All FitsGiven (map given_view p.0.items) × Stops sent_entry FitsGiven p.1.now) }
+{
+    let mut sent = Vec::new(alloc);
+    let mut rest = text;
+    while let Some((way, more)) = sent_in(rest) {
+        sent.push(Sent {
+            number: way.number,
+            text: String::from_str(alloc, way.text)?,
+        })?;
+        rest = more;
+    }
+    Ok((sent, rest))
+}
+
+/// The numbers that a file begins with.
+#[derive(Clone, Copy)]
+struct Front {
+    editor: u32,
+    next: u64,
+    last_release: u64,
+}
+
+/// The numbers of the first lines, and what follows them; or else what begins with the first line that is another.
+fn front_in(text: &str) -> Result<(Front, &str), &str>
+    ensures { MatchResult result (λ p. (p.0.editor < 2 ^ 32) × Fits p.0.next × Fits p.0.last_release × (text.now ≡ front_lines p.0.editor p.0.next p.0.last_release ++ p.1.now))
+        (λ _. (e n l : ℕ) (xs : List ℕ) → e < 2 ^ 32 → Fits n → Fits l → text.now ≢ front_lines e n l ++ xs) }
+{
+    let Some(rest) = after(text, "published 2\n") else {
+        return Err(text);
+    };
+    let Some((editor, second)) = number_after(rest, "editor ", '\n') else {
+        return Err(rest);
+    };
+    let Ok(editor) = u32::try_from(editor) else {
+        return Err(rest);
+    };
+    let Some((next, third)) = number_after(second, "next ", '\n') else {
+        return Err(second);
+    };
+    let Some((last_release, rest)) = number_after(third, "last_release ", '\n') else {
+        return Err(third);
+    };
+    Ok((
+        Front {
+            editor,
+            next,
+            last_release,
+        },
+        rest,
+    ))
+}
+
+/// The number of the line at which what is left of a text begins.
+fn line_at(text: &str, left: &str) -> usize {
+    let read = text.len().saturating_sub(left.len());
+    let lines = text
         .as_bytes()
         .iter()
-        .zip(other.as_bytes())
-        .take_while(|(a, b)| a == b)
-        .filter(|(a, _)| **a == b'\n')
+        .take(read)
+        .filter(|b| **b == b'\n')
         .count();
-    same.saturating_add(1)
+    lines.saturating_add(1)
 }
 
 impl Ledger {
-    /// Reads the text of a file back. What it reads is spelled by that very text, so that another spelling of a number, or entries in another order,
-    /// are a fault in the first line that a ledger would spell otherwise.
+    /// Reads the text of a file back: what a ledger spelled is read as that ledger. Another text is refused by its first line that no ledger has.
     pub fn read(alloc: Global, text: &str) -> Result<Ledger, ReadFault>
-        ensures ok { IfOk result (λ ledger. spelled ledger ≡ text.now) }
+        ensures ok { IfOk result (λ ledger. FitsBook ledger × (spelled ledger ≡ text.now)) }
+        ensures err { IfErr result (λ e. e ≢ ReadFault.OutOfMemory → (book : Book) → FitsBook book → spelled book ≢ text.now) }
         ensures old { result ≡ Err ReadFault.Old ↔ starts_with nat_eq text.now (codes "editor ") ≡ true }
     {
         if text.starts_with("editor ") {
             return Err(ReadFault::Old);
         }
-        let ledger = parsed(alloc, text)?;
-        let again = ledger.spelled(alloc)?;
-        if again.as_str() == text {
-            Ok(ledger)
-        } else {
-            Err(ReadFault::Line(first_difference(text, again.as_str())))
+        let (front, rest) = match front_in(text) {
+            Ok(found) => found,
+            Err(left) => return Err(ReadFault::Line(line_at(text, left))),
+        };
+        let (log, rest) = log_in(alloc, rest)?;
+        let (kept, rest) = texts_in(alloc, rest)?;
+        let (sent, rest) = way_in(alloc, rest)?;
+        if !rest.is_empty() {
+            return Err(ReadFault::Line(line_at(text, rest)));
         }
+        Ok(Ledger {
+            editor: front.editor,
+            next: front.next,
+            last_release: front.last_release,
+            kept,
+            sent,
+            log,
+        })
     }
 }
