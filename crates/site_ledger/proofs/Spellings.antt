@@ -1,5 +1,5 @@
 -- A text spells one ledger at most.
-use Rattle.std.proofs.Common.{◌≡◌, ℕ, ◌<◌, ◌≤◌, List, [], ◌∷◌, ◌++◌, length, take, drop, Bool, true, false, eqb, codes, Some, All, decimal, refl, sym, ap, ◌∙◌, append_assoc, arith}
+use Rattle.std.proofs.Common.{◌≡◌, ℕ, ◌<◌, ◌^◌, ◌≤◌, List, [], ◌∷◌, ◌++◌, length, get_or, take, drop, Bool, true, false, eqb, codes, Some, All, decimal, refl, sym, ap, subst, rules, ◌∙◌, append_assoc, arith}
 use Rattle.std.specs.List.{flat_map}
 use Rattle.std.specs.Char.{digit_value}
 use Rattle.std.specs.Str.Parse.{AllDigits, digits_value}
@@ -10,7 +10,7 @@ use Rattle.command.specs.Cuts.{cut_at}
 use Rattle.site_ledger.specs.Books.{Given, Book}
 use Rattle.site_ledger.specs.Laws.{SpellsOne}
 use Rattle.site_ledger.specs.Sizes.{Fits, FitsReleased, FitsText, FitsGiven, FitsBook}
-use Rattle.site_ledger.specs.Spelling.{released_line, kept_entry, sent_entry, spelled}
+use Rattle.site_ledger.specs.Spelling.{front_lines, Stops, released_line, kept_entry, sent_entry, spelled}
 use Rattle.site_ledger.specs.declared.released.Released.{Released}
 use Rattle.site_ledger.proofs.Words.{lacks, cut_it}
 
@@ -114,21 +114,24 @@ section f P one (a ∷ more) (c ∷ cs) xs ys first second stops ends is =
     let rest = section f P one more cs xs ys (All-tail P a more first) (All-tail P c cs second) stops ends head.1 in
     (ap (λ x. x ∷ more) head.0 ∙ ap (λ zs. c ∷ zs) rest.0, rest.1)
 
--- two lists that begin with other bytes
-first_byte : (b c : ℕ) (xs ys : List ℕ) → b ∷ xs ≡ c ∷ ys → b ≡ c
-first_byte b c xs ys is = cc
+other_first : (b c : ℕ) (xs ys : List ℕ) → eqb b c ≡ false → b ∷ xs ≡ c ∷ ys → ⊥
+other_first b c xs ys other is =
+    let same : b ≡ c = cc in
+    let no : eqb c c ≡ false = subst (λ (n : ℕ). eqb n c ≡ false) same other in
+    let yes : eqb c c ≡ true = search rules in
+    absurd (cc)
 
 no_byte : (c : ℕ) (ys : List ℕ) → [] ≡ c ∷ ys → ⊥
 no_byte c ys is = cc
 
 pub no_released : (kept : List (List ℕ)) (sent : List Given) → Stops released_line FitsReleased (flat_map kept_entry kept ++ flat_map sent_entry sent)
 no_released [] [] a rest fits is = no_byte _ _ is
-no_released [] (g ∷ sent) a rest fits is = let byte : 115 ≡ 114 = first_byte _ _ _ _ is in absurd (omega arith)
-no_released (t ∷ kept) sent a rest fits is = let byte : 104 ≡ 114 = first_byte _ _ _ _ is in absurd (omega arith)
+no_released [] (g ∷ sent) a rest fits is = other_first 115 114 _ _ refl is
+no_released (t ∷ kept) sent a rest fits is = other_first 104 114 _ _ refl is
 
 pub no_kept : (sent : List Given) → Stops kept_entry FitsText (flat_map sent_entry sent)
 no_kept [] a rest fits is = no_byte _ _ is
-no_kept (g ∷ sent) a rest fits is = let byte : 115 ≡ 104 = first_byte _ _ _ _ is in absurd (omega arith)
+no_kept (g ∷ sent) a rest fits is = other_first 115 104 _ _ refl is
 
 pub no_sent : Stops sent_entry FitsGiven []
 no_sent a rest fits is = no_byte _ _ is

@@ -25,8 +25,13 @@ fn number(text: &str, end: char) -> Option<(u64, &str)>
     requires { end < 48 }
     ensures { MatchOption result ((n : ℕ) (xs : List ℕ) → Fits n → text.now ≢ decimal n ++ (end ∷ xs)) (λ p. Fits p.0 × (text.now ≡ decimal p.0 ++ (end ∷ p.1.now))) }
 {
-    let (digits, rest) = text.split_once(end)?;
-    Some((read_number(digits.as_bytes())?, rest))
+    let Some((digits, rest)) = text.split_once(end) else {
+        return None;
+    };
+    let Some(number) = read_number(digits.as_bytes()) else {
+        return None;
+    };
+    Some((number, rest))
 }
 
 /// A number behind a front, and what follows the character behind it.
@@ -34,24 +39,38 @@ fn number_after<'a>(text: &'a str, front: &str, end: char) -> Option<(u64, &'a s
     requires { end < 48 }
     ensures { MatchOption result ((n : ℕ) (xs : List ℕ) → Fits n → text.now ≢ front.now ++ (decimal n ++ (end ∷ xs))) (λ p. Fits p.0 × (text.now ≡ front.now ++ (decimal p.0 ++ (end ∷ p.1.now)))) }
 {
-    number(after(text, front)?, end)
+    let Some(rest) = after(text, front) else {
+        return None;
+    };
+    number(rest, end)
 }
 
 /// A text of so many bytes, and what follows the newline behind it.
-fn counted(text: &str, length: u64) -> Option<(&str, &str)>
-    ensures { MatchOption result ((t xs : List ℕ) → length t ≡ length → text.now ≢ t ++ (10 ∷ xs)) (λ p. (length p.0.now ≡ length) × (text.now ≡ p.0.now ++ (10 ∷ p.1.now))) }
+fn counted(text: &str, size: u64) -> Option<(&str, &str)>
+    ensures { MatchOption result ((t xs : List ℕ) → length t ≡ size → text.now ≢ t ++ (10 ∷ xs)) (λ p. (length p.0.now ≡ size) × (text.now ≡ p.0.now ++ (10 ∷ p.1.now))) }
 {
-    let (counted, rest) = text.split_at_checked(length as usize)?;
-    Some((counted, after(rest, "\n")?))
+    let Some((counted, rest)) = text.split_at_checked(size as usize) else {
+        return None;
+    };
+    let Some(more) = after(rest, "\n") else {
+        return None;
+    };
+    Some((counted, more))
 }
 
 /// A release, and what follows its line.
 fn released_in(text: &str) -> Option<(Released, &str)>
     ensures { MatchOption result (Stops released_line FitsReleased text.now) (λ p. FitsReleased p.0 × (text.now ≡ released_line p.0 ++ p.1.now)) }
 {
-    let (release, rest) = number_after(text, "released ", ' ')?;
-    let (time, rest) = number(rest, ' ')?;
-    let (commands, rest) = number(rest, '\n')?;
+    let Some((release, first)) = number_after(text, "released ", ' ') else {
+        return None;
+    };
+    let Some((time, second)) = number(first, ' ') else {
+        return None;
+    };
+    let Some((commands, rest)) = number(second, '\n') else {
+        return None;
+    };
     Some((
         Released {
             release,
@@ -66,8 +85,10 @@ fn released_in(text: &str) -> Option<(Released, &str)>
 fn kept_in(text: &str) -> Option<(&str, &str)>
     ensures { MatchOption result (Stops kept_entry FitsText text.now) (λ p. FitsText p.0.now × (text.now ≡ kept_entry p.0.now ++ p.1.now)) }
 {
-    let (length, rest) = number_after(text, "has ", '\n')?;
-    counted(rest, length)
+    let Some((size, rest)) = number_after(text, "has ", '\n') else {
+        return None;
+    };
+    counted(rest, size)
 }
 
 /// A text on its way.
@@ -81,9 +102,15 @@ struct Way<'a> {
 fn sent_in(text: &str) -> Option<(Way<'_>, &str)>
     ensures { MatchOption result (Stops sent_entry FitsGiven text.now) (λ p. FitsGiven (way_view p.0) × (text.now ≡ sent_entry (way_view p.0) ++ p.1.now)) }
 {
-    let (ticket, rest) = number_after(text, "sent ", ' ')?;
-    let (length, rest) = number(rest, '\n')?;
-    let (text, rest) = counted(rest, length)?;
+    let Some((ticket, first)) = number_after(text, "sent ", ' ') else {
+        return None;
+    };
+    let Some((size, second)) = number(first, '\n') else {
+        return None;
+    };
+    let Some((text, rest)) = counted(second, size) else {
+        return None;
+    };
     Some((
         Way {
             number: ticket,
