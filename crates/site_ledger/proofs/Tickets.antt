@@ -7,10 +7,10 @@ use Rattle.std.proofs.lemmas.List.Elements.{All-nil, All-cons, All-head, All-tai
 use Rattle.std.proofs.lemmas.Slice.Eq.{bytes_eq-Decides}
 use Rattle.site_ledger.specs.Books.{Given, Book, fresh}
 use Rattle.site_ledger.specs.Heads.{release_text}
-use Rattle.site_ledger.specs.Histories.{Event, plans, releases, releases_again, receives, after, after_all}
+use Rattle.site_ledger.specs.Histories.{Event, plans, releases, releases_again, receives, notes, after, after_all}
 use Rattle.site_ledger.specs.Laws.{EachTicketHasOneText}
 use Rattle.site_ledger.specs.Plans.{plan_of}
-use Rattle.site_ledger.specs.Steps.{is_idle, has_unshown, numbered, with_tickets, noted, without, received_as, with_text}
+use Rattle.site_ledger.specs.Steps.{is_idle, has_unshown, numbered, with_tickets, noted, without, received_as, with_text, logged}
 use Rattle.site_ledger.proofs.Receipts.{number_found}
 
 -- the text has that number
@@ -95,14 +95,14 @@ released : (b : Bool) (n : ℕ) → (b && nat_lt 0 n) ≡ true → 0 < n
 released true n is = grind arith
 released false n is = absurd (cc)
 
-notes : (b : Bool) (texts : List (List ℕ)) (book : Book) (g : Given) → bytes_eq g.text release_text ≡ b → IsGiven texts g → IsOf texts book
+noted_of : (b : Bool) (texts : List (List ℕ)) (book : Book) (g : Given) → bytes_eq g.text release_text ≡ b → IsGiven texts g → IsOf texts book
     → IsOf texts (without g.number (cond b (record book { last_release = g.number }) (record book { kept = with_text g.text book.kept })))
-notes true texts book g is given of = record {
+noted_of true texts book g is given of = record {
   next = of.next;
   each = All-filter (λ h. not (eqb h.number g.number)) (IsGiven texts) book.sent of.each;
   last = λ some. (given.0, given.1, given.2 ∙ ap (λ t. Some t) ((bytes_eq-Decides g.text release_text).0 is));
 }
-notes false texts book g is given of = record {
+noted_of false texts book g is given of = record {
   next = of.next;
   each = All-filter (λ h. not (eqb h.number g.number)) (IsGiven texts) book.sent of.each;
   last = of.last;
@@ -113,13 +113,14 @@ receives_one number None texts book is of = stays texts book of
 receives_one number (Some g) texts book is of =
     let given : IsGiven texts g = found (λ h. eqb h.number number) (IsGiven texts) book.sent g of.each is in
     let same : g.number ≡ number = number_found number book.sent g is in
-    stays texts (without number (noted g book)) (subst (λ n. IsOf texts (without n (noted g book))) same (notes (bytes_eq g.text release_text) texts book g refl given of))
+    stays texts (without number (noted g book)) (subst (λ n. IsOf texts (without n (noted g book))) same (noted_of (bytes_eq g.text release_text) texts book g refl given of))
 
 grows : (event : Event) (texts : List (List ℕ)) (book : Book) → IsOf texts book → Grows texts (after event book)
 grows (plans wanted) texts book of = gives (is_idle book) texts (plan_of book.kept wanted) book of
 grows releases texts book of = gives (is_idle book && has_unshown book) texts (release_text ∷ []) book of
 grows releases_again texts book of = again (is_idle book && nat_lt 0 book.last_release) texts book of (released (is_idle book) book.last_release)
 grows (receives number) texts book of = receives_one number (find (λ h. eqb h.number number) book.sent) texts book refl of
+grows (notes r) texts book of = stays texts (logged r book) (record { next = of.next; each = of.each; last = of.last })
 
 grows_all : (events : List Event) (texts : List (List ℕ)) (book : Book) → IsOf texts book → Grows texts (after_all events book)
 grows_all [] texts book of = stays texts book of

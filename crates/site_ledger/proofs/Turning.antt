@@ -6,7 +6,7 @@ use Rattle.std.proofs.lemmas.List.Elements.{All-contains_itself, Contains-append
 use Rattle.std.proofs.lemmas.Slice.Eq.{bytes_eq-Decides}
 use Rattle.site_ledger.specs.Books.{Given, Book, fresh}
 use Rattle.site_ledger.specs.Heads.{Head, head_of, is_about, is_same_subject, are_about_one, puts_by, is_put, removal, release_text}
-use Rattle.site_ledger.specs.Histories.{Event, plans, releases, releases_again, receives, after, after_all}
+use Rattle.site_ledger.specs.Histories.{Event, plans, releases, releases_again, receives, notes, after, after_all}
 use Rattle.site_ledger.specs.Laws.{AreApart, AreAbout, PlanTurns}
 use Rattle.site_ledger.specs.Plans.{plan_of}
 use Rattle.site_ledger.specs.Steps.{is_idle, has_unshown, numbered, with_tickets, planned, with_text, noted, without, received_as, received}
@@ -195,6 +195,7 @@ event_apart releases book apart = chosen_apart (is_idle book && has_unshown book
 event_apart releases_again book apart =
     chosen_apart (is_idle book && nat_lt 0 book.last_release) (record book { sent = record { number = book.last_release; text = release_text } ∷ [] }) book refl apart
 event_apart (receives number) book apart = received_apart number (find (λ (h : Given). eqb h.number number) book.sent) book apart
+event_apart (notes released) book apart = apart
 
 events_apart : (events : List Event) (book : Book) → AreApart book.kept → AreApart (after_all events book).kept
 events_apart [] book apart = apart

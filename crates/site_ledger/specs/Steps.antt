@@ -4,6 +4,7 @@ use Rattle.std.specs.Str.{bytes_eq}
 use Rattle.site_ledger.specs.Books.{Given, Book}
 use Rattle.site_ledger.specs.Heads.{are_about_one, release_text}
 use Rattle.site_ledger.specs.Plans.{plan_of}
+use Rattle.site_ledger.specs.declared.released.Released.{Released}
 
 -- nothing is on its way
 abbrev pub is_idle : Book → Bool
@@ -58,3 +59,8 @@ released_again book =
     if is_idle book && nat_lt 0 book.last_release
     then record book { sent = record { number = book.last_release; text = release_text } ∷ [] }
     else book
+
+-- ---- the log
+
+abbrev pub logged : Released → Book → Book
+logged released book = record book { log = book.log ++ released ∷ [] }

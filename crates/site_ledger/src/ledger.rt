@@ -1,5 +1,5 @@
 //! What an editor keeps of its publications.
-ghost use Rattle.std.specs.Prelude.{◌≡◌, ◌≤◌, ◌+◌, ◌++◌, ◌^◌, [], ◌∷◌, length, map, true, Err, OnOk, OnErr, string_bytes};
+ghost use Rattle.std.specs.Prelude.{◌≡◌, ◌≤◌, ◌+◌, ◌^◌, length, map, true, Err, OnOk, OnErr, string_bytes};
 ghost use Rattle.site_ledger.specs.Steps.{with_text};
 ghost use Rattle.site_ledger.specs.View.{given_view};
 
@@ -54,7 +54,7 @@ fn keep(kept: &mut Vec<String>, text: String) -> Result<(), AllocError>
 
 impl Ledger {
     ghost use Rattle.site_ledger.specs.Books.{fresh};
-    ghost use Rattle.site_ledger.specs.Steps.{is_idle, has_unshown, with_tickets, planned, release_planned, noted, received, released_again};
+    ghost use Rattle.site_ledger.specs.Steps.{is_idle, has_unshown, with_tickets, planned, release_planned, noted, received, released_again, logged};
     ghost use Rattle.site_ledger.specs.Plans.{plan_of};
 
     /// Of an editor that has published nothing.
@@ -214,7 +214,7 @@ impl Ledger {
 
     /// Adds a release to the log.
     pub fn note(&mut self, released: Released) -> Result<(), AllocError>
-        ensures ok { OnOk result (self.new ≡ record self.old { log = self.old.log ++ released ∷ [] }) }
+        ensures ok { OnOk result (self.new ≡ logged released self.old) }
         ensures err { OnErr result (self.new ≡ self.old) }
     {
         self.log.push(released)?;
