@@ -112,7 +112,7 @@ fn serve_matches<'a>(alloc: Global, words: &'a [String]) -> Result<ArgMatches<'a
     ensures serving { IfOk result (λ m. (t : List ℕ) → one_text (found_of m) (codes "serve-ms") ≡ Some t → IsUnsignedIn 0 18446744073709551615 t) }
 {
     let example =
-        "Example, server 1 of 3 on one machine:\n  sited --id 1 --record /var/lib/sited/1.record --format --http 127.0.0.1:8001 --rounds 4294967295 --patience-ms 100 127.0.0.1:7001 127.0.0.1:7002 127.0.0.1:7003";
+        "Example, server 1 of 3 on one machine:\n  sited --id 1 --record /var/lib/sited/1.record --format --http 127.0.0.1:8001 --rounds 4294967295 127.0.0.1:7001 127.0.0.1:7002 127.0.0.1:7003";
     let command = described(alloc, "sited", "Runs one server of a site", example)
         .arg(id_option(alloc))?
         .arg(required_option(
@@ -132,7 +132,7 @@ fn serve_matches<'a>(alloc: Global, words: &'a [String]) -> Result<ArgMatches<'a
         .arg(millis_option(
             alloc,
             "patience-ms",
-            "Waits less in its rounds, and tries again after N milliseconds without progress: for use, 100 or three round trips",
+            "Tries again after N milliseconds without progress, 100 where none are named: for use, 100 or three round trips, whichever is more",
         ))?
         .arg(millis_option(
             alloc,

@@ -85,7 +85,7 @@ fn help_is_told_as_a_refusal(rt: HostRuntime) -> Result<(), Fail> {
         ),
         (
             refused_by(sited_options(alloc, words)),
-            " --record /var/lib/sited/1.record --format --http 127.0.0.1:8001 --rounds 4294967295 --patience-ms 100 127.0.0.1:7001 127.0.0.1:7002 127.0.0.1:7003\n",
+            " --record /var/lib/sited/1.record --format --http 127.0.0.1:8001 --rounds 4294967295 127.0.0.1:7001 127.0.0.1:7002 127.0.0.1:7003\n",
         ),
     ];
     for (why, example) in helps {

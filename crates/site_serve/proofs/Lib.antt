@@ -1,8 +1,7 @@
 pub mod Serving
 pub mod Placed
-pub mod ManyRounds
-pub mod ManyPatientRounds
+pub mod ManySteps
+pub mod ManyPasses
 pub mod Ending
-pub mod Throttled
 pub mod Runs
 pub mod Failing

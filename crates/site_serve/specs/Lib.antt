@@ -1,9 +1,7 @@
 pub mod Served
 pub mod Halts
 pub mod Placing
-pub mod Patience
 pub mod Rounds
-pub mod Throttling
 pub mod Turns
 pub mod Running
 pub mod Runs

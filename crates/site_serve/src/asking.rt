@@ -1,9 +1,9 @@
-//! When a patient server asks, and when it tells.
+//! When a server asks, and when it tells.
 
 ghost use Rattle.std.specs.Prelude.{◌≡◌, ◌≢◌, ◌⊎◌, ◌↔◌, ◌≤◌, IsTrue, true};
+ghost use Rattle.node.specs.declared.TheConstants.{MAX_TOLD};
 
-/// A telling is of so many instances.
-const FULL: u32 = 64;
+use node::MAX_TOLD;
 
 /// What stands where a server may ask.
 #[derive(Clone, Copy, Debug, PartialEq, Eq, Drop)]
@@ -24,10 +24,10 @@ impl Asking {
     /// A question that brought a whole telling, in no time, is followed by the next; where nobody tries a value, one that brought anything, once all of it
     /// came; any other only after its time.
     pub fn is_due(self) -> bool
-        ensures { IsTrue result ↔ ((self.passed ≡ true) ⊎ (((64 ≤ self.learned) × (self.quick ≡ true)) ⊎ ((self.learned ≢ 0) × (self.drained ≡ true) × (self.calm ≡ true)))) }
+        ensures { IsTrue result ↔ ((self.passed ≡ true) ⊎ (((MAX_TOLD ≤ self.learned) × (self.quick ≡ true)) ⊎ ((self.learned ≢ 0) × (self.drained ≡ true) × (self.calm ≡ true)))) }
     {
         self.passed
-            || (self.learned >= FULL && self.quick)
+            || (self.learned >= MAX_TOLD && self.quick)
             || (self.learned != 0 && self.drained && self.calm)
     }
 }

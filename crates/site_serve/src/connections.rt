@@ -131,7 +131,7 @@ fn answer_within<D: Disk, C: Clock>(
     Ok(())
 }
 
-/// Serves a client in a server's rounds.
+/// Serves a client in a server's passes.
 pub(crate) fn serve_client<D: Disk, C: Clock>(
     clock: &C,
     alloc: Global,

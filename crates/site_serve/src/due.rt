@@ -1,4 +1,4 @@
-//! What a patient server calls behind a turn.
+//! What a server calls behind a turn.
 
 ghost use Rattle.std.specs.Prelude.{◌≡◌};
 ghost use Rattle.site_serve.specs.Turns.{call_behind};
@@ -17,12 +17,12 @@ pub struct Due {
     pub question: bool,
     /// A tick is due.
     pub tick: bool,
-    /// It is the first turn of a round: what came in a burst before was taken in.
+    /// It is the first turn of a pass: what came in a burst before was taken in.
     pub first: bool,
 }
 
 impl Due {
-    /// A tick at once for a value that nobody tries; else a telling, a question or a tick that is due; else widenings, behind the first turn of a round alone, so that the
+    /// A tick at once for a value that nobody tries; else a telling, a question or a tick that is due; else widenings, behind the first turn of a pass alone, so that the
     /// values that came in one burst share a prepare.
     pub fn last_call(self) -> LastCall
         ensures { result ≡ call_behind self }

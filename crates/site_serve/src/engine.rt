@@ -1,11 +1,10 @@
 //! A server: its parts opened in order, and its rounds.
 
-ghost use Rattle.std.specs.Prelude.{◌≡◌, IfOk, OnOk, IfErr, MatchOption, ◌+◌, ◌*◌, length};
+ghost use Rattle.std.specs.Prelude.{◌≡◌, IfOk, OnOk, IfErr, length};
 ghost use Rattle.http_read.specs.Bytes.{end_of};
 ghost use Rattle.site_drive.specs.Leading.{LeadsTo};
-ghost use Rattle.site_serve.specs.Patience.{TakesPatientRounds, BreaksPatientWork};
 ghost use Rattle.site_serve.specs.Placing.{IsPlaced};
-ghost use Rattle.site_serve.specs.Rounds.{TakesRounds, BreaksWork};
+ghost use Rattle.site_serve.specs.Rounds.{TakesPasses, BreaksWork, passes_of};
 ghost use Rattle.site_serve.specs.Runs.{IsOpened, IsLed, IsRun};
 ghost use Rattle.site_serve.specs.Running.{EndsBefore, WorkEnds, RunEnds, HasServed};
 
@@ -15,13 +14,11 @@ use crate::door::Door;
 use crate::halt::Halt;
 use crate::openings::open_node;
 use crate::pace::Pace;
-use crate::patient::take_patient_rounds;
+use crate::passes::take_passes;
 use crate::patient_link::PatientLink;
-use crate::rounds::{take_rounds, turns_of};
 use crate::saying::{say, say_done, say_ready};
 use crate::served::Served;
 use crate::sockets::open_sockets;
-use crate::watch::Watch;
 use http_read::Counted;
 use site_disk::{Disk, FileDisk};
 use site_drive::{Desk, Link, UdpLink};
@@ -48,27 +45,18 @@ fn open<R: Net<Listener = TcpListener, Stream = TcpStream> + Files<File = File>>
     Ok((served, link, door))
 }
 
-/// Says that the node is ready, takes its rounds, and says that they are done.
-fn work<'c, C: Clock, W: Write>(
-    clock: &C,
-    alloc: Global,
-    out: &mut Counted<W>,
-    served: &mut Served<FileDisk>,
-    watch: &mut Watch<'c, C>,
-    id: u8,
-    rounds: u32,
-) -> Result<(), Halt>
-    ensures said { WorkEnds (end_of W.contents out.old out.new) id result }
-    ensures rounds { OnOk result (LeadsTo ⟦<FileDisk as Disk>⟧.stands_for ⟦<Watch<'c, C> as Link>⟧.received ⟦<Watch<'c, C> as Link>⟧.given served.old.node served.new.node watch.old watch.new (TakesRounds served.old.node.cluster served.old.node.me (40 + 10 * id) rounds served.new.node.releases)) }
-    ensures halted { IfErr result (λ why. LeadsTo ⟦<FileDisk as Disk>⟧.stands_for ⟦<Watch<'c, C> as Link>⟧.received ⟦<Watch<'c, C> as Link>⟧.given served.old.node served.new.node watch.old watch.new (BreaksWork served.old.node.cluster served.old.node.me (40 + 10 * id) rounds why)) }
+/// How many milliseconds a server waits, at least, before it tries again, where no patience was asked for.
+const PATIENCE: u64 = 100;
+
+/// How many passes so many rounds of a node are.
+fn count_passes(node: u8, rounds: u32) -> u64
+    ensures { result ≡ passes_of node rounds }
 {
-    say_ready(alloc, out, id)?;
-    take_rounds(clock, alloc, served, watch, turns_of(id), rounds)?;
-    say_done(out)
+    u64::from(rounds) * (40 + 10 * u64::from(node))
 }
 
-/// Says that the node is ready, takes its patient rounds, and says that they are done.
-fn work_patiently<C: Clock, W: Write>(
+/// Says that the node is ready, takes so many passes, and says that its rounds are done.
+fn work<C: Clock, W: Write>(
     clock: &C,
     alloc: Global,
     out: &mut Counted<W>,
@@ -76,21 +64,21 @@ fn work_patiently<C: Clock, W: Write>(
     link: &mut PatientLink,
     pace: &mut Pace,
     id: u8,
-    rounds: u32,
+    count: u64,
 ) -> Result<(), Halt>
     ensures said { WorkEnds (end_of W.contents out.old out.new) id result }
-    ensures rounds { OnOk result (LeadsTo ⟦<FileDisk as Disk>⟧.stands_for ⟦<PatientLink as Link>⟧.received ⟦<PatientLink as Link>⟧.given served.old.node served.new.node link.old link.new (TakesPatientRounds served.old.node.cluster served.old.node.me rounds served.new.node.releases)) }
-    ensures halted { IfErr result (λ why. LeadsTo ⟦<FileDisk as Disk>⟧.stands_for ⟦<PatientLink as Link>⟧.received ⟦<PatientLink as Link>⟧.given served.old.node served.new.node link.old link.new (BreaksPatientWork served.old.node.cluster served.old.node.me rounds why)) }
+    ensures passes { OnOk result (LeadsTo ⟦<FileDisk as Disk>⟧.stands_for ⟦<PatientLink as Link>⟧.received ⟦<PatientLink as Link>⟧.given served.old.node served.new.node link.old link.new (TakesPasses served.old.node.cluster served.old.node.me count served.new.node.releases)) }
+    ensures halted { IfErr result (λ why. LeadsTo ⟦<FileDisk as Disk>⟧.stands_for ⟦<PatientLink as Link>⟧.received ⟦<PatientLink as Link>⟧.given served.old.node served.new.node link.old link.new (BreaksWork served.old.node.cluster served.old.node.me count why)) }
 {
     let mut desk = Desk::new(alloc)?;
     say_ready(alloc, out, id)?;
-    take_patient_rounds(clock, alloc, &mut desk, served, link, pace, rounds)?;
+    take_passes(clock, alloc, &mut desk, served, link, pace, count)?;
     say_done(out)
 }
 
 /// Does a node's work, with the rounds that were asked for.
-fn start<'c, C: Clock, W: Write>(
-    clock: &'c C,
+fn start<C: Clock, W: Write>(
+    clock: &C,
     alloc: Global,
     out: &mut Counted<W>,
     served: &mut Served<FileDisk>,
@@ -99,33 +87,26 @@ fn start<'c, C: Clock, W: Write>(
     options: &ServeOptions<'_>,
 ) -> Result<(), Halt>
     ensures said { WorkEnds (end_of W.contents out.old out.new) options.now.id result }
-    ensures rounds { OnOk result (MatchOption options.now.patience
-        (IsLed ⟦<FileDisk as Disk>⟧.stands_for ⟦<Watch<'c, C> as Link>⟧.received ⟦<Watch<'c, C> as Link>⟧.given served.old.node served.new.node (TakesRounds served.old.node.cluster served.old.node.me (40 + 10 * options.now.id) options.now.rounds served.new.node.releases))
-        (λ _. IsLed ⟦<FileDisk as Disk>⟧.stands_for ⟦<PatientLink as Link>⟧.received ⟦<PatientLink as Link>⟧.given served.old.node served.new.node (TakesPatientRounds served.old.node.cluster served.old.node.me options.now.rounds served.new.node.releases))) }
-    ensures halted { IfErr result (λ why. MatchOption options.now.patience
-        (IsLed ⟦<FileDisk as Disk>⟧.stands_for ⟦<Watch<'c, C> as Link>⟧.received ⟦<Watch<'c, C> as Link>⟧.given served.old.node served.new.node (BreaksWork served.old.node.cluster served.old.node.me (40 + 10 * options.now.id) options.now.rounds why))
-        (λ _. IsLed ⟦<FileDisk as Disk>⟧.stands_for ⟦<PatientLink as Link>⟧.received ⟦<PatientLink as Link>⟧.given served.old.node served.new.node (BreaksPatientWork served.old.node.cluster served.old.node.me options.now.rounds why))) }
+    ensures rounds { OnOk result (IsLed ⟦<FileDisk as Disk>⟧.stands_for ⟦<PatientLink as Link>⟧.received ⟦<PatientLink as Link>⟧.given served.old.node served.new.node (TakesPasses served.old.node.cluster served.old.node.me (passes_of options.now.id options.now.rounds) served.new.node.releases)) }
+    ensures halted { IfErr result (λ why. IsLed ⟦<FileDisk as Disk>⟧.stands_for ⟦<PatientLink as Link>⟧.received ⟦<PatientLink as Link>⟧.given served.old.node served.new.node (BreaksWork served.old.node.cluster served.old.node.me (passes_of options.now.id options.now.rounds) why)) }
 {
-    let (id, rounds) = (options.id, options.rounds);
-    let Some(patience) = options.patience else {
-        let mut watch = Watch::new(clock, link, door);
-        return work(clock, alloc, out, served, &mut watch, id, rounds);
-    };
     let mut link = PatientLink::new(link, door);
-    let mut pace = Pace::new(patience, id);
-    work_patiently(clock, alloc, out, served, &mut link, &mut pace, id, rounds)
+    let mut pace = Pace::new(options.patience.unwrap_or(PATIENCE), options.id);
+    let count = count_passes(options.id, options.rounds);
+    work(
+        clock, alloc, out, served, &mut link, &mut pace, options.id, count,
+    )
 }
 
 /// Opens a node, and does its work.
-fn run<
-    'c,
-    R: Net<Listener = TcpListener, Stream = TcpStream> + Files<File = File> + Clock,
-    W: Write,
->(rt: &'c R, alloc: Global, out: &mut Counted<W>, options: &ServeOptions<'_>) -> Result<(), Halt>
+fn run<R: Net<Listener = TcpListener, Stream = TcpStream> + Files<File = File> + Clock, W: Write>(
+    rt: &R,
+    alloc: Global,
+    out: &mut Counted<W>,
+    options: &ServeOptions<'_>,
+) -> Result<(), Halt>
     ensures said { RunEnds (end_of W.contents out.old out.new) options.now result }
-    ensures rounds { OnOk result (MatchOption options.now.patience
-        (IsRun ⟦<FileDisk as Disk>⟧.stands_for ⟦<Watch<'c, R> as Link>⟧.received ⟦<Watch<'c, R> as Link>⟧.given (length options.now.peers.items) options.now.id (TakesRounds (length options.now.peers.items) options.now.id (40 + 10 * options.now.id) options.now.rounds))
-        (λ _. IsRun ⟦<FileDisk as Disk>⟧.stands_for ⟦<PatientLink as Link>⟧.received ⟦<PatientLink as Link>⟧.given (length options.now.peers.items) options.now.id (TakesPatientRounds (length options.now.peers.items) options.now.id options.now.rounds))) }
+    ensures rounds { OnOk result (IsRun ⟦<FileDisk as Disk>⟧.stands_for ⟦<PatientLink as Link>⟧.received ⟦<PatientLink as Link>⟧.given (length options.now.peers.items) options.now.id (TakesPasses (length options.now.peers.items) options.now.id (passes_of options.now.id options.now.rounds))) }
 {
     let (mut served, link, door) = open(rt, alloc, options)?;
     start(rt, alloc, out, &mut served, link, door, options)
@@ -133,21 +114,18 @@ fn run<
 
 /// Runs a node for its rounds. The answer is the exit status.
 pub fn sited<
-    'c,
     R: Net<Listener = TcpListener, Stream = TcpStream> + Files<File = File> + Clock,
     W: Write,
     E: Write,
 >(
-    rt: &'c R,
+    rt: &R,
     alloc: Global,
     out: &mut Counted<W>,
     err: &mut Counted<E>,
     options: &ServeOptions<'_>,
 ) -> u8
     ensures said { HasServed (end_of W.contents out.old out.new) (end_of E.contents err.old err.new) options.now result }
-    ensures rounds { result ≡ 0 → MatchOption options.now.patience
-        (IsRun ⟦<FileDisk as Disk>⟧.stands_for ⟦<Watch<'c, R> as Link>⟧.received ⟦<Watch<'c, R> as Link>⟧.given (length options.now.peers.items) options.now.id (TakesRounds (length options.now.peers.items) options.now.id (40 + 10 * options.now.id) options.now.rounds))
-        (λ _. IsRun ⟦<FileDisk as Disk>⟧.stands_for ⟦<PatientLink as Link>⟧.received ⟦<PatientLink as Link>⟧.given (length options.now.peers.items) options.now.id (TakesPatientRounds (length options.now.peers.items) options.now.id options.now.rounds)) }
+    ensures rounds { result ≡ 0 → IsRun ⟦<FileDisk as Disk>⟧.stands_for ⟦<PatientLink as Link>⟧.received ⟦<PatientLink as Link>⟧.given (length options.now.peers.items) options.now.id (TakesPasses (length options.now.peers.items) options.now.id (passes_of options.now.id options.now.rounds)) }
 {
     match run(rt, alloc, out, options) {
         Ok(()) => 0,

@@ -3,29 +3,23 @@
 
 mod addresses;
 mod asking;
-mod attempt_message;
-mod calm;
 mod client;
 mod connections;
 mod door;
 mod due;
 mod engine;
 mod halt;
-mod lately;
 mod openings;
 mod pace;
-mod patient;
+mod passes;
 mod patient_link;
 mod questions;
 mod requests;
-mod rounds;
 mod saying;
 mod serve_options;
 mod served;
 mod serving_node;
 mod sockets;
-mod throttled_link;
-mod watch;
 
 pub use asking::{Asking, Telling};
 pub use connections::{answer_connection, limit_waiting};

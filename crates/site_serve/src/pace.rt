@@ -1,4 +1,4 @@
-//! When a patient server tries again, when it asks, and how long it rests.
+//! When a server tries again, when it asks, and how long it rests.
 
 use crate::asking::Asking;
 use crate::due::Due;
@@ -20,13 +20,13 @@ const QUICK: u64 = 20;
 /// The patience grows with the ticks since an instance became known, up to so many times.
 const MOST: u32 = 3;
 
-/// So many rounds in which nothing came are more than a client takes to come again: it is idle.
+/// So many passes in which nothing came are more than a client takes to come again: it is idle.
 const IDLE: u32 = 200;
 
 /// So many are some three seconds: it is quiet.
 const QUIET: u32 = 2000;
 
-/// How many microseconds a server rests behind a round in which nothing came: while it is busy, once it is idle, and once it is quiet.
+/// How many microseconds a server rests behind a pass in which nothing came: while it is busy, once it is idle, and once it is quiet.
 const REST: u64 = 50;
 
 const IDLE_REST: u64 = 1500;
@@ -49,11 +49,11 @@ pub(crate) fn has_passed<C: Clock>(clock: &C, since: Option<Instant>, millis: u6
     }
 }
 
-/// How many microseconds it rests behind the last of so many rounds in which nothing came.
-fn rest_after(rounds: u32) -> u64 {
-    if rounds < IDLE {
+/// How many microseconds it rests behind the last of so many passes in which nothing came.
+fn rest_after(passes: u32) -> u64 {
+    if passes < IDLE {
         REST
-    } else if rounds < QUIET {
+    } else if passes < QUIET {
         IDLE_REST
     } else {
         QUIET_REST
@@ -76,7 +76,7 @@ pub(crate) struct Pace {
     attempts_then: u64,
     // those of others
     questions: Questions,
-    // how many rounds went by in which nothing but questions came
+    // how many passes went by in which nothing but questions came; a server begins quiet
     idle: u32,
     // how many datagrams had come that are none: at the last turn, and at the last rest
     heard: u64,
@@ -95,7 +95,7 @@ impl Pace {
             known_then: 0,
             attempts_then: 0,
             questions: Questions::new(),
-            idle: 0,
+            idle: QUIET,
             heard: 0,
             stirs: 0,
         }
@@ -158,7 +158,7 @@ impl Pace {
         self.since = Instant::now(clock).ok();
     }
 
-    /// What is called behind a turn, the first of a round or a later one, with so many datagrams of attempts that came. A telling, a question or a tick that
+    /// What is called behind a turn, the first of a pass or a later one, with so many datagrams of attempts that came. A telling, a question or a tick that
     /// is due begins by that.
     pub(crate) fn due<C: Clock, D: Disk>(
         &mut self,
@@ -199,7 +199,7 @@ impl Pace {
         self.questions.next(clock, node, calm)
     }
 
-    /// Rests behind a round in which nothing came: no datagram and no client.
+    /// Rests behind a pass in which nothing came: no datagram and no client.
     pub(crate) fn rest<C: Clock>(&mut self, clock: &C, came: bool, served: bool, stirs: u64) {
         if served || stirs != self.stirs {
             self.stirs = stirs;

@@ -13,7 +13,7 @@ pub struct ServeOptions<'a> {
     pub rounds: u32,
     /// Whether an empty or missing file becomes an empty record first.
     pub format: bool,
-    /// For rounds that wait less: how many milliseconds it waits, at least, before it tries again.
+    /// How many milliseconds it waits, at least, before it tries again; where none are named, 100.
     pub patience: Option<u64>,
     /// How many milliseconds a client may take in all, where that is limited.
     pub serve_ms: Option<u64>,

@@ -23,13 +23,37 @@ const POWER_CUT: [Step; 8] = [
     Step::Shows(2, NodeState::Up, 0, 0),
 ];
 
-/// Three nodes after these steps and a power cut, and then these.
-fn cut_short(rt: &impl Abort, alloc: Global, before: &[Step], after: &[Step]) -> Result<(), Halt> {
-    let mut group = Group::new(alloc, 3)?;
-    for step in before.iter().chain(POWER_CUT.iter()).chain(after) {
+/// Node 1 proposes its value to all, and votes for it before any other does.
+const PROPOSED: [Step; 6] = [
+    Step::Tick(1),
+    Step::Deliver(1, 0),
+    Step::Deliver(2, 0),
+    Step::Deliver(1, 1),
+    Step::Deliver(1, 2),
+    Step::Deliver(1, 3),
+];
+
+/// Takes these steps.
+fn take(rt: &impl Abort, group: &mut Group, steps: &[Step]) -> Result<(), Halt> {
+    for step in steps {
         group.act(rt, *step)?;
     }
     Ok(())
+}
+
+/// Three nodes after these steps, part by part, and a power cut, and then these.
+fn cut_short(
+    rt: &impl Abort,
+    alloc: Global,
+    before: &[&[Step]],
+    after: &[Step],
+) -> Result<(), Halt> {
+    let mut group = Group::new(alloc, 3)?;
+    for steps in before {
+        take(rt, &mut group, steps)?;
+    }
+    take(rt, &mut group, &POWER_CUT)?;
+    take(rt, &mut group, after)
 }
 
 #[test]
@@ -58,20 +82,14 @@ fn votes_told_again_make_all_known(rt: HostRuntime) -> Result<(), Fail> {
         Step::Settle,
         Step::Shows(3, NodeState::Up, 3, 2),
     ];
-    Ok(cut_short(&rt, rt.alloc(), &before, &after)?)
+    Ok(cut_short(&rt, rt.alloc(), &[&before[..]], &after)?)
 }
 
 /// Node 2's vote is lost with its device: it has nothing to tell, and two others do.
 #[test]
 fn a_vote_lost_in_flight_is_not_told(rt: HostRuntime) -> Result<(), Fail> {
+    let submitted = [Step::Submit(1, 1, RELEASE)];
     let before = [
-        Step::Submit(1, 1, RELEASE),
-        Step::Tick(1),
-        Step::Deliver(1, 0),
-        Step::Deliver(2, 0),
-        Step::Deliver(1, 1),
-        Step::Deliver(1, 2),
-        Step::Deliver(1, 3),
         Step::Arm(2, 0),
         Step::Deliver(2, 3),
         Step::Deliver(3, 3),
@@ -88,20 +106,15 @@ fn a_vote_lost_in_flight_is_not_told(rt: HostRuntime) -> Result<(), Fail> {
         Step::Shows(1, NodeState::Up, 1, 1),
         Step::Shows(2, NodeState::Up, 1, 1),
     ];
+    let before = [&submitted[..], &PROPOSED[..], &before[..]];
     Ok(cut_short(&rt, rt.alloc(), &before, &after)?)
 }
 
 /// Node 1 and 2 voted for a value, and then nodes 2 and 3 for the same at a higher ballot: each tells its last vote.
 #[test]
 fn votes_of_two_ballots_are_told(rt: HostRuntime) -> Result<(), Fail> {
+    let submitted = [Step::Submit(1, 1, RELEASE)];
     let before = [
-        Step::Submit(1, 1, RELEASE),
-        Step::Tick(1),
-        Step::Deliver(1, 0),
-        Step::Deliver(2, 0),
-        Step::Deliver(1, 1),
-        Step::Deliver(1, 2),
-        Step::Deliver(1, 3),
         Step::Deliver(2, 3),
         Step::Submit(3, 3, DATA),
         Step::Tick(3),
@@ -125,21 +138,15 @@ fn votes_of_two_ballots_are_told(rt: HostRuntime) -> Result<(), Fail> {
         Step::Shows(1, NodeState::Up, 1, 1),
         Step::Shows(3, NodeState::Up, 1, 1),
     ];
+    let before = [&submitted[..], &PROPOSED[..], &before[..]];
     Ok(cut_short(&rt, rt.alloc(), &before, &after)?)
 }
 
 /// Node 1 alone voted for its value, and the others decided another one at a higher ballot.
 #[test]
 fn a_vote_for_what_was_not_decided_decides_nothing(rt: HostRuntime) -> Result<(), Fail> {
+    let submitted = [Step::Submit(1, 1, RELEASE), Step::Submit(2, 2, DATA)];
     let before = [
-        Step::Submit(1, 1, RELEASE),
-        Step::Submit(2, 2, DATA),
-        Step::Tick(1),
-        Step::Deliver(1, 0),
-        Step::Deliver(2, 0),
-        Step::Deliver(1, 1),
-        Step::Deliver(1, 2),
-        Step::Deliver(1, 3),
         Step::Tick(2),
         Step::Deliver(2, 5),
         Step::Deliver(3, 5),
@@ -159,5 +166,6 @@ fn a_vote_for_what_was_not_decided_decides_nothing(rt: HostRuntime) -> Result<()
         Step::Shows(1, NodeState::Up, 1, 0),
         Step::Shows(3, NodeState::Up, 1, 0),
     ];
+    let before = [&submitted[..], &PROPOSED[..], &before[..]];
     Ok(cut_short(&rt, rt.alloc(), &before, &after)?)
 }

@@ -1,8 +1,8 @@
 use Rattle.std.proofs.Common.{◌≡◌, ◌≤◌, ◌-◌, true}
 use Rattle.std.specs.Bool.{⊤}
 use Rattle.site_drive.specs.Leading.{LeadsTo, StaysWhose}
-use Rattle.site_serve.specs.Patience.{TakesTurns}
-use Rattle.site_serve.proofs.patient.take_turns.Given as goal
+use Rattle.site_serve.specs.Rounds.{TakesTurns}
+use Rattle.site_serve.proofs.passes.take_turns.Given as goal
 
 abbrev pub invariant-loop-more : goal.invariant-loop-more
 invariant-loop-more g l = record {

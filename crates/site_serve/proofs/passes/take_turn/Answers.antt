@@ -1,8 +1,8 @@
 use Rattle.site_drive.proofs.Results.{err_gives}
-use Rattle.site_serve.proofs.ManyPatientRounds.{turn_driven, driving_broke}
+use Rattle.site_serve.proofs.ManyPasses.{turn_driven, driving_broke}
 use Rattle.site_drive.proofs.Failing.{none_failed}
 use Rattle.site_serve.proofs.Failing.{drive_counts}
-use Rattle.site_serve.proofs.patient.take_turn.Goals as goal
+use Rattle.site_serve.proofs.passes.take_turn.Goals as goal
 
 pub returns-in_err-drive_with-clause-fault : goal.returns-in_err-drive_with-clause-fault
 returns-in_err-drive_with-clause-fault g c = err_gives c.from_residual.result c.from_residual.ensures.1 λ e is.

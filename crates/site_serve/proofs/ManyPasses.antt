@@ -1,4 +1,4 @@
--- Rounds of patience, one after another.
+-- Passes, one after another.
 use Rattle.std.proofs.Common.{◌≡◌, ◌≢◌, ◌⊎◌, inl, inr, ℕ, ◌+◌, ◌<◌, ◌≤◌, List, [], ◌∷◌, refl, sym, subst, ◌∙◌, arith}
 use Rattle.site_disk.specs.Model.{DiskState}
 use Rattle.node.specs.Nodes.{IsKnownPrefix}
@@ -10,11 +10,10 @@ use Rattle.site_drive.specs.Leading.{LeadsTo, StaysWhose}
 use Rattle.site_drive.specs.declared.last_call.LastCall.{LastCall}
 use Rattle.site_drive.proofs.ManyTurns.{leads_on}
 use Rattle.site_serve.specs.Halts.{of_node}
-use Rattle.site_serve.specs.Patience.{TakesTurn, TakesTurns, TakesPatientRound, TakesPatientRounds, BreaksTurn, BreaksTurns, BreaksPatientRound, BreaksPatientRounds, BreaksPatientWork}
-use Rattle.site_serve.specs.Rounds.{Serves, AreSteps, last_of, TakesSteps}
+use Rattle.site_serve.specs.Rounds.{Serves, AreSteps, last_of, TakesSteps, TakesTurn, TakesTurns, TakesPass, TakesPasses, BreaksTurn, BreaksTurns, BreaksPass, BreaksPasses, BreaksWork}
 use Rattle.site_serve.specs.declared.halt.Halt.{Halt}
 use Rattle.site_serve.specs.declared.halt.Halt.TheVariants as halt
-use Rattle.site_serve.proofs.ManyRounds.{no_steps, one_step_more, still_published, of_same, widened}
+use Rattle.site_serve.proofs.ManySteps.{no_steps, one_step_more, still_published, of_same, widened}
 
 -- ---- what is published
 
@@ -25,8 +24,8 @@ served_fed : (n p : ℕ) (fed : List (List ℕ)) (x : Scene) (ys : List Scene) �
 served_fed n p fed x [] each h = h
 served_fed n p fed x (y ∷ ys) each h = served_fed n p fed y ys each.1 (still_published n p x.node y.node fed each.0.node h)
 
-round_fed : (n p : ℕ) (fed : List (List ℕ)) (x y : Scene) → TakesPatientRound n p fed x y → IsKnownPrefix y.node fed
-round_fed n p fed x y r = subst (λ (w : Scene). IsKnownPrefix w.node fed) (sym r.serves.last) (served_fed n p fed r.heard r.serves.scenes r.serves.each (r.hears.fed_is r.some))
+pass_fed : (n p : ℕ) (fed : List (List ℕ)) (x y : Scene) → TakesPass n p fed x y → IsKnownPrefix y.node fed
+pass_fed n p fed x y r = subst (λ (w : Scene). IsKnownPrefix w.node fed) (sym r.serves.last) (served_fed n p fed r.heard r.serves.scenes r.serves.each (r.hears.fed_is r.some))
 
 -- ---- one more
 
@@ -36,10 +35,10 @@ turns_on n p k fed then x y z earlier last = record {
   fed_is = λ _. turn_fed n p then y z last;
 }
 
-rounds_on : (n p k : ℕ) (fed then : List (List ℕ)) (x y z : Scene) → TakesPatientRounds n p k fed x y → TakesPatientRound n p then y z → TakesPatientRounds n p (k + 1) then x z
-rounds_on n p k fed then x y z earlier last = record {
+passes_on : (n p k : ℕ) (fed then : List (List ℕ)) (x y z : Scene) → TakesPasses n p k fed x y → TakesPass n p then y z → TakesPasses n p (k + 1) then x z
+passes_on n p k fed then x y z earlier last = record {
   steps = one_step_more _ k x y z earlier.steps (then, last);
-  fed_is = λ _. round_fed n p then y z last;
+  fed_is = λ _. pass_fed n p then y z last;
 }
 
 module _ {D L : Type 0} (stands_for : D → DiskState → Type 0) (received : L → List (List ℕ) → Type 0) (given : L → List (ℕ × List ℕ) → Type 0) where
@@ -80,62 +79,62 @@ module _ {D L : Type 0} (stands_for : D → DiskState → Type 0) (received : L 
 
       -- and then connections
       pub then_served : k ≢ 0 → k ≤ 257 → (clients : ℕ) → clients ≤ 16 → KeepsOthers mid new → fed ≡ mid.releases → Leads mid new between after (TakesSteps (Serves mid.cluster mid.me) clients)
-          → Leads old new before after (TakesPatientRound old.cluster old.me new.releases)
+          → Leads old new before after (TakesPass old.cluster old.me new.releases)
       then_served some most clients few others is last =
-          subst (λ vs. Leads old new before after (TakesPatientRound old.cluster old.me vs)) (is ∙ sym others.releases)
-          (leads_on stands_for received given old mid new before between after (TakesTurns old.cluster old.me k fed) (TakesSteps (Serves old.cluster old.me) clients) (TakesPatientRound old.cluster old.me fed)
+          subst (λ vs. Leads old new before after (TakesPass old.cluster old.me vs)) (is ∙ sym others.releases)
+          (leads_on stands_for received given old mid new before between after (TakesTurns old.cluster old.me k fed) (TakesSteps (Serves old.cluster old.me) clients) (TakesPass old.cluster old.me fed)
           earlier (of_same stands_for received given old mid new between after whose (λ n p. TakesSteps (Serves n p) clients) last)
           (λ x y z hears serves. record { turns = k; some = some; most = most; heard = y; hears = hears; clients = clients; few = few; serves = serves }))
 
-  -- ---- a round that ends its server
+  -- ---- a pass that ends its server
 
   module _ (old new : Running D) (before after : L) (n p : ℕ) (why told : Halt) (is : told ≡ why) where
-    pub turns_broke : Leads old new before after (BreaksTurns n p why) → Leads old new before after (BreaksPatientRound n p told)
+    pub turns_broke : Leads old new before after (BreaksTurns n p why) → Leads old new before after (BreaksPass n p told)
     turns_broke h =
-        widened stands_for received given old new before after (BreaksTurns n p told) (BreaksPatientRound n p told) (λ x y b. inl b)
+        widened stands_for received given old new before after (BreaksTurns n p told) (BreaksPass n p told) (λ x y b. inl b)
         (subst (λ w. Leads old new before after (BreaksTurns n p w)) (sym is) h)
 
-    pub patient_round_wanted : why ≡ halt.OutOfMemory → (fed : List (List ℕ)) → Leads old new before after (TakesPatientRound n p fed) → Leads old new before after (BreaksPatientRound n p told)
-    patient_round_wanted memory fed h =
-        widened stands_for received given old new before after (TakesPatientRound n p fed) (BreaksPatientRound n p told) (λ x y r. inr (is ∙ memory, fed, r)) h
+    pub pass_wanted : why ≡ halt.OutOfMemory → (fed : List (List ℕ)) → Leads old new before after (TakesPass n p fed) → Leads old new before after (BreaksPass n p told)
+    pass_wanted memory fed h =
+        widened stands_for received given old new before after (TakesPass n p fed) (BreaksPass n p told) (λ x y r. inr (is ∙ memory, fed, r)) h
 
-  -- ---- rounds
+  -- ---- passes
 
-  pub no_patient_rounds : (code : Running D) (link : L) (n p : ℕ) (fed : List (List ℕ)) → Leads code code link link (TakesPatientRounds n p 0 fed)
-  no_patient_rounds code link n p fed = record {
+  pub no_passes : (code : Running D) (link : L) (n p : ℕ) (fed : List (List ℕ)) → Leads code code link link (TakesPasses n p 0 fed)
+  no_passes code link n p fed = record {
     leads = λ x at. (x, record { steps = no_steps _ x; fed_is = λ some. absurd (some refl) }, at, λ d on. (d, on));
   }
 
   module _ (old mid new : Running D) (before between after : L) (whose : StaysWhose old mid) (k : ℕ) (fed : List (List ℕ))
-      (earlier : Leads old mid before between (TakesPatientRounds old.cluster old.me k fed))
+      (earlier : Leads old mid before between (TakesPasses old.cluster old.me k fed))
     where
-      pub patient_round_more : (then : List (List ℕ)) → Leads mid new between after (TakesPatientRound mid.cluster mid.me then)
-          → Leads old new before after (TakesPatientRounds old.cluster old.me (k + 1) then)
-      patient_round_more then last =
-          leads_on stands_for received given old mid new before between after (TakesPatientRounds old.cluster old.me k fed) (TakesPatientRound old.cluster old.me then) (TakesPatientRounds old.cluster old.me (k + 1) then)
-          earlier (of_same stands_for received given old mid new between after whose (λ n p. TakesPatientRound n p then) last)
-          (rounds_on old.cluster old.me k fed then)
+      pub one_pass_more : (then : List (List ℕ)) → Leads mid new between after (TakesPass mid.cluster mid.me then)
+          → Leads old new before after (TakesPasses old.cluster old.me (k + 1) then)
+      one_pass_more then last =
+          leads_on stands_for received given old mid new before between after (TakesPasses old.cluster old.me k fed) (TakesPass old.cluster old.me then) (TakesPasses old.cluster old.me (k + 1) then)
+          earlier (of_same stands_for received given old mid new between after whose (λ n p. TakesPass n p then) last)
+          (passes_on old.cluster old.me k fed then)
 
-      pub patient_round_breaks : (rounds : ℕ) (why told : Halt) → told ≡ why → k < rounds → Leads mid new between after (BreaksPatientRound mid.cluster mid.me why)
-          → Leads old new before after (BreaksPatientRounds old.cluster old.me rounds told)
-      patient_round_breaks rounds why told is below last =
-          leads_on stands_for received given old mid new before between after (TakesPatientRounds old.cluster old.me k fed) (BreaksPatientRound old.cluster old.me told) (BreaksPatientRounds old.cluster old.me rounds told)
-          earlier (of_same stands_for received given old mid new between after whose (λ n p. BreaksPatientRound n p told)
-          (subst (λ w. Leads mid new between after (BreaksPatientRound mid.cluster mid.me w)) (sym is) last))
+      pub pass_breaks : (rounds : ℕ) (why told : Halt) → told ≡ why → k < rounds → Leads mid new between after (BreaksPass mid.cluster mid.me why)
+          → Leads old new before after (BreaksPasses old.cluster old.me rounds told)
+      pass_breaks rounds why told is below last =
+          leads_on stands_for received given old mid new before between after (TakesPasses old.cluster old.me k fed) (BreaksPass old.cluster old.me told) (BreaksPasses old.cluster old.me rounds told)
+          earlier (of_same stands_for received given old mid new between after whose (λ n p. BreaksPass n p told)
+          (subst (λ w. Leads mid new between after (BreaksPass mid.cluster mid.me w)) (sym is) last))
           (λ x y z taken breaks. record { whole = k; fewer = below; mid = y; fed = fed; taken = taken; breaks = breaks })
 
   -- ---- a server's work
 
-  pub patience_not_begun : (code : Running D) (link : L) (n p rounds : ℕ) (why told : Halt) → told ≡ why → (why ≡ halt.OutOfMemory) ⊎ (why ≡ halt.Write) → Leads code code link link (BreaksPatientWork n p rounds told)
-  patience_not_begun code link n p rounds why told is cause =
-      subst (λ w. Leads code code link link (BreaksPatientWork n p rounds w)) (sym is) (record { leads = λ x at. (x, inl (cause, refl), at, λ d on. (d, on)) })
+  pub not_begun : (code : Running D) (link : L) (n p rounds : ℕ) (why told : Halt) → told ≡ why → (why ≡ halt.OutOfMemory) ⊎ (why ≡ halt.Write) → Leads code code link link (BreaksWork n p rounds told)
+  not_begun code link n p rounds why told is cause =
+      subst (λ w. Leads code code link link (BreaksWork n p rounds w)) (sym is) (record { leads = λ x at. (x, inl (cause, refl), at, λ d on. (d, on)) })
 
   module _ (old new : Running D) (before after : L) (n p rounds : ℕ) where
-    pub patience_broken_off : (why told : Halt) → told ≡ why → Leads old new before after (BreaksPatientRounds n p rounds why) → Leads old new before after (BreaksPatientWork n p rounds told)
-    patience_broken_off why told is h =
-        widened stands_for received given old new before after (BreaksPatientRounds n p rounds told) (BreaksPatientWork n p rounds told) (λ x y b. inr (inl b))
-        (subst (λ w. Leads old new before after (BreaksPatientRounds n p rounds w)) (sym is) h)
+    pub broken_off : (why told : Halt) → told ≡ why → Leads old new before after (BreaksPasses n p rounds why) → Leads old new before after (BreaksWork n p rounds told)
+    broken_off why told is h =
+        widened stands_for received given old new before after (BreaksPasses n p rounds told) (BreaksWork n p rounds told) (λ x y b. inr (inl b))
+        (subst (λ w. Leads old new before after (BreaksPasses n p rounds w)) (sym is) h)
 
-    pub patience_not_told : (fed : List (List ℕ)) (why : Halt) → why ≡ halt.Write → Leads old new before after (TakesPatientRounds n p rounds fed) → Leads old new before after (BreaksPatientWork n p rounds why)
-    patience_not_told fed why is h =
-        widened stands_for received given old new before after (TakesPatientRounds n p rounds fed) (BreaksPatientWork n p rounds why) (λ x y r. inr (inr (is, fed, r))) h
+    pub not_told : (fed : List (List ℕ)) (why : Halt) → why ≡ halt.Write → Leads old new before after (TakesPasses n p rounds fed) → Leads old new before after (BreaksWork n p rounds why)
+    not_told fed why is h =
+        widened stands_for received given old new before after (TakesPasses n p rounds fed) (BreaksWork n p rounds why) (λ x y r. inr (inr (is, fed, r))) h

@@ -3,7 +3,7 @@ use Rattle.std.specs.Bool.{⊤}
 use Rattle.node.specs.Standing.{KeepsOthers}
 use Rattle.site_drive.specs.Leading.{LeadsTo}
 use Rattle.site_serve.specs.Rounds.{Serves, TakesSteps}
-use Rattle.site_serve.proofs.patient.serve_waiting.Given as goal
+use Rattle.site_serve.proofs.passes.serve_waiting.Given as goal
 
 abbrev pub invariant-loop-more : goal.invariant-loop-more
 invariant-loop-more g l = record {

@@ -1,8 +1,8 @@
 use Rattle.std.proofs.Common.{◌+◌, ◌∙◌, arith, refl}
 use Rattle.site_drive.proofs.Results.{err_gives}
-use Rattle.site_serve.proofs.ManyRounds.{none_served, one_served_more, others_on, stays_others}
+use Rattle.site_serve.proofs.ManySteps.{none_served, one_served_more, others_on, stays_others}
 use Rattle.site_serve.proofs.Failing.{served_kept}
-use Rattle.site_serve.proofs.patient.serve_waiting.Goals as goal
+use Rattle.site_serve.proofs.passes.serve_waiting.Goals as goal
 
 pub loop-more-init : goal.loop-more-init
 loop-more-init g c = record {

@@ -1,11 +1,10 @@
-//! The rounds of a server that waits less: whatever has come is taken at once, and a tick comes where nothing became known for long.
+//! The passes of a server's rounds: whatever has come is taken at once, and a tick comes where nothing became known for long.
 
 ghost use Rattle.std.specs.Prelude.{◌≡◌, ◌≢◌, ◌≤◌, ℕ, IfOk, IfErr, OnOk};
 ghost use Rattle.node.specs.Standing.{KeepsOthers};
 ghost use Rattle.site_drive.specs.Leading.{LeadsTo, StaysWhose};
 ghost use Rattle.site_serve.specs.Halts.{CountsNone, EndsRounds};
-ghost use Rattle.site_serve.specs.Patience.{TakesTurn, TakesTurns, TakesPatientRound, TakesPatientRounds, BreaksTurn, BreaksTurns, BreaksPatientRound, BreaksPatientRounds};
-ghost use Rattle.site_serve.specs.Rounds.{Serves, TakesSteps};
+ghost use Rattle.site_serve.specs.Rounds.{Serves, TakesSteps, TakesTurn, TakesTurns, TakesPass, TakesPasses, BreaksTurn, BreaksTurns, BreaksPass, BreaksPasses};
 ghost use Rattle.site_serve.specs.Served.{MayAnswer};
 
 use crate::connections::serve_client;
@@ -18,13 +17,13 @@ use site_drive::{Desk, Link};
 use std::alloc::Global;
 use std::rt::Clock;
 
-/// How many turns a round has at most.
+/// How many turns a pass has at most.
 const TURNS: u32 = 257;
 
 /// How many connections it serves at most.
 const CONNECTIONS: u32 = 16;
 
-/// One turn, the first of a round or a later one, and then the call that is due.
+/// One turn, the first of a pass or a later one, and then the call that is due.
 fn take_turn<D: Disk, C: Clock>(
     clock: &C,
     desk: &mut Desk,
@@ -111,7 +110,7 @@ fn serve_waiting<D: Disk, C: Clock>(
 }
 
 /// Turns, and then those who wait. Where nothing came, it rests.
-fn take_round<D: Disk, C: Clock>(
+fn take_pass<D: Disk, C: Clock>(
     clock: &C,
     alloc: Global,
     desk: &mut Desk,
@@ -119,8 +118,8 @@ fn take_round<D: Disk, C: Clock>(
     link: &mut PatientLink,
     pace: &mut Pace,
 ) -> Result<(), Halt>
-    ensures ok { OnOk result (LeadsTo D.stands_for ⟦<PatientLink as Link>⟧.received ⟦<PatientLink as Link>⟧.given served.old.node served.new.node link.old link.new (TakesPatientRound served.old.node.cluster served.old.node.me served.new.node.releases)) }
-    ensures fault { IfErr result (λ why. LeadsTo D.stands_for ⟦<PatientLink as Link>⟧.received ⟦<PatientLink as Link>⟧.given served.old.node served.new.node link.old link.new (BreaksPatientRound served.old.node.cluster served.old.node.me why)) }
+    ensures ok { OnOk result (LeadsTo D.stands_for ⟦<PatientLink as Link>⟧.received ⟦<PatientLink as Link>⟧.given served.old.node served.new.node link.old link.new (TakesPass served.old.node.cluster served.old.node.me served.new.node.releases)) }
+    ensures fault { IfErr result (λ why. LeadsTo D.stands_for ⟦<PatientLink as Link>⟧.received ⟦<PatientLink as Link>⟧.given served.old.node served.new.node link.old link.new (BreaksPass served.old.node.cluster served.old.node.me why)) }
     ensures ends { IfErr result EndsRounds }
     ensures whose { StaysWhose served.old.node served.new.node }
     ensures counts { CountsNone result (D.failed served.old.node.store.disk) (D.failed served.new.node.store.disk) }
@@ -131,24 +130,24 @@ fn take_round<D: Disk, C: Clock>(
     Ok(())
 }
 
-/// So many rounds.
-pub(crate) fn take_patient_rounds<D: Disk, C: Clock>(
+/// So many passes.
+pub(crate) fn take_passes<D: Disk, C: Clock>(
     clock: &C,
     alloc: Global,
     desk: &mut Desk,
     served: &mut Served<D>,
     link: &mut PatientLink,
     pace: &mut Pace,
-    rounds: u32,
+    count: u64,
 ) -> Result<(), Halt>
-    ensures ok { OnOk result (LeadsTo D.stands_for ⟦<PatientLink as Link>⟧.received ⟦<PatientLink as Link>⟧.given served.old.node served.new.node link.old link.new (TakesPatientRounds served.old.node.cluster served.old.node.me rounds served.new.node.releases)) }
-    ensures fault { IfErr result (λ why. LeadsTo D.stands_for ⟦<PatientLink as Link>⟧.received ⟦<PatientLink as Link>⟧.given served.old.node served.new.node link.old link.new (BreaksPatientRounds served.old.node.cluster served.old.node.me rounds why)) }
+    ensures ok { OnOk result (LeadsTo D.stands_for ⟦<PatientLink as Link>⟧.received ⟦<PatientLink as Link>⟧.given served.old.node served.new.node link.old link.new (TakesPasses served.old.node.cluster served.old.node.me count served.new.node.releases)) }
+    ensures fault { IfErr result (λ why. LeadsTo D.stands_for ⟦<PatientLink as Link>⟧.received ⟦<PatientLink as Link>⟧.given served.old.node served.new.node link.old link.new (BreaksPasses served.old.node.cluster served.old.node.me count why)) }
     ensures ends { IfErr result EndsRounds }
     ensures whose { StaysWhose served.old.node served.new.node }
     ensures counts { CountsNone result (D.failed served.old.node.store.disk) (D.failed served.new.node.store.disk) }
 {
-    for _ in 0..rounds {
-        take_round(clock, alloc, desk, served, link, pace)?;
+    for _ in 0..count {
+        take_pass(clock, alloc, desk, served, link, pace)?;
     }
     Ok(())
 }

@@ -1,8 +1,8 @@
 use Rattle.std.proofs.Common.{refl, ◌∙◌}
 use Rattle.site_drive.proofs.Results.{err_gives}
-use Rattle.site_serve.proofs.ManyPatientRounds.{then_served, turns_broke, patient_round_wanted}
+use Rattle.site_serve.proofs.ManyPasses.{then_served, turns_broke, pass_wanted}
 use Rattle.site_serve.proofs.Failing.{counts_on, none_failed}
-use Rattle.site_serve.proofs.patient.take_round.Goals as goal
+use Rattle.site_serve.proofs.passes.take_pass.Goals as goal
 
 pub returns-in_err-turns-clause-fault : goal.returns-in_err-turns-clause-fault
 returns-in_err-turns-clause-fault g c = err_gives c.from_residual.result c.from_residual.ensures.1 λ e is.
@@ -11,7 +11,7 @@ returns-in_err-turns-clause-fault g c = err_gives c.from_residual.result c.from_
 pub returns-in_err-looks-clause-fault : goal.returns-in_err-looks-clause-fault
 returns-in_err-looks-clause-fault g c = err_gives c.from_residual-in_err-looks.result c.from_residual-in_err-looks.ensures.1 λ e is.
     let f = c.in_err-looks.ensures.fault in
-    patient_round_wanted g.D.Disk.stands_for _ _ c.args.served.now.node c.serve_waiting.new.served.node c.args.link.now c.serve_waiting.new.link _ _ _ e is f.0 _
+    pass_wanted g.D.Disk.stands_for _ _ c.args.served.now.node c.serve_waiting.new.served.node c.args.link.now c.serve_waiting.new.link _ _ _ e is f.0 _
     (then_served g.D.Disk.stands_for _ _ c.args.served.now.node c.take_turns.new.served.node c.serve_waiting.new.served.node c.args.link.now c.take_turns.new.link c.serve_waiting.new.link
     c.take_turns.ensures.whose _ c.take_turns.new.served.node.releases c.in_ok-turns.ensures.ok c.in_ok-turns.ensures.few.0 c.in_ok-turns.ensures.few.1 f.1.0 f.1.1 c.serve_waiting.ensures.others refl f.1.2)
 

@@ -1,5 +1,5 @@
--- A server's rounds, one after another.
-use Rattle.std.proofs.Common.{◌≡◌, ◌⊎◌, inl, inr, ⊎_elim, ℕ, zero, suc, ◌+◌, ◌*◌, ◌<◌, ◌≤◌, Some, None, List, [], ◌∷◌, ◌++◌, length, Result, Ok, Err, refl, sym, ap, subst, append-nil, ◌∙◌, arith, false}
+-- What connections leave of a node, and steps one after another.
+use Rattle.std.proofs.Common.{◌≡◌, ◌⊎◌, inl, inr, ⊎_elim, ℕ, zero, suc, ◌+◌, ◌≤◌, Some, None, List, [], ◌∷◌, ◌++◌, length, Result, Ok, Err, refl, sym, ap, subst, append-nil, ◌∙◌, false}
 use Rattle.std.specs.Result.{IfErr}
 use Rattle.std.proofs.lemmas.List.{length-append}
 use Rattle.site_disk.specs.Model.{DiskState}
@@ -14,19 +14,12 @@ use Rattle.node.specs.Effects.{recorded}
 use Rattle.node.specs.Endings.{EndsWhole}
 use Rattle.node.specs.Nodes.{Node, Value, IsKnownPrefix}
 use Rattle.node.specs.Standing.{IsNodeOf, KeepsOthers}
-use Rattle.node.specs.declared.fault.NodeFault.{NodeFault}
 use Rattle.node.specs.declared.running.Node.{Node as Running}
-use Rattle.site_drive.specs.Drives.{Scene, Drives, GivesUpDriving}
+use Rattle.site_drive.specs.Drives.{Scene}
 use Rattle.site_drive.specs.Leading.{LeadsTo, KeepsRecord, StaysWhose}
 use Rattle.site_drive.proofs.ManyTurns.{leads_on}
-use Rattle.site_drive.proofs.Counting.{rose_on}
-use Rattle.site_drive.specs.Links.{RoseBy}
-use Rattle.std.proofs.Math.Nat.{mul-le-mul_left}
-use Rattle.site_serve.specs.Halts.{of_node}
-use Rattle.site_serve.specs.Rounds.{MayTake, MayTakeMany, MayServe, Serves, TakesRound, AreSteps, last_of, TakesSteps, TakesRounds, BreaksRound, BreaksRounds, BreaksWork}
+use Rattle.site_serve.specs.Rounds.{MayTake, MayTakeMany, MayServe, Serves, AreSteps, last_of, TakesSteps}
 use Rattle.site_serve.specs.Served.{ComesTo, offered, MayAnswer}
-use Rattle.site_serve.specs.declared.halt.Halt.{Halt}
-use Rattle.site_serve.specs.declared.halt.Halt.TheVariants as halt
 use Rattle.site_serve.specs.declared.served.Served.{Served}
 
 pub if_err_gives : {T E : Type 0} {P Q : E → Type 0} (r : Result T E) → IfErr r P → ((e : E) → P e → Q e) → IfErr r Q
@@ -143,12 +136,7 @@ module _ {D : Type 0} (stands_for : D → DiskState → Type 0) where
 pub stays_others : {D : Type 0} (old new : Served D) → MayAnswer old new → KeepsOthers old.node new.node
 stays_others old new (requests, few, taken) = many_others requests old new taken
 
--- ---- one round
-
-round_of : (n p turns malformed : ℕ) (fed : List (List ℕ)) (x y z : Scene) → Drives n p turns malformed fed x y → Serves n p y z → TakesRound n p turns fed x z
-round_of n p turns malformed fed x y z drives s = record { driven = y; malformed = malformed; drives = drives; serves = s }
-
--- ---- rounds one after another
+-- ---- steps one after another
 
 steps_on : (Step : Scene → Scene → Type 0) (x : Scene) (ys : List Scene) (z : Scene) → AreSteps Step x ys → Step (last_of x ys) z → AreSteps Step x (ys ++ z ∷ [])
 steps_on Step x [] z each one = (one, tt)
@@ -167,19 +155,6 @@ one_step_more Step k x y z earlier last = record {
   as_many = length-append earlier.scenes (z ∷ []) ∙ ap (λ m. m + 1) earlier.as_many;
   each = steps_on Step x earlier.scenes z earlier.each (subst (λ w. Step w z) earlier.last last);
   last = last_on x earlier.scenes z;
-}
-
-rounds_on : (n p turns k : ℕ) (fed then : List (List ℕ)) (x y z : Scene) → TakesRounds n p turns k fed x y → TakesRound n p turns then y z → TakesRounds n p turns (k + 1) then x z
-rounds_on n p turns k fed then x y z earlier last = record {
-  steps = one_step_more _ k x y z earlier.steps (then, last);
-  fed_is = λ some _. still_published n p last.driven.node z.node then last.serves.node (last.drives.fed_is some);
-}
-
-pub whose_round : {D : Type 0} (old mid new : Running D) → StaysWhose old mid → KeepsOthers mid new → StaysWhose old new
-whose_round old mid new first then = record {
-  me = then.me ∙ first.me;
-  cluster = then.cluster ∙ first.cluster;
-  more = (first.more.0, then.releases ∙ first.more.1);
 }
 
 whose_kept : {D : Type 0} (old new : Running D) → KeepsOthers old new → StaysWhose old new
@@ -220,102 +195,8 @@ module _ {D L : Type 0} (stands_for : D → DiskState → Type 0) (received : L 
       earlier (of_same old mid.node new.node between after (whose_kept old mid.node others) Serves (serving_leads mid new between after link may))
       (one_step_more (Serves old.cluster old.me) k)
 
-  -- a drive, and then at most one connection
-  pub round_leads : (old mid new : Served D) (before between after : L) → StaysWhose old.node mid.node → (turns malformed : ℕ)
-      → Leads old.node mid.node before between (Drives old.node.cluster old.node.me turns malformed mid.node.releases)
-      → StaysLink between after → MayAnswer mid new
-      → Leads old.node new.node before after (TakesRound old.node.cluster old.node.me turns new.node.releases)
-  round_leads old mid new before between after whose turns malformed drives link may =
-      let n = old.node.cluster in
-      let p = old.node.me in
-      let fed = new.node.releases in
-      leads_on stands_for received given old.node mid.node new.node before between after (Drives n p turns malformed fed) (Serves n p) (TakesRound n p turns fed)
-      (subst (λ vs. Leads old.node mid.node before between (Drives n p turns malformed vs)) (sym (stays_others mid new may).releases) drives)
-      (of_same old.node mid.node new.node between after whose Serves (serving_leads mid new between after link may))
-      (round_of n p turns malformed fed)
-
-  -- as far as another link that may have received and been given the same
-  pub relinked : (old new : Running D) (before between after : L) → StaysLink between after → (How : Scene → Scene → Type 0) → Leads old new before between How → Leads old new before after How
-  relinked old new before between after link How h = record {
-    leads = λ x at.
-        let l = h.leads x at in
-        (l.0, l.1, record { node = l.2.node; heard = link.0 l.0.received l.2.heard; told = link.1 l.0.given l.2.told }, l.3);
-  }
-
-  -- from another link that may have received and been given the same
-  pub linked_before : (old new : Running D) (before between after : L) → StaysLink before between → (How : Scene → Scene → Type 0) → Leads old new between after How → Leads old new before after How
-  linked_before old new before between after link How h = record {
-    leads = λ x at. h.leads x (record { node = at.node; heard = link.0 x.received at.heard; told = link.1 x.given at.told });
-  }
-
   -- leads by one relation, so by a wider one
   pub widened : (old new : Running D) (before after : L) (How Wider : Scene → Scene → Type 0) → ((x y : Scene) → How x y → Wider x y) → Leads old new before after How → Leads old new before after Wider
   widened old new before after How Wider wider h = record {
     leads = λ x at. let l = h.leads x at in (l.0, wider x l.0 l.1, l.2, l.3);
   }
-
-  pub drive_broke : (old new : Running D) (before after : L) (n p turns : ℕ) (fault : NodeFault) (why : Halt) → why ≡ of_node fault
-      → Leads old new before after (GivesUpDriving n p turns fault) → Leads old new before after (BreaksRound n p turns why)
-  drive_broke old new before after n p turns fault why is h = widened old new before after (GivesUpDriving n p turns fault) (BreaksRound n p turns why) (λ x y g. inl (fault, is, g)) h
-
-  pub round_wanted : (old new : Running D) (before after : L) (n p turns : ℕ) (fed : List (List ℕ)) (why : Halt) → why ≡ halt.OutOfMemory
-      → Leads old new before after (TakesRound n p turns fed) → Leads old new before after (BreaksRound n p turns why)
-  round_wanted old new before after n p turns fed why is h = widened old new before after (TakesRound n p turns fed) (BreaksRound n p turns why) (λ x y r. inr (is, fed, r)) h
-
-  -- ---- rounds
-
-  pub no_rounds : (code : Running D) (link : L) (n p turns : ℕ) (fed : List (List ℕ)) → Leads code code link link (TakesRounds n p turns 0 fed)
-  no_rounds code link n p turns fed = record {
-    leads = λ x at. (x, record { steps = no_steps _ x; fed_is = λ _ some. absurd (some refl) }, at, λ d on. (d, on));
-  }
-
-  pub one_round_more : (old mid new : Running D) (before between after : L) → StaysWhose old mid → (turns k : ℕ) (fed fed_then : List (List ℕ))
-      → Leads old mid before between (TakesRounds old.cluster old.me turns k fed) → Leads mid new between after (TakesRound mid.cluster mid.me turns fed_then)
-      → Leads old new before after (TakesRounds old.cluster old.me turns (k + 1) fed_then)
-  one_round_more old mid new before between after whose turns k fed fed_then earlier last =
-      leads_on stands_for received given old mid new before between after (TakesRounds old.cluster old.me turns k fed) (TakesRound old.cluster old.me turns fed_then) (TakesRounds old.cluster old.me turns (k + 1) fed_then)
-      earlier (of_same old mid new between after whose (λ n p. TakesRound n p turns fed_then) last)
-      (rounds_on old.cluster old.me turns k fed fed_then)
-
-  pub one_round_breaks : (old mid new : Running D) (before between after : L) → StaysWhose old mid → (turns k rounds : ℕ) (fed : List (List ℕ)) (why told : Halt) → told ≡ why → k < rounds
-      → Leads old mid before between (TakesRounds old.cluster old.me turns k fed) → Leads mid new between after (BreaksRound mid.cluster mid.me turns why)
-      → Leads old new before after (BreaksRounds old.cluster old.me turns rounds told)
-  one_round_breaks old mid new before between after whose turns k rounds fed why told is below earlier last =
-      leads_on stands_for received given old mid new before between after (TakesRounds old.cluster old.me turns k fed) (BreaksRound old.cluster old.me turns told) (BreaksRounds old.cluster old.me turns rounds told)
-      earlier (of_same old mid new between after whose (λ n p. BreaksRound n p turns told)
-      (subst (λ w. Leads mid new between after (BreaksRound mid.cluster mid.me turns w)) (sym is) last))
-      (λ x y z taken breaks. record { whole = k; fewer = below; mid = y; fed = fed; taken = taken; breaks = breaks })
-
-  -- ---- a server's work
-
-  pub not_begun : (code : Running D) (link : L) (n p turns rounds : ℕ) (why told : Halt) → told ≡ why → (why ≡ halt.OutOfMemory) ⊎ (why ≡ halt.Write) → Leads code code link link (BreaksWork n p turns rounds told)
-  not_begun code link n p turns rounds why told is cause =
-      subst (λ w. Leads code code link link (BreaksWork n p turns rounds w)) (sym is) (record { leads = λ x at. (x, inl (cause, refl), at, λ d on. (d, on)) })
-
-  module _ (old new : Running D) (before after : L) (n p turns rounds wanted : ℕ) (same : turns ≡ wanted) where
-    of_turns : (How : ℕ → Scene → Scene → Type 0) → Leads old new before after (How turns) → Leads old new before after (How wanted)
-    of_turns How h = subst (λ t. Leads old new before after (How t)) same h
-
-    pub all_taken : (fed : List (List ℕ)) → Leads old new before after (TakesRounds n p turns rounds fed) → Leads old new before after (TakesRounds n p wanted rounds fed)
-    all_taken fed h = of_turns (λ t. TakesRounds n p t rounds fed) h
-
-    pub broken_off : (why told : Halt) → told ≡ why → Leads old new before after (BreaksRounds n p turns rounds why) → Leads old new before after (BreaksWork n p wanted rounds told)
-    broken_off why told is h =
-        widened old new before after (BreaksRounds n p wanted rounds told) (BreaksWork n p wanted rounds told) (λ x y b. inr (inl b))
-        (subst (λ w. Leads old new before after (BreaksRounds n p wanted rounds w)) (sym is) (of_turns (λ t. BreaksRounds n p t rounds why) h))
-
-    pub not_told : (fed : List (List ℕ)) (why : Halt) → why ≡ halt.Write → Leads old new before after (TakesRounds n p turns rounds fed) → Leads old new before after (BreaksWork n p wanted rounds why)
-    not_told fed why is h =
-        widened old new before after (TakesRounds n p wanted rounds fed) (BreaksWork n p wanted rounds why) (λ x y r. inr (inr (is, fed, r))) (all_taken fed h)
-
--- ---- receives
-
-pub tried_more : (k turns a b c : ℕ) → RoseBy (k * turns) a b → RoseBy turns b c → RoseBy ((k + 1) * turns) a c
-tried_more k turns a b c first then =
-    let sum : k * turns + turns ≡ (k + 1) * turns = omega arith in
-    subst (λ m. RoseBy m a c) sum (rose_on (k * turns) turns a b c first then)
-
-pub tried_last : (k rounds turns a b c : ℕ) → k < rounds → RoseBy (k * turns) a b → (made : ℕ) × (made ≤ turns) × RoseBy made b c → (all : ℕ) × (all ≤ rounds * turns) × RoseBy all a c
-tried_last k rounds turns a b c below first (made, few, then) =
-    let up : k + 1 ≤ rounds = omega (arith, below) in
-    (k * turns + made, omega (arith, few, mul-le-mul_left turns up), rose_on (k * turns) made a b c first then)

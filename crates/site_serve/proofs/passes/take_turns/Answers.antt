@@ -1,9 +1,9 @@
 use Rattle.std.proofs.Common.{[], append-nil, arith, refl, sym, ◌∙◌}
 use Rattle.site_drive.proofs.ManyTurns.{stays_on}
 use Rattle.site_drive.proofs.Results.{err_gives}
-use Rattle.site_serve.proofs.ManyPatientRounds.{no_turns, a_turn_more, a_turn_breaks}
+use Rattle.site_serve.proofs.ManyPasses.{no_turns, a_turn_more, a_turn_breaks}
 use Rattle.site_serve.proofs.Failing.{counts_on, none_failed}
-use Rattle.site_serve.proofs.patient.take_turns.Goals as goal
+use Rattle.site_serve.proofs.passes.take_turns.Goals as goal
 
 pub loop-more-init : goal.loop-more-init
 loop-more-init g c = record {
