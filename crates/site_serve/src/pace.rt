@@ -1,5 +1,7 @@
 //! When a server tries again, when it asks, and how long it rests.
 
+ghost use Rattle.std.specs.Prelude.{◌≡◌, ◌≤◌, ◌<◌};
+
 use crate::asking::Asking;
 use crate::due::Due;
 use crate::questions::Questions;
@@ -11,8 +13,10 @@ use std::rt::Clock;
 use std::thread;
 use std::time::{Duration, Instant};
 
-/// How many milliseconds lie between questions that nobody answers.
+/// How many milliseconds lie between questions that bring nothing, and between those of a server that is quiet.
 const ASKING: u64 = 400;
+
+const QUIET_ASKING: u64 = 800;
 
 /// What 64 values that were on record take to be told, in milliseconds: those that are decided meanwhile take longer.
 const QUICK: u64 = 20;
@@ -50,7 +54,11 @@ pub(crate) fn has_passed<C: Clock>(clock: &C, since: Option<Instant>, millis: u6
 }
 
 /// How many microseconds it rests behind the last of so many passes in which nothing came.
-fn rest_after(passes: u32) -> u64 {
+fn rest_after(passes: u32) -> u64
+    ensures busy { passes < 200 → result ≡ 50 }
+    ensures idle { 200 ≤ passes → passes < 2000 → result ≡ 1500 }
+    ensures quiet { 2000 ≤ passes → result ≡ 8000 }
+{
     if passes < IDLE {
         REST
     } else if passes < QUIET {
@@ -58,6 +66,14 @@ fn rest_after(passes: u32) -> u64 {
     } else {
         QUIET_REST
     }
+}
+
+/// How many milliseconds behind a question that brought nothing the next one comes, after so many passes in which nothing came.
+fn asks_after(passes: u32) -> u64
+    ensures awake { passes < 2000 → result ≡ 400 }
+    ensures quiet { 2000 ≤ passes → result ≡ 800 }
+{
+    if passes < QUIET { ASKING } else { QUIET_ASKING }
 }
 
 /// How many values are known, and what was tried, asked and heard since.
@@ -134,7 +150,7 @@ impl Pace {
             quick: !has_passed(clock, self.asked, QUICK),
             drained,
             calm: self.is_calm(attempts),
-            passed: has_passed(clock, self.asked, ASKING),
+            passed: has_passed(clock, self.asked, asks_after(self.idle)),
         };
         asking.is_due()
     }
