@@ -50,21 +50,33 @@ fn name(alloc: Global, n: u32) -> Result<String, AllocError> {
     Ok(format!(in alloc; "{n:04}")?)
 }
 
-// Names in order, then most of them away: the tree stays low.
-#[test]
-fn trees_stay_low(rt: HostRuntime) -> Result<(), Fail> {
-    let alloc = rt.alloc();
-    let mut map: SharedMap<String, u32> = SharedMap::new(alloc);
-    for n in 0..4096 {
+fn fill_in_order(alloc: Global, map: &mut Numbers, end: u32) -> Result<(), AllocError> {
+    for n in 0..end {
         map.put(name(alloc, n)?, n)?;
     }
-    assert_eq!(rt; map.height(), 13);
-    for n in 0..4000 {
+    Ok(())
+}
+
+fn remove_in_order(alloc: Global, map: &mut Numbers, end: u32) -> Result<(), AllocError> {
+    for n in 0..end {
         let gone = name(alloc, n)?;
         map.remove(gone.as_str())?;
     }
+    Ok(())
+}
+
+fn check_heights(rt: &impl Abort, alloc: Global, map: &mut Numbers) -> Result<(), AllocError> {
+    fill_in_order(alloc, map, 4096)?;
+    assert_eq!(rt; map.height(), 13);
+    remove_in_order(alloc, map, 4000)?;
     assert!(rt; map.height() <= 9);
     assert_eq!(rt; map.get("4000"), Some(&4000));
     assert_eq!(rt; map.get("3999"), None);
     Ok(())
+}
+
+// Names in order, then most of them away: the tree stays low.
+#[test]
+fn trees_stay_low(rt: HostRuntime) -> Result<(), Fail> {
+    Ok(check_heights(&rt, rt.alloc(), &mut SharedMap::new(rt.alloc()))?)
 }

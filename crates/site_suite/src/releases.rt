@@ -46,33 +46,55 @@ fn has_template(releases: &Releases, n: u64) -> Option<bool> {
     Some(site.template("t").is_some())
 }
 
+fn feed_all(rt: &impl Abort, alloc: Global, releases: &mut Releases) -> Result<(), AllocError> {
+    for (number, text, applied) in &COMMANDS {
+        let value = value_of(alloc, *number, text)?;
+        assert_eq!(rt; feed(releases, &value)?, *applied, "{text}");
+    }
+    Ok(())
+}
+
+/// The page of release n for a path is this one.
+fn check_page(
+    rt: &impl Abort,
+    releases: &Releases,
+    n: u64,
+    path: &str,
+    page: (u16, &str),
+) -> Result<(), AnswerFault> {
+    let answer = releases.answer(n, path)?;
+    assert_eq!(rt; (answer.status, answer.body.as_str()), page);
+    Ok(())
+}
+
+fn check_pages(rt: &impl Abort, releases: &Releases) -> Result<(), AnswerFault> {
+    check_page(rt, releases, 1, "/", (200, "v1\n"))?;
+    check_page(rt, releases, 2, "/", (500, "template missing\n"))?;
+    check_page(rt, releases, 1, "/x", (404, "not found\n"))
+}
+
+fn has_no_release(releases: &Releases, n: u64) -> bool {
+    matches!(releases.answer(n, "/"), Err(AnswerFault::NoSuchRelease)) && releases.site(n).is_none()
+}
+
+fn check_kept(rt: &impl Abort, releases: &Releases) {
+    for n in [0, 3, u64::MAX] {
+        assert!(rt; has_no_release(releases, n), "{n}");
+    }
+    for (n, has) in [(1, true), (2, false)] {
+        assert_eq!(rt; has_template(releases, n), Some(has));
+    }
+    for (number, instance) in [(1, Some(1)), (7, Some(8)), (8, None)] {
+        assert_eq!(rt; receipt(releases, number), instance);
+    }
+}
+
 fn eight(rt: &impl Abort, alloc: Global, releases: &mut Releases) -> Result<(), Fail> {
     assert_eq!(rt; releases.newest(), 0);
-    for (number, text, applied) in COMMANDS {
-        let value = value_of(alloc, number, text)?;
-        assert_eq!(rt; feed(releases, &value)?, applied, "{text}");
-    }
+    feed_all(rt, alloc, releases)?;
     assert_eq!(rt; releases.newest(), 2);
-    let pages = [
-        (1, "/", 200, "v1\n"),
-        (2, "/", 500, "template missing\n"),
-        (1, "/x", 404, "not found\n"),
-    ];
-    for (n, path, status, body) in pages {
-        let answer = releases.answer(n, path)?;
-        assert_eq!(rt; answer.status, status);
-        assert_eq!(rt; answer.body.as_str(), body);
-    }
-    for n in [0, 3, u64::MAX] {
-        let refused = releases.answer(n, "/");
-        assert!(rt; matches!(refused, Err(AnswerFault::NoSuchRelease)), "{n}");
-        assert!(rt; releases.site(n).is_none(), "{n}");
-    }
-    assert_eq!(rt; has_template(releases, 1), Some(true));
-    assert_eq!(rt; has_template(releases, 2), Some(false));
-    assert_eq!(rt; receipt(releases, 1), Some(1));
-    assert_eq!(rt; receipt(releases, 7), Some(8));
-    assert_eq!(rt; receipt(releases, 8), None);
+    check_pages(rt, releases)?;
+    check_kept(rt, releases);
     Ok(())
 }
 
@@ -81,14 +103,25 @@ fn eight_commands(rt: HostRuntime) -> Result<(), Fail> {
     eight(&rt, rt.alloc(), &mut Releases::new(rt.alloc()))
 }
 
-fn no_commands(rt: &impl Abort, alloc: Global, releases: &mut Releases) -> Result<(), Fail> {
+/// What a value with these bytes of a command is answered with.
+fn fed(
+    alloc: Global,
+    releases: &mut Releases,
+    number: u64,
+    text: &str,
+) -> Result<Applied, AllocError> {
+    let value = value_of(alloc, number, text)?;
+    feed(releases, &value)
+}
+
+fn no_commands(rt: &impl Abort, alloc: Global, releases: &mut Releases) -> Result<(), AllocError> {
     assert_eq!(rt; feed(releases, b"")?, Applied::NotACommand);
-    let unread = value_of(alloc, 1, "put template t\n{{")?;
-    assert_eq!(rt; feed(releases, &unread)?, Applied::NotACommand);
+    let unread = fed(alloc, releases, 1, "put template t\n{{")?;
+    assert_eq!(rt; unread, Applied::NotACommand);
     assert_eq!(rt; receipt(releases, 1), None);
-    let release = value_of(alloc, 1, "release\n")?;
-    assert_eq!(rt; feed(releases, &release)?, Applied::Released);
-    assert_eq!(rt; feed(releases, &release)?, Applied::Repeat);
+    for applied in [Applied::Released, Applied::Repeat] {
+        assert_eq!(rt; fed(alloc, releases, 1, "release\n")?, applied);
+    }
     assert_eq!(rt; releases.newest(), 1);
     assert_eq!(rt; receipt(releases, 1), Some(3));
     Ok(())
@@ -96,11 +129,11 @@ fn no_commands(rt: &impl Abort, alloc: Global, releases: &mut Releases) -> Resul
 
 #[test]
 fn values_that_are_no_commands(rt: HostRuntime) -> Result<(), Fail> {
-    no_commands(&rt, rt.alloc(), &mut Releases::new(rt.alloc()))
+    Ok(no_commands(&rt, rt.alloc(), &mut Releases::new(rt.alloc()))?)
 }
 
 /// A page that moved, in releases of which the second has a route for its path and the third no more the redirect.
-fn moving(rt: &impl Abort, alloc: Global, releases: &mut Releases) -> Result<(), Fail> {
+fn move_page(alloc: Global, releases: &mut Releases) -> Result<(), AllocError> {
     for (number, text) in [
         (1, "put redirect /old /h\n"),
         (2, "release\n"),
@@ -110,16 +143,34 @@ fn moving(rt: &impl Abort, alloc: Global, releases: &mut Releases) -> Result<(),
         (6, "remove redirect /old\n"),
         (7, "release\n"),
     ] {
-        let value = value_of(alloc, number, text)?;
-        let _ = feed(releases, &value)?;
+        let _ = fed(alloc, releases, number, text)?;
     }
-    let moved = releases.answer(1, "/old")?;
-    assert!(rt; moved.status == 301 && moved.body.as_str() == "moved to /h\n");
-    assert!(rt; matches!(&moved.location, Some(path) if path.as_str() == "/h"));
-    for (n, status) in [(2, 500), (3, 404)] {
-        let answer = releases.answer(n, "/old")?;
-        assert!(rt; answer.status == status && answer.location.is_none(), "{n}");
-    }
+    Ok(())
+}
+
+fn has_moved(releases: &Releases, n: u64) -> Result<bool, AnswerFault> {
+    let moved = releases.answer(n, "/old")?;
+    Ok(
+        moved.status == 301
+            && moved.body.as_str() == "moved to /h\n"
+            && matches!(&moved.location, Some(path) if path.as_str() == "/h"),
+    )
+}
+
+/// The status of a page that is not elsewhere.
+fn status(releases: &Releases, n: u64) -> Result<Option<u16>, AnswerFault> {
+    let answer = releases.answer(n, "/old")?;
+    Ok(match &answer.location {
+        Some(_) => None,
+        None => Some(answer.status),
+    })
+}
+
+fn moving(rt: &impl Abort, alloc: Global, releases: &mut Releases) -> Result<(), Fail> {
+    move_page(alloc, releases)?;
+    assert!(rt; has_moved(releases, 1)?);
+    assert_eq!(rt; status(releases, 2)?, Some(500));
+    assert_eq!(rt; status(releases, 3)?, Some(404));
     Ok(())
 }
 

@@ -60,29 +60,39 @@ fn answers_of_values(rt: HostRuntime) -> Result<(), Fail> {
     Ok(check_answers(&rt, rt.alloc(), &mut site)?)
 }
 
-fn check_greeting(rt: &impl Abort, site: &Site) {
-    assert!(rt; matches!(site.template("t"), Some(t) if prints(t, "Hello, ")));
-    assert!(rt; matches!(site.partial("t"), Some(t) if names(t, "x")));
-    assert!(rt; matches!(site.route("/"), Some((t, d)) if t == "t" && d == "d"));
-    assert_eq!(rt; site.redirect("/old"), Some("/new"));
-    let Some(Data::List(items)) = site.data("d") else {
+/// Three data, the last of them with two members.
+fn check_data(rt: &impl Abort, data: Option<&Data>) {
+    let Some(Data::List(items)) = data else {
         panic!(rt; "no list");
     };
     assert_eq!(rt; items.len(), 3);
     assert!(rt; matches!(items.last(), Some(Data::Hash(members)) if members.len() == 2));
 }
 
-fn check_contents(rt: &impl Abort, alloc: Global, site: &mut Site) -> Result<(), AllocError> {
-    greet(alloc, site)?;
-    check_greeting(rt, site);
-    assert!(rt;
-        site.template("d").is_none() && site.data("t").is_none() && site.route("t").is_none()
-    );
+fn check_greeting(rt: &impl Abort, site: &Site) {
+    assert!(rt; matches!(site.template("t"), Some(t) if prints(t, "Hello, ")));
+    assert!(rt; matches!(site.partial("t"), Some(t) if names(t, "x")));
+    assert!(rt; matches!(site.route("/"), Some((t, d)) if t == "t" && d == "d"));
+    assert_eq!(rt; site.redirect("/old"), Some("/new"));
+    check_data(rt, site.data("d"));
+}
+
+/// Names of one kind are none of another.
+fn check_kinds(rt: &impl Abort, site: &Site) {
+    assert!(rt; site.template("d").is_none() && site.data("t").is_none());
+    assert!(rt; site.route("t").is_none());
+}
+
+fn check_removals(rt: &impl Abort, alloc: Global, site: &mut Site) -> Result<(), AllocError> {
     let _ = take(alloc, site, 5, "remove template t\n")?;
     assert!(rt; site.template("t").is_none() && site.partial("t").is_some());
     let _ = take(alloc, site, 6, "remove route /\n")?;
     assert!(rt; site.route("/").is_none());
     assert!(rt; site.redirect("/").is_none() && site.route("/old").is_none());
+    Ok(())
+}
+
+fn check_redirects(rt: &impl Abort, alloc: Global, site: &mut Site) -> Result<(), AllocError> {
     let _ = take(alloc, site, 7, "remove route /old\n")?;
     let _ = take(alloc, site, 8, "put redirect /old /\u{e9}?x\n")?;
     assert_eq!(rt; site.redirect("/old"), Some("/\u{e9}?x"));
@@ -91,10 +101,27 @@ fn check_contents(rt: &impl Abort, alloc: Global, site: &mut Site) -> Result<(),
     Ok(())
 }
 
+fn check_contents(rt: &impl Abort, alloc: Global, site: &mut Site) -> Result<(), AllocError> {
+    greet(alloc, site)?;
+    check_greeting(rt, site);
+    check_kinds(rt, site);
+    check_removals(rt, alloc, site)?;
+    check_redirects(rt, alloc, site)
+}
+
 #[test]
 fn contents_by_name(rt: HostRuntime) -> Result<(), Fail> {
     let mut site = Site::new(rt.alloc());
     Ok(check_contents(&rt, rt.alloc(), &mut site)?)
+}
+
+/// A copy takes its own commands.
+fn change_copy(rt: &impl Abort, alloc: Global, copy: &mut Site) -> Result<(), AllocError> {
+    assert_eq!(rt; take(alloc, copy, 4, "remove data d\n")?, Applied::Repeat);
+    assert_eq!(rt; take(alloc, copy, 5, "remove data d\n")?, Applied::Changed);
+    let _ = take(alloc, copy, 6, "remove redirect /old\n")?;
+    assert!(rt; copy.data("d").is_none() && copy.redirect("/old").is_none());
+    Ok(())
 }
 
 /// Either of two takes its own commands.
@@ -106,11 +133,8 @@ fn check_apart(
 ) -> Result<(), AllocError> {
     let _ = take(alloc, site, 5, "remove template t\n")?;
     check_greeting(rt, copy);
-    assert_eq!(rt; take(alloc, copy, 4, "remove data d\n")?, Applied::Repeat);
-    assert_eq!(rt; take(alloc, copy, 5, "remove data d\n")?, Applied::Changed);
-    assert!(rt; copy.data("d").is_none() && site.data("d").is_some());
-    let _ = take(alloc, copy, 6, "remove redirect /old\n")?;
-    assert!(rt; copy.redirect("/old").is_none() && site.redirect("/old").is_some());
+    change_copy(rt, alloc, copy)?;
+    assert!(rt; site.data("d").is_some() && site.redirect("/old").is_some());
     assert!(rt; site.template("t").is_none());
     Ok(())
 }
