@@ -1,212 +1,206 @@
 //! Proposals, votes told and chosen values, by worked rows.
-use crate::samples::{
-    ballot, cluster_of, copied, instance, is_prepare, is_proposal, is_propose, node_of, promised,
-    started, three_values, voted,
-};
+use crate::member::{Member, Sent, Step, play};
+use crate::samples::{ballot, cluster, copied, instance, node};
 use chosen_log::{ChosenLog, LearnFault, Learned};
 use learner::Learner;
-use proposer::{Proposer, ProposerFault};
-use std::test::Fail;
+use proposer::ProposerFault;
+use std::alloc::Global;
+use std::process::Abort;
 
 #[test]
-fn the_highest_prior_is_proposed_once(rt: HostRuntime) -> Result<(), Fail> {
-    let alloc = rt.alloc();
-    let five = cluster_of(5)?;
-    let own = ballot(3, 1)?;
-    let low = voted(alloc, ballot(1, 2)?, b"P")?;
-    let high = voted(alloc, ballot(2, 3)?, b"Q")?;
-    let second = voted(alloc, ballot(2, 5)?, b"R")?;
-    let mut proposer = Proposer::new(alloc, five, node_of(five, 1)?);
-    proposer.start(instance(7)?, own, b"X")?;
-    assert!(rt; promised(&mut proposer, five, 2, own, low.as_ref())?.is_none());
-    assert!(rt; promised(&mut proposer, five, 4, own, high.as_ref())?.is_none());
-    assert!(rt; promised(&mut proposer, five, 2, own, second.as_ref())?.is_none());
-    let third = promised(&mut proposer, five, 1, own, None)?;
-    assert!(rt; is_proposal(&third, instance(7)?, own, b"Q"));
-    assert!(rt; promised(&mut proposer, five, 5, own, None)?.is_none());
-    assert!(rt; is_propose(&proposer.resend(instance(7)?)?, own, b"Q"));
-    Ok(())
+fn the_highest_prior_is_proposed_once(rt: HostRuntime) {
+    let steps = [
+        Step::Start(7, 3, 1, "X"),
+        Step::Tells(2, 3, 1, (1, 2, "P"), None),
+        Step::Tells(4, 3, 1, (2, 3, "Q"), None),
+        Step::Tells(2, 3, 1, (2, 5, "R"), None),
+        Step::Promise(1, 3, 1, Some("Q")),
+        Step::Promise(5, 3, 1, None),
+        Step::Sends(7, Sent::Propose(3, 1, "Q")),
+    ];
+    play(&rt, rt.alloc(), 5, 1, &steps);
 }
 
 #[test]
-fn promises_of_another_ballot_count_for_nothing(rt: HostRuntime) -> Result<(), Fail> {
-    let alloc = rt.alloc();
-    let three = cluster_of(3)?;
-    let own = ballot(3, 1)?;
-    let mut proposer = Proposer::new(alloc, three, node_of(three, 1)?);
-    assert!(rt; proposer.resend(instance(7)?)?.is_none());
-    proposer.start(instance(7)?, own, b"X")?;
-    assert!(rt; promised(&mut proposer, three, 1, own, None)?.is_none());
-    assert!(rt; promised(&mut proposer, three, 2, ballot(2, 1)?, None)?.is_none());
-    assert!(rt; is_prepare(&proposer.resend(instance(7)?)?, own));
-    assert!(rt;
-        proposer
-            .own_value(instance(7)?)
-            .is_some_and(|own| own.as_bytes() == b"X".as_slice())
-    );
-    proposer.abandon(instance(7)?);
-    assert!(rt; proposer.own_value(instance(7)?).is_none());
-    assert!(rt; proposer.resend(instance(7)?)?.is_none());
-    Ok(())
+fn promises_of_another_ballot_count_for_nothing(rt: HostRuntime) {
+    let steps = [
+        Step::Sends(7, Sent::Nothing),
+        Step::Start(7, 3, 1, "X"),
+        Step::Promise(1, 3, 1, None),
+        Step::Promise(2, 2, 1, None),
+        Step::Sends(7, Sent::Prepare(3, 1)),
+        Step::Own(7, Some("X")),
+        Step::Abandon(7),
+        Step::Own(7, None),
+        Step::Sends(7, Sent::Nothing),
+    ];
+    play(&rt, rt.alloc(), 3, 1, &steps);
+}
+
+/// A later attempt stands in the place of an earlier one, and begins anew.
+#[test]
+fn the_own_value_where_no_prior_is_told(rt: HostRuntime) {
+    let steps = [
+        Step::Start(7, 10, 2, "before"),
+        Step::Promise(1, 10, 2, None),
+        Step::Start(7, 11, 2, "own"),
+        Step::Promise(2, 11, 2, None),
+        Step::Promise(1, 11, 2, Some("own")),
+    ];
+    play(&rt, rt.alloc(), 3, 2, &steps);
+}
+
+/// The last one begun stands in the place of another. Room without an attempt counts for none.
+#[test]
+fn open_attempts_are_counted(rt: HostRuntime) {
+    let steps = [
+        Step::Open(0),
+        Step::Start(9, 3, 1, "own"),
+        Step::Open(1),
+        Step::Start(7, 4, 1, "own"),
+        Step::Open(2),
+        Step::Start(8, 5, 1, "own"),
+        Step::Open(3),
+        Step::Start(9, 6, 1, "own"),
+        Step::Open(3),
+        Step::Room(10),
+        Step::Abandon(8),
+        Step::Open(2),
+    ];
+    play(&rt, rt.alloc(), 3, 1, &steps);
 }
 
 #[test]
-fn the_own_value_where_no_prior_is_told(rt: HostRuntime) -> Result<(), Fail> {
-    let alloc = rt.alloc();
-    let three = cluster_of(3)?;
-    let mut proposer = Proposer::new(alloc, three, node_of(three, 2)?);
-    let own = ballot(11, 2)?;
-    proposer.start(instance(7)?, ballot(10, 2)?, b"before")?;
-    assert!(rt; promised(&mut proposer, three, 1, ballot(10, 2)?, None)?.is_none());
-    // A later attempt stands in its place, and begins anew.
-    proposer.start(instance(7)?, own, b"own")?;
-    assert!(rt; promised(&mut proposer, three, 2, own, None)?.is_none());
-    let second = promised(&mut proposer, three, 1, own, None)?;
-    assert!(rt; is_proposal(&second, instance(7)?, own, b"own"));
-    Ok(())
+fn attempts_at_two_instances_are_apart(rt: HostRuntime) {
+    let steps = [
+        Step::Start(7, 4, 1, "X"),
+        Step::Start(8, 5, 1, "Y"),
+        Step::Promise(1, 4, 1, None),
+        Step::Promise(2, 5, 1, None),
+        Step::Promise(2, 4, 1, Some("X")),
+        Step::Sends(7, Sent::Propose(4, 1, "X")),
+        Step::Sends(8, Sent::Prepare(5, 1)),
+    ];
+    play(&rt, rt.alloc(), 3, 1, &steps);
+}
+
+/// A span that begins within another one stands in the place of what that has there.
+#[test]
+fn attempts_of_a_span_share_a_ballot(rt: HostRuntime) {
+    let steps = [
+        Step::Span(6, 3, 1, b"ABC"),
+        Step::Open(3),
+        Step::Promise(3, 2, 1, None),
+        Step::Promise(1, 3, 1, None),
+        Step::Promise(2, 3, 1, Some("B")),
+        Step::Sends(6, Sent::Prepare(3, 1)),
+        Step::Sends(7, Sent::Propose(3, 1, "B")),
+        Step::Sends(8, Sent::Prepare(3, 1)),
+        Step::Span(7, 4, 1, b"DEF"),
+        Step::Open(4),
+        Step::Sends(6, Sent::Prepare(3, 1)),
+        Step::Sends(7, Sent::Prepare(4, 1)),
+        Step::Sends(8, Sent::Prepare(4, 1)),
+        Step::Sends(9, Sent::Prepare(4, 1)),
+    ];
+    play(&rt, rt.alloc(), 3, 1, &steps);
+}
+
+fn rounds(rt: &impl Abort, member: &Member, recorded: u32, round: u32) {
+    let next = member.proposer().next_ballot(recorded);
+    assert_eq!(rt; next, Ok(ballot(rt, round, 2)));
 }
 
 #[test]
-fn open_attempts_are_counted(rt: HostRuntime) -> Result<(), Fail> {
-    let three = cluster_of(3)?;
-    let mut proposer = Proposer::new(rt.alloc(), three, node_of(three, 1)?);
-    assert_eq!(rt; proposer.attempts(), 0);
-    // The instance and the round of an attempt, and how many are open then: the last one stands in the place of another.
-    for (at, round, open) in [(9, 3, 1), (7, 4, 2), (8, 5, 3), (9, 6, 3)] {
-        proposer.start(instance(at)?, ballot(round, 1)?, b"own")?;
-        assert_eq!(rt; proposer.attempts(), open);
+fn ballots_above_all_rounds_heard(rt: HostRuntime) {
+    let mut member = Member::new(&rt, rt.alloc(), 3, 2);
+    rounds(&rt, &member, 0, 1);
+    member.heard(ballot(&rt, 9, 1));
+    member.heard(ballot(&rt, 4, 3));
+    rounds(&rt, &member, 3, 10);
+    rounds(&rt, &member, 12, 13);
+    let last = member.proposer().next_ballot(4_294_967_295);
+    assert_eq!(rt; last, Err(ProposerFault::RoundsUsedUp));
+}
+
+/// The voter, the round and the node of its ballot, its value, and whether that value becomes known.
+const VOTES: [(u8, u32, u8, &str, bool); 6] = [
+    (2, 1, 1, "v", false),
+    (2, 1, 1, "v", false),
+    (2, 1, 1, "v", false),
+    (3, 2, 3, "w", false),
+    (4, 1, 1, "v", false),
+    (5, 1, 1, "v", true),
+];
+
+fn tell(rt: &impl Abort, learner: &mut Learner, row: (u8, u32, u8, &str, bool)) {
+    let (voter, round, number, text, known) = row;
+    let (voter, at) = (node(rt, voter), ballot(rt, round, number));
+    let completes = learner.completes(voter, instance(rt, 1), at, text.as_bytes());
+    assert_eq!(rt; completes, known);
+    let chosen = learner.on_accepted(voter, instance(rt, 1), at, text.as_bytes());
+    match chosen.expect(rt, "memory") {
+        Some(value) => assert!(rt; known && value.as_bytes() == text.as_bytes()),
+        None => assert!(rt; !known),
     }
-    // Room without an attempt counts for none.
-    proposer.make_room(instance(10)?)?;
-    proposer.abandon(instance(8)?);
-    assert_eq!(rt; proposer.attempts(), 2);
-    Ok(())
 }
 
-#[test]
-fn attempts_at_two_instances_are_apart(rt: HostRuntime) -> Result<(), Fail> {
-    let alloc = rt.alloc();
-    let three = cluster_of(3)?;
-    let (first, second) = (ballot(4, 1)?, ballot(5, 1)?);
-    let mut proposer = Proposer::new(alloc, three, node_of(three, 1)?);
-    proposer.start(instance(7)?, first, b"X")?;
-    proposer.start(instance(8)?, second, b"Y")?;
-    assert!(rt; promised(&mut proposer, three, 1, first, None)?.is_none());
-    assert!(rt; promised(&mut proposer, three, 2, second, None)?.is_none());
-    let made = promised(&mut proposer, three, 2, first, None)?;
-    assert!(rt; is_proposal(&made, instance(7)?, first, b"X"));
-    assert!(rt; is_propose(&proposer.resend(instance(7)?)?, first, b"X"));
-    assert!(rt; is_prepare(&proposer.resend(instance(8)?)?, second));
-    Ok(())
-}
-
-#[test]
-fn attempts_of_a_span_share_a_ballot(rt: HostRuntime) -> Result<(), Fail> {
-    let alloc = rt.alloc();
-    let three = cluster_of(3)?;
-    let own = ballot(3, 1)?;
-    let mut proposer = Proposer::new(alloc, three, node_of(three, 1)?);
-    started(
-        &mut proposer,
-        instance(6)?,
-        own,
-        three_values(alloc, b"ABC")?,
-    )?;
-    assert_eq!(rt; proposer.attempts(), 3);
-    assert!(rt; promised(&mut proposer, three, 3, ballot(2, 1)?, None)?.is_none());
-    assert!(rt; promised(&mut proposer, three, 1, own, None)?.is_none());
-    let made = promised(&mut proposer, three, 2, own, None)?;
-    assert!(rt; is_proposal(&made, instance(7)?, own, b"B"));
-    for (at, value) in [(6, b"A"), (7, b"B"), (8, b"C")] {
-        let message = proposer.resend(instance(at)?)?;
-        assert_eq!(rt; is_propose(&message, own, value), at == 7);
-        assert_eq!(rt; is_prepare(&message, own), at != 7);
+fn votes(rt: &impl Abort, learner: &mut Learner) {
+    for row in VOTES {
+        tell(rt, learner, row);
     }
-    // A span that begins within it stands in the place of what it has there.
-    let later = ballot(4, 1)?;
-    started(
-        &mut proposer,
-        instance(7)?,
-        later,
-        three_values(alloc, b"DEF")?,
-    )?;
-    assert_eq!(rt; proposer.attempts(), 4);
-    for (at, ballot) in [(6, own), (7, later), (8, later), (9, later)] {
-        assert!(rt;
-            is_prepare(&proposer.resend(instance(at)?)?, ballot),
-            "{at}"
-        );
-    }
-    Ok(())
+    learner.forget(instance(rt, 1));
+    assert!(rt; !learner.completes(node(rt, 5), instance(rt, 1), ballot(rt, 1, 1), b"v"));
 }
 
 #[test]
-fn ballots_above_all_rounds_heard(rt: HostRuntime) -> Result<(), Fail> {
-    let three = cluster_of(3)?;
-    let mut proposer = Proposer::new(rt.alloc(), three, node_of(three, 2)?);
-    assert_eq!(rt; proposer.next_ballot(0)?, ballot(1, 2)?);
-    proposer.on_nack(ballot(9, 1)?);
-    proposer.on_nack(ballot(4, 3)?);
-    for (recorded, round) in [(3, 10), (12, 13)] {
-        assert_eq!(rt; proposer.next_ballot(recorded)?, ballot(round, 2)?);
-    }
-    let last = proposer.next_ballot(4_294_967_295);
-    assert!(rt; matches!(last, Err(ProposerFault::RoundsUsedUp)));
-    Ok(())
+fn votes_at_one_ballot_make_a_value_known(rt: HostRuntime) {
+    votes(&rt, &mut Learner::new(rt.alloc(), cluster(&rt, 5)));
 }
 
-#[test]
-fn votes_at_one_ballot_make_a_value_known(rt: HostRuntime) -> Result<(), Fail> {
-    let alloc = rt.alloc();
-    let five = cluster_of(5)?;
-    let first = instance(1)?;
-    let mut learner = Learner::new(alloc, five);
-    // The voter, its ballot, its value, and whether that value becomes known.
-    for (voter, round, node, bytes, known) in [
-        (2, 1, 1, b"v", false),
-        (2, 1, 1, b"v", false),
-        (2, 1, 1, b"v", false),
-        (3, 2, 3, b"w", false),
-        (4, 1, 1, b"v", false),
-        (5, 1, 1, b"v", true),
-    ] {
-        let voter = node_of(five, voter)?;
-        let at = ballot(round, node)?;
-        assert_eq!(rt; learner.completes(voter, first, at, bytes), known);
-        match learner.on_accepted(voter, first, at, bytes)? {
-            Some(value) => assert!(rt; known && value.as_bytes() == bytes.as_slice()),
-            None => assert!(rt; !known),
+/// The instance, its value, how it is learned (not at all: a conflict), and the first gap then.
+const LEARNED: [(u32, &str, Option<Learned>, u32); 5] = [
+    (1, "a", Some(Learned::New), 2),
+    (3, "c", Some(Learned::New), 2),
+    (1, "b", None, 2),
+    (2, "b", Some(Learned::New), 4),
+    (3, "c", Some(Learned::Known), 4),
+];
+
+/// How a value is learned. One that conflicts with the known one is handed back.
+fn learn(
+    rt: &impl Abort,
+    alloc: Global,
+    log: &mut ChosenLog,
+    number: u32,
+    text: &str,
+) -> Option<Learned> {
+    let value = copied(alloc, text.as_bytes()).expect(rt, "a value");
+    match log.learn(instance(rt, number), value) {
+        Ok(learned) => Some(learned),
+        Err(LearnFault::Conflict(back)) => {
+            assert!(rt; back.as_bytes() == text.as_bytes());
+            None
         }
+        Err(LearnFault::OutOfMemory(_)) => panic!(rt; "out of memory"),
     }
-    learner.forget(first);
-    assert!(rt; !learner.completes(node_of(five, 5)?, first, ballot(1, 1)?, b"v"));
-    Ok(())
 }
 
-#[test]
-fn one_value_an_instance_up_to_the_first_gap(rt: HostRuntime) -> Result<(), Fail> {
-    let alloc = rt.alloc();
-    let mut log = ChosenLog::new(alloc);
-    // The instance, its value, how it is learned (not at all: a conflict), and the first gap then.
-    for (number, bytes, expected, gap) in [
-        (1, b"a", Some(Learned::New), 2),
-        (3, b"c", Some(Learned::New), 2),
-        (1, b"b", None, 2),
-        (2, b"b", Some(Learned::New), 4),
-        (3, b"c", Some(Learned::Known), 4),
-    ] {
-        let at = instance(number)?;
-        match log.learn(at, copied(alloc, bytes)?) {
-            Ok(learned) => assert_eq!(rt; Some(learned), expected),
-            Err(LearnFault::Conflict(back)) => {
-                assert!(rt; expected.is_none() && back.as_bytes() == bytes.as_slice());
-            }
-            Err(LearnFault::OutOfMemory(_)) => return Err(Fail::from("out of memory")),
-        }
-        assert_eq!(rt; log.next_gap(), Some(instance(gap)?));
-        let known = log.get(at).ok_or("nothing known")?;
-        assert_eq!(rt; known.as_bytes() == bytes.as_slice(), expected.is_some());
+fn is_known(rt: &impl Abort, log: &ChosenLog, number: u32, text: &str) -> bool {
+    let known = log.get(instance(rt, number)).expect(rt, "a known value");
+    known.as_bytes() == text.as_bytes()
+}
+
+fn learn_each(rt: &impl Abort, alloc: Global, log: &mut ChosenLog) {
+    for (number, text, expected, gap) in LEARNED {
+        assert_eq!(rt; learn(rt, alloc, log, number, text), expected);
+        assert_eq!(rt; log.next_gap(), Some(instance(rt, gap)));
+        assert_eq!(rt; is_known(rt, log, number, text), expected.is_some());
     }
     assert!(rt; matches!(log.prefix(), [_, value, _] if value.as_bytes() == b"b".as_slice()));
-    Ok(())
+}
+
+#[test]
+fn one_value_an_instance_up_to_the_first_gap(rt: HostRuntime) {
+    learn_each(&rt, rt.alloc(), &mut ChosenLog::new(rt.alloc()));
 }

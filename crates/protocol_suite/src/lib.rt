@@ -5,6 +5,8 @@
 #[cfg(test)]
 mod attempts;
 #[cfg(test)]
+mod member;
+#[cfg(test)]
 mod messages;
 #[cfg(test)]
 mod refusals;

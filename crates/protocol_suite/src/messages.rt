@@ -1,8 +1,9 @@
 //! Messages as datagrams, by rows in hexadecimal; verdicts of an acceptor; names of nodes, instances and ballots.
+use crate::samples::{ballot, cluster, instance, node, vote};
 use acceptor::{PrepareVerdict, ProposeVerdict, Slot, judge_prepare, judge_propose};
-use site_ids::{Ballot, Cluster, Instance, MAX_VALUE, NodeId, Value, Vote};
+use site_ids::{Ballot, Cluster, Instance, MAX_VALUE, Value, Vote};
 use std::alloc::Global;
-use std::test::Fail;
+use std::process::Abort;
 use wire::{MAX_MESSAGE, Message, WireFault, decode, encode};
 
 /// One spelling of each kind, in a cluster of three.
@@ -68,77 +69,71 @@ const MALFORMED: [&str; 32] = [
     "010701000000020000000207",
 ];
 
-fn three() -> Result<Cluster, Fail> {
-    Ok(Cluster::new(3).ok_or("no cluster")?)
+fn decoded(rt: &impl Abort, alloc: Global, bytes: &[u8]) -> Result<Message, WireFault> {
+    decode(alloc, bytes, cluster(rt, 3))
 }
 
-fn node(number: u8) -> Result<NodeId, Fail> {
-    let nine = Cluster::new(9).ok_or("no cluster")?;
-    Ok(nine.node(number).ok_or("no node")?)
+fn is_malformed(rt: &impl Abort, alloc: Global, bytes: &[u8]) -> bool {
+    matches!(decoded(rt, alloc, bytes), Err(WireFault::Malformed))
 }
 
-fn ballot(round: u32, number: u8) -> Result<Ballot, Fail> {
-    Ok(Ballot::new(round, node(number)?).ok_or("no ballot")?)
+fn bytes_of(rt: &impl Abort, alloc: Global, text: &str) -> Vec<u8> {
+    hex::decode(alloc, text).expect(rt, "bytes")
 }
 
-fn is_malformed(alloc: Global, bytes: &[u8]) -> Result<bool, Fail> {
-    Ok(matches!(decode(alloc, bytes, three()?), Err(WireFault::Malformed)))
+/// A message is written as these bytes, behind those that stand before it.
+fn spells(rt: &impl Abort, alloc: Global, message: &Message, bytes: &[u8], text: &str) {
+    assert!(rt; message.fits());
+    let mut out = b"before".to_vec(alloc).expect(rt, "memory");
+    encode(message, &mut out).expect(rt, "memory");
+    assert_eq!(rt; out.strip_prefix(b"before"), Some(bytes), "{text}");
 }
 
 #[test]
-fn spellings_are_read_and_written_again(rt: HostRuntime) -> Result<(), Fail> {
-    let alloc = rt.alloc();
+fn spellings_are_read_and_written_again(rt: HostRuntime) {
     for text in SPELLINGS {
-        let bytes = hex::decode(alloc, text)?;
-        let message = decode(alloc, &bytes, three()?)?;
-        assert!(rt; message.fits());
-        let mut out = b"before".to_vec(alloc)?;
-        encode(&message, &mut out)?;
-        assert_eq!(rt;
-            out.strip_prefix(b"before"),
-            Some(bytes.as_slice()),
-            "{text}"
+        let bytes = bytes_of(&rt, rt.alloc(), text);
+        let message = decoded(&rt, rt.alloc(), &bytes).expect(&rt, text);
+        spells(&rt, rt.alloc(), &message, &bytes, text);
+    }
+}
+
+fn beginnings(rt: &impl Abort, alloc: Global, bytes: &[u8], text: &str) {
+    for end in 0..bytes.len() {
+        assert!(rt;
+            is_malformed(rt, alloc, &bytes[..end]),
+            "{end} bytes of {text}"
         );
     }
-    Ok(())
+}
+
+fn one_byte_more(rt: &impl Abort, alloc: Global, bytes: &mut Vec<u8>, text: &str) {
+    for more in 0..=255 {
+        bytes.push(more).expect(rt, "memory");
+        assert!(rt; is_malformed(rt, alloc, bytes), "{text} and {more}");
+        bytes.pop();
+    }
 }
 
 #[test]
-fn beginnings_and_one_byte_more(rt: HostRuntime) -> Result<(), Fail> {
-    let alloc = rt.alloc();
+fn beginnings_and_one_byte_more(rt: HostRuntime) {
     for text in SPELLINGS {
-        let mut bytes = hex::decode(alloc, text)?;
-        for end in 0..bytes.len() {
-            assert!(rt;
-                is_malformed(alloc, &bytes[..end])?,
-                "{end} bytes of {text}"
-            );
-        }
-        for more in 0..=255 {
-            bytes.push(more)?;
-            assert!(rt; is_malformed(alloc, &bytes)?, "{text} and {more}");
-            bytes.pop();
-        }
+        let mut bytes = bytes_of(&rt, rt.alloc(), text);
+        beginnings(&rt, rt.alloc(), &bytes, text);
+        one_byte_more(&rt, rt.alloc(), &mut bytes, text);
     }
-    Ok(())
 }
 
 #[test]
-fn other_bytes_are_malformed(rt: HostRuntime) -> Result<(), Fail> {
-    let alloc = rt.alloc();
+fn other_bytes_are_malformed(rt: HostRuntime) {
     for text in MALFORMED {
-        let bytes = hex::decode(alloc, text)?;
-        assert!(rt; is_malformed(alloc, &bytes)?, "{text}");
+        let bytes = bytes_of(&rt, rt.alloc(), text);
+        assert!(rt; is_malformed(&rt, rt.alloc(), &bytes), "{text}");
     }
-    Ok(())
 }
 
-#[test]
-fn a_prepare_by_its_fields(rt: HostRuntime) -> Result<(), Fail> {
-    let alloc = rt.alloc();
-    let bytes = hex::decode(alloc, "010102000000010000000102")?;
-    let message = decode(alloc, &bytes, three()?)?;
-    assert_eq!(rt; message.from(), node(2)?);
+fn check_prepare(rt: &impl Abort, message: &Message) {
+    assert_eq!(rt; message.from(), node(rt, 2));
     assert_eq!(rt; message.instance().number(), 1);
     let Message::Prepare {
         ballot: found,
@@ -146,134 +141,139 @@ fn a_prepare_by_its_fields(rt: HostRuntime) -> Result<(), Fail> {
         ..
     } = message
     else {
-        return Err(Fail::from("another kind"));
+        panic!(rt; "another kind");
     };
-    assert_eq!(rt; found, ballot(1, 2)?);
-    assert_eq!(rt; count, 1);
-    Ok(())
+    assert_eq!(rt; *found, ballot(rt, 1, 2));
+    assert_eq!(rt; *count, 1);
 }
 
 #[test]
-fn the_longest_value(rt: HostRuntime) -> Result<(), Fail> {
-    let alloc = rt.alloc();
-    let mut bytes = Vec::new(alloc);
-    bytes.resize(MAX_VALUE, 65)?;
-    let message = Message::Promise {
-        from: node(1)?,
-        instance: Instance::new(1_000_000).ok_or("no instance")?,
-        ballot: ballot(4_294_967_295, 3)?,
-        prior: Some(Vote {
-            ballot: ballot(1, 1)?,
-            value: Value::from_bytes(bytes),
-        }),
-    };
+fn a_prepare_by_its_fields(rt: HostRuntime) {
+    let bytes = bytes_of(&rt, rt.alloc(), "010102000000010000000102");
+    let message = decoded(&rt, rt.alloc(), &bytes).expect(&rt, "a message");
+    check_prepare(&rt, &message);
+}
+
+fn check_longest(rt: &impl Abort, alloc: Global, message: &Message) {
     assert!(rt; message.fits());
     let mut out = Vec::new(alloc);
-    encode(&message, &mut out)?;
+    encode(message, &mut out).expect(rt, "memory");
     assert_eq!(rt; out.len(), MAX_MESSAGE);
-    assert!(rt; decode(alloc, &out, three()?).is_ok());
-    Ok(())
+    assert!(rt; decoded(rt, alloc, &out).is_ok());
+}
+
+fn longest(rt: &impl Abort, value: Value) -> Message {
+    Message::Promise {
+        from: node(rt, 1),
+        instance: instance(rt, 1_000_000),
+        ballot: ballot(rt, 4_294_967_295, 3),
+        prior: Some(Vote {
+            ballot: ballot(rt, 1, 1),
+            value,
+        }),
+    }
 }
 
 #[test]
-fn a_value_one_byte_too_long(rt: HostRuntime) -> Result<(), Fail> {
-    let alloc = rt.alloc();
-    let mut bytes = hex::decode(alloc, "01030100000001000000010100008001")?;
+fn the_longest_value(rt: HostRuntime) {
+    let mut bytes = Vec::new(rt.alloc());
+    bytes.resize(MAX_VALUE, 65).expect(&rt, "memory");
+    check_longest(&rt, rt.alloc(), &longest(&rt, Value::from_bytes(bytes)));
+}
+
+#[test]
+fn a_value_one_byte_too_long(rt: HostRuntime) {
+    let mut bytes = bytes_of(&rt, rt.alloc(), "01030100000001000000010100008001");
     for _ in 0..=MAX_VALUE {
-        bytes.push(65)?;
+        bytes.push(65).expect(&rt, "memory");
     }
-    assert!(rt; is_malformed(alloc, &bytes)?);
-    Ok(())
+    assert!(rt; is_malformed(&rt, rt.alloc(), &bytes));
 }
 
 /// A slot with this promise and a vote for the value `v`.
-fn slot(alloc: Global, promised: Ballot, voted: Ballot) -> Result<Slot, Fail> {
-    Ok(Slot {
+fn slot(rt: &impl Abort, alloc: Global, promised: Ballot, voted: Ballot) -> Slot {
+    Slot {
         promised: Some(promised),
-        vote: Some(Vote {
-            ballot: voted,
-            value: Value::copied_from(alloc, b"v")?,
-        }),
-    })
+        vote: Some(vote(rt, alloc, voted, "v")),
+    }
+}
+
+fn check_prepares(rt: &impl Abort, slot: &Slot) {
+    let own = ballot(rt, 2, 1);
+    for (round, number, verdict) in [
+        (2, 2, PrepareVerdict::Promise),
+        (2, 1, PrepareVerdict::Again),
+        (1, 9, PrepareVerdict::Nack(own)),
+    ] {
+        assert_eq!(rt; judge_prepare(slot, ballot(rt, round, number)), verdict);
+    }
+}
+
+/// Of a slot that voted at the ballot that it promised.
+fn check_voted(rt: &impl Abort, slot: &Slot) {
+    let own = ballot(rt, 2, 1);
+    assert_eq!(rt; judge_prepare(slot, own), PrepareVerdict::Silent);
+    for (round, number, value, verdict) in [
+        (2, 1, b"v", ProposeVerdict::Again),
+        (2, 1, b"w", ProposeVerdict::Silent),
+        (2, 3, b"w", ProposeVerdict::Vote),
+        (1, 9, b"v", ProposeVerdict::Nack(own)),
+    ] {
+        assert_eq!(rt;
+            judge_propose(slot, ballot(rt, round, number), value),
+            verdict
+        );
+    }
+}
+
+fn check_empty(rt: &impl Abort, slot: &Slot) {
+    let first = ballot(rt, 1, 1);
+    assert_eq!(rt; judge_prepare(slot, first), PrepareVerdict::Promise);
+    assert_eq!(rt; judge_propose(slot, first, b""), ProposeVerdict::Vote);
 }
 
 #[test]
-fn verdicts_of_an_acceptor(rt: HostRuntime) -> Result<(), Fail> {
-    let alloc = rt.alloc();
-    let later = slot(alloc, ballot(2, 1)?, ballot(1, 3)?)?;
-    assert_eq!(rt;
-        judge_prepare(&later, ballot(2, 2)?),
-        PrepareVerdict::Promise
-    );
-    assert_eq!(rt; judge_prepare(&later, ballot(2, 1)?), PrepareVerdict::Again);
-    assert_eq!(rt;
-        judge_prepare(&later, ballot(1, 9)?),
-        PrepareVerdict::Nack(ballot(2, 1)?)
-    );
-    let voted = slot(alloc, ballot(2, 1)?, ballot(2, 1)?)?;
-    assert_eq!(rt;
-        judge_prepare(&voted, ballot(2, 1)?),
-        PrepareVerdict::Silent
-    );
-    assert_eq!(rt;
-        judge_propose(&voted, ballot(2, 1)?, b"v"),
-        ProposeVerdict::Again
-    );
-    assert_eq!(rt;
-        judge_propose(&voted, ballot(2, 1)?, b"w"),
-        ProposeVerdict::Silent
-    );
-    assert_eq!(rt;
-        judge_propose(&voted, ballot(2, 3)?, b"w"),
-        ProposeVerdict::Vote
-    );
-    assert_eq!(rt;
-        judge_propose(&voted, ballot(1, 9)?, b"v"),
-        ProposeVerdict::Nack(ballot(2, 1)?)
-    );
+fn verdicts_of_an_acceptor(rt: HostRuntime) {
+    let own = ballot(&rt, 2, 1);
+    check_prepares(&rt, &slot(&rt, rt.alloc(), own, ballot(&rt, 1, 3)));
+    check_voted(&rt, &slot(&rt, rt.alloc(), own, own));
     let empty = Slot {
         promised: None,
         vote: None,
     };
-    assert_eq!(rt;
-        judge_prepare(&empty, ballot(1, 1)?),
-        PrepareVerdict::Promise
-    );
-    assert_eq!(rt;
-        judge_propose(&empty, ballot(1, 1)?, b""),
-        ProposeVerdict::Vote
-    );
-    Ok(())
+    check_empty(&rt, &empty);
+}
+
+fn check_cluster(rt: &impl Abort, size: u8, quorum: u8) {
+    let cluster = cluster(rt, size);
+    assert_eq!(rt; cluster.size(), size);
+    assert_eq!(rt; cluster.quorum(), quorum);
+    assert!(rt; cluster.node(0).is_none() && cluster.node(size).is_some());
+    assert!(rt; cluster.node(10).is_none());
 }
 
 #[test]
-fn clusters_and_their_majorities(rt: HostRuntime) -> Result<(), Fail> {
+fn clusters_and_their_majorities(rt: HostRuntime) {
     let quorums: [u8; 9] = [1, 2, 2, 3, 3, 4, 4, 5, 5];
     for (size, quorum) in (1..=9).zip(quorums) {
-        let cluster = Cluster::new(size).ok_or("no cluster")?;
-        assert_eq!(rt; cluster.size(), size);
-        assert_eq!(rt; cluster.quorum(), quorum);
-        assert!(rt; cluster.node(0).is_none() && cluster.node(size).is_some());
-        assert!(rt; cluster.node(10).is_none());
+        check_cluster(&rt, size, quorum);
     }
     assert!(rt; Cluster::new(0).is_none() && Cluster::new(10).is_none());
     assert!(rt; Instance::new(0).is_none() && Instance::new(1_000_001).is_none());
-    assert!(rt; Ballot::new(0, node(1)?).is_none());
-    assert!(rt; ballot(1, 9)? < ballot(2, 1)? && ballot(2, 1)? < ballot(2, 2)?);
-    assert!(rt; ballot(1, 9)? < ballot(2, 1)?);
-    Ok(())
+    assert!(rt; Ballot::new(0, node(&rt, 1)).is_none());
+    assert!(rt; ballot(&rt, 1, 9) < ballot(&rt, 2, 1));
+    assert!(rt; ballot(&rt, 2, 1) < ballot(&rt, 2, 2));
+}
+
+fn check_copy(rt: &impl Abort, alloc: Global, vote: &Vote) {
+    let copy = vote.try_clone(alloc).expect(rt, "memory");
+    assert_eq!(rt; copy.ballot, vote.ballot);
+    assert_eq!(rt; copy.value.into_bytes().as_slice(), b"abc".as_slice());
 }
 
 #[test]
-fn values_and_votes_are_copied(rt: HostRuntime) -> Result<(), Fail> {
-    let alloc = rt.alloc();
-    let vote = Vote {
-        ballot: ballot(3, 2)?,
-        value: Value::copied_from(alloc, b"abc")?,
-    };
-    let copy = vote.try_clone(alloc)?;
-    assert_eq!(rt; copy.ballot, vote.ballot);
-    assert_eq!(rt; copy.value.into_bytes().as_slice(), b"abc".as_slice());
+fn values_and_votes_are_copied(rt: HostRuntime) {
+    let vote = vote(&rt, rt.alloc(), ballot(&rt, 3, 2), "abc");
+    check_copy(&rt, rt.alloc(), &vote);
     assert_eq!(rt; vote.value.as_bytes(), b"abc".as_slice());
-    Ok(())
 }

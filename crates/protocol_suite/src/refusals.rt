@@ -1,144 +1,174 @@
 //! Each call with one growth refused, as `tools/refuse-growths` runs this: it answers as ever, or that memory was refused, and then the next try
 //! answers as ever.
-ghost use Rattle.std.specs.Prelude.{◌≡◌};
-
-use crate::samples::{
-    ballot, cluster_of, copied, instance, is_proposal, is_propose, node_of, started, three_values,
-    voted,
-};
+use crate::member::{Member, Sent, is_made, is_sent, three_values};
+use crate::samples::{ballot, cluster, copied, instance, node, vote};
 use chosen_log::{ChosenLog, LearnFault, Learned};
 use learner::Learner;
-use proposer::{Proposal, Proposer, ProposerFault};
-use site_ids::{Ballot, Cluster};
-use std::alloc::Global;
-use std::test::Fail;
-use wire::{WireFault, decode, encode};
+use proposer::{Proposal, ProposerFault};
+use site_ids::{Ballot, Value, Vote};
+use std::alloc::{AllocError, Global};
+use std::process::Abort;
+use wire::{Message, WireFault, decode, encode};
 
-#[test]
-fn messages(rt: HostRuntime) -> Result<(), Fail> {
-    let alloc = rt.alloc();
-    let cluster = Cluster::new(3).ok_or("no cluster")?;
-    // A promise with a prior vote for the value of one byte.
-    let bytes = [
-        1, 2, 2, 0, 0, 0, 1, 0, 0, 0, 3, 1, 1, 0, 0, 0, 1, 2, 0, 0, 0, 1, 7,
-    ];
-    let message = match decode(alloc, &bytes, cluster) {
+/// A promise with a prior vote for the value of one byte.
+const PROMISE: [u8; 23] = [
+    1, 2, 2, 0, 0, 0, 1, 0, 0, 0, 3, 1, 1, 0, 0, 0, 1, 2, 0, 0, 0, 1, 7,
+];
+
+fn decoded(rt: &impl Abort, alloc: Global) -> Message {
+    let cluster = cluster(rt, 3);
+    match decode(alloc, &PROMISE, cluster) {
         Ok(message) => message,
         Err(fault) => {
             assert_eq!(rt; fault, WireFault::OutOfMemory);
-            decode(alloc, &bytes, cluster)?
+            decode(alloc, &PROMISE, cluster).expect(rt, "a message")
         }
-    };
-    let copy = match message.try_clone(alloc) {
-        Ok(copy) => copy,
-        Err(_) => message.try_clone(alloc)?,
-    };
-    assert!(rt; copy.fits());
-    let mut out = Vec::new(alloc);
-    if encode(&copy, &mut out).is_err() {
-        assert!(rt; out.is_empty());
-        encode(&copy, &mut out)?;
     }
-    assert_eq!(rt; out.as_slice(), bytes.as_slice());
-    Ok(())
+}
+
+fn cloned(rt: &impl Abort, alloc: Global, message: &Message) -> Message {
+    match message.try_clone(alloc) {
+        Ok(copy) => copy,
+        Err(_) => message.try_clone(alloc).expect(rt, "a message"),
+    }
+}
+
+/// A message is spelled so.
+fn encodes(rt: &impl Abort, alloc: Global, message: &Message) {
+    assert!(rt; message.fits());
+    let mut out = Vec::new(alloc);
+    if encode(message, &mut out).is_err() {
+        assert!(rt; out.is_empty());
+        encode(message, &mut out).expect(rt, "memory");
+    }
+    assert_eq!(rt; out.as_slice(), PROMISE.as_slice());
+}
+
+#[test]
+fn messages(rt: HostRuntime) {
+    let message = decoded(&rt, rt.alloc());
+    encodes(&rt, rt.alloc(), &cloned(&rt, rt.alloc(), &message));
 }
 
 /// A call whose growth was refused changes nothing, so the next try answers as ever.
-fn tried_again(
-    alloc: Global,
-    proposer: &mut Proposer,
-    cluster: Cluster,
-    number: u8,
+fn promised(
+    rt: &impl Abort,
+    member: &mut Member,
+    from: u8,
     own: Ballot,
-    prior: &[u8],
-) -> Result<Option<Proposal>, Fail>
-    requires { proposer.old.cluster ≡ cluster }
-    ensures { proposer.new.cluster ≡ proposer.old.cluster }
-{
-    let from = node_of(cluster, number)?;
-    let vote = voted(alloc, ballot(1, 3)?, prior)?;
-    match proposer.on_promise(from, instance(7)?, own, vote.as_ref()) {
-        Ok(proposal) => Ok(proposal),
-        Err(ProposerFault::RoundsUsedUp) => Err(Fail::from("another fault")),
-        Err(ProposerFault::OutOfMemory) => {
-            Ok(proposer.on_promise(from, instance(7)?, own, vote.as_ref())?)
+    prior: &Vote,
+) -> Option<Proposal> {
+    let at = instance(rt, 7);
+    match member.promise(rt, from, at, own, Some(prior)) {
+        Ok(proposal) => proposal,
+        Err(fault) => {
+            assert_eq!(rt; fault, ProposerFault::OutOfMemory);
+            member
+                .promise(rt, from, at, own, Some(prior))
+                .expect(rt, "memory")
         }
     }
 }
 
-#[test]
-fn proposals(rt: HostRuntime) -> Result<(), Fail> {
-    let alloc = rt.alloc();
-    let three = cluster_of(3)?;
-    let own = ballot(2, 1)?;
-    let mut proposer = Proposer::new(alloc, three, node_of(three, 1)?);
-    if proposer.start(instance(7)?, own, b"own").is_err() {
-        assert!(rt; proposer.resend(instance(7)?)?.is_none());
-        proposer.start(instance(7)?, own, b"own")?;
+fn start(rt: &impl Abort, member: &mut Member, own: Ballot) {
+    let at = instance(rt, 7);
+    if member.start(at, own, b"own").is_err() {
+        assert!(rt; matches!(member.resend(at), Ok(None)));
+        assert!(rt; member.start(at, own, b"own").is_ok());
     }
-    assert!(rt; tried_again(alloc, &mut proposer, three, 1, own, b"prior")?.is_none());
-    let proposal = tried_again(alloc, &mut proposer, three, 2, own, b"prior")?;
-    assert!(rt; is_proposal(&proposal, instance(7)?, own, b"prior"));
-    let message = match proposer.resend(instance(7)?) {
-        Ok(message) => message,
-        Err(_) => proposer.resend(instance(7)?)?,
+}
+
+fn is_sent_again(rt: &impl Abort, member: &Member) -> Result<bool, AllocError> {
+    let message = member.resend(instance(rt, 7))?;
+    Ok(is_sent(&message, Sent::Propose(2, 1, "prior")))
+}
+
+fn send_again(rt: &impl Abort, member: &Member) {
+    let is_right = match is_sent_again(rt, member) {
+        Ok(is_right) => is_right,
+        Err(_) => is_sent_again(rt, member).expect(rt, "memory"),
     };
-    assert!(rt; is_propose(&message, own, b"prior"));
-    Ok(())
+    assert!(rt; is_right);
+}
+
+fn propose(rt: &impl Abort, member: &mut Member, own: Ballot, prior: &Vote) {
+    start(rt, member, own);
+    assert!(rt; promised(rt, member, 1, own, prior).is_none());
+    let proposal = promised(rt, member, 2, own, prior);
+    assert!(rt; is_made(&proposal, own, Some("prior")));
+    send_again(rt, member);
 }
 
 #[test]
-fn spans(rt: HostRuntime) -> Result<(), Fail> {
-    let alloc = rt.alloc();
-    let three = cluster_of(3)?;
-    let own = ballot(2, 1)?;
-    let values = match three_values(alloc, b"ABC") {
+fn proposals(rt: HostRuntime) {
+    let prior = vote(&rt, rt.alloc(), ballot(&rt, 1, 3), "prior");
+    let mut member = Member::new(&rt, rt.alloc(), 3, 1);
+    propose(&rt, &mut member, ballot(&rt, 2, 1), &prior);
+}
+
+#[test]
+fn spans(rt: HostRuntime) {
+    let values = match three_values(rt.alloc(), b"ABC") {
         Ok(values) => values,
-        Err(_) => three_values(alloc, b"ABC")?,
+        Err(_) => three_values(rt.alloc(), b"ABC").expect(&rt, "values"),
     };
-    let mut proposer = Proposer::new(alloc, three, node_of(three, 1)?);
-    started(&mut proposer, instance(6)?, own, values)?;
-    assert_eq!(rt; proposer.attempts(), 3);
-    Ok(())
+    let mut member = Member::new(&rt, rt.alloc(), 3, 1);
+    assert!(rt; member.start_span(instance(&rt, 6), ballot(&rt, 2, 1), values));
+    assert_eq!(rt; member.proposer().attempts(), 3);
+}
+
+/// Whether a vote for `v` makes that known.
+fn told(rt: &impl Abort, learner: &mut Learner, voter: u8) -> Result<bool, AllocError> {
+    let first = instance(rt, 1);
+    let known = learner.on_accepted(node(rt, voter), first, ballot(rt, 1, 1), b"v")?;
+    Ok(known.is_some())
+}
+
+fn tell(rt: &impl Abort, learner: &mut Learner, voter: u8, completes: bool) {
+    let first = instance(rt, 1);
+    let known = match told(rt, learner, voter) {
+        Ok(known) => known,
+        Err(_) => {
+            let would = learner.completes(node(rt, voter), first, ballot(rt, 1, 1), b"v");
+            assert_eq!(rt; would, completes);
+            told(rt, learner, voter).expect(rt, "memory")
+        }
+    };
+    assert_eq!(rt; known, completes);
+}
+
+fn tell_two(rt: &impl Abort, learner: &mut Learner) {
+    tell(rt, learner, 1, false);
+    tell(rt, learner, 2, true);
 }
 
 #[test]
-fn votes(rt: HostRuntime) -> Result<(), Fail> {
-    let alloc = rt.alloc();
-    let three = cluster_of(3)?;
-    let first = instance(1)?;
-    let low = ballot(1, 1)?;
-    let mut learner = Learner::new(alloc, three);
-    for (voter, completes) in [(1, false), (2, true)] {
-        let voter = node_of(three, voter)?;
-        let known = match learner.on_accepted(voter, first, low, b"v") {
-            Ok(known) => known,
-            Err(_) => {
-                assert_eq!(rt; learner.completes(voter, first, low, b"v"), completes);
-                learner.on_accepted(voter, first, low, b"v")?
-            }
-        };
-        assert_eq!(rt; known.is_some(), completes);
-    }
-    Ok(())
+fn votes(rt: HostRuntime) {
+    tell_two(&rt, &mut Learner::new(rt.alloc(), cluster(&rt, 3)));
 }
 
-#[test]
-fn values(rt: HostRuntime) -> Result<(), Fail> {
-    let alloc = rt.alloc();
-    let mut log = ChosenLog::new(alloc);
+fn learn(rt: &impl Abort, log: &mut ChosenLog, number: u32, value: Value) {
+    let at = instance(rt, number);
+    let learned = match log.learn(at, value) {
+        Ok(learned) => learned,
+        Err(LearnFault::Conflict(_)) => panic!(rt; "a conflict"),
+        Err(LearnFault::OutOfMemory(back)) => {
+            assert!(rt; log.get(at).is_none());
+            log.learn(at, back).expect(rt, "memory")
+        }
+    };
+    assert!(rt; learned == Learned::New);
+}
+
+fn learn_three(rt: &impl Abort, alloc: Global, log: &mut ChosenLog) {
     for number in [3, 1, 2] {
-        let at = instance(number)?;
-        let learned = match log.learn(at, copied(alloc, b"v")?) {
-            Ok(learned) => learned,
-            Err(LearnFault::Conflict(_)) => return Err(Fail::from("a conflict")),
-            Err(LearnFault::OutOfMemory(back)) => {
-                assert!(rt; log.get(at).is_none());
-                log.learn(at, back)?
-            }
-        };
-        assert!(rt; learned == Learned::New);
+        let value = copied(alloc, b"v").expect(rt, "a value");
+        learn(rt, log, number, value);
     }
     assert_eq!(rt; log.prefix().len(), 3);
-    Ok(())
+}
+
+#[test]
+fn values(rt: HostRuntime) {
+    learn_three(&rt, rt.alloc(), &mut ChosenLog::new(rt.alloc()));
 }

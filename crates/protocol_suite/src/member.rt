@@ -1,0 +1,240 @@
+//! A proposer of a cluster, lent to the rows, and what they do with it.
+ghost use Rattle.std.specs.Prelude.{◌≡◌};
+
+use crate::samples::{ballot, cluster, instance, is_ballot, vote};
+use proposer::{Proposal, Proposer, ProposerFault};
+use site_ids::{Ballot, Cluster, Instance, Vote};
+use std::alloc::{AllocError, Global};
+use std::process::Abort;
+use wire::Message;
+
+#[derive(Drop)]
+pub(crate) struct Member {
+    alloc: Global,
+    cluster: Cluster,
+    proposer: Proposer,
+    ghost same: { proposer.cluster ≡ cluster },
+}
+
+/// A message about an instance: the round and the node of its ballot, and its value.
+#[derive(Clone, Copy, Debug)]
+pub(crate) enum Sent {
+    Nothing,
+    Prepare(u32, u8),
+    Propose(u32, u8, &'static str),
+}
+
+/// The round and the node of a ballot, and a value.
+type Told = (u32, u8, &'static str);
+
+/// What is done with a proposer, and what it answers. A ballot is a round and a node.
+#[derive(Clone, Copy, Debug)]
+pub(crate) enum Step {
+    /// Begins an attempt at an instance, at a ballot, for a value.
+    Start(u32, u32, u8, &'static str),
+    /// Begins three attempts, from an instance on, at a ballot, for a byte each.
+    Span(u32, u32, u8, &'static [u8; 3]),
+    /// A node promises instance 7 at a ballot, and tells of no vote there. This value is proposed then.
+    Promise(u8, u32, u8, Option<&'static str>),
+    /// The same, and it tells of a vote.
+    Tells(u8, u32, u8, Told, Option<&'static str>),
+    /// What is sent again of an instance.
+    Sends(u32, Sent),
+    /// What the attempt at an instance is for.
+    Own(u32, Option<&'static str>),
+    Abandon(u32),
+    /// Makes room at an instance.
+    Room(u32),
+    /// So many attempts are open.
+    Open(usize),
+}
+
+/// A try that was refused opens none, and is made once more.
+fn start_span(
+    proposer: &mut Proposer,
+    first: Instance,
+    ballot: Ballot,
+    values: Vec<Vec<u8>>,
+) -> bool
+    ensures { proposer.new.cluster ≡ proposer.old.cluster }
+{
+    let open = proposer.attempts();
+    if values.len() > 64 || !first.begins_span(values.len() as u8) {
+        return false;
+    }
+    let Err((_wanted, values)) = proposer.start_span(first, ballot, values) else {
+        return true;
+    };
+    proposer.attempts() == open && proposer.start_span(first, ballot, values).is_ok()
+}
+
+/// Three values of one byte.
+pub(crate) fn three_values(alloc: Global, bytes: &[u8; 3]) -> Result<Vec<Vec<u8>>, AllocError> {
+    let mut values = Vec::new(alloc);
+    for byte in bytes {
+        values.push(Vec::from_slice(alloc, &[*byte])?)?;
+    }
+    Ok(values)
+}
+
+/// Whether the proposal is this one, of instance 7 at a ballot.
+pub(crate) fn is_made(made: &Option<Proposal>, at: Ballot, value: Option<&str>) -> bool {
+    match (made, value) {
+        (Some(made), Some(text)) => {
+            made.instance.number() == 7
+                && made.ballot == at
+                && made.value.as_bytes() == text.as_bytes()
+        }
+        (None, None) => true,
+        _ => false,
+    }
+}
+
+pub(crate) fn is_sent(message: &Option<Message>, sent: Sent) -> bool {
+    match (message, sent) {
+        (Some(Message::Propose { ballot, value, .. }), Sent::Propose(round, node, text)) => {
+            is_ballot(*ballot, round, node) && value.as_bytes() == text.as_bytes()
+        }
+        (Some(Message::Prepare { ballot, .. }), Sent::Prepare(round, node)) => {
+            is_ballot(*ballot, round, node)
+        }
+        (None, Sent::Nothing) => true,
+        _ => false,
+    }
+}
+
+impl Member {
+    /// The node of that number among so many.
+    pub(crate) fn new(rt: &impl Abort, alloc: Global, size: u8, number: u8) -> Member {
+        let cluster = cluster(rt, size);
+        let me = cluster.node(number).expect(rt, "a node");
+        Member {
+            alloc,
+            cluster,
+            proposer: Proposer::new(alloc, cluster, me),
+        }
+    }
+
+    pub(crate) fn proposer(&self) -> &Proposer {
+        &self.proposer
+    }
+
+    pub(crate) fn heard(&mut self, promised: Ballot) {
+        self.proposer.on_nack(promised);
+    }
+
+    pub(crate) fn start(
+        &mut self,
+        at: Instance,
+        ballot: Ballot,
+        value: &[u8],
+    ) -> Result<(), AllocError> {
+        self.proposer.start(at, ballot, value)
+    }
+
+    /// Whether the attempts of a span were begun.
+    pub(crate) fn start_span(
+        &mut self,
+        first: Instance,
+        ballot: Ballot,
+        values: Vec<Vec<u8>>,
+    ) -> bool {
+        start_span(&mut self.proposer, first, ballot, values)
+    }
+
+    /// A node of the cluster promises an instance.
+    pub(crate) fn promise(
+        &mut self,
+        rt: &impl Abort,
+        from: u8,
+        at: Instance,
+        ballot: Ballot,
+        prior: Option<&Vote>,
+    ) -> Result<Option<Proposal>, ProposerFault> {
+        let from = self.cluster.node(from).expect(rt, "a node");
+        self.proposer.on_promise(from, at, ballot, prior)
+    }
+
+    pub(crate) fn resend(&self, at: Instance) -> Result<Option<Message>, AllocError> {
+        self.proposer.resend(at)
+    }
+
+    fn is_own(&self, at: Instance, value: Option<&str>) -> bool {
+        match (self.proposer.own_value(at), value) {
+            (Some(own), Some(text)) => own.as_bytes() == text.as_bytes(),
+            (None, None) => true,
+            _ => false,
+        }
+    }
+}
+
+fn span(rt: &impl Abort, member: &mut Member, first: u32, ballot: Ballot, bytes: &[u8; 3]) {
+    let values = three_values(member.alloc, bytes).expect(rt, "values");
+    assert!(rt; member.start_span(instance(rt, first), ballot, values));
+}
+
+fn promise(
+    rt: &impl Abort,
+    member: &mut Member,
+    from: u8,
+    at: Ballot,
+    prior: Option<&Vote>,
+    made: Option<&str>,
+) {
+    let proposal = member
+        .promise(rt, from, instance(rt, 7), at, prior)
+        .expect(rt, "memory");
+    assert!(rt;
+        is_made(&proposal, at, made),
+        "a promise of {from} for {made:?}"
+    );
+}
+
+fn tell(
+    rt: &impl Abort,
+    member: &mut Member,
+    from: u8,
+    at: Ballot,
+    told: Told,
+    made: Option<&str>,
+) {
+    let (round, node, text) = told;
+    let prior = vote(rt, member.alloc, ballot(rt, round, node), text);
+    promise(rt, member, from, at, Some(&prior), made);
+}
+
+fn sends(rt: &impl Abort, member: &Member, at: u32, sent: Sent) {
+    let message = member.resend(instance(rt, at)).expect(rt, "memory");
+    assert!(rt; is_sent(&message, sent), "{sent:?} at {at}");
+}
+
+fn act(rt: &impl Abort, member: &mut Member, step: Step) {
+    match step {
+        Step::Start(at, round, node, text) => {
+            let begun = member.start(instance(rt, at), ballot(rt, round, node), text.as_bytes());
+            assert!(rt; begun.is_ok());
+        }
+        Step::Span(first, round, node, bytes) => {
+            span(rt, member, first, ballot(rt, round, node), bytes);
+        }
+        Step::Promise(from, round, node, made) => {
+            promise(rt, member, from, ballot(rt, round, node), None, made);
+        }
+        Step::Tells(from, round, node, told, made) => {
+            tell(rt, member, from, ballot(rt, round, node), told, made);
+        }
+        Step::Sends(at, sent) => sends(rt, member, at, sent),
+        Step::Own(at, text) => assert!(rt; member.is_own(instance(rt, at), text)),
+        Step::Abandon(at) => member.proposer.abandon(instance(rt, at)),
+        Step::Room(at) => assert!(rt; member.proposer.make_room(instance(rt, at)).is_ok()),
+        Step::Open(count) => assert_eq!(rt; member.proposer.attempts(), count),
+    }
+}
+
+/// The steps of a proposer that has done nothing before.
+pub(crate) fn play(rt: &impl Abort, alloc: Global, size: u8, number: u8, steps: &[Step]) {
+    let mut member = Member::new(rt, alloc, size, number);
+    for step in steps {
+        act(rt, &mut member, *step);
+    }
+}
