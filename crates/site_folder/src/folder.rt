@@ -61,6 +61,8 @@ pub(crate) struct Reading {
     pub folder: Folder,
     /// What is put, a kind and a name each, parted by a space; and its line, 0 where a file puts it.
     pub found: BTreeMap<String, usize>,
+    /// What is removed, in the same way, and its line of `removes`.
+    pub removed: BTreeMap<String, usize>,
     pub calls: Vec<PartialCall>,
 }
 
@@ -92,6 +94,7 @@ impl Reading {
                 findings: Vec::new(alloc),
             },
             found: BTreeMap::new(alloc),
+            removed: BTreeMap::new(alloc),
             calls: Vec::new(alloc),
         }
     }
@@ -245,6 +248,27 @@ impl Reading {
         let text = format!(in self.alloc; "remove {word} {name}\n")?;
         if let Some(refusal) = self.judge(Vec::from_slice(self.alloc, text.as_bytes())?)? {
             return self.line_fault("removes", line.number, line_reason(&refusal.fault));
+        }
+        self.removed_once(kind, name, line.number)
+    }
+
+    /// Notes a removal, and finds that the folder puts the same or removes it twice.
+    fn removed_once(&mut self, kind: Kind, name: &str, line: usize) -> Result<(), AllocError>
+        ensures { AreCommands self.old.folder.commands.items → AreCommands self.new.folder.commands.items }
+    {
+        let word = kind_word(kind);
+        let key = key_of(self.alloc, kind, name)?;
+        if self.found.contains_key(key.as_str()) {
+            let reason = format!(in self.alloc;
+                "the {word} {name} is put by this folder too: take one of both away"
+            )?;
+            return self.line_fault("removes", line, reason.as_str());
+        }
+        if let Some(before) = self.removed.insert(key, line)? {
+            let reason = format!(in self.alloc;
+                "the {word} {name} is removed in line {before} already"
+            )?;
+            return self.line_fault("removes", line, reason.as_str());
         }
         Ok(())
     }

@@ -3,7 +3,7 @@
 //! Nothing here reads a file: `site_editor` does. `folder.rt` goes over the files, `judging.rt` asks `command` whether a text is a command, and
 //! where it is none `template_reasons.rt`, `data_reasons.rt` and `reasons.rt` say why, for people: the place, and what to do. `lines.rt` reads
 //! `routes`, `redirects` and `removes`. `checks.rt` looks for what is named and isn't there. `pages.rt` renders each route, as a node would, `moved.rt`
-//! makes the file of a page that moved, and `copies.rt` says which file of a static copy a page is. `beginning.rt` has a small site to start from.
+//! makes the file of a page that moved, and `copies.rt` says which file of a static copy a page is. `views.rt` says what a node shows of any texts. `beginning.rt` has a small site to start from.
 #![tactic(auto)]
 
 mod beginning;
@@ -21,12 +21,14 @@ mod place;
 mod reasons;
 mod roles;
 mod template_reasons;
+mod views;
 
 pub use beginning::BEGINNING;
 pub use copies::{Copies, NoCopy};
 pub use file::SiteFile;
 pub use finding::{Finding, Weight};
 pub use folder::{Folder, FolderCommand, Redirect, Route, folder_of};
-pub use pages::{Page, pages_of};
+pub use pages::{Page, pages_of, release_of};
 pub use place::{Place, place_of};
 pub use roles::{is_of_site, is_part, is_passed_over};
+pub use views::{View, path_in, views_of};

@@ -19,7 +19,7 @@ pub struct Page {
 }
 
 /// The releases of a text after those before, under the next ticket. Past the last instance nothing is fed.
-fn feed(alloc: Global, releases: &mut Releases, text: &[u8]) -> Result<(), AllocError> {
+pub(crate) fn feed(alloc: Global, releases: &mut Releases, text: &[u8]) -> Result<(), AllocError> {
     let number = releases.len() as u64;
     if number < u64::from(MAX_INSTANCE) {
         let value = write(alloc, Ticket { editor: 0, number }, text)?;
@@ -29,7 +29,7 @@ fn feed(alloc: Global, releases: &mut Releases, text: &[u8]) -> Result<(), Alloc
 }
 
 /// The page at a path of the first release; nothing where there is none.
-fn page_at(releases: &Releases, path: &str) -> Result<Option<Answer>, AllocError> {
+pub(crate) fn page_at(releases: &Releases, path: &str) -> Result<Option<Answer>, AllocError> {
     match releases.answer(1, path) {
         Ok(answer) => Ok(Some(answer)),
         Err(AnswerFault::NoSuchRelease) => Ok(None),
@@ -38,7 +38,7 @@ fn page_at(releases: &Releases, path: &str) -> Result<Option<Answer>, AllocError
 }
 
 /// The release of a folder's commands alone.
-fn release_of(alloc: Global, folder: &Folder) -> Result<Releases, AllocError> {
+pub fn release_of(alloc: Global, folder: &Folder) -> Result<Releases, AllocError> {
     let mut releases = Releases::new(alloc);
     for command in folder.commands.iter() {
         feed(alloc, &mut releases, &command.text)?;

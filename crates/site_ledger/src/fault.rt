@@ -35,8 +35,8 @@ impl<T: Drop> From<AllocFailed<T>> for LedgerFault {
 /// Why a text is no ledger.
 #[derive(Clone, Copy, Debug, Drop, PartialEq, Eq, Error)]
 pub enum ReadFault {
-    /// It is what `tools/publish` kept.
-    #[error("written by tools/publish: publish with that once more, until it says that nothing has changed; then remove this file and publish with sitepub, as a new editor")]
+    /// It is what the script `tools/publish` kept; to `read_old`, with something on its way.
+    #[error("the script tools/publish was interrupted here: publish with that script once more, until it says that nothing has changed, and then with sitepub")]
     Old,
     /// The line of that number, from 1, is the first that no ledger has.
     #[error("line {0} is none that sitepub wrote: take the file as it was, or remove it and publish as a new editor")]

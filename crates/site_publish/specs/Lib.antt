@@ -1,0 +1,5 @@
+pub mod Courses
+pub mod Flights
+pub mod Laws
+pub mod Moves
+pub mod Standings
