@@ -115,7 +115,8 @@ impl<D: Disk> Record<D> {
         if self.stopped {
             return Err(RecordFault::Stopped);
         }
-        if !self.has_room(10 + value.as_bytes().len()) {
+        let size = value.as_bytes().len();
+        if !self.has_room(10 + size) {
             return Err(RecordFault::Full);
         }
         let room = self
