@@ -1,0 +1,11 @@
+-- What a client still has to read: what is held, and what the reader has left.
+use Rattle.std.specs.Prelude.{ℕ, List, Option}
+use Rattle.std.specs.Io.KnownBytes.{prepend_known, Consumes}
+use Rattle.node_client.specs.Answers.{IsOf}
+use Rattle.node_client.specs.declared.answer.Answer.{Answer}
+
+-- an answer was taken from the front of it
+pub record Takes (old new : Option (List ℕ)) (answer : Answer) : Type 0 where
+  pub bytes : List ℕ
+  pub taken : Consumes old new bytes
+  pub is : IsOf bytes answer
