@@ -8,7 +8,7 @@ ghost use Rattle.node.specs.Faults.{IsUnread, IsSubmitCause};
 use crate::{Node, NodeFault, Submitted};
 use command::read;
 use site_disk::Disk;
-use site_ids::Ticket;
+use site_ids::{Ticket, Value};
 use std::alloc::Global;
 
 /// The ticket of a command that is submitted.
@@ -26,7 +26,7 @@ impl<D: Disk> Node<D> {
     ghost use Rattle.node.specs.Standing.{IsNodeOf, IsEvent, KeepsOthers, ending_of};
 
     /// Takes a command to be proposed, unless its ticket is pending or known.
-    pub fn submit(&mut self, value: &[u8]) -> Result<Submitted, NodeFault>
+    pub fn submit(&mut self, value: &Value) -> Result<Submitted, NodeFault>
         ensures event { IsEvent D.stands_for self.old self.new (submission value.now) (ending_of result) [] [] }
         ensures answered { IfOk result (λ answer. (s : AbstractNode) → IsNodeOf self.old s → IsAnswered s value.now answer) }
         ensures cause { IfErr result IsSubmitCause }
@@ -36,14 +36,14 @@ impl<D: Disk> Node<D> {
         if self.store.is_stopped() {
             return Err(NodeFault::Stopped);
         }
-        let ticket = submitted_ticket(self.alloc, value)?;
+        let ticket = submitted_ticket(self.alloc, value.as_bytes())?;
         if self.holds(ticket) {
             return Ok(Submitted::Already);
         }
         if self.queue.is_full() {
             return Err(NodeFault::QueueFull);
         }
-        self.queue.push(self.alloc, ticket, value)?;
+        self.queue.push(ticket, value)?;
         Ok(Submitted::Queued)
     }
 

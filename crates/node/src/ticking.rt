@@ -2,10 +2,8 @@
 
 ghost use Rattle.std.specs.Prelude.{◌≡◌, IsErrOf};
 
-use crate::{Node, NodeFault, Outbox, To};
+use crate::{Node, NodeFault, Outbox};
 use site_disk::Disk;
-use site_ids::Value;
-use wire::Message;
 
 impl<D: Disk> Node<D> {
     ghost use Rattle.node.specs.Calls.{tick as ticking};
@@ -28,22 +26,10 @@ impl<D: Disk> Node<D> {
         let Ok(ballot) = self.proposer.next_ballot(self.store.round()) else {
             return Err(NodeFault::RoundsUsedUp);
         };
-        let mut again = self.sent_again(instance)?;
-        outbox.reserve(1 + again.len())?;
-        self.proposer.make_room(instance)?;
-        let own = Value::copied_from(self.alloc, self.queue.oldest())?;
-        self.store.put_round(ballot.round())?;
-        self.proposer.open(instance, ballot, own);
-        outbox.push_reserved((
-            To::All,
-            Message::Prepare {
-                from: self.me,
-                instance,
-                ballot,
-                count: 1,
-            },
-        ));
-        let _ = outbox.append(&mut again);
-        Ok(())
+        let again = self.sent_again(instance)?;
+        let own = self.queue.oldest(self.alloc)?;
+        let mut values = Vec::new(self.alloc);
+        values.push(own)?;
+        self.begin(instance, ballot, values, again, outbox)
     }
 }

@@ -6,11 +6,10 @@ ghost use Rattle.proposer.specs.declared.TheConstants.{MAX_ATTEMPTS};
 ghost use Rattle.proposer.specs.Attempts.{Attempt};
 ghost use Rattle.proposer.specs.Standing.{Attempting};
 
-use crate::{Node, NodeFault, Outbox, To, WINDOW};
+use crate::{Node, NodeFault, Outbox, WINDOW};
 use site_disk::Disk;
 use site_ids::{Instance, Value};
 use std::alloc::AllocError;
-use wire::Message;
 
 impl<D: Disk> Node<D> {
     ghost use Rattle.node.specs.Nodes.{Node as AbstractNode, Value as Bytes, IsUnknown, IsFirstUnknown};
@@ -44,22 +43,9 @@ impl<D: Disk> Node<D> {
         let Ok(ballot) = self.proposer.next_ballot(self.store.round()) else {
             return Err(NodeFault::RoundsUsedUp);
         };
-        outbox.reserve(1)?;
         let most = self.free_run(first, instance);
         let values = self.untried(oldest, most)?;
-        let count = values.len() as u8;
-        self.proposer.make_room_for_span(instance, count)?;
-        self.store.put_round(ballot.round())?;
-        self.proposer.open_span(instance, ballot, values);
-        outbox.push_reserved((
-            To::All,
-            Message::Prepare {
-                from: self.me,
-                instance,
-                ballot,
-                count,
-            },
-        ));
+        self.begin(instance, ballot, values, Vec::new(self.alloc), outbox)?;
         Ok(true)
     }
 
@@ -140,7 +126,7 @@ impl<D: Disk> Node<D> {
         let Some(first) = self.queue.value_at(oldest) else {
             return Ok(values);
         };
-        values.push(first.try_clone(self.alloc)?)?;
+        values.push(first.try_clone()?)?;
         for place in oldest + 1..self.queue.len() {
             let Some(value) = self.queue.value_at(place) else {
                 return Ok(values);
@@ -161,7 +147,7 @@ impl<D: Disk> Node<D> {
         if self.proposer.tries(value.as_bytes()) {
             return Ok(());
         }
-        values.push(value.try_clone(self.alloc)?)?;
+        values.push(value.try_clone()?)?;
         Ok(())
     }
 }

@@ -12,7 +12,8 @@ use Rattle.node.specs.Again.{IsSentAgain}
 use Rattle.node.specs.Calls.{tick as ticking, oldest, Ticks}
 use Rattle.node.specs.Endings.{Refuses}
 use Rattle.node.specs.Standing.{IsNodeOf}
-use Rattle.node.proofs.FreshAttempts.{begun, ticks}
+use Rattle.node.specs.Beginning.{begun}
+use Rattle.node.proofs.FreshAttempts.{ticks}
 use Rattle.node.proofs.Gaps.{IsGap, first_unknown, all_known, not_all_known}
 use Rattle.node.proofs.Starting.{has_round, no_round, next_of, next_is_fresh, started}
 use Rattle.node.proofs.Stepping.{Handed, is_up, same_store, unmoved, whole, refused, wants_memory, put_fails}
@@ -25,9 +26,9 @@ wants_it old s i stands runs gap low = (is_up old s stands.parts runs, (not_all_
 
 -- the tick that the code makes of what it found
 ticks_so : {D : Type 0} (old : Running D) (s : Node) (i : ℕ) (b : BallotOf) (own : Value) (again : Handed) → IsNodeOf old s → IsGap old.known.log i → max old.store.recorded.round old.proposer.heard < MAX_ROUND → b ≡ next_of old → own ≡ oldest s.pending
-    → IsSentAgain old.me s i again → Ticks old.me s (begun old.me s i b (own ∷ []) 1 again)
+    → IsSentAgain old.me s i again → Ticks old.me s (begun old.me s i b (own ∷ []) again)
 ticks_so old s i b own again stands gap low next oldest_is sent =
-    subst (λ (l : Handed). Ticks old.me s (begun old.me s i b (own ∷ []) 1 l)) (sym sent.is)
+    subst (λ (l : Handed). Ticks old.me s (begun old.me s i b (own ∷ []) l)) (sym sent.is)
     (ticks old.me s i b own sent.elsewhere sent.are (first_unknown old.known.log s.known i stands.parts.known.values gap) (has_round old s stands.parts low) (next ∙ next_is_fresh old s stands.parts) oldest_is)
 
 pub returns-in_default-clause-event : goal.returns-in_default-clause-event
@@ -61,102 +62,34 @@ returns-in_err-again-clause-event g c =
     (λ s stands. wants_it old s c.in-Some.instance stands runs c.in-Some.ensures low)
     (same_store old.store old.store refl) (λ s parts. unmoved old _ s (record { me = refl; cluster = refl; releases = refl }) refl (record { learner = refl; known = refl; queue = refl; attempts = λ a are. are; heard = refl }) refl parts)
 
-pub returns-in_err-reserve-clause-event : goal.returns-in_err-reserve-clause-event
-returns-in_err-reserve-clause-event g c =
-    let old = c.args.self.now in
-    let runs = sym c.is_stopped.ensures ∙ c.if-is_stopped.false in
-    let low : max old.store.recorded.round old.proposer.heard < MAX_ROUND = omega (arith, ap (λ r. max r old.proposer.heard) c.round.ensures, c.in-Ok.ensures.1) in
-    wants_memory g.D.Disk.stands_for old _ ticking c.from_residual-in_err-reserve.result _ _ (record { me = refl; cluster = refl; releases = refl }) tt c.reserve.ensures.items c.from_residual-in_err-reserve.ensures.1
-    (λ s stands. wants_it old s c.in-Some.instance stands runs c.in-Some.ensures low)
-    (same_store old.store old.store refl) (λ s parts. unmoved old _ s (record { me = refl; cluster = refl; releases = refl }) refl (record { learner = refl; known = refl; queue = refl; attempts = λ a are. are; heard = refl }) refl parts)
-
-pub returns-in_err-make_room-clause-event : goal.returns-in_err-make_room-clause-event
-returns-in_err-make_room-clause-event g c =
-    let old = c.args.self.now in
-    let runs = sym c.is_stopped.ensures ∙ c.if-is_stopped.false in
-    let low : max old.store.recorded.round old.proposer.heard < MAX_ROUND = omega (arith, ap (λ r. max r old.proposer.heard) c.round.ensures, c.in-Ok.ensures.1) in
-    wants_memory g.D.Disk.stands_for old _ ticking c.from_residual-in_err-make_room.result _ _ (record { me = refl; cluster = refl; releases = refl }) tt c.reserve.ensures.items c.from_residual-in_err-make_room.ensures.1
-    (λ s stands. wants_it old s c.in-Some.instance stands runs c.in-Some.ensures low)
-    (same_store old.store old.store refl) (λ s parts. unmoved old _ s (record { me = refl; cluster = refl; releases = refl }) refl (record { learner = refl; known = refl; queue = refl; attempts = c.make_room.ensures.stays; heard = c.make_room.ensures.same.2 }) refl parts)
-
 pub returns-in_err-own-clause-event : goal.returns-in_err-own-clause-event
 returns-in_err-own-clause-event g c =
     let old = c.args.self.now in
     let runs = sym c.is_stopped.ensures ∙ c.if-is_stopped.false in
     let low : max old.store.recorded.round old.proposer.heard < MAX_ROUND = omega (arith, ap (λ r. max r old.proposer.heard) c.round.ensures, c.in-Ok.ensures.1) in
-    wants_memory g.D.Disk.stands_for old _ ticking c.from_residual-in_err-own.result _ _ (record { me = refl; cluster = refl; releases = refl }) tt c.reserve.ensures.items c.from_residual-in_err-own.ensures.1
+    wants_memory g.D.Disk.stands_for old _ ticking c.from_residual-in_err-own.result _ _ (record { me = refl; cluster = refl; releases = refl }) tt refl c.from_residual-in_err-own.ensures.1
     (λ s stands. wants_it old s c.in-Some.instance stands runs c.in-Some.ensures low)
-    (same_store old.store old.store refl) (λ s parts. unmoved old _ s (record { me = refl; cluster = refl; releases = refl }) refl (record { learner = refl; known = refl; queue = refl; attempts = c.make_room.ensures.stays; heard = c.make_room.ensures.same.2 }) refl parts)
+    (same_store old.store old.store refl) (λ s parts. unmoved old _ s (record { me = refl; cluster = refl; releases = refl }) refl (record { learner = refl; known = refl; queue = refl; attempts = λ a are. are; heard = refl }) refl parts)
 
-pub returns-in_err-put_round-clause-event : goal.returns-in_err-put_round-clause-event
-returns-in_err-put_round-clause-event g c =
+pub returns-in_err-push-clause-event : goal.returns-in_err-push-clause-event
+returns-in_err-push-clause-event g c =
     let old = c.args.self.now in
     let runs = sym c.is_stopped.ensures ∙ c.if-is_stopped.false in
-    let i = c.in-Some.instance in
-    let b = c.in-Ok.ballot in
-    let failed = c.in_err-put_round in
-    let told = c.from_residual-in_err-put_round in
-    let next : ℕ → BallotOf = λ r. record { round = max r old.proposer.heard + 1; node = old.proposer.me } in
     let low : max old.store.recorded.round old.proposer.heard < MAX_ROUND = omega (arith, ap (λ r. max r old.proposer.heard) c.round.ensures, c.in-Ok.ensures.1) in
-    put_fails g.D.Disk.stands_for g.D.Disk.failed old _ (Round c.round-2.result) (record { me = refl; cluster = refl; releases = refl }) runs ticking failed.field-0.0 told.result _ _ tt (record { learner = refl; known = refl; queue = refl; attempts = c.make_room.ensures.stays; heard = c.make_room.ensures.same.2 }) refl c.reserve.ensures.items failed.ensures.put told.ensures.1
-    (λ s stands. (
-      begun old.me s i b (c.in_ok-own.own ∷ []) 1 c.in_ok-again.again.items,
-      ticks_so old s i b c.in_ok-own.own c.in_ok-again.again.items stands c.in-Some.ensures low (c.in-Ok.ensures.0 ∙ ap next c.round.ensures) (c.in_ok-own.ensures ∙ c.oldest.ensures s.pending stands.parts.pending)
-          (c.in_ok-again.ensures s (record {
-            parts = record {
-              on_record = stands.parts.on_record;
-              votes = stands.parts.votes;
-              known = stands.parts.known;
-              attempts = stands.parts.attempts;
-              pending = stands.parts.pending;
-              heard = stands.parts.heard;
-              reached = stands.parts.reached;
-            };
-            tidy = stands.tidy;
-            ranges = stands.ranges;
-            fed = stands.fed;
-          }) (first_unknown old.known.log s.known i stands.parts.known.values c.in-Some.ensures)),
-      ap (λ r. Some (Round r)) (sym c.round-2.ensures.is),
-    ))
-    (λ s stands. wants_it old s i stands runs c.in-Some.ensures low)
+    wants_memory g.D.Disk.stands_for old _ ticking c.from_residual-in_err-push.result _ _ (record { me = refl; cluster = refl; releases = refl }) tt refl c.from_residual-in_err-push.ensures.1
+    (λ s stands. wants_it old s c.in-Some.instance stands runs c.in-Some.ensures low)
+    (same_store old.store old.store refl) (λ s parts. unmoved old _ s (record { me = refl; cluster = refl; releases = refl }) refl (record { learner = refl; known = refl; queue = refl; attempts = λ a are. are; heard = refl }) refl parts)
 
 pub returns-clause-event : goal.returns-clause-event
 returns-clause-event g c =
     let old = c.args.self.now in
     let runs = sym c.is_stopped.ensures ∙ c.if-is_stopped.false in
-    let i = c.in-Some.instance in
-    let b = c.in-Ok.ballot in
-    let put = c.in_ok-put_round.ensures.put in
-    let next : ℕ → BallotOf = λ r. record { round = max r old.proposer.heard + 1; node = old.proposer.me } in
-    let out : Handed = (All, Prepare old.me i b 1) ∷ c.in_ok-again.again.items in
     let low : max old.store.recorded.round old.proposer.heard < MAX_ROUND = omega (arith, ap (λ r. max r old.proposer.heard) c.round.ensures, c.in-Ok.ensures.1) in
-    whole g.D.Disk.stands_for old _ ticking _ _ out (record { me = refl; cluster = refl; releases = refl }) runs tt (many_more c.args.outbox.now.items _ _ _ _ _ c.reserve.ensures.items c.push_reserved.ensures.items (when_ok c.append.result _ _ _ (c.append.ensures.succeeds (omega (arith, c.in_ok-reserve.ensures.ok, c.push_reserved.ensures.len, c.push_reserved.ensures.capacity, c.len.ensures))) c.append.ensures.items))
-    (λ s stands. started g.D.Disk.stands_for g.D.Disk.failed old _ s ticking i b (c.in_ok-own.own ∷ []) 1 c.in_ok-again.again.items stands runs (record { me = refl; cluster = refl; releases = refl })
-    (ticks_so old s i b c.in_ok-own.own c.in_ok-again.again.items stands c.in-Some.ensures low (c.in-Ok.ensures.0 ∙ ap next c.round.ensures) (c.in_ok-own.ensures ∙ c.oldest.ensures s.pending stands.parts.pending)
-    (c.in_ok-again.ensures s (record {
-      parts = record {
-        on_record = stands.parts.on_record;
-        votes = stands.parts.votes;
-        known = stands.parts.known;
-        attempts = stands.parts.attempts;
-        pending = stands.parts.pending;
-        heard = stands.parts.heard;
-        reached = stands.parts.reached;
-      };
-      tidy = stands.tidy;
-      ranges = stands.ranges;
-      fed = stands.fed;
-    }) (first_unknown old.known.log s.known i stands.parts.known.values c.in-Some.ensures)))
-    (record {
-      put = subst (λ (r : ℕ). IsPut g.D.Disk.failed old.store c.put_round.new.self (Round r)) c.round-2.ensures.is put.put;
-      acknowledged = subst (λ (r : ℕ). Acknowledges g.D.Disk.stands_for old.store c.put_round.new.self (Round r)) c.round-2.ensures.is put.acknowledged;
-      attempts = λ attempts are. c.open.ensures.opened attempts (c.make_room.ensures.stays attempts are);
-      heard = c.open.ensures.same.2 ∙ c.make_room.ensures.same.2;
-      learner = refl;
-      known = refl;
-      queue = refl;
-      reached = refl;
-    }))
-
-pub returns-clause-grows : goal.returns-clause-grows
-returns-clause-grows g c = (_, many_more c.args.outbox.now.items _ _ _ _ _ c.reserve.ensures.items c.push_reserved.ensures.items (when_ok c.append.result _ _ _ (c.append.ensures.succeeds (omega (arith, c.in_ok-reserve.ensures.ok, c.push_reserved.ensures.len, c.push_reserved.ensures.capacity, c.len.ensures))) c.append.ensures.items))
+    let next : ℕ → BallotOf = λ r. record { round = max r old.proposer.heard + 1; node = old.proposer.me } in
+    let i = c.in-Some.instance in
+    c.begin.ensures.event ticking (record {
+      in_range = tt;
+      does = λ s stands. ticks_so old s i c.in-Ok.ballot c.in_ok-own.own c.in_ok-again.again.items stands c.in-Some.ensures low (c.in-Ok.ensures.0 ∙ ap next c.round.ensures) (c.in_ok-own.ensures s.pending stands.parts.pending)
+          (c.in_ok-again.ensures s stands (first_unknown old.known.log s.known i stands.parts.known.values c.in-Some.ensures));
+      wants = λ s stands. wants_it old s i stands runs c.in-Some.ensures low;
+    })
