@@ -57,7 +57,7 @@ pub fn with_byte(
 fn copies(alloc: Global, entries: &[Entry]) -> Result<Vec<Entry>, AllocError> {
     let mut copies = Vec::new(alloc);
     for entry in entries {
-        copies.push(entry.try_clone(alloc)?)?;
+        copies.push(entry.try_clone()?)?;
     }
     Ok(copies)
 }

@@ -1,12 +1,13 @@
 //! Record files byte by byte.
 use crate::samples::{
     ONE_PROMISE, ONE_ROUND, ballot, disk_of, empty, instance, one_of_three, opened, put_promise,
-    put_round, put_vote, refusal,
+    put_round, put_vote_for, refusal,
 };
 use acceptor::Slot;
 use durable::{Record, RecordFault};
 use site_disk::{Call, Disk, MemDisk};
 use site_ids::Ballot;
+use std::alloc::Global;
 use std::process::Abort;
 
 fn letter_of(call: &Call) -> char {
@@ -67,12 +68,13 @@ fn a_round_is_four_calls_and_eleven_bytes(rt: HostRuntime) {
     assert_eq!(rt; opened(&rt, rt.alloc(), disk).round(), 1);
 }
 
-fn put_seventy(rt: &impl Abort, record: &mut Record<MemDisk>) {
+fn put_seventy(rt: &impl Abort, alloc: Global, record: &mut Record<MemDisk>) {
     let ballot = ballot(rt, 1);
     for number in 1..71u8 {
         let at = instance(rt, u32::from(number));
         assert_eq!(rt; put_promise(record, at, ballot), Ok(()));
-        assert_eq!(rt; put_vote(record, at, ballot, &[number; 1000]), Ok(()));
+        let put = put_vote_for(rt, alloc, record, (at, ballot), &[number; 1000]);
+        assert_eq!(rt; put, Ok(()));
     }
 }
 
@@ -95,6 +97,6 @@ fn read_seventy(rt: &impl Abort, record: &Record<MemDisk>) {
 #[test]
 fn seventy_votes_read_back(rt: HostRuntime) {
     let mut record = empty(&rt, rt.alloc());
-    put_seventy(&rt, &mut record);
+    put_seventy(&rt, rt.alloc(), &mut record);
     read_seventy(&rt, &opened(&rt, rt.alloc(), record.close()));
 }

@@ -8,7 +8,7 @@ use crate::history::is_free_below;
 use acceptor::{PrepareVerdict, ProposeVerdict, judge_prepare, judge_propose};
 use durable::{Record, RecordFault};
 use site_disk::{Disk, MemDisk};
-use site_ids::{Ballot, Cluster, Instance, MAX_VALUE, NodeId};
+use site_ids::{Ballot, Cluster, Instance, MAX_VALUE, NodeId, Value};
 use std::alloc::Global;
 use std::process::Abort;
 
@@ -137,17 +137,32 @@ pub fn put_span<D: Disk>(
     }
 }
 
+/// Puts a vote for these bytes.
+pub fn put_vote_for<D: Disk>(
+    rt: &impl Abort,
+    alloc: Global,
+    record: &mut Record<D>,
+    vote: (Instance, Ballot),
+    bytes: &[u8],
+) -> Result<(), RecordFault> {
+    let (instance, ballot) = vote;
+    let value = Value::copied_from(alloc, bytes).expect(rt, "memory");
+    put_vote(record, instance, ballot, &value)
+}
+
 /// Puts a vote. `NotARecord` where an acceptor wouldn't vote.
-pub fn put_vote<D: Disk>(
+fn put_vote<D: Disk>(
     record: &mut Record<D>,
     instance: Instance,
     ballot: Ballot,
-    value: &[u8],
+    value: &Value,
 ) -> Result<(), RecordFault> {
-    if record.cluster().node(ballot.node().number()).is_none() || value.len() > MAX_VALUE {
+    if record.cluster().node(ballot.node().number()).is_none()
+        || value.as_bytes().len() > MAX_VALUE
+    {
         return Err(RecordFault::NotARecord);
     }
-    match judge_propose(record.slot(instance), ballot, value) {
+    match judge_propose(record.slot(instance), ballot, value.as_bytes()) {
         ProposeVerdict::Vote => record.put_vote(instance, ballot, value),
         _ => Err(RecordFault::NotARecord),
     }

@@ -1,6 +1,8 @@
 //! The promise of a span on record.
 use crate::listed::SPANNED;
-use crate::samples::{ballot, empty, instance, opened, put_promise, put_span, put_vote, refusal};
+use crate::samples::{
+    ballot, empty, instance, opened, put_promise, put_span, put_vote_for, refusal,
+};
 use acceptor::Slot;
 use durable::{Record, RecordFault};
 use site_disk::{Armed, Disk, MemDisk};
@@ -68,11 +70,17 @@ fn promises(rt: &impl Abort, record: &Record<MemDisk>, first: u32, rounds: &[u32
 }
 
 /// Puts, where the step is one.
-fn put(rt: &impl Abort, record: &mut Record<MemDisk>, step: Step) -> Result<(), RecordFault> {
+fn put(
+    rt: &impl Abort,
+    alloc: Global,
+    record: &mut Record<MemDisk>,
+    step: Step,
+) -> Result<(), RecordFault> {
     match step {
         Step::Promise(at, round) => put_promise(record, instance(rt, at), ballot(rt, round)),
         Step::Vote(at, round, text) => {
-            put_vote(record, instance(rt, at), ballot(rt, round), text.as_bytes())
+            let vote = (instance(rt, at), ballot(rt, round));
+            put_vote_for(rt, alloc, record, vote, text.as_bytes())
         }
         Step::Span(first, count, round) | Step::NoSpan(first, count, round) => {
             put_span(record, instance(rt, first), count, ballot(rt, round))
@@ -95,27 +103,27 @@ fn look(rt: &impl Abort, record: &Record<MemDisk>, step: Step) {
     }
 }
 
-fn act(rt: &impl Abort, record: &mut Record<MemDisk>, step: Step) {
+fn act(rt: &impl Abort, alloc: Global, record: &mut Record<MemDisk>, step: Step) {
     let wanted = match step {
         Step::NoSpan(..) => Err(RecordFault::NotARecord),
         _ => Ok(()),
     };
-    assert_eq!(rt; put(rt, record, step), wanted, "{step:?}");
+    assert_eq!(rt; put(rt, alloc, record, step), wanted, "{step:?}");
     look(rt, record, step);
 }
 
-fn act_all(rt: &impl Abort, record: &mut Record<MemDisk>, steps: &[Step]) {
+fn act_all(rt: &impl Abort, alloc: Global, record: &mut Record<MemDisk>, steps: &[Step]) {
     for step in steps {
-        act(rt, record, *step);
+        act(rt, alloc, record, *step);
     }
 }
 
 /// Steps of an empty record, and further ones where it was closed and opened again.
 fn play(rt: &impl Abort, alloc: Global, before: &[Step], behind: &[Step]) {
     let mut record = empty(rt, alloc);
-    act_all(rt, &mut record, before);
+    act_all(rt, alloc, &mut record, before);
     let mut record = opened(rt, alloc, record.close());
-    act_all(rt, &mut record, behind);
+    act_all(rt, alloc, &mut record, behind);
 }
 
 /// The disk has these bytes, behind so many calls.
@@ -131,7 +139,7 @@ fn is_spanned(rt: &impl Abort, disk: &mut MemDisk) {
 fn a_span_is_one_entry_of_sixteen_bytes(rt: HostRuntime) {
     let promised = [Step::Span(5, 3, 1), Step::Promised(4, &[0, 1, 1, 1, 0])];
     let mut record = empty(&rt, rt.alloc());
-    act_all(&rt, &mut record, &promised);
+    act_all(&rt, rt.alloc(), &mut record, &promised);
     let mut disk = record.close();
     is_spanned(&rt, &mut disk);
     let record = opened(&rt, rt.alloc(), disk);
