@@ -6,7 +6,7 @@ use crate::halt::Halt;
 use durable::{Record, RecordFault};
 use node::{Node, NodeFault, Outbox, Submitted, To};
 use site_disk::MemDisk;
-use site_ids::{Cluster, Instance, NodeId, Ticket};
+use site_ids::{Cluster, Instance, NodeId, Ticket, Value};
 use std::alloc::Global;
 use std::process::Abort;
 use wire::Message;
@@ -147,7 +147,7 @@ impl Peer {
         self.node.tell(to, first, &mut self.out)
     }
 
-    pub(crate) fn submit(&mut self, value: &[u8]) -> Result<Submitted, NodeFault> {
+    pub(crate) fn submit(&mut self, value: &Value) -> Result<Submitted, NodeFault> {
         self.node.submit(value)
     }
 

@@ -47,7 +47,7 @@ fn promise_of(node: &Peer, from: u8) -> Result<Message, Halt> {
 fn vote_of(node: &Peer, from: u8) -> Result<Message, Halt> {
     let release = value(node.alloc(), 1, "release\n")?;
     let at = ballot(1, node.other(1)?)?;
-    accepted(node.alloc(), node.other(from)?, at, release.as_slice())
+    accepted(node.alloc(), node.other(from)?, at, release.as_bytes())
 }
 
 fn message(node: &Peer, said: Said) -> Result<Message, Halt> {
@@ -66,7 +66,7 @@ fn act(node: &mut Peer, step: Step) -> Result<(), Halt> {
     match step {
         Step::Submit => {
             let release = value(node.alloc(), 1, "release\n")?;
-            let _ = node.submit(release.as_slice())?;
+            let _ = node.submit(&release)?;
             Ok(())
         }
         Step::Ask => Ok(node.ask()?),

@@ -6,7 +6,7 @@ use crate::samples::{
     question, value,
 };
 use node::{NodeFault, Submitted};
-use site_ids::Ticket;
+use site_ids::{Ticket, Value};
 use std::process::Abort;
 
 /// A node tells its vote at ballot (1, 1).
@@ -22,9 +22,9 @@ fn choose(node: &mut Peer, at: u32, value: &[u8]) -> Result<(), Halt> {
     node.hand(&message)
 }
 
-fn a_majority_of_votes(rt: &impl Abort, node: &mut Peer, release: &[u8]) -> Result<(), Halt> {
+fn a_majority_of_votes(rt: &impl Abort, node: &mut Peer, release: &Value) -> Result<(), Halt> {
     for (from, known) in [(2, 0), (2, 0), (2, 0), (3, 0), (4, 1)] {
-        tell(node, from, release)?;
+        tell(node, from, release.as_bytes())?;
         assert_eq!(rt; node.known(), known, "a vote of node {from}");
     }
     assert_eq!(rt; node.publish()?, 1);
@@ -37,7 +37,7 @@ fn a_majority_of_votes(rt: &impl Abort, node: &mut Peer, release: &[u8]) -> Resu
 fn votes_of_a_majority_make_a_value_known(rt: HostRuntime) {
     let release = value(rt.alloc(), 1, "release\n").expect(&rt, "a value");
     let mut node = Peer::fresh(&rt, rt.alloc(), 5);
-    a_majority_of_votes(&rt, &mut node, release.as_slice()).expect(&rt, "a row");
+    a_majority_of_votes(&rt, &mut node, &release).expect(&rt, "a row");
 }
 
 /// A chosen value, how many are known without a gap then, and the newest release.
@@ -47,8 +47,8 @@ fn step(
     row: (u32, u64, &'static str, u32, u64),
 ) -> Result<(), Halt> {
     let (at, number, text, known, newest) = row;
-    let bytes = value(node.alloc(), number, text)?;
-    choose(node, at, bytes.as_slice())?;
+    let value = value(node.alloc(), number, text)?;
+    choose(node, at, value.as_bytes())?;
     assert_eq!(rt; node.known(), known, "after instance {at}");
     assert_eq!(rt; node.publish()?, newest, "after instance {at}");
     Ok(())
@@ -85,8 +85,8 @@ fn submitted(
     number: u64,
     text: &str,
 ) -> Result<Result<Submitted, NodeFault>, Halt> {
-    let bytes = value(node.alloc(), number, text)?;
-    Ok(node.submit(bytes.as_slice()))
+    let value = value(node.alloc(), number, text)?;
+    Ok(node.submit(&value))
 }
 
 fn sixty_four(rt: &impl Abort, node: &mut Peer) -> Result<(), Halt> {

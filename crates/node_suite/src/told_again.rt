@@ -138,7 +138,7 @@ fn long_value(node: &mut Peer, at: u32, size: usize) -> Result<(), Halt> {
         from,
         instance: instance(at)?,
         ballot: ballot(1, from)?,
-        value: Value::from_bytes(bytes),
+        value: Value::from_bytes(bytes)?,
     };
     node.hand(&message)
 }

@@ -55,7 +55,7 @@ fn act(rt: &impl Abort, node: &mut Peer, step: Step) -> Result<(), Halt> {
         Step::Submit(first, last) => {
             for number in first..=last {
                 let release = value(node.alloc(), number, "release\n")?;
-                let _ = node.submit(release.as_slice())?;
+                let _ = node.submit(&release)?;
             }
         }
         Step::Chosen(at) => {

@@ -26,13 +26,14 @@ fn check_disk(rt: &impl Abort, disk: &mut FileDisk) {
     assert_eq!(rt; disk.failures(), 1);
 }
 
-/// A record on a new file takes a round.
-fn keep_round(rt: &impl Abort, alloc: Global, file: File) {
+/// A record on a new file takes a round, and the reader finds it while the record is open.
+fn keep_round(rt: &impl Abort, alloc: Global, file: File, reader: &File) {
     let (cluster, node) = one_of_three(rt, 2);
     let mut disk = FileDisk::new(file);
     Record::format(cluster, node, &mut disk).expect(rt, "a record");
     let mut record = opened(rt, alloc, disk);
     assert_eq!(rt; put_round(&mut record, 1), Ok(()));
+    has_bytes(rt, reader, ONE_ROUND);
 }
 
 fn find_round(rt: &impl Abort, alloc: Global, file: File) {
@@ -50,8 +51,8 @@ fn a_real_file_keeps_the_record(rt: HostRuntime) -> Result<(), Fail> {
         .write(true)
         .create(true)
         .open(&rt, FILE)?;
-    keep_round(&rt, rt.alloc(), file);
-    has_bytes(&rt, &File::open(&rt, FILE)?, ONE_ROUND);
+    let reader = File::open(&rt, FILE)?;
+    keep_round(&rt, rt.alloc(), file, &reader);
     File::open(&rt, FOLDER)?.sync_all()?;
     let file = OpenOptions::new().read(true).write(true).open(&rt, FILE)?;
     assert_eq!(rt; file.metadata()?.len(), 21);
