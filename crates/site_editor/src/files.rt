@@ -36,7 +36,7 @@ pub(crate) fn below(alloc: Global, path: &str, name: &str) -> Result<String, All
     format!(in alloc; "{path}/{name}")
 }
 
-fn at_path(alloc: Global, path: &str, fault: io::Error) -> Halt {
+pub(crate) fn at_path(alloc: Global, path: &str, fault: io::Error) -> Halt {
     if fault.kind() == io::ErrorKind::OutOfMemory {
         return Halt::OutOfMemory;
     }

@@ -1,4 +1,5 @@
 use clap::error::ErrorKind;
+use site_ledger::LedgerFault;
 use std::alloc::{AllocError, AllocFailed};
 use std::io;
 use thiserror::Error;
@@ -18,6 +19,17 @@ pub(crate) enum Halt {
     ManyFolders,
     #[error("standard output could not be written")]
     Write,
+    /// Why a group or a ledger lets nothing go on, and what to do.
+    #[error("{0}")]
+    Stop(String),
+    #[error("the editor has no tickets left: remove the file published, and publish as a new editor")]
+    NoTickets,
+    #[error("no node is named")]
+    NoNodes,
+    #[error("the clock can't be read")]
+    Clock,
+    #[error("the system gives no random bytes")]
+    Random,
     #[error("out of memory")]
     OutOfMemory,
 }
@@ -31,6 +43,15 @@ impl From<AllocError> for Halt {
 impl<T: Drop> From<AllocFailed<T>> for Halt {
     fn from(_refused: AllocFailed<T>) -> Halt {
         Halt::OutOfMemory
+    }
+}
+
+impl From<LedgerFault> for Halt {
+    fn from(fault: LedgerFault) -> Halt {
+        match fault {
+            LedgerFault::NoTickets => Halt::NoTickets,
+            LedgerFault::OutOfMemory => Halt::OutOfMemory,
+        }
     }
 }
 
@@ -48,7 +69,15 @@ impl Halt {
     pub(crate) fn status(&self) -> u8 {
         match self {
             Halt::Line(_) | Halt::NotUtf8 => 2,
-            Halt::File(_, _) | Halt::ManyFolders | Halt::Write | Halt::OutOfMemory => 1,
+            Halt::File(_, _)
+            | Halt::ManyFolders
+            | Halt::Write
+            | Halt::Stop(_)
+            | Halt::NoTickets
+            | Halt::NoNodes
+            | Halt::Clock
+            | Halt::Random
+            | Halt::OutOfMemory => 1,
         }
     }
 }

@@ -1,9 +1,17 @@
 //! The command line of `sitepub`.
+use crate::halt::Halt;
+use crate::publishing::Publishing;
 use clap::{Arg, ArgAction, ArgMatches, Command, Error};
-use std::alloc::Global;
+use std::alloc::{AllocError, Global};
+
+/// How many seconds may pass without progress, where none are given.
+const PATIENCE: u64 = 60;
+
+/// Where a preview answers, where nothing else is said.
+const PREVIEW: &str = "127.0.0.1:8000";
 
 /// What `sitepub` is told to do.
-#[derive(Clone, Copy, Debug)]
+#[derive(Debug, Drop)]
 pub(crate) enum Word<'a> {
     /// Writes a small site to start from.
     New {
@@ -19,6 +27,22 @@ pub(crate) enum Word<'a> {
         folder: &'a str,
         out: &'a str,
         ignore: bool,
+    },
+    /// Makes a folder the next release of a group.
+    Publish(Publishing<'a>),
+    /// Serves a folder as it is on disk.
+    Preview {
+        folder: &'a str,
+        http: &'a str,
+        ignore: bool,
+    },
+    /// Tells the releases of a folder.
+    Log {
+        folder: &'a str,
+    },
+    /// Tells what each node says of itself.
+    Status {
+        urls: Vec<&'a str>,
     },
 }
 
@@ -70,6 +94,88 @@ fn export_word<'a>(alloc: Global) -> Result<Command<'a>, Error> {
     )
 }
 
+fn urls_argument<'a>(alloc: Global) -> Arg<'a> {
+    Arg::new(alloc, "url")
+        .value_name("URL")
+        .help("The address of a node, as http://127.0.0.1:8001; the first that answers is kept to")
+        .required(true)
+        .action(ArgAction::Append)
+}
+
+fn publish_word<'a>(alloc: Global) -> Result<Command<'a>, Error> {
+    Ok(
+        Command::new(alloc, "publish")
+            .about(
+                "Makes a folder the next release of a group, and goes on where it was interrupted",
+            )
+            .arg(folder_argument(alloc, "The folder of the site"))?
+            .arg(urls_argument(alloc))?
+            .arg(
+                Arg::new(alloc, "editor")
+                    .long("editor")
+                    .value_name("E")
+                    .help(
+                        "The editor's number; by default that of FOLDER/published, at first one at random",
+                    )
+                    .value_parser(clap::value_parser!(u32))
+                    .action(ArgAction::Set),
+            )?
+            .arg(
+                Arg::new(alloc, "patience")
+                    .long("patience")
+                    .value_name("SECONDS")
+                    .help("Gives up where so many seconds pass without progress; 60 by default")
+                    .value_parser(clap::value_parser!(u64))
+                    .action(ArgAction::Set),
+            )?
+            .arg(
+                Arg::new(alloc, "dry-run")
+                    .long("dry-run")
+                    .help(
+                        "Tells what would be put and removed, and which pages change; asks and sends nothing",
+                    )
+                    .action(ArgAction::SetTrue),
+            )?
+            .arg(ignore_flag(alloc))?,
+    )
+}
+
+fn preview_word<'a>(alloc: Global) -> Result<Command<'a>, Error> {
+    Ok(
+        Command::new(alloc, "preview")
+            .about(
+                "Serves a folder to a browser as it is on disk at each request; what is wrong with it in place of its pages",
+            )
+            .arg(folder_argument(alloc, "The folder of the site"))?
+            .arg(
+                Arg::new(alloc, "http")
+                    .long("http")
+                    .value_name("ADDRESS")
+                    .help("Where it answers, IP:PORT; 127.0.0.1:8000 by default")
+                    .action(ArgAction::Set),
+            )?
+            .arg(ignore_flag(alloc))?,
+    )
+}
+
+fn log_word<'a>(alloc: Global) -> Result<Command<'a>, Error> {
+    Ok(
+        Command::new(alloc, "log")
+            .about("Tells the releases that were made of a folder: number, time, how many commands")
+            .arg(folder_argument(alloc, "The folder of the site"))?,
+    )
+}
+
+fn status_word<'a>(alloc: Global) -> Result<Command<'a>, Error> {
+    Ok(
+        Command::new(alloc, "status")
+            .about(
+                "Tells of each node whether it answers, its newest release, and whether it shows the same; status 1 where one is silent, behind or differs",
+            )
+            .arg(urls_argument(alloc))?,
+    )
+}
+
 fn matches_of<'a>(alloc: Global, words: &'a [String]) -> Result<ArgMatches<'a>, Error> {
     Command::new(alloc, "sitepub")
         .about("What an editor does with a folder of a site")
@@ -78,6 +184,10 @@ fn matches_of<'a>(alloc: Global, words: &'a [String]) -> Result<ArgMatches<'a>, 
         .subcommand(new_word(alloc)?)?
         .subcommand(check_word(alloc)?)?
         .subcommand(export_word(alloc)?)?
+        .subcommand(preview_word(alloc)?)?
+        .subcommand(publish_word(alloc)?)?
+        .subcommand(log_word(alloc)?)?
+        .subcommand(status_word(alloc)?)?
         .try_get_matches_from(words)
 }
 
@@ -86,8 +196,27 @@ fn text<'a>(matches: &ArgMatches<'a>, id: &str) -> &'a str {
     matches.get_str(id).unwrap_or("")
 }
 
+/// All that were given as a URL.
+fn urls<'a>(alloc: Global, matches: &ArgMatches<'a>) -> Result<Vec<&'a str>, AllocError> {
+    match matches.get_strs("url") {
+        Some(given) => Vec::from_slice(alloc, given),
+        None => Ok(Vec::new(alloc)),
+    }
+}
+
+fn publishing<'a>(alloc: Global, found: &ArgMatches<'a>) -> Result<Publishing<'a>, AllocError> {
+    Ok(Publishing {
+        folder: text(found, "folder"),
+        urls: urls(alloc, found)?,
+        editor: found.get_one::<u32>("editor"),
+        patience: found.get_one::<u64>("patience").unwrap_or(PATIENCE),
+        dry_run: found.get_flag("dry-run"),
+        ignore: found.get_flag("ignore"),
+    })
+}
+
 /// Reads the words of a command line, the program's name first. `clap` says why it refuses others, help among it.
-pub(crate) fn word_in<'a>(alloc: Global, words: &'a [String]) -> Result<Option<Word<'a>>, Error> {
+pub(crate) fn word_in<'a>(alloc: Global, words: &'a [String]) -> Result<Option<Word<'a>>, Halt> {
     let matches = matches_of(alloc, words)?;
     match matches.subcommand() {
         Some(("new", found)) => Ok(Some(Word::New {
@@ -101,6 +230,18 @@ pub(crate) fn word_in<'a>(alloc: Global, words: &'a [String]) -> Result<Option<W
             folder: text(found, "folder"),
             out: text(found, "out"),
             ignore: found.get_flag("ignore"),
+        })),
+        Some(("publish", found)) => Ok(Some(Word::Publish(publishing(alloc, found)?))),
+        Some(("preview", found)) => Ok(Some(Word::Preview {
+            folder: text(found, "folder"),
+            http: found.get_str("http").unwrap_or(PREVIEW),
+            ignore: found.get_flag("ignore"),
+        })),
+        Some(("log", found)) => Ok(Some(Word::Log {
+            folder: text(found, "folder"),
+        })),
+        Some(("status", found)) => Ok(Some(Word::Status {
+            urls: urls(alloc, found)?,
         })),
         _ => Ok(None),
     }

@@ -1,125 +1,20 @@
 //! What the words do.
-use crate::files::{below, files_of, is_free, write_file};
+use crate::files::{below, is_free, write_file};
 use crate::halt::Halt;
 use crate::line::{Word, word_in};
-use site_folder::{BEGINNING, Copies, Finding, Folder, NoCopy, Page, Weight, folder_of, pages_of};
+use crate::log_word::tell_log;
+use crate::preview_word::preview;
+use crate::publishing::publish;
+use crate::reading::{Clean, read_clean};
+use crate::status_word::tell_status;
+use crate::telling::say;
+use site_folder::{BEGINNING, Copies, NoCopy, Page};
 use std::alloc::Global;
 use std::env;
 use std::io::{self, Write};
-use std::rt::{Env, Files};
-
-/// Writes a line.
-fn say<W: Write>(out: &mut W, line: &str) -> Result<(), Halt> {
-    match writeln!(out, "{line}") {
-        Ok(()) => Ok(()),
-        Err(_) => Err(Halt::Write),
-    }
-}
-
-/// Writes what is wrong with a folder, as one line.
-fn tell<E: Write>(alloc: Global, err: &mut E, folder: &str, finding: &Finding) -> Result<(), Halt> {
-    let line = format!(in alloc; "{folder}/{finding}")?;
-    say(err, line.as_str())
-}
-
-/// Writes all that is wrong with a folder. Whether a fault is among it is the answer.
-fn tell_all<E: Write>(
-    alloc: Global,
-    err: &mut E,
-    folder: &str,
-    findings: &[Finding],
-) -> Result<bool, Halt> {
-    let mut bad = false;
-    for finding in findings {
-        tell(alloc, err, folder, finding)?;
-        bad = bad || finding.weight == Weight::Fault;
-    }
-    Ok(bad)
-}
-
-/// Writes the faults of pages. Whether there is one is the answer.
-fn tell_pages<E: Write>(
-    alloc: Global,
-    err: &mut E,
-    folder: &str,
-    pages: &[Page],
-) -> Result<bool, Halt> {
-    let mut bad = false;
-    for page in pages {
-        if let Some(fault) = page.fault(alloc)? {
-            tell(alloc, err, folder, &fault)?;
-            bad = true;
-        }
-    }
-    Ok(bad)
-}
-
-/// Writes how many files and folders were passed over, if any.
-fn tell_passed_over<E: Write>(
-    alloc: Global,
-    err: &mut E,
-    folder: &str,
-    count: usize,
-) -> Result<(), Halt> {
-    if count == 0 {
-        return Ok(());
-    }
-    let line = format!(in alloc;
-        "{folder}: {count} files and folders passed over: names with a dot before or a ~ behind, README, and by --ignore others"
-    )?;
-    say(err, line.as_str())
-}
-
-/// A folder without a fault: how many commands it has, and its pages.
-#[derive(Drop)]
-struct Clean {
-    commands: usize,
-    pages: Vec<Page>,
-}
-
-/// Reads the files of a folder, and what they say.
-fn read_files<R: Files + AllocGlobal + Clone + Drop, E: Write>(
-    rt: &R,
-    err: &mut E,
-    name: &str,
-    ignore: bool,
-) -> Result<Folder, Halt> {
-    let found = files_of(rt, name, ignore)?;
-    tell_passed_over(rt.alloc(), err, name, found.passed_over.len())?;
-    Ok(folder_of(rt.alloc(), &found.files)?)
-}
-
-/// The pages of a folder; nothing where it or one of them has a fault. All that is wrong is told.
-fn clean_pages<E: Write>(
-    alloc: Global,
-    err: &mut E,
-    name: &str,
-    folder: &Folder,
-) -> Result<Option<Vec<Page>>, Halt> {
-    if tell_all(alloc, err, name, &folder.findings)? {
-        return Ok(None);
-    }
-    let pages = pages_of(alloc, folder)?;
-    if tell_pages(alloc, err, name, &pages)? {
-        return Ok(None);
-    }
-    Ok(Some(pages))
-}
-
-/// Reads a folder, and tells all that is wrong with it; nothing where that is a fault.
-fn read_clean<R: Files + AllocGlobal + Clone + Drop, E: Write>(
-    rt: &R,
-    err: &mut E,
-    name: &str,
-    ignore: bool,
-) -> Result<Option<Clean>, Halt> {
-    let folder = read_files(rt, err, name, ignore)?;
-    let commands = folder.commands.len();
-    match clean_pages(rt.alloc(), err, name, &folder)? {
-        Some(pages) => Ok(Some(Clean { commands, pages })),
-        None => Ok(None),
-    }
-}
+use std::net::{Net, TcpListener, TcpStream};
+use std::random::RandomSource;
+use std::rt::{Clock, Env, Files};
 
 /// Writes that a folder has no fault.
 fn tell_clean<W: Write>(
@@ -128,7 +23,7 @@ fn tell_clean<W: Write>(
     folder: &str,
     clean: &Clean,
 ) -> Result<u8, Halt> {
-    let commands = clean.commands;
+    let commands = clean.folder.commands.len();
     let pages = clean.pages.len();
     let line = format!(in alloc; "{folder}: no fault; commands: {commands}, pages: {pages}")?;
     say(out, line.as_str())?;
@@ -252,12 +147,17 @@ fn begin<R: Files + AllocGlobal + Clone + Drop, W: Write, E: Write>(
     Ok(0)
 }
 
-fn done<R: Files + AllocGlobal + Clone + Drop, W: Write, E: Write>(
-    rt: &R,
-    out: &mut W,
-    err: &mut E,
-    word: Word<'_>,
-) -> Result<u8, Halt> {
+fn done<
+    R: Files
+        + Net<Listener = TcpListener, Stream = TcpStream>
+        + Clock
+        + RandomSource
+        + AllocGlobal
+        + Clone
+        + Drop,
+    W: Write,
+    E: Write,
+>(rt: &R, out: &mut W, err: &mut E, word: Word<'_>) -> Result<u8, Halt> {
     match word {
         Word::New { folder } => begin(rt, out, err, folder),
         Word::Check { folder, ignore } => check(rt, out, err, folder, ignore),
@@ -266,15 +166,30 @@ fn done<R: Files + AllocGlobal + Clone + Drop, W: Write, E: Write>(
             out: to,
             ignore,
         } => export(rt, err, folder, to, ignore),
+        Word::Publish(how) => publish(rt, out, err, &how),
+        Word::Preview {
+            folder,
+            http,
+            ignore,
+        } => preview(rt, out, folder, http, ignore),
+        Word::Log { folder } => tell_log(rt, out, err, folder),
+        Word::Status { urls } => tell_status(rt, out, &urls),
     }
 }
 
 /// Does what the command line says; without a word nothing.
-fn said<R: Files + Env + AllocGlobal + Clone + Drop, W: Write, E: Write>(
-    rt: &R,
-    out: &mut W,
-    err: &mut E,
-) -> Result<u8, Halt> {
+fn said<
+    R: Files
+        + Env
+        + Net<Listener = TcpListener, Stream = TcpStream>
+        + Clock
+        + RandomSource
+        + AllocGlobal
+        + Clone
+        + Drop,
+    W: Write,
+    E: Write,
+>(rt: &R, out: &mut W, err: &mut E) -> Result<u8, Halt> {
     let alloc = rt.alloc();
     let words: Vec<String> = match env::args(rt) {
         Ok(words) => words.collect(alloc)?,
@@ -289,11 +204,18 @@ fn said<R: Files + Env + AllocGlobal + Clone + Drop, W: Write, E: Write>(
 
 /// Does what the command line says, and gives the exit status: 1 where something was refused or came to no end, 2 for a line that is none. Either is
 /// told on the other writer.
-pub fn sitepub<R: Files + Env + AllocGlobal + Clone + Drop, W: Write, E: Write>(
-    rt: &R,
-    out: &mut W,
-    err: &mut E,
-) -> u8 {
+pub fn sitepub<
+    R: Files
+        + Env
+        + Net<Listener = TcpListener, Stream = TcpStream>
+        + Clock
+        + RandomSource
+        + AllocGlobal
+        + Clone
+        + Drop,
+    W: Write,
+    E: Write,
+>(rt: &R, out: &mut W, err: &mut E) -> u8 {
     match said(rt, out, err) {
         Ok(status) => status,
         Err(why) => {

@@ -1,0 +1,53 @@
+//! The nodes that are asked, and the one that is spoken to.
+use crate::halt::Halt;
+use crate::node::{Node, node_in};
+use std::alloc::Global;
+
+/// Nodes of a group, in the order in which they were given, and which of them is spoken to.
+#[derive(Drop)]
+pub(crate) struct Group {
+    nodes: Vec<Node>,
+    at: usize,
+}
+
+impl Group {
+    /// The nodes of these URLs, the first of which is spoken to.
+    pub(crate) fn of(alloc: Global, urls: &[&str]) -> Result<Group, Halt> {
+        let mut nodes = Vec::new(alloc);
+        for url in urls {
+            match node_in(alloc, url)? {
+                Some(node) => nodes.push(node)?,
+                None => {
+                    return Err(Halt::Stop(format!(in alloc;
+                        "{url}: is no address of a node, as http://127.0.0.1:8001"
+                    )?));
+                }
+            }
+        }
+        Ok(Group { nodes, at: 0 })
+    }
+
+    pub(crate) fn nodes(&self) -> &[Node] {
+        self.nodes.as_slice()
+    }
+
+    /// The node that is spoken to.
+    pub(crate) fn node(&self) -> Result<&Node, Halt> {
+        match self.nodes.get(self.at) {
+            Some(node) => Ok(node),
+            None => Err(Halt::NoNodes),
+        }
+    }
+
+    /// Speaks to the node of that place from now on, counted from 0; to the one as before where none is named.
+    pub(crate) fn speak_to(&mut self, place: Option<usize>) {
+        self.at = place.unwrap_or(self.at);
+    }
+
+    /// Speaks to the next node: whether each was spoken to since the first.
+    pub(crate) fn next(&mut self) -> bool {
+        let next = self.at.saturating_add(1);
+        self.at = if next < self.nodes.len() { next } else { 0 };
+        self.at == 0
+    }
+}
