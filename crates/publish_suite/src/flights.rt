@@ -56,8 +56,10 @@ impl Town {
 
     /// What waits becomes known.
     fn decide(&mut self) -> Result<(), Fail> {
-        while let Some((number, text)) = self.waiting.pop_first() {
-            let _ = self.known.insert(number, text)?;
+        for _ in 0..self.waiting.len() {
+            if let Some((number, text)) = self.waiting.pop_first() {
+                let _ = self.known.insert(number, text)?;
+            }
         }
         Ok(())
     }

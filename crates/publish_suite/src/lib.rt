@@ -1,4 +1,4 @@
-//! Publications as tables: what is asked of a node, its answers in pieces, how a ledger stands to a group, and publications that are interrupted after
+//! Publications as tables: what is asked of a node, its answers in pieces, how a ledger stands to a group, how a delivery goes on, and publications that are interrupted after
 //! each answer and go on with another folder; each growth refused.
 #![tactic(auto)]
 
@@ -6,6 +6,8 @@
 mod answers;
 #[cfg(test)]
 mod flights;
+#[cfg(test)]
+mod paces;
 #[cfg(test)]
 mod questions;
 #[cfg(test)]
