@@ -1,6 +1,4 @@
 //! The command line of `sitepub`.
-use crate::halt::Halt;
-use crate::publishing::Publishing;
 use clap::{Arg, ArgAction, ArgMatches, Command, Error};
 use std::alloc::{AllocError, Global};
 
@@ -29,7 +27,14 @@ pub(crate) enum Word<'a> {
         ignore: bool,
     },
     /// Makes a folder the next release of a group.
-    Publish(Publishing<'a>),
+    Publish {
+        folder: &'a str,
+        urls: Vec<&'a str>,
+        editor: Option<u32>,
+        patience: u64,
+        dry_run: bool,
+        ignore: bool,
+    },
     /// Serves a folder as it is on disk.
     Preview {
         folder: &'a str,
@@ -98,7 +103,6 @@ fn urls_argument<'a>(alloc: Global) -> Arg<'a> {
     Arg::new(alloc, "url")
         .value_name("URL")
         .help("The address of a node, as http://127.0.0.1:8001; the first that answers is kept to")
-        .required(true)
         .action(ArgAction::Append)
 }
 
@@ -172,14 +176,16 @@ fn status_word<'a>(alloc: Global) -> Result<Command<'a>, Error> {
             .about(
                 "Tells of each node whether it answers, its newest release, and whether it shows the same; status 1 where one is silent, behind or differs",
             )
-            .arg(urls_argument(alloc))?,
+            .arg(urls_argument(alloc).required(true))?,
     )
 }
 
 fn matches_of<'a>(alloc: Global, words: &'a [String]) -> Result<ArgMatches<'a>, Error> {
     Command::new(alloc, "sitepub")
         .about("What an editor does with a folder of a site")
-        .after_help("Example:\n  sitepub check examples/prices/1")
+        .after_help(
+            "Examples:\n  sitepub new site\n  sitepub preview site\n  sitepub publish site http://127.0.0.1:8001\n\n--version prints the program's version",
+        )
         .subcommand_required(true)
         .subcommand(new_word(alloc)?)?
         .subcommand(check_word(alloc)?)?
@@ -204,8 +210,8 @@ fn urls<'a>(alloc: Global, matches: &ArgMatches<'a>) -> Result<Vec<&'a str>, All
     }
 }
 
-fn publishing<'a>(alloc: Global, found: &ArgMatches<'a>) -> Result<Publishing<'a>, AllocError> {
-    Ok(Publishing {
+fn publish_in<'a>(alloc: Global, found: &ArgMatches<'a>) -> Result<Word<'a>, AllocError> {
+    Ok(Word::Publish {
         folder: text(found, "folder"),
         urls: urls(alloc, found)?,
         editor: found.get_one::<u32>("editor"),
@@ -215,34 +221,54 @@ fn publishing<'a>(alloc: Global, found: &ArgMatches<'a>) -> Result<Publishing<'a
     })
 }
 
+fn preview_in<'a>(found: &ArgMatches<'a>) -> Word<'a> {
+    Word::Preview {
+        folder: text(found, "folder"),
+        http: found.get_str("http").unwrap_or(PREVIEW),
+        ignore: found.get_flag("ignore"),
+    }
+}
+
+fn export_in<'a>(found: &ArgMatches<'a>) -> Word<'a> {
+    Word::Export {
+        folder: text(found, "folder"),
+        out: text(found, "out"),
+        ignore: found.get_flag("ignore"),
+    }
+}
+
+/// The word of that name, as it was found.
+fn word_of<'a>(
+    alloc: Global,
+    name: &str,
+    found: &ArgMatches<'a>,
+) -> Result<Option<Word<'a>>, AllocError> {
+    Ok(Some(match name {
+        "new" => Word::New {
+            folder: text(found, "folder"),
+        },
+        "check" => Word::Check {
+            folder: text(found, "folder"),
+            ignore: found.get_flag("ignore"),
+        },
+        "export" => export_in(found),
+        "publish" => publish_in(alloc, found)?,
+        "preview" => preview_in(found),
+        "log" => Word::Log {
+            folder: text(found, "folder"),
+        },
+        "status" => Word::Status {
+            urls: urls(alloc, found)?,
+        },
+        _ => return Ok(None),
+    }))
+}
+
 /// Reads the words of a command line, the program's name first. `clap` says why it refuses others, help among it.
-pub(crate) fn word_in<'a>(alloc: Global, words: &'a [String]) -> Result<Option<Word<'a>>, Halt> {
+pub(crate) fn word_in<'a>(alloc: Global, words: &'a [String]) -> Result<Option<Word<'a>>, Error> {
     let matches = matches_of(alloc, words)?;
     match matches.subcommand() {
-        Some(("new", found)) => Ok(Some(Word::New {
-            folder: text(found, "folder"),
-        })),
-        Some(("check", found)) => Ok(Some(Word::Check {
-            folder: text(found, "folder"),
-            ignore: found.get_flag("ignore"),
-        })),
-        Some(("export", found)) => Ok(Some(Word::Export {
-            folder: text(found, "folder"),
-            out: text(found, "out"),
-            ignore: found.get_flag("ignore"),
-        })),
-        Some(("publish", found)) => Ok(Some(Word::Publish(publishing(alloc, found)?))),
-        Some(("preview", found)) => Ok(Some(Word::Preview {
-            folder: text(found, "folder"),
-            http: found.get_str("http").unwrap_or(PREVIEW),
-            ignore: found.get_flag("ignore"),
-        })),
-        Some(("log", found)) => Ok(Some(Word::Log {
-            folder: text(found, "folder"),
-        })),
-        Some(("status", found)) => Ok(Some(Word::Status {
-            urls: urls(alloc, found)?,
-        })),
-        _ => Ok(None),
+        Some((name, found)) => Ok(word_of(alloc, name, found)?),
+        None => Ok(None),
     }
 }

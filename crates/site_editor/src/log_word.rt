@@ -1,9 +1,8 @@
 //! The releases of a folder.
-use crate::halt::Halt;
-use crate::saving::read_ledger;
-use crate::telling::say;
+use editor_parts::{Halt, say};
 use jiff::Timestamp;
-use site_ledger::Released;
+use site_files::read_ledger;
+use site_ledger::{Ledger, Released};
 use std::alloc::Global;
 use std::io::Write;
 use std::rt::Files;
@@ -19,6 +18,18 @@ fn tell<W: Write>(alloc: Global, out: &mut W, released: &Released) -> Result<(),
     say(out, line.as_str())
 }
 
+fn tell_all<W: Write>(alloc: Global, out: &mut W, ledger: &Ledger) -> Result<(), Halt> {
+    for released in ledger.log() {
+        tell(alloc, out, released)?;
+    }
+    Ok(())
+}
+
+fn tell_none<E: Write>(alloc: Global, err: &mut E, folder: &str) -> Result<(), Halt> {
+    let line = format!(in alloc; "{folder}: nothing was published from here")?;
+    say(err, line.as_str())
+}
+
 /// Writes the releases that were made of a folder, the oldest first.
 pub(crate) fn tell_log<R: Files + AllocGlobal, W: Write, E: Write>(
     rt: &R,
@@ -26,13 +37,14 @@ pub(crate) fn tell_log<R: Files + AllocGlobal, W: Write, E: Write>(
     err: &mut E,
     folder: &str,
 ) -> Result<u8, Halt> {
-    let Some(ledger) = read_ledger(rt, folder)? else {
-        let line = format!(in rt.alloc(); "{folder}: nothing was published from here")?;
-        say(err, line.as_str())?;
-        return Ok(1);
-    };
-    for released in ledger.log() {
-        tell(rt.alloc(), out, released)?;
+    match read_ledger(rt, folder)? {
+        Some(ledger) => {
+            tell_all(rt.alloc(), out, &ledger)?;
+            Ok(0)
+        }
+        None => {
+            tell_none(rt.alloc(), err, folder)?;
+            Ok(1)
+        }
     }
-    Ok(0)
 }

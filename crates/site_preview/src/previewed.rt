@@ -1,6 +1,6 @@
 //! A folder as a service: one release, of the folder as it was read; or what is wrong with it at each path.
 ghost use Rattle.std.specs.Prelude.{◌≡◌, None, ⊤};
-ghost use Rattle.site_editor.specs.Previews.{newest_in, page_in};
+ghost use Rattle.site_preview.specs.Previews.{newest_in, page_in};
 
 use http_serve::{Service, Submission, SubmitFault};
 use release::{Answer, AnswerFault, Releases};
@@ -9,7 +9,7 @@ use std::alloc::Global;
 
 /// The pages of a folder, or the faults that it has instead.
 #[derive(Drop)]
-pub(crate) enum Previewed {
+pub enum Previewed {
     Pages(Releases),
     Faults(String),
 }

@@ -5,7 +5,7 @@ use std::thread;
 use std::time::{Duration, Instant};
 
 /// The time now.
-pub(crate) fn now<C: Clock>(clock: &C) -> Result<Instant, Halt> {
+pub fn now<C: Clock>(clock: &C) -> Result<Instant, Halt> {
     match Instant::now(clock) {
         Ok(now) => Ok(now),
         Err(_) => Err(Halt::Clock),
@@ -13,7 +13,7 @@ pub(crate) fn now<C: Clock>(clock: &C) -> Result<Instant, Halt> {
 }
 
 /// How many milliseconds passed since then.
-pub(crate) fn passed<C: Clock>(clock: &C, since: Instant) -> Result<u64, Halt> {
+pub fn passed<C: Clock>(clock: &C, since: Instant) -> Result<u64, Halt> {
     match since.elapsed(clock) {
         Ok(passed) => Ok(u64::try_from(passed.as_millis()).unwrap_or(u64::MAX)),
         Err(_) => Err(Halt::Clock),
@@ -21,6 +21,6 @@ pub(crate) fn passed<C: Clock>(clock: &C, since: Instant) -> Result<u64, Halt> {
 }
 
 /// Rests for so many milliseconds.
-pub(crate) fn rest<C: Clock>(clock: &C, millis: u64) {
+pub fn rest<C: Clock>(clock: &C, millis: u64) {
     thread::sleep(clock, Duration::from_millis(millis));
 }

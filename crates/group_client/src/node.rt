@@ -3,7 +3,7 @@ use std::alloc::{AllocError, Global};
 
 /// A node that is asked: its URL as it was given, without a slash at its end, and the host and port in that.
 #[derive(Drop)]
-pub(crate) struct Node {
+pub struct Node {
     pub url: String,
     pub host: String,
 }

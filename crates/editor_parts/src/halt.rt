@@ -1,17 +1,11 @@
-use clap::error::ErrorKind;
 use site_ledger::LedgerFault;
-use std::alloc::{AllocError, AllocFailed};
+use std::alloc::{AllocError, AllocFailed, Global};
 use std::io;
 use thiserror::Error;
 
 /// Why a word came to no end.
 #[derive(Debug, Drop, Error)]
-pub(crate) enum Halt {
-    /// What `clap` says of the command line, help among it.
-    #[error("{0}")]
-    Line(clap::Error),
-    #[error("error: invalid UTF-8 was detected in one or more arguments")]
-    NotUtf8,
+pub enum Halt {
     /// A file or a folder, and what the system says of it.
     #[error("{0}: {1}")]
     File(String, io::Error),
@@ -24,7 +18,7 @@ pub(crate) enum Halt {
     Stop(String),
     #[error("the editor has no tickets left: remove the file published, and publish as a new editor")]
     NoTickets,
-    #[error("no node is named")]
+    #[error("no node is named: give the address of one, as http://127.0.0.1:8001")]
     NoNodes,
     #[error("the clock can't be read")]
     Clock,
@@ -55,29 +49,15 @@ impl From<LedgerFault> for Halt {
     }
 }
 
-impl From<clap::Error> for Halt {
-    fn from(refused: clap::Error) -> Halt {
-        match refused.kind() {
-            ErrorKind::OutOfMemory => Halt::OutOfMemory,
-            _ => Halt::Line(refused),
-        }
-    }
-}
-
 impl Halt {
-    /// The exit status: 2 for a command line that is none, else 1.
-    pub(crate) fn status(&self) -> u8 {
-        match self {
-            Halt::Line(_) | Halt::NotUtf8 => 2,
-            Halt::File(_, _)
-            | Halt::ManyFolders
-            | Halt::Write
-            | Halt::Stop(_)
-            | Halt::NoTickets
-            | Halt::NoNodes
-            | Halt::Clock
-            | Halt::Random
-            | Halt::OutOfMemory => 1,
+    /// That of a file or a folder: what the system says of it.
+    pub fn at_path(alloc: Global, path: &str, fault: io::Error) -> Halt {
+        if fault.kind() == io::ErrorKind::OutOfMemory {
+            return Halt::OutOfMemory;
+        }
+        match String::from_str(alloc, path) {
+            Ok(path) => Halt::File(path, fault),
+            Err(_) => Halt::OutOfMemory,
         }
     }
 }

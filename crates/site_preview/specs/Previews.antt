@@ -3,8 +3,8 @@ use Rattle.std.specs.Prelude.{ℕ, List, Option, Some, string_bytes}
 use Rattle.command.specs.Effective.{effective}
 use Rattle.command.specs.Releases.{release_count}
 use Rattle.release.specs.Page.{Page, in_place, answer}
-use Rattle.site_editor.specs.declared.previewed.Previewed.{Previewed}
-use Rattle.site_editor.specs.declared.previewed.Previewed.TheVariants.{Pages, Faults}
+use Rattle.site_preview.specs.declared.previewed.Previewed.{Previewed}
+use Rattle.site_preview.specs.declared.previewed.Previewed.TheVariants.{Pages, Faults}
 
 abbrev pub newest_in : Previewed → ℕ
 newest_in (Pages releases) = release_count (effective releases)

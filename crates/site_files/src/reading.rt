@@ -1,7 +1,6 @@
 //! A folder read, and what is wrong with it told.
 use crate::files::files_of;
-use crate::halt::Halt;
-use crate::telling::say;
+use editor_parts::{Halt, say};
 use site_folder::{Finding, Folder, Page, Weight, folder_of, pages_of};
 use std::alloc::{AllocError, Global};
 use std::io::Write;
@@ -63,7 +62,7 @@ fn tell_passed_over<E: Write>(
 
 /// A folder without a fault, and its pages.
 #[derive(Drop)]
-pub(crate) struct Clean {
+pub struct Clean {
     pub folder: Folder,
     pub pages: Vec<Page>,
 }
@@ -76,7 +75,7 @@ fn read_files<R: Files + AllocGlobal + Clone + Drop, E: Write>(
     ignore: bool,
 ) -> Result<Folder, Halt> {
     let found = files_of(rt, name, ignore)?;
-    tell_passed_over(rt.alloc(), err, name, found.passed_over.len())?;
+    tell_passed_over(rt.alloc(), err, name, found.passed_over)?;
     Ok(folder_of(rt.alloc(), &found.files)?)
 }
 
@@ -98,7 +97,7 @@ fn clean_pages<E: Write>(
 }
 
 /// Reads a folder, and tells all that is wrong with it; nothing where that is a fault.
-pub(crate) fn read_clean<R: Files + AllocGlobal + Clone + Drop, E: Write>(
+pub fn read_clean<R: Files + AllocGlobal + Clone + Drop, E: Write>(
     rt: &R,
     err: &mut E,
     name: &str,
@@ -112,7 +111,7 @@ pub(crate) fn read_clean<R: Files + AllocGlobal + Clone + Drop, E: Write>(
 }
 
 /// The texts of a folder's commands, which are UTF-8.
-pub(crate) fn texts_of<'a>(alloc: Global, folder: &'a Folder) -> Result<Vec<&'a str>, AllocError> {
+pub fn texts_of<'a>(alloc: Global, folder: &'a Folder) -> Result<Vec<&'a str>, AllocError> {
     let mut texts = Vec::new(alloc);
     for command in folder.commands.iter() {
         if let Ok(text) = str::from_utf8(&command.text) {

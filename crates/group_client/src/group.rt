@@ -1,38 +1,41 @@
 //! The nodes that are asked, and the one that is spoken to.
-use crate::halt::Halt;
 use crate::node::{Node, node_in};
+use editor_parts::Halt;
 use std::alloc::Global;
 
 /// Nodes of a group, in the order in which they were given, and which of them is spoken to.
 #[derive(Drop)]
-pub(crate) struct Group {
+pub struct Group {
     nodes: Vec<Node>,
     at: usize,
 }
 
+/// Adds the node of a URL.
+fn push_node(alloc: Global, nodes: &mut Vec<Node>, url: &str) -> Result<(), Halt> {
+    match node_in(alloc, url)? {
+        Some(node) => Ok(nodes.push(node)?),
+        None => Err(Halt::Stop(format!(in alloc;
+            "{url}: is no address of a node, as http://127.0.0.1:8001"
+        )?)),
+    }
+}
+
 impl Group {
     /// The nodes of these URLs, the first of which is spoken to.
-    pub(crate) fn of(alloc: Global, urls: &[&str]) -> Result<Group, Halt> {
+    pub fn of(alloc: Global, urls: &[&str]) -> Result<Group, Halt> {
         let mut nodes = Vec::new(alloc);
         for url in urls {
-            match node_in(alloc, url)? {
-                Some(node) => nodes.push(node)?,
-                None => {
-                    return Err(Halt::Stop(format!(in alloc;
-                        "{url}: is no address of a node, as http://127.0.0.1:8001"
-                    )?));
-                }
-            }
+            push_node(alloc, &mut nodes, url)?;
         }
         Ok(Group { nodes, at: 0 })
     }
 
-    pub(crate) fn nodes(&self) -> &[Node] {
+    pub fn nodes(&self) -> &[Node] {
         self.nodes.as_slice()
     }
 
     /// The node that is spoken to.
-    pub(crate) fn node(&self) -> Result<&Node, Halt> {
+    pub fn node(&self) -> Result<&Node, Halt> {
         match self.nodes.get(self.at) {
             Some(node) => Ok(node),
             None => Err(Halt::NoNodes),
