@@ -8,7 +8,7 @@ use std::alloc::Global;
 use std::process::Abort;
 
 /// A prepare and a proposal of node 2 at instance 2, a release chosen at instance 1, no message, a question.
-const HEARD: [&str; 5] = [
+const HEARD: &[&str] = &[
     "010102000000020000000102",
     "0103020000000200000001020000000107",
     "010702000000010000001400000001000000000000000172656c656173650a",
@@ -20,7 +20,7 @@ const HEARD: [&str; 5] = [
 const ANSWER: &str = "010701000000010000001400000001000000000000000172656c656173650a";
 
 fn hear(rt: &impl Abort, server: &mut Server<MemLink>) {
-    for text in HEARD {
+    for &text in HEARD {
         server.queue(rt, text);
     }
 }

@@ -42,7 +42,7 @@ const TURNS: [(&str, &[(u8, &str)]); 9] = [
 
 /// After so many of these turns, how many datagrams were malformed, and the last call: a tick where the instance was reached and isn't known, and else a
 /// question about the next one.
-const LAST_CALLS: [(u8, u32, &str); 3] = [
+const LAST_CALLS: &[(u8, u32, &str)] = &[
     (0, 0, "01060100000001"),
     (6, 0, "010101000000010000000101"),
     (9, 1, "01060100000002"),
@@ -108,7 +108,7 @@ fn drive(rt: &impl Abort, alloc: Global, turns: u8, malformed: u32, last: &str) 
 
 #[test]
 fn a_drive_is_an_exchange_and_a_last_call(rt: HostRuntime) {
-    for (turns, malformed, last) in LAST_CALLS {
+    for &(turns, malformed, last) in LAST_CALLS {
         exchange(&rt, rt.alloc(), turns, malformed, last);
         drive(&rt, rt.alloc(), turns, malformed, last);
     }
