@@ -12,7 +12,7 @@ use std::process::Abort;
 
 /// Worked out by hand: a place, a byte there, and of the history for which the record then stands, if it does, how many entries it has, the
 /// last round, and the value that is voted for at instance 1.
-const LISTED: [(usize, u8, Option<(usize, u32, &str)>); 12] = [
+const LISTED: &[(usize, u8, Option<(usize, u32, &str)>)] = &[
     (9, 0, None),
     (11, 1, None),
     (16, 1, Some((3, 16_777_217, "ab"))),
@@ -202,7 +202,7 @@ fn is_such(history: &[Entry], count: usize, round: u32, value: &str) -> bool {
 
 /// The first row that is wrong.
 fn wrong_row(listed: &Listed<'_>) -> Option<(usize, u8)> {
-    for (place, byte, want) in LISTED {
+    for &(place, byte, want) in LISTED {
         let is_right = match (listed.at(place, byte), want) {
             (Some(history), Some((count, round, value))) => {
                 is_such(history, count, round, value)
