@@ -12,6 +12,7 @@ ghost use Rattle.durable.specs.Reading.{AreRead};
 use crate::RecordFault;
 use crate::reading::read_entries;
 use crate::recorded::Recorded;
+use crate::staged::Staged;
 use acceptor::Slot;
 use site_disk::{Armed, Disk};
 use site_ids::{Cluster, Instance, MAX_RECORD, NodeId};
@@ -29,6 +30,7 @@ pub struct Record<D> {
     pub(crate) recorded: Recorded,
     // from a failure of the device on
     pub(crate) stopped: bool,
+    pub(crate) staged: Staged,
 }
 
 // The head of a record, and its gate.
@@ -114,6 +116,7 @@ impl<D: Disk> Record<D> {
                 cluster,
                 recorded,
                 stopped: false,
+                staged: Staged::new(alloc),
             }),
             Err(fault) => Err((fault, disk)),
         }
@@ -162,7 +165,7 @@ impl<D: Disk> Record<D> {
         payload <= MAX_RECORD - 6 && self.recorded.gate <= MAX_RECORD - 6 - payload
     }
 
-    /// Gives the disk back.
+    /// Gives the disk back, without the entries of a batch that is open.
     pub fn close(self) -> D
         ensures { result ≡ self.disk }
     {
@@ -173,6 +176,7 @@ impl<D: Disk> Record<D> {
             cluster: _,
             recorded: _recorded,
             stopped: _,
+            staged: _staged,
         } = self;
         disk
     }
