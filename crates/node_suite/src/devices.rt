@@ -5,7 +5,6 @@ use crate::samples::{prepare, prepared_round, propose, told_vote};
 use node::NodeFault;
 use std::alloc::Global;
 use std::process::Abort;
-use std::test::Fail;
 
 /// After so many calls the device fails. Then the node is opened again, behind a crash by a choice or without one: the entry is found only where its gate
 /// was written and not lost.
@@ -75,34 +74,27 @@ fn failing(rt: &impl Abort, node: &mut Peer, which: Put, calls: u32) {
     assert_eq!(rt; enter(node, which), Err(Halt::Node(NodeFault::Stopped)));
 }
 
-fn row(
-    rt: &impl Abort,
-    alloc: Global,
-    which: Put,
-    calls: u32,
-    crash: Option<u8>,
-) -> Result<bool, Halt> {
-    let mut node = Peer::fresh(alloc, 3)?;
+/// Whether the entry is found where the device failed after so many calls, and the node is opened again.
+fn found(rt: &impl Abort, alloc: Global, which: Put, calls: u32, crash: Option<u8>) -> bool {
+    let mut node = Peer::fresh(rt, alloc, 3);
     failing(rt, &mut node, which, calls);
-    let mut node = node.again(crash)?;
-    shows(&mut node, which)
+    let mut node = node.again(rt, crash);
+    shows(&mut node, which).expect(rt, "what it says")
 }
 
-fn each_failure(rt: &impl Abort, alloc: Global, which: Put) -> Result<(), Halt> {
-    for (calls, crash, found) in FAILURES {
+fn each_failure(rt: &impl Abort, alloc: Global, which: Put) {
+    for (calls, crash, wanted) in FAILURES {
         assert_eq!(rt;
-            row(rt, alloc, which, calls, crash)?,
-            found,
+            found(rt, alloc, which, calls, crash),
+            wanted,
             "{which:?}, {calls} calls, {crash:?}"
         );
     }
-    Ok(())
 }
 
 #[test]
-fn a_device_fails_at_each_call_of_each_put(rt: HostRuntime) -> Result<(), Fail> {
+fn a_device_fails_at_each_call_of_each_put(rt: HostRuntime) {
     for which in [Put::Round, Put::Promise, Put::Vote] {
-        each_failure(&rt, rt.alloc(), which)?;
+        each_failure(&rt, rt.alloc(), which);
     }
-    Ok(())
 }

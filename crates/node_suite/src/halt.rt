@@ -1,5 +1,4 @@
 //! Why a row stops.
-use durable::RecordFault;
 use node::NodeFault;
 use std::alloc::AllocError;
 
@@ -9,7 +8,6 @@ pub(crate) enum Halt {
     /// No such cluster, node, instance or ballot, or a message of another cluster.
     NotThere,
     Node(NodeFault),
-    Record(RecordFault),
 }
 
 impl From<AllocError> for Halt {
@@ -21,11 +19,5 @@ impl From<AllocError> for Halt {
 impl From<NodeFault> for Halt {
     fn from(fault: NodeFault) -> Halt {
         Halt::Node(fault)
-    }
-}
-
-impl From<RecordFault> for Halt {
-    fn from(fault: RecordFault) -> Halt {
-        Halt::Record(fault)
     }
 }

@@ -1,13 +1,14 @@
 //! A node over a disk in memory, lent to the rows: a row that owned one would have to be proved to let it go at each of its ends.
-ghost use Rattle.std.specs.Prelude.{◌≡◌, IfOk};
+ghost use Rattle.std.specs.Prelude.{◌≡◌};
 ghost use Rattle.site_ids.specs.Ids.{IsNode};
 
 use crate::halt::Halt;
 use durable::{Record, RecordFault};
 use node::{Node, NodeFault, Outbox, Submitted, To};
 use site_disk::MemDisk;
-use site_ids::{Cluster, Instance, NodeId, Ticket};
+use site_ids::{Cluster, Instance, NodeId, Ticket, Value};
 use std::alloc::Global;
+use std::process::Abort;
 use wire::Message;
 
 /// Node 1 of a cluster, and what it handed out.
@@ -23,54 +24,59 @@ pub(crate) struct Peer {
 }
 
 /// A record that was just made. A growth that was refused leaves a beginning of it behind, so it is made on another disk then.
-fn formatted(alloc: Global, cluster: Cluster, me: NodeId) -> Result<MemDisk, Halt> {
+fn formatted(rt: &impl Abort, alloc: Global, cluster: Cluster, me: NodeId) -> MemDisk {
     let mut disk = MemDisk::new(alloc);
     match Record::format(cluster, me, &mut disk) {
-        Ok(()) => return Ok(disk),
-        Err(RecordFault::Device) => {}
-        Err(fault) => return Err(Halt::Record(fault)),
+        Ok(()) => disk,
+        Err(fault) => {
+            assert_eq!(rt; fault, RecordFault::Device);
+            let mut disk = MemDisk::new(alloc);
+            Record::format(cluster, me, &mut disk).expect(rt, "a record");
+            disk
+        }
     }
-    let mut disk = MemDisk::new(alloc);
-    Record::format(cluster, me, &mut disk)?;
-    Ok(disk)
 }
 
 /// An opening that was refused memory is tried once more.
-fn opened(alloc: Global, cluster: Cluster, me: NodeId, disk: MemDisk) -> Result<Node<MemDisk>, Halt>
+fn opened(
+    rt: &impl Abort,
+    alloc: Global,
+    cluster: Cluster,
+    me: NodeId,
+    disk: MemDisk,
+) -> Node<MemDisk>
     requires { IsNode cluster me }
-    ensures { IfOk result (λ node. node.cluster ≡ cluster) }
+    ensures { result.cluster ≡ cluster }
 {
-    let disk = match Node::open(alloc, cluster, me, disk) {
-        Ok(node) => return Ok(node),
-        Err((RecordFault::OutOfMemory | RecordFault::Device, disk)) => disk,
-        Err((fault, _disk)) => return Err(Halt::Record(fault)),
+    let (fault, disk) = match Node::open(alloc, cluster, me, disk) {
+        Ok(node) => return node,
+        Err(refused) => refused,
     };
+    assert!(rt; matches!(fault, RecordFault::OutOfMemory | RecordFault::Device));
     match Node::open(alloc, cluster, me, disk) {
-        Ok(node) => Ok(node),
-        Err((fault, _disk)) => Err(Halt::Record(fault)),
+        Ok(node) => node,
+        Err((fault, _disk)) => panic!(rt; "{fault:?}"),
     }
 }
 
 impl Peer {
     /// Node 1 of so many, over a record that was just made.
-    pub(crate) fn fresh(alloc: Global, size: u8) -> Result<Peer, Halt> {
-        let cluster = Cluster::new(size).ok_or(Halt::NotThere)?;
-        let Some(me) = cluster.node(1) else {
-            return Err(Halt::NotThere);
-        };
-        let disk = formatted(alloc, cluster, me)?;
-        let node = opened(alloc, cluster, me, disk)?;
-        Ok(Peer {
+    pub(crate) fn fresh(rt: &impl Abort, alloc: Global, size: u8) -> Peer {
+        let cluster = Cluster::new(size).expect(rt, "a cluster");
+        let me = cluster.node(1).expect(rt, "a node");
+        let disk = formatted(rt, alloc, cluster, me);
+        let node = opened(rt, alloc, cluster, me, disk);
+        Peer {
             alloc,
             cluster,
             me,
             node,
             out: Vec::new(alloc),
-        })
+        }
     }
 
     /// Closed and opened again, behind a crash by that choice, or without one.
-    pub(crate) fn again(self, crash: Option<u8>) -> Result<Peer, Halt> {
+    pub(crate) fn again(self, rt: &impl Abort, crash: Option<u8>) -> Peer {
         let Peer {
             alloc,
             cluster,
@@ -83,14 +89,14 @@ impl Peer {
             Some(choice) => disk.crash(choice),
             None => disk.disarm(),
         }
-        let node = opened(alloc, cluster, me, disk)?;
-        Ok(Peer {
+        let node = opened(rt, alloc, cluster, me, disk);
+        Peer {
             alloc,
             cluster,
             me,
             node,
             out,
-        })
+        }
     }
 
     pub(crate) fn alloc(&self) -> Global {
@@ -141,7 +147,7 @@ impl Peer {
         self.node.tell(to, first, &mut self.out)
     }
 
-    pub(crate) fn submit(&mut self, value: &[u8]) -> Result<Submitted, NodeFault> {
+    pub(crate) fn submit(&mut self, value: &Value) -> Result<Submitted, NodeFault> {
         self.node.submit(value)
     }
 

@@ -9,7 +9,6 @@ use crate::samples::{
 use node::{NodeFault, To};
 use std::alloc::Global;
 use std::process::Abort;
-use std::test::Fail;
 use wire::Message;
 
 #[derive(Clone, Copy, Debug)]
@@ -48,7 +47,7 @@ fn promise_of(node: &Peer, from: u8) -> Result<Message, Halt> {
 fn vote_of(node: &Peer, from: u8) -> Result<Message, Halt> {
     let release = value(node.alloc(), 1, "release\n")?;
     let at = ballot(1, node.other(1)?)?;
-    accepted(node.alloc(), node.other(from)?, at, release.as_slice())
+    accepted(node.alloc(), node.other(from)?, at, release.as_bytes())
 }
 
 fn message(node: &Peer, said: Said) -> Result<Message, Halt> {
@@ -67,7 +66,7 @@ fn act(node: &mut Peer, step: Step) -> Result<(), Halt> {
     match step {
         Step::Submit => {
             let release = value(node.alloc(), 1, "release\n")?;
-            let _ = node.submit(release.as_slice())?;
+            let _ = node.submit(&release)?;
             Ok(())
         }
         Step::Ask => Ok(node.ask()?),
@@ -105,102 +104,97 @@ fn takes(rt: &impl Abort, node: &mut Peer, step: Step) -> bool {
     false
 }
 
-/// The node after the step.
-fn stepped(rt: &impl Abort, node: Peer, step: Step) -> Result<Peer, Halt> {
-    let mut node = node;
-    if takes(rt, &mut node, step) {
-        return Ok(node);
-    }
-    let mut node = if node.is_stopped() {
-        node.again(None)?
+/// A node that is stopped is opened again.
+fn going(rt: &impl Abort, node: Peer) -> Peer {
+    if node.is_stopped() {
+        node.again(rt, None)
     } else {
         node
-    };
-    match act(&mut node, step) {
-        Ok(()) => Ok(node),
-        Err(fault) => Err(fault),
     }
+}
+
+/// The node after the step.
+fn stepped(rt: &impl Abort, node: Peer, step: Step) -> Peer {
+    let mut node = node;
+    let took = takes(rt, &mut node, step);
+    let mut node = going(rt, node);
+    if !took {
+        act(&mut node, step).expect(rt, "the next try");
+    }
+    node
 }
 
 /// Node 1 of three after the steps.
-fn after(rt: &impl Abort, alloc: Global, steps: &[Step]) -> Result<Peer, Halt> {
-    let mut node = Peer::fresh(alloc, 3)?;
+fn after(rt: &impl Abort, alloc: Global, steps: &[Step]) -> Peer {
+    let mut node = Peer::fresh(rt, alloc, 3);
     for step in steps {
-        node = stepped(rt, node, *step)?;
+        node = stepped(rt, node, *step);
     }
-    Ok(node)
+    node
 }
 
 #[test]
-fn submissions(rt: HostRuntime) -> Result<(), Fail> {
-    let node = after(&rt, rt.alloc(), &[Step::Submit, Step::Ask])?;
+fn submissions(rt: HostRuntime) {
+    let node = after(&rt, rt.alloc(), &[Step::Submit, Step::Ask]);
     assert!(rt; node.wants_tick() && asked_instance(node.out()) == Some(1));
-    Ok(())
 }
 
 #[test]
-fn ticks(rt: HostRuntime) -> Result<(), Fail> {
+fn ticks(rt: HostRuntime) {
     let steps = [
         Step::Tick,
         Step::Hear(Said::Promise(2)),
         Step::Hear(Said::Promise(3)),
     ];
-    let node = after(&rt, rt.alloc(), &steps)?;
+    let node = after(&rt, rt.alloc(), &steps);
     assert!(rt; proposes(node.out(), b"v"));
-    Ok(())
 }
 
 #[test]
-fn widenings(rt: HostRuntime) -> Result<(), Fail> {
+fn widenings(rt: HostRuntime) {
     let steps = [Step::Submit, Step::Widen, Step::Tick];
-    let node = after(&rt, rt.alloc(), &steps)?;
+    let node = after(&rt, rt.alloc(), &steps);
     assert!(rt; prepared_round(node.out()).is_some());
-    Ok(())
 }
 
 #[test]
-fn requests(rt: HostRuntime) -> Result<(), Fail> {
+fn requests(rt: HostRuntime) {
     let steps = [Step::Hear(Said::Propose), Step::Hear(Said::Prepare)];
-    let node = after(&rt, rt.alloc(), &steps)?;
+    let node = after(&rt, rt.alloc(), &steps);
     assert!(rt; node.out().len() == 2 && told_vote(node.out()) == Some(true));
-    Ok(())
 }
 
 #[test]
-fn openings(rt: HostRuntime) -> Result<(), Fail> {
+fn openings(rt: HostRuntime) {
     let steps = [Step::Tick, Step::Hear(Said::Propose)];
-    let node = after(&rt, rt.alloc(), &steps)?.again(None)?;
-    let node = stepped(&rt, node, Step::Hear(Said::Prepare))?;
+    let node = after(&rt, rt.alloc(), &steps).again(&rt, None);
+    let node = stepped(&rt, node, Step::Hear(Said::Prepare));
     assert_eq!(rt; told_vote(node.out()), Some(true));
-    let node = stepped(&rt, node, Step::Tick)?;
+    let node = stepped(&rt, node, Step::Tick);
     assert!(rt; prepared_round(node.out()).is_some_and(|round| 1 < round));
-    Ok(())
 }
 
 #[test]
-fn votes_told(rt: HostRuntime) -> Result<(), Fail> {
+fn votes_told(rt: HostRuntime) {
     let steps = [
         Step::Hear(Said::Vote(2)),
         Step::Hear(Said::Vote(3)),
         Step::Publish,
     ];
-    let node = after(&rt, rt.alloc(), &steps)?;
+    let node = after(&rt, rt.alloc(), &steps);
     assert!(rt; node.known() == 1 && node.newest() == 1);
-    Ok(())
 }
 
 #[test]
-fn values_told(rt: HostRuntime) -> Result<(), Fail> {
+fn values_told(rt: HostRuntime) {
     let steps = [Step::Hear(Said::Chosen), Step::Hear(Said::Question)];
-    let node = after(&rt, rt.alloc(), &steps)?;
+    let node = after(&rt, rt.alloc(), &steps);
     assert!(rt; node.known() == 1 && node.out().len() == 1);
-    Ok(())
 }
 
 #[test]
-fn tellings(rt: HostRuntime) -> Result<(), Fail> {
+fn tellings(rt: HostRuntime) {
     let steps = [Step::Hear(Said::Propose), Step::Tell];
-    let node = after(&rt, rt.alloc(), &steps)?;
+    let node = after(&rt, rt.alloc(), &steps);
     assert_eq!(rt; node.out().len(), 2);
-    Ok(())
 }

@@ -6,9 +6,8 @@ use crate::samples::{
     question, value,
 };
 use node::{NodeFault, Submitted};
-use site_ids::Ticket;
+use site_ids::{Ticket, Value};
 use std::process::Abort;
-use std::test::Fail;
 
 /// A node tells its vote at ballot (1, 1).
 fn tell(node: &mut Peer, from: u8, value: &[u8]) -> Result<(), Halt> {
@@ -23,9 +22,9 @@ fn choose(node: &mut Peer, at: u32, value: &[u8]) -> Result<(), Halt> {
     node.hand(&message)
 }
 
-fn a_majority_of_votes(rt: &impl Abort, node: &mut Peer, release: &[u8]) -> Result<(), Halt> {
+fn a_majority_of_votes(rt: &impl Abort, node: &mut Peer, release: &Value) -> Result<(), Halt> {
     for (from, known) in [(2, 0), (2, 0), (2, 0), (3, 0), (4, 1)] {
-        tell(node, from, release)?;
+        tell(node, from, release.as_bytes())?;
         assert_eq!(rt; node.known(), known, "a vote of node {from}");
     }
     assert_eq!(rt; node.publish()?, 1);
@@ -35,10 +34,10 @@ fn a_majority_of_votes(rt: &impl Abort, node: &mut Peer, release: &[u8]) -> Resu
 }
 
 #[test]
-fn votes_of_a_majority_make_a_value_known(rt: HostRuntime) -> Result<(), Fail> {
-    let release = value(rt.alloc(), 1, "release\n")?;
-    let mut node = Peer::fresh(rt.alloc(), 5)?;
-    Ok(a_majority_of_votes(&rt, &mut node, release.as_slice())?)
+fn votes_of_a_majority_make_a_value_known(rt: HostRuntime) {
+    let release = value(rt.alloc(), 1, "release\n").expect(&rt, "a value");
+    let mut node = Peer::fresh(&rt, rt.alloc(), 5);
+    a_majority_of_votes(&rt, &mut node, &release).expect(&rt, "a row");
 }
 
 /// A chosen value, how many are known without a gap then, and the newest release.
@@ -48,8 +47,8 @@ fn step(
     row: (u32, u64, &'static str, u32, u64),
 ) -> Result<(), Halt> {
     let (at, number, text, known, newest) = row;
-    let bytes = value(node.alloc(), number, text)?;
-    choose(node, at, bytes.as_slice())?;
+    let value = value(node.alloc(), number, text)?;
+    choose(node, at, value.as_bytes())?;
     assert_eq!(rt; node.known(), known, "after instance {at}");
     assert_eq!(rt; node.publish()?, newest, "after instance {at}");
     Ok(())
@@ -76,9 +75,9 @@ fn up_to_a_gap(rt: &impl Abort, node: &mut Peer) -> Result<(), Halt> {
 }
 
 #[test]
-fn chosen_values_are_published_up_to_a_gap(rt: HostRuntime) -> Result<(), Fail> {
-    let mut node = Peer::fresh(rt.alloc(), 3)?;
-    Ok(up_to_a_gap(&rt, &mut node)?)
+fn chosen_values_are_published_up_to_a_gap(rt: HostRuntime) {
+    let mut node = Peer::fresh(&rt, rt.alloc(), 3);
+    up_to_a_gap(&rt, &mut node).expect(&rt, "a row");
 }
 
 fn submitted(
@@ -86,8 +85,8 @@ fn submitted(
     number: u64,
     text: &str,
 ) -> Result<Result<Submitted, NodeFault>, Halt> {
-    let bytes = value(node.alloc(), number, text)?;
-    Ok(node.submit(bytes.as_slice()))
+    let value = value(node.alloc(), number, text)?;
+    Ok(node.submit(&value))
 }
 
 fn sixty_four(rt: &impl Abort, node: &mut Peer) -> Result<(), Halt> {
@@ -111,9 +110,9 @@ fn sixty_four(rt: &impl Abort, node: &mut Peer) -> Result<(), Halt> {
 }
 
 #[test]
-fn a_queue_takes_64(rt: HostRuntime) -> Result<(), Fail> {
-    let mut node = Peer::fresh(rt.alloc(), 3)?;
-    Ok(sixty_four(&rt, &mut node)?)
+fn a_queue_takes_64(rt: HostRuntime) {
+    let mut node = Peer::fresh(&rt, rt.alloc(), 3);
+    sixty_four(&rt, &mut node).expect(&rt, "a row");
 }
 
 /// Node 3 promised round 5 of node 2.
@@ -147,9 +146,9 @@ fn above_a_round_heard(rt: &impl Abort, node: &mut Peer) -> Result<(), Halt> {
 }
 
 #[test]
-fn a_tick_begins_above_a_round_heard_of(rt: HostRuntime) -> Result<(), Fail> {
-    let mut node = Peer::fresh(rt.alloc(), 3)?;
-    Ok(above_a_round_heard(&rt, &mut node)?)
+fn a_tick_begins_above_a_round_heard_of(rt: HostRuntime) {
+    let mut node = Peer::fresh(&rt, rt.alloc(), 3);
+    above_a_round_heard(&rt, &mut node).expect(&rt, "a row");
 }
 
 fn questions(rt: &impl Abort, node: &mut Peer) -> Result<(), Halt> {
@@ -167,7 +166,7 @@ fn questions(rt: &impl Abort, node: &mut Peer) -> Result<(), Halt> {
 }
 
 #[test]
-fn the_first_unknown_instance_is_asked_for(rt: HostRuntime) -> Result<(), Fail> {
-    let mut node = Peer::fresh(rt.alloc(), 3)?;
-    Ok(questions(&rt, &mut node)?)
+fn the_first_unknown_instance_is_asked_for(rt: HostRuntime) {
+    let mut node = Peer::fresh(&rt, rt.alloc(), 3);
+    questions(&rt, &mut node).expect(&rt, "a row");
 }

@@ -14,8 +14,7 @@ pub(crate) fn ballot(round: u32, node: NodeId) -> Result<Ballot, Halt> {
     Ballot::new(round, node).ok_or(Halt::NotThere)
 }
 
-/// The value of a command of editor 1.
-pub(crate) fn value(alloc: Global, number: u64, text: &str) -> Result<Vec<u8>, Halt> {
+fn written(alloc: Global, number: u64, text: &str) -> Result<Vec<u8>, Halt> {
     let ticket = Ticket { editor: 1, number };
     match write(alloc, ticket, text.as_bytes()) {
         Ok(bytes) => Ok(bytes),
@@ -24,6 +23,12 @@ pub(crate) fn value(alloc: Global, number: u64, text: &str) -> Result<Vec<u8>, H
             Err(_) => Err(Halt::OutOfMemory),
         },
     }
+}
+
+/// The value of a command of editor 1.
+pub(crate) fn value(alloc: Global, number: u64, text: &str) -> Result<Value, Halt> {
+    let bytes = written(alloc, number, text)?;
+    copied(alloc, bytes.as_slice())
 }
 
 pub(crate) fn copied(alloc: Global, bytes: &[u8]) -> Result<Value, Halt> {

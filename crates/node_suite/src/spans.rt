@@ -6,7 +6,6 @@ use node::{NodeFault, To};
 use site_ids::Ballot;
 use std::alloc::Global;
 use std::process::Abort;
-use std::test::Fail;
 use wire::Message;
 
 /// A prepare of so many instances from one on, at a ballot of another node.
@@ -141,22 +140,17 @@ fn act_all(rt: &impl Abort, node: &mut Peer, steps: &[Step]) -> Result<(), Halt>
 }
 
 /// Steps of a fresh node of three.
-fn play(rt: &impl Abort, alloc: Global, steps: &[Step]) -> Result<(), Halt> {
-    let mut node = Peer::fresh(alloc, 3)?;
-    act_all(rt, &mut node, steps)
+fn play(rt: &impl Abort, alloc: Global, steps: &[Step]) {
+    let mut node = Peer::fresh(rt, alloc, 3);
+    act_all(rt, &mut node, steps).expect(rt, "a step");
 }
 
 /// Steps of a fresh node of three, and further ones behind a crash that loses what was not synced.
-fn play_over_a_crash(
-    rt: &impl Abort,
-    alloc: Global,
-    before: &[Step],
-    behind: &[Step],
-) -> Result<(), Halt> {
-    let mut node = Peer::fresh(alloc, 3)?;
-    act_all(rt, &mut node, before)?;
-    let mut node = node.again(Some(0))?;
-    act_all(rt, &mut node, behind)
+fn play_over_a_crash(rt: &impl Abort, alloc: Global, before: &[Step], behind: &[Step]) {
+    let mut node = Peer::fresh(rt, alloc, 3);
+    act_all(rt, &mut node, before).expect(rt, "a step");
+    let mut node = node.again(rt, Some(0));
+    act_all(rt, &mut node, behind).expect(rt, "a step");
 }
 
 /// Instance 5 is promised to (1, 1), 6 to (3, 2), 7 has a vote at (2, 1): then a prepare of all three is promised, refused, and not answered.
@@ -172,13 +166,13 @@ const THREE_KINDS: [Step; 7] = [
 
 /// Each instance of a span is judged by itself: a promise, a refusal, and nothing.
 #[test]
-fn slots_of_three_kinds_answer_each_by_itself(rt: HostRuntime) -> Result<(), Fail> {
-    Ok(play(&rt, rt.alloc(), &THREE_KINDS)?)
+fn slots_of_three_kinds_answer_each_by_itself(rt: HostRuntime) {
+    play(&rt, rt.alloc(), &THREE_KINDS);
 }
 
 /// What was promised is kept, and nothing else of the span was raised.
 #[test]
-fn a_span_is_kept_over_a_crash(rt: HostRuntime) -> Result<(), Fail> {
+fn a_span_is_kept_over_a_crash(rt: HostRuntime) {
     let behind = [
         Step::Many(0),
         Step::Prepare(3, 5, 3, 1),
@@ -187,12 +181,12 @@ fn a_span_is_kept_over_a_crash(rt: HostRuntime) -> Result<(), Fail> {
             &[Answer::Nack(5, 2), Answer::Nack(6, 3), Answer::Nack(7, 2)],
         ),
     ];
-    Ok(play_over_a_crash(&rt, rt.alloc(), &THREE_KINDS, &behind)?)
+    play_over_a_crash(&rt, rt.alloc(), &THREE_KINDS, &behind);
 }
 
 /// Two spans that overlap by halves: the lower one is refused where the higher one was promised, and promised elsewhere. A third one, above both, is told the vote.
 #[test]
-fn two_spans_overlap_by_halves(rt: HostRuntime) -> Result<(), Fail> {
+fn two_spans_overlap_by_halves(rt: HostRuntime) {
     let steps = [
         Step::Prepare(3, 3, 4, 2),
         Step::Answers(
@@ -226,12 +220,12 @@ fn two_spans_overlap_by_halves(rt: HostRuntime) -> Result<(), Fail> {
             ],
         ),
     ];
-    Ok(play(&rt, rt.alloc(), &steps)?)
+    play(&rt, rt.alloc(), &steps);
 }
 
 /// Sixty-four instances, the last of them the last there is, of which the last alone rises.
 #[test]
-fn the_last_of_a_long_span_rises(rt: HostRuntime) -> Result<(), Fail> {
+fn the_last_of_a_long_span_rises(rt: HostRuntime) {
     let before = [
         Step::Prepare(3, 999_937, 63, 1),
         Step::Many(63),
@@ -242,16 +236,16 @@ fn the_last_of_a_long_span_rises(rt: HostRuntime) -> Result<(), Fail> {
         Step::Prepare(2, 1_000_000, 1, 1),
         Step::Answers(2, &[Answer::Nack(1_000_000, 1)]),
     ];
-    Ok(play_over_a_crash(&rt, rt.alloc(), &before, &behind)?)
+    play_over_a_crash(&rt, rt.alloc(), &before, &behind);
 }
 
 /// A device that fails in the put hands nothing out, and raises nothing.
 #[test]
-fn a_span_that_is_not_put_answers_nothing(rt: HostRuntime) -> Result<(), Fail> {
+fn a_span_that_is_not_put_answers_nothing(rt: HostRuntime) {
     let before = [Step::Fails(3, 1, 3, 1)];
     let behind = [
         Step::Prepare(2, 2, 1, 1),
         Step::Answers(2, &[Answer::Promise(2)]),
     ];
-    Ok(play_over_a_crash(&rt, rt.alloc(), &before, &behind)?)
+    play_over_a_crash(&rt, rt.alloc(), &before, &behind);
 }

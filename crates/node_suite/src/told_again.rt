@@ -3,8 +3,8 @@ use crate::halt::Halt;
 use crate::peer::Peer;
 use crate::samples::{ballot, chosen, copied, instance};
 use node::{NodeFault, To};
+use site_ids::Value;
 use std::process::Abort;
-use std::test::Fail;
 use wire::Message;
 
 /// What comes to node 1, and what it tells.
@@ -96,7 +96,7 @@ fn act(rt: &impl Abort, node: &mut Peer, step: Step) -> Result<(), Halt> {
     }
 }
 
-const STEPS: [Step; 15] = [
+const STEPS: [Step; 16] = [
     Step::Tells(1, &[]),
     Step::Vote(2, 3, "b"),
     Step::Learn(1, "a"),
@@ -112,31 +112,41 @@ const STEPS: [Step; 15] = [
     Step::Learn(65, "d"),
     Step::Vote(1_000_000, 1, "e"),
     Step::Tells(65, &[Told::Chosen(65, "d")]),
+    Step::Tells(999_990, &[Told::Vote(1_000_000, 1, "e")]),
 ];
+
+fn act_all(rt: &impl Abort, node: &mut Peer, steps: &[Step]) -> Result<(), Halt> {
+    for step in steps {
+        act(rt, node, *step)?;
+    }
+    Ok(())
+}
 
 /// A value that is known goes before the vote there; a promise alone is nothing to tell; of 64 instances, and none past the last.
 #[test]
-fn values_and_votes_are_told(rt: HostRuntime) -> Result<(), Fail> {
-    let mut node = Peer::fresh(rt.alloc(), 3)?;
-    for step in STEPS {
-        act(&rt, &mut node, step)?;
-    }
-    let last = Step::Tells(999_990, &[Told::Vote(1_000_000, 1, "e")]);
-    Ok(act(&rt, &mut node, last)?)
+fn values_and_votes_are_told(rt: HostRuntime) {
+    let mut node = Peer::fresh(&rt, rt.alloc(), 3);
+    act_all(&rt, &mut node, &STEPS).expect(&rt, "a step");
+}
+
+/// Node 3 proposes a value of so many bytes.
+fn long_value(node: &mut Peer, at: u32, size: usize) -> Result<(), Halt> {
+    let mut bytes = Vec::new(node.alloc());
+    bytes.resize(size, b'x')?;
+    let from = node.other(3)?;
+    let message = Message::Propose {
+        from,
+        instance: instance(at)?,
+        ballot: ballot(1, from)?,
+        value: Value::from_bytes(bytes)?,
+    };
+    node.hand(&message)
 }
 
 /// Votes for values of 32,768, 32,767 and one byte: two fit, and then one byte more does.
 fn long_values(rt: &impl Abort, node: &mut Peer, sizes: &[(u32, usize)]) -> Result<(), Halt> {
-    let from = node.other(3)?;
     for (at, size) in sizes {
-        let mut bytes = Vec::new(node.alloc());
-        bytes.resize(*size, b'x')?;
-        node.hand(&Message::Propose {
-            from,
-            instance: instance(*at)?,
-            ballot: ballot(1, from)?,
-            value: copied(node.alloc(), bytes.as_slice())?,
-        })?;
+        long_value(node, *at, *size)?;
     }
     for (first, told) in [(1, 3), (2, 3), (3, 2)] {
         node.forget_said();
@@ -147,20 +157,24 @@ fn long_values(rt: &impl Abort, node: &mut Peer, sizes: &[(u32, usize)]) -> Resu
 }
 
 #[test]
-fn a_telling_has_65536_bytes_of_values_at_most(rt: HostRuntime) -> Result<(), Fail> {
-    let mut node = Peer::fresh(rt.alloc(), 3)?;
+fn a_telling_has_65536_bytes_of_values_at_most(rt: HostRuntime) {
+    let mut node = Peer::fresh(&rt, rt.alloc(), 3);
     let sizes = [(1, 32_768), (2, 32_767), (3, 1), (4, 32_768), (5, 32_768)];
-    Ok(long_values(&rt, &mut node, &sizes)?)
+    long_values(&rt, &mut node, &sizes).expect(&rt, "a telling");
 }
 
-#[test]
-fn a_stopped_node_tells_nothing(rt: HostRuntime) -> Result<(), Fail> {
-    let mut node = Peer::fresh(rt.alloc(), 3)?;
-    act(&rt, &mut node, Step::Vote(1, 1, "a"))?;
+fn stopped(rt: &impl Abort, node: &mut Peer) -> Result<(), Halt> {
+    act(rt, node, Step::Vote(1, 1, "a"))?;
     node.forget_said();
     node.arm(0);
     assert_eq!(rt; node.tick(), Err(NodeFault::Device));
     assert_eq!(rt; node.tell(To::All, instance(1)?), Err(NodeFault::Stopped));
     assert!(rt; node.out().is_empty());
     Ok(())
+}
+
+#[test]
+fn a_stopped_node_tells_nothing(rt: HostRuntime) {
+    let mut node = Peer::fresh(&rt, rt.alloc(), 3);
+    stopped(&rt, &mut node).expect(&rt, "a row");
 }

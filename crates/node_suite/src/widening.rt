@@ -4,8 +4,8 @@ use crate::peer::Peer;
 use crate::samples::{ballot, chosen, nack, value};
 use node::{NodeFault, Outbox, To};
 use site_ids::MAX_ROUND;
+use std::alloc::Global;
 use std::process::Abort;
-use std::test::Fail;
 use wire::Message;
 
 /// What a node does, and what it has prepared then, all messages since the last such look: instances, rounds and counts.
@@ -55,7 +55,7 @@ fn act(rt: &impl Abort, node: &mut Peer, step: Step) -> Result<(), Halt> {
         Step::Submit(first, last) => {
             for number in first..=last {
                 let release = value(node.alloc(), number, "release\n")?;
-                let _ = node.submit(release.as_slice())?;
+                let _ = node.submit(&release)?;
             }
         }
         Step::Chosen(at) => {
@@ -85,14 +85,16 @@ fn act_all(rt: &impl Abort, node: &mut Peer, steps: &[Step]) -> Result<(), Halt>
     Ok(())
 }
 
-fn play(rt: &impl Abort, node: &mut Peer, steps: &[Step]) -> Result<(), Fail> {
-    Ok(act_all(rt, node, steps)?)
+/// Steps of a fresh node of three.
+fn play(rt: &impl Abort, alloc: Global, steps: &[Step]) {
+    let mut node = Peer::fresh(rt, alloc, 3);
+    act_all(rt, &mut node, steps).expect(rt, "a step");
 }
 
 /// Each value is tried once, from the least free instance on, all with one round and one prepare. A tick takes the
 /// oldest value, and sends the others' messages again, by instance: each prepare of one.
 #[test]
-fn three_values_are_tried_at_once(rt: HostRuntime) -> Result<(), Fail> {
+fn three_values_are_tried_at_once(rt: HostRuntime) {
     let steps = [
         Step::Widen(Ok(false)),
         Step::Submit(1, 3),
@@ -105,13 +107,12 @@ fn three_values_are_tried_at_once(rt: HostRuntime) -> Result<(), Fail> {
         Step::Widen(Ok(false)),
         Step::Prepares(&[]),
     ];
-    let mut node = Peer::fresh(rt.alloc(), 3)?;
-    play(&rt, &mut node, &steps)
+    play(&rt, rt.alloc(), &steps);
 }
 
 /// A known instance isn't free, so the next prepare begins behind it.
 #[test]
-fn a_span_ends_at_a_known_instance(rt: HostRuntime) -> Result<(), Fail> {
+fn a_span_ends_at_a_known_instance(rt: HostRuntime) {
     let steps = [
         Step::Chosen(3),
         Step::Submit(1, 9),
@@ -120,13 +121,12 @@ fn a_span_ends_at_a_known_instance(rt: HostRuntime) -> Result<(), Fail> {
         Step::Widen(Ok(false)),
         Step::Prepares(&[(1, 1, 2), (4, 2, 7)]),
     ];
-    let mut node = Peer::fresh(rt.alloc(), 3)?;
-    play(&rt, &mut node, &steps)
+    play(&rt, rt.alloc(), &steps);
 }
 
 /// No instance more than 63 past the first unknown one is tried.
 #[test]
-fn a_widening_stays_in_the_window(rt: HostRuntime) -> Result<(), Fail> {
+fn a_widening_stays_in_the_window(rt: HostRuntime) {
     let steps = [
         Step::Submit(1, 64),
         Step::Tick,
@@ -140,13 +140,12 @@ fn a_widening_stays_in_the_window(rt: HostRuntime) -> Result<(), Fail> {
         Step::Widen(Ok(false)),
         Step::Prepares(&[(65, 3, 2)]),
     ];
-    let mut node = Peer::fresh(rt.alloc(), 3)?;
-    play(&rt, &mut node, &steps)
+    play(&rt, rt.alloc(), &steps);
 }
 
 /// Without a value to try the answer is false, also where no round is left.
 #[test]
-fn a_widening_needs_a_round(rt: HostRuntime) -> Result<(), Fail> {
+fn a_widening_needs_a_round(rt: HostRuntime) {
     let steps = [
         Step::Nack(MAX_ROUND),
         Step::Widen(Ok(false)),
@@ -154,13 +153,12 @@ fn a_widening_needs_a_round(rt: HostRuntime) -> Result<(), Fail> {
         Step::Widen(Err(NodeFault::RoundsUsedUp)),
         Step::Prepares(&[]),
     ];
-    let mut node = Peer::fresh(rt.alloc(), 3)?;
-    play(&rt, &mut node, &steps)
+    play(&rt, rt.alloc(), &steps);
 }
 
 /// The same at a node whose device is about to fail.
 #[test]
-fn a_widening_needs_a_disk(rt: HostRuntime) -> Result<(), Fail> {
+fn a_widening_needs_a_disk(rt: HostRuntime) {
     let steps = [
         Step::Arm,
         Step::Widen(Ok(false)),
@@ -169,6 +167,5 @@ fn a_widening_needs_a_disk(rt: HostRuntime) -> Result<(), Fail> {
         Step::Widen(Err(NodeFault::Stopped)),
         Step::Prepares(&[]),
     ];
-    let mut node = Peer::fresh(rt.alloc(), 3)?;
-    play(&rt, &mut node, &steps)
+    play(&rt, rt.alloc(), &steps);
 }
