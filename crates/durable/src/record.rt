@@ -30,6 +30,7 @@ pub struct Record<D> {
     pub(crate) recorded: Recorded,
     // from a failure of the device on
     pub(crate) stopped: bool,
+    // the batch that is open, if one is
     pub(crate) staged: Staged,
 }
 
@@ -143,7 +144,7 @@ impl<D: Disk> Record<D> {
         self.recorded.greatest
     }
 
-    /// Whether the device failed in a put since the record was opened.
+    /// Whether the device failed in a put or a seal since the record was opened.
     pub fn is_stopped(&self) -> bool
         ensures { result ≡ self.now.stopped }
     {
