@@ -1,15 +1,16 @@
 //! Responses to submissions that are known before: room for any of them is made first, so that none is refused behind a submission that was taken.
 
-ghost use Rattle.std.specs.Prelude.{◌≡◌, ◌≤◌, [], length, vec_capacity, IfOk};
+ghost use Rattle.std.specs.Prelude.{◌≡◌, ◌≤◌, ◌++◌, Bool, [], length, vec_capacity, IfOk};
+ghost use Rattle.http_serve.specs.declared.fixed.TheConstants.{LONGEST};
 ghost use Rattle.http_serve.specs.Fixed.{fixed_reply};
-ghost use Rattle.http_serve.specs.Replies.{print_reply};
+ghost use Rattle.http_serve.specs.Replies.{reply_head, head_end};
 ghost use Rattle.http_serve.specs.Shown.{whole, written_in, write_as};
 
-use crate::replies::Message;
+use crate::replies::{Message, end_of_head};
 use std::alloc::{AllocError, Global};
 
-/// How many bytes the longest has.
-const LONGEST: usize = 123;
+/// How many bytes the longest has: its head without an end, the end, and the body.
+const LONGEST: usize = 92 + 23 + 8;
 
 /// What a submission is told, but for a fault's line.
 #[derive(Clone, Copy, Debug, PartialEq, Eq, Drop)]
@@ -39,43 +40,44 @@ impl Room {
         ensures { written_in result ≡ write_as (whole keep) (fixed_reply reply) }
     {
         let mut bytes = self.bytes;
-        let _ = bytes.extend_from_slice(reply.text(keep).as_bytes());
+        let _ = bytes.extend_from_slice(reply.head().as_bytes());
+        let _ = bytes.extend_from_slice(end_of_head(keep).as_bytes());
+        let _ = bytes.extend_from_slice(reply.body().as_bytes());
         Message { bytes, stays: keep }
     }
 }
 
 impl FixedReply {
-    /// The response, behind which the connection stays or not.
-    #[tactic(auto, unfolding(crate::specs::Replies::reason))]
-    fn text(self, stays: bool) -> &'static str
-        ensures value { result.now ≡ print_reply stays false (fixed_reply self) }
-        ensures few { length result.now ≤ LONGEST }
+    /// The head, but for what ends it.
+    fn head(self) -> &'static str
+        ensures value { (stays : Bool) → result.now ++ head_end stays ≡ reply_head stays (fixed_reply self) }
+        ensures few { length result.now ≤ 92 }
     {
-        match (self, stays) {
-            (FixedReply::Queued, true) => {
-                "HTTP/1.1 202 Accepted\r\nContent-Type: text/plain; charset=utf-8\r\nContent-Length: 7\r\n\r\nqueued\n"
+        match self {
+            FixedReply::Queued => {
+                "HTTP/1.1 202 Accepted\r\nContent-Type: text/plain; charset=utf-8\r\nContent-Length: 7"
             }
-            (FixedReply::Queued, false) => {
-                "HTTP/1.1 202 Accepted\r\nContent-Type: text/plain; charset=utf-8\r\nContent-Length: 7\r\nConnection: close\r\n\r\nqueued\n"
+            FixedReply::Already => {
+                "HTTP/1.1 200 OK\r\nContent-Type: text/plain; charset=utf-8\r\nContent-Length: 8"
             }
-            (FixedReply::Already, true) => {
-                "HTTP/1.1 200 OK\r\nContent-Type: text/plain; charset=utf-8\r\nContent-Length: 8\r\n\r\nalready\n"
+            FixedReply::Busy => {
+                "HTTP/1.1 503 Service Unavailable\r\nContent-Type: text/plain; charset=utf-8\r\nContent-Length: 5"
             }
-            (FixedReply::Already, false) => {
-                "HTTP/1.1 200 OK\r\nContent-Type: text/plain; charset=utf-8\r\nContent-Length: 8\r\nConnection: close\r\n\r\nalready\n"
+            FixedReply::Stopped => {
+                "HTTP/1.1 503 Service Unavailable\r\nContent-Type: text/plain; charset=utf-8\r\nContent-Length: 8"
             }
-            (FixedReply::Busy, true) => {
-                "HTTP/1.1 503 Service Unavailable\r\nContent-Type: text/plain; charset=utf-8\r\nContent-Length: 5\r\n\r\nbusy\n"
-            }
-            (FixedReply::Busy, false) => {
-                "HTTP/1.1 503 Service Unavailable\r\nContent-Type: text/plain; charset=utf-8\r\nContent-Length: 5\r\nConnection: close\r\n\r\nbusy\n"
-            }
-            (FixedReply::Stopped, true) => {
-                "HTTP/1.1 503 Service Unavailable\r\nContent-Type: text/plain; charset=utf-8\r\nContent-Length: 8\r\n\r\nstopped\n"
-            }
-            (FixedReply::Stopped, false) => {
-                "HTTP/1.1 503 Service Unavailable\r\nContent-Type: text/plain; charset=utf-8\r\nContent-Length: 8\r\nConnection: close\r\n\r\nstopped\n"
-            }
+        }
+    }
+
+    fn body(self) -> &'static str
+        ensures value { result.now ≡ (fixed_reply self).body }
+        ensures few { length result.now ≤ 8 }
+    {
+        match self {
+            FixedReply::Queued => "queued\n",
+            FixedReply::Already => "already\n",
+            FixedReply::Busy => "busy\n",
+            FixedReply::Stopped => "stopped\n",
         }
     }
 }

@@ -23,14 +23,10 @@ use Rattle.node.specs.Calls.{Call, fresh_ballot, HasRound, Does}
 use Rattle.node.specs.Knowing.{AreKnown}
 use Rattle.node.specs.Standing.{HasParts, IsNodeOf, KeepsOthers}
 use Rattle.node.specs.Waiting.{AreWaiting}
-use Rattle.node.specs.Beginning.{begun}
+use Rattle.node.specs.Beginning.{begun, next_of}
 use Rattle.node.proofs.Stepping.{Done, put_record, put_stays}
 
 module _ {D : Type 0} where
-  -- the ballot that the proposer gives
-  abbrev pub next_of : Running D → BallotOf
-  next_of code = record { round = max code.store.recorded.round code.proposer.heard + 1; node = code.proposer.me }
-
   pub next_is_fresh : (code : Running D) (s : Node) → HasParts code s → next_of code ≡ fresh_ballot code.me s
   next_is_fresh code s parts =
       let round : max code.store.recorded.round code.proposer.heard + 1 ≡ suc (max (last_round s.entries) s.heard) =

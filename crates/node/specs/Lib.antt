@@ -17,3 +17,4 @@ pub mod Waiting
 pub mod Knowing
 pub mod Standing
 pub mod Beginning
+pub mod ReadValues

@@ -54,7 +54,11 @@ impl<D: Disk> Node<D> {
         ensures whose { (self.new.me ≡ self.old.me) × (self.new.cluster ≡ self.old.cluster) }
     {
         let known = &mut self.known;
-        feed(known.log.prefix(), &mut known.unpublished, &mut self.releases)?;
+        feed(
+            known.log.prefix(),
+            &mut known.unpublished,
+            &mut self.releases,
+        )?;
         Ok(self.releases.newest())
     }
 

@@ -1,34 +1,72 @@
-//! A value that was read.
+//! A command of the log that was read.
 
-ghost use Rattle.std.specs.Prelude.{◌≡◌, ◌+◌, ◌<◌, ◌++◌, [], ◌∷◌, List, option_map, length, IfOk, IfSome, OnOk, OnErr};
+ghost use Rattle.std.specs.Prelude.{◌≡◌, ◌↔◌, ◌<◌, ◌++◌, [], ◌∷◌, None, Some, length, IsTrue, IfOk, MatchOption, OnOk, OnErr};
 ghost use Rattle.site_ids.specs.declared.TheConstants.{MAX_INSTANCE};
-ghost use Rattle.command.specs.Action.{Order};
-ghost use Rattle.node.specs.Tickets.{ticket_in, IsReading};
+ghost use Rattle.node.specs.Tickets.{ticket_in};
 
 use command::{Command, CommandFault, read};
 use release::Releases;
-use site_ids::Value;
+use site_ids::{Ticket, Value};
 use std::alloc::{AllocError, Global};
+use std::marker::Model;
 
 /// A value, and the command that it was read as.
 #[derive(Drop)]
 pub(crate) struct ReadValue {
-    pub(crate) value: Value,
-    pub(crate) command: Command,
-    ghost reads: { IsReading value command },
+    value: Value,
+    command: Command,
 }
 
-/// A value that is a command, read; none of any other.
-pub(crate) fn read_value(alloc: Global, value: &Value) -> Result<Option<ReadValue>, AllocError>
-    ensures { IfOk result (λ read. option_map (λ r. r.command.ticket) read ≡ ticket_in value.now) }
-{
-    match read(alloc, value.as_bytes()) {
-        Ok(command) => {
-            let value = value.try_clone()?;
-            Ok(Some(ReadValue { value, command }))
+impl Model for ReadValue {
+    ghost use Rattle.std.specs.Prelude.{ℕ, List};
+    ghost use Rattle.std.specs.Coded.{coded_ℕ, coded_list};
+    ghost use Rattle.node.specs.ReadValues.{value_read, IsRead};
+
+    ghost Value = { List ℕ };
+
+    ghost coded = { coded_list coded_ℕ };
+
+    ghost view = { value_read };
+
+    ghost invariant = { IsRead };
+}
+
+impl ReadValue {
+    /// A value that is a command, read; none of any other.
+    pub(crate) fn read(alloc: Global, value: &Value) -> Result<Option<ReadValue>, AllocError>
+        ensures { IfOk result (λ read. MatchOption read (ticket_in value.now ≡ None) (λ r. r ≡ value.now)) }
+    {
+        match read(alloc, value.as_bytes()) {
+            Ok(command) => {
+                let value = value.try_clone()?;
+                Ok(Some(ReadValue { value, command }))
+            }
+            Err(fault) => match fault {
+                CommandFault::OutOfMemory => Err(AllocError),
+                _ => Ok(None),
+            },
         }
-        Err(CommandFault::OutOfMemory) => Err(AllocError),
-        Err(_) => Ok(None),
+    }
+
+    pub(crate) fn ticket(&self) -> Ticket
+        ensures { ticket_in self.now ≡ Some result }
+    {
+        self.command.ticket
+    }
+
+    fn is_of(&self, value: &Value) -> bool
+        ensures { IsTrue result ↔ (self.now ≡ value.now) }
+    {
+        self.value.as_bytes() == value.as_bytes()
+    }
+
+    fn feed(self, releases: &mut Releases) -> Result<(), AllocError>
+        requires { length releases.old < MAX_INSTANCE }
+        ensures ok { OnOk result (releases.new ≡ releases.old ++ (self ∷ [])) }
+        ensures err { OnErr result (releases.new ≡ releases.old) }
+    {
+        releases.feed_command(self.value, self.command)?;
+        Ok(())
     }
 }
 
@@ -43,9 +81,8 @@ pub(crate) fn feed_value(
     ensures err { OnErr result (releases.new ≡ releases.old) }
 {
     if let Some(read) = read {
-        if read.value.as_bytes() == value.as_bytes() {
-            releases.feed_command(read.value, read.command)?;
-            return Ok(());
+        if read.is_of(value) {
+            return read.feed(releases);
         }
     }
     releases.feed_value(value.try_clone()?)?;

@@ -12,10 +12,10 @@ use site_ids::{Ticket, Value};
 use std::alloc::Global;
 
 /// The ticket of a command that is submitted.
-fn submitted_ticket(alloc: Global, value: &[u8]) -> Result<Ticket, NodeFault>
+fn submitted_ticket(alloc: Global, value: &Value) -> Result<Ticket, NodeFault>
     ensures { MatchResult result (λ ticket. (order : Order) × (value_reading value.now ≡ Ok order) × (ticket ≡ order.ticket)) (IsUnread value.now) }
 {
-    let command = read(alloc, value)?;
+    let command = read(alloc, value.as_bytes())?;
     Ok(command.ticket)
 }
 
@@ -36,7 +36,7 @@ impl<D: Disk> Node<D> {
         if self.store.is_stopped() {
             return Err(NodeFault::Stopped);
         }
-        let ticket = submitted_ticket(self.alloc, value.as_bytes())?;
+        let ticket = submitted_ticket(self.alloc, value)?;
         if self.holds(ticket) {
             return Ok(Submitted::Already);
         }

@@ -1,4 +1,4 @@
-use Rattle.std.proofs.Common.{◌≡◌, ℕ, ◌+◌, false, Some, ◌∷◌, length, refl, sym, ap, subst, ◌∙◌, arith}
+use Rattle.std.proofs.Common.{◌≡◌, ℕ, Some, ◌∷◌, ◌++◌, length, refl, sym, ap, subst, ◌∙◌, arith}
 use Rattle.site_ids.specs.Spans.{IsSpan}
 use Rattle.durable.specs.Entries.{Round}
 use Rattle.durable.specs.Puts.{IsPut, Acknowledges}
@@ -8,10 +8,10 @@ use Rattle.node.specs.Beginning.{begun}
 use Rattle.node.proofs.Starting.{started}
 use Rattle.node.proofs.Stepping.{Handed, same_store, unmoved, whole, wants_memory, put_fails}
 use Rattle.node.proofs.Adding.{many_more, when_ok}
-use Rattle.node.proofs.running.Node.begin.Goals as goal
+use Rattle.node.proofs.running.Node.begin_attempts.Goals as goal
 
 pub make_room_for_span-requires : goal.make_room_for_span-requires
-make_room_for_span-requires g c = subst (λ (k : ℕ). IsSpan c.args.first k) (sym (c.len-count.ensures ∙ c.args.values.ok.0)) c.requires.span
+make_room_for_span-requires g c = subst (λ (k : ℕ). IsSpan c.args.due.first k) (sym (c.len-count.ensures ∙ c.args.due.values.ok.0)) c.requires.span
 
 pub returns-in_err-reserve-clause-event : goal.returns-in_err-reserve-clause-event
 returns-in_err-reserve-clause-event g c call by =
@@ -33,17 +33,17 @@ returns-in_err-put_round-clause-event g c call by =
     let told = c.from_residual-in_err-put_round in
     put_fails g.D.Disk.stands_for g.D.Disk.failed old _ (Round c.round.result) (record { me = refl; cluster = refl; releases = refl }) c.requires.running call failed.field-0.0 told.result _ _ by.in_range
     (record { learner = refl; known = refl; queue = refl; attempts = c.make_room_for_span.ensures.stays; heard = c.make_room_for_span.ensures.same.2 }) refl c.reserve.ensures.items failed.ensures.put told.ensures.1
-    (λ s stands. (begun old.me s c.args.first c.args.ballot c.args.values.items c.args.again.items, by.does s stands, ap (λ r. Some (Round r)) (sym c.round.ensures.is)))
+    (λ s stands. (begun old.me s c.args.due.first c.args.due.ballot c.args.due.values.items c.args.due.again.items, by.does s stands, ap (λ r. Some (Round r)) (sym c.round.ensures.is)))
     by.wants
 
 pub returns-clause-event : goal.returns-clause-event
 returns-clause-event g c call by =
     let old = c.args.self.now in
-    let i = c.args.first in
-    let b = c.args.ballot in
-    let values = c.args.values.items in
-    let again = c.args.again.items in
-    let counted : c.len-count.result ≡ length values = c.len-count.ensures ∙ c.args.values.ok.0 in
+    let i = c.args.due.first in
+    let b = c.args.due.ballot in
+    let values = c.args.due.values.items in
+    let again = c.args.due.again.items in
+    let counted : c.len-count.result ≡ length values = c.len-count.ensures ∙ c.args.due.values.ok.0 in
     let put = c.in_ok-put_round.ensures.put in
     let out : Handed = (All, Prepare old.me i b (length values)) ∷ again in
     let told : Handed = (All, Prepare old.me i b c.len-count.result) ∷ again in
