@@ -18,6 +18,7 @@ use Rattle.node.specs.declared.fault.NodeFault.{NodeFault}
 use Rattle.node.specs.declared.fault.NodeFault.TheVariants as fault
 use Rattle.node.specs.declared.to.To.{To}
 use Rattle.node.specs.declared.running.Node.{Node as Running}
+use Rattle.node.specs.Ahead.{StaysAhead}
 use Rattle.node.specs.Nodes.{Mode, Up, Stopped, Node, opened, BeginsKnown}
 use Rattle.node.specs.Calls.{Call}
 use Rattle.node.specs.Endings.{Ending, Whole, Refused, Failed, Ends}
@@ -90,6 +91,7 @@ pub record Leads {D : Type 0} (stands_for : D → DiskState → Type 0) (old new
   pub ends : Ends old.cluster old.me s call ending out next
   pub stands : IsNodeOf new next
   pub on_disk : StaysOnDisk stands_for old new s next
+  pub ahead : StaysAhead stands_for old new s next
   pub outbox : after ≡ before ++ out
   pub few : length out ≤ 64
   pub messages : (x : To × Message) → In out x → IsMessage old.cluster x.1
