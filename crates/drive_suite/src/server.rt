@@ -3,8 +3,8 @@ use crate::opening::{again, fresh};
 use command::write;
 use node::{Node, NodeFault, Submitted};
 use site_disk::MemDisk;
-use site_ids::{Ticket, Value};
 use site_drive::{Desk, Driven, LastCall, Link, MemLink, drive};
+use site_ids::{Ticket, Value};
 use std::alloc::Global;
 use std::process::Abort;
 
