@@ -1,5 +1,6 @@
 -- The chosen values of a log, and what learning one more does.
-use Rattle.std.specs.Prelude.{◌≡◌, ◌≢◌, ℕ, List, Option, Some, None, Result, Ok, Err}
+use Rattle.std.specs.Prelude.{◌≡◌, ◌≢◌, ◌≤◌, ◌<◌, ℕ, List, Option, Some, None, IsSome, Result, Ok, Err}
+use Rattle.site_ids.specs.Ids.{IsInstance}
 use Rattle.site_ids.specs.Lists.{put_at}
 use Rattle.chosen_log.specs.Places.{Places, in_either}
 use Rattle.chosen_log.specs.declared.fault.LearnFault.{LearnFault}
@@ -10,6 +11,10 @@ use Rattle.chosen_log.specs.declared.log.Learned.TheVariants.{New, Known}
 -- the value known at an instance
 abbrev pub value_at : Places → ℕ → Option (List ℕ)
 value_at log i = in_either log.prefix log.beyond i
+
+-- the least instance without a value
+abbrev pub IsGap : Places → ℕ → Type 0
+IsGap log gap = IsInstance gap × (value_at log gap ≡ None) × ((i : ℕ) → 1 ≤ i → i < gap → IsSome (value_at log i))
 
 -- A value is new where none is known, and known where it is the one. Where another is known it is handed back, as where
 -- memory is wanted for a new one. Only a new value changes the log, at its instance alone

@@ -39,7 +39,7 @@ impl Model for ChosenLog {
 }
 
 impl ChosenLog {
-    ghost use Rattle.chosen_log.specs.Log.{value_at, Learns};
+    ghost use Rattle.chosen_log.specs.Log.{value_at, IsGap, Learns};
 
     pub fn new(alloc: Global) -> ChosenLog
         ensures { (i : ℕ) → value_at result i ≡ None }
@@ -96,7 +96,7 @@ impl ChosenLog {
 
     /// The first instance that isn't known, if there is one.
     pub fn next_gap(&self) -> Option<Instance>
-        ensures { MatchOption result ((i : ℕ) → IsInstance i → IsSome (value_at self.now i)) (λ gap. IsInstance gap × (value_at self.now gap ≡ None) × ((i : ℕ) → 1 ≤ i → i < gap → IsSome (value_at self.now i))) }
+        ensures { MatchOption result ((i : ℕ) → IsInstance i → IsSome (value_at self.now i)) (λ gap. IsGap self.now gap) }
     {
         Instance::new(self.prefix.len() as u32 + 1)
     }

@@ -3,8 +3,8 @@ use crate::opening::{again, fresh};
 use command::write;
 use node::{Node, NodeFault, Submitted};
 use site_disk::MemDisk;
-use site_drive::{Desk, Driven, LastCall, Link, MemLink, drive, exchange};
-use site_ids::Ticket;
+use site_drive::{Desk, Driven, LastCall, Link, MemLink, drive};
+use site_ids::{Ticket, Value};
 use std::alloc::Global;
 use std::process::Abort;
 
@@ -54,15 +54,18 @@ impl<L: Link + Drop> Server<L> {
         desk.drive_with(&mut self.node, &mut self.link, turns, last)
     }
 
+    /// Turns alone.
     pub(crate) fn exchange(&mut self, turns: u32) -> Result<Driven, NodeFault> {
-        exchange(self.alloc, &mut self.node, &mut self.link, turns)
+        let mut desk = Desk::new(self.alloc)?;
+        self.drive_with(&mut desk, turns, LastCall::Nothing)
     }
 
     /// A command of editor 1, by the number of its ticket.
     pub(crate) fn submit(&mut self, rt: &impl Abort, number: u64, text: &str) {
         let ticket = Ticket { editor: 1, number };
-        let value = write(self.alloc, ticket, text.as_bytes()).expect(rt, "a command");
-        let submitted = self.node.submit(value.as_slice());
+        let bytes = write(self.alloc, ticket, text.as_bytes()).expect(rt, "a command");
+        let value = Value::from_bytes(bytes).expect(rt, "a value");
+        let submitted = self.node.submit(&value);
         assert_eq!(rt; submitted, Ok(Submitted::Queued));
     }
 

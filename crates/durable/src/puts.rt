@@ -12,7 +12,7 @@ use crate::append::append;
 use crate::spelling::{promise_behind, round_behind, span_behind};
 use crate::{Record, RecordFault};
 use site_disk::{Disk, DiskFailed};
-use site_ids::{Ballot, Instance};
+use site_ids::{Ballot, Instance, Value};
 
 impl<D: Disk> Record<D> {
     ghost use Rattle.durable.specs.Puts.{Puts, Appends, BreaksOff};
@@ -104,7 +104,7 @@ impl<D: Disk> Record<D> {
         &mut self,
         instance: Instance,
         ballot: Ballot,
-        value: &[u8],
+        value: &Value,
     ) -> Result<(), RecordFault>
         requires of_cluster { IsNode self.old.cluster ballot.node }
         requires free { IsFreeAt (slot_at self.old.recorded.slots instance).promised ballot }
@@ -115,7 +115,8 @@ impl<D: Disk> Record<D> {
         if self.stopped {
             return Err(RecordFault::Stopped);
         }
-        if !self.has_room(10 + value.len()) {
+        let size = value.as_bytes().len();
+        if !self.has_room(10 + size) {
             return Err(RecordFault::Full);
         }
         let room = self

@@ -174,7 +174,7 @@ impl Slots {
         alloc: Global,
         instance: Instance,
         ballot: Ballot,
-        value: &[u8],
+        value: &Value,
     ) -> Result<(Vec<u8>, Vote), AllocError>
         requires { length value.now ≤ MAX_VALUE }
         ensures bytes { IfOk result (λ p. p.0.items ≡ behind_gate (Voted instance ballot value.now)) }
@@ -183,8 +183,8 @@ impl Slots {
         ensures room { OnOk result (IsThere self.new instance) }
         ensures slots { (at : ℕ) → slot_at self.new at ≡ slot_at self.old at }
     {
-        let bytes = vote_behind(alloc, instance, ballot, value)?;
-        let value = Value::copied_from(alloc, value)?;
+        let bytes = vote_behind(alloc, instance, ballot, value.as_bytes())?;
+        let value = value.try_clone()?;
         self.make_room(instance)?;
         Ok((bytes, Vote { ballot, value }))
     }

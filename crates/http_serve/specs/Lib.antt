@@ -8,3 +8,4 @@ pub mod Connections
 pub mod Exchanges
 pub mod Faults
 pub mod Laws
+pub mod Fixed

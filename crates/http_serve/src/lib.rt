@@ -5,6 +5,7 @@
 #![tactic(auto)]
 
 mod fault;
+mod fixed;
 mod laws;
 mod next;
 mod places;

@@ -1,5 +1,5 @@
 //! The bytes of a response.
-ghost use Rattle.std.specs.Prelude.{◌≡◌, ◌&&◌, not, IfOk, string_bytes};
+ghost use Rattle.std.specs.Prelude.{◌≡◌, ◌≤◌, ◌&&◌, not, length, IfOk, string_bytes};
 ghost use Rattle.http_serve.specs.Shown.{reply_of, written_in, write_as};
 ghost use Rattle.http_serve.specs.Replies.{reply_head, reason, media_type, closes as is_closing, head_end};
 
@@ -102,8 +102,9 @@ fn stays_behind(keep: bool, status: u16) -> bool
 }
 
 /// The end of a head.
-fn end_of_head(stays: bool) -> &'static str
-    ensures { result.now ≡ head_end stays }
+pub(crate) fn end_of_head(stays: bool) -> &'static str
+    ensures value { result.now ≡ head_end stays }
+    ensures few { length result.now ≤ 23 }
 {
     if stays {
         "\r\n\r\n"

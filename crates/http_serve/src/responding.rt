@@ -4,11 +4,12 @@ ghost use Rattle.http_read.specs.Incoming.{request_of};
 ghost use Rattle.http_serve.specs.Connections.{IsResponse};
 ghost use Rattle.http_serve.specs.Paths.{submission};
 ghost use Rattle.http_serve.specs.Places.{place_shown};
-ghost use Rattle.http_serve.specs.Shown.{line_of as line_shown, written_in, write_as, closing};
+ghost use Rattle.http_serve.specs.Shown.{line_of as line_shown, written_in, write_as, closing, whole};
 ghost use Rattle.http_serve.specs.Replies.{Reply, stays_behind};
 ghost use Rattle.http_serve.specs.Responses.{plain as plain_reply, refusal, wrong_method as wrong_reply, receipt_reply, moved_line as moved_reply, page_reply, asked_reply, outcome_reply, line, RepliesToPost, RefusesPost, Refuses};
 ghost use Rattle.http_serve.specs.Services.{Outcome, Submits};
 
+use crate::fixed::{FixedReply, Room};
 use crate::places::{Place, place_of};
 use crate::replies::{Manner, Message, OwnLine, Response, message_of};
 use crate::service::Service;
@@ -174,27 +175,29 @@ fn shown<S: Service>(
 /// Submits, and gives the response. Room for it is made before, but for a fault's line, which is made when nothing was taken.
 fn submitted<S: Service>(
     alloc: Global,
-    manner: Manner,
+    keep: bool,
     service: &mut S,
     ticket: Ticket,
     text: &[u8],
 ) -> Result<Message, AllocError>
     ensures answered { IfOk result (λ message. (done : Outcome) × (reply : Reply)
         × Submits S.offered service.old ticket text.now done service.new
-        × (outcome_reply done ≡ Some reply) × (written_in message ≡ write_as manner reply)) }
+        × (outcome_reply done ≡ Some reply) × (written_in message ≡ write_as (whole keep) reply)) }
     ensures refused { OnErr result ((service.new ≡ service.old) ⊎ RefusesPost S.offered service.old text.now (submission ticket) service.new) }
 {
-    let queued = plain(alloc, manner, 202, "queued")?;
-    let already = plain(alloc, manner, 200, "already")?;
-    let busy = plain(alloc, manner, 503, "busy")?;
-    let stopped = plain(alloc, manner, 503, "stopped")?;
+    let room = Room::new(alloc)?;
     match service.submit(alloc, ticket, text) {
-        Ok(Submission::Queued) => Ok(queued),
-        Ok(Submission::Already) => Ok(already),
-        Err(SubmitFault::Busy) => Ok(busy),
-        Err(SubmitFault::Stopped) => Ok(stopped),
+        Ok(Submission::Queued) => Ok(room.hold(FixedReply::Queued, keep)),
+        Ok(Submission::Already) => Ok(room.hold(FixedReply::Already, keep)),
+        Err(SubmitFault::Busy) => Ok(room.hold(FixedReply::Busy, keep)),
+        Err(SubmitFault::Stopped) => Ok(room.hold(FixedReply::Stopped, keep)),
         Err(SubmitFault::Command(fault)) => {
-            plain(alloc, manner, 422, fault_line(alloc, &fault)?.as_str())
+            let line = fault_line(alloc, &fault)?;
+            let manner = Manner {
+                to_head: false,
+                keep,
+            };
+            plain(alloc, manner, 422, line.as_str())
         }
         Err(SubmitFault::OutOfMemory) => Err(AllocError),
     }
@@ -203,18 +206,22 @@ fn submitted<S: Service>(
 /// The response to POST.
 fn posted<S: Service>(
     alloc: Global,
-    manner: Manner,
+    keep: bool,
     service: &mut S,
     body: &[u8],
     place: Place<'_>,
 ) -> Result<Message, AllocError>
     ensures answered { IfOk result (λ message. (reply : Reply)
         × RepliesToPost S.offered service.old body.now (place_shown place.entry) service.new reply
-        × (written_in message ≡ write_as manner reply)) }
+        × (written_in message ≡ write_as (whole keep) reply)) }
     ensures refused { OnErr result ((service.new ≡ service.old) ⊎ RefusesPost S.offered service.old body.now (place_shown place.entry) service.new) }
 {
+    let manner = Manner {
+        to_head: false,
+        keep,
+    };
     match place {
-        Place::Submission(ticket) => submitted(alloc, manner, service, ticket, body),
+        Place::Submission(ticket) => submitted(alloc, keep, service, ticket, body),
         Place::Unknown => plain(alloc, manner, 404, "not found"),
         Place::Receipt(_) | Place::Newest | Place::Release { n: _, rest: _ } | Place::Page => {
             wrong_method(alloc, manner, "GET, HEAD")
@@ -256,15 +263,6 @@ pub(crate) fn respond<S: Service>(
             path,
             place,
         ),
-        Method::Post => posted(
-            alloc,
-            Manner {
-                to_head: false,
-                keep,
-            },
-            service,
-            request.body.as_slice(),
-            place,
-        ),
+        Method::Post => posted(alloc, keep, service, request.body.as_slice(), place),
     }
 }

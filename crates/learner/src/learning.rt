@@ -35,7 +35,7 @@ impl Learner {
         from: NodeId,
         instance: Instance,
         ballot: Ballot,
-        value: &[u8],
+        value: &Value,
     ) -> Result<Option<Value>, AllocError>
         ensures cluster { self.new.cluster ≡ self.old.cluster }
         ensures added { OnOk result ((t : ToldVote) → IsTold self.new t ↔ IsToldWith self.old (told_vote from instance ballot value.now) t) }
@@ -43,7 +43,7 @@ impl Learner {
         ensures refused { OnErr result ((t : ToldVote) → IsTold self.new t ↔ IsTold self.old t) }
     {
         let chosen = if self.completes(from, instance, ballot, value) {
-            Some(Value::copied_from(self.alloc, value)?)
+            Some(value.try_clone()?)
         } else {
             None
         };
@@ -52,7 +52,7 @@ impl Learner {
     }
 
     /// Whether `on_accepted`, of the same arguments, would give the value.
-    pub fn completes(&self, from: NodeId, instance: Instance, ballot: Ballot, value: &[u8]) -> bool
+    pub fn completes(&self, from: NodeId, instance: Instance, ballot: Ballot, value: &Value) -> bool
         ensures { IsTrue result ↔ HasMajority self.now.cluster (IsToldWith self.now (told_vote from instance ballot value.now)) instance ballot value.now }
     {
         let nodes = nodes_of(self.at(instance), ballot, value).with(from);
@@ -81,7 +81,7 @@ impl Learner {
         from: NodeId,
         instance: Instance,
         ballot: Ballot,
-        value: &[u8],
+        value: &Value,
     ) -> Result<(), AllocError>
         ensures cluster { self.new.cluster ≡ self.old.cluster }
         ensures added { OnOk result ((t : ToldVote) → IsTold self.new t ↔ IsToldWith self.old (told_vote from instance ballot value.now) t) }
@@ -98,17 +98,17 @@ fn add_at(
     at: u32,
     from: NodeId,
     ballot: Ballot,
-    value: &[u8],
+    value: &Value,
 ) -> Result<(), AllocError>
     ensures added { OnOk result (AddsTold (tallies_in tallies.old at) (tallies_in tallies.new at) from ballot value.now) }
     ensures others { (other : ℕ) → other ≢ at → tallies_in tallies.new other ≡ tallies_in tallies.old other }
     ensures refused { OnErr result (tallies_in tallies.new at ≡ tallies_in tallies.old at) }
 {
     match tallies.get_mut(&at) {
-        Some(here) => add_to(alloc, here, from, ballot, value),
+        Some(here) => add_to(here, from, ballot, value),
         None => {
             let mut here = Vec::new(alloc);
-            add_to(alloc, &mut here, from, ballot, value)?;
+            add_to(&mut here, from, ballot, value)?;
             tallies.insert(at, here)?;
             Ok(())
         }

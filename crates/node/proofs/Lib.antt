@@ -28,3 +28,4 @@ pub mod Counting
 pub mod TicketSets
 pub mod Adding
 pub mod Elsewhere
+pub mod Beginnings

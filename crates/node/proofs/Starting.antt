@@ -1,5 +1,5 @@
 -- Fresh attempts: the ballot that they take, and the whole ending of a call that begins them.
-use Rattle.std.proofs.Common.{◌≡◌, ℕ, suc, ◌+◌, ◌<◌, max, false, Option, List, [], ◌∷◌, ◌++◌, refl, sym, ap, subst, ◌∙◌, arith}
+use Rattle.std.proofs.Common.{◌≡◌, ℕ, suc, ◌+◌, ◌<◌, max, false, Option, List, [], ◌∷◌, ◌++◌, length, refl, sym, ap, subst, ◌∙◌, arith}
 use Rattle.std.specs.Prelude.{◌↔◌}
 use Rattle.site_ids.specs.declared.TheConstants.{MAX_ROUND}
 use Rattle.site_disk.specs.Model.{DiskState}
@@ -23,14 +23,10 @@ use Rattle.node.specs.Calls.{Call, fresh_ballot, HasRound, Does}
 use Rattle.node.specs.Knowing.{AreKnown}
 use Rattle.node.specs.Standing.{HasParts, IsNodeOf, KeepsOthers}
 use Rattle.node.specs.Waiting.{AreWaiting}
-use Rattle.node.proofs.FreshAttempts.{begun}
+use Rattle.node.specs.Beginning.{begun, next_of}
 use Rattle.node.proofs.Stepping.{Done, put_record, put_stays}
 
 module _ {D : Type 0} where
-  -- the ballot that the proposer gives
-  abbrev pub next_of : Running D → BallotOf
-  next_of code = record { round = max code.store.recorded.round code.proposer.heard + 1; node = code.proposer.me }
-
   pub next_is_fresh : (code : Running D) (s : Node) → HasParts code s → next_of code ≡ fresh_ballot code.me s
   next_is_fresh code s parts =
       let round : max code.store.recorded.round code.proposer.heard + 1 ≡ suc (max (last_round s.entries) s.heard) =
@@ -58,13 +54,13 @@ module _ {D : Type 0} where
     pub queue : new.queue ≡ old.queue
     pub reached : new.reached ≡ old.reached
 
-  pub started : (stands_for : D → DiskState → Type 0) (failed : D → ℕ) (old new : Running D) (s : Node) (call : Call) (i : ℕ) (b : BallotOf) (values : List Value) (k : ℕ) (again : List (To × Message)) → IsNodeOf old s → old.store.stopped ≡ false → KeepsOthers old new
-      → Does old.cluster old.me s call (begun old.me s i b values k again) → Starts stands_for failed old new i b values → Done stands_for old new call ((All, Prepare old.me i b k) ∷ again) s
-  started stands_for failed old new s call i b values k again stands runs others does starts =
+  pub started : (stands_for : D → DiskState → Type 0) (failed : D → ℕ) (old new : Running D) (s : Node) (call : Call) (i : ℕ) (b : BallotOf) (values : List Value) (again : List (To × Message)) → IsNodeOf old s → old.store.stopped ≡ false → KeepsOthers old new
+      → Does old.cluster old.me s call (begun old.me s i b values again) → Starts stands_for failed old new i b values → Done stands_for old new call ((All, Prepare old.me i b (length values)) ∷ again) s
+  started stands_for failed old new s call i b values again stands runs others does starts =
       let parts = stands.parts in
       let t : Node = record s { entries = s.entries ++ Round b.round ∷ []; attempts = opened_span s.attempts i b values } in
       record {
-        effect = begun old.me s i b values k again;
+        effect = begun old.me s i b values again;
         does = does;
         handed = refl;
         parts = record {

@@ -1,20 +1,16 @@
 -- A widening, from what the code found.
-use Rattle.std.proofs.Common.{◌≡◌, inr, ℕ, ◌+◌, ◌<◌, max, false, Option, Some, None, [], refl, sym, ap, subst, ◌∙◌, append-nil, arith}
+use Rattle.std.proofs.Common.{◌≡◌, inr, ◌<◌, max, false, Option, Some, None, [], refl, sym, ◌∙◌, append-nil}
 use Rattle.site_ids.specs.declared.TheConstants.{MAX_ROUND}
-use Rattle.site_ids.specs.Ids.{BallotOf}
 use Rattle.site_disk.specs.Model.{DiskState}
-use Rattle.durable.specs.Entries.{Round}
-use Rattle.durable.specs.Puts.{IsPut}
 use Rattle.node.specs.declared.fault.NodeFault.TheVariants.{OutOfMemory, RoundsUsedUp}
 use Rattle.node.specs.declared.running.Node.{Node as Running}
-use Rattle.node.specs.Nodes.{Value, Node, AllKnown, BeginsKnown}
-use Rattle.node.specs.Ranges.{HasRanges}
+use Rattle.node.specs.Nodes.{Value, Node, AllKnown}
 use Rattle.node.specs.Effects.{quiet}
 use Rattle.node.specs.Calls.{widen, MayWiden}
 use Rattle.node.specs.Endings.{Whole, Refuses}
-use Rattle.node.specs.Standing.{IsNodeOf, IsEvent, TakesRound, KeepsOthers}
-use Rattle.node.proofs.Starting.{has_round, no_round, next_of}
-use Rattle.node.proofs.Stepping.{Handed, KeepsRest, is_up, same_store, stays_there, unmoved, whole}
+use Rattle.node.specs.Standing.{IsNodeOf, IsEvent, KeepsOthers}
+use Rattle.node.proofs.Starting.{has_round, no_round}
+use Rattle.node.proofs.Stepping.{Handed, is_up, same_store, stays_there, whole}
 
 no_value : (v : Value) → ◌≡◌ {A = Option Value} None (Some v) → ⊥
 no_value v e = cc
@@ -30,34 +26,14 @@ module _ {D : Type 0} where
   pub no_round_left : (old : Running D) (s : Node) → IsNodeOf old s → old.store.stopped ≡ false → MayWiden s → max old.store.recorded.round old.proposer.heard ≡ MAX_ROUND → Refuses s widen RoundsUsedUp
   no_round_left old s stands runs may last = (is_up old s stands.parts runs, (may, no_round old s stands.parts last))
 
-  -- the same node, put together anew from its parts
-  pub record IsSame (old new : Running D) : Type 0 where
-    pub others : KeepsOthers old new
-    pub store : new.store ≡ old.store
-    pub rest : KeepsRest old new
-    pub reached : new.reached ≡ old.reached
-
-  pub anew : (old new : Running D) (s : Node) → IsSame old new → IsNodeOf old s → IsNodeOf new s
-  anew old new s same stands = record {
-    parts = unmoved old new s same.others same.store same.rest same.reached stands.parts;
-    tidy = stands.tidy;
-    ranges = subst (λ (n : ℕ). HasRanges n s) (sym same.others.cluster) stands.ranges;
-    fed = subst (λ r. BeginsKnown r s) (sym same.others.releases) stands.fed;
-  }
-
   -- nothing is begun
-  pub nothing_begun : (stands_for : D → DiskState → Type 0) (old new : Running D) (before : Handed) → IsSame old new → old.store.stopped ≡ false → ((s : Node) → IsNodeOf old s → ¬ MayWiden s) → IsEvent stands_for old new widen Whole before before
-  nothing_begun stands_for old new before same runs none =
-      whole stands_for old new widen before before [] same.others runs tt (sym (append-nil before)) (λ s stands. record {
+  pub nothing_begun : (stands_for : D → DiskState → Type 0) (code : Running D) (before : Handed) → code.store.stopped ≡ false → ((s : Node) → IsNodeOf code s → ¬ MayWiden s) → IsEvent stands_for code code widen Whole before before
+  nothing_begun stands_for code before runs none =
+      let others : KeepsOthers code code = record { me = refl; cluster = refl; releases = refl } in
+      whole stands_for code code widen before before [] others runs tt (sym (append-nil before)) (λ s stands. record {
         effect = quiet s;
         does = inr (none s stands, refl);
         handed = refl;
-        parts = unmoved old new s same.others same.store same.rest same.reached stands.parts;
-        on_disk = stays_there stands_for old new s s same.others (same_store old.store new.store same.store) refl refl;
+        parts = stands.parts;
+        on_disk = stays_there stands_for code code s s others (same_store code.store code.store refl) refl refl;
       })
-
-  -- the ballot's round is on record
-  pub takes_round : (failed : D → ℕ) (old new : Running D) (b : BallotOf) → b ≡ next_of old → max old.store.recorded.round old.proposer.heard < MAX_ROUND → IsPut failed old.store new.store (Round b.round) → TakesRound old new
-  takes_round failed old new b next low put =
-      let at : new.store.recorded.round ≡ max old.store.recorded.round old.proposer.heard + 1 = put.remembers.round ∙ ap (λ (c : BallotOf). c.round) next in
-      record { above = omega (arith, at); fits = omega (arith, at, low) }

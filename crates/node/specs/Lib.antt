@@ -16,3 +16,5 @@ pub mod Faults
 pub mod Waiting
 pub mod Knowing
 pub mod Standing
+pub mod Beginning
+pub mod ReadValues

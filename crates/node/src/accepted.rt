@@ -5,7 +5,7 @@ ghost use Rattle.wire.specs.Messages.{IsMessage};
 
 use crate::{Node, NodeFault};
 use site_disk::Disk;
-use site_ids::{Ballot, Instance, NodeId};
+use site_ids::{Ballot, Instance, NodeId, Value};
 use wire::Message;
 
 impl<D: Disk> Node<D> {
@@ -19,7 +19,7 @@ impl<D: Disk> Node<D> {
         from: NodeId,
         instance: Instance,
         ballot: Ballot,
-        value: &[u8],
+        value: &Value,
     ) -> Result<(), NodeFault>
         requires running { self.old.store.stopped ≡ false }
         ensures event { (before : List (To × Message)) → IsMessage self.old.cluster (Message.Accepted from instance ballot value.now) → IsEvent D.stands_for self.old self.new (deliver (Message.Accepted from instance ballot value.now)) (ending_of result) before before }

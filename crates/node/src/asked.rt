@@ -29,7 +29,7 @@ impl<D: Disk> Node<D> {
             return Ok(());
         };
         outbox.reserve(1)?;
-        let value = value.try_clone(self.alloc)?;
+        let value = value.try_clone()?;
         outbox.push_reserved((
             To::One(from),
             Message::Chosen {

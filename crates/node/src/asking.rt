@@ -20,7 +20,7 @@ impl<D: Disk> Node<D> {
         if self.store.is_stopped() {
             return Err(NodeFault::Stopped);
         }
-        let Some(instance) = self.known.log.next_gap() else {
+        let Some(instance) = self.next_gap() else {
             return Err(NodeFault::InstancesUsedUp);
         };
         outbox.reserve(1)?;

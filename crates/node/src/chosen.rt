@@ -5,7 +5,7 @@ ghost use Rattle.wire.specs.Messages.{IsMessage};
 
 use crate::{Node, NodeFault};
 use site_disk::Disk;
-use site_ids::Instance;
+use site_ids::{Instance, Value};
 use wire::Message;
 
 impl<D: Disk> Node<D> {
@@ -14,7 +14,7 @@ impl<D: Disk> Node<D> {
     ghost use Rattle.node.specs.Standing.{IsEvent, KeepsOthers, ending_of};
 
     /// The value becomes known, or is known already.
-    pub(crate) fn on_chosen(&mut self, instance: Instance, value: &[u8]) -> Result<(), NodeFault>
+    pub(crate) fn on_chosen(&mut self, instance: Instance, value: &Value) -> Result<(), NodeFault>
         requires running { self.old.store.stopped ≡ false }
         ensures event { (from : ℕ) (before : List (To × Message)) → IsMessage self.old.cluster (Message.Chosen from instance value.now) → IsEvent D.stands_for self.old self.new (deliver (Message.Chosen from instance value.now)) (ending_of result) before before }
         ensures no_put { (¬ IsErrOf result NodeFault.Device) × (self.new.store ≡ self.old.store) }
@@ -26,7 +26,7 @@ impl<D: Disk> Node<D> {
             self.reached = reached;
             return Ok(());
         };
-        if known.as_bytes() != value {
+        if known.as_bytes() != value.as_bytes() {
             return Err(NodeFault::Conflict);
         }
         self.reached = reached;

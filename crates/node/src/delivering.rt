@@ -40,13 +40,13 @@ impl<D: Disk> Node<D> {
                 ballot,
                 value,
                 ..
-            } => self.on_propose(*instance, *ballot, value.as_bytes(), outbox),
+            } => self.on_propose(*instance, *ballot, value, outbox),
             Message::Accepted {
                 from,
                 instance,
                 ballot,
                 value,
-            } => self.on_accepted(*from, *instance, *ballot, value.as_bytes()),
+            } => self.on_accepted(*from, *instance, *ballot, value),
             Message::Nack { promised, .. } => {
                 self.on_nack(*promised);
                 Ok(())
@@ -56,7 +56,7 @@ impl<D: Disk> Node<D> {
                 instance,
                 value,
                 ..
-            } => self.on_chosen(*instance, value.as_bytes()),
+            } => self.on_chosen(*instance, value),
         }
     }
 }

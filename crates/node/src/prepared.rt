@@ -15,14 +15,14 @@ use acceptor::{PrepareVerdict, judge_prepare};
 use durable::{Record, RecordFault};
 use site_disk::Disk;
 use site_ids::{Ballot, Instance, Vote};
-use std::alloc::{AllocError, Global};
+use std::alloc::AllocError;
 use wire::Message;
 
-fn copy_of(alloc: Global, vote: &Option<Vote>) -> Result<Option<Vote>, AllocError>
+fn copy_of(vote: &Option<Vote>) -> Result<Option<Vote>, AllocError>
     ensures { IfOk result (λ copy. copy ≡ vote.now) }
 {
     match vote {
-        Some(vote) => Ok(Some(vote.try_clone(alloc)?)),
+        Some(vote) => Ok(Some(vote.try_clone()?)),
         None => Ok(None),
     }
 }
@@ -129,13 +129,13 @@ impl<D: Disk> Node<D> {
         let slot = self.store.slot(at);
         match judge_prepare(slot, ballot) {
             PrepareVerdict::Promise => {
-                let prior = copy_of(self.alloc, &slot.vote)?;
+                let prior = copy_of(&slot.vote)?;
                 judgement.answers.push(promise(self.me, at, ballot, prior))?;
                 judgement.rises = true;
                 Ok(())
             }
             PrepareVerdict::Again => {
-                let prior = copy_of(self.alloc, &slot.vote)?;
+                let prior = copy_of(&slot.vote)?;
                 judgement.answers.push(promise(self.me, at, ballot, prior))?;
                 Ok(())
             }

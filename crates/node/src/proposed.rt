@@ -21,7 +21,7 @@ impl<D: Disk> Node<D> {
         &mut self,
         instance: Instance,
         ballot: Ballot,
-        value: &[u8],
+        value: &Value,
         outbox: &mut Outbox,
     ) -> Result<(), NodeFault>
         requires running { self.old.store.stopped ≡ false }
@@ -33,10 +33,10 @@ impl<D: Disk> Node<D> {
         ensures others { KeepsOthers self.old self.new }
     {
         let reached = self.reached.max(instance.number());
-        match judge_propose(self.store.slot(instance), ballot, value) {
+        match judge_propose(self.store.slot(instance), ballot, value.as_bytes()) {
             ProposeVerdict::Vote => {
                 outbox.reserve(1)?;
-                let copy = Value::copied_from(self.alloc, value)?;
+                let copy = value.try_clone()?;
                 self.store.put_vote(instance, ballot, value)?;
                 outbox.push_reserved(accepted(self.me, instance, ballot, copy));
                 self.reached = reached;
@@ -44,7 +44,7 @@ impl<D: Disk> Node<D> {
             }
             ProposeVerdict::Again => {
                 outbox.reserve(1)?;
-                let copy = Value::copied_from(self.alloc, value)?;
+                let copy = value.try_clone()?;
                 outbox.push_reserved(accepted(self.me, instance, ballot, copy));
                 self.reached = reached;
                 Ok(())

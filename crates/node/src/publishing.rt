@@ -10,14 +10,20 @@ ghost use Rattle.release.specs.Page.{answer};
 ghost use Rattle.release.specs.Receipts.{receipt_of};
 ghost use Rattle.release.specs.Standing.{answer_view};
 
+use crate::read_value::{ReadValue, feed_value};
 use crate::{Node, NodeFault};
 use release::{Answer, AnswerFault, Releases};
 use site_disk::Disk;
 use site_ids::{Instance, Ticket, Value};
 use std::alloc::AllocError;
+use std::collections::BTreeMap;
 
-// Feeds those of the values that were not fed yet, one after the other.
-fn feed(values: &[Value], releases: &mut Releases) -> Result<(), AllocError>
+// Feeds those of the values that were not fed yet, one after the other, with what was read of them.
+fn feed(
+    values: &[Value],
+    unpublished: &mut BTreeMap<u32, ReadValue>,
+    releases: &mut Releases,
+) -> Result<(), AllocError>
     requires { length values.now ≤ MAX_INSTANCE }
     ensures more { (more : List Bytes) × (releases.new ≡ releases.old ++ more) }
     ensures begins { releases.old ≡ take (length releases.old) values.now → releases.new ≡ take (length releases.new) values.now }
@@ -25,7 +31,8 @@ fn feed(values: &[Value], releases: &mut Releases) -> Result<(), AllocError>
     ensures short { OnErr result (length releases.new < length values.now) }
 {
     while let Some(value) = values.get(releases.len()) {
-        releases.feed(value.as_bytes())?;
+        let read = unpublished.remove(&(releases.len() as u32 + 1));
+        feed_value(value, read, releases)?;
     }
     Ok(())
 }
@@ -46,7 +53,12 @@ impl<D: Disk> Node<D> {
         ensures short { OnErr result ((s : AbstractNode) → IsNodeOf self.old s → ¬ IsKnownPrefix s self.new.releases) }
         ensures whose { (self.new.me ≡ self.old.me) × (self.new.cluster ≡ self.old.cluster) }
     {
-        feed(self.known.log.prefix(), &mut self.releases)?;
+        let known = &mut self.known;
+        feed(
+            known.log.prefix(),
+            &mut known.unpublished,
+            &mut self.releases,
+        )?;
         Ok(self.releases.newest())
     }
 

@@ -1,6 +1,9 @@
 //! What a node tells of its record and its attempts.
 
-ghost use Rattle.std.specs.Prelude.{◌≡◌, ◌↔◌, ℕ, List, length, IsSome, IsTrue, MatchOption};
+ghost use Rattle.std.specs.Prelude.{◌≡◌, ◌↔◌, ◌<◌, ℕ, max, List, length, IsSome, IsTrue, MatchOption};
+ghost use Rattle.site_ids.specs.declared.TheConstants.{MAX_ROUND};
+ghost use Rattle.site_ids.specs.Ids.{IsInstance};
+ghost use Rattle.chosen_log.specs.Log.{value_at, IsGap};
 ghost use Rattle.proposer.specs.Attempts.{Attempt, AreOpen};
 
 use crate::Node;
@@ -14,6 +17,7 @@ impl<D: Disk> Node<D> {
     ghost use Rattle.node.specs.Nodes.{Node as AbstractNode, IsFirstUnknown};
     ghost use Rattle.node.specs.Calls.{fresh_ballot, HasRound, AreOpenElsewhere};
     ghost use Rattle.node.specs.Standing.{IsNodeOf};
+    ghost use Rattle.node.specs.Beginning.{next_of};
 
     /// The slot of an instance, an empty one where none stands.
     pub fn slot(&self, instance: Instance) -> &Slot
@@ -33,10 +37,24 @@ impl<D: Disk> Node<D> {
     pub fn next_ballot(&self) -> Option<Ballot>
         ensures { (s : AbstractNode) → IsNodeOf self.now s → MatchOption result (¬ HasRound s) (λ b. (b ≡ fresh_ballot self.now.me s) × HasRound s) }
     {
+        self.own_ballot()
+    }
+
+    /// The same, in words of what is kept.
+    pub(crate) fn own_ballot(&self) -> Option<Ballot>
+        ensures { MatchOption result (max self.now.store.recorded.round self.now.proposer.heard ≡ MAX_ROUND) (λ b. (b ≡ next_of self.now) × (max self.now.store.recorded.round self.now.proposer.heard < MAX_ROUND)) }
+    {
         match self.proposer.next_ballot(self.store.round()) {
             Ok(ballot) => Some(ballot),
             Err(_) => None,
         }
+    }
+
+    /// The first unknown instance, if there is one.
+    pub(crate) fn next_gap(&self) -> Option<Instance>
+        ensures { MatchOption result ((i : ℕ) → IsInstance i → IsSome (value_at self.now.known.log i)) (λ gap. IsGap self.now.known.log gap) }
+    {
+        self.known.log.next_gap()
     }
 
     /// How many attempts are open.

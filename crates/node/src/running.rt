@@ -106,7 +106,7 @@ impl<D: Disk> Node<D> {
         if !self.queue.is_empty() {
             return true;
         }
-        match self.known.log.next_gap() {
+        match self.next_gap() {
             Some(gap) => gap.number() <= self.reached,
             None => false,
         }

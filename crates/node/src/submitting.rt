@@ -8,14 +8,14 @@ ghost use Rattle.node.specs.Faults.{IsUnread, IsSubmitCause};
 use crate::{Node, NodeFault, Submitted};
 use command::read;
 use site_disk::Disk;
-use site_ids::Ticket;
+use site_ids::{Ticket, Value};
 use std::alloc::Global;
 
 /// The ticket of a command that is submitted.
-fn submitted_ticket(alloc: Global, value: &[u8]) -> Result<Ticket, NodeFault>
+fn submitted_ticket(alloc: Global, value: &Value) -> Result<Ticket, NodeFault>
     ensures { MatchResult result (λ ticket. (order : Order) × (value_reading value.now ≡ Ok order) × (ticket ≡ order.ticket)) (IsUnread value.now) }
 {
-    let command = read(alloc, value)?;
+    let command = read(alloc, value.as_bytes())?;
     Ok(command.ticket)
 }
 
@@ -26,7 +26,7 @@ impl<D: Disk> Node<D> {
     ghost use Rattle.node.specs.Standing.{IsNodeOf, IsEvent, KeepsOthers, ending_of};
 
     /// Takes a command to be proposed, unless its ticket is pending or known.
-    pub fn submit(&mut self, value: &[u8]) -> Result<Submitted, NodeFault>
+    pub fn submit(&mut self, value: &Value) -> Result<Submitted, NodeFault>
         ensures event { IsEvent D.stands_for self.old self.new (submission value.now) (ending_of result) [] [] }
         ensures answered { IfOk result (λ answer. (s : AbstractNode) → IsNodeOf self.old s → IsAnswered s value.now answer) }
         ensures cause { IfErr result IsSubmitCause }
@@ -43,7 +43,7 @@ impl<D: Disk> Node<D> {
         if self.queue.is_full() {
             return Err(NodeFault::QueueFull);
         }
-        self.queue.push(self.alloc, ticket, value)?;
+        self.queue.push(ticket, value)?;
         Ok(Submitted::Queued)
     }
 

@@ -1,11 +1,11 @@
 //! A tick: a fresh attempt at the first unknown instance, and the other attempts' messages once more.
 
-ghost use Rattle.std.specs.Prelude.{◌≡◌, IsErrOf};
+ghost use Rattle.std.specs.Prelude.{◌≡◌, IfOk, IfErr};
+ghost use Rattle.node.specs.Beginning.{IsDue, IsRefusedBy};
 
-use crate::{Node, NodeFault, Outbox, To};
+use crate::beginning::Beginning;
+use crate::{Node, NodeFault, Outbox};
 use site_disk::Disk;
-use site_ids::Value;
-use wire::Message;
 
 impl<D: Disk> Node<D> {
     ghost use Rattle.node.specs.Calls.{tick as ticking};
@@ -19,31 +19,31 @@ impl<D: Disk> Node<D> {
         ensures grows { OnlyGrows outbox.old.items outbox.new.items }
         ensures others { KeepsOthers self.old self.new }
     {
+        let due = self.next_tick()?;
+        self.begin_attempts(due, outbox)
+    }
+
+    /// What a tick begins.
+    fn next_tick(&self) -> Result<Beginning, NodeFault>
+        ensures due { IfOk result (λ due. IsDue self.now ticking due) }
+        ensures refused { IfErr result (λ fault. IsRefusedBy self.now ticking fault) }
+    {
         if self.store.is_stopped() {
             return Err(NodeFault::Stopped);
         }
-        let Some(instance) = self.known.log.next_gap() else {
+        let Some(first) = self.next_gap() else {
             return Err(NodeFault::InstancesUsedUp);
         };
-        let Ok(ballot) = self.proposer.next_ballot(self.store.round()) else {
+        let Some(ballot) = self.own_ballot() else {
             return Err(NodeFault::RoundsUsedUp);
         };
-        let mut again = self.sent_again(instance)?;
-        outbox.reserve(1 + again.len())?;
-        self.proposer.make_room(instance)?;
-        let own = Value::copied_from(self.alloc, self.queue.oldest())?;
-        self.store.put_round(ballot.round())?;
-        self.proposer.open(instance, ballot, own);
-        outbox.push_reserved((
-            To::All,
-            Message::Prepare {
-                from: self.me,
-                instance,
-                ballot,
-                count: 1,
-            },
-        ));
-        let _ = outbox.append(&mut again);
-        Ok(())
+        let again = self.sent_again(first)?;
+        let values = self.queue.oldest(self.alloc)?;
+        Ok(Beginning {
+            first,
+            ballot,
+            values,
+            again,
+        })
     }
 }

@@ -1,16 +1,17 @@
 //! A widening: fresh attempts at the least free instance and on.
 
-ghost use Rattle.std.specs.Prelude.{◌≡◌, ◌↔◌, ◌+◌, ◌<◌, ◌≤◌, ℕ, List, Option, None, Some, IfOk, IfSome, OnOk, IsErrOf, IsTrue, MatchOption, length};
+ghost use Rattle.std.specs.Prelude.{◌≡◌, ◌↔◌, ◌+◌, ◌<◌, ◌≤◌, ℕ, List, Option, None, Some, IfOk, IfErr, IfSome, OnOk, IsTrue, MatchOption, length, false};
 ghost use Rattle.site_ids.specs.Spans.{IsSpan};
+ghost use Rattle.node.specs.Beginning.{IsDue, IsRefusedBy};
 ghost use Rattle.proposer.specs.declared.TheConstants.{MAX_ATTEMPTS};
 ghost use Rattle.proposer.specs.Attempts.{Attempt};
 ghost use Rattle.proposer.specs.Standing.{Attempting};
 
-use crate::{Node, NodeFault, Outbox, To, WINDOW};
+use crate::beginning::Beginning;
+use crate::{Node, NodeFault, Outbox, WINDOW};
 use site_disk::Disk;
 use site_ids::{Instance, Value};
 use std::alloc::AllocError;
-use wire::Message;
 
 impl<D: Disk> Node<D> {
     ghost use Rattle.node.specs.Nodes.{Node as AbstractNode, Value as Bytes, IsUnknown, IsFirstUnknown};
@@ -29,38 +30,43 @@ impl<D: Disk> Node<D> {
         ensures grows { OnlyGrows outbox.old.items outbox.new.items }
         ensures others { KeepsOthers self.old self.new }
     {
+        let Some(due) = self.next_widening()? else {
+            return Ok(false);
+        };
+        self.begin_attempts(due, outbox)?;
+        Ok(true)
+    }
+
+    /// What a widening begins, if anything.
+    fn next_widening(&self) -> Result<Option<Beginning>, NodeFault>
+        ensures running { OnOk result (self.now.store.stopped ≡ false) }
+        ensures due { IfOk result (λ due. IfSome due (λ due. IsDue self.now widening due)) }
+        ensures may { IfOk result (λ due. (s : AbstractNode) → IsNodeOf self.now s → MatchOption due (¬ MayWiden s) (λ due. MayWiden s)) }
+        ensures refused { IfErr result (λ fault. IsRefusedBy self.now widening fault) }
+    {
         if self.store.is_stopped() {
             return Err(NodeFault::Stopped);
         }
-        let Some(first) = self.known.log.next_gap() else {
-            return Ok(false);
+        let Some(gap) = self.next_gap() else {
+            return Ok(None);
         };
-        let Some(instance) = self.next_free(first) else {
-            return Ok(false);
+        let Some(first) = self.next_free(gap) else {
+            return Ok(None);
         };
         let Some(oldest) = self.next_untried() else {
-            return Ok(false);
+            return Ok(None);
         };
-        let Ok(ballot) = self.proposer.next_ballot(self.store.round()) else {
+        let Some(ballot) = self.own_ballot() else {
             return Err(NodeFault::RoundsUsedUp);
         };
-        outbox.reserve(1)?;
-        let most = self.free_run(first, instance);
+        let most = self.free_run(gap, first);
         let values = self.untried(oldest, most)?;
-        let count = values.len() as u8;
-        self.proposer.make_room_for_span(instance, count)?;
-        self.store.put_round(ballot.round())?;
-        self.proposer.open_span(instance, ballot, values);
-        outbox.push_reserved((
-            To::All,
-            Message::Prepare {
-                from: self.me,
-                instance,
-                ballot,
-                count,
-            },
-        ));
-        Ok(true)
+        Ok(Some(Beginning {
+            first,
+            ballot,
+            values,
+            again: Vec::new(self.alloc),
+        }))
     }
 
     /// The least free instance, from the first unknown one on.
@@ -140,7 +146,7 @@ impl<D: Disk> Node<D> {
         let Some(first) = self.queue.value_at(oldest) else {
             return Ok(values);
         };
-        values.push(first.try_clone(self.alloc)?)?;
+        values.push(first.try_clone()?)?;
         for place in oldest + 1..self.queue.len() {
             let Some(value) = self.queue.value_at(place) else {
                 return Ok(values);
@@ -161,7 +167,7 @@ impl<D: Disk> Node<D> {
         if self.proposer.tries(value.as_bytes()) {
             return Ok(());
         }
-        values.push(value.try_clone(self.alloc)?)?;
+        values.push(value.try_clone()?)?;
         Ok(())
     }
 }

@@ -4,8 +4,6 @@
 #[cfg(test)]
 mod devices;
 #[cfg(test)]
-mod halt;
-#[cfg(test)]
 mod peer;
 #[cfg(test)]
 mod refusals;

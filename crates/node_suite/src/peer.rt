@@ -1,96 +1,99 @@
 //! A node over a disk in memory, lent to the rows: a row that owned one would have to be proved to let it go at each of its ends.
-ghost use Rattle.std.specs.Prelude.{◌≡◌, IfOk};
 ghost use Rattle.site_ids.specs.Ids.{IsNode};
 
-use crate::halt::Halt;
 use durable::{Record, RecordFault};
 use node::{Node, NodeFault, Outbox, Submitted, To};
 use site_disk::MemDisk;
-use site_ids::{Cluster, Instance, NodeId, Ticket};
+use site_ids::{Cluster, Instance, NodeId, Ticket, Value};
 use std::alloc::Global;
+use std::process::Abort;
 use wire::Message;
 
 /// Node 1 of a cluster, and what it handed out.
 #[derive(Drop)]
 pub(crate) struct Peer {
     alloc: Global,
-    cluster: Cluster,
-    me: NodeId,
     node: Node<MemDisk>,
     out: Outbox,
-    ghost same: { node.cluster ≡ cluster },
-    ghost of_cluster: { IsNode cluster me },
+}
+
+fn format(alloc: Global, cluster: Cluster, me: NodeId) -> Result<MemDisk, RecordFault> {
+    let mut disk = MemDisk::new(alloc);
+    match Record::format(cluster, me, &mut disk) {
+        Ok(()) => Ok(disk),
+        Err(fault) => Err(fault),
+    }
 }
 
 /// A record that was just made. A growth that was refused leaves a beginning of it behind, so it is made on another disk then.
-fn formatted(alloc: Global, cluster: Cluster, me: NodeId) -> Result<MemDisk, Halt> {
-    let mut disk = MemDisk::new(alloc);
-    match Record::format(cluster, me, &mut disk) {
-        Ok(()) => return Ok(disk),
-        Err(RecordFault::Device) => {}
-        Err(fault) => return Err(Halt::Record(fault)),
+fn formatted(rt: &impl Abort, alloc: Global, cluster: Cluster, me: NodeId) -> MemDisk {
+    match format(alloc, cluster, me) {
+        Ok(disk) => disk,
+        Err(fault) => {
+            assert_eq!(rt; fault, RecordFault::Device);
+            format(alloc, cluster, me).expect(rt, "a record")
+        }
     }
-    let mut disk = MemDisk::new(alloc);
-    Record::format(cluster, me, &mut disk)?;
-    Ok(disk)
+}
+
+fn open(
+    alloc: Global,
+    cluster: Cluster,
+    me: NodeId,
+    disk: MemDisk,
+) -> Result<Node<MemDisk>, (RecordFault, MemDisk)>
+    requires { IsNode cluster me }
+{
+    Node::open(alloc, cluster, me, disk)
 }
 
 /// An opening that was refused memory is tried once more.
-fn opened(alloc: Global, cluster: Cluster, me: NodeId, disk: MemDisk) -> Result<Node<MemDisk>, Halt>
-    requires { IsNode cluster me }
-    ensures { IfOk result (λ node. node.cluster ≡ cluster) }
-{
-    let disk = match Node::open(alloc, cluster, me, disk) {
-        Ok(node) => return Ok(node),
-        Err((RecordFault::OutOfMemory | RecordFault::Device, disk)) => disk,
-        Err((fault, _disk)) => return Err(Halt::Record(fault)),
+fn opened(rt: &impl Abort, alloc: Global, cluster: Cluster, disk: MemDisk) -> Node<MemDisk> {
+    let me = cluster.node(1).expect(rt, "a node");
+    let (fault, disk) = match open(alloc, cluster, me, disk) {
+        Ok(node) => return node,
+        Err(refused) => refused,
     };
-    match Node::open(alloc, cluster, me, disk) {
-        Ok(node) => Ok(node),
-        Err((fault, _disk)) => Err(Halt::Record(fault)),
+    assert!(rt; matches!(fault, RecordFault::OutOfMemory | RecordFault::Device));
+    match open(alloc, cluster, me, disk) {
+        Ok(node) => node,
+        Err((fault, _disk)) => panic!(rt; "{fault:?}"),
     }
+}
+
+/// The disk of a node that is closed, behind a crash by that choice, or without one.
+fn closed(node: Node<MemDisk>, crash: Option<u8>) -> MemDisk {
+    let mut disk = node.close();
+    match crash {
+        Some(choice) => disk.crash(choice),
+        None => disk.disarm(),
+    }
+    disk
 }
 
 impl Peer {
     /// Node 1 of so many, over a record that was just made.
-    pub(crate) fn fresh(alloc: Global, size: u8) -> Result<Peer, Halt> {
-        let cluster = Cluster::new(size).ok_or(Halt::NotThere)?;
-        let Some(me) = cluster.node(1) else {
-            return Err(Halt::NotThere);
-        };
-        let disk = formatted(alloc, cluster, me)?;
-        let node = opened(alloc, cluster, me, disk)?;
-        Ok(Peer {
+    pub(crate) fn fresh(rt: &impl Abort, alloc: Global, size: u8) -> Peer {
+        let cluster = Cluster::new(size).expect(rt, "a cluster");
+        let me = cluster.node(1).expect(rt, "a node");
+        let disk = formatted(rt, alloc, cluster, me);
+        Peer {
             alloc,
-            cluster,
-            me,
-            node,
+            node: opened(rt, alloc, cluster, disk),
             out: Vec::new(alloc),
-        })
+        }
     }
 
     /// Closed and opened again, behind a crash by that choice, or without one.
-    pub(crate) fn again(self, crash: Option<u8>) -> Result<Peer, Halt> {
-        let Peer {
+    pub(crate) fn again(self, rt: &impl Abort, crash: Option<u8>) -> Peer {
+        let Peer { alloc, node, out } = self;
+        let cluster = node.cluster();
+        let disk = closed(node, crash);
+        Peer {
             alloc,
-            cluster,
-            me,
-            node,
+            node: opened(rt, alloc, cluster, disk),
             out,
-        } = self;
-        let mut disk = node.close();
-        match crash {
-            Some(choice) => disk.crash(choice),
-            None => disk.disarm(),
         }
-        let node = opened(alloc, cluster, me, disk)?;
-        Ok(Peer {
-            alloc,
-            cluster,
-            me,
-            node,
-            out,
-        })
     }
 
     pub(crate) fn alloc(&self) -> Global {
@@ -98,22 +101,18 @@ impl Peer {
     }
 
     /// A node of the cluster.
-    pub(crate) fn other(&self, number: u8) -> Result<NodeId, Halt> {
-        self.cluster.node(number).ok_or(Halt::NotThere)
+    pub(crate) fn other(&self, rt: &impl Abort, number: u8) -> NodeId {
+        self.node.cluster().node(number).expect(rt, "a node")
     }
 
     pub(crate) fn out(&self) -> &Outbox {
         &self.out
     }
 
-    pub(crate) fn hand(&mut self, message: &Message) -> Result<(), Halt> {
-        if !message.is_of(self.cluster) {
-            return Err(Halt::NotThere);
-        }
-        match self.node.deliver(message, &mut self.out) {
-            Ok(()) => Ok(()),
-            Err(fault) => Err(Halt::Node(fault)),
-        }
+    /// A message of its cluster.
+    pub(crate) fn hand(&mut self, rt: &impl Abort, message: &Message) -> Result<(), NodeFault> {
+        assert!(rt; message.is_of(self.node.cluster()));
+        self.node.deliver(message, &mut self.out)
     }
 
     pub(crate) fn arm(&mut self, calls: u32) {
@@ -141,7 +140,7 @@ impl Peer {
         self.node.tell(to, first, &mut self.out)
     }
 
-    pub(crate) fn submit(&mut self, value: &[u8]) -> Result<Submitted, NodeFault> {
+    pub(crate) fn submit(&mut self, value: &Value) -> Result<Submitted, NodeFault> {
         self.node.submit(value)
     }
 
@@ -171,7 +170,7 @@ impl Peer {
 
     /// The status of the newest release's page.
     pub(crate) fn status(&self, path: &str) -> Option<u16> {
-        match self.node.answer(self.node.newest(), path) {
+        match self.node.answer(self.newest(), path) {
             Ok(answer) => Some(answer.status),
             Err(_) => None,
         }

@@ -1,15 +1,13 @@
 //! Each call with one growth refused, as `tools/refuse-growths` runs this: it answers as ever, or that memory was refused, and then the next try
 //! answers as ever. Where the disk in memory found none its call failed, so the node is opened again; an opening is tried twice.
-use crate::halt::Halt;
 use crate::peer::Peer;
 use crate::samples::{
-    accepted, asked_instance, ballot, chosen, instance, prepare, prepared_round, promise, propose,
-    proposes, question, told_vote, value,
+    accepted, asked_instance, ballot, chosen, copied, instance, prepare, prepared_round, promise,
+    propose, proposes, question, told_vote, value,
 };
 use node::{NodeFault, To};
 use std::alloc::Global;
 use std::process::Abort;
-use std::test::Fail;
 use wire::Message;
 
 #[derive(Clone, Copy, Debug)]
@@ -38,169 +36,161 @@ enum Said {
     Vote(u8),
 }
 
-fn promise_of(node: &Peer, from: u8) -> Result<Message, Halt> {
-    let round = prepared_round(node.out()).ok_or(Halt::NotThere)?;
-    let at = ballot(round, node.other(1)?)?;
-    let prior = ballot(1, node.other(2)?)?;
-    promise(node.alloc(), node.other(from)?, at, prior, b"v")
+fn promise_of(rt: &impl Abort, node: &Peer, from: u8) -> Message {
+    let round = prepared_round(node.out()).expect(rt, "a prepare");
+    let at = ballot(rt, round, node.other(rt, 1));
+    let prior = ballot(rt, 1, node.other(rt, 2));
+    let value = copied(rt, node.alloc(), b"v");
+    promise(rt, node.other(rt, from), at, prior, value)
 }
 
-fn vote_of(node: &Peer, from: u8) -> Result<Message, Halt> {
-    let release = value(node.alloc(), 1, "release\n")?;
-    let at = ballot(1, node.other(1)?)?;
-    accepted(node.alloc(), node.other(from)?, at, release.as_slice())
+fn vote_of(rt: &impl Abort, node: &Peer, from: u8) -> Message {
+    let release = value(rt, node.alloc(), 1, "release\n");
+    let at = ballot(rt, 1, node.other(rt, 1));
+    accepted(rt, node.other(rt, from), at, release)
 }
 
-fn message(node: &Peer, said: Said) -> Result<Message, Halt> {
-    let three = node.other(3)?;
+fn message(rt: &impl Abort, node: &Peer, said: Said) -> Message {
+    let three = node.other(rt, 3);
     match said {
-        Said::Propose => propose(node.alloc(), three, 1, b"v"),
-        Said::Prepare => prepare(three, 2),
-        Said::Question => question(three, 1),
-        Said::Chosen => chosen(node.alloc(), three, 1, b"v"),
-        Said::Promise(from) => promise_of(node, from),
-        Said::Vote(from) => vote_of(node, from),
+        Said::Propose => propose(rt, three, 1, 1, copied(rt, node.alloc(), b"v")),
+        Said::Prepare => prepare(rt, three, 2),
+        Said::Question => question(rt, three, 1),
+        Said::Chosen => chosen(rt, three, 1, copied(rt, node.alloc(), b"v")),
+        Said::Promise(from) => promise_of(rt, node, from),
+        Said::Vote(from) => vote_of(rt, node, from),
     }
 }
 
-fn act(node: &mut Peer, step: Step) -> Result<(), Halt> {
+fn hear(rt: &impl Abort, node: &mut Peer, said: Said) -> Result<(), NodeFault> {
+    let message = message(rt, node, said);
+    node.hand(rt, &message)
+}
+
+fn submit(rt: &impl Abort, node: &mut Peer) -> Result<(), NodeFault> {
+    let release = value(rt, node.alloc(), 1, "release\n");
+    node.submit(&release).map(|_| ())
+}
+
+fn act(rt: &impl Abort, node: &mut Peer, step: Step) -> Result<(), NodeFault> {
     match step {
-        Step::Submit => {
-            let release = value(node.alloc(), 1, "release\n")?;
-            let _ = node.submit(release.as_slice())?;
-            Ok(())
-        }
-        Step::Ask => Ok(node.ask()?),
-        Step::Tell => Ok(node.tell(To::All, instance(1)?)?),
-        Step::Tick => Ok(node.tick()?),
-        Step::Widen => {
-            let _ = node.widen()?;
-            Ok(())
-        }
-        Step::Publish => {
-            let _ = node.publish()?;
-            Ok(())
-        }
-        Step::Hear(said) => {
-            let message = message(node, said)?;
-            node.hand(&message)
-        }
+        Step::Submit => submit(rt, node),
+        Step::Ask => node.ask(),
+        Step::Tell => node.tell(To::All, instance(rt, 1)),
+        Step::Tick => node.tick(),
+        Step::Widen => node.widen().map(|_| ()),
+        Step::Publish => node.publish().map(|_| ()),
+        Step::Hear(said) => hear(rt, node, said),
     }
 }
 
 /// Whether the step took. One that was refused hands out nothing and makes nothing known.
 fn takes(rt: &impl Abort, node: &mut Peer, step: Step) -> bool {
     let before = (node.out().len(), node.known());
-    let fault = match act(node, step) {
-        Ok(()) => return true,
-        Err(fault) => fault,
+    let Err(fault) = act(rt, node, step) else {
+        return true;
     };
     let cause = if node.is_stopped() {
         NodeFault::Device
     } else {
         NodeFault::OutOfMemory
     };
-    assert_eq!(rt; fault, Halt::Node(cause), "{step:?}");
+    assert_eq!(rt; fault, cause, "{step:?}");
     assert!(rt; before == (node.out().len(), node.known()));
     false
 }
 
-/// The node after the step.
-fn stepped(rt: &impl Abort, node: Peer, step: Step) -> Result<Peer, Halt> {
-    let mut node = node;
-    if takes(rt, &mut node, step) {
-        return Ok(node);
-    }
-    let mut node = if node.is_stopped() {
-        node.again(None)?
+/// A node that is stopped is opened again.
+fn going(rt: &impl Abort, node: Peer) -> Peer {
+    if node.is_stopped() {
+        node.again(rt, None)
     } else {
         node
-    };
-    match act(&mut node, step) {
-        Ok(()) => Ok(node),
-        Err(fault) => Err(fault),
     }
+}
+
+/// The node after the step.
+fn stepped(rt: &impl Abort, node: Peer, step: Step) -> Peer {
+    let mut node = node;
+    let took = takes(rt, &mut node, step);
+    let mut node = going(rt, node);
+    if !took {
+        assert_eq!(rt; act(rt, &mut node, step), Ok(()), "the next try");
+    }
+    node
 }
 
 /// Node 1 of three after the steps.
-fn after(rt: &impl Abort, alloc: Global, steps: &[Step]) -> Result<Peer, Halt> {
-    let mut node = Peer::fresh(alloc, 3)?;
+fn after(rt: &impl Abort, alloc: Global, steps: &[Step]) -> Peer {
+    let mut node = Peer::fresh(rt, alloc, 3);
     for step in steps {
-        node = stepped(rt, node, *step)?;
+        node = stepped(rt, node, *step);
     }
-    Ok(node)
+    node
 }
 
 #[test]
-fn submissions(rt: HostRuntime) -> Result<(), Fail> {
-    let node = after(&rt, rt.alloc(), &[Step::Submit, Step::Ask])?;
+fn submissions(rt: HostRuntime) {
+    let node = after(&rt, rt.alloc(), &[Step::Submit, Step::Ask]);
     assert!(rt; node.wants_tick() && asked_instance(node.out()) == Some(1));
-    Ok(())
 }
 
 #[test]
-fn ticks(rt: HostRuntime) -> Result<(), Fail> {
+fn ticks(rt: HostRuntime) {
     let steps = [
         Step::Tick,
         Step::Hear(Said::Promise(2)),
         Step::Hear(Said::Promise(3)),
     ];
-    let node = after(&rt, rt.alloc(), &steps)?;
+    let node = after(&rt, rt.alloc(), &steps);
     assert!(rt; proposes(node.out(), b"v"));
-    Ok(())
 }
 
 #[test]
-fn widenings(rt: HostRuntime) -> Result<(), Fail> {
+fn widenings(rt: HostRuntime) {
     let steps = [Step::Submit, Step::Widen, Step::Tick];
-    let node = after(&rt, rt.alloc(), &steps)?;
+    let node = after(&rt, rt.alloc(), &steps);
     assert!(rt; prepared_round(node.out()).is_some());
-    Ok(())
 }
 
 #[test]
-fn requests(rt: HostRuntime) -> Result<(), Fail> {
+fn requests(rt: HostRuntime) {
     let steps = [Step::Hear(Said::Propose), Step::Hear(Said::Prepare)];
-    let node = after(&rt, rt.alloc(), &steps)?;
+    let node = after(&rt, rt.alloc(), &steps);
     assert!(rt; node.out().len() == 2 && told_vote(node.out()) == Some(true));
-    Ok(())
 }
 
 #[test]
-fn openings(rt: HostRuntime) -> Result<(), Fail> {
+fn openings(rt: HostRuntime) {
     let steps = [Step::Tick, Step::Hear(Said::Propose)];
-    let node = after(&rt, rt.alloc(), &steps)?.again(None)?;
-    let node = stepped(&rt, node, Step::Hear(Said::Prepare))?;
+    let node = after(&rt, rt.alloc(), &steps).again(&rt, None);
+    let node = stepped(&rt, node, Step::Hear(Said::Prepare));
     assert_eq!(rt; told_vote(node.out()), Some(true));
-    let node = stepped(&rt, node, Step::Tick)?;
+    let node = stepped(&rt, node, Step::Tick);
     assert!(rt; prepared_round(node.out()).is_some_and(|round| 1 < round));
-    Ok(())
 }
 
 #[test]
-fn votes_told(rt: HostRuntime) -> Result<(), Fail> {
+fn votes_told(rt: HostRuntime) {
     let steps = [
         Step::Hear(Said::Vote(2)),
         Step::Hear(Said::Vote(3)),
         Step::Publish,
     ];
-    let node = after(&rt, rt.alloc(), &steps)?;
+    let node = after(&rt, rt.alloc(), &steps);
     assert!(rt; node.known() == 1 && node.newest() == 1);
-    Ok(())
 }
 
 #[test]
-fn values_told(rt: HostRuntime) -> Result<(), Fail> {
+fn values_told(rt: HostRuntime) {
     let steps = [Step::Hear(Said::Chosen), Step::Hear(Said::Question)];
-    let node = after(&rt, rt.alloc(), &steps)?;
+    let node = after(&rt, rt.alloc(), &steps);
     assert!(rt; node.known() == 1 && node.out().len() == 1);
-    Ok(())
 }
 
 #[test]
-fn tellings(rt: HostRuntime) -> Result<(), Fail> {
+fn tellings(rt: HostRuntime) {
     let steps = [Step::Hear(Said::Propose), Step::Tell];
-    let node = after(&rt, rt.alloc(), &steps)?;
+    let node = after(&rt, rt.alloc(), &steps);
     assert_eq!(rt; node.out().len(), 2);
-    Ok(())
 }

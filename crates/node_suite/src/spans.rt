@@ -1,34 +1,11 @@
 //! Prepares of several instances, delivered to a node.
-use crate::halt::Halt;
 use crate::peer::Peer;
-use crate::samples::{ballot, copied, instance};
+use crate::samples::{copied, prepare_span, propose};
 use node::{NodeFault, To};
 use site_ids::Ballot;
 use std::alloc::Global;
 use std::process::Abort;
-use std::test::Fail;
 use wire::Message;
-
-/// A prepare of so many instances from one on, at a ballot of another node.
-fn prepare(node: &Peer, from: u8, first: u32, count: u8, round: u32) -> Result<Message, Halt> {
-    let from = node.other(from)?;
-    Ok(Message::Prepare {
-        from,
-        instance: instance(first)?,
-        ballot: ballot(round, from)?,
-        count,
-    })
-}
-
-fn propose(node: &Peer, from: u8, at: u32, round: u32) -> Result<Message, Halt> {
-    let from = node.other(from)?;
-    Ok(Message::Propose {
-        from,
-        instance: instance(at)?,
-        ballot: ballot(round, from)?,
-        value: copied(node.alloc(), b"")?,
-    })
-}
 
 /// An answer, and to which node it goes.
 #[derive(Clone, Copy, Debug)]
@@ -81,15 +58,14 @@ fn is_answer(said: &(To, Message), wanted: Answer) -> bool {
 }
 
 /// The answers since the last look are these, all to one node.
-fn answers(rt: &impl Abort, node: &mut Peer, to: u8, wanted: &[Answer]) -> Result<(), Halt> {
-    let to = node.other(to)?;
+fn answers(rt: &impl Abort, node: &mut Peer, to: u8, wanted: &[Answer]) {
+    let to = node.other(rt, to);
     assert_eq!(rt; node.out().len(), wanted.len());
     for (said, answer) in node.out().iter().zip(wanted) {
         assert!(rt; said.0 == To::One(to), "{answer:?}");
         assert!(rt; is_answer(said, *answer), "{answer:?}");
     }
     node.forget_said();
-    Ok(())
 }
 
 /// What comes to node 1, and what it answers.
@@ -107,56 +83,62 @@ enum Step {
     Many(usize),
 }
 
-fn act(rt: &impl Abort, node: &mut Peer, step: Step) -> Result<(), Halt> {
+fn hand_prepare(
+    rt: &impl Abort,
+    node: &mut Peer,
+    from: u8,
+    first: u32,
+    count: u8,
+    round: u32,
+) -> Result<(), NodeFault> {
+    let message = prepare_span(rt, node.other(rt, from), first, count, round);
+    node.hand(rt, &message)
+}
+
+fn hand_proposal(rt: &impl Abort, node: &mut Peer, from: u8, at: u32, round: u32) {
+    let value = copied(rt, node.alloc(), b"");
+    let message = propose(rt, node.other(rt, from), at, round, value);
+    assert_eq!(rt; node.hand(rt, &message), Ok(()));
+    node.forget_said();
+}
+
+fn act(rt: &impl Abort, node: &mut Peer, step: Step) {
     match step {
         Step::Prepare(from, first, count, round) => {
-            let message = prepare(node, from, first, count, round)?;
-            node.hand(&message)?;
+            let taken = hand_prepare(rt, node, from, first, count, round);
+            assert_eq!(rt; taken, Ok(()), "{step:?}");
         }
         Step::Fails(from, first, count, round) => {
-            let message = prepare(node, from, first, count, round)?;
             node.arm(0);
-            assert_eq!(rt; node.hand(&message), Err(Halt::Node(NodeFault::Device)));
+            let taken = hand_prepare(rt, node, from, first, count, round);
+            assert_eq!(rt; taken, Err(NodeFault::Device));
             assert_eq!(rt; node.out().len(), 0);
         }
-        Step::Propose(from, at, round) => {
-            let message = propose(node, from, at, round)?;
-            node.hand(&message)?;
-            node.forget_said();
-        }
-        Step::Answers(to, wanted) => answers(rt, node, to, wanted)?,
+        Step::Propose(from, at, round) => hand_proposal(rt, node, from, at, round),
+        Step::Answers(to, wanted) => answers(rt, node, to, wanted),
         Step::Many(count) => {
             assert_eq!(rt; node.out().len(), count);
             node.forget_said();
         }
     }
-    Ok(())
 }
 
-fn act_all(rt: &impl Abort, node: &mut Peer, steps: &[Step]) -> Result<(), Halt> {
+fn act_all(rt: &impl Abort, node: &mut Peer, steps: &[Step]) {
     for step in steps {
-        act(rt, node, *step)?;
+        act(rt, node, *step);
     }
-    Ok(())
 }
 
 /// Steps of a fresh node of three.
-fn play(rt: &impl Abort, alloc: Global, steps: &[Step]) -> Result<(), Halt> {
-    let mut node = Peer::fresh(alloc, 3)?;
-    act_all(rt, &mut node, steps)
+fn play(rt: &impl Abort, alloc: Global, steps: &[Step]) {
+    act_all(rt, &mut Peer::fresh(rt, alloc, 3), steps);
 }
 
 /// Steps of a fresh node of three, and further ones behind a crash that loses what was not synced.
-fn play_over_a_crash(
-    rt: &impl Abort,
-    alloc: Global,
-    before: &[Step],
-    behind: &[Step],
-) -> Result<(), Halt> {
-    let mut node = Peer::fresh(alloc, 3)?;
-    act_all(rt, &mut node, before)?;
-    let mut node = node.again(Some(0))?;
-    act_all(rt, &mut node, behind)
+fn play_over_a_crash(rt: &impl Abort, alloc: Global, before: &[Step], behind: &[Step]) {
+    let mut node = Peer::fresh(rt, alloc, 3);
+    act_all(rt, &mut node, before);
+    act_all(rt, &mut node.again(rt, Some(0)), behind);
 }
 
 /// Instance 5 is promised to (1, 1), 6 to (3, 2), 7 has a vote at (2, 1): then a prepare of all three is promised, refused, and not answered.
@@ -172,13 +154,13 @@ const THREE_KINDS: [Step; 7] = [
 
 /// Each instance of a span is judged by itself: a promise, a refusal, and nothing.
 #[test]
-fn slots_of_three_kinds_answer_each_by_itself(rt: HostRuntime) -> Result<(), Fail> {
-    Ok(play(&rt, rt.alloc(), &THREE_KINDS)?)
+fn slots_of_three_kinds_answer_each_by_itself(rt: HostRuntime) {
+    play(&rt, rt.alloc(), &THREE_KINDS);
 }
 
 /// What was promised is kept, and nothing else of the span was raised.
 #[test]
-fn a_span_is_kept_over_a_crash(rt: HostRuntime) -> Result<(), Fail> {
+fn a_span_is_kept_over_a_crash(rt: HostRuntime) {
     let behind = [
         Step::Many(0),
         Step::Prepare(3, 5, 3, 1),
@@ -187,12 +169,12 @@ fn a_span_is_kept_over_a_crash(rt: HostRuntime) -> Result<(), Fail> {
             &[Answer::Nack(5, 2), Answer::Nack(6, 3), Answer::Nack(7, 2)],
         ),
     ];
-    Ok(play_over_a_crash(&rt, rt.alloc(), &THREE_KINDS, &behind)?)
+    play_over_a_crash(&rt, rt.alloc(), &THREE_KINDS, &behind);
 }
 
 /// Two spans that overlap by halves: the lower one is refused where the higher one was promised, and promised elsewhere. A third one, above both, is told the vote.
 #[test]
-fn two_spans_overlap_by_halves(rt: HostRuntime) -> Result<(), Fail> {
+fn two_spans_overlap_by_halves(rt: HostRuntime) {
     let steps = [
         Step::Prepare(3, 3, 4, 2),
         Step::Answers(
@@ -226,12 +208,12 @@ fn two_spans_overlap_by_halves(rt: HostRuntime) -> Result<(), Fail> {
             ],
         ),
     ];
-    Ok(play(&rt, rt.alloc(), &steps)?)
+    play(&rt, rt.alloc(), &steps);
 }
 
 /// Sixty-four instances, the last of them the last there is, of which the last alone rises.
 #[test]
-fn the_last_of_a_long_span_rises(rt: HostRuntime) -> Result<(), Fail> {
+fn the_last_of_a_long_span_rises(rt: HostRuntime) {
     let before = [
         Step::Prepare(3, 999_937, 63, 1),
         Step::Many(63),
@@ -242,16 +224,16 @@ fn the_last_of_a_long_span_rises(rt: HostRuntime) -> Result<(), Fail> {
         Step::Prepare(2, 1_000_000, 1, 1),
         Step::Answers(2, &[Answer::Nack(1_000_000, 1)]),
     ];
-    Ok(play_over_a_crash(&rt, rt.alloc(), &before, &behind)?)
+    play_over_a_crash(&rt, rt.alloc(), &before, &behind);
 }
 
 /// A device that fails in the put hands nothing out, and raises nothing.
 #[test]
-fn a_span_that_is_not_put_answers_nothing(rt: HostRuntime) -> Result<(), Fail> {
+fn a_span_that_is_not_put_answers_nothing(rt: HostRuntime) {
     let before = [Step::Fails(3, 1, 3, 1)];
     let behind = [
         Step::Prepare(2, 2, 1, 1),
         Step::Answers(2, &[Answer::Promise(2)]),
     ];
-    Ok(play_over_a_crash(&rt, rt.alloc(), &before, &behind)?)
+    play_over_a_crash(&rt, rt.alloc(), &before, &behind);
 }

@@ -1,11 +1,10 @@
 //! Several attempts of one node.
-use crate::halt::Halt;
 use crate::peer::Peer;
-use crate::samples::{ballot, chosen, nack, value};
+use crate::samples::{ballot, chosen, copied, nack, value};
 use node::{NodeFault, Outbox, To};
 use site_ids::MAX_ROUND;
+use std::alloc::Global;
 use std::process::Abort;
-use std::test::Fail;
 use wire::Message;
 
 /// What a node does, and what it has prepared then, all messages since the last such look: instances, rounds and counts.
@@ -50,49 +49,53 @@ fn are_prepares(out: &Outbox, wanted: &[(u32, u32, u8)]) -> bool {
     true
 }
 
-fn act(rt: &impl Abort, node: &mut Peer, step: Step) -> Result<(), Halt> {
+fn submit(rt: &impl Abort, node: &mut Peer, number: u64) {
+    let release = value(rt, node.alloc(), number, "release\n");
+    assert!(rt; node.submit(&release).is_ok());
+}
+
+fn choose(rt: &impl Abort, node: &mut Peer, at: u32) {
+    let message = chosen(rt, node.other(rt, 2), at, copied(rt, node.alloc(), b""));
+    assert_eq!(rt; node.hand(rt, &message), Ok(()));
+}
+
+fn refuse(rt: &impl Abort, node: &mut Peer, round: u32) {
+    let (one, two) = (node.other(rt, 1), node.other(rt, 2));
+    let message = nack(rt, two, ballot(rt, 1, one), ballot(rt, round, two));
+    assert_eq!(rt; node.hand(rt, &message), Ok(()));
+}
+
+fn act(rt: &impl Abort, node: &mut Peer, step: Step) {
     match step {
         Step::Submit(first, last) => {
             for number in first..=last {
-                let release = value(node.alloc(), number, "release\n")?;
-                let _ = node.submit(release.as_slice())?;
+                submit(rt, node, number);
             }
         }
-        Step::Chosen(at) => {
-            let message = chosen(node.alloc(), node.other(2)?, at, b"")?;
-            node.hand(&message)?;
-        }
-        Step::Tick => node.tick()?,
+        Step::Chosen(at) => choose(rt, node, at),
+        Step::Tick => assert_eq!(rt; node.tick(), Ok(())),
         Step::Widen(answer) => assert_eq!(rt; node.widen(), answer),
-        Step::Nack(round) => {
-            let two = node.other(2)?;
-            let message = nack(two, ballot(1, node.other(1)?)?, ballot(round, two)?)?;
-            node.hand(&message)?;
-        }
+        Step::Nack(round) => refuse(rt, node, round),
         Step::Arm => node.arm(0),
         Step::Prepares(wanted) => {
             assert!(rt; are_prepares(node.out(), wanted), "{step:?}");
             node.forget_said();
         }
     }
-    Ok(())
 }
 
-fn act_all(rt: &impl Abort, node: &mut Peer, steps: &[Step]) -> Result<(), Halt> {
+/// Steps of a fresh node of three.
+fn play(rt: &impl Abort, alloc: Global, steps: &[Step]) {
+    let mut node = Peer::fresh(rt, alloc, 3);
     for step in steps {
-        act(rt, node, *step)?;
+        act(rt, &mut node, *step);
     }
-    Ok(())
-}
-
-fn play(rt: &impl Abort, node: &mut Peer, steps: &[Step]) -> Result<(), Fail> {
-    Ok(act_all(rt, node, steps)?)
 }
 
 /// Each value is tried once, from the least free instance on, all with one round and one prepare. A tick takes the
 /// oldest value, and sends the others' messages again, by instance: each prepare of one.
 #[test]
-fn three_values_are_tried_at_once(rt: HostRuntime) -> Result<(), Fail> {
+fn three_values_are_tried_at_once(rt: HostRuntime) {
     let steps = [
         Step::Widen(Ok(false)),
         Step::Submit(1, 3),
@@ -105,13 +108,12 @@ fn three_values_are_tried_at_once(rt: HostRuntime) -> Result<(), Fail> {
         Step::Widen(Ok(false)),
         Step::Prepares(&[]),
     ];
-    let mut node = Peer::fresh(rt.alloc(), 3)?;
-    play(&rt, &mut node, &steps)
+    play(&rt, rt.alloc(), &steps);
 }
 
 /// A known instance isn't free, so the next prepare begins behind it.
 #[test]
-fn a_span_ends_at_a_known_instance(rt: HostRuntime) -> Result<(), Fail> {
+fn a_span_ends_at_a_known_instance(rt: HostRuntime) {
     let steps = [
         Step::Chosen(3),
         Step::Submit(1, 9),
@@ -120,13 +122,12 @@ fn a_span_ends_at_a_known_instance(rt: HostRuntime) -> Result<(), Fail> {
         Step::Widen(Ok(false)),
         Step::Prepares(&[(1, 1, 2), (4, 2, 7)]),
     ];
-    let mut node = Peer::fresh(rt.alloc(), 3)?;
-    play(&rt, &mut node, &steps)
+    play(&rt, rt.alloc(), &steps);
 }
 
 /// No instance more than 63 past the first unknown one is tried.
 #[test]
-fn a_widening_stays_in_the_window(rt: HostRuntime) -> Result<(), Fail> {
+fn a_widening_stays_in_the_window(rt: HostRuntime) {
     let steps = [
         Step::Submit(1, 64),
         Step::Tick,
@@ -140,13 +141,12 @@ fn a_widening_stays_in_the_window(rt: HostRuntime) -> Result<(), Fail> {
         Step::Widen(Ok(false)),
         Step::Prepares(&[(65, 3, 2)]),
     ];
-    let mut node = Peer::fresh(rt.alloc(), 3)?;
-    play(&rt, &mut node, &steps)
+    play(&rt, rt.alloc(), &steps);
 }
 
 /// Without a value to try the answer is false, also where no round is left.
 #[test]
-fn a_widening_needs_a_round(rt: HostRuntime) -> Result<(), Fail> {
+fn a_widening_needs_a_round(rt: HostRuntime) {
     let steps = [
         Step::Nack(MAX_ROUND),
         Step::Widen(Ok(false)),
@@ -154,13 +154,12 @@ fn a_widening_needs_a_round(rt: HostRuntime) -> Result<(), Fail> {
         Step::Widen(Err(NodeFault::RoundsUsedUp)),
         Step::Prepares(&[]),
     ];
-    let mut node = Peer::fresh(rt.alloc(), 3)?;
-    play(&rt, &mut node, &steps)
+    play(&rt, rt.alloc(), &steps);
 }
 
 /// The same at a node whose device is about to fail.
 #[test]
-fn a_widening_needs_a_disk(rt: HostRuntime) -> Result<(), Fail> {
+fn a_widening_needs_a_disk(rt: HostRuntime) {
     let steps = [
         Step::Arm,
         Step::Widen(Ok(false)),
@@ -169,6 +168,5 @@ fn a_widening_needs_a_disk(rt: HostRuntime) -> Result<(), Fail> {
         Step::Widen(Err(NodeFault::Stopped)),
         Step::Prepares(&[]),
     ];
-    let mut node = Peer::fresh(rt.alloc(), 3)?;
-    play(&rt, &mut node, &steps)
+    play(&rt, rt.alloc(), &steps);
 }

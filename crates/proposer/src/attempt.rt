@@ -8,7 +8,7 @@ ghost use Rattle.proposer.specs.Best.{Exceeds, value_by, replacing, vote_told};
 ghost use Rattle.proposer.specs.Standing.{StandsFor, Answered};
 
 use site_ids::{Ballot, Cluster, NodeId, Value, Vote};
-use std::alloc::{AllocError, Global};
+use std::alloc::AllocError;
 
 /// An open attempt. Of the votes told it keeps the one of the highest ballot.
 #[derive(Debug, Drop)]
@@ -27,7 +27,6 @@ impl OpenAttempt {
     /// Counts a promise, and gives the value to propose where it makes a majority.
     pub(crate) fn on_promise(
         &mut self,
-        alloc: Global,
         cluster: Cluster,
         from: NodeId,
         ballot: Ballot,
@@ -40,35 +39,35 @@ impl OpenAttempt {
             return Ok(None);
         }
         self.promised.reserve(1)?;
-        let better = self.better(alloc, prior)?;
+        let better = self.better(prior)?;
         if self.promised.len() + 1 < cluster.quorum() as usize {
             self.count(from, better);
             return Ok(None);
         }
-        let value = self.choice(alloc, &better)?;
+        let value = self.choice(&better)?;
         self.count(from, better);
         self.proposed = true;
         Ok(Some(value))
     }
 
     /// A copy of the vote told, where its ballot is higher than those of all told before.
-    fn better(&self, alloc: Global, prior: Option<&Vote>) -> Result<Option<Vote>, AllocError>
+    fn better(&self, prior: Option<&Vote>) -> Result<Option<Vote>, AllocError>
         ensures higher { IfOk result (λ better. Exceeds (vote_told prior.entry) self.now.best → better ≡ vote_told prior.entry) }
         ensures lower { IfOk result (λ better. ¬ Exceeds (vote_told prior.entry) self.now.best → better ≡ None) }
     {
         match prior {
-            Some(vote) if exceeds(vote, &self.best) => Ok(Some(vote.try_clone(alloc)?)),
+            Some(vote) if exceeds(vote, &self.best) => Ok(Some(vote.try_clone()?)),
             _ => Ok(None),
         }
     }
 
     /// The value to propose with this vote in the place of the best one, or with the best one where there is none.
-    fn choice(&self, alloc: Global, better: &Option<Vote>) -> Result<Value, AllocError>
+    fn choice(&self, better: &Option<Vote>) -> Result<Value, AllocError>
         ensures { IfOk result (λ v. v ≡ value_by self.now.own (replacing better.now self.now.best)) }
     {
         match better {
-            Some(vote) => vote.value.try_clone(alloc),
-            None => proposed_value(&self.own, &self.best).try_clone(alloc),
+            Some(vote) => vote.value.try_clone(),
+            None => proposed_value(&self.own, &self.best).try_clone(),
         }
     }
 

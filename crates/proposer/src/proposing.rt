@@ -1,4 +1,4 @@
-ghost use Rattle.std.specs.Prelude.{◌≡◌, ◌↔◌, ◌+◌, ◌<◌, ℕ, max, None, Some, Option, OnOk, OnErr, IfOk, IfErr, IsTrue, MatchResult, length, map};
+ghost use Rattle.std.specs.Prelude.{◌≡◌, ◌↔◌, ◌+◌, ◌<◌, ℕ, max, None, Some, Option, OnOk, OnErr, IfOk, IfErr, IsTrue, MatchResult, length};
 ghost use Rattle.std.specs.Option.{option_map};
 ghost use Rattle.site_ids.specs.declared.TheConstants.{MAX_ROUND};
 ghost use Rattle.site_ids.specs.Ids.{IsNode};
@@ -130,13 +130,13 @@ impl Proposer {
         &mut self,
         instance: Instance,
         ballot: Ballot,
-        own: &[u8],
+        own: &Value,
     ) -> Result<(), AllocError>
         ensures same { (self.new.cluster ≡ self.old.cluster) × (self.new.me ≡ self.old.me) × (self.new.heard ≡ self.old.heard) }
         ensures ok { OnOk result ((attempts : ℕ → Option Attempt) → Attempting self.old attempts → Attempting self.new (put_at attempts instance (Some (opened ballot own.now)))) }
         ensures err { OnErr result ((attempts : ℕ → Option Attempt) → Attempting self.old attempts → Attempting self.new attempts) }
     {
-        let own = Value::copied_from(self.alloc, own)?;
+        let own = own.try_clone()?;
         self.make_room(instance)?;
         self.open(instance, ballot, own);
         Ok(())
@@ -165,25 +165,18 @@ impl Proposer {
         &mut self,
         first: Instance,
         ballot: Ballot,
-        own: Vec<Vec<u8>>,
-    ) -> Result<(), (AllocError, Vec<Vec<u8>>)>
+        own: Vec<Value>,
+    ) -> Result<(), (AllocError, Vec<Value>)>
         requires { IsSpan first (length own.items) }
         ensures same { (self.new.cluster ≡ self.old.cluster) × (self.new.me ≡ self.old.me) × (self.new.heard ≡ self.old.heard) }
-        ensures ok { OnOk result ((attempts : ℕ → Option Attempt) → Attempting self.old attempts → Attempting self.new (opened_span attempts first ballot (map (λ v. v.items) own.items))) }
+        ensures ok { OnOk result ((attempts : ℕ → Option Attempt) → Attempting self.old attempts → Attempting self.new (opened_span attempts first ballot own.items)) }
         ensures err { OnErr result ((attempts : ℕ → Option Attempt) → Attempting self.old attempts → Attempting self.new attempts) }
         ensures back { IfErr result (λ e. e.1 ≡ own) }
     {
-        let mut values = Vec::new(self.alloc);
-        if let Err(wanted) = values.reserve(own.len()) {
-            return Err((wanted, own));
-        }
         if let Err(wanted) = self.make_room_for_span(first, own.len() as u8) {
             return Err((wanted, own));
         }
-        for bytes in own {
-            values.push_reserved(Value::from_bytes(bytes));
-        }
-        self.open_span(first, ballot, values);
+        self.open_span(first, ballot, own);
         Ok(())
     }
 
@@ -200,14 +193,14 @@ impl Proposer {
         ensures same { (self.new.cluster ≡ self.old.cluster) × (self.new.me ≡ self.old.me) × (self.new.heard ≡ self.old.heard) }
         ensures step { (attempts : ℕ → Option Attempt) → Attempting self.old attempts → Promised self.old.cluster attempts from instance ballot (vote_told prior.entry) result self.new }
     {
-        let (alloc, cluster) = (self.alloc, self.cluster);
+        let cluster = self.cluster;
         let Some(place) = self.attempts.get_mut(&instance.number()) else {
             return Ok(None);
         };
         let Some(attempt) = place else {
             return Ok(None);
         };
-        match attempt.on_promise(alloc, cluster, from, ballot, prior)? {
+        match attempt.on_promise(cluster, from, ballot, prior)? {
             Some(value) => Ok(Some(Proposal {
                 instance,
                 ballot,
@@ -239,7 +232,7 @@ impl Proposer {
                 count: 1,
             }));
         }
-        let value = proposed_value(&attempt.own, &attempt.best).try_clone(self.alloc)?;
+        let value = proposed_value(&attempt.own, &attempt.best).try_clone()?;
         Ok(Some(Message::Propose {
             from: self.me,
             instance,

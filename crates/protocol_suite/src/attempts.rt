@@ -4,6 +4,7 @@ use crate::samples::{ballot, cluster, copied, instance, node};
 use chosen_log::{ChosenLog, LearnFault, Learned};
 use learner::Learner;
 use proposer::ProposerFault;
+use site_ids::{Ballot, NodeId, Value};
 use std::alloc::Global;
 use std::process::Abort;
 
@@ -133,29 +134,49 @@ const VOTES: [(u8, u32, u8, &str, bool); 6] = [
     (5, 1, 1, "v", true),
 ];
 
-fn tell(rt: &impl Abort, learner: &mut Learner, row: (u8, u32, u8, &str, bool)) {
-    let (voter, round, number, text, known) = row;
-    let (voter, at) = (node(rt, voter), ballot(rt, round, number));
-    let completes = learner.completes(voter, instance(rt, 1), at, text.as_bytes());
-    assert_eq!(rt; completes, known);
-    let chosen = learner.on_accepted(voter, instance(rt, 1), at, text.as_bytes());
+/// What a learner makes known is the value that it is told.
+fn is_told(
+    rt: &impl Abort,
+    learner: &mut Learner,
+    voter: NodeId,
+    at: Ballot,
+    value: &Value,
+) -> bool {
+    let chosen = learner.on_accepted(voter, instance(rt, 1), at, value);
     match chosen.expect(rt, "memory") {
-        Some(value) => assert!(rt; known && value.as_bytes() == text.as_bytes()),
-        None => assert!(rt; !known),
+        Some(known) => {
+            assert!(rt; known.as_bytes() == value.as_bytes());
+            true
+        }
+        None => false,
     }
 }
 
-fn votes(rt: &impl Abort, learner: &mut Learner) {
+fn tell(rt: &impl Abort, alloc: Global, learner: &mut Learner, row: (u8, u32, u8, &str, bool)) {
+    let (voter, round, number, text, known) = row;
+    let (voter, at) = (node(rt, voter), ballot(rt, round, number));
+    let value = copied(alloc, text.as_bytes()).expect(rt, "a value");
+    let completes = learner.completes(voter, instance(rt, 1), at, &value);
+    assert_eq!(rt; completes, known);
+    assert_eq!(rt; is_told(rt, learner, voter, at, &value), known);
+}
+
+fn votes(rt: &impl Abort, alloc: Global, learner: &mut Learner) {
     for row in VOTES {
-        tell(rt, learner, row);
+        tell(rt, alloc, learner, row);
     }
     learner.forget(instance(rt, 1));
-    assert!(rt; !learner.completes(node(rt, 5), instance(rt, 1), ballot(rt, 1, 1), b"v"));
+    let value = copied(alloc, b"v").expect(rt, "a value");
+    assert!(rt; !learner.completes(node(rt, 5), instance(rt, 1), ballot(rt, 1, 1), &value));
 }
 
 #[test]
 fn votes_at_one_ballot_make_a_value_known(rt: HostRuntime) {
-    votes(&rt, &mut Learner::new(rt.alloc(), cluster(&rt, 5)));
+    votes(
+        &rt,
+        rt.alloc(),
+        &mut Learner::new(rt.alloc(), cluster(&rt, 5)),
+    );
 }
 
 /// The instance, its value, how it is learned (not at all: a conflict), and the first gap then.

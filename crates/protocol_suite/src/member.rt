@@ -1,9 +1,9 @@
 //! A proposer of a cluster, lent to the rows, and what they do with it.
 ghost use Rattle.std.specs.Prelude.{◌≡◌};
 
-use crate::samples::{ballot, cluster, instance, is_ballot, vote};
+use crate::samples::{ballot, cluster, copied, instance, is_ballot, vote};
 use proposer::{Proposal, Proposer, ProposerFault};
-use site_ids::{Ballot, Cluster, Instance, Vote};
+use site_ids::{Ballot, Cluster, Instance, Value, Vote};
 use std::alloc::{AllocError, Global};
 use std::process::Abort;
 use wire::Message;
@@ -50,12 +50,7 @@ pub(crate) enum Step {
 }
 
 /// A try that was refused opens none, and is made once more.
-fn start_span(
-    proposer: &mut Proposer,
-    first: Instance,
-    ballot: Ballot,
-    values: Vec<Vec<u8>>,
-) -> bool
+fn start_span(proposer: &mut Proposer, first: Instance, ballot: Ballot, values: Vec<Value>) -> bool
     ensures { proposer.new.cluster ≡ proposer.old.cluster }
 {
     let open = proposer.attempts();
@@ -69,10 +64,10 @@ fn start_span(
 }
 
 /// Three values of one byte.
-pub(crate) fn three_values(alloc: Global, bytes: &[u8; 3]) -> Result<Vec<Vec<u8>>, AllocError> {
+pub(crate) fn three_values(alloc: Global, bytes: &[u8; 3]) -> Result<Vec<Value>, AllocError> {
     let mut values = Vec::new(alloc);
     for byte in bytes {
-        values.push(Vec::from_slice(alloc, &[*byte])?)?;
+        values.push(Value::copied_from(alloc, &[*byte])?)?;
     }
     Ok(values)
 }
@@ -127,9 +122,9 @@ impl Member {
         &mut self,
         at: Instance,
         ballot: Ballot,
-        value: &[u8],
+        own: &Value,
     ) -> Result<(), AllocError> {
-        self.proposer.start(at, ballot, value)
+        self.proposer.start(at, ballot, own)
     }
 
     /// Whether the attempts of a span were begun.
@@ -137,7 +132,7 @@ impl Member {
         &mut self,
         first: Instance,
         ballot: Ballot,
-        values: Vec<Vec<u8>>,
+        values: Vec<Value>,
     ) -> bool {
         start_span(&mut self.proposer, first, ballot, values)
     }
@@ -208,11 +203,15 @@ fn sends(rt: &impl Abort, member: &Member, at: u32, sent: Sent) {
     assert!(rt; is_sent(&message, sent), "{sent:?} at {at}");
 }
 
+fn start(rt: &impl Abort, member: &mut Member, at: u32, ballot: Ballot, text: &str) {
+    let own = copied(member.alloc, text.as_bytes()).expect(rt, "a value");
+    assert!(rt; member.start(instance(rt, at), ballot, &own).is_ok());
+}
+
 fn act(rt: &impl Abort, member: &mut Member, step: Step) {
     match step {
         Step::Start(at, round, node, text) => {
-            let begun = member.start(instance(rt, at), ballot(rt, round, node), text.as_bytes());
-            assert!(rt; begun.is_ok());
+            start(rt, member, at, ballot(rt, round, node), text);
         }
         Step::Span(first, round, node, bytes) => {
             span(rt, member, first, ballot(rt, round, node), bytes);

@@ -178,7 +178,8 @@ fn longest(rt: &impl Abort, value: Value) -> Message {
 fn the_longest_value(rt: HostRuntime) {
     let mut bytes = Vec::new(rt.alloc());
     bytes.resize(MAX_VALUE, 65).expect(&rt, "memory");
-    check_longest(&rt, rt.alloc(), &longest(&rt, Value::from_bytes(bytes)));
+    let value = Value::from_bytes(bytes).expect(&rt, "a value");
+    check_longest(&rt, rt.alloc(), &longest(&rt, value));
 }
 
 #[test]
@@ -265,15 +266,15 @@ fn clusters_and_their_majorities(rt: HostRuntime) {
     assert!(rt; ballot(&rt, 2, 1) < ballot(&rt, 2, 2));
 }
 
-fn check_copy(rt: &impl Abort, alloc: Global, vote: &Vote) {
-    let copy = vote.try_clone(alloc).expect(rt, "memory");
+fn check_copy(rt: &impl Abort, vote: &Vote) {
+    let copy = vote.try_clone().expect(rt, "memory");
     assert_eq!(rt; copy.ballot, vote.ballot);
-    assert_eq!(rt; copy.value.into_bytes().as_slice(), b"abc".as_slice());
+    assert_eq!(rt; copy.value.as_bytes(), b"abc".as_slice());
 }
 
 #[test]
 fn values_and_votes_are_copied(rt: HostRuntime) {
     let vote = vote(&rt, rt.alloc(), ballot(&rt, 3, 2), "abc");
-    check_copy(&rt, rt.alloc(), &vote);
+    check_copy(&rt, &vote);
     assert_eq!(rt; vote.value.as_bytes(), b"abc".as_slice());
 }

@@ -26,13 +26,6 @@ fn decoded(rt: &impl Abort, alloc: Global) -> Message {
     }
 }
 
-fn cloned(rt: &impl Abort, alloc: Global, message: &Message) -> Message {
-    match message.try_clone(alloc) {
-        Ok(copy) => copy,
-        Err(_) => message.try_clone(alloc).expect(rt, "a message"),
-    }
-}
-
 /// A message is spelled so.
 fn encodes(rt: &impl Abort, alloc: Global, message: &Message) {
     assert!(rt; message.fits());
@@ -47,7 +40,8 @@ fn encodes(rt: &impl Abort, alloc: Global, message: &Message) {
 #[test]
 fn messages(rt: HostRuntime) {
     let message = decoded(&rt, rt.alloc());
-    encodes(&rt, rt.alloc(), &cloned(&rt, rt.alloc(), &message));
+    let copy = message.try_clone().expect(&rt, "a copy");
+    encodes(&rt, rt.alloc(), &copy);
 }
 
 /// A call whose growth was refused changes nothing, so the next try answers as ever.
@@ -70,11 +64,11 @@ fn promised(
     }
 }
 
-fn start(rt: &impl Abort, member: &mut Member, own: Ballot) {
+fn start(rt: &impl Abort, member: &mut Member, own: Ballot, value: &Value) {
     let at = instance(rt, 7);
-    if member.start(at, own, b"own").is_err() {
+    if member.start(at, own, value).is_err() {
         assert!(rt; matches!(member.resend(at), Ok(None)));
-        assert!(rt; member.start(at, own, b"own").is_ok());
+        assert!(rt; member.start(at, own, value).is_ok());
     }
 }
 
@@ -91,8 +85,8 @@ fn send_again(rt: &impl Abort, member: &Member) {
     assert!(rt; is_right);
 }
 
-fn propose(rt: &impl Abort, member: &mut Member, own: Ballot, prior: &Vote) {
-    start(rt, member, own);
+fn propose(rt: &impl Abort, member: &mut Member, own: Ballot, value: &Value, prior: &Vote) {
+    start(rt, member, own, value);
     assert!(rt; promised(rt, member, 1, own, prior).is_none());
     let proposal = promised(rt, member, 2, own, prior);
     assert!(rt; is_made(&proposal, own, Some("prior")));
@@ -102,8 +96,9 @@ fn propose(rt: &impl Abort, member: &mut Member, own: Ballot, prior: &Vote) {
 #[test]
 fn proposals(rt: HostRuntime) {
     let prior = vote(&rt, rt.alloc(), ballot(&rt, 1, 3), "prior");
+    let value = copied(rt.alloc(), b"own").expect(&rt, "a value");
     let mut member = Member::new(&rt, rt.alloc(), 3, 1);
-    propose(&rt, &mut member, ballot(&rt, 2, 1), &prior);
+    propose(&rt, &mut member, ballot(&rt, 2, 1), &value, &prior);
 }
 
 #[test]
@@ -117,34 +112,40 @@ fn spans(rt: HostRuntime) {
     assert_eq!(rt; member.proposer().attempts(), 3);
 }
 
-/// Whether a vote for `v` makes that known.
-fn told(rt: &impl Abort, learner: &mut Learner, voter: u8) -> Result<bool, AllocError> {
+/// Whether a vote for the value makes that known.
+fn told(
+    rt: &impl Abort,
+    learner: &mut Learner,
+    voter: u8,
+    value: &Value,
+) -> Result<bool, AllocError> {
     let first = instance(rt, 1);
-    let known = learner.on_accepted(node(rt, voter), first, ballot(rt, 1, 1), b"v")?;
+    let known = learner.on_accepted(node(rt, voter), first, ballot(rt, 1, 1), value)?;
     Ok(known.is_some())
 }
 
-fn tell(rt: &impl Abort, learner: &mut Learner, voter: u8, completes: bool) {
+fn tell(rt: &impl Abort, learner: &mut Learner, voter: u8, value: &Value, completes: bool) {
     let first = instance(rt, 1);
-    let known = match told(rt, learner, voter) {
+    let known = match told(rt, learner, voter, value) {
         Ok(known) => known,
         Err(_) => {
-            let would = learner.completes(node(rt, voter), first, ballot(rt, 1, 1), b"v");
+            let would = learner.completes(node(rt, voter), first, ballot(rt, 1, 1), value);
             assert_eq!(rt; would, completes);
-            told(rt, learner, voter).expect(rt, "memory")
+            told(rt, learner, voter, value).expect(rt, "memory")
         }
     };
     assert_eq!(rt; known, completes);
 }
 
-fn tell_two(rt: &impl Abort, learner: &mut Learner) {
-    tell(rt, learner, 1, false);
-    tell(rt, learner, 2, true);
+fn tell_two(rt: &impl Abort, learner: &mut Learner, value: &Value) {
+    tell(rt, learner, 1, value, false);
+    tell(rt, learner, 2, value, true);
 }
 
 #[test]
 fn votes(rt: HostRuntime) {
-    tell_two(&rt, &mut Learner::new(rt.alloc(), cluster(&rt, 3)));
+    let value = copied(rt.alloc(), b"v").expect(&rt, "a value");
+    tell_two(&rt, &mut Learner::new(rt.alloc(), cluster(&rt, 3)), &value);
 }
 
 fn learn(rt: &impl Abort, log: &mut ChosenLog, number: u32, value: Value) {

@@ -54,7 +54,7 @@ fn vote(
     let Some((instance, ballot)) = changed else {
         return Ok(None);
     };
-    let value = Value::from_bytes(bytes);
+    let value = Value::from_bytes(bytes)?;
     Ok(Some(Entry::Voted(instance, Vote { ballot, value })))
 }
 

@@ -1,8 +1,9 @@
 //! Crashes after each call of a put.
-use crate::samples::{disk_of, formatted, opened, put_round};
-use durable::RecordFault;
-use site_disk::{Armed, Disk};
-use std::test::Fail;
+use crate::samples::{disk_of, empty, opened, put_round};
+use durable::{Record, RecordFault};
+use site_disk::{Armed, Disk, MemDisk};
+use std::alloc::Global;
+use std::process::Abort;
 
 /// How many calls pass, what the crash chooses, and then the file's length and round.
 const CRASHES: [(u32, u8, u64, u32); 15] = [
@@ -23,39 +24,55 @@ const CRASHES: [(u32, u8, u64, u32); 15] = [
     (4, 7, 21, 1),
 ];
 
-#[test]
-fn a_crash_after_each_call_keeps_the_round_or_not(rt: HostRuntime) -> Result<(), Fail> {
-    let alloc = rt.alloc();
-    for (calls, choice, length, round) in CRASHES {
-        let mut record = opened(alloc, formatted(alloc)?)?;
-        record.arm(calls);
-        let put = put_round(&mut record, 1);
-        if calls < 4 {
-            assert_eq!(rt; put, Err(RecordFault::Device));
-            assert_eq!(rt; put_round(&mut record, 2), Err(RecordFault::Stopped));
-        } else {
-            assert_eq!(rt; put, Ok(()));
-        }
-        let mut disk = record.close();
-        disk.crash(choice);
-        assert_eq!(rt; disk.len()?, length);
-        assert_eq!(rt; opened(alloc, disk)?.round(), round);
+/// A put whose disk fails after so many calls, if it makes so many, and another one.
+fn put(rt: &impl Abort, record: &mut Record<MemDisk>, calls: u32) {
+    record.arm(calls);
+    let put = put_round(record, 1);
+    if calls < 4 {
+        assert_eq!(rt; put, Err(RecordFault::Device));
+        assert_eq!(rt; put_round(record, 2), Err(RecordFault::Stopped));
+    } else {
+        assert_eq!(rt; put, Ok(()));
     }
-    Ok(())
+}
+
+fn crash(rt: &impl Abort, alloc: Global, row: (u32, u8, u64, u32)) {
+    let (calls, choice, length, round) = row;
+    let mut record = empty(rt, alloc);
+    put(rt, &mut record, calls);
+    let mut disk = record.close();
+    disk.crash(choice);
+    assert_eq!(rt; disk.len(), Ok(length));
+    assert_eq!(rt; opened(rt, alloc, disk).round(), round);
 }
 
 #[test]
-fn an_armed_disk_fails_each_further_call(rt: HostRuntime) -> Result<(), Fail> {
-    let mut disk = disk_of(rt.alloc(), b"abc")?;
+fn a_crash_after_each_call_keeps_the_round_or_not(rt: HostRuntime) {
+    for row in CRASHES {
+        crash(&rt, rt.alloc(), row);
+    }
+}
+
+fn fail_each(rt: &impl Abort, disk: &mut MemDisk) {
     disk.arm(1);
     assert_eq!(rt; disk.len(), Ok(3));
     assert!(rt; disk.sync().is_err());
     assert!(rt; disk.write_at(0, b"d").is_err());
     assert!(rt; disk.read_at(0, &mut [0]).is_err());
     assert_eq!(rt; disk.failures(), 3);
-    disk.disarm();
+}
+
+/// The disk holds these three bytes.
+pub fn holds(rt: &impl Abort, disk: &mut impl Disk, three: [u8; 3]) {
     let mut bytes = [0; 3];
-    disk.read_at(0, &mut bytes)?;
-    assert_eq!(rt; bytes, *b"abc");
-    Ok(())
+    disk.read_at(0, &mut bytes).expect(rt, "a read");
+    assert_eq!(rt; bytes, three);
+}
+
+#[test]
+fn an_armed_disk_fails_each_further_call(rt: HostRuntime) {
+    let mut disk = disk_of(&rt, rt.alloc(), b"abc");
+    fail_each(&rt, &mut disk);
+    disk.disarm();
+    holds(&rt, &mut disk, *b"abc");
 }

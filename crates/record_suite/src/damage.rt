@@ -8,7 +8,7 @@ use durable::Record;
 use site_disk::MemDisk;
 use site_ids::Instance;
 use std::alloc::Global;
-use std::test::Fail;
+use std::process::Abort;
 
 /// Worked out by hand: a place, a byte there, and of the history for which the record then stands, if it does, how many entries it has, the
 /// last round, and the value that is voted for at instance 1.
@@ -105,74 +105,84 @@ fn tells(record: &Record<MemDisk>, history: &[Entry]) -> bool {
         && tells_named(record, history)
 }
 
-/// Whether node 2 of three opens the bytes, which stand for this history, or refuses them where there is none.
-fn comes_to(alloc: Global, bytes: &[u8], history: Option<&[Entry]>) -> Result<bool, Fail> {
-    let (cluster, node) = one_of_three(2)?;
-    let opened = Record::open(alloc, cluster, node, disk_of(alloc, bytes)?);
+/// Node 2 of three opens the bytes, which stand for this history, or refuses them where there is none.
+fn comes_to(rt: &impl Abort, alloc: Global, bytes: &[u8], history: Option<&[Entry]>) -> bool {
+    let (cluster, node) = one_of_three(rt, 2);
+    let opened = Record::open(alloc, cluster, node, disk_of(rt, alloc, bytes));
     match (opened, history) {
         (Ok(record), Some(history)) => {
-            Ok(stands_for(alloc, cluster, node, bytes, history)? && tells(&record, history))
+            is_of(rt, alloc, bytes, history) && tells(&record, history)
         }
-        (Err((fault, _disk)), None) => Ok(fault == refusal(cluster, node, bytes)),
-        _ => Ok(false),
+        (Err((fault, _disk)), None) => fault == refusal(cluster, node, bytes),
+        _ => false,
     }
+}
+
+fn is_of(rt: &impl Abort, alloc: Global, bytes: &[u8], history: &[Entry]) -> bool {
+    let (cluster, node) = one_of_three(rt, 2);
+    stands_for(alloc, cluster, node, bytes, history).expect(rt, "memory")
 }
 
 /// The beginning of the entries that the bytes stand for.
 fn beginning<'a>(
+    rt: &impl Abort,
     alloc: Global,
     bytes: &[u8],
     entries: &'a [Entry],
-) -> Result<Option<&'a [Entry]>, Fail> {
-    let (cluster, node) = one_of_three(2)?;
+) -> Option<&'a [Entry]> {
     for count in 0..=entries.len() {
-        if stands_for(alloc, cluster, node, bytes, &entries[..count])? {
-            return Ok(Some(&entries[..count]));
+        if is_of(rt, alloc, bytes, &entries[..count]) {
+            return Some(&entries[..count]);
         }
     }
-    Ok(None)
+    None
+}
+
+fn cut_at_each_byte(rt: &impl Abort, alloc: Global, bytes: &[u8], entries: &[Entry]) {
+    for len in 0..=bytes.len() {
+        let history = beginning(rt, alloc, &bytes[..len], entries);
+        assert!(rt; comes_to(rt, alloc, &bytes[..len], history), "{len} bytes");
+    }
 }
 
 /// Also with the last entry's gate closed: what stands behind it isn't read.
 #[test]
-fn a_record_cut_at_each_byte(rt: HostRuntime) -> Result<(), Fail> {
-    let alloc = rt.alloc();
-    let entries = entries(alloc)?;
+fn a_record_cut_at_each_byte(rt: HostRuntime) {
+    let entries = entries(&rt, rt.alloc()).expect(&rt, "memory");
     for gate in [0, 1] {
-        let bytes = with_byte(alloc, &RECORD, 35, gate)?;
-        for len in 0..=bytes.len() {
-            let history = beginning(alloc, &bytes[..len], &entries)?;
-            assert!(rt;
-                comes_to(alloc, &bytes[..len], history)?,
-                "gate {gate}: {len} bytes"
-            );
+        let bytes = with_byte(rt.alloc(), &RECORD, 35, gate).expect(&rt, "memory");
+        cut_at_each_byte(&rt, rt.alloc(), &bytes, &entries);
+    }
+}
+
+/// A record with this byte at a place comes to what is listed, if that changes it.
+fn changes(rt: &impl Abort, alloc: Global, listed: &Listed<'_>, place: usize, byte: u8) {
+    let bytes = with_byte(alloc, listed.record(), place, byte).expect(rt, "memory");
+    if bytes.as_slice() != listed.record() {
+        assert!(rt;
+            comes_to(rt, alloc, &bytes, listed.at(place, byte)),
+            "{byte} at {place} of {}",
+            bytes.len()
+        );
+    }
+}
+
+fn change_each_byte(rt: &impl Abort, alloc: Global, listed: &mut Listed<'_>, entries: &[Entry]) {
+    listed.list_all(entries).expect(rt, "memory");
+    for place in 0..listed.record().len() {
+        for byte in 0..=255 {
+            changes(rt, alloc, listed, place, byte);
         }
     }
-    Ok(())
 }
 
 #[test]
-fn a_record_with_each_byte_changed(rt: HostRuntime) -> Result<(), Fail> {
+fn a_record_with_each_byte_changed(rt: HostRuntime) {
     let alloc = rt.alloc();
-    for (record, entries) in [
-        (&RECORD[..], entries(alloc)?),
-        (&SPANNED[..], spanned(alloc)?),
-    ] {
-        let listed = Listed::new(alloc, record, &entries)?;
-        for place in 0..record.len() {
-            for byte in 0..=255 {
-                let bytes = with_byte(alloc, record, place, byte)?;
-                if bytes.as_slice() != record {
-                    assert!(rt;
-                        comes_to(alloc, &bytes, listed.at(place, byte))?,
-                        "{byte} at {place} of {}",
-                        record.len()
-                    );
-                }
-            }
-        }
-    }
-    Ok(())
+    let history = entries(&rt, alloc).expect(&rt, "memory");
+    change_each_byte(&rt, alloc, &mut Listed::new(&rt, alloc, &RECORD), &history);
+    let history = spanned(&rt, alloc).expect(&rt, "memory");
+    change_each_byte(&rt, alloc, &mut Listed::new(&rt, alloc, &SPANNED), &history);
 }
 
 fn is_voted_for(history: &[Entry], value: &str) -> bool {
@@ -207,13 +217,22 @@ fn wrong_row(listed: &Listed<'_>) -> Option<(usize, u8)> {
     None
 }
 
-#[test]
-fn the_list_has_what_is_worked_out(rt: HostRuntime) -> Result<(), Fail> {
-    let alloc = rt.alloc();
-    let listed = Listed::new(alloc, &RECORD, &entries(alloc)?)?;
+fn check_list(rt: &impl Abort, listed: &mut Listed<'_>, entries: &[Entry]) {
+    listed.list_all(entries).expect(rt, "memory");
     assert_eq!(rt; listed.len(), COUNT);
-    assert_eq!(rt; wrong_row(&listed), None);
-    let listed = Listed::new(alloc, &SPANNED, &spanned(alloc)?)?;
+    assert_eq!(rt; wrong_row(listed), None);
+}
+
+fn check_spanned(rt: &impl Abort, listed: &mut Listed<'_>, entries: &[Entry]) {
+    listed.list_all(entries).expect(rt, "memory");
     assert_eq!(rt; listed.len(), SPANNED_COUNT);
-    Ok(())
+}
+
+#[test]
+fn the_list_has_what_is_worked_out(rt: HostRuntime) {
+    let alloc = rt.alloc();
+    let history = entries(&rt, alloc).expect(&rt, "memory");
+    check_list(&rt, &mut Listed::new(&rt, alloc, &RECORD), &history);
+    let history = spanned(&rt, alloc).expect(&rt, "memory");
+    check_spanned(&rt, &mut Listed::new(&rt, alloc, &SPANNED), &history);
 }

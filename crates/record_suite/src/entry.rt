@@ -6,7 +6,7 @@ ghost use Rattle.site_ids.specs.Spans.{IsInSpan};
 ghost use Rattle.durable.specs.Entries.{Raises};
 
 use site_ids::{Ballot, Instance, Vote};
-use std::alloc::{AllocError, Global};
+use std::alloc::AllocError;
 
 /// An entry of a record.
 #[derive(Debug, Drop)]
@@ -41,7 +41,7 @@ impl Entry {
         }
     }
 
-    pub fn try_clone(&self, alloc: Global) -> Result<Entry, AllocError>
+    pub fn try_clone(&self) -> Result<Entry, AllocError>
         ensures { IfOk result (λ entry. entry ≡ self.now) }
     {
         Ok(match self {
@@ -50,7 +50,7 @@ impl Entry {
             Entry::PromisedSpan(first, count, ballot) => {
                 Entry::PromisedSpan(*first, *count, *ballot)
             }
-            Entry::Voted(instance, vote) => Entry::Voted(*instance, vote.try_clone(alloc)?),
+            Entry::Voted(instance, vote) => Entry::Voted(*instance, vote.try_clone()?),
         })
     }
 }

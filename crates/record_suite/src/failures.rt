@@ -1,95 +1,111 @@
 //! One call of a disk fails, and those behind it pass.
+use crate::crashes::holds;
 use crate::samples::{
-    ONE_PROMISE, disk_of, first_ballot, formatted, one_of_three, opened, put_round,
+    ONE_PROMISE, ballot, disk_of, formatted, instance, one_of_three, opened, put_round,
 };
 use durable::{Record, RecordFault};
-use site_disk::{Armed, Disk, DiskFailed, FailOnce, MemDisk};
+use site_disk::{Armed, Disk, FailOnce, MemDisk};
 use std::alloc::Global;
 use std::process::Abort;
-use std::test::Fail;
 
 /// How many calls of a put pass before one fails, and the round of the next opening, without a crash.
 const PUTS: [(u32, u32); 4] = [(0, 0), (1, 0), (2, 0), (3, 1)];
 
-/// A put whose call fails so, and one that is Stopped. Gives the disk back.
-fn failed_put(rt: &impl Abort, alloc: Global, calls: u32) -> Result<FailOnce<MemDisk>, Fail> {
-    let mut record = opened(alloc, FailOnce::new(formatted(alloc)?))?;
+/// A put whose call fails so, and one that is Stopped.
+fn fail_put(rt: &impl Abort, record: &mut Record<FailOnce<MemDisk>>, calls: u32) {
     record.arm(calls);
-    assert_eq!(rt; put_round(&mut record, 1), Err(RecordFault::Device));
+    assert_eq!(rt; put_round(record, 1), Err(RecordFault::Device));
     assert!(rt; record.is_stopped());
-    assert_eq!(rt; put_round(&mut record, 1), Err(RecordFault::Stopped));
+    assert_eq!(rt; put_round(record, 1), Err(RecordFault::Stopped));
+}
+
+/// The disk behind such a put.
+fn failed_put(rt: &impl Abort, alloc: Global, calls: u32) -> FailOnce<MemDisk> {
+    let mut record = opened(rt, alloc, FailOnce::new(formatted(rt, alloc)));
+    fail_put(rt, &mut record, calls);
     let disk = record.close();
     assert_eq!(rt; disk.failures(), 1);
-    Ok(disk)
+    disk
+}
+
+fn settles(rt: &impl Abort, alloc: Global, calls: u32, choice: u8, round: u32) {
+    let record = opened(rt, alloc, failed_put(rt, alloc, calls));
+    assert_eq!(rt; record.round(), round, "after {calls} calls");
+    let mut disk = record.close().into_inner();
+    disk.crash(choice);
+    assert_eq!(rt; opened(rt, alloc, disk).round(), round, "{calls} {choice}");
 }
 
 /// Whatever a crash chooses behind an opening, it keeps what that found.
 #[test]
-fn an_opening_settles_the_entry_in_flight(rt: HostRuntime) -> Result<(), Fail> {
-    let alloc = rt.alloc();
+fn an_opening_settles_the_entry_in_flight(rt: HostRuntime) {
     for (calls, round) in PUTS {
         for choice in [0, 1, 7] {
-            let record = opened(alloc, failed_put(&rt, alloc, calls)?)?;
-            assert_eq!(rt; record.round(), round, "after {calls} calls");
-            let mut disk = record.close().into_inner();
-            disk.crash(choice);
-            assert_eq!(rt; opened(alloc, disk)?.round(), round, "{calls} {choice}");
+            settles(&rt, rt.alloc(), calls, choice, round);
         }
     }
-    Ok(())
 }
 
 /// A call that failed did nothing, and the one behind it is as ever. A call that the disk under it fails counts too.
-fn check_calls(rt: &impl Abort, disk: &mut FailOnce<MemDisk>) -> Result<(), DiskFailed> {
-    let mut bytes = [0; 3];
+fn check_calls(rt: &impl Abort, disk: &mut FailOnce<MemDisk>) {
     disk.arm(1);
     assert_eq!(rt; disk.len(), Ok(3));
     assert!(rt; disk.write_at(0, b"xy").is_err());
+    let mut bytes = [0; 3];
     disk.arm(0);
     assert!(rt; disk.read_at(0, &mut bytes).is_err());
     assert_eq!(rt; bytes, [0; 3]);
-    disk.read_at(0, &mut bytes)?;
-    assert_eq!(rt; bytes, *b"abc");
-    disk.write_at(1, b"z")?;
+    holds(rt, disk, *b"abc");
+}
+
+fn check_further_calls(rt: &impl Abort, disk: &mut FailOnce<MemDisk>) {
+    disk.write_at(1, b"z").expect(rt, "a write");
     disk.arm(0);
     assert!(rt; disk.sync().is_err());
-    assert!(rt; disk.read_at(9, &mut bytes).is_err());
+    assert!(rt; disk.read_at(9, &mut [0; 3]).is_err());
     assert_eq!(rt; disk.failures(), 4);
-    Ok(())
 }
 
 #[test]
-fn one_armed_call_fails(rt: HostRuntime) -> Result<(), Fail> {
-    let mut disk = FailOnce::new(disk_of(rt.alloc(), b"abc")?);
-    check_calls(&rt, &mut disk)?;
+fn one_armed_call_fails(rt: HostRuntime) {
+    let mut disk = FailOnce::new(disk_of(&rt, rt.alloc(), b"abc"));
+    check_calls(&rt, &mut disk);
+    check_further_calls(&rt, &mut disk);
     let mut disk = disk.into_inner();
     assert_eq!(rt; disk.failures(), 1);
     disk.crash(0);
-    let mut bytes = [0; 3];
-    disk.read_at(0, &mut bytes)?;
-    assert_eq!(rt; bytes, *b"abc");
-    Ok(())
+    holds(&rt, &mut disk, *b"abc");
+}
+
+/// The disk of an opening of which one call failed.
+fn failed_opening(rt: &impl Abort, alloc: Global, calls: u32) -> FailOnce<MemDisk> {
+    let (cluster, node) = one_of_three(rt, 2);
+    let mut disk = FailOnce::new(disk_of(rt, alloc, &ONE_PROMISE));
+    disk.arm(calls);
+    match Record::open(alloc, cluster, node, disk) {
+        Ok(_record) => panic!(rt; "an opening without one of its calls"),
+        Err((fault, disk)) => {
+            assert_eq!(rt; fault, RecordFault::Device);
+            disk
+        }
+    }
+}
+
+fn opens(rt: &impl Abort, alloc: Global, disk: FailOnce<MemDisk>) {
+    let record = opened(rt, alloc, disk);
+    assert_eq!(rt; record.slot(instance(rt, 1)).promised, Some(ballot(rt, 1)));
 }
 
 /// Each call of an opening fails in turn, and gives the disk back: it opens then.
 #[test]
-fn an_opening_that_fails_gives_the_disk_back(rt: HostRuntime) -> Result<(), Fail> {
+fn an_opening_that_fails_gives_the_disk_back(rt: HostRuntime) {
     let alloc = rt.alloc();
-    let (cluster, node) = one_of_three(2)?;
-    let (instance, ballot) = first_ballot(1)?;
     for calls in 0..4 {
-        let mut disk = FailOnce::new(disk_of(alloc, &ONE_PROMISE)?);
-        disk.arm(calls);
-        let Err((fault, disk)) = Record::open(alloc, cluster, node, disk) else {
-            return Err(Fail::from("an opening without one of its calls"));
-        };
-        assert_eq!(rt; fault, RecordFault::Device);
+        let disk = failed_opening(&rt, alloc, calls);
         assert_eq!(rt; disk.failures(), 1);
-        let record = opened(alloc, disk)?;
-        assert_eq!(rt; record.slot(instance).promised, Some(ballot));
+        opens(&rt, alloc, disk);
     }
-    let mut disk = FailOnce::new(disk_of(alloc, &ONE_PROMISE)?);
+    let mut disk = FailOnce::new(disk_of(&rt, alloc, &ONE_PROMISE));
     disk.arm(4);
-    assert_eq!(rt; opened(alloc, disk)?.slot(instance).promised, Some(ballot));
-    Ok(())
+    opens(&rt, alloc, disk);
 }

@@ -2,25 +2,48 @@
 use crate::samples::{ONE_ROUND, one_of_three, opened, put_round};
 use durable::Record;
 use site_disk::{Disk, FileDisk};
+use std::alloc::Global;
 use std::fs::{self, File, OpenOptions};
 use std::os::unix::fs::FileExt;
+use std::process::Abort;
 use std::test::Fail;
 
 const FOLDER: &str = "record_suite_files";
 
 const FILE: &str = "record_suite_files/record";
 
-/// The bytes of the file, as this handle reads them.
-fn first_bytes(file: &File) -> Result<[u8; 21], Fail> {
+/// The bytes of the file are these, as this handle reads them.
+fn has_bytes(rt: &impl Abort, file: &File, wanted: [u8; 21]) {
     let mut bytes = [0; 21];
-    file.read_exact_at(&mut bytes, 0)?;
-    Ok(bytes)
+    file.read_exact_at(&mut bytes, 0).expect(rt, "21 bytes");
+    assert_eq!(rt; bytes, wanted);
+}
+
+/// A read past the end fails, and no call did before.
+fn check_disk(rt: &impl Abort, disk: &mut FileDisk) {
+    assert_eq!(rt; disk.failures(), 0);
+    assert!(rt; disk.read_at(0, &mut [0; 22]).is_err());
+    assert_eq!(rt; disk.failures(), 1);
+}
+
+/// A record on a new file takes a round, and the reader finds it while the record is open.
+fn keep_round(rt: &impl Abort, alloc: Global, file: File, reader: &File) {
+    let (cluster, node) = one_of_three(rt, 2);
+    let mut disk = FileDisk::new(file);
+    Record::format(cluster, node, &mut disk).expect(rt, "a record");
+    let mut record = opened(rt, alloc, disk);
+    assert_eq!(rt; put_round(&mut record, 1), Ok(()));
+    has_bytes(rt, reader, ONE_ROUND);
+}
+
+fn find_round(rt: &impl Abort, alloc: Global, file: File) {
+    let record = opened(rt, alloc, FileDisk::new(file));
+    assert_eq!(rt; record.round(), 1);
+    check_disk(rt, &mut record.close());
 }
 
 #[test]
 fn a_real_file_keeps_the_record(rt: HostRuntime) -> Result<(), Fail> {
-    let alloc = rt.alloc();
-    let (cluster, node) = one_of_three(2)?;
     let _ = fs::remove_dir_all(&rt, FOLDER);
     fs::create_dir(&rt, FOLDER)?;
     let file = OpenOptions::new()
@@ -28,22 +51,12 @@ fn a_real_file_keeps_the_record(rt: HostRuntime) -> Result<(), Fail> {
         .write(true)
         .create(true)
         .open(&rt, FILE)?;
-    let mut disk = FileDisk::new(file);
-    Record::format(cluster, node, &mut disk)?;
-    let mut record = opened(alloc, disk)?;
-    put_round(&mut record, 1)?;
-    assert_eq!(rt; first_bytes(&File::open(&rt, FILE)?)?, ONE_ROUND);
+    let reader = File::open(&rt, FILE)?;
+    keep_round(&rt, rt.alloc(), file, &reader);
     File::open(&rt, FOLDER)?.sync_all()?;
-    drop(record);
     let file = OpenOptions::new().read(true).write(true).open(&rt, FILE)?;
     assert_eq!(rt; file.metadata()?.len(), 21);
-    let record = opened(alloc, FileDisk::new(file))?;
-    assert_eq!(rt; record.round(), 1);
-    let mut disk = record.close();
-    assert_eq!(rt; disk.failures(), 0);
-    let mut past = [0; 22];
-    assert!(rt; disk.read_at(0, &mut past).is_err());
-    assert_eq!(rt; disk.failures(), 1);
+    find_round(&rt, rt.alloc(), file);
     fs::remove_dir_all(&rt, FOLDER)?;
     Ok(())
 }

@@ -2,13 +2,13 @@
 use crate::changes::{changed, others, places};
 use crate::entry::Entry;
 use crate::history::is_history;
-use crate::samples::{first_ballot, one_of_three};
+use crate::samples::{ballot, instance, one_of_three};
 use crate::spelling::spelled;
 use crate::standing::stands_for;
-use site_ids::{Ballot, Cluster, NodeId, Value, Vote};
+use site_ids::{Cluster, NodeId, Value, Vote};
 use std::alloc::{AllocError, Global};
 use std::collections::BTreeMap;
-use std::test::Fail;
+use std::process::Abort;
 
 /// The record of node 2 of 3. At 10 the gate of round 1, at 20 that of the promise of (1, 1) at instance 1, at 35 that of the vote for `ab` at (2, 1)
 /// there, at 52 the last gate.
@@ -16,16 +16,16 @@ pub const RECORD: [u8; 53] =
     *b"SITEREC1\x02\x03\x01\x00\x00\x00\x05\x01\x00\x00\x00\x01\x01\x00\x00\x00\x0a\x02\x00\x00\x00\x01\x00\x00\x00\x01\x01\x01\x00\x00\x00\x0c\x03\x00\x00\x00\x01\x00\x00\x00\x02\x01ab\x00";
 
 /// Its history.
-pub fn entries(alloc: Global) -> Result<Vec<Entry>, Fail> {
-    let (instance, promised) = first_ballot(1)?;
-    let Some(ballot) = Ballot::new(2, promised.node()) else {
-        return Err(Fail::new("no ballot"));
-    };
+pub fn entries(rt: &impl Abort, alloc: Global) -> Result<Vec<Entry>, AllocError> {
     let value = Value::copied_from(alloc, b"ab")?;
+    let voted = Vote {
+        ballot: ballot(rt, 2),
+        value,
+    };
     let mut entries = Vec::new(alloc);
     entries.push(Entry::Round(1))?;
-    entries.push(Entry::Promised(instance, promised))?;
-    entries.push(Entry::Voted(instance, Vote { ballot, value }))?;
+    entries.push(Entry::Promised(instance(rt, 1), ballot(rt, 1)))?;
+    entries.push(Entry::Voted(instance(rt, 1), voted))?;
     Ok(entries)
 }
 
@@ -34,10 +34,9 @@ pub const SPANNED: [u8; 27] =
     *b"SITEREC1\x02\x03\x01\x00\x00\x00\x0b\x04\x00\x00\x00\x05\x03\x00\x00\x00\x01\x01\x00";
 
 /// Its history.
-pub fn spanned(alloc: Global) -> Result<Vec<Entry>, Fail> {
-    let (first, ballot) = first_ballot(5)?;
+pub fn spanned(rt: &impl Abort, alloc: Global) -> Result<Vec<Entry>, AllocError> {
     let mut entries = Vec::new(alloc);
-    entries.push(Entry::PromisedSpan(first, 3, ballot))?;
+    entries.push(Entry::PromisedSpan(instance(rt, 5), 3, ballot(rt, 1)))?;
     Ok(entries)
 }
 
@@ -58,7 +57,7 @@ pub fn with_byte(
 fn copies(alloc: Global, entries: &[Entry]) -> Result<Vec<Entry>, AllocError> {
     let mut copies = Vec::new(alloc);
     for entry in entries {
-        copies.push(entry.try_clone(alloc)?)?;
+        copies.push(entry.try_clone()?)?;
     }
     Ok(copies)
 }
@@ -74,18 +73,20 @@ pub struct Listed<'a> {
 }
 
 impl<'a> Listed<'a> {
-    /// Of this record, with this history.
-    pub fn new(alloc: Global, record: &'a [u8], entries: &[Entry]) -> Result<Listed<'a>, Fail> {
-        let (cluster, node) = one_of_three(2)?;
-        let mut listed = Listed {
+    /// Of this record, of which nothing is listed yet.
+    pub fn new(rt: &impl Abort, alloc: Global, record: &'a [u8]) -> Listed<'a> {
+        let (cluster, node) = one_of_three(rt, 2);
+        Listed {
             alloc,
             cluster,
             node,
             record,
             histories: BTreeMap::new(alloc),
-        };
-        listed.list_all(entries)?;
-        Ok(listed)
+        }
+    }
+
+    pub fn record(&self) -> &[u8] {
+        self.record
     }
 
     pub fn len(&self) -> usize {
@@ -154,8 +155,8 @@ impl<'a> Listed<'a> {
         Ok(())
     }
 
-    /// Lists the beginnings of the entries, and the entries with one of them changed.
-    fn list_all(&mut self, entries: &[Entry]) -> Result<(), AllocError> {
+    /// Lists the beginnings of the record's entries, and the entries with one of them changed.
+    pub fn list_all(&mut self, entries: &[Entry]) -> Result<(), AllocError> {
         self.list(entries)?;
         for at in 0..entries.len() {
             self.list(&entries[..at])?;

@@ -1,11 +1,14 @@
 //! Record files byte by byte.
 use crate::samples::{
-    ONE_PROMISE, ONE_ROUND, disk_of, first_ballot, formatted, one_of_three, opened, put_promise,
-    put_round, put_vote, refusal,
+    ONE_PROMISE, ONE_ROUND, ballot, disk_of, empty, instance, one_of_three, opened, put_promise,
+    put_round, put_vote_for, refusal,
 };
+use acceptor::Slot;
 use durable::{Record, RecordFault};
-use site_disk::{Call, Disk};
-use std::test::Fail;
+use site_disk::{Call, Disk, MemDisk};
+use site_ids::Ballot;
+use std::alloc::Global;
+use std::process::Abort;
 
 fn letter_of(call: &Call) -> char {
     match call {
@@ -17,69 +20,83 @@ fn letter_of(call: &Call) -> char {
 }
 
 #[test]
-fn a_promise_record_is_read_or_refused(rt: HostRuntime) -> Result<(), Fail> {
-    let alloc = rt.alloc();
+fn a_promise_record_is_read_or_refused(rt: HostRuntime) {
     let mut shut = ONE_PROMISE;
     shut[10] = 7;
-    let rows = [
+    for (bytes, node, want) in [
         (&ONE_PROMISE[..], 2, None),
         (&shut[..], 2, None),
         (&ONE_PROMISE[..25], 2, Some(RecordFault::Damaged)),
         (&ONE_PROMISE[..], 3, Some(RecordFault::WrongNode)),
         (&ONE_PROMISE[..10], 3, Some(RecordFault::NotARecord)),
-    ];
-    for (bytes, node, want) in rows {
-        assert_eq!(rt; refusal(alloc, node, bytes)?, want);
+    ] {
+        assert_eq!(rt; refusal(&rt, rt.alloc(), node, bytes), want);
     }
-    let (instance, ballot) = first_ballot(1)?;
-    for (bytes, want) in [(&ONE_PROMISE[..], Some(ballot)), (&shut[..], None)] {
-        let record = opened(alloc, disk_of(alloc, bytes)?)?;
-        assert_eq!(rt; record.slot(instance).promised, want);
+    for (bytes, want) in [(&ONE_PROMISE, Some(ballot(&rt, 1))), (&shut, None)] {
+        let record = opened(&rt, rt.alloc(), disk_of(&rt, rt.alloc(), bytes));
+        assert_eq!(rt; record.slot(instance(&rt, 1)).promised, want);
     }
-    Ok(())
 }
 
-#[test]
-fn a_round_is_four_calls_and_eleven_bytes(rt: HostRuntime) -> Result<(), Fail> {
-    let alloc = rt.alloc();
-    let (cluster, node) = one_of_three(2)?;
-    let mut record = opened(alloc, formatted(alloc)?)?;
-    assert!(rt; record.has_room(5));
-    put_round(&mut record, 1)?;
-    let mut disk = record.close();
-    assert_eq!(rt; disk.calls().len(), 8);
-    for (call, want) in disk.calls().iter().zip("SLRRWSWS".chars()) {
-        assert_eq!(rt; letter_of(call), want);
+fn are_calls(calls: &[Call], letters: &str) -> bool {
+    for (call, letter) in calls.iter().zip(letters.chars()) {
+        if letter_of(call) != letter {
+            return false;
+        }
     }
+    calls.len() == letters.len()
+}
+
+fn check_round(rt: &impl Abort, disk: &mut MemDisk) {
+    let (cluster, node) = one_of_three(rt, 2);
+    assert!(rt; are_calls(disk.calls(), "SLRRWSWS"));
     let mut bytes = [0; 21];
-    disk.read_at(0, &mut bytes)?;
+    disk.read_at(0, &mut bytes).expect(rt, "a read");
     assert_eq!(rt; bytes, ONE_ROUND);
-    assert_eq!(rt; disk.len()?, 21);
-    let again = Record::format(cluster, node, &mut disk);
+    assert_eq!(rt; disk.len(), Ok(21));
+    let again = Record::format(cluster, node, disk);
     assert_eq!(rt; again, Err(RecordFault::NotARecord));
-    assert_eq!(rt; opened(alloc, disk)?.round(), 1);
-    Ok(())
 }
 
 #[test]
-fn seventy_votes_read_back(rt: HostRuntime) -> Result<(), Fail> {
-    let alloc = rt.alloc();
-    let mut record = opened(alloc, formatted(alloc)?)?;
+fn a_round_is_four_calls_and_eleven_bytes(rt: HostRuntime) {
+    let mut record = empty(&rt, rt.alloc());
+    assert!(rt; record.has_room(5));
+    assert_eq!(rt; put_round(&mut record, 1), Ok(()));
+    let mut disk = record.close();
+    check_round(&rt, &mut disk);
+    assert_eq!(rt; opened(&rt, rt.alloc(), disk).round(), 1);
+}
+
+fn put_seventy(rt: &impl Abort, alloc: Global, record: &mut Record<MemDisk>) {
+    let ballot = ballot(rt, 1);
     for number in 1..71u8 {
-        let (instance, ballot) = first_ballot(u32::from(number))?;
-        put_promise(&mut record, instance, ballot)?;
-        put_vote(&mut record, instance, ballot, &[number; 1000])?;
+        let at = instance(rt, u32::from(number));
+        assert_eq!(rt; put_promise(record, at, ballot), Ok(()));
+        let put = put_vote_for(rt, alloc, record, (at, ballot), &[number; 1000]);
+        assert_eq!(rt; put, Ok(()));
     }
-    let record = opened(alloc, record.close())?;
+}
+
+fn is_voted(slot: &Slot, ballot: Ballot, value: &[u8]) -> bool {
+    match &slot.vote {
+        Some(vote) => vote.ballot == ballot && vote.value.as_bytes() == value,
+        None => false,
+    }
+}
+
+fn read_seventy(rt: &impl Abort, record: &Record<MemDisk>) {
+    let ballot = ballot(rt, 1);
     for number in 1..71u8 {
-        let (instance, ballot) = first_ballot(u32::from(number))?;
-        let slot = record.slot(instance);
+        let slot = record.slot(instance(rt, u32::from(number)));
         assert_eq!(rt; slot.promised, Some(ballot));
-        let Some(vote) = &slot.vote else {
-            return Err(Fail::new("a vote is missing"));
-        };
-        assert_eq!(rt; vote.ballot, ballot);
-        assert!(rt; vote.value.as_bytes() == [number; 1000].as_slice());
+        assert!(rt; is_voted(slot, ballot, &[number; 1000]));
     }
-    Ok(())
+}
+
+#[test]
+fn seventy_votes_read_back(rt: HostRuntime) {
+    let mut record = empty(&rt, rt.alloc());
+    put_seventy(&rt, rt.alloc(), &mut record);
+    read_seventy(&rt, &opened(&rt, rt.alloc(), record.close()));
 }

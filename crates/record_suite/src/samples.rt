@@ -8,9 +8,9 @@ use crate::history::is_free_below;
 use acceptor::{PrepareVerdict, ProposeVerdict, judge_prepare, judge_propose};
 use durable::{Record, RecordFault};
 use site_disk::{Disk, MemDisk};
-use site_ids::{Ballot, Cluster, Instance, MAX_VALUE, NodeId};
+use site_ids::{Ballot, Cluster, Instance, MAX_VALUE, NodeId, Value};
 use std::alloc::Global;
-use std::test::Fail;
+use std::process::Abort;
 
 /// Node 2 of 3, which promised ballot (1, 1) at instance 1.
 pub const ONE_PROMISE: [u8; 26] =
@@ -20,57 +20,58 @@ pub const ONE_PROMISE: [u8; 26] =
 pub const ONE_ROUND: [u8; 21] = *b"SITEREC1\x02\x03\x01\x00\x00\x00\x05\x01\x00\x00\x00\x01\x00";
 
 /// A cluster of three, and a node of it.
-pub fn one_of_three(node: u8) -> Result<(Cluster, NodeId), Fail> {
-    let Some(cluster) = Cluster::new(3) else {
-        return Err(Fail::new("no cluster of three"));
-    };
-    match cluster.node(node) {
-        Some(node) => Ok((cluster, node)),
-        None => Err(Fail::new("no node of three")),
-    }
+pub fn one_of_three(rt: &impl Abort, number: u8) -> (Cluster, NodeId) {
+    let cluster = Cluster::new(3).expect(rt, "a cluster");
+    (cluster, cluster.node(number).expect(rt, "a node"))
 }
 
-/// An instance, and a ballot of node 1 in round 1.
-pub fn first_ballot(instance: u32) -> Result<(Instance, Ballot), Fail> {
-    let (_, node) = one_of_three(1)?;
-    match (Instance::new(instance), Ballot::new(1, node)) {
-        (Some(instance), Some(ballot)) => Ok((instance, ballot)),
-        _ => Err(Fail::new("no instance or ballot")),
-    }
+pub fn instance(rt: &impl Abort, number: u32) -> Instance {
+    Instance::new(number).expect(rt, "an instance")
+}
+
+/// A ballot of node 1.
+pub fn ballot(rt: &impl Abort, round: u32) -> Ballot {
+    let (_, node) = one_of_three(rt, 1);
+    Ballot::new(round, node).expect(rt, "a ballot")
 }
 
 /// A disk that holds these bytes, all of them synced.
-pub fn disk_of(alloc: Global, bytes: &[u8]) -> Result<MemDisk, Fail> {
+pub fn disk_of(rt: &impl Abort, alloc: Global, bytes: &[u8]) -> MemDisk {
     let mut disk = MemDisk::new(alloc);
-    disk.write_at(0, bytes)?;
-    disk.sync()?;
-    Ok(disk)
+    disk.write_at(0, bytes).expect(rt, "a write");
+    disk.sync().expect(rt, "a sync");
+    disk
 }
 
 /// An empty record's disk, with an empty list of calls.
-pub fn formatted(alloc: Global) -> Result<MemDisk, Fail> {
-    let (cluster, node) = one_of_three(2)?;
+pub fn formatted(rt: &impl Abort, alloc: Global) -> MemDisk {
+    let (cluster, node) = one_of_three(rt, 2);
     let mut disk = MemDisk::new(alloc);
-    Record::format(cluster, node, &mut disk)?;
+    Record::format(cluster, node, &mut disk).expect(rt, "a record");
     disk.crash(0);
-    Ok(disk)
+    disk
 }
 
 /// The record of node 2 of three.
-pub fn opened<D: Disk + Drop>(alloc: Global, disk: D) -> Result<Record<D>, Fail> {
-    let (cluster, node) = one_of_three(2)?;
+pub fn opened<D: Disk + Drop>(rt: &impl Abort, alloc: Global, disk: D) -> Record<D> {
+    let (cluster, node) = one_of_three(rt, 2);
     match Record::open(alloc, cluster, node, disk) {
-        Ok(record) => Ok(record),
-        Err((fault, _disk)) => Err(Fail::new(fault)),
+        Ok(record) => record,
+        Err((fault, _disk)) => panic!(rt; "{fault:?}"),
     }
 }
 
+/// Node 2's empty record.
+pub fn empty(rt: &impl Abort, alloc: Global) -> Record<MemDisk> {
+    opened(rt, alloc, formatted(rt, alloc))
+}
+
 /// Why these bytes are refused to a node of three, if they are.
-pub fn refusal(alloc: Global, node: u8, bytes: &[u8]) -> Result<Option<RecordFault>, Fail> {
-    let (cluster, node) = one_of_three(node)?;
-    match Record::open(alloc, cluster, node, disk_of(alloc, bytes)?) {
-        Ok(_record) => Ok(None),
-        Err((fault, _disk)) => Ok(Some(fault)),
+pub fn refusal(rt: &impl Abort, alloc: Global, number: u8, bytes: &[u8]) -> Option<RecordFault> {
+    let (cluster, node) = one_of_three(rt, number);
+    match Record::open(alloc, cluster, node, disk_of(rt, alloc, bytes)) {
+        Ok(_record) => None,
+        Err((fault, _disk)) => Some(fault),
     }
 }
 
@@ -136,17 +137,32 @@ pub fn put_span<D: Disk>(
     }
 }
 
+/// Puts a vote for these bytes.
+pub fn put_vote_for<D: Disk>(
+    rt: &impl Abort,
+    alloc: Global,
+    record: &mut Record<D>,
+    vote: (Instance, Ballot),
+    bytes: &[u8],
+) -> Result<(), RecordFault> {
+    let (instance, ballot) = vote;
+    let value = Value::copied_from(alloc, bytes).expect(rt, "memory");
+    put_vote(record, instance, ballot, &value)
+}
+
 /// Puts a vote. `NotARecord` where an acceptor wouldn't vote.
-pub fn put_vote<D: Disk>(
+fn put_vote<D: Disk>(
     record: &mut Record<D>,
     instance: Instance,
     ballot: Ballot,
-    value: &[u8],
+    value: &Value,
 ) -> Result<(), RecordFault> {
-    if record.cluster().node(ballot.node().number()).is_none() || value.len() > MAX_VALUE {
+    if record.cluster().node(ballot.node().number()).is_none()
+        || value.as_bytes().len() > MAX_VALUE
+    {
         return Err(RecordFault::NotARecord);
     }
-    match judge_propose(record.slot(instance), ballot, value) {
+    match judge_propose(record.slot(instance), ballot, value.as_bytes()) {
         ProposeVerdict::Vote => record.put_vote(instance, ballot, value),
         _ => Err(RecordFault::NotARecord),
     }

@@ -1,14 +1,14 @@
 //! The promise of a span on record.
 use crate::listed::SPANNED;
 use crate::samples::{
-    disk_of, first_ballot, formatted, one_of_three, opened, put_promise, put_span, put_vote,
-    refusal,
+    ballot, empty, instance, opened, put_promise, put_span, put_vote_for, refusal,
 };
+use acceptor::Slot;
 use durable::{Record, RecordFault};
-use site_disk::{Armed, Disk};
-use site_ids::{Ballot, Instance, MAX_INSTANCE};
-use std::alloc::Global;
-use std::test::Fail;
+use site_disk::{Armed, Disk, MemDisk};
+use site_ids::MAX_INSTANCE;
+use std::alloc::{AllocError, Global};
+use std::process::Abort;
 
 /// How many calls of a put pass, what the crash chooses, and then the file's length and whether the promise is kept.
 const CRASHES: [(u32, u8, u64, bool); 15] = [
@@ -29,140 +29,202 @@ const CRASHES: [(u32, u8, u64, bool); 15] = [
     (4, 7, 27, true),
 ];
 
-/// A ballot of node 1.
-fn ballot(round: u32) -> Result<Ballot, Fail> {
-    let (_, node) = one_of_three(1)?;
-    match Ballot::new(round, node) {
-        Some(ballot) => Ok(ballot),
-        None => Err(Fail::new("no ballot")),
+/// What is put, and what is found then. A ballot is its round, of node 1.
+#[derive(Clone, Copy, Debug)]
+enum Step {
+    /// A promise at an instance.
+    Promise(u32, u32),
+    /// A vote at an instance for a text.
+    Vote(u32, u32, &'static str),
+    /// The promise of a span from an instance on, of so many.
+    Span(u32, u8, u32),
+    /// The same is not to be put.
+    NoSpan(u32, u8, u32),
+    /// The rounds promised from an instance on, 0 where none is.
+    Promised(u32, &'static [u32]),
+    /// What is voted for at an instance.
+    Voted(u32, &'static str),
+    GreatestRound(u32),
+}
+
+fn promised_round(slot: &Slot) -> u32 {
+    match slot.promised {
+        Some(promised) => promised.round(),
+        None => 0,
     }
 }
 
-fn instance(number: u32) -> Result<Instance, Fail> {
-    match Instance::new(number) {
-        Some(instance) => Ok(instance),
-        None => Err(Fail::new("no instance")),
+fn is_voted_for(slot: &Slot, text: &str) -> bool {
+    match &slot.vote {
+        Some(vote) => vote.value.as_bytes() == text.as_bytes(),
+        None => false,
     }
 }
 
-/// Whether the rounds promised from instance 4 on are these, 0 where none is.
-fn are_promised<D: Disk>(record: &Record<D>, rounds: &[u32]) -> Result<bool, Fail> {
-    for (number, want) in [4, 5, 6, 7, 8].iter().zip(rounds) {
-        let round = match record.slot(instance(*number)?).promised {
-            Some(promised) => promised.round(),
-            None => 0,
-        };
-        if round != *want {
-            return Ok(false);
+/// The rounds promised from an instance on are these.
+fn promises(rt: &impl Abort, record: &Record<MemDisk>, first: u32, rounds: &[u32]) {
+    for (at, round) in (first..=MAX_INSTANCE).zip(rounds) {
+        let promised = promised_round(record.slot(instance(rt, at)));
+        assert_eq!(rt; promised, *round, "at instance {at}");
+    }
+}
+
+/// Puts, where the step is one.
+fn put(
+    rt: &impl Abort,
+    alloc: Global,
+    record: &mut Record<MemDisk>,
+    step: Step,
+) -> Result<(), RecordFault> {
+    match step {
+        Step::Promise(at, round) => put_promise(record, instance(rt, at), ballot(rt, round)),
+        Step::Vote(at, round, text) => {
+            let vote = (instance(rt, at), ballot(rt, round));
+            put_vote_for(rt, alloc, record, vote, text.as_bytes())
         }
+        Step::Span(first, count, round) | Step::NoSpan(first, count, round) => {
+            put_span(record, instance(rt, first), count, ballot(rt, round))
+        }
+        _ => Ok(()),
     }
-    Ok(true)
+}
+
+fn look(rt: &impl Abort, record: &Record<MemDisk>, step: Step) {
+    match step {
+        Step::Promised(first, rounds) => promises(rt, record, first, rounds),
+        Step::Voted(at, text) => {
+            assert!(rt;
+                is_voted_for(record.slot(instance(rt, at)), text),
+                "{step:?}"
+            );
+        }
+        Step::GreatestRound(round) => assert_eq!(rt; record.greatest_round(), round),
+        _ => {}
+    }
+}
+
+fn act(rt: &impl Abort, alloc: Global, record: &mut Record<MemDisk>, step: Step) {
+    let wanted = match step {
+        Step::NoSpan(..) => Err(RecordFault::NotARecord),
+        _ => Ok(()),
+    };
+    assert_eq!(rt; put(rt, alloc, record, step), wanted, "{step:?}");
+    look(rt, record, step);
+}
+
+fn act_all(rt: &impl Abort, alloc: Global, record: &mut Record<MemDisk>, steps: &[Step]) {
+    for step in steps {
+        act(rt, alloc, record, *step);
+    }
+}
+
+/// Steps of an empty record, and further ones where it was closed and opened again.
+fn play(rt: &impl Abort, alloc: Global, before: &[Step], behind: &[Step]) {
+    let mut record = empty(rt, alloc);
+    act_all(rt, alloc, &mut record, before);
+    let mut record = opened(rt, alloc, record.close());
+    act_all(rt, alloc, &mut record, behind);
+}
+
+/// The disk has these bytes, behind so many calls.
+fn is_spanned(rt: &impl Abort, disk: &mut MemDisk) {
+    assert_eq!(rt; disk.calls().len(), 8);
+    let mut bytes = [0; 27];
+    disk.read_at(0, &mut bytes).expect(rt, "a read");
+    assert_eq!(rt; bytes, SPANNED);
+    assert_eq!(rt; disk.len(), Ok(27));
+}
+
+#[test]
+fn a_span_is_one_entry_of_sixteen_bytes(rt: HostRuntime) {
+    let promised = [Step::Span(5, 3, 1), Step::Promised(4, &[0, 1, 1, 1, 0])];
+    let mut record = empty(&rt, rt.alloc());
+    act_all(&rt, rt.alloc(), &mut record, &promised);
+    let mut disk = record.close();
+    is_spanned(&rt, &mut disk);
+    let record = opened(&rt, rt.alloc(), disk);
+    promises(&rt, &record, 4, &[0, 1, 1, 1, 0]);
+}
+
+#[test]
+fn a_span_raises_what_is_lower(rt: HostRuntime) {
+    let before = [
+        Step::Promise(6, 3),
+        Step::Promise(7, 1),
+        Step::Vote(7, 1, "v"),
+        Step::Span(5, 3, 2),
+        Step::Promised(4, &[0, 2, 3, 2, 0]),
+        Step::Vote(6, 3, "w"),
+        Step::NoSpan(5, 3, 2),
+        Step::Span(7, 2, 2),
+    ];
+    let behind = [
+        Step::Promised(4, &[0, 2, 3, 2, 2, 0]),
+        Step::GreatestRound(3),
+        Step::Voted(6, "w"),
+        Step::Voted(7, "v"),
+    ];
+    play(&rt, rt.alloc(), &before, &behind);
 }
 
 /// So many bytes of the file, and a span once more behind them.
-fn twice(alloc: Global) -> Result<Vec<u8>, Fail> {
+fn twice(alloc: Global) -> Result<Vec<u8>, AllocError> {
     let mut bytes = Vec::from_slice(alloc, &SPANNED[..26])?;
     bytes.extend_from_slice(&SPANNED[10..])?;
     Ok(bytes)
 }
 
 #[test]
-fn a_span_is_one_entry_of_sixteen_bytes(rt: HostRuntime) -> Result<(), Fail> {
-    let alloc = rt.alloc();
-    let mut record = opened(alloc, formatted(alloc)?)?;
-    let (first, promised) = first_ballot(5)?;
-    put_span(&mut record, first, 3, promised)?;
-    assert!(rt; are_promised(&record, &[0, 1, 1, 1, 0])?);
-    let mut disk = record.close();
-    assert_eq!(rt; disk.calls().len(), 8);
-    let mut bytes = [0; 27];
-    disk.read_at(0, &mut bytes)?;
-    assert_eq!(rt; bytes, SPANNED);
-    assert_eq!(rt; disk.len()?, 27);
-    assert!(rt; are_promised(&opened(alloc, disk)?, &[0, 1, 1, 1, 0])?);
-    Ok(())
-}
-
-#[test]
-fn a_span_raises_what_is_lower(rt: HostRuntime) -> Result<(), Fail> {
-    let alloc = rt.alloc();
-    let mut record = opened(alloc, formatted(alloc)?)?;
-    put_promise(&mut record, instance(6)?, ballot(3)?)?;
-    put_promise(&mut record, instance(7)?, ballot(1)?)?;
-    put_vote(&mut record, instance(7)?, ballot(1)?, b"v")?;
-    put_span(&mut record, instance(5)?, 3, ballot(2)?)?;
-    assert!(rt; are_promised(&record, &[0, 2, 3, 2, 0])?);
-    put_vote(&mut record, instance(6)?, ballot(3)?, b"w")?;
+fn a_span_that_raises_nothing_is_damage(rt: HostRuntime) {
+    assert_eq!(rt; refusal(&rt, rt.alloc(), 2, &SPANNED), None);
+    let bytes = twice(rt.alloc()).expect(&rt, "memory");
     assert_eq!(rt;
-        put_span(&mut record, instance(5)?, 3, ballot(2)?),
-        Err(RecordFault::NotARecord)
-    );
-    put_span(&mut record, instance(7)?, 2, ballot(2)?)?;
-    let record = opened(alloc, record.close())?;
-    assert!(rt; are_promised(&record, &[0, 2, 3, 2, 2, 0])?);
-    assert_eq!(rt; record.greatest_round(), 3);
-    for (number, value) in [(6, b"w"), (7, b"v")] {
-        let Some(vote) = &record.slot(instance(number)?).vote else {
-            return Err(Fail::new("a vote is missing"));
-        };
-        assert!(rt; vote.value.as_bytes() == value.as_slice());
-    }
-    Ok(())
-}
-
-#[test]
-fn a_span_that_raises_nothing_is_damage(rt: HostRuntime) -> Result<(), Fail> {
-    let alloc = rt.alloc();
-    assert_eq!(rt; refusal(alloc, 2, &SPANNED)?, None);
-    assert_eq!(rt;
-        refusal(alloc, 2, &twice(alloc)?)?,
+        refusal(&rt, rt.alloc(), 2, &bytes),
         Some(RecordFault::Damaged)
     );
-    Ok(())
 }
 
 #[test]
-fn spans_of_sixty_four_up_to_the_last_instance(rt: HostRuntime) -> Result<(), Fail> {
-    let alloc = rt.alloc();
-    let mut record = opened(alloc, formatted(alloc)?)?;
-    let last = instance(MAX_INSTANCE)?;
-    put_span(&mut record, instance(MAX_INSTANCE - 63)?, 64, ballot(1)?)?;
-    assert_eq!(rt;
-        put_span(&mut record, instance(MAX_INSTANCE - 62)?, 64, ballot(2)?),
-        Err(RecordFault::NotARecord)
-    );
-    assert_eq!(rt;
-        put_span(&mut record, last, 1, ballot(2)?),
-        Err(RecordFault::NotARecord)
-    );
-    let record = opened(alloc, record.close())?;
-    assert_eq!(rt; record.slot(last).promised, Some(ballot(1)?));
-    assert_eq!(rt; record.slot(instance(MAX_INSTANCE - 64)?).promised, None);
-    Ok(())
+fn spans_of_sixty_four_up_to_the_last_instance(rt: HostRuntime) {
+    let before = [
+        Step::Span(MAX_INSTANCE - 63, 64, 1),
+        Step::NoSpan(MAX_INSTANCE - 62, 64, 2),
+        Step::NoSpan(MAX_INSTANCE, 1, 2),
+    ];
+    let behind = [
+        Step::Promised(MAX_INSTANCE, &[1]),
+        Step::Promised(MAX_INSTANCE - 64, &[0]),
+    ];
+    play(&rt, rt.alloc(), &before, &behind);
 }
 
-#[test]
-fn a_crash_after_each_call_keeps_the_span_or_not(rt: HostRuntime) -> Result<(), Fail> {
-    let alloc = rt.alloc();
-    let (first, promised) = first_ballot(5)?;
-    for (calls, choice, length, kept) in CRASHES {
-        let mut record = opened(alloc, formatted(alloc)?)?;
-        record.arm(calls);
-        let put = put_span(&mut record, first, 3, promised);
-        if calls < 4 {
-            assert_eq!(rt; put, Err(RecordFault::Device));
-            assert!(rt; are_promised(&record, &[0, 0, 0, 0, 0])?);
-        } else {
-            assert_eq!(rt; put, Ok(()));
-        }
-        let mut disk = record.close();
-        disk.crash(choice);
-        assert_eq!(rt; disk.len()?, length, "{calls} {choice}");
-        let round = u32::from(kept);
-        assert!(rt;
-            are_promised(&opened(alloc, disk)?, &[0, round, round, round, 0])?,
-            "{calls} {choice}"
-        );
+/// A put of the span whose disk fails after so many calls, if it makes so many.
+fn put_armed(rt: &impl Abort, record: &mut Record<MemDisk>, calls: u32) {
+    record.arm(calls);
+    let put = put_span(record, instance(rt, 5), 3, ballot(rt, 1));
+    if calls < 4 {
+        assert_eq!(rt; put, Err(RecordFault::Device));
+        promises(rt, record, 4, &[0, 0, 0, 0, 0]);
+    } else {
+        assert_eq!(rt; put, Ok(()));
     }
-    Ok(())
+}
+
+fn crash(rt: &impl Abort, alloc: Global, row: (u32, u8, u64, bool)) {
+    let (calls, choice, length, kept) = row;
+    let mut record = empty(rt, alloc);
+    put_armed(rt, &mut record, calls);
+    let mut disk = record.close();
+    disk.crash(choice);
+    assert_eq!(rt; disk.len(), Ok(length), "{calls} {choice}");
+    let round = u32::from(kept);
+    let record = opened(rt, alloc, disk);
+    promises(rt, &record, 4, &[0, round, round, round, 0]);
+}
+
+#[test]
+fn a_crash_after_each_call_keeps_the_span_or_not(rt: HostRuntime) {
+    for row in CRASHES {
+        crash(&rt, rt.alloc(), row);
+    }
 }

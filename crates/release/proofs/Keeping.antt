@@ -1,6 +1,6 @@
 -- What is kept beside the values, after one more value.
-use Rattle.std.proofs.Common.{◌≡◌, ◌≢◌, ◌⊎◌, inl, inr, ℕ, zero, suc, ◌+◌, ◌<◌, ◌≤◌, List, [], ◌∷◌, ◌++◌, length, map, Vec, Global, Bool, true, false, cond, Some, Result, Ok, Err, refl, sym, ap, subst, ◌∙◌, arith, append-nil, append_assoc}
-use Rattle.std.proofs.lemmas.List.{length-append, length-map, map-append}
+use Rattle.std.proofs.Common.{◌≡◌, ◌≢◌, ◌⊎◌, inl, inr, ℕ, zero, suc, ◌+◌, ◌<◌, ◌≤◌, List, [], ◌∷◌, ◌++◌, length, Bool, true, false, cond, Some, Result, Ok, Err, refl, sym, ap, subst, ◌∙◌, arith, append-nil, append_assoc}
+use Rattle.std.proofs.lemmas.List.{length-append}
 use Rattle.std.proofs.lemmas.Option.{none-some, same_Some, slice_get_within}
 use Rattle.std.specs.BTreeMap.{BTreeMap, get, is_at, Updates}
 use Rattle.std.specs.List.{slice_get}
@@ -27,12 +27,6 @@ use Rattle.release.specs.Keeping.{Keeps, ticket_cmp}
 use Rattle.release.specs.declared.kept.Kept.{Kept}
 use Rattle.release.proofs.MoreValues.{one_if_released, counts, through_last}
 use Rattle.release.proofs.Receipts.{has_receipt, no_command_keeps, repeat_keeps, new_receipt}
-
-abbrev pub bytes : Vec ℕ Global → List ℕ
-bytes v = v.items
-
-pub fed_more : (old new : List (Vec ℕ Global)) (v : Vec ℕ Global) → new ≡ old ++ v ∷ [] → map bytes new ≡ map bytes old ++ v.items ∷ []
-fed_more old new v is = ap (map bytes) is ∙ map-append bytes old (v ∷ [])
 
 -- ---- what a value is answered with
 
@@ -193,14 +187,14 @@ released values v o i live site kept receipts new is few reads done stands place
 -- ---- the same of what is kept in memory, whatever room is made in it
 
 abbrev pub IsWhole : Kept SiteSeen → Type 0
-IsWhole k = Keeps (map bytes k.fed.items) k.live k.sites.items k.receipts
+IsWhole k = Keeps (k.fed.items) k.live k.sites.items k.receipts
 
-abbrev Fed : Kept SiteSeen → Kept SiteSeen → Vec ℕ Global → Type 0
+abbrev Fed : Kept SiteSeen → Kept SiteSeen → List ℕ → Type 0
 Fed old new v = new.fed.items ≡ old.fed.items ++ v ∷ []
 
 pub whole_still : (old new : Kept SiteSeen) → new.fed.items ≡ old.fed.items → new.live ≡ old.live → new.sites.items ≡ old.sites.items → new.receipts.entries ≡ old.receipts.entries → IsWhole old → IsWhole new
 whole_still old new fed live sites receipts is =
-    let found : Keeps (map bytes old.fed.items) old.live old.sites.items new.receipts = record {
+    let found : Keeps (old.fed.items) old.live old.sites.items new.receipts = record {
       few = is.few;
       stands = is.stands;
       count = is.count;
@@ -209,28 +203,28 @@ whole_still old new fed live sites receipts is =
     } in
     rw (fed, live, sites) found
 
-pub whole_passed : (old new : Kept SiteSeen) (v : Vec ℕ Global) (values : List (List ℕ)) → map bytes old.fed.items ≡ values → new.live ≡ old.live → new.sites.items ≡ old.sites.items → new.receipts ≡ old.receipts → Fed old new v
-    → IsWhole old → length values < MAX_INSTANCE → applied values v.items ≢ Changed → applied values v.items ≢ Released → IsWhole new
+pub whole_passed : (old new : Kept SiteSeen) (v : List ℕ) (values : List (List ℕ)) → old.fed.items ≡ values → new.live ≡ old.live → new.sites.items ≡ old.sites.items → new.receipts ≡ old.receipts → Fed old new v
+    → IsWhole old → length values < MAX_INSTANCE → applied values v ≢ Changed → applied values v ≢ Released → IsWhole new
 whole_passed old new v values are live sites receipts fed is few unchanged none =
-    let more = fed_more old.fed.items new.fed.items v fed ∙ ap (λ vs. vs ++ v.items ∷ []) are in
-    rw (more, live, sites, receipts) (passed values v.items old.live old.sites.items old.receipts (subst (λ vs. Keeps vs old.live old.sites.items old.receipts) are is) few unchanged none)
+    let more = fed ∙ ap (λ vs. vs ++ v ∷ []) are in
+    rw (more, live, sites, receipts) (passed values v old.live old.sites.items old.receipts (subst (λ vs. Keeps vs old.live old.sites.items old.receipts) are is) few unchanged none)
 
-pub whole_changed : (old new : Kept SiteSeen) (v : Vec ℕ Global) (values : List (List ℕ)) (o : Order) (ticket : Ticket) (site : SiteSeen) → map bytes old.fed.items ≡ values → Fed old new v
+pub whole_changed : (old new : Kept SiteSeen) (v : List ℕ) (values : List (List ℕ)) (o : Order) (ticket : Ticket) (site : SiteSeen) → old.fed.items ≡ values → Fed old new v
     → new.live ≡ site → new.sites.items ≡ old.sites.items ++ [] → Updates ticket_cmp old.receipts new.receipts ticket (Some (length old.fed.items + 1)) → o.ticket ≡ ticket
-    → IsWhole old → length values < MAX_INSTANCE → value_reading v.items ≡ Ok o → Changed ≡ applied values v.items → IsSiteOf site (values ++ v.items ∷ []) → IsWhole new
+    → IsWhole old → length values < MAX_INSTANCE → value_reading v ≡ Ok o → Changed ≡ applied values v → IsSiteOf site (values ++ v ∷ []) → IsWhole new
 whole_changed old new v values o ticket site are fed live sites updates same is few reads done stands =
-    let more = fed_more old.fed.items new.fed.items v fed ∙ ap (λ vs. vs ++ v.items ∷ []) are in
-    let long : length old.fed.items ≡ length values = sym (length-map old.fed.items bytes) ∙ ap length are in
+    let more = fed ∙ ap (λ vs. vs ++ v ∷ []) are in
+    let long : length old.fed.items ≡ length values = ap length are in
     rw (more, live, sites ∙ append-nil old.sites.items)
-    (changed values v.items o (length old.fed.items + 1) old.live site old.sites.items old.receipts new.receipts (subst (λ vs. Keeps vs old.live old.sites.items old.receipts) are is) few reads (sym done) stands
+    (changed values v o (length old.fed.items + 1) old.live site old.sites.items old.receipts new.receipts (subst (λ vs. Keeps vs old.live old.sites.items old.receipts) are is) few reads (sym done) stands
     (omega (arith, long)) (subst (λ t. Updates ticket_cmp old.receipts new.receipts t (Some (length old.fed.items + 1))) (sym same) updates))
 
-pub whole_released : (old new : Kept SiteSeen) (v : Vec ℕ Global) (values : List (List ℕ)) (o : Order) (ticket : Ticket) (site copy : SiteSeen) → map bytes old.fed.items ≡ values → Fed old new v
+pub whole_released : (old new : Kept SiteSeen) (v : List ℕ) (values : List (List ℕ)) (o : Order) (ticket : Ticket) (site copy : SiteSeen) → old.fed.items ≡ values → Fed old new v
     → new.live ≡ site → new.sites.items ≡ old.sites.items ++ copy ∷ [] → copy ≡ site → Updates ticket_cmp old.receipts new.receipts ticket (Some (length old.fed.items + 1)) → o.ticket ≡ ticket
-    → IsWhole old → length values < MAX_INSTANCE → value_reading v.items ≡ Ok o → Released ≡ applied values v.items → IsSiteOf site (values ++ v.items ∷ []) → IsWhole new
+    → IsWhole old → length values < MAX_INSTANCE → value_reading v ≡ Ok o → Released ≡ applied values v → IsSiteOf site (values ++ v ∷ []) → IsWhole new
 whole_released old new v values o ticket site copy are fed live sites alike updates same is few reads done stands =
-    let more = fed_more old.fed.items new.fed.items v fed ∙ ap (λ vs. vs ++ v.items ∷ []) are in
-    let long : length old.fed.items ≡ length values = sym (length-map old.fed.items bytes) ∙ ap length are in
+    let more = fed ∙ ap (λ vs. vs ++ v ∷ []) are in
+    let long : length old.fed.items ≡ length values = ap length are in
     rw (more, live, sites ∙ ap (λ s. old.sites.items ++ s ∷ []) alike)
-    (released values v.items o (length old.fed.items + 1) old.live site old.sites.items old.receipts new.receipts (subst (λ vs. Keeps vs old.live old.sites.items old.receipts) are is) few reads (sym done) stands
+    (released values v o (length old.fed.items + 1) old.live site old.sites.items old.receipts new.receipts (subst (λ vs. Keeps vs old.live old.sites.items old.receipts) are is) few reads (sym done) stands
     (omega (arith, long)) (subst (λ t. Updates ticket_cmp old.receipts new.receipts t (Some (length old.fed.items + 1))) (sym same) updates))

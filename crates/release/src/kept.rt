@@ -4,14 +4,14 @@ ghost use Rattle.std.specs.BTreeMap.{Updates};
 ghost use Rattle.site_ids.specs.declared.TheConstants.{MAX_INSTANCE};
 ghost use Rattle.release.specs.Keeping.{ticket_cmp, listed};
 
-use site_ids::{Instance, Ticket};
+use site_ids::{Instance, Ticket, Value};
 use std::alloc::AllocError;
 use std::collections::BTreeMap;
 
 /// The values, and beside them sites of any type and the receipts.
 #[derive(Drop)]
 pub(crate) struct Kept<S> {
-    pub fed: Vec<Vec<u8>>,
+    pub fed: Vec<Value>,
     /// The site of all values.
     pub live: S,
     /// The site of release n at place n - 1.
@@ -22,7 +22,7 @@ pub(crate) struct Kept<S> {
 /// A command that has an effect: its value and its ticket, the site that it leaves, and that of the release if it makes one.
 #[derive(Drop)]
 pub(crate) struct Effect<S> {
-    pub value: Vec<u8>,
+    pub value: Value,
     pub ticket: Ticket,
     pub site: S,
     pub release: Option<S>,

@@ -18,7 +18,7 @@ use crate::page::page;
 use crate::step::{Step, step_of};
 use command::{Command, CommandFault, read};
 use content::{Applied, Site};
-use site_ids::{Instance, Ticket};
+use site_ids::{Instance, Ticket, Value};
 use std::alloc::{AllocError, Global};
 use std::collections::BTreeMap;
 use std::marker::Model;
@@ -86,22 +86,31 @@ impl Releases {
         ensures ok { IfOk result (λ a. (self.new ≡ self.old ++ (value.now ∷ [])) × (a ≡ applied self.old value.now)) }
         ensures err { OnErr result (self.new ≡ self.old) }
     {
-        let kept = Vec::from_slice(self.alloc, value)?;
-        match read(self.alloc, value) {
-            Ok(command) => self.take_command(kept, command),
+        let value = Value::copied_from(self.alloc, value)?;
+        self.feed_value(value)
+    }
+
+    /// Takes the value of the next instance, without a copy.
+    pub fn feed_value(&mut self, value: Value) -> Result<Applied, AllocError>
+        requires { length self.old < MAX_INSTANCE }
+        ensures ok { IfOk result (λ a. (self.new ≡ self.old ++ (value ∷ [])) × (a ≡ applied self.old value)) }
+        ensures err { OnErr result (self.new ≡ self.old) }
+    {
+        match read(self.alloc, value.as_bytes()) {
+            Ok(command) => self.feed_command(value, command),
             Err(fault) => {
                 no_command(fault)?;
-                self.pass(kept)?;
+                self.pass(value)?;
                 Ok(Applied::NotACommand)
             }
         }
     }
 
-    /// Takes a value that is a command.
-    fn take_command(&mut self, value: Vec<u8>, command: Command) -> Result<Applied, AllocError>
+    /// Takes the value of the next instance, which was read as this command.
+    pub fn feed_command(&mut self, value: Value, command: Command) -> Result<Applied, AllocError>
         requires few { length self.old < MAX_INSTANCE }
-        requires reads { (order : Order) × (value_reading value.items ≡ Ok order) × StandsFor command order }
-        ensures ok { IfOk result (λ a. (self.new ≡ self.old ++ (value.items ∷ [])) × (a ≡ applied self.old value.items)) }
+        requires reads { (order : Order) × (value_reading value ≡ Ok order) × StandsFor command order }
+        ensures ok { IfOk result (λ a. (self.new ≡ self.old ++ (value ∷ [])) × (a ≡ applied self.old value)) }
         ensures err { OnErr result (self.new ≡ self.old) }
     {
         let ticket = command.ticket;
@@ -132,10 +141,10 @@ impl Releases {
     }
 
     /// Takes a value that has no effect.
-    fn pass(&mut self, value: Vec<u8>) -> Result<(), AllocError>
+    fn pass(&mut self, value: Value) -> Result<(), AllocError>
         requires few { length self.old < MAX_INSTANCE }
-        requires passes { (applied self.old value.items ≢ Applied.Changed) × (applied self.old value.items ≢ Applied.Released) }
-        ensures ok { OnOk result (self.new ≡ self.old ++ (value.items ∷ [])) }
+        requires passes { (applied self.old value ≢ Applied.Changed) × (applied self.old value ≢ Applied.Released) }
+        ensures ok { OnOk result (self.new ≡ self.old ++ (value ∷ [])) }
         ensures err { OnErr result (self.new ≡ self.old) }
     {
         self.kept.fed.push(value)?;

@@ -77,7 +77,7 @@ fn event_in(alloc: Global, line: &Line<'_>) -> Result<Option<Event>, AllocError>
 {
     let event = match line {
         Line::Submit { node, ticket, text } => {
-            let value = Value::from_bytes(write(alloc, *ticket, text)?);
+            let value = Value::from_bytes(write(alloc, *ticket, text)?)?;
             Event::Submit { node: *node, value }
         }
         Line::Tick { node } => Event::Tick { node: *node },

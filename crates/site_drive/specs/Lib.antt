@@ -3,3 +3,4 @@ pub mod Memory
 pub mod Sending
 pub mod Drives
 pub mod Leading
+pub mod Ending

@@ -5,6 +5,7 @@ ghost use Rattle.node.specs.Standing.{CountsDevice};
 ghost use Rattle.site_drive.specs.Links.{RoseBy};
 ghost use Rattle.site_drive.specs.Sending.{Counted};
 ghost use Rattle.site_drive.specs.Drives.{Exchanges, GivesUp, DrivesWith, GivesUpDrivingWith, Drives, GivesUpDriving};
+ghost use Rattle.site_drive.specs.Ending.{EndsDrive};
 ghost use Rattle.site_drive.specs.Leading.{LeadsTo, StaysWhose};
 
 use crate::desk::Desk;
@@ -40,9 +41,11 @@ impl Desk {
         Ok(malformed)
     }
 
-    /// Turns as those of `exchange`, and then these calls, of which what is handed out is sent. That every instance is known is passed over there.
+    /// So many turns: each receives at most one datagram, delivers what it spells, publishes, and sends what is handed out; and then these calls, of
+    /// which what is handed out is sent. That every instance is known is passed over there.
     ///
-    /// What an earlier drive left on the desk does not count.
+    /// A datagram that spells no message and a call of the link that fails are counted and passed over, as losses. What an earlier drive left on the
+    /// desk does not count.
     pub fn drive_with<D: Disk, L: Link>(
         &mut self,
         node: &mut Node<D>,
@@ -50,14 +53,8 @@ impl Desk {
         turns: u32,
         last: LastCall,
     ) -> Result<Driven, NodeFault>
-        ensures ok { IfOk result (λ driven. LeadsTo D.stands_for L.received L.given node.old node.new link.old link.new (DrivesWith last node.old.cluster node.old.me turns driven.malformed node.new.releases)) }
-        ensures fault { IfErr result (λ fault. LeadsTo D.stands_for L.received L.given node.old node.new link.old link.new (GivesUpDrivingWith last node.old.cluster node.old.me turns fault)) }
-        ensures whose { StaysWhose node.old node.new }
-        ensures tried { OnOk result (RoseBy turns (L.tried link.old) (L.tried link.new)) }
-        ensures tried_fewer { OnErr result ((made : ℕ) × (made ≤ turns) × RoseBy made (L.tried link.old) (L.tried link.new)) }
-        ensures failed { IfOk result (λ driven. RoseBy driven.failed (L.failed link.old) (L.failed link.new)) }
-        ensures failed_too { OnErr result ((calls : ℕ) × RoseBy calls (L.failed link.old) (L.failed link.new)) }
-        ensures counts { CountsDevice result (D.failed node.old.store.disk) (D.failed node.new.store.disk) }
+        ensures { EndsDrive D.stands_for D.failed L.received L.given L.tried L.failed turns node.old node.new link.old link.new result
+            (λ driven. DrivesWith last node.old.cluster node.old.me turns driven.malformed node.new.releases) (GivesUpDrivingWith last node.old.cluster node.old.me turns) }
     {
         self.outbox.clear();
         self.failed = 0;
@@ -70,47 +67,15 @@ impl Desk {
     }
 }
 
-/// So many turns: each receives at most one datagram, delivers what it spells, publishes, and sends what is handed out.
-///
-/// A datagram that spells no message and a call of the link that fails are counted and passed over, as losses.
-pub fn exchange<D: Disk, L: Link>(
-    alloc: Global,
-    node: &mut Node<D>,
-    link: &mut L,
-    turns: u32,
-) -> Result<Driven, NodeFault>
-    ensures ok { IfOk result (λ driven. LeadsTo D.stands_for L.received L.given node.old node.new link.old link.new (Exchanges node.old.cluster node.old.me turns driven.malformed node.new.releases)) }
-    ensures fault { IfErr result (λ fault. LeadsTo D.stands_for L.received L.given node.old node.new link.old link.new (GivesUp node.old.cluster node.old.me turns fault)) }
-    ensures whose { StaysWhose node.old node.new }
-    ensures tried { OnOk result (RoseBy turns (L.tried link.old) (L.tried link.new)) }
-    ensures tried_fewer { OnErr result ((made : ℕ) × (made ≤ turns) × RoseBy made (L.tried link.old) (L.tried link.new)) }
-    ensures failed { IfOk result (λ driven. RoseBy driven.failed (L.failed link.old) (L.failed link.new)) }
-    ensures failed_too { OnErr result ((calls : ℕ) × RoseBy calls (L.failed link.old) (L.failed link.new)) }
-    ensures counts { CountsDevice result (D.failed node.old.store.disk) (D.failed node.new.store.disk) }
-{
-    let mut desk = Desk::new(alloc)?;
-    let malformed = desk.take_turns(node, link, turns)?;
-    Ok(Driven {
-        malformed,
-        failed: desk.failed,
-    })
-}
-
-/// Turns as those of `exchange`, and then a tick and widenings where a tick is wanted, and else a question.
+/// Turns as those of `Desk::drive_with`, and then a tick and widenings where a tick is wanted, and else a question.
 pub fn drive<D: Disk, L: Link>(
     alloc: Global,
     node: &mut Node<D>,
     link: &mut L,
     turns: u32,
 ) -> Result<Driven, NodeFault>
-    ensures ok { IfOk result (λ driven. LeadsTo D.stands_for L.received L.given node.old node.new link.old link.new (Drives node.old.cluster node.old.me turns driven.malformed node.new.releases)) }
-    ensures fault { IfErr result (λ fault. LeadsTo D.stands_for L.received L.given node.old node.new link.old link.new (GivesUpDriving node.old.cluster node.old.me turns fault)) }
-    ensures whose { StaysWhose node.old node.new }
-    ensures tried { OnOk result (RoseBy turns (L.tried link.old) (L.tried link.new)) }
-    ensures tried_fewer { OnErr result ((made : ℕ) × (made ≤ turns) × RoseBy made (L.tried link.old) (L.tried link.new)) }
-    ensures failed { IfOk result (λ driven. RoseBy driven.failed (L.failed link.old) (L.failed link.new)) }
-    ensures failed_too { OnErr result ((calls : ℕ) × RoseBy calls (L.failed link.old) (L.failed link.new)) }
-    ensures counts { CountsDevice result (D.failed node.old.store.disk) (D.failed node.new.store.disk) }
+    ensures { EndsDrive D.stands_for D.failed L.received L.given L.tried L.failed turns node.old node.new link.old link.new result
+        (λ driven. Drives node.old.cluster node.old.me turns driven.malformed node.new.releases) (GivesUpDriving node.old.cluster node.old.me turns) }
 {
     let mut desk = Desk::new(alloc)?;
     desk.drive_with(node, link, turns, LastCall::TickOrAsk)

@@ -15,7 +15,7 @@ mod udp;
 
 pub use desk::Desk;
 pub use driven::Driven;
-pub use driving::{drive, exchange};
+pub use driving::drive;
 pub use last_call::LastCall;
 pub use link::{Link, LinkFailed};
 pub use memory::MemLink;

@@ -5,35 +5,39 @@ ghost use Rattle.std.specs.Prelude.{◌≡◌, IfOk};
 use crate::Ballot;
 use std::alloc::{AllocError, Global};
 use std::marker::Model;
+use std::rc::RcSlice;
 
-/// The bytes of a value: a ticket and a command, or nothing, the no-op.
+/// The bytes of a value: a ticket and a command, or nothing, the no-op. Its copies share them.
 #[derive(Debug, Drop)]
 pub struct Value {
-    bytes: Vec<u8>,
+    bytes: RcSlice<u8>,
 }
 
 impl Model for Value {
     ghost use Rattle.std.specs.Prelude.{ℕ, List};
     ghost use Rattle.std.specs.Coded.{coded_ℕ, coded_list};
+    ghost use Rattle.std.specs.Rc.{rc_slice_items};
 
     ghost Value = { List ℕ };
 
     ghost coded = { coded_list coded_ℕ };
 
-    ghost view = { λ v. v.bytes.items };
+    ghost view = { λ v. rc_slice_items v.bytes };
 }
 
 impl Value {
-    pub fn from_bytes(bytes: Vec<u8>) -> Value
-        ensures { result ≡ bytes.items }
+    /// Takes these bytes, without a copy of them.
+    pub fn from_bytes(bytes: Vec<u8>) -> Result<Value, AllocError>
+        ensures { IfOk result (λ v. v ≡ bytes.items) }
     {
-        Value { bytes }
+        let bytes = RcSlice::from_vec(bytes)?;
+        Ok(Value { bytes })
     }
 
     pub fn copied_from(alloc: Global, bytes: &[u8]) -> Result<Value, AllocError>
         ensures { IfOk result (λ v. v ≡ bytes.now) }
     {
-        let bytes = Vec::from_slice(alloc, bytes)?;
+        let bytes = RcSlice::from_slice(alloc, bytes)?;
         Ok(Value { bytes })
     }
 
@@ -43,17 +47,12 @@ impl Value {
         self.bytes.as_slice()
     }
 
-    /// Gives the bytes back, without a copy.
-    pub fn into_bytes(self) -> Vec<u8>
-        ensures { result.items ≡ self }
-    {
-        self.bytes
-    }
-
-    pub fn try_clone(&self, alloc: Global) -> Result<Value, AllocError>
+    /// A copy that shares the bytes, and takes no memory.
+    pub fn try_clone(&self) -> Result<Value, AllocError>
         ensures { IfOk result (λ v. v ≡ self.now) }
     {
-        Value::copied_from(alloc, self.as_bytes())
+        let bytes = self.bytes.clone()?;
+        Ok(Value { bytes })
     }
 }
 
@@ -65,10 +64,11 @@ pub struct Vote {
 }
 
 impl Vote {
-    pub fn try_clone(&self, alloc: Global) -> Result<Vote, AllocError>
+    /// A copy that shares the value's bytes.
+    pub fn try_clone(&self) -> Result<Vote, AllocError>
         ensures { IfOk result (λ v. v ≡ self.now) }
     {
-        let value = self.value.try_clone(alloc)?;
+        let value = self.value.try_clone()?;
         Ok(Vote {
             ballot: self.ballot,
             value,

@@ -1,13 +1,23 @@
 //! What a node is asked as a service.
 
+ghost use Rattle.std.specs.Prelude.{◌≡◌, IfOk};
+ghost use Rattle.command.specs.Written.{value_of};
+
 use crate::Served;
 use command::write;
 use http_serve::{Service, Submission, SubmitFault};
 use node::{NodeFault, Submitted};
 use release::{Answer, AnswerFault};
 use site_disk::Disk;
-use site_ids::{Instance, Ticket};
-use std::alloc::Global;
+use site_ids::{Instance, Ticket, Value};
+use std::alloc::{AllocError, Global};
+
+/// A ticket and a text as a value.
+fn written(alloc: Global, ticket: Ticket, text: &[u8]) -> Result<Value, AllocError>
+    ensures { IfOk result (λ v. v ≡ value_of ticket text.now) }
+{
+    Value::from_bytes(write(alloc, ticket, text)?)
+}
 
 impl<D: Disk> Service for Served<D> {
     ghost use Rattle.site_serve.specs.Served.{offered};
@@ -32,8 +42,8 @@ impl<D: Disk> Service for Served<D> {
         ticket: Ticket,
         text: &[u8],
     ) -> Result<Submission, SubmitFault> {
-        let value = write(alloc, ticket, text)?;
-        match self.node.submit(value.as_slice()) {
+        let value = written(alloc, ticket, text)?;
+        match self.node.submit(&value) {
             Ok(Submitted::Queued) => Ok(Submission::Queued),
             Ok(Submitted::Already) => Ok(Submission::Already),
             Err(NodeFault::NotACommand(fault)) => Err(SubmitFault::Command(fault)),

@@ -7,7 +7,7 @@ use crate::passing::passed;
 use durable::{Record, RecordFault};
 use node::{Node, Outbox, To};
 use site_disk::MemDisk;
-use site_ids::{Ballot, Cluster, Instance, MAX_ROUND, NodeId};
+use site_ids::{Ballot, Cluster, Instance, MAX_ROUND, NodeId, Value};
 use std::alloc::{AllocError, Global};
 use std::mem;
 
@@ -57,7 +57,7 @@ impl Place {
         }
     }
 
-    pub(crate) fn submit(&mut self, value: &[u8]) -> Result<(), AllocError>
+    pub(crate) fn submit(&mut self, value: &Value) -> Result<(), AllocError>
         ensures ok { OnOk result ((n p : ℕ) → CallTurns n p (submission value.now) self.old self.new [] []) }
         ensures err { OnErr result ((n p : ℕ) → CallWants n p (submission value.now) self.old self.new [] []) }
     {
@@ -112,12 +112,7 @@ impl Place {
     }
 
     /// Delivers a message that was handed out. One that is none of the cluster's is passed over.
-    pub(crate) fn deliver(
-        &mut self,
-        alloc: Global,
-        index: usize,
-        sent: &mut Outbox,
-    ) -> Result<(), AllocError>
+    pub(crate) fn deliver(&mut self, index: usize, sent: &mut Outbox) -> Result<(), AllocError>
         requires { index < length sent.old.items }
         ensures ok { OnOk result ((message : AbstractMessage) → slice_get (messages_of sent.old.items) index ≡ Some message
             → (n p : ℕ) → IsMessage n message → CallTurns n p (delivery message) self.old self.new sent.old.items sent.new.items) }
@@ -131,7 +126,7 @@ impl Place {
                     return Ok(());
                 }
                 let (_, message) = &sent[index];
-                let message = message.try_clone(alloc)?;
+                let message = message.try_clone()?;
                 if !message.is_of(node.cluster()) {
                     return Ok(());
                 }
@@ -277,12 +272,12 @@ impl Place {
         ensures grows { OnlyGrows sent.old.items sent.new.items }
     {
         match event {
-            Event::Submit { value, .. } => self.submit(value.as_bytes()),
+            Event::Submit { value, .. } => self.submit(value),
             Event::Tick { .. } => self.tick(sent),
             Event::Widen { .. } => self.widen(sent),
             Event::Ask { .. } => self.ask(sent),
             Event::Tell { instance, .. } => self.tell(*instance, sent),
-            Event::Deliver { index, .. } => self.deliver(alloc, *index, sent),
+            Event::Deliver { index, .. } => self.deliver(*index, sent),
             Event::Arm { calls, .. } => {
                 self.arm(*calls);
                 Ok(())

@@ -31,15 +31,17 @@ fn made(alloc: Global, cluster: Cluster) -> Result<World, Halt> {
     }
 }
 
+fn written(alloc: Global, number: u64, text: &str) -> Option<Value> {
+    let ticket = Ticket { editor: 1, number };
+    let bytes = write(alloc, ticket, text.as_bytes()).ok()?;
+    Value::from_bytes(bytes).ok()
+}
+
 /// The value of a command of editor 1. One that is refused memory is written once more.
 pub(crate) fn value(alloc: Global, number: u64, text: &str) -> Result<Value, Halt> {
-    let ticket = Ticket { editor: 1, number };
-    match write(alloc, ticket, text.as_bytes()) {
-        Ok(bytes) => Ok(Value::from_bytes(bytes)),
-        Err(_) => match write(alloc, ticket, text.as_bytes()) {
-            Ok(bytes) => Ok(Value::from_bytes(bytes)),
-            Err(_) => Err(Halt::OutOfMemory),
-        },
+    match written(alloc, number, text) {
+        Some(value) => Ok(value),
+        None => written(alloc, number, text).ok_or(Halt::OutOfMemory),
     }
 }
 

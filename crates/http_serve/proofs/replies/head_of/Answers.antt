@@ -9,9 +9,9 @@ returns-in-Location c =
     let size : c.len-size.result ≡ length c.args.response.now.body.items = omega (arith, c.len-size.ensures) in
     let escaped : encoded_text c.utf8_percent_encode-path.result ≡ percent_encode ESCAPED (string_bytes c.in-Location.path) =
     c.utf8_percent_encode-path.ensures.text ∙ ap (percent_encode ESCAPED) c.as_str.ensures.value in
-    rw (c.in-Location.is, ← c.reason_of-reason.ensures, ← c.media_of-media.ensures, ← c.end_of_head-end.ensures, ← size, ← escaped) c.format-in-Location.ensures.ok
+    rw (c.in-Location.is, ← c.reason_of-reason.ensures, ← c.media_of-media.ensures, ← c.end_of_head-end.ensures.value, ← size, ← escaped) c.format-in-Location.ensures.ok
 
 pub returns-in-Allow : goal.returns-in-Allow
 returns-in-Allow c =
     let size : c.len-size.result ≡ length c.args.response.now.body.items = omega (arith, c.len-size.ensures) in
-    rw (c.in-Allow.is, ← c.reason_of-reason.ensures, ← c.media_of-media.ensures, ← c.end_of_head-end.ensures, ← size) c.format-in-Allow.ensures.ok
+    rw (c.in-Allow.is, ← c.reason_of-reason.ensures, ← c.media_of-media.ensures, ← c.end_of_head-end.ensures.value, ← size) c.format-in-Allow.ensures.ok

@@ -1,4 +1,5 @@
-use Rattle.std.proofs.Common.{List, [], ◌∷◌, refl, ◌∙◌, arith, length-append, subst}
+use Rattle.std.proofs.Common.{◌+◌, ◌≤◌, List, [], ◌∷◌, length, refl, ap, ◌∙◌, arith, length-append, subst}
+use Rattle.site_ids.specs.declared.TheConstants.{MAX_RECORD}
 use Rattle.durable.specs.Entries.{Entry, Voted}
 use Rattle.durable.specs.Histories.{MayFollow}
 use Rattle.durable.specs.Puts.{IsFullFor, Remembers}
@@ -20,7 +21,8 @@ returns-in-Ok-append g c =
       in_range = (range.0, (range.1, range.2, c.requires.of_cluster), c.requires.fits);
       advances = vote_advances entries c.args.instance c.args.ballot value _ (kept.slots c.args.instance) c.requires.free c.requires.new;
     } in
-    let room : ¬ IsFullFor old entry = λ full. omega (arith, full, c.if-not-has_room.ensures, length-append value (0 ∷ [])) in
+    let there : old.recorded.gate + 6 + (10 + length c.as_bytes-size.result.now) ≤ MAX_RECORD = c.if-not-has_room.ensures.0 refl in
+    let room : ¬ IsFullFor old entry = λ full. omega (arith, full, there, ap length c.as_bytes-size.ensures, length-append value (0 ∷ [])) in
     let done = c.in-Ok-append.ensures in
     let kept = c.append.ensures.kept in
     let remembers = subst (λ (v : Vote). Remembers c.append.new.self.recorded c.keep_vote.new.self (Voted c.args.instance v.ballot v.value)) c.in-Ok.ensures.vote c.keep_vote.ensures.remembers in
@@ -39,7 +41,8 @@ returns g c =
       in_range = (range.0, (range.1, range.2, c.requires.of_cluster), c.requires.fits);
       advances = vote_advances entries c.args.instance c.args.ballot value _ (kept.slots c.args.instance) c.requires.free c.requires.new;
     } in
-    let room : ¬ IsFullFor old entry = λ full. omega (arith, full, c.if-not-has_room.ensures, length-append value (0 ∷ [])) in
+    let there : old.recorded.gate + 6 + (10 + length c.as_bytes-size.result.now) ≤ MAX_RECORD = c.if-not-has_room.ensures.0 refl in
+    let room : ¬ IsFullFor old entry = λ full. omega (arith, full, there, ap length c.as_bytes-size.ensures, length-append value (0 ∷ [])) in
     let failed = c.in-Err.ensures in
     let kept = c.append.ensures.kept in
     broken_off g.D.Disk.stands_for g.D.Disk.failed old entry c.room_for_vote-room.new.self made.slots c.deref.result.now (c.deref.ensures.value ∙ c.in-Ok.ensures.bytes) follows c.if-self.false room

@@ -60,8 +60,9 @@ returns-clause-event g c from before in_range =
     let old = c.args.self.now in
     let i = c.args.instance in
     let v : Value = c.args.value.now in
-    let equal : c.as_bytes.result.now ≡ v = (slice_eq-Decides Decides-eqb c.as_bytes.result.now v (pointwise eqb c.as_bytes.result.now v) refl).0 (negated (pointwise eqb c.as_bytes.result.now v) c.ne.result c.ne.ensures c.if-ne.false) in
-    let same : c.in-Some.known.now ≡ v = sym c.as_bytes.ensures ∙ equal in
+    let w : Value = c.as_bytes-2.result.now in
+    let equal : c.as_bytes.result.now ≡ w = (slice_eq-Decides Decides-eqb c.as_bytes.result.now w (pointwise eqb c.as_bytes.result.now w) refl).0 (negated (pointwise eqb c.as_bytes.result.now w) c.ne.result c.ne.ensures c.if-ne.false) in
+    let same : c.in-Some.known.now ≡ v = sym c.as_bytes.ensures ∙ equal ∙ c.as_bytes-2.ensures in
     quiet_whole g.D.Disk.stands_for old _ (deliver (Chosen from i v)) i before before [] [] (record { me = refl; cluster = refl; releases = refl }) c.requires.running in_range refl
     (record { learner = refl; known = refl; queue = refl; attempts = λ a are. are; heard = refl }) (c.max-reached.ensures ∙ ap (max old.reached) c.number.ensures.is) (sym (append-nil before)) refl
     (λ s stands. inr (sym (stands.parts.known.values i) ∙ sym c.in-Some.ensures ∙ ap (λ (x : Value). Some x) same, refl))

@@ -1,5 +1,6 @@
-use Rattle.std.proofs.Common.{max, [], ◌∷◌, ◌++◌, refl, sym, ap, ◌∙◌, append-nil}
+use Rattle.std.proofs.Common.{max, [], ◌∷◌, ◌++◌, refl, sym, ap, subst, ◌∙◌, append-nil}
 use Rattle.acceptor.specs.declared.judging.ProposeVerdict.TheVariants as verdict
+use Rattle.acceptor.specs.Judging.{JudgesProposal}
 use Rattle.wire.specs.declared.message.Message.TheVariants.{Propose, Accepted, Nack}
 use Rattle.durable.specs.Entries.{Voted}
 use Rattle.wire.specs.declared.message.Message.{Message}
@@ -56,7 +57,7 @@ returns-in_ok-copy-in-Again-clause-event g c from in_range =
     (record { learner = refl; known = refl; queue = refl; attempts = λ a are. are; heard = refl }) (c.max-reached.ensures ∙ ap (max old.reached) c.number.ensures.is)
     (c.push_reserved-in-Again.ensures.items ∙ ap (λ (l : Handed). l ++ out) c.reserve-in-Again.ensures.items)
     (ap (λ (x : Value). (All, Accepted old.me i b x) ∷ []) (sym c.in_ok-copy-in-Again.ensures) ∙ ap (λ (x : To × Message). x ∷ []) (sym c.accepted-in-Again.ensures))
-    (propose_does old i slot c.slot.ensures from b v verdict.Again c.in-Again.ensures)
+    (propose_does old i slot c.slot.ensures from b v verdict.Again (subst (λ (x : Value). JudgesProposal c.slot.result.now c.args.ballot x verdict.Again) c.as_bytes.ensures c.in-Again.ensures))
 
 pub returns-in_ok-reserve-in-Nack-clause-event : goal.returns-in_ok-reserve-in-Nack-clause-event
 returns-in_ok-reserve-in-Nack-clause-event g c from in_range =
@@ -83,7 +84,7 @@ returns-in-Silent-clause-event g c from in_range =
     quiet_whole stands_for old _ (deliver (Propose from i b v)) i _ _ [] [] (record { me = refl; cluster = refl; releases = refl }) c.requires.running in_range refl
     (record { learner = refl; known = refl; queue = refl; attempts = λ a are. are; heard = refl }) (c.max-reached.ensures ∙ ap (max old.reached) c.number.ensures.is)
     (sym (append-nil c.args.outbox.now.items)) refl
-    (propose_does old i slot c.slot.ensures from b v verdict.Silent c.in-Silent.ensures)
+    (propose_does old i slot c.slot.ensures from b v verdict.Silent (subst (λ (x : Value). JudgesProposal c.slot.result.now c.args.ballot x verdict.Silent) c.as_bytes.ensures c.in-Silent.ensures))
 
 pub returns-in_err-reserve-in-Vote-clause-event : goal.returns-in_err-reserve-in-Vote-clause-event
 returns-in_err-reserve-in-Vote-clause-event g c from in_range =
@@ -95,11 +96,11 @@ returns-in_err-copy-in-Vote-clause-event g c from in_range =
 
 pub returns-in_err-reserve-in-Again-clause-event : goal.returns-in_err-reserve-in-Again-clause-event
 returns-in_err-reserve-in-Again-clause-event g c from in_range =
-    delivery_wants g.D.Disk.stands_for c.args.self.now _ (Propose from c.args.instance c.args.ballot c.args.value.now) c.from_residual-in_err-reserve-in-Again.result _ _ (record { me = refl; cluster = refl; releases = refl }) c.requires.running in_range (proposal_takes c.args.self.now c.args.instance c.slot.result.now c.slot.ensures c.args.ballot c.args.value.now verdict.Again c.in-Again.ensures (λ e. cc)) c.reserve-in-Again.ensures.items c.from_residual-in_err-reserve-in-Again.ensures.1 refl (record { learner = refl; known = refl; queue = refl; attempts = λ a are. are; heard = refl }) refl
+    delivery_wants g.D.Disk.stands_for c.args.self.now _ (Propose from c.args.instance c.args.ballot c.args.value.now) c.from_residual-in_err-reserve-in-Again.result _ _ (record { me = refl; cluster = refl; releases = refl }) c.requires.running in_range (proposal_takes c.args.self.now c.args.instance c.slot.result.now c.slot.ensures c.args.ballot c.args.value.now verdict.Again (subst (λ (x : Value). JudgesProposal c.slot.result.now c.args.ballot x verdict.Again) c.as_bytes.ensures c.in-Again.ensures) (λ e. cc)) c.reserve-in-Again.ensures.items c.from_residual-in_err-reserve-in-Again.ensures.1 refl (record { learner = refl; known = refl; queue = refl; attempts = λ a are. are; heard = refl }) refl
 
 pub returns-in_err-copy-in-Again-clause-event : goal.returns-in_err-copy-in-Again-clause-event
 returns-in_err-copy-in-Again-clause-event g c from in_range =
-    delivery_wants g.D.Disk.stands_for c.args.self.now _ (Propose from c.args.instance c.args.ballot c.args.value.now) c.from_residual-in_err-copy-in-Again.result _ _ (record { me = refl; cluster = refl; releases = refl }) c.requires.running in_range (proposal_takes c.args.self.now c.args.instance c.slot.result.now c.slot.ensures c.args.ballot c.args.value.now verdict.Again c.in-Again.ensures (λ e. cc)) c.reserve-in-Again.ensures.items c.from_residual-in_err-copy-in-Again.ensures.1 refl (record { learner = refl; known = refl; queue = refl; attempts = λ a are. are; heard = refl }) refl
+    delivery_wants g.D.Disk.stands_for c.args.self.now _ (Propose from c.args.instance c.args.ballot c.args.value.now) c.from_residual-in_err-copy-in-Again.result _ _ (record { me = refl; cluster = refl; releases = refl }) c.requires.running in_range (proposal_takes c.args.self.now c.args.instance c.slot.result.now c.slot.ensures c.args.ballot c.args.value.now verdict.Again (subst (λ (x : Value). JudgesProposal c.slot.result.now c.args.ballot x verdict.Again) c.as_bytes.ensures c.in-Again.ensures) (λ e. cc)) c.reserve-in-Again.ensures.items c.from_residual-in_err-copy-in-Again.ensures.1 refl (record { learner = refl; known = refl; queue = refl; attempts = λ a are. are; heard = refl }) refl
 
 pub returns-in_err-reserve-in-Nack-clause-event : goal.returns-in_err-reserve-in-Nack-clause-event
 returns-in_err-reserve-in-Nack-clause-event g c from in_range =

@@ -9,7 +9,7 @@ returns-in_err-feed-clause-same g c s stands =
     let prefix = c.prefix.result.now in
     let old = items_begin c.args.self.now.releases prefix (fed_items log s prefix c.args.self.now.releases parts.known.values c.prefix.ensures.each c.prefix.ensures.gap stands.fed) in
     record {
-      parts = record { on_record = parts.on_record; votes = parts.votes; known = parts.known; attempts = parts.attempts; pending = parts.pending; heard = parts.heard; reached = parts.reached };
+      parts = record { on_record = parts.on_record; votes = parts.votes; known = record { values = parts.known.values; tickets = parts.known.tickets }; attempts = parts.attempts; pending = parts.pending; heard = parts.heard; reached = parts.reached };
       tidy = stands.tidy;
       ranges = stands.ranges;
       fed = taken_known log s prefix c.feed.new.releases parts.known.values c.prefix.ensures.each c.prefix.ensures.gap (c.feed.ensures.begins old);
@@ -22,7 +22,7 @@ returns-clause-same g c s stands =
     let prefix = c.prefix.result.now in
     let old = items_begin c.args.self.now.releases prefix (fed_items log s prefix c.args.self.now.releases parts.known.values c.prefix.ensures.each c.prefix.ensures.gap stands.fed) in
     record {
-      parts = record { on_record = parts.on_record; votes = parts.votes; known = parts.known; attempts = parts.attempts; pending = parts.pending; heard = parts.heard; reached = parts.reached };
+      parts = record { on_record = parts.on_record; votes = parts.votes; known = record { values = parts.known.values; tickets = parts.known.tickets }; attempts = parts.attempts; pending = parts.pending; heard = parts.heard; reached = parts.reached };
       tidy = stands.tidy;
       ranges = stands.ranges;
       fed = taken_known log s prefix c.feed.new.releases parts.known.values c.prefix.ensures.each c.prefix.ensures.gap (c.feed.ensures.begins old);

@@ -14,17 +14,17 @@ returns-in_err-value-clause-refused g c = unchanged c.args.self.now c.from_resid
 pub returns-in-Ok-Queued-clause-outcome : goal.returns-in-Ok-Queued-clause-outcome
 returns-in-Ok-Queued-clause-outcome g c =
     let e = c.in-Ok-Queued.ensures in
-    taken g.D.Disk.stands_for c.args.self.now _ c.args.ticket c.args.text.now _ _ Queued c.in-Ok-Queued.field-0-is (c.as_slice.ensures.value ∙ c.in_ok-value.ensures) e.others e.no_put.1 e.event e.answered
+    taken g.D.Disk.stands_for c.args.self.now _ c.args.ticket c.args.text.now _ _ Queued c.in-Ok-Queued.field-0-is c.in_ok-value.ensures e.others e.no_put.1 e.event e.answered
 
 pub returns-in-Ok-Already-clause-outcome : goal.returns-in-Ok-Already-clause-outcome
 returns-in-Ok-Already-clause-outcome g c =
     let e = c.in-Ok-Already.ensures in
-    taken g.D.Disk.stands_for c.args.self.now _ c.args.ticket c.args.text.now _ _ Already c.in-Ok-Already.field-0-is (c.as_slice.ensures.value ∙ c.in_ok-value.ensures) e.others e.no_put.1 e.event e.answered
+    taken g.D.Disk.stands_for c.args.self.now _ c.args.ticket c.args.text.now _ _ Already c.in-Ok-Already.field-0-is c.in_ok-value.ensures e.others e.no_put.1 e.event e.answered
 
 pub returns-in-Err-NotACommand-clause-outcome : goal.returns-in-Err-NotACommand-clause-outcome
 returns-in-Err-NotACommand-clause-outcome g c =
     let e = c.in-Err-NotACommand.ensures in
-    not_taken g.D.Disk.stands_for c.args.self.now _ c.args.ticket c.args.text.now _ _ (Command c.in-Err-NotACommand.fault) c.in-Err-NotACommand.field-0-is (c.as_slice.ensures.value ∙ c.in_ok-value.ensures) e.others e.no_put.1 e.event
+    not_taken g.D.Disk.stands_for c.args.self.now _ c.args.ticket c.args.text.now _ _ (Command c.in-Err-NotACommand.fault) c.in-Err-NotACommand.field-0-is c.in_ok-value.ensures e.others e.no_put.1 e.event
 
 pub returns-in-Err-NotACommand-clause-refused : goal.returns-in-Err-NotACommand-clause-refused
 returns-in-Err-NotACommand-clause-refused g c =
@@ -37,7 +37,7 @@ returns-in-Err-NotACommand-clause-told g c = subst IsSubmitCause c.in-Err-NotACo
 pub returns-in-Err-QueueFull-clause-outcome : goal.returns-in-Err-QueueFull-clause-outcome
 returns-in-Err-QueueFull-clause-outcome g c =
     let e = c.in-Err-QueueFull.ensures in
-    not_taken g.D.Disk.stands_for c.args.self.now _ c.args.ticket c.args.text.now _ _ Busy c.in-Err-QueueFull.field-0-is (c.as_slice.ensures.value ∙ c.in_ok-value.ensures) e.others e.no_put.1 e.event
+    not_taken g.D.Disk.stands_for c.args.self.now _ c.args.ticket c.args.text.now _ _ Busy c.in-Err-QueueFull.field-0-is c.in_ok-value.ensures e.others e.no_put.1 e.event
 
 pub returns-in-Err-QueueFull-clause-refused : goal.returns-in-Err-QueueFull-clause-refused
 returns-in-Err-QueueFull-clause-refused g c =
@@ -47,7 +47,7 @@ returns-in-Err-QueueFull-clause-refused g c =
 pub returns-in-Err-Stopped-clause-outcome : goal.returns-in-Err-Stopped-clause-outcome
 returns-in-Err-Stopped-clause-outcome g c =
     let e = c.in-Err-Stopped.ensures in
-    not_taken g.D.Disk.stands_for c.args.self.now _ c.args.ticket c.args.text.now _ _ Stopped c.in-Err-Stopped.field-0-is (c.as_slice.ensures.value ∙ c.in_ok-value.ensures) e.others e.no_put.1 e.event
+    not_taken g.D.Disk.stands_for c.args.self.now _ c.args.ticket c.args.text.now _ _ Stopped c.in-Err-Stopped.field-0-is c.in_ok-value.ensures e.others e.no_put.1 e.event
 
 pub returns-in-Err-Stopped-clause-refused : goal.returns-in-Err-Stopped-clause-refused
 returns-in-Err-Stopped-clause-refused g c =
@@ -57,7 +57,7 @@ returns-in-Err-Stopped-clause-refused g c =
 pub returns-in-Err-OutOfMemory-clause-outcome : goal.returns-in-Err-OutOfMemory-clause-outcome
 returns-in-Err-OutOfMemory-clause-outcome g c =
     let e = c.in-Err-OutOfMemory.ensures in
-    not_taken g.D.Disk.stands_for c.args.self.now _ c.args.ticket c.args.text.now _ _ OutOfMemory c.in-Err-OutOfMemory.field-0-is (c.as_slice.ensures.value ∙ c.in_ok-value.ensures) e.others e.no_put.1 e.event
+    not_taken g.D.Disk.stands_for c.args.self.now _ c.args.ticket c.args.text.now _ _ OutOfMemory c.in-Err-OutOfMemory.field-0-is c.in_ok-value.ensures e.others e.no_put.1 e.event
 
 pub returns-in-Err-OutOfMemory-clause-refused : goal.returns-in-Err-OutOfMemory-clause-refused
 returns-in-Err-OutOfMemory-clause-refused g c =
