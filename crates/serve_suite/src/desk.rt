@@ -12,7 +12,7 @@ use site_ids::{Instance, Ticket};
 use std::alloc::{AllocError, Global};
 
 /// How submissions are met.
-#[derive(Clone, Copy, Debug, PartialEq, Eq)]
+#[derive(Clone, Copy, PartialEq, Eq)]
 pub(crate) enum Mood {
     Open,
     Busy,

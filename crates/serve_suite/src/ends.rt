@@ -34,14 +34,19 @@ impl Read for Pieces<'_> {
     }
 }
 
-/// All at once.
-pub(crate) fn whole(bytes: &[u8]) -> Pieces<'_> {
+/// A first piece and then pieces of one size, up to a call that fails.
+pub(crate) fn in_pieces(bytes: &[u8], first: usize, piece: usize, good: usize) -> Pieces<'_> {
     Pieces {
         bytes,
-        first: usize::MAX,
-        piece: usize::MAX,
-        good: usize::MAX,
+        first,
+        piece,
+        good,
     }
+}
+
+/// All at once.
+pub(crate) fn whole(bytes: &[u8]) -> Pieces<'_> {
+    in_pieces(bytes, usize::MAX, usize::MAX, usize::MAX)
 }
 
 /// Takes `room` bytes, at most `piece` at a time, and then fails.
@@ -50,6 +55,17 @@ pub(crate) struct Sink {
     pub taken: Vec<u8>,
     pub room: usize,
     pub piece: usize,
+}
+
+impl Sink {
+    pub(crate) fn into_taken(self) -> Vec<u8> {
+        let Sink {
+            taken,
+            room: _,
+            piece: _,
+        } = self;
+        taken
+    }
 }
 
 impl Write for Sink {
@@ -79,8 +95,17 @@ pub(crate) struct Connection {
     pub failed_writes: u64,
 }
 
+fn serve_all(
+    alloc: Global,
+    reader: &mut Counted<Pieces<'_>>,
+    writer: &mut Counted<Sink>,
+    desk: &mut Desk<'_>,
+) -> Result<(), ServeFault> {
+    serve(alloc, reader, writer, desk)
+}
+
 /// Serves a connection whose writer has this much room and takes pieces of this size.
-pub(crate) fn served_into(
+fn served_into(
     alloc: Global,
     desk: &mut Desk<'_>,
     reader: Pieces<'_>,
@@ -93,17 +118,12 @@ pub(crate) fn served_into(
         room,
         piece,
     });
-    let result = serve(alloc, &mut reader, &mut writer, desk);
+    let result = serve_all(alloc, &mut reader, &mut writer, desk);
     let failed_reads = reader.failures();
     let failed_writes = writer.failures();
-    let Sink {
-        taken: written,
-        room: _,
-        piece: _,
-    } = writer.into_inner();
     Connection {
         result,
-        written,
+        written: writer.into_inner().into_taken(),
         failed_reads,
         failed_writes,
     }
@@ -112,6 +132,48 @@ pub(crate) fn served_into(
 /// Serves a connection whose writer never fails.
 pub(crate) fn served(alloc: Global, desk: &mut Desk<'_>, reader: Pieces<'_>) -> Connection {
     served_into(alloc, desk, reader, usize::MAX, usize::MAX)
+}
+
+/// How a connection ends, and what was written.
+pub(crate) type End<'a> = (Result<(), ServeFault>, &'a [u8]);
+
+/// A connection came to that end: a fault of its reader or its writer is one call that failed.
+fn ends(rt: &impl Abort, run: &Connection, end: End<'_>, row: (&str, usize)) {
+    let (result, written) = end;
+    let (what, number) = row;
+    assert_eq!(rt; run.result, result, "{what} {number}");
+    assert_eq!(rt; run.written.as_slice(), written, "{what} {number}");
+    let reads = u64::from(result == Err(ServeFault::Read));
+    let writes = u64::from(result == Err(ServeFault::Write));
+    assert_eq!(rt; run.failed_reads, reads, "{what} {number}");
+    assert_eq!(rt; run.failed_writes, writes, "{what} {number}");
+}
+
+/// What is read so comes to that end.
+pub(crate) fn reads(
+    rt: &impl Abort,
+    alloc: Global,
+    desk: &mut Desk<'_>,
+    reader: Pieces<'_>,
+    end: End<'_>,
+    row: (&str, usize),
+) {
+    let run = served(alloc, desk, reader);
+    ends(rt, &run, end, row);
+}
+
+/// What is sent at once comes to that end over a writer with so much room, which takes pieces of that size.
+pub(crate) fn writes(
+    rt: &impl Abort,
+    alloc: Global,
+    desk: &mut Desk<'_>,
+    bytes: &[u8],
+    writer: (usize, usize),
+    end: End<'_>,
+) {
+    let (room, piece) = writer;
+    let run = served_into(alloc, desk, whole(bytes), room, piece);
+    ends(rt, &run, end, ("a writer with room for", room));
 }
 
 /// A response: status and reason; the type, and a line of its own or nothing; the body.
@@ -154,9 +216,20 @@ pub(crate) fn check(
     request: &str,
     expected: &str,
 ) {
-    let run = served(alloc, desk, whole(request.as_bytes()));
-    assert_eq!(rt; run.result, Ok(()), "{request}");
-    assert_eq!(rt; run.written.as_slice(), expected.as_bytes(), "{request}");
-    assert_eq!(rt; run.failed_reads, 0);
-    assert_eq!(rt; run.failed_writes, 0);
+    let reader = whole(request.as_bytes());
+    let end = (Ok(()), expected.as_bytes());
+    reads(rt, alloc, desk, reader, end, (request, 0));
+}
+
+/// The request has this response, or its head alone.
+pub(crate) fn responds(
+    rt: &impl Abort,
+    alloc: Global,
+    desk: &mut Desk<'_>,
+    request: &str,
+    row: Row,
+    to_head: bool,
+) {
+    let expected = response(alloc, row, to_head).expect(rt, "memory");
+    check(rt, alloc, desk, request, expected.as_str());
 }

@@ -1,10 +1,9 @@
 //! Each path with each method.
 use crate::desk::{Desk, open_desk};
-use crate::ends::{HTML, PLAIN, Row, check, response};
+use crate::ends::{HTML, PLAIN, Row, responds};
 use site_ids::Instance;
 use std::alloc::{AllocError, Global};
 use std::process::Abort;
-use std::test::Fail;
 
 const NOT_FOUND: Row = ("404 Not Found", PLAIN, "", "not found\n");
 
@@ -104,6 +103,22 @@ const RESERVED: [&str; 27] = [
     "/@18446744073709551616/",
 ];
 
+fn request(alloc: Global, method: &str, path: &str) -> Result<String, AllocError> {
+    format!(in alloc; "{method} {path} HTTP/1.1\r\nHost: a\r\n\r\n")
+}
+
+fn check_method(
+    rt: &impl Abort,
+    alloc: Global,
+    desk: &mut Desk<'_>,
+    method: &str,
+    path: &str,
+    row: Row,
+) {
+    let request = request(alloc, method, path).expect(rt, "memory");
+    responds(rt, alloc, desk, request.as_str(), row, method == "HEAD");
+}
+
 fn check_path(
     rt: &impl Abort,
     alloc: Global,
@@ -111,63 +126,55 @@ fn check_path(
     path: &str,
     asked: Row,
     posted: Row,
-) -> Result<(), AllocError> {
+) {
     for (method, row) in [("GET", asked), ("HEAD", asked), ("POST", posted)] {
-        let request = format!(in alloc; "{method} {path} HTTP/1.1\r\nHost: a\r\n\r\n")?;
-        let expected = response(alloc, row, method == "HEAD")?;
-        check(rt, alloc, desk, request.as_str(), expected.as_str());
+        check_method(rt, alloc, desk, method, path, row);
     }
-    Ok(())
 }
 
-fn check_paths(rt: &impl Abort, alloc: Global, desk: &mut Desk<'_>) -> Result<(), AllocError> {
+fn check_paths(rt: &impl Abort, alloc: Global, desk: &mut Desk<'_>) {
     for (path, row) in PATHS {
-        check_path(rt, alloc, desk, path, row, WANTS_GET)?;
+        check_path(rt, alloc, desk, path, row, WANTS_GET);
     }
     for path in RESERVED {
-        check_path(rt, alloc, desk, path, NOT_FOUND, NOT_FOUND)?;
+        check_path(rt, alloc, desk, path, NOT_FOUND, NOT_FOUND);
     }
-    Ok(())
 }
 
-fn check_submission(
-    rt: &impl Abort,
-    alloc: Global,
-    desk: &mut Desk<'_>,
-    path: &str,
-) -> Result<(), AllocError> {
-    for method in ["GET", "HEAD"] {
-        let request = format!(in alloc; "{method} {path} HTTP/1.1\r\nHost: a\r\n\r\n")?;
-        let expected = response(alloc, WANTS_POST, method == "HEAD")?;
-        check(rt, alloc, desk, request.as_str(), expected.as_str());
+fn check_submissions(rt: &impl Abort, alloc: Global, desk: &mut Desk<'_>) {
+    for path in ["/_submit/1/5", "/_submit/0/0"] {
+        for method in ["GET", "HEAD"] {
+            check_method(rt, alloc, desk, method, path, WANTS_POST);
+        }
     }
-    Ok(())
 }
 
 #[test]
-fn each_path_with_each_method(rt: HostRuntime) -> Result<(), Fail> {
-    let alloc = rt.alloc();
-    let mut desk = open_desk(alloc, "Hi\n", 2);
-    check_paths(&rt, alloc, &mut desk)?;
-    check_submission(&rt, alloc, &mut desk, "/_submit/1/5")?;
-    check_submission(&rt, alloc, &mut desk, "/_submit/0/0")?;
+fn each_path_with_each_method(rt: HostRuntime) {
+    let mut desk = open_desk(rt.alloc(), "Hi\n", 2);
+    check_paths(&rt, rt.alloc(), &mut desk);
+    check_submissions(&rt, rt.alloc(), &mut desk);
     assert!(rt; desk.values.is_empty());
-    Ok(())
+}
+
+/// Paths where there is no release, and what GET answers where each ticket has a receipt.
+const UNRELEASED: [(&str, Row); 5] = [
+    ("/h", NO_RELEASE),
+    ("/@0/h", NO_RELEASE),
+    ("/@1/h", NO_RELEASE),
+    ("/_newest", ("200 OK", PLAIN, "", "0\n")),
+    ("/_ticket/1/5", SEVEN),
+];
+
+fn check_unreleased(rt: &impl Abort, alloc: Global, desk: &mut Desk<'_>) {
+    for (path, row) in UNRELEASED {
+        check_path(rt, alloc, desk, path, row, WANTS_GET);
+    }
 }
 
 #[test]
-fn without_a_release_and_with_a_receipt(rt: HostRuntime) -> Result<(), Fail> {
-    let alloc = rt.alloc();
-    let mut desk = open_desk(alloc, "Hi\n", 0);
+fn without_a_release_and_with_a_receipt(rt: HostRuntime) {
+    let mut desk = open_desk(rt.alloc(), "Hi\n", 0);
     desk.receipt = Instance::new(7);
-    for (path, row) in [
-        ("/h", NO_RELEASE),
-        ("/@0/h", NO_RELEASE),
-        ("/@1/h", NO_RELEASE),
-        ("/_newest", ("200 OK", PLAIN, "", "0\n")),
-        ("/_ticket/1/5", SEVEN),
-    ] {
-        check_path(&rt, alloc, &mut desk, path, row, WANTS_GET)?;
-    }
-    Ok(())
+    check_unreleased(&rt, rt.alloc(), &mut desk);
 }

@@ -1,9 +1,8 @@
 //! Single requests, with the whole bytes of their responses.
 use crate::desk::{Desk, open_desk};
-use crate::ends::{PLAIN, Row, check, response};
+use crate::ends::{PLAIN, Row, check, responds};
 use std::alloc::{AllocError, Global};
 use std::process::Abort;
-use std::test::Fail;
 
 const PAGE: &str =
     "HTTP/1.1 200 OK\r\nContent-Type: text/html; charset=utf-8\r\nContent-Length: 3\r\n\r\nHi\n";
@@ -67,60 +66,80 @@ const REFUSED: [(&str, Row); 5] = [
     ),
 ];
 
-fn check_rows(rt: &impl Abort, alloc: Global, desk: &mut Desk<'_>) -> Result<(), AllocError> {
-    for (request, expected) in ROWS {
-        check(rt, alloc, desk, request, expected);
-    }
-    for (behind, row) in REFUSED {
-        let request = format!(in alloc; "GET /h HTTP/1.1\r\nHost: a\r\n{behind}")?;
-        let expected = response(alloc, row, false)?;
-        check(rt, alloc, desk, request.as_str(), expected.as_str());
-    }
-    Ok(())
-}
-
-#[test]
-fn single_requests(rt: HostRuntime) -> Result<(), Fail> {
-    let alloc = rt.alloc();
-    let mut desk = open_desk(alloc, "Hi\n", 1);
-    check_rows(&rt, alloc, &mut desk)?;
-    assert!(rt; desk.values.is_empty());
-    Ok(())
-}
-
-/// Heads that are too long, for 414 and for 431.
-fn check_long(rt: &impl Abort, alloc: Global, desk: &mut Desk<'_>) -> Result<(), AllocError> {
-    let mut letters = String::new(alloc);
-    for _ in 0..8_188 {
-        letters.push('a')?;
-    }
-    let letters = letters.as_str();
-    let request = format!(in alloc; "GET /{letters}")?;
-    let expected = response(
-        alloc,
+/// Heads that are too long, for 414 and for 431: what stands before 8,188 letters and behind them, and the refusal.
+const LONG: [(&str, &str, Row); 2] = [
+    (
+        "GET /",
+        "",
         ("414 URI Too Long", PLAIN, "", "uri too long\n"),
-        false,
-    )?;
-    check(rt, alloc, desk, request.as_str(), expected.as_str());
-    let request = format!(in alloc; "GET / HTTP/1.1\r\nHost: a\r\nX: {letters}\r\n\r\n")?;
-    let expected = response(
-        alloc,
+    ),
+    (
+        "GET / HTTP/1.1\r\nHost: a\r\nX: ",
+        "\r\n\r\n",
         (
             "431 Request Header Fields Too Large",
             PLAIN,
             "",
             "head too large\n",
         ),
-        false,
-    )?;
-    check(rt, alloc, desk, request.as_str(), expected.as_str());
-    Ok(())
+    ),
+];
+
+fn check_refused(
+    rt: &impl Abort,
+    alloc: Global,
+    desk: &mut Desk<'_>,
+    before: &str,
+    behind: &str,
+    row: Row,
+) {
+    let request = format!(in alloc; "{before}{behind}").expect(rt, "memory");
+    responds(rt, alloc, desk, request.as_str(), row, false);
+}
+
+fn check_rows(rt: &impl Abort, alloc: Global, desk: &mut Desk<'_>) {
+    for (request, expected) in ROWS {
+        check(rt, alloc, desk, request, expected);
+    }
+    for (behind, row) in REFUSED {
+        let before = "GET /h HTTP/1.1\r\nHost: a\r\n";
+        check_refused(rt, alloc, desk, before, behind, row);
+    }
 }
 
 #[test]
-fn long_heads(rt: HostRuntime) -> Result<(), Fail> {
-    let alloc = rt.alloc();
-    let mut desk = open_desk(alloc, "Hi\n", 1);
-    check_long(&rt, alloc, &mut desk)?;
-    Ok(())
+fn single_requests(rt: HostRuntime) {
+    let mut desk = open_desk(rt.alloc(), "Hi\n", 1);
+    check_rows(&rt, rt.alloc(), &mut desk);
+    assert!(rt; desk.values.is_empty());
+}
+
+/// Letters, and a text behind them.
+fn letters(alloc: Global, count: u32, behind: &str) -> Result<String, AllocError> {
+    let mut text = String::new(alloc);
+    for _ in 0..count {
+        text.push('a')?;
+    }
+    text.push_str(behind)?;
+    Ok(text)
+}
+
+fn check_long(
+    rt: &impl Abort,
+    alloc: Global,
+    desk: &mut Desk<'_>,
+    before: &str,
+    behind: &str,
+    row: Row,
+) {
+    let letters = letters(alloc, 8_188, behind).expect(rt, "memory");
+    check_refused(rt, alloc, desk, before, letters.as_str(), row);
+}
+
+#[test]
+fn long_heads(rt: HostRuntime) {
+    let mut desk = open_desk(rt.alloc(), "Hi\n", 1);
+    for (before, behind, row) in LONG {
+        check_long(&rt, rt.alloc(), &mut desk, before, behind, row);
+    }
 }

@@ -1,15 +1,16 @@
 //! Several requests on a connection: responses one behind another, when it is closed, and what stands after a fault.
 use crate::desk::{Desk, open_desk};
-use crate::ends::{Pieces, Sink, served, served_into, whole};
+use crate::ends::{End, Sink, in_pieces, reads, whole, writes};
 use http_read::{Counted, Inbox};
 use http_serve::{Next, ServeFault, exchange};
 use std::alloc::{AllocError, Global};
 use std::process::Abort;
-use std::test::Fail;
 
 const GET: &str = "GET /h HTTP/1.1\r\nHost: a\r\n\r\n";
 
-const LAST: &str = "GET /old HTTP/1.1\r\nHost: a\r\nConnection: close\r\n\r\n";
+/// A request, and a last one.
+const BOTH: &[u8] =
+    b"GET /h HTTP/1.1\r\nHost: a\r\n\r\nGET /old HTTP/1.1\r\nHost: a\r\nConnection: close\r\n\r\n";
 
 const PAGE: &str =
     "HTTP/1.1 200 OK\r\nContent-Type: text/html; charset=utf-8\r\nContent-Length: 3\r\n\r\nHi\n";
@@ -17,234 +18,250 @@ const PAGE: &str =
 const LAST_PAGE: &str =
     "HTTP/1.1 200 OK\r\nContent-Type: text/html; charset=utf-8\r\nContent-Length: 3\r\nConnection: close\r\n\r\nHi\n";
 
-const MOVED: &str =
-    "HTTP/1.1 301 Moved Permanently\r\nContent-Type: text/plain; charset=utf-8\r\nLocation: /h\r\nContent-Length: 12\r\nConnection: close\r\n\r\nmoved to /h\n";
+/// The page, and one that moved.
+const BOTH_PAGES: &[u8] =
+    b"HTTP/1.1 200 OK\r\nContent-Type: text/html; charset=utf-8\r\nContent-Length: 3\r\n\r\nHi\nHTTP/1.1 301 Moved Permanently\r\nContent-Type: text/plain; charset=utf-8\r\nLocation: /h\r\nContent-Length: 12\r\nConnection: close\r\n\r\nmoved to /h\n";
 
 const BAD: &str =
     "HTTP/1.1 400 Bad Request\r\nContent-Type: text/plain; charset=utf-8\r\nContent-Length: 12\r\nConnection: close\r\n\r\nbad request\n";
 
-const QUEUED: &str =
-    "HTTP/1.1 202 Accepted\r\nContent-Type: text/plain; charset=utf-8\r\nContent-Length: 7\r\n\r\nqueued\n";
+/// Two submissions, each with a ticket of its own.
+const TWO_SUBMISSIONS: &[u8] =
+    b"POST /_submit/1/5 HTTP/1.1\r\nHost: a\r\nContent-Length: 8\r\n\r\nrelease\nPOST /_submit/1/6 HTTP/1.1\r\nHost: a\r\nContent-Length: 8\r\n\r\nrelease\n";
 
-/// Two requests for every cut into two, in pieces of each size, and cut off behind each byte of the second.
-fn check_two(rt: &impl Abort, alloc: Global, desk: &mut Desk<'_>) -> Result<(), AllocError> {
-    let both = format!(in alloc; "{GET}{LAST}")?;
-    let bytes = both.as_str().as_bytes();
-    let expected = format!(in alloc; "{PAGE}{MOVED}")?;
-    let expected = expected.as_str().as_bytes();
-    for cut in 0..=bytes.len() {
-        for piece in [cut, usize::MAX] {
-            let run = served(
-                alloc,
-                desk,
-                Pieces {
-                    bytes,
-                    first: cut,
-                    piece,
-                    good: usize::MAX,
-                },
-            );
-            assert_eq!(rt; run.result, Ok(()));
-            assert_eq!(rt; run.written.as_slice(), expected, "cut behind {cut}");
-            assert_eq!(rt; run.failed_reads, 0);
-        }
-    }
-    for end in 0..bytes.len() {
-        let run = served(alloc, desk, whole(&bytes[..end]));
-        let result = if end == GET.len() {
-            Ok(())
-        } else {
-            Err(ServeFault::EndedEarly)
-        };
-        let written = if end < GET.len() { "" } else { PAGE };
-        assert_eq!(rt; run.result, result, "after {end}");
-        assert_eq!(rt; run.written.as_slice(), written.as_bytes(), "after {end}");
-    }
-    Ok(())
-}
-
-/// A reader that fails in place of each byte of the second request, and a writer that fails after each byte of the responses.
-fn check_faults(rt: &impl Abort, alloc: Global, desk: &mut Desk<'_>) -> Result<(), AllocError> {
-    let both = format!(in alloc; "{GET}{LAST}")?;
-    let bytes = both.as_str().as_bytes();
-    let expected = format!(in alloc; "{PAGE}{MOVED}")?;
-    let expected = expected.as_str().as_bytes();
-    for good in GET.len()..bytes.len() {
-        let run = served(
-            alloc,
-            desk,
-            Pieces {
-                bytes,
-                first: 1,
-                piece: 1,
-                good,
-            },
-        );
-        assert_eq!(rt; run.result, Err(ServeFault::Read), "after {good}");
-        assert_eq!(rt; run.written.as_slice(), PAGE.as_bytes());
-        assert_eq!(rt; run.failed_reads, 1);
-    }
-    for room in 0..expected.len() {
-        let run = served_into(alloc, desk, whole(bytes), room, usize::MAX);
-        assert_eq!(rt; run.result, Err(ServeFault::Write), "after {room}");
-        assert_eq!(rt; run.written.as_slice(), &expected[..room]);
-        assert_eq!(rt; run.failed_writes, 1);
-    }
-    Ok(())
-}
-
-#[test]
-fn a_page_and_one_that_moved(rt: HostRuntime) -> Result<(), Fail> {
-    let alloc = rt.alloc();
-    let mut desk = open_desk(alloc, "Hi\n", 1);
-    check_two(&rt, alloc, &mut desk)?;
-    check_faults(&rt, alloc, &mut desk)?;
-    Ok(())
-}
+const BOTH_QUEUED: &[u8] =
+    b"HTTP/1.1 202 Accepted\r\nContent-Type: text/plain; charset=utf-8\r\nContent-Length: 7\r\n\r\nqueued\nHTTP/1.1 202 Accepted\r\nContent-Type: text/plain; charset=utf-8\r\nContent-Length: 7\r\n\r\nqueued\n";
 
 /// What a client sends, what is written, and how it ends: a further request behind each closing one isn't answered.
-#[test]
-fn where_it_ends(rt: HostRuntime) -> Result<(), Fail> {
-    let alloc = rt.alloc();
-    let mut desk = open_desk(alloc, "Hi\n", 1);
-    for (bytes, written, result) in [
-        ("", "", Err(ServeFault::EndedEarly)),
-        ("\r\n", "", Err(ServeFault::EndedEarly)),
-        (
-            "GET /h HTTP/1.1\r\nHost: a\r\n\r\n\r\n\r\n",
-            PAGE,
-            Err(ServeFault::EndedEarly),
-        ),
-        (
-            "GET /h HTTP/1.1\r\nHost: a\r\nConnection: x, CLOSE\r\n\r\nGET /h HTTP/1.1\r\nHost: a\r\n\r\n",
-            LAST_PAGE,
-            Ok(()),
-        ),
-        (
-            "GET /h HTTP/1.0\r\nConnection: keep-alive\r\n\r\nGET /h HTTP/1.1\r\nHost: a\r\n\r\n",
-            LAST_PAGE,
-            Ok(()),
-        ),
-        (
-            "GET /h HTTP/1.1\r\n\r\nGET /h HTTP/1.1\r\nHost: a\r\n\r\n",
-            BAD,
-            Ok(()),
-        ),
-        // A submission behind a refused request, and one that is refused itself, are not taken.
-        (
-            "GET /h HTTP/1.1\r\n\r\nPOST /_submit/1/5 HTTP/1.1\r\nHost: a\r\nContent-Length: 8\r\n\r\nrelease\n",
-            BAD,
-            Ok(()),
-        ),
-        (
-            "POST /_submit/1/5 HTTP/1.1\r\nContent-Length: 8\r\n\r\nrelease\n",
-            BAD,
-            Ok(()),
-        ),
-    ] {
-        let run = served(alloc, &mut desk, whole(bytes.as_bytes()));
-        assert_eq!(rt; run.result, result, "{bytes}");
-        assert_eq!(rt; run.written.as_slice(), written.as_bytes(), "{bytes}");
+const ENDS: [(&str, &str, Result<(), ServeFault>); 8] = [
+    ("", "", Err(ServeFault::EndedEarly)),
+    ("\r\n", "", Err(ServeFault::EndedEarly)),
+    (
+        "GET /h HTTP/1.1\r\nHost: a\r\n\r\n\r\n\r\n",
+        PAGE,
+        Err(ServeFault::EndedEarly),
+    ),
+    (
+        "GET /h HTTP/1.1\r\nHost: a\r\nConnection: x, CLOSE\r\n\r\nGET /h HTTP/1.1\r\nHost: a\r\n\r\n",
+        LAST_PAGE,
+        Ok(()),
+    ),
+    (
+        "GET /h HTTP/1.0\r\nConnection: keep-alive\r\n\r\nGET /h HTTP/1.1\r\nHost: a\r\n\r\n",
+        LAST_PAGE,
+        Ok(()),
+    ),
+    (
+        "GET /h HTTP/1.1\r\n\r\nGET /h HTTP/1.1\r\nHost: a\r\n\r\n",
+        BAD,
+        Ok(()),
+    ),
+    // A submission behind a refused request, and one that is refused itself, are not taken.
+    (
+        "GET /h HTTP/1.1\r\n\r\nPOST /_submit/1/5 HTTP/1.1\r\nHost: a\r\nContent-Length: 8\r\n\r\nrelease\n",
+        BAD,
+        Ok(()),
+    ),
+    (
+        "POST /_submit/1/5 HTTP/1.1\r\nContent-Length: 8\r\n\r\nrelease\n",
+        BAD,
+        Ok(()),
+    ),
+];
+
+/// Two requests for every cut into two, in pieces of each size.
+fn check_cuts(rt: &impl Abort, alloc: Global, desk: &mut Desk<'_>) {
+    let end = (Ok(()), BOTH_PAGES);
+    for cut in 0..=BOTH.len() {
+        for piece in [cut, usize::MAX] {
+            let reader = in_pieces(BOTH, cut, piece, usize::MAX);
+            reads(rt, alloc, desk, reader, end, ("cut behind", cut));
+        }
     }
+}
+
+/// How two requests end that are cut off behind so many bytes.
+fn cut_off(len: usize) -> End<'static> {
+    if len < GET.len() {
+        (Err(ServeFault::EndedEarly), b"")
+    } else if len == GET.len() {
+        (Ok(()), PAGE.as_bytes())
+    } else {
+        (Err(ServeFault::EndedEarly), PAGE.as_bytes())
+    }
+}
+
+fn check_short(rt: &impl Abort, alloc: Global, desk: &mut Desk<'_>) {
+    for len in 0..BOTH.len() {
+        reads(
+            rt,
+            alloc,
+            desk,
+            whole(&BOTH[..len]),
+            cut_off(len),
+            ("after", len),
+        );
+    }
+}
+
+/// A reader that fails in place of each byte of the second request.
+fn check_reads(rt: &impl Abort, alloc: Global, desk: &mut Desk<'_>) {
+    let end = (Err(ServeFault::Read), PAGE.as_bytes());
+    for good in GET.len()..BOTH.len() {
+        let reader = in_pieces(BOTH, 1, 1, good);
+        reads(rt, alloc, desk, reader, end, ("after", good));
+    }
+}
+
+/// A writer that fails after each byte of the responses.
+fn check_writes(rt: &impl Abort, alloc: Global, desk: &mut Desk<'_>) {
+    for room in 0..BOTH_PAGES.len() {
+        let end = (Err(ServeFault::Write), &BOTH_PAGES[..room]);
+        writes(rt, alloc, desk, BOTH, (room, usize::MAX), end);
+    }
+}
+
+#[test]
+fn a_page_and_one_that_moved(rt: HostRuntime) {
+    let mut desk = open_desk(rt.alloc(), "Hi\n", 1);
+    check_cuts(&rt, rt.alloc(), &mut desk);
+    check_short(&rt, rt.alloc(), &mut desk);
+    check_reads(&rt, rt.alloc(), &mut desk);
+    check_writes(&rt, rt.alloc(), &mut desk);
+}
+
+fn check_ends(rt: &impl Abort, alloc: Global, desk: &mut Desk<'_>) {
+    for (sent, written, result) in ENDS {
+        let end = (result, written.as_bytes());
+        reads(rt, alloc, desk, whole(sent.as_bytes()), end, (sent, 0));
+    }
+}
+
+#[test]
+fn where_it_ends(rt: HostRuntime) {
+    let mut desk = open_desk(rt.alloc(), "Hi\n", 1);
+    check_ends(&rt, rt.alloc(), &mut desk);
     assert!(rt; desk.values.is_empty());
-    Ok(())
+}
+
+fn repeated(alloc: Global, text: &str, count: usize) -> Result<String, AllocError> {
+    let mut all = String::new(alloc);
+    for _ in 0..count {
+        all.push_str(text)?;
+    }
+    Ok(all)
+}
+
+/// What is written for so many requests: the hundredth response is the last.
+fn pages(alloc: Global, count: usize) -> Result<String, AllocError> {
+    let mut pages = repeated(alloc, PAGE, count.min(99))?;
+    if count >= 100 {
+        pages.push_str(LAST_PAGE)?;
+    }
+    Ok(pages)
 }
 
 /// So many requests, and what is written for the first hundred of them.
-fn check_many(
-    rt: &impl Abort,
-    alloc: Global,
-    desk: &mut Desk<'_>,
-    count: usize,
-) -> Result<(), AllocError> {
-    let mut bytes = String::new(alloc);
-    let mut expected = String::new(alloc);
-    for number in 1..=count {
-        bytes.push_str(GET)?;
-        if number < 100 {
-            expected.push_str(PAGE)?;
-        } else if number == 100 {
-            expected.push_str(LAST_PAGE)?;
-        }
-    }
-    let run = served(alloc, desk, whole(bytes.as_str().as_bytes()));
-    assert_eq!(rt; run.result, Ok(()));
-    assert_eq!(rt;
-        run.written.as_slice(),
-        expected.as_str().as_bytes(),
-        "{count}"
-    );
-    Ok(())
+fn check_many(rt: &impl Abort, alloc: Global, desk: &mut Desk<'_>, count: usize) {
+    let sent = repeated(alloc, GET, count).expect(rt, "memory");
+    let pages = pages(alloc, count).expect(rt, "memory");
+    let end = (Ok(()), pages.as_str().as_bytes());
+    let reader = whole(sent.as_str().as_bytes());
+    reads(rt, alloc, desk, reader, end, ("requests", count));
 }
 
 #[test]
-fn a_hundred_requests_and_one_more(rt: HostRuntime) -> Result<(), Fail> {
-    let alloc = rt.alloc();
-    let mut desk = open_desk(alloc, "Hi\n", 1);
+fn a_hundred_requests_and_one_more(rt: HostRuntime) {
+    let mut desk = open_desk(rt.alloc(), "Hi\n", 1);
     for count in [1, 99, 100, 101, 250] {
-        check_many(&rt, alloc, &mut desk, count)?;
+        check_many(&rt, rt.alloc(), &mut desk, count);
     }
-    Ok(())
 }
 
-/// Two submissions on one connection, each with a ticket of its own.
 #[test]
-fn two_submissions(rt: HostRuntime) -> Result<(), Fail> {
-    let alloc = rt.alloc();
-    let mut desk = open_desk(alloc, "Hi\n", 1);
-    let bytes =
-        b"POST /_submit/1/5 HTTP/1.1\r\nHost: a\r\nContent-Length: 8\r\n\r\nrelease\nPOST /_submit/1/6 HTTP/1.1\r\nHost: a\r\nContent-Length: 8\r\n\r\nrelease\n";
-    let run = served(alloc, &mut desk, whole(bytes));
-    let expected = format!(in alloc; "{QUEUED}{QUEUED}")?;
-    assert_eq!(rt; run.result, Ok(()));
-    assert_eq!(rt; run.written.as_slice(), expected.as_str().as_bytes());
+fn two_submissions(rt: HostRuntime) {
+    let mut desk = open_desk(rt.alloc(), "Hi\n", 1);
+    let end = (Ok(()), BOTH_QUEUED);
+    let reader = whole(TWO_SUBMISSIONS);
+    reads(&rt, rt.alloc(), &mut desk, reader, end, ("submissions", 2));
     assert_eq!(rt; desk.values.len(), 2);
-    Ok(())
 }
 
-/// A writer that takes all.
-fn room(alloc: Global) -> Sink {
-    Sink {
+/// A connection that is served by turns.
+#[derive(Drop)]
+struct Client<'a> {
+    reader: Counted<&'a [u8]>,
+    writer: Counted<Sink>,
+    inbox: Inbox,
+}
+
+/// One that sends these bytes, and whose writer takes all.
+fn sending(alloc: Global, bytes: &[u8]) -> Client<'_> {
+    let sink = Sink {
         taken: Vec::new(alloc),
         room: usize::MAX,
         piece: usize::MAX,
+    };
+    Client {
+        reader: Counted::new(bytes),
+        writer: Counted::new(sink),
+        inbox: Inbox::new(alloc),
     }
 }
 
-/// Two connections by turns, a request of each at a time: what one sent ahead waits in its inbox.
-#[test]
-fn two_connections_by_turns(rt: HostRuntime) -> Result<(), Fail> {
-    let alloc = rt.alloc();
-    let mut desk = open_desk(alloc, "Hi\n", 1);
-    let bytes = format!(in alloc; "{GET}{GET}")?;
-    let bytes = bytes.as_str().as_bytes();
-    let (mut one, mut other) = (Counted::new(bytes), Counted::new(bytes));
-    let (mut ahead, mut behind) = (Inbox::new(alloc), Inbox::new(alloc));
-    let mut first = Counted::new(room(alloc));
-    let mut second = Counted::new(room(alloc));
-    for answered in 0..2 {
-        let next = exchange(alloc, &mut one, &mut first, &mut ahead, &mut desk, answered)?;
-        assert_eq!(rt; next, Next::Stays);
-        let next = exchange(
+impl Client<'_> {
+    fn turn(
+        &mut self,
+        alloc: Global,
+        desk: &mut Desk<'_>,
+        answered: u32,
+    ) -> Result<Next, ServeFault> {
+        exchange(
             alloc,
-            &mut other,
-            &mut second,
-            &mut behind,
-            &mut desk,
+            &mut self.reader,
+            &mut self.writer,
+            &mut self.inbox,
+            desk,
             answered,
-        )?;
-        assert_eq!(rt; next, Next::Stays);
+        )
     }
-    let next = exchange(alloc, &mut one, &mut first, &mut ahead, &mut desk, 2)?;
-    assert_eq!(rt; next, Next::Ended);
-    let expected = format!(in alloc; "{PAGE}{PAGE}")?;
-    assert_eq!(rt;
-        first.into_inner().taken.as_slice(),
-        expected.as_str().as_bytes()
-    );
-    assert_eq!(rt;
-        second.into_inner().taken.as_slice(),
-        expected.as_str().as_bytes()
-    );
-    Ok(())
+
+    fn into_written(self) -> Vec<u8> {
+        let Client {
+            reader: _reader,
+            writer,
+            inbox: _inbox,
+        } = self;
+        writer.into_inner().into_taken()
+    }
+}
+
+const TWO_REQUESTS: &[u8] = b"GET /h HTTP/1.1\r\nHost: a\r\n\r\nGET /h HTTP/1.1\r\nHost: a\r\n\r\n";
+
+const TWO_PAGES: &[u8] =
+    b"HTTP/1.1 200 OK\r\nContent-Type: text/html; charset=utf-8\r\nContent-Length: 3\r\n\r\nHi\nHTTP/1.1 200 OK\r\nContent-Type: text/html; charset=utf-8\r\nContent-Length: 3\r\n\r\nHi\n";
+
+/// A request of each at a time: what one sent ahead waits in its inbox.
+fn by_turns(
+    rt: &impl Abort,
+    alloc: Global,
+    one: &mut Client<'_>,
+    other: &mut Client<'_>,
+    desk: &mut Desk<'_>,
+) {
+    for answered in 0..2 {
+        assert_eq!(rt; one.turn(alloc, desk, answered), Ok(Next::Stays));
+        assert_eq!(rt; other.turn(alloc, desk, answered), Ok(Next::Stays));
+    }
+    assert_eq!(rt; one.turn(alloc, desk, 2), Ok(Next::Ended));
+}
+
+#[test]
+fn two_connections_by_turns(rt: HostRuntime) {
+    let mut desk = open_desk(rt.alloc(), "Hi\n", 1);
+    let mut one = sending(rt.alloc(), TWO_REQUESTS);
+    let mut other = sending(rt.alloc(), TWO_REQUESTS);
+    by_turns(&rt, rt.alloc(), &mut one, &mut other, &mut desk);
+    assert_eq!(rt; one.into_written().as_slice(), TWO_PAGES);
+    assert_eq!(rt; other.into_written().as_slice(), TWO_PAGES);
 }

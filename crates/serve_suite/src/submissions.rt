@@ -1,10 +1,9 @@
 //! Submissions: each outcome, and what is taken where the response is lost.
 use crate::desk::{Desk, Mood, open_desk};
-use crate::ends::{PLAIN, Pieces, Row, check, response, served, served_into, whole};
+use crate::ends::{PLAIN, Row, in_pieces, reads, responds, response, whole, writes};
 use http_serve::ServeFault;
 use std::alloc::{AllocError, Global};
 use std::process::Abort;
-use std::test::Fail;
 
 const CHUNKED: &[u8] =
     b"POST /_submit/1/5 HTTP/1.1\r\nHost: a\r\nTransfer-Encoding: chunked\r\n\r\n4\r\nrele\r\n4\r\nase\n\r\n0\r\n\r\n";
@@ -48,116 +47,115 @@ const FAULTY: [(&str, &str); 13] = [
     ("put data d\n{\"n\":1.5}", "6 Data 2 NotWhole\n"),
 ];
 
-/// Submits the text under ticket (1, 5), with a Content-Length line.
-fn check_text(
-    rt: &impl Abort,
-    alloc: Global,
-    desk: &mut Desk<'_>,
-    text: &str,
-    expected: &str,
-) -> Result<(), AllocError> {
+fn submission(alloc: Global, text: &str) -> Result<String, AllocError> {
     let size = text.len();
-    let request = format!(in alloc;
+    format!(in alloc;
         "POST /_submit/1/5 HTTP/1.1\r\nHost: a\r\nContent-Length: {size}\r\n\r\n{text}"
-    )?;
-    check(rt, alloc, desk, request.as_str(), expected);
-    Ok(())
+    )
 }
 
-fn check_faults(rt: &impl Abort, alloc: Global, desk: &mut Desk<'_>) -> Result<(), AllocError> {
+/// Submits the text under ticket (1, 5), with a Content-Length line.
+fn check_text(rt: &impl Abort, alloc: Global, desk: &mut Desk<'_>, text: &str, row: Row) {
+    let request = submission(alloc, text).expect(rt, "memory");
+    responds(rt, alloc, desk, request.as_str(), row, false);
+}
+
+fn check_faults(rt: &impl Abort, alloc: Global, desk: &mut Desk<'_>) {
     for (text, line) in FAULTY {
         let row = ("422 Unprocessable Content", PLAIN, "", line);
-        let expected = response(alloc, row, false)?;
-        check_text(rt, alloc, desk, text, expected.as_str())?;
+        check_text(rt, alloc, desk, text, row);
     }
-    Ok(())
+}
+
+/// A template of so many letters.
+fn template(alloc: Global, letters: u32) -> Result<String, AllocError> {
+    let mut text = String::from_str(alloc, "put template t\n")?;
+    for _ in 0..letters {
+        text.push('x')?;
+    }
+    Ok(text)
 }
 
 /// A text of 32,757 bytes is too long with its ticket, and so is the longest body.
-fn check_too_long(rt: &impl Abort, alloc: Global, desk: &mut Desk<'_>) -> Result<(), AllocError> {
+fn check_too_long(rt: &impl Abort, alloc: Global, desk: &mut Desk<'_>, letters: u32) {
+    let text = template(alloc, letters).expect(rt, "memory");
     let row = ("422 Unprocessable Content", PLAIN, "", "1 TooLong\n");
-    let expected = response(alloc, row, false)?;
-    let expected = expected.as_str();
+    check_text(rt, alloc, desk, text.as_str(), row);
+}
+
+#[test]
+fn texts_that_are_no_command(rt: HostRuntime) {
+    let mut desk = open_desk(rt.alloc(), "Hi\n", 1);
+    check_faults(&rt, rt.alloc(), &mut desk);
     for letters in [32_742, 39_985] {
-        let mut text = String::from_str(alloc, "put template t\n")?;
-        for _ in 0..letters {
-            text.push('x')?;
-        }
-        check_text(rt, alloc, desk, text.as_str(), expected)?;
+        check_too_long(&rt, rt.alloc(), &mut desk, letters);
     }
-    Ok(())
+    assert!(rt; desk.values.is_empty());
 }
 
-#[test]
-fn texts_that_are_no_command(rt: HostRuntime) -> Result<(), Fail> {
-    let alloc = rt.alloc();
-    let mut desk = open_desk(alloc, "Hi\n", 1);
-    check_faults(&rt, alloc, &mut desk)?;
-    check_too_long(&rt, alloc, &mut desk)?;
-    assert!(rt; desk.values.is_empty());
-    Ok(())
+/// The value in chunks, which are read in pieces of that size.
+fn check_chunks(rt: &impl Abort, alloc: Global, desk: &mut Desk<'_>, piece: usize, row: Row) {
+    let expected = response(alloc, row, false).expect(rt, "memory");
+    let reader = in_pieces(CHUNKED, piece, piece, usize::MAX);
+    let end = (Ok(()), expected.as_str().as_bytes());
+    reads(rt, alloc, desk, reader, end, ("in pieces of", piece));
 }
 
-/// The value by chunks, in pieces of each size: queued once, and then already there; busy and stopped take nothing.
-fn check_outcomes(rt: &impl Abort, alloc: Global, desk: &mut Desk<'_>) -> Result<(), AllocError> {
-    desk.mood = Mood::Stopped;
-    let expected = response(alloc, STOPPED, false)?;
-    check_text(rt, alloc, desk, "release\n", expected.as_str())?;
-    desk.mood = Mood::Busy;
-    let expected = response(alloc, BUSY, false)?;
-    check_text(rt, alloc, desk, "release\n", expected.as_str())?;
-    assert!(rt; desk.values.is_empty());
-    desk.mood = Mood::Open;
-    for piece in 1..CHUNKED.len() {
-        let reader = Pieces {
-            bytes: CHUNKED,
-            first: piece,
-            piece,
-            good: usize::MAX,
-        };
-        let run = served(alloc, desk, reader);
-        let expected = response(alloc, if piece == 1 { QUEUED } else { ALREADY }, false)?;
-        assert_eq!(rt; run.result, Ok(()));
-        assert_eq!(rt; run.written.as_slice(), expected.as_str().as_bytes());
+/// By pieces of each size the value is queued once, and then already there.
+fn check_pieces(rt: &impl Abort, alloc: Global, desk: &mut Desk<'_>) {
+    check_chunks(rt, alloc, desk, 1, QUEUED);
+    for piece in 2..CHUNKED.len() {
+        check_chunks(rt, alloc, desk, piece, ALREADY);
     }
     assert_eq!(rt; desk.values.len(), 1);
+}
+
+/// Busy and stopped take nothing, but what is there stays there.
+fn check_outcomes(rt: &impl Abort, alloc: Global, desk: &mut Desk<'_>) {
+    for (mood, row) in [(Mood::Stopped, STOPPED), (Mood::Busy, BUSY)] {
+        desk.mood = mood;
+        check_text(rt, alloc, desk, "release\n", row);
+    }
+    assert!(rt; desk.values.is_empty());
+    desk.mood = Mood::Open;
+    check_pieces(rt, alloc, desk);
     desk.mood = Mood::Busy;
-    let expected = response(alloc, ALREADY, false)?;
-    check_text(rt, alloc, desk, "release\n", expected.as_str())
+    check_text(rt, alloc, desk, "release\n", ALREADY);
 }
 
 #[test]
-fn outcomes(rt: HostRuntime) -> Result<(), Fail> {
-    let alloc = rt.alloc();
-    let mut desk = open_desk(alloc, "Hi\n", 1);
-    check_outcomes(&rt, alloc, &mut desk)?;
+fn outcomes(rt: HostRuntime) {
+    let mut desk = open_desk(rt.alloc(), "Hi\n", 1);
+    check_outcomes(&rt, rt.alloc(), &mut desk);
     assert_eq!(rt; desk.values.get(0).map(|v| v.as_slice()), Some(VALUE));
-    Ok(())
 }
 
-/// A submission stays taken where its response can't be written; where memory was missing none was taken, and a request cut short takes none.
-fn check_lost(rt: &impl Abort, alloc: Global, desk: &mut Desk<'_>) {
+/// Where memory was missing none was taken, and a request cut short takes none.
+fn check_not_taken(rt: &impl Abort, alloc: Global, desk: &mut Desk<'_>) {
     desk.mood = Mood::Starved;
-    let run = served(alloc, desk, whole(CHUNKED));
-    assert_eq!(rt; run.result, Err(ServeFault::OutOfMemory));
-    assert!(rt; run.written.is_empty());
+    let starved = (Err(ServeFault::OutOfMemory), b"".as_slice());
+    reads(rt, alloc, desk, whole(CHUNKED), starved, ("starved", 0));
     desk.mood = Mood::Open;
+    let early = (Err(ServeFault::EndedEarly), b"".as_slice());
     for len in 0..CHUNKED.len() {
-        let run = served(alloc, desk, whole(&CHUNKED[..len]));
-        assert_eq!(rt; run.result, Err(ServeFault::EndedEarly));
-        assert!(rt; run.written.is_empty());
+        reads(
+            rt,
+            alloc,
+            desk,
+            whole(&CHUNKED[..len]),
+            early,
+            ("after", len),
+        );
     }
     assert!(rt; desk.values.is_empty());
-    let run = served_into(alloc, desk, whole(CHUNKED), 20, 7);
-    assert_eq!(rt; run.result, Err(ServeFault::Write));
-    assert_eq!(rt; run.written.as_slice(), b"HTTP/1.1 202 Accepte".as_slice());
-    assert_eq!(rt; desk.values.len(), 1);
 }
 
+/// A submission stays taken where its response can't be written.
 #[test]
-fn lost_responses(rt: HostRuntime) -> Result<(), Fail> {
-    let alloc = rt.alloc();
-    let mut desk = open_desk(alloc, "Hi\n", 1);
-    check_lost(&rt, alloc, &mut desk);
-    Ok(())
+fn lost_responses(rt: HostRuntime) {
+    let mut desk = open_desk(rt.alloc(), "Hi\n", 1);
+    check_not_taken(&rt, rt.alloc(), &mut desk);
+    let end = (Err(ServeFault::Write), b"HTTP/1.1 202 Accepte".as_slice());
+    writes(&rt, rt.alloc(), &mut desk, CHUNKED, (20, 7), end);
+    assert_eq!(rt; desk.values.len(), 1);
 }
