@@ -3,7 +3,7 @@ use crate::opening::{again, fresh};
 use command::write;
 use node::{Node, NodeFault, Submitted};
 use site_disk::MemDisk;
-use site_drive::{Desk, Driven, LastCall, Link, MemLink, drive, exchange};
+use site_drive::{Desk, Driven, LastCall, Link, MemLink, drive};
 use site_ids::{Ticket, Value};
 use std::alloc::Global;
 use std::process::Abort;
@@ -54,8 +54,10 @@ impl<L: Link + Drop> Server<L> {
         desk.drive_with(&mut self.node, &mut self.link, turns, last)
     }
 
+    /// Turns alone.
     pub(crate) fn exchange(&mut self, turns: u32) -> Result<Driven, NodeFault> {
-        exchange(self.alloc, &mut self.node, &mut self.link, turns)
+        let mut desk = Desk::new(self.alloc)?;
+        self.drive_with(&mut desk, turns, LastCall::Nothing)
     }
 
     /// A command of editor 1, by the number of its ticket.

@@ -1,4 +1,4 @@
-//! What node 1 of three sends for what it hears, datagram by datagram; `exchange` beside `drive`, and the other calls behind turns.
+//! What node 1 of three sends for what it hears, datagram by datagram; turns alone beside `drive`, and the other calls behind turns.
 use crate::server::{Server, passes};
 use site_drive::{Desk, LastCall, MemLink};
 use std::alloc::Global;

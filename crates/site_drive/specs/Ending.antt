@@ -11,10 +11,10 @@ use Rattle.site_drive.specs.Links.{RoseBy}
 
 -- of the link's calls: as many receives as turns, fewer where it is given up, and as many failed ones told as the link counts
 pub record CallsLink {L : Type 0} (tried failed : L → ℕ) (turns : ℕ) (before after : L) (result : Result Driven NodeFault) : Type 0 where
-  pub tried : OnOk result (RoseBy turns (tried before) (tried after))
-  pub tried_fewer : OnErr result ((made : ℕ) × (made ≤ turns) × RoseBy made (tried before) (tried after))
-  pub failed : IfOk result (λ driven. RoseBy driven.failed (failed before) (failed after))
-  pub failed_too : OnErr result ((calls : ℕ) × RoseBy calls (failed before) (failed after))
+  pub receives : OnOk result (RoseBy turns (tried before) (tried after))
+  pub fewer : OnErr result ((made : ℕ) × (made ≤ turns) × RoseBy made (tried before) (tried after))
+  pub told : IfOk result (λ driven. RoseBy driven.failed (failed before) (failed after))
+  pub not_told : OnErr result ((calls : ℕ) × RoseBy calls (failed before) (failed after))
 
 -- a drive that is whole leads on so, and one that is given up otherwise; whose node it is stays; a failure of the device is told, and no other was counted
 pub record EndsDrive {D L : Type 0} (stands_for : D → DiskState → Type 0) (device : D → ℕ) (received : L → List (List ℕ) → Type 0) (given : L → List (ℕ × List ℕ) → Type 0) (tried failed : L → ℕ)

@@ -1,12 +1,12 @@
-use Rattle.std.proofs.Common.{[]}
+use Rattle.std.proofs.Common.{[], refl}
 use Rattle.world.proofs.Happening.{is_sent, submits, ticks, widens, asks, tells, delivers, arms, crashes, restarts, submit_wants, tick_wants, widen_wants, ask_wants, tell_wants, deliver_wants}
 use Rattle.world.proofs.places.Place.happen.Goals as goal
 
 pub returns-in-Submit-clause-ok : goal.returns-in-Submit-clause-ok
-returns-in-Submit-clause-ok g = submits _ g.args.cluster _ _ _ _ [] _ _ _ g.in-Submit.is g.as_bytes.ensures g.submit.ensures.ok
+returns-in-Submit-clause-ok g = submits _ g.args.cluster _ _ _ _ [] _ _ _ g.in-Submit.is refl g.submit.ensures.ok
 
 pub returns-in-Submit-clause-err : goal.returns-in-Submit-clause-err
-returns-in-Submit-clause-err g = submit_wants _ g.args.cluster _ _ _ _ [] _ _ _ g.in-Submit.is g.as_bytes.ensures g.submit.ensures.err
+returns-in-Submit-clause-err g = submit_wants _ g.args.cluster _ _ _ _ [] _ _ _ g.in-Submit.is refl g.submit.ensures.err
 
 pub returns-in-Tick-clause-ok : goal.returns-in-Tick-clause-ok
 returns-in-Tick-clause-ok g = ticks _ g.args.cluster _ _ _ _ _ _ g.in-Tick.is g.tick.ensures.ok
