@@ -16,7 +16,7 @@ use Rattle.node.specs.declared.fault.NodeFault.TheVariants as fault
 use Rattle.node.specs.declared.running.Node.{Node as Running}
 use Rattle.node.specs.Nodes.{Node}
 use Rattle.node.specs.Ahead.{IsAheadOf}
-use Rattle.node.specs.Batches.{KeepsEither, SealsAt, LosesOneOf}
+use Rattle.node.specs.Batches.{SealsAt, LosesOneOf}
 use Rattle.node.specs.Faults.{of_record}
 use Rattle.node.specs.Standing.{IsEither}
 use Rattle.node.proofs.Stepping.{of_node}
@@ -47,8 +47,9 @@ module _ {D : Type 0} (stands_for : D → DiskState → Type 0) (old : Running D
     leaves_either : (e : DiskState) → LeavesOnly d e (IsNoneOrAll old.store.node old.store.cluster s.entries of.batch) → LeavesOnly d e (IsEither old.me old.cluster s t)
     leaves_either e only = weaker d e (IsNoneOrAll old.store.node old.store.cluster s.entries of.batch) (IsEither old.me old.cluster s t) either only
 
-    keeps_either : (e : DiskState) → KeepsNoneOrAll old.store.node old.store.cluster s.entries of.batch e → KeepsEither old.me old.cluster s t e
-    keeps_either e keeps = record { read = either e.seen keeps.read; left = λ left may. either left (keeps.left left may) }
+    keeps_mine : (e : DiskState) → KeepsNoneOrAll old.store.node old.store.cluster s.entries of.batch e → KeepsNoneOrAll old.me old.cluster s.entries of.batch e
+    keeps_mine e keeps =
+        subst (λ (p : ℕ). KeepsNoneOrAll p old.cluster s.entries of.batch e) old.store_node (subst (λ (n : ℕ). KeepsNoneOrAll old.store.node n s.entries of.batch e) old.store_cluster keeps)
 
   pub seals_at : (new : Running D) → Seals stands_for old.store new.store → SealsAt stands_for old new
   seals_at new seals s t d stands of =
@@ -66,4 +67,4 @@ module _ {D : Type 0} (stands_for : D → DiskState → Type 0) (old : Running D
   pub loses_one_of : (store : Record D) → LeavesBatch stands_for old.store store → LosesOneOf stands_for old store.disk
   loses_one_of store leaves s t d of =
       let after = leaves d s.entries of.batch of.ahead in
-      (after.0, after.1, leaves_either s t d of after.0 after.2, keeps_either s t d of after.0 after.3)
+      (after.0, after.1, leaves_either s t d of after.0 after.2, keeps_mine s t d of after.0 after.3)

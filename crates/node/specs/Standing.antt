@@ -84,7 +84,8 @@ abbrev pub ending_of : {T : Type 0} → Result T NodeFault → Ending
 ending_of (Ok x) = Whole
 ending_of (Err cause) = ending_by cause
 
--- From s the call ends so, at a node that the new value stands for. The outbox is longer by what is handed out: few messages, each of the cluster
+-- From s the call ends so, at a node that the new value stands for, on the disk as before or, while a batch is open, ahead of it. The outbox is longer by what
+-- is handed out: few messages, each of the cluster
 pub record Leads {D : Type 0} (stands_for : D → DiskState → Type 0) (old new : Running D) (call : Call) (ending : Ending) (before after : List (To × Message)) (s : Node) : Type 0 where
   pub next : Node
   pub out : List (To × Message)
