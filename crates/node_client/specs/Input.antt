@@ -1,6 +1,6 @@
 -- What a client still has to read: what is held, and what the reader has left.
 use Rattle.std.specs.Prelude.{ℕ, List, Option}
-use Rattle.std.specs.Io.KnownBytes.{prepend_known, Consumes}
+use Rattle.std.specs.Io.KnownBytes.{Consumes}
 use Rattle.node_client.specs.Answers.{IsOf}
 use Rattle.node_client.specs.declared.answer.Answer.{Answer}
 

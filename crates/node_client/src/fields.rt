@@ -1,5 +1,5 @@
 //! The length that a head states.
-ghost use Rattle.std.specs.Prelude.{◌≡◌, length, Some, codes, decimal, IfSome};
+ghost use Rattle.std.specs.Prelude.{◌≡◌, ◌≢◌, ℕ, ◌<◌, ◌^◌, length, Some, codes, decimal, MatchOption};
 ghost use Rattle.std.specs.Option.{option_map};
 ghost use Rattle.http_read.specs.Checks.{values_of, has_field_name};
 ghost use Rattle.http_read.specs.Spans.{covered, LieIn, head_of};
@@ -32,7 +32,8 @@ fn first_named<'b>(bytes: &'b [u8], fields: &[HeaderSpan], name: &[u8]) -> Optio
 /// The length that the first Content-Length line states.
 pub(crate) fn stated_length(bytes: &[u8], fields: &[HeaderSpan]) -> Option<u64>
     requires { LieIn bytes.now fields.now }
-    ensures { IfSome result (λ n. head_of (values_of (codes "content-length") (covered bytes.now fields.now)) ≡ Some (decimal n)) }
+    ensures { MatchOption result ((n : ℕ) → n < 2 ^ 64 → head_of (values_of (codes "content-length") (covered bytes.now fields.now)) ≢ Some (decimal n))
+        (λ n. (n < 2 ^ 64) × (head_of (values_of (codes "content-length") (covered bytes.now fields.now)) ≡ Some (decimal n))) }
 {
     read_number(first_named(bytes, fields, b"content-length")?)
 }

@@ -9,10 +9,10 @@ use httparse::spans::{EMPTY_HEADER_SPAN, parse_response};
 use std::alloc::{AllocError, Global};
 
 /// The most field lines of an answer. A node gives five at most, a proxy before it some more.
-const FIELDS: usize = 32;
+pub(crate) const FIELDS: usize = 32;
 
 /// The most bytes of a body. A node's page costs 1,000,000 at most.
-const MAX_BODY: u64 = 2_000_000;
+pub(crate) const MAX_BODY: u64 = 2_000_000;
 
 /// What the bytes so far say of an answer.
 #[derive(Drop)]
@@ -35,10 +35,13 @@ pub(crate) fn seen_in(alloc: Global, held: &[u8]) -> Result<Look, AllocError>
         Ok(Status::Partial) => return Ok(Look::Open),
         Err(_) => return Ok(Look::Never),
     };
-    let length = match stated_length(held, &spans[..head.headers]) {
-        Some(length) if length <= MAX_BODY => length as usize,
-        _ => return Ok(Look::Never),
+    let Some(stated) = stated_length(held, &spans[..head.headers]) else {
+        return Ok(Look::Never);
     };
+    if stated > MAX_BODY {
+        return Ok(Look::Never);
+    }
+    let length = stated as usize;
     let behind = &held[head.len..];
     if length > behind.len() {
         return Ok(Look::Open);

@@ -1,8 +1,9 @@
 //! The answers of a connection, one after another.
-ghost use Rattle.std.specs.Prelude.{IfOk, IsErrOf};
+ghost use Rattle.std.specs.Prelude.{IfOk, IfSome, IsErrOf};
 ghost use Rattle.std.specs.Io.KnownBytes.{prepend_known, IsAtEnd};
 ghost use Rattle.http_read.specs.Counted.{inside};
 ghost use Rattle.http_read.specs.Bytes.{end_of, HasFailed};
+ghost use Rattle.node_client.specs.Answers.{HasNone};
 ghost use Rattle.node_client.specs.Input.{Takes};
 
 use crate::answer::Answer;
@@ -13,8 +14,8 @@ use http_read::Counted;
 use std::alloc::Global;
 use std::io::Read;
 
-/// The most bytes that are held.
-const MOST: usize = 2_100_000;
+/// The most bytes of an answer.
+pub(crate) const MOST: usize = 2_100_000;
 
 /// Reads the next answer of a connection. The feed is the connection's: what came ahead waits there for the next call.
 pub fn read_answer<R: Read>(
@@ -24,9 +25,10 @@ pub fn read_answer<R: Read>(
 ) -> Result<Answer, AnswerFault>
     ensures ok { IfOk result (Takes (prepend_known feed.old (R.remaining (inside reader.old))) (prepend_known feed.new (R.remaining (inside reader.new)))) }
     ensures read { IsErrOf result AnswerFault.Read → HasFailed (end_of R.remaining reader.old reader.new) }
-    ensures ended { IsErrOf result AnswerFault.Ended → IsAtEnd (R.remaining (inside reader.new)) }
+    ensures ended { IsErrOf result AnswerFault.Ended → IsAtEnd (R.remaining (inside reader.new)) × IfSome (prepend_known feed.old (R.remaining (inside reader.old))) HasNone }
+    ensures never { IsErrOf result AnswerFault.NoAnswer → IfSome (prepend_known feed.old (R.remaining (inside reader.old))) HasNone }
 {
-    while feed.held().len() < MOST {
+    loop {
         match seen_in(alloc, feed.held())? {
             Look::Whole(answer, length) => {
                 feed.pass(length);
@@ -35,9 +37,11 @@ pub fn read_answer<R: Read>(
             Look::Never => return Err(AnswerFault::NoAnswer),
             Look::Open => {}
         }
+        if feed.held().len() >= MOST {
+            return Err(AnswerFault::NoAnswer);
+        }
         if !feed.read_more(reader)? {
             return Err(AnswerFault::Ended);
         }
     }
-    Err(AnswerFault::NoAnswer)
 }

@@ -1,7 +1,6 @@
 //! A device that fails at each call of each put, what is found when the node is opened again, and what the node says of it.
-use crate::halt::Halt;
 use crate::peer::Peer;
-use crate::samples::{prepare, prepared_round, propose, told_vote};
+use crate::samples::{copied, prepare, prepared_round, propose, told_vote};
 use node::NodeFault;
 use std::alloc::Global;
 use std::process::Abort;
@@ -34,44 +33,47 @@ enum Put {
     Vote,
 }
 
+fn hand_prepare(rt: &impl Abort, node: &mut Peer, round: u32) -> Result<(), NodeFault> {
+    let message = prepare(rt, node.other(rt, 3), round);
+    node.hand(rt, &message)
+}
+
+fn hand_proposal(rt: &impl Abort, node: &mut Peer) -> Result<(), NodeFault> {
+    let value = copied(rt, node.alloc(), b"v");
+    let message = propose(rt, node.other(rt, 3), 1, 1, value);
+    node.hand(rt, &message)
+}
+
 /// A call that puts an entry on record.
-fn enter(node: &mut Peer, which: Put) -> Result<(), Halt> {
-    let three = node.other(3)?;
+fn enter(rt: &impl Abort, node: &mut Peer, which: Put) -> Result<(), NodeFault> {
     match which {
-        Put::Round => Ok(node.tick()?),
-        Put::Promise => node.hand(&prepare(three, 2)?),
-        Put::Vote => {
-            let message = propose(node.alloc(), three, 1, b"v")?;
-            node.hand(&message)
-        }
+        Put::Round => node.tick(),
+        Put::Promise => hand_prepare(rt, node, 2),
+        Put::Vote => hand_proposal(rt, node),
     }
 }
 
 /// Whether the entry shows: a tick takes the next round, a prepare below the promise is refused, a promise tells the vote.
-fn shows(node: &mut Peer, which: Put) -> Result<bool, Halt> {
-    let three = node.other(3)?;
+fn shows(rt: &impl Abort, node: &mut Peer, which: Put) -> bool {
+    let called = match which {
+        Put::Round => node.tick(),
+        Put::Promise => hand_prepare(rt, node, 1),
+        Put::Vote => hand_prepare(rt, node, 2),
+    };
+    assert_eq!(rt; called, Ok(()));
     match which {
-        Put::Round => {
-            node.tick()?;
-            Ok(prepared_round(node.out()) == Some(2))
-        }
-        Put::Promise => {
-            node.hand(&prepare(three, 1)?)?;
-            Ok(told_vote(node.out()).is_none())
-        }
-        Put::Vote => {
-            node.hand(&prepare(three, 2)?)?;
-            Ok(told_vote(node.out()) == Some(true))
-        }
+        Put::Round => prepared_round(node.out()) == Some(2),
+        Put::Promise => told_vote(node.out()).is_none(),
+        Put::Vote => told_vote(node.out()) == Some(true),
     }
 }
 
 /// The device fails after so many calls: nothing is handed out, and the node is stopped.
 fn failing(rt: &impl Abort, node: &mut Peer, which: Put, calls: u32) {
     node.arm(calls);
-    assert_eq!(rt; enter(node, which), Err(Halt::Node(NodeFault::Device)));
+    assert_eq!(rt; enter(rt, node, which), Err(NodeFault::Device));
     assert!(rt; node.is_stopped() && node.out().is_empty());
-    assert_eq!(rt; enter(node, which), Err(Halt::Node(NodeFault::Stopped)));
+    assert_eq!(rt; enter(rt, node, which), Err(NodeFault::Stopped));
 }
 
 /// Whether the entry is found where the device failed after so many calls, and the node is opened again.
@@ -79,7 +81,7 @@ fn found(rt: &impl Abort, alloc: Global, which: Put, calls: u32, crash: Option<u
     let mut node = Peer::fresh(rt, alloc, 3);
     failing(rt, &mut node, which, calls);
     let mut node = node.again(rt, crash);
-    shows(&mut node, which).expect(rt, "what it says")
+    shows(rt, &mut node, which)
 }
 
 fn each_failure(rt: &impl Abort, alloc: Global, which: Put) {

@@ -6,8 +6,6 @@ mod batches;
 #[cfg(test)]
 mod devices;
 #[cfg(test)]
-mod halt;
-#[cfg(test)]
 mod peer;
 #[cfg(test)]
 mod refusals;

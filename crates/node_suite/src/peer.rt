@@ -1,8 +1,6 @@
 //! A node over a disk in memory, lent to the rows: a row that owned one would have to be proved to let it go at each of its ends.
-ghost use Rattle.std.specs.Prelude.{◌≡◌};
 ghost use Rattle.site_ids.specs.Ids.{IsNode};
 
-use crate::halt::Halt;
 use durable::{Record, RecordFault};
 use node::{Node, NodeFault, Outbox, Submitted, To};
 use site_disk::MemDisk;
@@ -15,48 +13,62 @@ use wire::Message;
 #[derive(Drop)]
 pub(crate) struct Peer {
     alloc: Global,
-    cluster: Cluster,
-    me: NodeId,
     node: Node<MemDisk>,
     out: Outbox,
-    ghost same: { node.cluster ≡ cluster },
-    ghost of_cluster: { IsNode cluster me },
+}
+
+fn format(alloc: Global, cluster: Cluster, me: NodeId) -> Result<MemDisk, RecordFault> {
+    let mut disk = MemDisk::new(alloc);
+    match Record::format(cluster, me, &mut disk) {
+        Ok(()) => Ok(disk),
+        Err(fault) => Err(fault),
+    }
 }
 
 /// A record that was just made. A growth that was refused leaves a beginning of it behind, so it is made on another disk then.
 fn formatted(rt: &impl Abort, alloc: Global, cluster: Cluster, me: NodeId) -> MemDisk {
-    let mut disk = MemDisk::new(alloc);
-    match Record::format(cluster, me, &mut disk) {
-        Ok(()) => disk,
+    match format(alloc, cluster, me) {
+        Ok(disk) => disk,
         Err(fault) => {
             assert_eq!(rt; fault, RecordFault::Device);
-            let mut disk = MemDisk::new(alloc);
-            Record::format(cluster, me, &mut disk).expect(rt, "a record");
-            disk
+            format(alloc, cluster, me).expect(rt, "a record")
         }
     }
 }
 
-/// An opening that was refused memory is tried once more.
-fn opened(
-    rt: &impl Abort,
+fn open(
     alloc: Global,
     cluster: Cluster,
     me: NodeId,
     disk: MemDisk,
-) -> Node<MemDisk>
+) -> Result<Node<MemDisk>, (RecordFault, MemDisk)>
     requires { IsNode cluster me }
-    ensures { result.cluster ≡ cluster }
 {
-    let (fault, disk) = match Node::open(alloc, cluster, me, disk) {
+    Node::open(alloc, cluster, me, disk)
+}
+
+/// An opening that was refused memory is tried once more.
+fn opened(rt: &impl Abort, alloc: Global, cluster: Cluster, disk: MemDisk) -> Node<MemDisk> {
+    let me = cluster.node(1).expect(rt, "a node");
+    let (fault, disk) = match open(alloc, cluster, me, disk) {
         Ok(node) => return node,
         Err(refused) => refused,
     };
     assert!(rt; matches!(fault, RecordFault::OutOfMemory | RecordFault::Device));
-    match Node::open(alloc, cluster, me, disk) {
+    match open(alloc, cluster, me, disk) {
         Ok(node) => node,
         Err((fault, _disk)) => panic!(rt; "{fault:?}"),
     }
+}
+
+/// The disk of a node that is closed, behind a crash by that choice, or without one.
+fn closed(node: Node<MemDisk>, crash: Option<u8>) -> MemDisk {
+    let mut disk = node.close();
+    match crash {
+        Some(choice) => disk.crash(choice),
+        None => disk.disarm(),
+    }
+    disk
 }
 
 impl Peer {
@@ -65,36 +77,21 @@ impl Peer {
         let cluster = Cluster::new(size).expect(rt, "a cluster");
         let me = cluster.node(1).expect(rt, "a node");
         let disk = formatted(rt, alloc, cluster, me);
-        let node = opened(rt, alloc, cluster, me, disk);
         Peer {
             alloc,
-            cluster,
-            me,
-            node,
+            node: opened(rt, alloc, cluster, disk),
             out: Vec::new(alloc),
         }
     }
 
     /// Closed and opened again, behind a crash by that choice, or without one.
     pub(crate) fn again(self, rt: &impl Abort, crash: Option<u8>) -> Peer {
-        let Peer {
-            alloc,
-            cluster,
-            me,
-            node,
-            out,
-        } = self;
-        let mut disk = node.close();
-        match crash {
-            Some(choice) => disk.crash(choice),
-            None => disk.disarm(),
-        }
-        let node = opened(rt, alloc, cluster, me, disk);
+        let Peer { alloc, node, out } = self;
+        let cluster = node.cluster();
+        let disk = closed(node, crash);
         Peer {
             alloc,
-            cluster,
-            me,
-            node,
+            node: opened(rt, alloc, cluster, disk),
             out,
         }
     }
@@ -104,22 +101,18 @@ impl Peer {
     }
 
     /// A node of the cluster.
-    pub(crate) fn other(&self, number: u8) -> Result<NodeId, Halt> {
-        self.cluster.node(number).ok_or(Halt::NotThere)
+    pub(crate) fn other(&self, rt: &impl Abort, number: u8) -> NodeId {
+        self.node.cluster().node(number).expect(rt, "a node")
     }
 
     pub(crate) fn out(&self) -> &Outbox {
         &self.out
     }
 
-    pub(crate) fn hand(&mut self, message: &Message) -> Result<(), Halt> {
-        if !message.is_of(self.cluster) {
-            return Err(Halt::NotThere);
-        }
-        match self.node.deliver(message, &mut self.out) {
-            Ok(()) => Ok(()),
-            Err(fault) => Err(Halt::Node(fault)),
-        }
+    /// A message of its cluster.
+    pub(crate) fn hand(&mut self, rt: &impl Abort, message: &Message) -> Result<(), NodeFault> {
+        assert!(rt; message.is_of(self.node.cluster()));
+        self.node.deliver(message, &mut self.out)
     }
 
     pub(crate) fn arm(&mut self, calls: u32) {
@@ -185,7 +178,7 @@ impl Peer {
 
     /// The status of the newest release's page.
     pub(crate) fn status(&self, path: &str) -> Option<u16> {
-        match self.node.answer(self.node.newest(), path) {
+        match self.node.answer(self.newest(), path) {
             Ok(answer) => Some(answer.status),
             Err(_) => None,
         }

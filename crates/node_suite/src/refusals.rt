@@ -1,10 +1,9 @@
 //! Each call with one growth refused, as `tools/refuse-growths` runs this: it answers as ever, or that memory was refused, and then the next try
 //! answers as ever. Where the disk in memory found none its call failed, so the node is opened again; an opening is tried twice.
-use crate::halt::Halt;
 use crate::peer::Peer;
 use crate::samples::{
-    accepted, asked_instance, ballot, chosen, instance, prepare, prepared_round, promise, propose,
-    proposes, question, told_vote, value,
+    accepted, asked_instance, ballot, chosen, copied, instance, prepare, prepared_round, promise,
+    propose, proposes, question, told_vote, value,
 };
 use node::{NodeFault, To};
 use std::alloc::Global;
@@ -37,69 +36,66 @@ enum Said {
     Vote(u8),
 }
 
-fn promise_of(node: &Peer, from: u8) -> Result<Message, Halt> {
-    let round = prepared_round(node.out()).ok_or(Halt::NotThere)?;
-    let at = ballot(round, node.other(1)?)?;
-    let prior = ballot(1, node.other(2)?)?;
-    promise(node.alloc(), node.other(from)?, at, prior, b"v")
+fn promise_of(rt: &impl Abort, node: &Peer, from: u8) -> Message {
+    let round = prepared_round(node.out()).expect(rt, "a prepare");
+    let at = ballot(rt, round, node.other(rt, 1));
+    let prior = ballot(rt, 1, node.other(rt, 2));
+    let value = copied(rt, node.alloc(), b"v");
+    promise(rt, node.other(rt, from), at, prior, value)
 }
 
-fn vote_of(node: &Peer, from: u8) -> Result<Message, Halt> {
-    let release = value(node.alloc(), 1, "release\n")?;
-    let at = ballot(1, node.other(1)?)?;
-    accepted(node.alloc(), node.other(from)?, at, release.as_bytes())
+fn vote_of(rt: &impl Abort, node: &Peer, from: u8) -> Message {
+    let release = value(rt, node.alloc(), 1, "release\n");
+    let at = ballot(rt, 1, node.other(rt, 1));
+    accepted(rt, node.other(rt, from), at, release)
 }
 
-fn message(node: &Peer, said: Said) -> Result<Message, Halt> {
-    let three = node.other(3)?;
+fn message(rt: &impl Abort, node: &Peer, said: Said) -> Message {
+    let three = node.other(rt, 3);
     match said {
-        Said::Propose => propose(node.alloc(), three, 1, b"v"),
-        Said::Prepare => prepare(three, 2),
-        Said::Question => question(three, 1),
-        Said::Chosen => chosen(node.alloc(), three, 1, b"v"),
-        Said::Promise(from) => promise_of(node, from),
-        Said::Vote(from) => vote_of(node, from),
+        Said::Propose => propose(rt, three, 1, 1, copied(rt, node.alloc(), b"v")),
+        Said::Prepare => prepare(rt, three, 2),
+        Said::Question => question(rt, three, 1),
+        Said::Chosen => chosen(rt, three, 1, copied(rt, node.alloc(), b"v")),
+        Said::Promise(from) => promise_of(rt, node, from),
+        Said::Vote(from) => vote_of(rt, node, from),
     }
 }
 
-fn act(node: &mut Peer, step: Step) -> Result<(), Halt> {
+fn hear(rt: &impl Abort, node: &mut Peer, said: Said) -> Result<(), NodeFault> {
+    let message = message(rt, node, said);
+    node.hand(rt, &message)
+}
+
+fn submit(rt: &impl Abort, node: &mut Peer) -> Result<(), NodeFault> {
+    let release = value(rt, node.alloc(), 1, "release\n");
+    node.submit(&release).map(|_| ())
+}
+
+fn act(rt: &impl Abort, node: &mut Peer, step: Step) -> Result<(), NodeFault> {
     match step {
-        Step::Submit => {
-            let release = value(node.alloc(), 1, "release\n")?;
-            let _ = node.submit(&release)?;
-            Ok(())
-        }
-        Step::Ask => Ok(node.ask()?),
-        Step::Tell => Ok(node.tell(To::All, instance(1)?)?),
-        Step::Tick => Ok(node.tick()?),
-        Step::Widen => {
-            let _ = node.widen()?;
-            Ok(())
-        }
-        Step::Publish => {
-            let _ = node.publish()?;
-            Ok(())
-        }
-        Step::Hear(said) => {
-            let message = message(node, said)?;
-            node.hand(&message)
-        }
+        Step::Submit => submit(rt, node),
+        Step::Ask => node.ask(),
+        Step::Tell => node.tell(To::All, instance(rt, 1)),
+        Step::Tick => node.tick(),
+        Step::Widen => node.widen().map(|_| ()),
+        Step::Publish => node.publish().map(|_| ()),
+        Step::Hear(said) => hear(rt, node, said),
     }
 }
 
 /// Whether the step took. One that was refused hands out nothing and makes nothing known.
 fn takes(rt: &impl Abort, node: &mut Peer, step: Step) -> bool {
     let before = (node.out().len(), node.known());
-    let fault = match act(node, step) {
-        Ok(()) => return true,
-        Err(fault) => fault,
+    let Err(fault) = act(rt, node, step) else {
+        return true;
     };
     let cause = if node.is_stopped() {
         NodeFault::Device
     } else {
         NodeFault::OutOfMemory
     };
-    assert_eq!(rt; fault, Halt::Node(cause), "{step:?}");
+    assert_eq!(rt; fault, cause, "{step:?}");
     assert!(rt; before == (node.out().len(), node.known()));
     false
 }
@@ -119,7 +115,7 @@ fn stepped(rt: &impl Abort, node: Peer, step: Step) -> Peer {
     let took = takes(rt, &mut node, step);
     let mut node = going(rt, node);
     if !took {
-        act(&mut node, step).expect(rt, "the next try");
+        assert_eq!(rt; act(rt, &mut node, step), Ok(()), "the next try");
     }
     node
 }

@@ -1,133 +1,125 @@
 //! What the rows are made of. A growth that was refused is tried once more.
-use crate::halt::Halt;
 use command::write;
 use node::{Outbox, To};
 use site_ids::{Ballot, Instance, NodeId, Ticket, Value, Vote};
 use std::alloc::Global;
+use std::process::Abort;
 use wire::Message;
 
-pub(crate) fn instance(number: u32) -> Result<Instance, Halt> {
-    Instance::new(number).ok_or(Halt::NotThere)
+pub(crate) fn instance(rt: &impl Abort, number: u32) -> Instance {
+    Instance::new(number).expect(rt, "an instance")
 }
 
-pub(crate) fn ballot(round: u32, node: NodeId) -> Result<Ballot, Halt> {
-    Ballot::new(round, node).ok_or(Halt::NotThere)
+pub(crate) fn ballot(rt: &impl Abort, round: u32, node: NodeId) -> Ballot {
+    Ballot::new(round, node).expect(rt, "a ballot")
 }
 
-fn written(alloc: Global, number: u64, text: &str) -> Result<Vec<u8>, Halt> {
+fn written(alloc: Global, number: u64, text: &str) -> Option<Value> {
     let ticket = Ticket { editor: 1, number };
-    match write(alloc, ticket, text.as_bytes()) {
-        Ok(bytes) => Ok(bytes),
-        Err(_) => match write(alloc, ticket, text.as_bytes()) {
-            Ok(bytes) => Ok(bytes),
-            Err(_) => Err(Halt::OutOfMemory),
-        },
-    }
+    let bytes = write(alloc, ticket, text.as_bytes()).ok()?;
+    Value::from_bytes(bytes).ok()
 }
 
 /// The value of a command of editor 1.
-pub(crate) fn value(alloc: Global, number: u64, text: &str) -> Result<Value, Halt> {
-    let bytes = written(alloc, number, text)?;
-    copied(alloc, bytes.as_slice())
-}
-
-pub(crate) fn copied(alloc: Global, bytes: &[u8]) -> Result<Value, Halt> {
-    match Value::copied_from(alloc, bytes) {
-        Ok(value) => Ok(value),
-        Err(_) => Ok(Value::copied_from(alloc, bytes)?),
+pub(crate) fn value(rt: &impl Abort, alloc: Global, number: u64, text: &str) -> Value {
+    match written(alloc, number, text) {
+        Some(value) => value,
+        None => written(alloc, number, text).expect(rt, "a value"),
     }
 }
 
-// Below, messages of a node about instance 1 at a ballot of its own.
-
-pub(crate) fn prepare(from: NodeId, round: u32) -> Result<Message, Halt> {
-    Ok(Message::Prepare {
-        from,
-        instance: instance(1)?,
-        ballot: ballot(round, from)?,
-        count: 1,
-    })
+pub(crate) fn copied(rt: &impl Abort, alloc: Global, bytes: &[u8]) -> Value {
+    match Value::copied_from(alloc, bytes) {
+        Ok(value) => value,
+        Err(_) => Value::copied_from(alloc, bytes).expect(rt, "a value"),
+    }
 }
 
-pub(crate) fn propose(
-    alloc: Global,
+/// A prepare of so many instances from one on, at a ballot of its node.
+pub(crate) fn prepare_span(
+    rt: &impl Abort,
     from: NodeId,
+    first: u32,
+    count: u8,
     round: u32,
-    value: &[u8],
-) -> Result<Message, Halt> {
-    let instance = instance(1)?;
-    let ballot = ballot(round, from)?;
-    Ok(Message::Propose {
+) -> Message {
+    Message::Prepare {
         from,
-        instance,
-        ballot,
-        value: copied(alloc, value)?,
-    })
+        instance: instance(rt, first),
+        ballot: ballot(rt, round, from),
+        count,
+    }
+}
+
+/// A prepare of instance 1.
+pub(crate) fn prepare(rt: &impl Abort, from: NodeId, round: u32) -> Message {
+    prepare_span(rt, from, 1, 1, round)
+}
+
+/// A proposal at a ballot of its node.
+pub(crate) fn propose(rt: &impl Abort, from: NodeId, at: u32, round: u32, value: Value) -> Message {
+    Message::Propose {
+        from,
+        instance: instance(rt, at),
+        ballot: ballot(rt, round, from),
+        value,
+    }
 }
 
 // Below, messages of a node about instance 1 at another node's ballot.
 
 /// A promise that tells a vote of an earlier round.
 pub(crate) fn promise(
-    alloc: Global,
+    rt: &impl Abort,
     from: NodeId,
     at: Ballot,
     prior: Ballot,
-    value: &[u8],
-) -> Result<Message, Halt> {
-    let instance = instance(1)?;
-    let value = copied(alloc, value)?;
-    Ok(Message::Promise {
+    value: Value,
+) -> Message {
+    Message::Promise {
         from,
-        instance,
+        instance: instance(rt, 1),
         ballot: at,
         prior: Some(Vote {
             ballot: prior,
             value,
         }),
-    })
+    }
 }
 
-pub(crate) fn accepted(
-    alloc: Global,
-    from: NodeId,
-    at: Ballot,
-    value: &[u8],
-) -> Result<Message, Halt> {
-    let instance = instance(1)?;
-    Ok(Message::Accepted {
+pub(crate) fn accepted(rt: &impl Abort, from: NodeId, at: Ballot, value: Value) -> Message {
+    Message::Accepted {
         from,
-        instance,
+        instance: instance(rt, 1),
         ballot: at,
-        value: copied(alloc, value)?,
-    })
+        value,
+    }
 }
 
-pub(crate) fn nack(from: NodeId, asked: Ballot, promised: Ballot) -> Result<Message, Halt> {
-    Ok(Message::Nack {
+pub(crate) fn nack(rt: &impl Abort, from: NodeId, asked: Ballot, promised: Ballot) -> Message {
+    Message::Nack {
         from,
-        instance: instance(1)?,
+        instance: instance(rt, 1),
         asked,
         promised,
-    })
+    }
 }
 
 // Below, messages about an instance.
 
-pub(crate) fn question(from: NodeId, at: u32) -> Result<Message, Halt> {
-    Ok(Message::Ask {
+pub(crate) fn question(rt: &impl Abort, from: NodeId, at: u32) -> Message {
+    Message::Ask {
         from,
-        instance: instance(at)?,
-    })
+        instance: instance(rt, at),
+    }
 }
 
-pub(crate) fn chosen(alloc: Global, from: NodeId, at: u32, value: &[u8]) -> Result<Message, Halt> {
-    let instance = instance(at)?;
-    Ok(Message::Chosen {
+pub(crate) fn chosen(rt: &impl Abort, from: NodeId, at: u32, value: Value) -> Message {
+    Message::Chosen {
         from,
-        instance,
-        value: copied(alloc, value)?,
-    })
+        instance: instance(rt, at),
+        value,
+    }
 }
 
 /// The round of the last message, a prepare to all.

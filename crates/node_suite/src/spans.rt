@@ -1,33 +1,11 @@
 //! Prepares of several instances, delivered to a node.
-use crate::halt::Halt;
 use crate::peer::Peer;
-use crate::samples::{ballot, copied, instance};
+use crate::samples::{copied, prepare_span, propose};
 use node::{NodeFault, To};
 use site_ids::Ballot;
 use std::alloc::Global;
 use std::process::Abort;
 use wire::Message;
-
-/// A prepare of so many instances from one on, at a ballot of another node.
-fn prepare(node: &Peer, from: u8, first: u32, count: u8, round: u32) -> Result<Message, Halt> {
-    let from = node.other(from)?;
-    Ok(Message::Prepare {
-        from,
-        instance: instance(first)?,
-        ballot: ballot(round, from)?,
-        count,
-    })
-}
-
-fn propose(node: &Peer, from: u8, at: u32, round: u32) -> Result<Message, Halt> {
-    let from = node.other(from)?;
-    Ok(Message::Propose {
-        from,
-        instance: instance(at)?,
-        ballot: ballot(round, from)?,
-        value: copied(node.alloc(), b"")?,
-    })
-}
 
 /// An answer, and to which node it goes.
 #[derive(Clone, Copy, Debug)]
@@ -80,15 +58,14 @@ fn is_answer(said: &(To, Message), wanted: Answer) -> bool {
 }
 
 /// The answers since the last look are these, all to one node.
-fn answers(rt: &impl Abort, node: &mut Peer, to: u8, wanted: &[Answer]) -> Result<(), Halt> {
-    let to = node.other(to)?;
+fn answers(rt: &impl Abort, node: &mut Peer, to: u8, wanted: &[Answer]) {
+    let to = node.other(rt, to);
     assert_eq!(rt; node.out().len(), wanted.len());
     for (said, answer) in node.out().iter().zip(wanted) {
         assert!(rt; said.0 == To::One(to), "{answer:?}");
         assert!(rt; is_answer(said, *answer), "{answer:?}");
     }
     node.forget_said();
-    Ok(())
 }
 
 /// What comes to node 1, and what it answers.
@@ -106,51 +83,62 @@ enum Step {
     Many(usize),
 }
 
-fn act(rt: &impl Abort, node: &mut Peer, step: Step) -> Result<(), Halt> {
+fn hand_prepare(
+    rt: &impl Abort,
+    node: &mut Peer,
+    from: u8,
+    first: u32,
+    count: u8,
+    round: u32,
+) -> Result<(), NodeFault> {
+    let message = prepare_span(rt, node.other(rt, from), first, count, round);
+    node.hand(rt, &message)
+}
+
+fn hand_proposal(rt: &impl Abort, node: &mut Peer, from: u8, at: u32, round: u32) {
+    let value = copied(rt, node.alloc(), b"");
+    let message = propose(rt, node.other(rt, from), at, round, value);
+    assert_eq!(rt; node.hand(rt, &message), Ok(()));
+    node.forget_said();
+}
+
+fn act(rt: &impl Abort, node: &mut Peer, step: Step) {
     match step {
         Step::Prepare(from, first, count, round) => {
-            let message = prepare(node, from, first, count, round)?;
-            node.hand(&message)?;
+            let taken = hand_prepare(rt, node, from, first, count, round);
+            assert_eq!(rt; taken, Ok(()), "{step:?}");
         }
         Step::Fails(from, first, count, round) => {
-            let message = prepare(node, from, first, count, round)?;
             node.arm(0);
-            assert_eq!(rt; node.hand(&message), Err(Halt::Node(NodeFault::Device)));
+            let taken = hand_prepare(rt, node, from, first, count, round);
+            assert_eq!(rt; taken, Err(NodeFault::Device));
             assert_eq!(rt; node.out().len(), 0);
         }
-        Step::Propose(from, at, round) => {
-            let message = propose(node, from, at, round)?;
-            node.hand(&message)?;
-            node.forget_said();
-        }
-        Step::Answers(to, wanted) => answers(rt, node, to, wanted)?,
+        Step::Propose(from, at, round) => hand_proposal(rt, node, from, at, round),
+        Step::Answers(to, wanted) => answers(rt, node, to, wanted),
         Step::Many(count) => {
             assert_eq!(rt; node.out().len(), count);
             node.forget_said();
         }
     }
-    Ok(())
 }
 
-fn act_all(rt: &impl Abort, node: &mut Peer, steps: &[Step]) -> Result<(), Halt> {
+fn act_all(rt: &impl Abort, node: &mut Peer, steps: &[Step]) {
     for step in steps {
-        act(rt, node, *step)?;
+        act(rt, node, *step);
     }
-    Ok(())
 }
 
 /// Steps of a fresh node of three.
 fn play(rt: &impl Abort, alloc: Global, steps: &[Step]) {
-    let mut node = Peer::fresh(rt, alloc, 3);
-    act_all(rt, &mut node, steps).expect(rt, "a step");
+    act_all(rt, &mut Peer::fresh(rt, alloc, 3), steps);
 }
 
 /// Steps of a fresh node of three, and further ones behind a crash that loses what was not synced.
 fn play_over_a_crash(rt: &impl Abort, alloc: Global, before: &[Step], behind: &[Step]) {
     let mut node = Peer::fresh(rt, alloc, 3);
-    act_all(rt, &mut node, before).expect(rt, "a step");
-    let mut node = node.again(rt, Some(0));
-    act_all(rt, &mut node, behind).expect(rt, "a step");
+    act_all(rt, &mut node, before);
+    act_all(rt, &mut node.again(rt, Some(0)), behind);
 }
 
 /// Instance 5 is promised to (1, 1), 6 to (3, 2), 7 has a vote at (2, 1): then a prepare of all three is promised, refused, and not answered.

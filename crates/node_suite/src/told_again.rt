@@ -1,9 +1,9 @@
 //! What a node tells again: of each instance the value that it knows, or else its last vote.
-use crate::halt::Halt;
 use crate::peer::Peer;
-use crate::samples::{ballot, chosen, copied, instance};
+use crate::samples::{chosen, copied, instance, prepare_span, propose};
 use node::{NodeFault, To};
 use site_ids::Value;
+use std::alloc::{AllocError, Global};
 use std::process::Abort;
 use wire::Message;
 
@@ -55,44 +55,48 @@ fn is_told(said: &(To, Message), told: Told) -> bool {
     }
 }
 
-fn message(node: &Peer, step: Step) -> Result<Message, Halt> {
-    let from = node.other(3)?;
+/// The message that comes, if one does.
+fn message(rt: &impl Abort, node: &Peer, step: Step) -> Option<Message> {
+    let (two, three) = (node.other(rt, 2), node.other(rt, 3));
     match step {
-        Step::Vote(at, round, text) => Ok(Message::Propose {
-            from,
-            instance: instance(at)?,
-            ballot: ballot(round, from)?,
-            value: copied(node.alloc(), text.as_bytes())?,
-        }),
-        Step::Promise(at, round) => Ok(Message::Prepare {
-            from,
-            instance: instance(at)?,
-            ballot: ballot(round, from)?,
-            count: 1,
-        }),
-        Step::Learn(at, text) => chosen(node.alloc(), node.other(2)?, at, text.as_bytes()),
-        Step::Tells(..) => Err(Halt::NotThere),
+        Step::Vote(at, round, text) => {
+            let value = copied(rt, node.alloc(), text.as_bytes());
+            Some(propose(rt, three, at, round, value))
+        }
+        Step::Promise(at, round) => Some(prepare_span(rt, three, at, 1, round)),
+        Step::Learn(at, text) => {
+            let value = copied(rt, node.alloc(), text.as_bytes());
+            Some(chosen(rt, two, at, value))
+        }
+        Step::Tells(..) => None,
     }
 }
 
-fn tells(rt: &impl Abort, node: &mut Peer, first: u32, told: &[Told]) -> Result<(), Halt> {
-    let to = To::One(node.other(2)?);
+fn hear(rt: &impl Abort, node: &mut Peer, step: Step) {
+    if let Some(message) = message(rt, node, step) {
+        assert_eq!(rt; node.hand(rt, &message), Ok(()), "{step:?}");
+    }
+}
+
+/// All messages of a telling from an instance on, and how many.
+fn telling(rt: &impl Abort, node: &mut Peer, to: To, first: u32, count: usize) {
     node.forget_said();
-    node.tell(to, instance(first)?)?;
-    assert_eq!(rt; node.out().len(), told.len(), "from {first}");
+    assert_eq!(rt; node.tell(to, instance(rt, first)), Ok(()));
+    assert_eq!(rt; node.out().len(), count, "from {first}");
+}
+
+fn tells(rt: &impl Abort, node: &mut Peer, first: u32, told: &[Told]) {
+    let to = To::One(node.other(rt, 2));
+    telling(rt, node, to, first, told.len());
     for (said, told) in node.out().iter().zip(told) {
         assert!(rt; said.0 == to && is_told(said, *told), "{told:?}");
     }
-    Ok(())
 }
 
-fn act(rt: &impl Abort, node: &mut Peer, step: Step) -> Result<(), Halt> {
+fn act(rt: &impl Abort, node: &mut Peer, step: Step) {
     match step {
         Step::Tells(first, told) => tells(rt, node, first, told),
-        _ => {
-            let message = message(node, step)?;
-            node.hand(&message)
-        }
+        _ => hear(rt, node, step),
     }
 }
 
@@ -115,66 +119,60 @@ const STEPS: [Step; 16] = [
     Step::Tells(999_990, &[Told::Vote(1_000_000, 1, "e")]),
 ];
 
-fn act_all(rt: &impl Abort, node: &mut Peer, steps: &[Step]) -> Result<(), Halt> {
+fn act_all(rt: &impl Abort, node: &mut Peer, steps: &[Step]) {
     for step in steps {
-        act(rt, node, *step)?;
+        act(rt, node, *step);
     }
-    Ok(())
 }
 
 /// A value that is known goes before the vote there; a promise alone is nothing to tell; of 64 instances, and none past the last.
 #[test]
 fn values_and_votes_are_told(rt: HostRuntime) {
-    let mut node = Peer::fresh(&rt, rt.alloc(), 3);
-    act_all(&rt, &mut node, &STEPS).expect(&rt, "a step");
+    act_all(&rt, &mut Peer::fresh(&rt, rt.alloc(), 3), &STEPS);
 }
 
-/// Node 3 proposes a value of so many bytes.
-fn long_value(node: &mut Peer, at: u32, size: usize) -> Result<(), Halt> {
-    let mut bytes = Vec::new(node.alloc());
+/// A value of so many bytes.
+fn long_value(alloc: Global, size: usize) -> Result<Value, AllocError> {
+    let mut bytes = Vec::new(alloc);
     bytes.resize(size, b'x')?;
-    let from = node.other(3)?;
-    let message = Message::Propose {
-        from,
-        instance: instance(at)?,
-        ballot: ballot(1, from)?,
-        value: Value::from_bytes(bytes)?,
-    };
-    node.hand(&message)
+    Value::from_bytes(bytes)
 }
 
-/// Votes for values of 32,768, 32,767 and one byte: two fit, and then one byte more does.
-fn long_values(rt: &impl Abort, node: &mut Peer, sizes: &[(u32, usize)]) -> Result<(), Halt> {
-    for (at, size) in sizes {
-        long_value(node, *at, *size)?;
+/// Node 3 proposes one.
+fn propose_long(rt: &impl Abort, node: &mut Peer, at: u32, size: usize) {
+    let value = long_value(node.alloc(), size).expect(rt, "a value");
+    let message = propose(rt, node.other(rt, 3), at, 1, value);
+    assert_eq!(rt; node.hand(rt, &message), Ok(()));
+}
+
+/// Values of 32,768, 32,767 and one byte: two fit, and then one byte more does.
+const SIZES: [(u32, usize); 5] = [(1, 32_768), (2, 32_767), (3, 1), (4, 32_768), (5, 32_768)];
+
+fn long_values(rt: &impl Abort, node: &mut Peer) {
+    for (at, size) in SIZES {
+        propose_long(rt, node, at, size);
     }
     for (first, told) in [(1, 3), (2, 3), (3, 2)] {
-        node.forget_said();
-        node.tell(To::All, instance(first)?)?;
-        assert_eq!(rt; node.out().len(), told, "from {first}");
+        telling(rt, node, To::All, first, told);
     }
-    Ok(())
 }
 
 #[test]
 fn a_telling_has_65536_bytes_of_values_at_most(rt: HostRuntime) {
-    let mut node = Peer::fresh(&rt, rt.alloc(), 3);
-    let sizes = [(1, 32_768), (2, 32_767), (3, 1), (4, 32_768), (5, 32_768)];
-    long_values(&rt, &mut node, &sizes).expect(&rt, "a telling");
+    long_values(&rt, &mut Peer::fresh(&rt, rt.alloc(), 3));
 }
 
-fn stopped(rt: &impl Abort, node: &mut Peer) -> Result<(), Halt> {
-    act(rt, node, Step::Vote(1, 1, "a"))?;
+fn stopped(rt: &impl Abort, node: &mut Peer) {
+    act(rt, node, Step::Vote(1, 1, "a"));
     node.forget_said();
     node.arm(0);
     assert_eq!(rt; node.tick(), Err(NodeFault::Device));
-    assert_eq!(rt; node.tell(To::All, instance(1)?), Err(NodeFault::Stopped));
+    let told = node.tell(To::All, instance(rt, 1));
+    assert_eq!(rt; told, Err(NodeFault::Stopped));
     assert!(rt; node.out().is_empty());
-    Ok(())
 }
 
 #[test]
 fn a_stopped_node_tells_nothing(rt: HostRuntime) {
-    let mut node = Peer::fresh(&rt, rt.alloc(), 3);
-    stopped(&rt, &mut node).expect(&rt, "a row");
+    stopped(&rt, &mut Peer::fresh(&rt, rt.alloc(), 3));
 }

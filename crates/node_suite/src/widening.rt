@@ -1,7 +1,6 @@
 //! Several attempts of one node.
-use crate::halt::Halt;
 use crate::peer::Peer;
-use crate::samples::{ballot, chosen, nack, value};
+use crate::samples::{ballot, chosen, copied, nack, value};
 use node::{NodeFault, Outbox, To};
 use site_ids::MAX_ROUND;
 use std::alloc::Global;
@@ -50,45 +49,47 @@ fn are_prepares(out: &Outbox, wanted: &[(u32, u32, u8)]) -> bool {
     true
 }
 
-fn act(rt: &impl Abort, node: &mut Peer, step: Step) -> Result<(), Halt> {
+fn submit(rt: &impl Abort, node: &mut Peer, number: u64) {
+    let release = value(rt, node.alloc(), number, "release\n");
+    assert!(rt; node.submit(&release).is_ok());
+}
+
+fn choose(rt: &impl Abort, node: &mut Peer, at: u32) {
+    let message = chosen(rt, node.other(rt, 2), at, copied(rt, node.alloc(), b""));
+    assert_eq!(rt; node.hand(rt, &message), Ok(()));
+}
+
+fn refuse(rt: &impl Abort, node: &mut Peer, round: u32) {
+    let (one, two) = (node.other(rt, 1), node.other(rt, 2));
+    let message = nack(rt, two, ballot(rt, 1, one), ballot(rt, round, two));
+    assert_eq!(rt; node.hand(rt, &message), Ok(()));
+}
+
+fn act(rt: &impl Abort, node: &mut Peer, step: Step) {
     match step {
         Step::Submit(first, last) => {
             for number in first..=last {
-                let release = value(node.alloc(), number, "release\n")?;
-                let _ = node.submit(&release)?;
+                submit(rt, node, number);
             }
         }
-        Step::Chosen(at) => {
-            let message = chosen(node.alloc(), node.other(2)?, at, b"")?;
-            node.hand(&message)?;
-        }
-        Step::Tick => node.tick()?,
+        Step::Chosen(at) => choose(rt, node, at),
+        Step::Tick => assert_eq!(rt; node.tick(), Ok(())),
         Step::Widen(answer) => assert_eq!(rt; node.widen(), answer),
-        Step::Nack(round) => {
-            let two = node.other(2)?;
-            let message = nack(two, ballot(1, node.other(1)?)?, ballot(round, two)?)?;
-            node.hand(&message)?;
-        }
+        Step::Nack(round) => refuse(rt, node, round),
         Step::Arm => node.arm(0),
         Step::Prepares(wanted) => {
             assert!(rt; are_prepares(node.out(), wanted), "{step:?}");
             node.forget_said();
         }
     }
-    Ok(())
-}
-
-fn act_all(rt: &impl Abort, node: &mut Peer, steps: &[Step]) -> Result<(), Halt> {
-    for step in steps {
-        act(rt, node, *step)?;
-    }
-    Ok(())
 }
 
 /// Steps of a fresh node of three.
 fn play(rt: &impl Abort, alloc: Global, steps: &[Step]) {
     let mut node = Peer::fresh(rt, alloc, 3);
-    act_all(rt, &mut node, steps).expect(rt, "a step");
+    for step in steps {
+        act(rt, &mut node, *step);
+    }
 }
 
 /// Each value is tried once, from the least free instance on, all with one round and one prepare. A tick takes the

@@ -1,125 +1,25 @@
 //! What the words do.
-use crate::files::{below, files_of, is_free, write_file};
-use crate::halt::Halt;
+use crate::exporting::{begin, export};
 use crate::line::{Word, word_in};
-use site_folder::{BEGINNING, Copies, Finding, Folder, NoCopy, Page, Weight, folder_of, pages_of};
+use crate::log_word::tell_log;
+use clap::error::ErrorKind;
+use editor_parts::{Halt, say};
+use folder_publish::{Publishing, publish};
+use group_client::tell_status;
+use site_files::{Clean, read_clean};
+use site_preview::preview;
 use std::alloc::Global;
 use std::env;
 use std::io::{self, Write};
-use std::rt::{Env, Files};
+use std::net::{Net, TcpListener, TcpStream};
+use std::random::RandomSource;
+use std::rt::{Clock, Env, Files};
 
-/// Writes a line.
-fn say<W: Write>(out: &mut W, line: &str) -> Result<(), Halt> {
-    match writeln!(out, "{line}") {
-        Ok(()) => Ok(()),
-        Err(_) => Err(Halt::Write),
-    }
-}
+/// What a command line is refused with that is no UTF-8.
+const NOT_UTF8: &str = "error: invalid UTF-8 was detected in one or more arguments";
 
-/// Writes what is wrong with a folder, as one line.
-fn tell<E: Write>(alloc: Global, err: &mut E, folder: &str, finding: &Finding) -> Result<(), Halt> {
-    let line = format!(in alloc; "{folder}/{finding}")?;
-    say(err, line.as_str())
-}
-
-/// Writes all that is wrong with a folder. Whether a fault is among it is the answer.
-fn tell_all<E: Write>(
-    alloc: Global,
-    err: &mut E,
-    folder: &str,
-    findings: &[Finding],
-) -> Result<bool, Halt> {
-    let mut bad = false;
-    for finding in findings {
-        tell(alloc, err, folder, finding)?;
-        bad = bad || finding.weight == Weight::Fault;
-    }
-    Ok(bad)
-}
-
-/// Writes the faults of pages. Whether there is one is the answer.
-fn tell_pages<E: Write>(
-    alloc: Global,
-    err: &mut E,
-    folder: &str,
-    pages: &[Page],
-) -> Result<bool, Halt> {
-    let mut bad = false;
-    for page in pages {
-        if let Some(fault) = page.fault(alloc)? {
-            tell(alloc, err, folder, &fault)?;
-            bad = true;
-        }
-    }
-    Ok(bad)
-}
-
-/// Writes how many files and folders were passed over, if any.
-fn tell_passed_over<E: Write>(
-    alloc: Global,
-    err: &mut E,
-    folder: &str,
-    count: usize,
-) -> Result<(), Halt> {
-    if count == 0 {
-        return Ok(());
-    }
-    let line = format!(in alloc;
-        "{folder}: {count} files and folders passed over: names with a dot before or a ~ behind, README, and by --ignore others"
-    )?;
-    say(err, line.as_str())
-}
-
-/// A folder without a fault: how many commands it has, and its pages.
-#[derive(Drop)]
-struct Clean {
-    commands: usize,
-    pages: Vec<Page>,
-}
-
-/// Reads the files of a folder, and what they say.
-fn read_files<R: Files + AllocGlobal + Clone + Drop, E: Write>(
-    rt: &R,
-    err: &mut E,
-    name: &str,
-    ignore: bool,
-) -> Result<Folder, Halt> {
-    let found = files_of(rt, name, ignore)?;
-    tell_passed_over(rt.alloc(), err, name, found.passed_over.len())?;
-    Ok(folder_of(rt.alloc(), &found.files)?)
-}
-
-/// The pages of a folder; nothing where it or one of them has a fault. All that is wrong is told.
-fn clean_pages<E: Write>(
-    alloc: Global,
-    err: &mut E,
-    name: &str,
-    folder: &Folder,
-) -> Result<Option<Vec<Page>>, Halt> {
-    if tell_all(alloc, err, name, &folder.findings)? {
-        return Ok(None);
-    }
-    let pages = pages_of(alloc, folder)?;
-    if tell_pages(alloc, err, name, &pages)? {
-        return Ok(None);
-    }
-    Ok(Some(pages))
-}
-
-/// Reads a folder, and tells all that is wrong with it; nothing where that is a fault.
-fn read_clean<R: Files + AllocGlobal + Clone + Drop, E: Write>(
-    rt: &R,
-    err: &mut E,
-    name: &str,
-    ignore: bool,
-) -> Result<Option<Clean>, Halt> {
-    let folder = read_files(rt, err, name, ignore)?;
-    let commands = folder.commands.len();
-    match clean_pages(rt.alloc(), err, name, &folder)? {
-        Some(pages) => Ok(Some(Clean { commands, pages })),
-        None => Ok(None),
-    }
-}
+/// What `--version` prints: the heading of `docs/CHANGES.md` that this is of.
+const VERSION: &str = "sitepub 1.0";
 
 /// Writes that a folder has no fault.
 fn tell_clean<W: Write>(
@@ -128,7 +28,7 @@ fn tell_clean<W: Write>(
     folder: &str,
     clean: &Clean,
 ) -> Result<u8, Halt> {
-    let commands = clean.commands;
+    let commands = clean.folder.commands.len();
     let pages = clean.pages.len();
     let line = format!(in alloc; "{folder}: no fault; commands: {commands}, pages: {pages}")?;
     say(out, line.as_str())?;
@@ -148,157 +48,153 @@ fn check<R: Files + AllocGlobal + Clone + Drop, W: Write, E: Write>(
     }
 }
 
-/// The files of a static copy: each page with its path below the copy's folder. Nothing where a page has none, which is told.
-fn copies<E: Write>(
-    alloc: Global,
-    err: &mut E,
-    folder: &str,
-    pages: &[Page],
-) -> Result<Option<Vec<String>>, Halt> {
-    let mut taken = Copies::new(alloc);
-    let mut files = Vec::new(alloc);
-    let mut bad = false;
-    for page in pages {
-        let path = page.path.as_str();
-        let (of, number) = (page.file, page.line);
-        let line = match taken.take(path)? {
-            Ok(file) => {
-                files.push(file)?;
-                continue;
-            }
-            Err(NoCopy::NoPath) => {
-                format!(in alloc;
-                    "{folder}/{of}:{number}:1: {path} has an empty part, . or .., which no file can have"
-                )?
-            }
-            Err(NoCopy::Taken) => {
-                format!(in alloc;
-                    "{folder}/{of}:{number}:1: {path} meets the file of another route"
-                )?
-            }
-        };
-        bad = true;
-        say(err, line.as_str())?;
-    }
-    Ok(if bad { None } else { Some(files) })
-}
-
-/// Writes pages into a folder, each as its file. Nothing is written where one has none.
-fn write_pages<R: Files + AllocGlobal, E: Write>(
-    rt: &R,
-    err: &mut E,
-    folder: &str,
-    to: &str,
-    pages: &[Page],
-) -> Result<u8, Halt> {
-    let Some(files) = copies(rt.alloc(), err, folder, pages)? else {
-        return Ok(1);
-    };
-    for (page, file) in pages.iter().zip(files.iter()) {
-        let path = below(rt.alloc(), to, file.as_str())?;
-        write_file(rt, path.as_str(), page.body.as_str())?;
-    }
-    Ok(0)
-}
-
-/// Whether files can be written into a folder, as it is absent or empty. That it isn't is told.
-fn takes_files<R: Files + AllocGlobal + Clone + Drop, E: Write>(
-    rt: &R,
-    err: &mut E,
-    folder: &str,
-) -> Result<bool, Halt> {
-    let free = is_free(rt, folder)?;
-    if !free {
-        let line = format!(in rt.alloc(); "{folder}: is not an empty folder")?;
-        say(err, line.as_str())?;
-    }
-    Ok(free)
-}
-
-fn export<R: Files + AllocGlobal + Clone + Drop, E: Write>(
-    rt: &R,
-    err: &mut E,
-    folder: &str,
-    to: &str,
-    ignore: bool,
-) -> Result<u8, Halt> {
-    if !takes_files(rt, err, to)? {
-        return Ok(1);
-    }
-    match read_clean(rt, err, folder, ignore)? {
-        Some(clean) => write_pages(rt, err, folder, to, &clean.pages),
-        None => Ok(1),
-    }
-}
-
-/// Writes a small site to start from.
-fn begin<R: Files + AllocGlobal + Clone + Drop, W: Write, E: Write>(
-    rt: &R,
-    out: &mut W,
-    err: &mut E,
-    folder: &str,
-) -> Result<u8, Halt> {
-    if !takes_files(rt, err, folder)? {
-        return Ok(1);
-    }
-    for (path, text) in BEGINNING {
-        let whole = below(rt.alloc(), folder, path)?;
-        write_file(rt, whole.as_str(), text)?;
-    }
-    let line = format!(in rt.alloc();
-        "{folder}: a site of two pages; change data/start.json, then: sitepub check {folder}"
-    )?;
-    say(out, line.as_str())?;
-    Ok(0)
-}
-
-fn done<R: Files + AllocGlobal + Clone + Drop, W: Write, E: Write>(
-    rt: &R,
-    out: &mut W,
-    err: &mut E,
-    word: Word<'_>,
-) -> Result<u8, Halt> {
+/// Does what a word says.
+fn done<
+    R: Files
+        + Net<Listener = TcpListener, Stream = TcpStream>
+        + Clock
+        + RandomSource
+        + AllocGlobal
+        + Clone
+        + Drop,
+    W: Write,
+    E: Write,
+>(rt: &R, out: &mut W, err: &mut E, word: &Word<'_>) -> Result<u8, Halt> {
     match word {
         Word::New { folder } => begin(rt, out, err, folder),
-        Word::Check { folder, ignore } => check(rt, out, err, folder, ignore),
+        Word::Check { folder, ignore } => check(rt, out, err, folder, *ignore),
         Word::Export {
             folder,
             out: to,
             ignore,
-        } => export(rt, err, folder, to, ignore),
+        } => export(rt, err, folder, to, *ignore),
+        Word::Publish {
+            folder,
+            urls,
+            editor,
+            patience,
+            dry_run,
+            ignore,
+        } => publish(
+            rt,
+            out,
+            err,
+            Publishing {
+                folder,
+                urls: urls.as_slice(),
+                editor: *editor,
+                patience: *patience,
+                dry_run: *dry_run,
+                ignore: *ignore,
+            },
+        ),
+        Word::Preview {
+            folder,
+            http,
+            ignore,
+        } => preview(rt, out, folder, http, *ignore),
+        Word::Log { folder } => tell_log(rt, out, err, folder),
+        Word::Status { urls } => tell_status(rt, out, urls.as_slice()),
     }
 }
 
-/// Does what the command line says; without a word nothing.
-fn said<R: Files + Env + AllocGlobal + Clone + Drop, W: Write, E: Write>(
-    rt: &R,
-    out: &mut W,
-    err: &mut E,
-) -> Result<u8, Halt> {
-    let alloc = rt.alloc();
-    let words: Vec<String> = match env::args(rt) {
-        Ok(words) => words.collect(alloc)?,
-        Err(fault) if fault.kind() == io::ErrorKind::OutOfMemory => return Err(Halt::OutOfMemory),
-        Err(_) => return Err(Halt::NotUtf8),
-    };
-    match word_in(alloc, words.as_slice())? {
-        Some(word) => done(rt, out, err, word),
-        None => Ok(2),
+/// Does what a word says, and gives the exit status. That it came to no end is told.
+fn end_of<
+    R: Files
+        + Net<Listener = TcpListener, Stream = TcpStream>
+        + Clock
+        + RandomSource
+        + AllocGlobal
+        + Clone
+        + Drop,
+    W: Write,
+    E: Write,
+>(rt: &R, out: &mut W, err: &mut E, word: &Word<'_>) -> u8 {
+    match done(rt, out, err, word) {
+        Ok(status) => status,
+        Err(why) => {
+            let _ = writeln!(err, "{why}");
+            1
+        }
+    }
+}
+
+/// The words of the command line.
+fn words_of<R: Env + AllocGlobal>(rt: &R) -> io::Result<Vec<String>> {
+    Ok(env::args(rt)?.collect(rt.alloc())?)
+}
+
+/// Tells why there are no words, and gives the exit status.
+fn tell_no_words<E: Write>(err: &mut E, why: &io::Error) -> u8 {
+    if why.kind() == io::ErrorKind::OutOfMemory {
+        let _ = writeln!(err, "out of memory");
+        return 1;
+    }
+    let _ = writeln!(err, "{NOT_UTF8}");
+    2
+}
+
+/// Tells why a command line is no word, help among it, and gives the exit status.
+fn tell_refusal<W: Write, E: Write>(out: &mut W, err: &mut E, refused: &clap::Error) -> u8 {
+    if refused.kind() == ErrorKind::OutOfMemory {
+        let _ = writeln!(err, "out of memory");
+        return 1;
+    }
+    if refused.use_stderr() {
+        let _ = writeln!(err, "{refused}");
+        return 2;
+    }
+    let _ = writeln!(out, "{refused}");
+    0
+}
+
+fn tell_version<W: Write>(out: &mut W) -> u8 {
+    let _ = writeln!(out, "{VERSION}");
+    0
+}
+
+fn asks_version(words: &[String]) -> bool {
+    matches!(words, [_, word] if word.as_str() == "--version")
+}
+
+/// Does what words say, the program's name first.
+fn by_words<
+    R: Files
+        + Net<Listener = TcpListener, Stream = TcpStream>
+        + Clock
+        + RandomSource
+        + AllocGlobal
+        + Clone
+        + Drop,
+    W: Write,
+    E: Write,
+>(rt: &R, out: &mut W, err: &mut E, words: &[String]) -> u8 {
+    if asks_version(words) {
+        return tell_version(out);
+    }
+    match word_in(rt.alloc(), words) {
+        Ok(Some(word)) => end_of(rt, out, err, &word),
+        Ok(None) => 2,
+        Err(refused) => tell_refusal(out, err, &refused),
     }
 }
 
 /// Does what the command line says, and gives the exit status: 1 where something was refused or came to no end, 2 for a line that is none. Either is
 /// told on the other writer.
-pub fn sitepub<R: Files + Env + AllocGlobal + Clone + Drop, W: Write, E: Write>(
-    rt: &R,
-    out: &mut W,
-    err: &mut E,
-) -> u8 {
-    match said(rt, out, err) {
-        Ok(status) => status,
-        Err(why) => {
-            let _ = writeln!(err, "{why}");
-            why.status()
-        }
+pub fn sitepub<
+    R: Files
+        + Env
+        + Net<Listener = TcpListener, Stream = TcpStream>
+        + Clock
+        + RandomSource
+        + AllocGlobal
+        + Clone
+        + Drop,
+    W: Write,
+    E: Write,
+>(rt: &R, out: &mut W, err: &mut E) -> u8 {
+    match words_of(rt) {
+        Ok(words) => by_words(rt, out, err, &words),
+        Err(why) => tell_no_words(err, &why),
     }
 }

@@ -1,5 +1,5 @@
 -- What was planned where nothing is on its way behind it: nothing.
-use Rattle.std.proofs.Common.{◌≡◌, ℕ, ◌+◌, List, [], ◌∷◌, length, Bool, true, false, cond, ◌&&◌, eqb, refl, sym, ap, subst, ◌∙◌, add-zero, arith}
+use Rattle.std.proofs.Common.{◌≡◌, ℕ, List, [], ◌∷◌, length, Bool, true, false, cond, ◌&&◌, eqb, refl, sym, ap, subst, ◌∙◌, add-zero, arith}
 use Rattle.std.proofs.lemmas.Bool.{eqb-true}
 use Rattle.site_ledger.specs.Books.{Given, Book}
 use Rattle.site_ledger.specs.Heads.{release_text}

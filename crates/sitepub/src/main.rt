@@ -1,4 +1,4 @@
-//! `sitepub new FOLDER`, `sitepub check FOLDER`, `sitepub export FOLDER OUT`: what an editor does with a folder of a site.
+//! What an editor does with a folder of a site: `sitepub new`, `check`, `preview`, `publish`, `log`, `status`, `export`.
 #![tactic(auto)]
 
 use site_editor::sitepub;

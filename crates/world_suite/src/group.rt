@@ -1,12 +1,11 @@
 //! A world, lent to the rows: a row that owned one would have to be proved to let it go at each of its ends.
-ghost use Rattle.std.specs.Prelude.{◌≤◌, IfOk};
+ghost use Rattle.std.specs.Prelude.{◌≤◌};
 
-use crate::halt::Halt;
 use crate::step::{Kind, Step};
 use command::write;
 use release::Answer;
 use site_ids::{Cluster, Instance, NodeId, Ticket, Value};
-use std::alloc::Global;
+use std::alloc::{AllocError, Global};
 use std::process::Abort;
 use wire::Message;
 use world::{AskFault, Event, NodeState, World, WorldFault};
@@ -24,10 +23,10 @@ pub(crate) struct Group {
 pub(crate) type Shown = (NodeState, u32, u64);
 
 /// A world that is refused memory is made once more.
-fn made(alloc: Global, cluster: Cluster) -> Result<World, Halt> {
+fn made(rt: &impl Abort, alloc: Global, cluster: Cluster) -> World {
     match World::new(alloc, cluster) {
-        Ok(world) => Ok(world),
-        Err(_) => Ok(World::new(alloc, cluster)?),
+        Ok(world) => world,
+        Err(_) => World::new(alloc, cluster).expect(rt, "memory"),
     }
 }
 
@@ -38,10 +37,10 @@ fn written(alloc: Global, number: u64, text: &str) -> Option<Value> {
 }
 
 /// The value of a command of editor 1. One that is refused memory is written once more.
-pub(crate) fn value(alloc: Global, number: u64, text: &str) -> Result<Value, Halt> {
+pub(crate) fn value(rt: &impl Abort, alloc: Global, number: u64, text: &str) -> Value {
     match written(alloc, number, text) {
-        Some(value) => Ok(value),
-        None => written(alloc, number, text).ok_or(Halt::OutOfMemory),
+        Some(value) => value,
+        None => written(alloc, number, text).expect(rt, "a value"),
     }
 }
 
@@ -75,15 +74,14 @@ fn kind_of(message: &Message) -> Kind {
 
 impl Group {
     /// So many nodes, opened over empty records.
-    pub(crate) fn new(alloc: Global, size: u8) -> Result<Group, Halt> {
-        let cluster = Cluster::new(size).ok_or(Halt::NotThere)?;
-        let world = made(alloc, cluster)?;
-        Ok(Group {
+    pub(crate) fn new(rt: &impl Abort, alloc: Global, size: u8) -> Group {
+        let cluster = Cluster::new(size).expect(rt, "a cluster");
+        Group {
             alloc,
-            world,
+            world: made(rt, alloc, cluster),
             settled: 0,
             wants: 0,
-        })
+        }
     }
 
     pub(crate) fn alloc(&self) -> Global {
@@ -95,13 +93,10 @@ impl Group {
     }
 
     /// A node of the cluster.
-    pub(crate) fn node(&self, number: u8) -> Result<NodeId, Halt>
-        ensures { IfOk result (λ node. node ≤ self.now.world.cluster) }
+    pub(crate) fn node(&self, rt: &impl Abort, number: u8) -> NodeId
+        ensures { result ≤ self.now.world.cluster }
     {
-        match self.world.cluster().node(number) {
-            Some(node) => Ok(node),
-            None => Err(Halt::NotThere),
-        }
+        self.world.cluster().node(number).expect(rt, "a node")
     }
 
     /// A run as it is.
@@ -110,17 +105,18 @@ impl Group {
     }
 
     /// A run that goes on, from the count that it gave, where it wanted memory once.
-    pub(crate) fn run_on(&mut self, events: &[Event]) -> Result<(), Halt> {
-        let taken = match self.world.run(events) {
-            Err(WorldFault::OutOfMemory(taken)) => taken,
-            Err(fault) => return Err(Halt::World(fault)),
-            Ok(()) => return Ok(()),
+    pub(crate) fn run_on(&mut self, rt: &impl Abort, events: &[Event]) -> Result<(), WorldFault> {
+        let ended = self.run(events);
+        let Err(WorldFault::OutOfMemory(taken)) = ended else {
+            return ended;
         };
         self.wants = self.wants.saturating_add(1);
-        let Some((_, left)) = events.split_at_checked(taken) else {
-            return Err(Halt::NotThere);
-        };
-        Ok(self.world.run(left)?)
+        let (_, left) = events.split_at_checked(taken).expect(rt, "events taken");
+        self.run(left)
+    }
+
+    pub(crate) fn take(&mut self, rt: &impl Abort, event: Event) -> Result<(), WorldFault> {
+        self.run_on(rt, &[event])
     }
 
     /// Each message from the first one on reaches all nodes once more at the next such step.
@@ -128,20 +124,24 @@ impl Group {
         self.settled = 0;
     }
 
-    fn deliver_to_all(&mut self, index: usize) -> Result<(), Halt> {
+    fn deliver(&mut self, rt: &impl Abort, number: u8, index: usize) -> Result<(), WorldFault> {
+        let node = self.node(rt, number);
+        self.take(rt, Event::Deliver { node, index })
+    }
+
+    fn deliver_to_all(&mut self, rt: &impl Abort, index: usize) -> Result<(), WorldFault> {
         for number in 1..=self.world.cluster().size() {
-            let node = self.node(number)?;
-            self.run_on(&[Event::Deliver { node, index }])?;
+            self.deliver(rt, number, index)?;
         }
         Ok(())
     }
 
-    fn settle(&mut self) -> Result<(), Halt> {
+    fn settle(&mut self, rt: &impl Abort) -> Result<(), WorldFault> {
         for index in self.settled..usize::MAX {
-            if index >= self.world.sent_count() {
+            if index >= self.sent_count() {
                 break;
             }
-            self.deliver_to_all(index)?;
+            self.deliver_to_all(rt, index)?;
             self.settled = index + 1;
         }
         Ok(())
@@ -151,9 +151,13 @@ impl Group {
         self.world.sent_count()
     }
 
+    fn sent(&self, index: usize) -> Option<&Message> {
+        self.world.sent(index)
+    }
+
     /// The kind of the message at a place of all that were handed out.
     pub(crate) fn kind(&self, index: usize) -> Option<Kind> {
-        match self.world.sent(index) {
+        match self.sent(index) {
             Some(message) => Some(kind_of(message)),
             None => None,
         }
@@ -161,7 +165,7 @@ impl Group {
 
     /// The first instance, the round and the count of a prepare.
     fn prepared(&self, index: usize) -> Option<(u32, u32, u8)> {
-        match self.world.sent(index) {
+        match self.sent(index) {
             Some(
                 Message::Prepare {
                     instance,
@@ -174,123 +178,174 @@ impl Group {
         }
     }
 
-    pub(crate) fn shown(&self, number: u8) -> Result<Shown, Halt> {
-        let node = self.node(number)?;
-        let state = self.world.state(node);
-        Ok((state, self.world.known(node), self.world.published(node)))
+    fn state(&self, rt: &impl Abort, number: u8) -> NodeState {
+        let node = self.node(rt, number);
+        self.world.state(node)
+    }
+
+    fn known(&self, rt: &impl Abort, number: u8) -> u32 {
+        let node = self.node(rt, number);
+        self.world.known(node)
+    }
+
+    fn newest(&self, rt: &impl Abort, number: u8) -> u64 {
+        let node = self.node(rt, number);
+        self.world.published(node)
+    }
+
+    pub(crate) fn shown(&self, rt: &impl Abort, number: u8) -> Shown {
+        (
+            self.state(rt, number),
+            self.known(rt, number),
+            self.newest(rt, number),
+        )
+    }
+
+    fn asked(&self, rt: &impl Abort, number: u8, n: u64, path: &str) -> Result<Answer, AskFault> {
+        let node = self.node(rt, number);
+        self.world.answer(node, n, path)
     }
 
     /// A question that is refused memory is put once more.
     pub(crate) fn answer(
         &self,
+        rt: &impl Abort,
         number: u8,
         n: u64,
         path: &str,
-    ) -> Result<Result<Answer, AskFault>, Halt> {
-        let node = self.node(number)?;
-        match self.world.answer(node, n, path) {
-            Err(AskFault::OutOfMemory) => Ok(self.world.answer(node, n, path)),
-            answer => Ok(answer),
+    ) -> Result<Answer, AskFault> {
+        match self.asked(rt, number, n, path) {
+            Err(AskFault::OutOfMemory) => self.asked(rt, number, n, path),
+            answer => answer,
         }
     }
 
+    fn planned(&self, rt: &impl Abort, number: u8) -> Result<Vec<Event>, AllocError> {
+        let node = self.node(rt, number);
+        self.world.quiet_plan(node)
+    }
+
     /// A plan that is refused memory is made once more.
-    fn plan(&self, number: u8) -> Result<Vec<Event>, Halt> {
-        let node = self.node(number)?;
-        match self.world.quiet_plan(node) {
-            Ok(plan) => Ok(plan),
-            Err(_) => Ok(self.world.quiet_plan(node)?),
+    fn plan(&self, rt: &impl Abort, number: u8) -> Vec<Event> {
+        match self.planned(rt, number) {
+            Ok(plan) => plan,
+            Err(_) => self.planned(rt, number).expect(rt, "memory"),
+        }
+    }
+
+    fn quiet(&mut self, rt: &impl Abort, number: u8) -> Result<(), WorldFault> {
+        let plan = self.plan(rt, number);
+        self.run_on(rt, plan.as_slice())
+    }
+
+    fn submission(&self, rt: &impl Abort, number: u8, ticket: u64, text: &str) -> Event {
+        Event::Submit {
+            node: self.node(rt, number),
+            value: value(rt, self.alloc, ticket, text),
+        }
+    }
+
+    fn telling(&self, rt: &impl Abort, number: u8, first: u32) -> Event {
+        Event::Tell {
+            node: self.node(rt, number),
+            instance: Instance::new(first).expect(rt, "an instance"),
         }
     }
 
     /// The event of a step, if it is one.
-    fn event(&self, step: Step) -> Result<Option<Event>, Halt> {
-        let event = match step {
-            Step::Submit(number, ticket, text) => Event::Submit {
-                node: self.node(number)?,
-                value: value(self.alloc, ticket, text)?,
-            },
-            Step::Tick(number) => Event::Tick {
-                node: self.node(number)?,
-            },
-            Step::Widen(number) => Event::Widen {
-                node: self.node(number)?,
-            },
-            Step::Ask(number) => Event::Ask {
-                node: self.node(number)?,
-            },
-            Step::Tell(number, first) => Event::Tell {
-                node: self.node(number)?,
-                instance: Instance::new(first).ok_or(Halt::NotThere)?,
-            },
-            Step::Deliver(number, index) => Event::Deliver {
-                node: self.node(number)?,
+    fn event(&self, rt: &impl Abort, step: Step) -> Option<Event> {
+        match step {
+            Step::Submit(number, ticket, text) => Some(self.submission(rt, number, ticket, text)),
+            Step::Tell(number, first) => Some(self.telling(rt, number, first)),
+            Step::Tick(number) => Some(Event::Tick {
+                node: self.node(rt, number),
+            }),
+            Step::Widen(number) => Some(Event::Widen {
+                node: self.node(rt, number),
+            }),
+            Step::Ask(number) => Some(Event::Ask {
+                node: self.node(rt, number),
+            }),
+            Step::Deliver(number, index) => Some(Event::Deliver {
+                node: self.node(rt, number),
                 index,
-            },
-            Step::Arm(number, calls) => Event::Arm {
-                node: self.node(number)?,
+            }),
+            Step::Arm(number, calls) => Some(Event::Arm {
+                node: self.node(rt, number),
                 calls,
-            },
-            Step::Crash(number, choice) => Event::Crash {
-                node: self.node(number)?,
+            }),
+            Step::Crash(number, choice) => Some(Event::Crash {
+                node: self.node(rt, number),
                 choice,
-            },
-            Step::Restart(number) => Event::Restart {
-                node: self.node(number)?,
-            },
-            _ => return Ok(None),
-        };
-        Ok(Some(event))
+            }),
+            Step::Restart(number) => Some(Event::Restart {
+                node: self.node(rt, number),
+            }),
+            _ => None,
+        }
     }
 
-    /// Does a step, or sees whether what it says is so.
-    pub(crate) fn act(&mut self, rt: &impl Abort, step: Step) -> Result<(), Halt> {
+    fn has_page(&self, rt: &impl Abort, number: u8, n: u64, path: &str, page: (u16, &str)) -> bool {
+        let answer = self.answer(rt, number, n, path);
+        is_page(&answer, page.0, page.1)
+    }
+
+    fn planned_counts(&self, rt: &impl Abort, number: u8) -> (usize, usize) {
+        let plan = self.plan(rt, number);
+        counts(plan.as_slice())
+    }
+
+    /// Sees whether what the step says is so.
+    fn look(&self, rt: &impl Abort, step: Step) {
         match step {
-            Step::Settle => self.settle(),
-            Step::Lose => {
-                self.settled = self.world.sent_count();
-                Ok(())
-            }
-            Step::Quiet(number) => {
-                let plan = self.plan(number)?;
-                self.run_on(plan.as_slice())
-            }
             Step::Plans(number, ticks, deliveries) => {
-                let plan = self.plan(number)?;
-                assert_eq!(rt; counts(plan.as_slice()), (ticks, deliveries), "{step:?}");
-                Ok(())
+                let planned = self.planned_counts(rt, number);
+                assert_eq!(rt; planned, (ticks, deliveries), "{step:?}");
             }
             Step::Shows(number, state, known, newest) => {
-                let shown = self.shown(number)?;
-                assert_eq!(rt; shown, (state, known, newest), "{step:?}");
-                Ok(())
+                assert_eq!(rt; self.shown(rt, number), (state, known, newest), "{step:?}");
             }
             Step::Page(number, n, path, status, body) => {
-                let answer = self.answer(number, n, path)?;
-                assert!(rt; is_page(&answer, status, body), "{step:?}");
-                Ok(())
+                assert!(rt;
+                    self.has_page(rt, number, n, path, (status, body)),
+                    "{step:?}"
+                );
             }
             Step::Last(count, kind) => {
                 assert_eq!(rt; self.sent_count(), count, "{step:?}");
                 assert_eq!(rt; self.kind(count.saturating_sub(1)), Some(kind));
-                Ok(())
             }
             Step::Prepares(index, at, round, count) => {
                 assert_eq!(rt; self.prepared(index), Some((at, round, count)), "{step:?}");
+            }
+            _ => {}
+        }
+    }
+
+    /// Does a step, or looks at what it says.
+    pub(crate) fn act(&mut self, rt: &impl Abort, step: Step) -> Result<(), WorldFault> {
+        match step {
+            Step::Settle => self.settle(rt),
+            Step::Quiet(number) => self.quiet(rt, number),
+            Step::Lose => {
+                self.settled = self.sent_count();
                 Ok(())
             }
-            _ => match self.event(step)? {
-                Some(event) => self.run_on(&[event]),
-                None => Ok(()),
+            _ => match self.event(rt, step) {
+                Some(event) => self.take(rt, event),
+                None => {
+                    self.look(rt, step);
+                    Ok(())
+                }
             },
         }
     }
 
-    pub(crate) fn act_all(&mut self, rt: &impl Abort, steps: &[Step]) -> Result<(), Halt> {
+    /// Does the steps. None of them ends in a fault.
+    pub(crate) fn act_all(&mut self, rt: &impl Abort, steps: &[Step]) {
         for step in steps {
-            self.act(rt, *step)?;
+            assert_eq!(rt; self.act(rt, *step), Ok(()), "{step:?}");
         }
-        Ok(())
     }
 }
 
@@ -302,9 +357,8 @@ pub(crate) fn is_page(answer: &Result<Answer, AskFault>, status: u16, body: &str
 }
 
 /// A world of so many nodes goes through the steps, and never wants memory.
-pub(crate) fn play(rt: &impl Abort, alloc: Global, size: u8, steps: &[Step]) -> Result<(), Halt> {
-    let mut group = Group::new(alloc, size)?;
-    let done = group.act_all(rt, steps);
+pub(crate) fn play(rt: &impl Abort, alloc: Global, size: u8, steps: &[Step]) {
+    let mut group = Group::new(rt, alloc, size);
+    group.act_all(rt, steps);
     assert_eq!(rt; group.wants(), 0);
-    done
 }

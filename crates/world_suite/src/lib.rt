@@ -5,8 +5,6 @@
 #[cfg(test)]
 mod group;
 #[cfg(test)]
-mod halt;
-#[cfg(test)]
 mod quiet;
 #[cfg(test)]
 mod records;

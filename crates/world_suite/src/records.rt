@@ -1,12 +1,11 @@
 //! What crashes and openings leave.
 use crate::group::play;
 use crate::step::{Kind, Step};
-use std::test::Fail;
 use world::NodeState;
 
 /// All nodes crash and lose what wasn't synced. The vote of node 2, which reached nobody, binds node 3.
 #[test]
-fn a_vote_on_record_outlives_a_crash(rt: HostRuntime) -> Result<(), Fail> {
+fn a_vote_on_record_outlives_a_crash(rt: HostRuntime) {
     let steps = [
         Step::Submit(1, 1, "release\n"),
         Step::Tick(1),
@@ -36,12 +35,12 @@ fn a_vote_on_record_outlives_a_crash(rt: HostRuntime) -> Result<(), Fail> {
         Step::Deliver(3, 10),
         Step::Shows(3, NodeState::Up, 1, 1),
     ];
-    Ok(play(&rt, rt.alloc(), 3, &steps)?)
+    play(&rt, rt.alloc(), 3, &steps);
 }
 
 /// What was known and what waited is gone; it comes back from other nodes.
 #[test]
-fn a_crash_forgets_what_was_known(rt: HostRuntime) -> Result<(), Fail> {
+fn a_crash_forgets_what_was_known(rt: HostRuntime) {
     let steps = [
         Step::Submit(1, 1, "release\n"),
         Step::Tick(1),
@@ -61,12 +60,12 @@ fn a_crash_forgets_what_was_known(rt: HostRuntime) -> Result<(), Fail> {
         Step::Settle,
         Step::Shows(3, NodeState::Up, 1, 1),
     ];
-    Ok(play(&rt, rt.alloc(), 3, &steps)?)
+    play(&rt, rt.alloc(), 3, &steps);
 }
 
 /// A node is stopped by its armed device, and takes nothing then. Opened again, its device works.
 #[test]
-fn an_arming_ends_with_an_opening(rt: HostRuntime) -> Result<(), Fail> {
+fn an_arming_ends_with_an_opening(rt: HostRuntime) {
     let steps = [
         Step::Arm(1, 0),
         Step::Restart(1),
@@ -91,5 +90,5 @@ fn an_arming_ends_with_an_opening(rt: HostRuntime) -> Result<(), Fail> {
         Step::Tick(1),
         Step::Last(4, Kind::Prepare),
     ];
-    Ok(play(&rt, rt.alloc(), 3, &steps)?)
+    play(&rt, rt.alloc(), 3, &steps);
 }

@@ -1,10 +1,8 @@
 //! Runs with one growth refused, as `tools/refuse-growths` runs this: a run goes on from the count that it gave, and every answer is that of the
 //! schedule without refusals. A disk in memory that finds none stops its node, which is opened again; then the schedule comes once more.
 use crate::group::{Group, is_page};
-use crate::halt::Halt;
 use crate::step::{Kind, Step};
 use std::process::Abort;
-use std::test::Fail;
 use world::{AskFault, Event, NodeState, WorldFault};
 
 const PAGE: [Step; 12] = [
@@ -64,21 +62,16 @@ fn lost_vote(end: Step) -> [Step; 19] {
 type Page = (u16, &'static str);
 
 /// Which of these pages a node shows for release 1, where it has that.
-fn page_at(
-    rt: &impl Abort,
-    group: &Group,
-    number: u8,
-    pages: &[Page],
-) -> Result<Option<usize>, Halt> {
-    let answer = group.answer(number, 1, "/")?;
+fn page_at(rt: &impl Abort, group: &Group, number: u8, pages: &[Page]) -> Option<usize> {
+    let answer = group.answer(rt, number, 1, "/");
     if matches!(&answer, Err(AskFault::NoSuchRelease)) {
-        return Ok(None);
+        return None;
     }
     let shown = pages
         .iter()
         .position(|(status, body)| is_page(&answer, *status, body));
     assert!(rt; shown.is_some(), "node {number}");
-    Ok(shown)
+    shown
 }
 
 fn agree(one: Option<usize>, other: Option<usize>) -> bool {
@@ -86,72 +79,72 @@ fn agree(one: Option<usize>, other: Option<usize>) -> bool {
 }
 
 /// Whether all three nodes have release 1. Those that have it show the same of these pages.
-fn all_answer(rt: &impl Abort, group: &Group, pages: &[Page]) -> Result<bool, Halt> {
-    let one = page_at(rt, group, 1, pages)?;
-    let two = page_at(rt, group, 2, pages)?;
-    let three = page_at(rt, group, 3, pages)?;
+fn all_answer(rt: &impl Abort, group: &Group, pages: &[Page]) -> bool {
+    let one = page_at(rt, group, 1, pages);
+    let two = page_at(rt, group, 2, pages);
+    let three = page_at(rt, group, 3, pages);
     assert!(rt; agree(one, two) && agree(two, three) && agree(one, three));
-    Ok(one.is_some() && two.is_some() && three.is_some())
+    one.is_some() && two.is_some() && three.is_some()
 }
 
 /// A message that wasn't handed out, since its node was stopped, reaches nobody.
-fn act_each(rt: &impl Abort, group: &mut Group, steps: &[Step]) -> Result<(), Halt> {
+fn act_each(rt: &impl Abort, group: &mut Group, steps: &[Step]) {
     for step in steps {
-        match group.act(rt, *step) {
-            Err(Halt::World(WorldFault::BadEvent(_))) => {}
-            done => done?,
-        }
+        let done = group.act(rt, *step);
+        assert!(rt;
+            matches!(done, Ok(()) | Err(WorldFault::BadEvent(_))),
+            "{step:?}"
+        );
     }
-    Ok(())
 }
 
-fn open_stopped(rt: &impl Abort, group: &mut Group) -> Result<(), Halt> {
+fn open_stopped(rt: &impl Abort, group: &mut Group) {
     for number in 1..=3 {
-        let (state, _, _) = group.shown(number)?;
+        let (state, _, _) = group.shown(rt, number);
         if state == NodeState::Stopped {
-            group.act(rt, Step::Restart(number))?;
+            group.act_all(rt, &[Step::Restart(number)]);
         }
     }
-    Ok(())
 }
 
 /// The schedule, and once more with all messages where a node lacks the release then.
-fn goes(rt: &impl Abort, group: &mut Group, steps: &[Step], pages: &[Page]) -> Result<(), Halt> {
-    act_each(rt, group, steps)?;
-    if !all_answer(rt, group, pages)? {
-        open_stopped(rt, group)?;
+fn goes(rt: &impl Abort, group: &mut Group, steps: &[Step], pages: &[Page]) {
+    act_each(rt, group, steps);
+    if !all_answer(rt, group, pages) {
+        open_stopped(rt, group);
         group.unsettle();
-        act_each(rt, group, steps)?;
+        act_each(rt, group, steps);
     }
-    assert!(rt; group.wants() <= 1 && all_answer(rt, group, pages)?);
-    Ok(())
+    assert!(rt; group.wants() <= 1 && all_answer(rt, group, pages));
 }
 
 #[test]
-fn a_page(rt: HostRuntime) -> Result<(), Fail> {
-    let mut group = Group::new(rt.alloc(), 3)?;
-    Ok(goes(&rt, &mut group, &PAGE, &[(200, "v1\n")])?)
+fn a_page(rt: HostRuntime) {
+    let mut group = Group::new(&rt, rt.alloc(), 3);
+    goes(&rt, &mut group, &PAGE, &[(200, "v1\n")]);
 }
 
 #[test]
-fn crashes(rt: HostRuntime) -> Result<(), Fail> {
-    let mut group = Group::new(rt.alloc(), 3)?;
-    Ok(goes(&rt, &mut group, &CRASHES, &[(404, "not found\n")])?)
+fn crashes(rt: HostRuntime) {
+    let mut group = Group::new(&rt, rt.alloc(), 3);
+    goes(&rt, &mut group, &CRASHES, &[(404, "not found\n")]);
+}
+
+fn loses_a_vote(rt: &impl Abort, group: &mut Group, end: Step) {
+    let pages = [(404, "not found\n"), (500, "template missing\n")];
+    goes(rt, group, &lost_vote(end), &pages);
 }
 
 #[test]
-fn lost_votes(rt: HostRuntime) -> Result<(), Fail> {
+fn lost_votes(rt: HostRuntime) {
     for end in [Step::Crash(2, 0), Step::Crash(2, 1), Step::Restart(2)] {
-        let mut group = Group::new(rt.alloc(), 3)?;
-        let pages = [(404, "not found\n"), (500, "template missing\n")];
-        goes(&rt, &mut group, &lost_vote(end), &pages)?;
+        loses_a_vote(&rt, &mut Group::new(&rt, rt.alloc(), 3), end);
     }
-    Ok(())
 }
 
 /// Each question hands out one message, so a count that is off by one shows.
-fn each_event_once(rt: &impl Abort, group: &mut Group) -> Result<(), Halt> {
-    let (one, two) = (group.node(1)?, group.node(2)?);
+fn each_event_once(rt: &impl Abort, group: &mut Group) {
+    let (one, two) = (group.node(rt, 1), group.node(rt, 2));
     let events = [
         Event::Ask { node: one },
         Event::Crash {
@@ -171,17 +164,16 @@ fn each_event_once(rt: &impl Abort, group: &mut Group) -> Result<(), Halt> {
         Event::Restart { node: one },
         Event::Ask { node: one },
     ];
-    group.run_on(&events)?;
-    assert_eq!(rt; group.sent_count(), 3);
-    for number in [1, 2] {
-        assert_eq!(rt; group.shown(number)?, (NodeState::Up, 0, 0));
-    }
-    assert_eq!(rt; group.kind(2), Some(Kind::Ask));
-    Ok(())
+    assert_eq!(rt; group.run_on(rt, &events), Ok(()));
 }
 
 #[test]
-fn one_run(rt: HostRuntime) -> Result<(), Fail> {
-    let mut group = Group::new(rt.alloc(), 3)?;
-    Ok(each_event_once(&rt, &mut group)?)
+fn one_run(rt: HostRuntime) {
+    let mut group = Group::new(&rt, rt.alloc(), 3);
+    each_event_once(&rt, &mut group);
+    assert_eq!(rt; group.sent_count(), 3);
+    for number in [1, 2] {
+        assert_eq!(rt; group.shown(&rt, number), (NodeState::Up, 0, 0));
+    }
+    assert_eq!(rt; group.kind(2), Some(Kind::Ask));
 }

@@ -1,7 +1,6 @@
 //! Worked schedules.
 use crate::group::play;
 use crate::step::{Kind, Step};
-use std::test::Fail;
 use world::NodeState;
 
 const RELEASE: &str = "release\n";
@@ -9,7 +8,7 @@ const RELEASE: &str = "release\n";
 const DATA: &str = "put data d\n{}";
 
 #[test]
-fn four_commands_make_one_page(rt: HostRuntime) -> Result<(), Fail> {
+fn four_commands_make_one_page(rt: HostRuntime) {
     let steps = [
         Step::Submit(1, 1, "put template t\nHello, {{subject}}!\n"),
         Step::Submit(1, 2, "put data d\n{\"subject\":\"world\"}"),
@@ -28,11 +27,11 @@ fn four_commands_make_one_page(rt: HostRuntime) -> Result<(), Fail> {
         Step::Page(3, 1, "/", 200, "Hello, world!\n"),
         Step::Page(2, 1, "/x", 404, "not found\n"),
     ];
-    Ok(play(&rt, rt.alloc(), 3, &steps)?)
+    play(&rt, rt.alloc(), 3, &steps);
 }
 
 #[test]
-fn a_page_may_be_over_limit(rt: HostRuntime) -> Result<(), Fail> {
+fn a_page_may_be_over_limit(rt: HostRuntime) {
     let steps = [
         Step::Submit(1, 1, "put template t\n{{>p}}"),
         Step::Submit(1, 2, "put partial p\n{{>p}}"),
@@ -52,11 +51,11 @@ fn a_page_may_be_over_limit(rt: HostRuntime) -> Result<(), Fail> {
         Step::Shows(1, NodeState::Up, 5, 1),
         Step::Page(1, 1, "/", 500, "page over limit\n"),
     ];
-    Ok(play(&rt, rt.alloc(), 1, &steps)?)
+    play(&rt, rt.alloc(), 1, &steps);
 }
 
 #[test]
-fn two_proposers_outbid_one_another(rt: HostRuntime) -> Result<(), Fail> {
+fn two_proposers_outbid_one_another(rt: HostRuntime) {
     let steps = [
         Step::Submit(1, 1, RELEASE),
         Step::Submit(2, 2, RELEASE),
@@ -82,7 +81,7 @@ fn two_proposers_outbid_one_another(rt: HostRuntime) -> Result<(), Fail> {
         Step::Shows(3, NodeState::Up, 2, 2),
         Step::Page(3, 2, "/", 404, "not found\n"),
     ];
-    Ok(play(&rt, rt.alloc(), 3, &steps)?)
+    play(&rt, rt.alloc(), 3, &steps);
 }
 
 /// A call of node 2's vote fails behind so many that pass, and the node ends so and is opened again. Then node 3 asks for promises: node 2 tells of
@@ -119,21 +118,20 @@ fn lost_vote(calls: u32, end: Step, shown: NodeState, told: bool) -> [Step; 24] 
 /// Kept, the vote binds node 3 to the release; lost, node 3 proposes its own value. It is kept where its last call alone failed, and no crash came or
 /// one that kept what was written.
 #[test]
-fn a_vote_in_flight_is_kept_or_lost(rt: HostRuntime) -> Result<(), Fail> {
+fn a_vote_in_flight_is_kept_or_lost(rt: HostRuntime) {
     for calls in 0..4 {
         for choice in [0, 1, 7] {
             let told = calls == 3 && choice == 1;
             let steps = lost_vote(calls, Step::Crash(2, choice), NodeState::Down, told);
-            play(&rt, rt.alloc(), 3, &steps)?;
+            play(&rt, rt.alloc(), 3, &steps);
         }
         let steps = lost_vote(calls, Step::Restart(2), NodeState::Up, calls == 3);
-        play(&rt, rt.alloc(), 3, &steps)?;
+        play(&rt, rt.alloc(), 3, &steps);
     }
-    Ok(())
 }
 
 #[test]
-fn votes_told_thrice_count_once(rt: HostRuntime) -> Result<(), Fail> {
+fn votes_told_thrice_count_once(rt: HostRuntime) {
     let steps = [
         Step::Submit(1, 1, RELEASE),
         Step::Tick(1),
@@ -164,11 +162,11 @@ fn votes_told_thrice_count_once(rt: HostRuntime) -> Result<(), Fail> {
         Step::Deliver(1, 7),
         Step::Shows(1, NodeState::Up, 1, 1),
     ];
-    Ok(play(&rt, rt.alloc(), 5, &steps)?)
+    play(&rt, rt.alloc(), 5, &steps);
 }
 
 #[test]
-fn a_release_waits_for_the_gap_below_it(rt: HostRuntime) -> Result<(), Fail> {
+fn a_release_waits_for_the_gap_below_it(rt: HostRuntime) {
     let steps = [
         Step::Submit(1, 1, DATA),
         Step::Crash(3, 0),
@@ -186,5 +184,5 @@ fn a_release_waits_for_the_gap_below_it(rt: HostRuntime) -> Result<(), Fail> {
         Step::Shows(3, NodeState::Up, 2, 1),
         Step::Page(3, 1, "/", 404, "not found\n"),
     ];
-    Ok(play(&rt, rt.alloc(), 3, &steps)?)
+    play(&rt, rt.alloc(), 3, &steps);
 }

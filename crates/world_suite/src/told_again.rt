@@ -1,10 +1,8 @@
 //! Groups that were all down: their votes are on record, and told again they make known what was.
 use crate::group::Group;
-use crate::halt::Halt;
 use crate::step::{Kind, Step};
 use std::alloc::Global;
 use std::process::Abort;
-use std::test::Fail;
 use world::NodeState;
 
 const RELEASE: &str = "release\n";
@@ -33,31 +31,18 @@ const PROPOSED: [Step; 6] = [
     Step::Deliver(1, 3),
 ];
 
-/// Takes these steps.
-fn take(rt: &impl Abort, group: &mut Group, steps: &[Step]) -> Result<(), Halt> {
-    for step in steps {
-        group.act(rt, *step)?;
-    }
-    Ok(())
-}
-
 /// Three nodes after these steps, part by part, and a power cut, and then these.
-fn cut_short(
-    rt: &impl Abort,
-    alloc: Global,
-    before: &[&[Step]],
-    after: &[Step],
-) -> Result<(), Halt> {
-    let mut group = Group::new(alloc, 3)?;
+fn cut_short(rt: &impl Abort, alloc: Global, before: &[&[Step]], after: &[Step]) {
+    let mut group = Group::new(rt, alloc, 3);
     for steps in before {
-        take(rt, &mut group, steps)?;
+        group.act_all(rt, steps);
     }
-    take(rt, &mut group, &POWER_CUT)?;
-    take(rt, &mut group, after)
+    group.act_all(rt, &POWER_CUT);
+    group.act_all(rt, after);
 }
 
 #[test]
-fn votes_told_again_make_all_known(rt: HostRuntime) -> Result<(), Fail> {
+fn votes_told_again_make_all_known(rt: HostRuntime) {
     let before = [
         Step::Submit(1, 1, DATA),
         Step::Submit(1, 2, RELEASE),
@@ -82,12 +67,12 @@ fn votes_told_again_make_all_known(rt: HostRuntime) -> Result<(), Fail> {
         Step::Settle,
         Step::Shows(3, NodeState::Up, 3, 2),
     ];
-    Ok(cut_short(&rt, rt.alloc(), &[&before[..]], &after)?)
+    cut_short(&rt, rt.alloc(), &[&before[..]], &after);
 }
 
 /// Node 2's vote is lost with its device: it has nothing to tell, and two others do.
 #[test]
-fn a_vote_lost_in_flight_is_not_told(rt: HostRuntime) -> Result<(), Fail> {
+fn a_vote_lost_in_flight_is_not_told(rt: HostRuntime) {
     let submitted = [Step::Submit(1, 1, RELEASE)];
     let before = [
         Step::Arm(2, 0),
@@ -107,12 +92,12 @@ fn a_vote_lost_in_flight_is_not_told(rt: HostRuntime) -> Result<(), Fail> {
         Step::Shows(2, NodeState::Up, 1, 1),
     ];
     let before = [&submitted[..], &PROPOSED[..], &before[..]];
-    Ok(cut_short(&rt, rt.alloc(), &before, &after)?)
+    cut_short(&rt, rt.alloc(), &before, &after);
 }
 
 /// Node 1 and 2 voted for a value, and then nodes 2 and 3 for the same at a higher ballot: each tells its last vote.
 #[test]
-fn votes_of_two_ballots_are_told(rt: HostRuntime) -> Result<(), Fail> {
+fn votes_of_two_ballots_are_told(rt: HostRuntime) {
     let submitted = [Step::Submit(1, 1, RELEASE)];
     let before = [
         Step::Deliver(2, 3),
@@ -139,12 +124,12 @@ fn votes_of_two_ballots_are_told(rt: HostRuntime) -> Result<(), Fail> {
         Step::Shows(3, NodeState::Up, 1, 1),
     ];
     let before = [&submitted[..], &PROPOSED[..], &before[..]];
-    Ok(cut_short(&rt, rt.alloc(), &before, &after)?)
+    cut_short(&rt, rt.alloc(), &before, &after);
 }
 
 /// Node 1 alone voted for its value, and the others decided another one at a higher ballot.
 #[test]
-fn a_vote_for_what_was_not_decided_decides_nothing(rt: HostRuntime) -> Result<(), Fail> {
+fn a_vote_for_what_was_not_decided_decides_nothing(rt: HostRuntime) {
     let submitted = [Step::Submit(1, 1, RELEASE), Step::Submit(2, 2, DATA)];
     let before = [
         Step::Tick(2),
@@ -167,5 +152,5 @@ fn a_vote_for_what_was_not_decided_decides_nothing(rt: HostRuntime) -> Result<()
         Step::Shows(3, NodeState::Up, 1, 0),
     ];
     let before = [&submitted[..], &PROPOSED[..], &before[..]];
-    Ok(cut_short(&rt, rt.alloc(), &before, &after)?)
+    cut_short(&rt, rt.alloc(), &before, &after);
 }

@@ -1,4 +1,4 @@
-use Rattle.std.proofs.Common.{◌≡◌, ℕ, List, map, Bor, ap, sym, ◌∙◌, subst}
+use Rattle.std.proofs.Common.{ℕ, List, map, Bor, ap, sym, ◌∙◌, subst}
 use Rattle.site_ledger.specs.Books.{Book}
 use Rattle.site_publish.specs.Courses.{stage_of, IsDone}
 use Rattle.site_publish.proofs.Planning.{done_is}

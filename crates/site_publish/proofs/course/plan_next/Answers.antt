@@ -1,4 +1,4 @@
-use Rattle.std.proofs.Common.{◌≡◌, true, map, ap, sym, ◌∙◌, subst, rules}
+use Rattle.std.proofs.Common.{◌≡◌, true, sym, ◌∙◌, subst, rules}
 use Rattle.site_ledger.specs.Books.{Book}
 use Rattle.site_ledger.specs.Steps.{is_idle}
 use Rattle.site_publish.proofs.Planning.{planned_idle}

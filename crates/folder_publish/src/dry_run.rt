@@ -1,0 +1,84 @@
+//! What would be published.
+use crate::comparing::{Change, changes_since};
+use editor_parts::{Halt, say};
+use site_ledger::{Ledger, Sent};
+use site_publish::{Stage, advance};
+use std::alloc::{AllocError, Global};
+use std::io::Write;
+
+/// The first line of a command.
+fn head_of(text: &str) -> &str {
+    text.lines().next().unwrap_or("")
+}
+
+/// Takes what is on its way as received.
+fn settle(alloc: Global, ledger: &mut Ledger) -> Result<(), AllocError> {
+    let numbers: Vec<u64> = ledger.sent().iter().map(|sent| sent.number).collect(alloc)?;
+    for number in numbers {
+        ledger.receive(number)?;
+    }
+    Ok(())
+}
+
+/// Tells what is on its way already.
+fn tell_sent<W: Write>(alloc: Global, out: &mut W, sent: &[Sent]) -> Result<(), Halt> {
+    for sent in sent {
+        let head = head_of(sent.text.as_str());
+        let line = format!(in alloc; "{head} (on its way)")?;
+        say(out, line.as_str())?;
+    }
+    Ok(())
+}
+
+fn tell_page<W: Write>(alloc: Global, out: &mut W, change: &Change) -> Result<(), Halt> {
+    let path = change.view.path.as_str();
+    let what = match (change.before, change.view.status) {
+        (404, _) => "is new",
+        (_, 404) => "goes",
+        _ => "changes",
+    };
+    let line = format!(in alloc; "page {path} {what}")?;
+    say(out, line.as_str())
+}
+
+/// Tells what is planned, and which pages change by it.
+fn tell_planned<W: Write>(
+    alloc: Global,
+    out: &mut W,
+    sent: &[Sent],
+    changes: &[Change],
+) -> Result<(), Halt> {
+    for sent in sent {
+        say(out, head_of(sent.text.as_str()))?;
+    }
+    for change in changes {
+        tell_page(alloc, out, change)?;
+    }
+    Ok(())
+}
+
+/// Tells what would be put and removed of a ledger with nothing on its way, and which pages change.
+fn tell_next<W: Write>(
+    alloc: Global,
+    out: &mut W,
+    ledger: &mut Ledger,
+    wanted: &[&str],
+) -> Result<(), Halt> {
+    let changes = changes_since(alloc, ledger, wanted)?;
+    match advance(alloc, ledger, wanted)? {
+        Stage::Done => say(out, "nothing would change"),
+        Stage::Sends => tell_planned(alloc, out, ledger.sent(), &changes),
+    }
+}
+
+/// Tells what would be put and removed, and which pages change. Nothing is asked, sent or saved.
+pub(crate) fn tell_plan<W: Write>(
+    alloc: Global,
+    out: &mut W,
+    ledger: &mut Ledger,
+    wanted: &[&str],
+) -> Result<(), Halt> {
+    tell_sent(alloc, out, ledger.sent())?;
+    settle(alloc, ledger)?;
+    tell_next(alloc, out, ledger, wanted)
+}

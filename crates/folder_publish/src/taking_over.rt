@@ -1,0 +1,69 @@
+//! What a first publication takes over from those who have published in the group.
+use editor_parts::{Halt, say};
+use group_client::{Node, ask, newest};
+use node_client::{Answer, Question};
+use site_folder::path_in;
+use std::alloc::{AllocError, Global};
+use std::io::Write;
+use std::net::{Net, TcpStream};
+
+/// The paths that texts are about.
+fn paths_in<'a>(alloc: Global, texts: &[&'a str]) -> Result<Vec<&'a str>, AllocError> {
+    texts.iter().filter_map(|text| path_in(text)).collect(alloc)
+}
+
+fn tell_shown<E: Write>(alloc: Global, err: &mut E, release: u64) -> Result<(), Halt> {
+    let line = format!(in alloc;
+        "this group shows release {release} already, and this folder is published there for the first time: other paths stay; a template, a partial or data of the same name is replaced"
+    )?;
+    say(err, line.as_str())
+}
+
+/// Tells the paths that the group answers.
+fn tell_paths<E: Write>(
+    alloc: Global,
+    err: &mut E,
+    paths: &[&str],
+    answers: &[Answer],
+) -> Result<(), Halt> {
+    for (path, answer) in paths.iter().zip(answers.iter()) {
+        if answer.status != 404 {
+            let line = format!(in alloc; "takes over {path}")?;
+            say(err, line.as_str())?;
+        }
+    }
+    Ok(())
+}
+
+/// The answers of a node for paths of a release.
+fn answers_at<N: Net<Stream = TcpStream>>(
+    net: &N,
+    alloc: Global,
+    node: &Node,
+    release: u64,
+    paths: &[&str],
+) -> Result<Vec<Answer>, AllocError> {
+    let questions: Vec<Question<'_>> = paths
+        .iter()
+        .map(|path| Question::Page(release, path))
+        .collect(alloc)?;
+    ask(net, alloc, node, &questions)
+}
+
+/// Tells what a group shows that a folder of these texts takes over, where it shows a release already.
+pub(crate) fn tell_taken_over<N: Net<Stream = TcpStream>, E: Write>(
+    net: &N,
+    alloc: Global,
+    err: &mut E,
+    node: &Node,
+    texts: &[&str],
+) -> Result<(), Halt> {
+    let release = newest(net, alloc, node)?.unwrap_or(0);
+    if release == 0 {
+        return Ok(());
+    }
+    tell_shown(alloc, err, release)?;
+    let paths = paths_in(alloc, texts)?;
+    let answers = answers_at(net, alloc, node, release, &paths)?;
+    tell_paths(alloc, err, &paths, &answers)
+}

@@ -1,0 +1,134 @@
+//! A folder as it is on disk, served to a browser.
+use crate::previewed::Previewed;
+use editor_parts::{Halt, say};
+use http_read::{Counted, Inbox};
+use http_serve::{ServeFault, exchange};
+use site_files::read_clean;
+use site_folder::release_of;
+use std::alloc::Global;
+use std::io::{self, Write};
+use std::net::{Net, Shutdown, SocketAddr, TcpListener, TcpStream};
+use std::rt::Files;
+use std::time::Duration;
+
+/// A connection has one exchange: the next one finds the folder as it is then.
+const LAST: u32 = 99;
+
+/// How many milliseconds a call of a connection may wait: a browser opens some that it does not use.
+const WAITING: u64 = 300;
+
+/// A folder that is previewed, and whether files that are no part of a site are passed over in it.
+#[derive(Clone, Copy)]
+struct Place<'a> {
+    folder: &'a str,
+    ignore: bool,
+}
+
+/// The release of a folder, or nothing where it has a fault: each is told.
+fn read_release<R: Files + AllocGlobal + Clone + Drop>(
+    rt: &R,
+    told: &mut Vec<u8>,
+    place: Place<'_>,
+) -> Result<Option<Previewed>, Halt> {
+    match read_clean(rt, told, place.folder, place.ignore)? {
+        Some(clean) => Ok(Some(Previewed::Pages(release_of(rt.alloc(), &clean.folder)?))),
+        None => Ok(None),
+    }
+}
+
+/// The folder as it is now.
+fn read_preview<R: Files + AllocGlobal + Clone + Drop>(
+    rt: &R,
+    place: Place<'_>,
+) -> Result<Previewed, Halt> {
+    let alloc = rt.alloc();
+    let mut told: Vec<u8> = Vec::new(alloc);
+    match read_release(rt, &mut told, place) {
+        Ok(Some(shown)) => Ok(shown),
+        Ok(None) => Ok(Previewed::Faults(String::from_utf8_lossy(alloc, &told)?)),
+        Err(Halt::OutOfMemory) => Err(Halt::OutOfMemory),
+        Err(halt) => Ok(Previewed::Faults(format!(in alloc; "{halt}\n")?)),
+    }
+}
+
+/// Answers the request of a connection. That the connection fails is passed over.
+fn answer_by(alloc: Global, stream: &TcpStream, preview: &mut Previewed) -> Result<(), Halt> {
+    let mut inbox = Inbox::new(alloc);
+    let (mut reader, mut writer) = (Counted::new(stream), Counted::new(stream));
+    match exchange(alloc, &mut reader, &mut writer, &mut inbox, preview, LAST) {
+        Err(ServeFault::OutOfMemory) => Err(Halt::OutOfMemory),
+        _ => Ok(()),
+    }
+}
+
+fn set_waiting(stream: &TcpStream) -> io::Result<()> {
+    let wait = Some(Duration::from_millis(WAITING));
+    stream.set_read_timeout(wait)?;
+    stream.set_write_timeout(wait)
+}
+
+/// Answers the request of a connection from the folder as it is now.
+fn answer<R: Files + AllocGlobal + Clone + Drop>(
+    rt: &R,
+    stream: &TcpStream,
+    place: Place<'_>,
+) -> Result<(), Halt> {
+    if set_waiting(stream).is_err() {
+        return Ok(());
+    }
+    let mut preview = read_preview(rt, place)?;
+    answer_by(rt.alloc(), stream, &mut preview)?;
+    let _ = stream.shutdown(Shutdown::Write);
+    Ok(())
+}
+
+fn bind<N: Net<Listener = TcpListener, Stream = TcpStream>>(
+    net: &N,
+    http: &str,
+) -> io::Result<TcpListener> {
+    match http.parse::<SocketAddr>() {
+        Ok(address) => TcpListener::bind(net, address),
+        Err(_) => Err(io::Error::from(io::ErrorKind::InvalidInput)),
+    }
+}
+
+fn listen<N: Net<Listener = TcpListener, Stream = TcpStream>>(
+    net: &N,
+    alloc: Global,
+    http: &str,
+) -> Result<TcpListener, Halt> {
+    match bind(net, http) {
+        Ok(listener) => Ok(listener),
+        Err(fault) => Err(Halt::Stop(format!(in alloc; "{http}: {fault}")?)),
+    }
+}
+
+fn tell<W: Write>(
+    alloc: Global,
+    out: &mut W,
+    listener: &TcpListener,
+    folder: &str,
+) -> Result<(), Halt> {
+    let Ok(address) = listener.local_addr() else {
+        return Ok(());
+    };
+    let line = format!(in alloc; "http://{address}/ shows {folder} as it is; Ctrl-C ends it")?;
+    say(out, line.as_str())
+}
+
+/// Serves a folder at an address, as it is on disk at each request; where it has a fault, what is wrong in place of each page. It goes on until it is
+/// ended.
+pub fn preview<
+    R: Files + Net<Listener = TcpListener, Stream = TcpStream> + AllocGlobal + Clone + Drop,
+    W: Write,
+>(rt: &R, out: &mut W, folder: &str, http: &str, ignore: bool) -> Result<u8, Halt> {
+    let listener = listen(rt, rt.alloc(), http)?;
+    tell(rt.alloc(), out, &listener, folder)?;
+    let place = Place { folder, ignore };
+    for stream in listener.incoming() {
+        if let Ok(stream) = stream {
+            answer(rt, &stream, place)?;
+        }
+    }
+    Ok(0)
+}
