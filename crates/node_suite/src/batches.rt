@@ -1,7 +1,6 @@
 //! A batch of calls: judged by what is in memory, and whichever call of its seal fails, all of it is found when the node is opened again, or none of it.
-use crate::halt::Halt;
 use crate::peer::Peer;
-use crate::samples::{prepare, prepared_round, propose, told_vote};
+use crate::samples::{copied, prepare, prepared_round, propose, told_vote};
 use node::NodeFault;
 use std::alloc::Global;
 use std::process::Abort;
@@ -28,41 +27,48 @@ const FAILURES: [(u32, Option<u8>, bool); 17] = [
     (4, Some(0), true),
 ];
 
+fn hand_prepare(rt: &impl Abort, node: &mut Peer, round: u32) {
+    let message = prepare(rt, node.other(rt, 3), round);
+    assert_eq!(rt; node.hand(rt, &message), Ok(()));
+}
+
+fn hand_proposal(rt: &impl Abort, node: &mut Peer) {
+    let value = copied(rt, node.alloc(), b"v");
+    let message = propose(rt, node.other(rt, 3), 1, 2, value);
+    assert_eq!(rt; node.hand(rt, &message), Ok(()));
+}
+
 /// A batch that puts a round, a promise and a vote on record: the vote is at the ballot promised in it.
-fn three(node: &mut Peer) -> Result<(), Halt> {
-    let three = node.other(3)?;
-    let vote = propose(node.alloc(), three, 2, b"v")?;
-    node.begin()?;
-    node.tick()?;
-    node.hand(&prepare(three, 2)?)?;
-    node.hand(&vote)
+fn fill(rt: &impl Abort, node: &mut Peer) {
+    assert_eq!(rt; node.begin(), Ok(()));
+    assert_eq!(rt; node.tick(), Ok(()));
+    hand_prepare(rt, node, 2);
+    hand_proposal(rt, node);
 }
 
-/// What node 3 is answered as it prepares round 1: below the promise, a refusal.
-fn is_promised(node: &mut Peer) -> Result<bool, Halt> {
-    let three = node.other(3)?;
-    node.hand(&prepare(three, 1)?)?;
-    Ok(told_vote(node.out()).is_none())
+/// Whether node 3 is refused as it prepares round 1, below the promise.
+fn is_promised(rt: &impl Abort, node: &mut Peer) -> bool {
+    hand_prepare(rt, node, 1);
+    told_vote(node.out()).is_none()
 }
 
-/// Whether the vote is told, which goes on record as a promise of round 3.
-fn is_voted(node: &mut Peer) -> Result<bool, Halt> {
-    let three = node.other(3)?;
-    node.hand(&prepare(three, 3)?)?;
-    Ok(told_vote(node.out()) == Some(true))
+/// Whether the vote is told, as round 3 is promised.
+fn is_voted(rt: &impl Abort, node: &mut Peer) -> bool {
+    hand_prepare(rt, node, 3);
+    told_vote(node.out()) == Some(true)
 }
 
-fn next_round(node: &mut Peer) -> Result<Option<u32>, Halt> {
-    node.tick()?;
-    Ok(prepared_round(node.out()))
+fn next_round(rt: &impl Abort, node: &mut Peer) -> Option<u32> {
+    assert_eq!(rt; node.tick(), Ok(()));
+    prepared_round(node.out())
 }
 
 /// All three entries show, or none of them.
 fn shows(rt: &impl Abort, node: &mut Peer, all: bool) {
-    let round = next_round(node).expect(rt, "a tick");
-    assert_eq!(rt; round, Some(if all { 2 } else { 1 }));
-    assert_eq!(rt; is_promised(node), Ok(all));
-    assert_eq!(rt; is_voted(node), Ok(all));
+    let round = if all { 2 } else { 1 };
+    assert_eq!(rt; next_round(rt, node), Some(round));
+    assert_eq!(rt; is_promised(rt, node), all);
+    assert_eq!(rt; is_voted(rt, node), all);
 }
 
 /// A seal of which so many calls pass, and what the node says then.
@@ -81,8 +87,8 @@ fn seal(rt: &impl Abort, node: &mut Peer, calls: u32) {
 
 /// Within the batch a request is judged by what was put before it.
 fn judged(rt: &impl Abort, node: &mut Peer) {
-    three(node).expect(rt, "a batch");
-    assert_eq!(rt; is_promised(node), Ok(true));
+    fill(rt, node);
+    assert!(rt; is_promised(rt, node));
 }
 
 fn find(rt: &impl Abort, alloc: Global, row: (u32, Option<u8>, bool)) {
@@ -107,9 +113,9 @@ fn a_node_goes_on_behind_a_seal(rt: HostRuntime) {
     let mut node = Peer::fresh(&rt, rt.alloc(), 3);
     judged(&rt, &mut node);
     assert_eq!(rt; node.seal(), Ok(()));
-    assert_eq!(rt; is_voted(&mut node), Ok(true));
+    assert!(rt; is_voted(&rt, &mut node));
     assert_eq!(rt; node.begin(), Ok(()));
-    assert_eq!(rt; is_promised(&mut node), Ok(true));
+    assert!(rt; is_promised(&rt, &mut node));
     node.arm(0);
     assert_eq!(rt; node.seal(), Ok(()));
     let mut node = node.again(&rt, Some(0));
