@@ -44,8 +44,8 @@ peers_of() { echo "${udp[@]}"; }
 # the number of a node's process: P
 process() { cat "$group/$1.pid"; }
 
-# is it there still: P
-runs() { [ -e "$group/$1.pid" ] && kill -0 "$(process "$1")" 2> /dev/null; }
+# is it there still, and not only unreaped: P
+runs() { [ -e "$group/$1.pid" ] && kill -0 "$(process "$1")" 2> /dev/null && ! grep -qs '^State:[[:space:]]*Z' "/proc/$(process "$1")/status"; }
 
 # it is ready: P
 is_ready() { grep -q "^node $1 ready" "$group/$1.out"; }

@@ -1,11 +1,12 @@
 -- The entry in flight, from a failed put to the next opening.
-use Rattle.std.proofs.Common.{◌≢◌, inl, ⊎_elim, ℕ, ◌≤◌, ◌<◌, Option, Some, List, ◌∷◌, length, get_or, take, refl, sym, ap, subst, arith, codes, length-append}
+use Rattle.std.proofs.Common.{◌≡◌, ◌≢◌, ◌⊎◌, inl, inr, ⊎_elim, ℕ, ◌≤◌, ◌<◌, Option, Some, List, ◌∷◌, ◌++◌, length, get_or, take, refl, sym, ap, subst, arith, codes, length-append}
 use Rattle.site_disk.specs.Model.{DiskState, MayLeave, LeavesOnly, moment, after_sync}
 use Rattle.durable.specs.Entries.{Entry}
 use Rattle.durable.specs.Spelling.{blocks}
 use Rattle.durable.specs.Standing.{StandsFor, IsNoRecord, IsOfAnother}
 use Rattle.durable.specs.Keeping.{IsFound, Keeps, Settles}
-use Rattle.durable.specs.Laws.{SettledKeeps, CrashSettles, OpeningSettles, SyncKeeps, NeverRefused}
+use Rattle.durable.specs.Batches.{IsNoneOrAll, KeepsNoneOrAll}
+use Rattle.durable.specs.Laws.{SettledKeeps, CrashSettles, OpeningSettles, SyncKeeps, NeverRefused, OpeningSettlesBatch, CrashSettlesBatch, SyncKeepsBatch, NeverRefusedBatch}
 use Rattle.durable.proofs.Torn.{settled_leaves}
 use Rattle.durable.proofs.Moments.{started, goes_on}
 use Rattle.durable.proofs.Prefix.{stands_for_one}
@@ -58,4 +59,32 @@ module _ (node cluster : ℕ) (file : Bytes) (entries : List Entry) (stands : St
 pub never_refused : NeverRefused
 never_refused node cluster entries in_flight d keeps =
     let found = keeps.read in
+    (not_unread node cluster d.seen found.0 found.2, not_another node cluster d.seen found.0 found.2, λ damaged. damaged found.0 found.2)
+
+kept_so : (node cluster : ℕ) (earlier batch : List Entry) (file : Bytes) → IsNoneOrAll node cluster earlier batch file → (found : List Entry) × ((found ≡ earlier) ⊎ (found ≡ earlier ++ batch)) × StandsFor node cluster file found
+kept_so node cluster earlier batch file is = ⊎_elim (λ none. (earlier, inl refl, none)) (λ all. (earlier ++ batch, inr refl, all)) is
+
+pub opening_settles_batch : OpeningSettlesBatch
+opening_settles_batch node cluster earlier batch d found keeps here = ⊎_elim (λ none. inl (stands_for_one node cluster d.seen found earlier here none)) (λ all. inr (stands_for_one node cluster d.seen found (earlier ++ batch) here all)) keeps.read
+
+pub crash_settles_batch : CrashSettlesBatch
+crash_settles_batch node cluster earlier batch d left keeps may =
+    let at = kept_so node cluster earlier batch left (keeps.left left may) in
+    (at.0, at.1, λ past. settled_keeps node cluster at.0 _ (record { all_synced = refl; none_written = refl }) at.2)
+
+synced_batch : (node cluster : ℕ) (earlier batch : List Entry) (d : DiskState) → KeepsNoneOrAll node cluster earlier batch d → (left : Bytes) → MayLeave (moment (after_sync d)) left → IsNoneOrAll node cluster earlier batch left
+synced_batch node cluster earlier batch d keeps left may =
+    let P : Bytes → Type 0 = λ l. IsNoneOrAll node cluster earlier batch l in
+    subst P (sym (settled_leaves (after_sync d) left (record { all_synced = refl; none_written = refl }) may)) keeps.read
+
+pub sync_keeps_batch : SyncKeepsBatch
+sync_keeps_batch node cluster earlier batch d keeps =
+    let P : Bytes → Type 0 = λ l. IsNoneOrAll node cluster earlier batch l in (
+      record { read = keeps.read; left = synced_batch node cluster earlier batch d keeps },
+      goes_on d d (after_sync d) P (started d P keeps.left) refl (synced_batch node cluster earlier batch d keeps),
+    )
+
+pub never_refused_batch : NeverRefusedBatch
+never_refused_batch node cluster earlier batch d keeps =
+    let found = kept_so node cluster earlier batch d.seen keeps.read in
     (not_unread node cluster d.seen found.0 found.2, not_another node cluster d.seen found.0 found.2, λ damaged. damaged found.0 found.2)

@@ -15,17 +15,21 @@ pub blocks-push : (entries : List Entry) (entry : Entry) → blocks (entries ++ 
 blocks-push [] entry = append-nil (block entry)
 blocks-push (first ∷ entries) entry = ap (λ (l : List ℕ). block first ++ l) (blocks-push entries entry) ∙ sym (append_assoc (block first) (blocks entries) (block entry))
 
+pub blocks-append : (a b : List Entry) → blocks (a ++ b) ≡ blocks a ++ blocks b
+blocks-append [] b = refl
+blocks-append (e ∷ a) b = ap (λ (l : List ℕ). block e ++ l) (blocks-append a b) ∙ sym (append_assoc (block e) (blocks a) (blocks b))
+
 module _ (node cluster gate : ℕ) (file : List ℕ) (entries : List Entry) (stands : StandsFor node cluster file entries) (at_gate : gate ≡ 10 + length (blocks entries)) where
   abbrev front : List ℕ
   front = head node cluster ++ blocks entries
 
-  front_size : length front ≡ gate
+  pub front_size : length front ≡ gate
   front_size = omega (arith, at_gate, length-append (head node cluster) (blocks entries), head_size node cluster)
 
   layout : file ≡ front ++ stands.gate ∷ stands.rest
   layout = stands.layout
 
-  file_front : take gate file ≡ front
+  pub file_front : take gate file ≡ front
   file_front = ap (λ (l : List ℕ). take gate l) layout ∙ take_at front (stands.gate ∷ stands.rest) gate front_size
 
   file_back : drop gate file ≡ stands.gate ∷ stands.rest

@@ -1,10 +1,11 @@
 -- What holds of files and disks that keep a record.
-use Rattle.std.specs.Prelude.{◌≡◌, ℕ, Option, None, List}
+use Rattle.std.specs.Prelude.{◌≡◌, ◌⊎◌, ℕ, Option, None, List, ◌++◌}
 use Rattle.site_disk.specs.Model.{DiskState, Moment, MayLeave, LeavesOnly, moment, at_rest, after_sync}
 use Rattle.durable.specs.Append.{IsSettled}
 use Rattle.durable.specs.Entries.{Entry}
 use Rattle.durable.specs.Standing.{StandsFor, IsNoRecord, IsOfAnother, IsDamaged}
 use Rattle.durable.specs.Keeping.{Settles, IsFound, Keeps}
+use Rattle.durable.specs.Batches.{IsNoneOrAll, KeepsNoneOrAll}
 
 -- a file stands for one list of entries at most
 abbrev pub OneList : Type 0
@@ -32,4 +33,24 @@ SyncKeeps = (node cluster : ℕ) (entries : List Entry) (in_flight : Option Entr
 -- nothing in the bytes of a disk that keeps a record is a reason to refuse it
 abbrev pub NeverRefused : Type 0
 NeverRefused = (node cluster : ℕ) (entries : List Entry) (in_flight : Option Entry) (d : DiskState) → Keeps node cluster entries in_flight d
+    → (¬ IsNoRecord d.seen) × (¬ IsOfAnother node cluster d.seen) × (¬ IsDamaged node cluster d.seen)
+
+-- what an opening reads after the device failed as a batch was sealed: the earlier entries, or they and all of the batch
+abbrev pub OpeningSettlesBatch : Type 0
+OpeningSettlesBatch = (node cluster : ℕ) (earlier batch : List Entry) (d : DiskState) (found : List Entry) → KeepsNoneOrAll node cluster earlier batch d → StandsFor node cluster d.seen found
+    → (found ≡ earlier) ⊎ (found ≡ earlier ++ batch)
+
+-- after a crash it is settled which, and the disk keeps that and nothing else
+abbrev pub CrashSettlesBatch : Type 0
+CrashSettlesBatch = (node cluster : ℕ) (earlier batch : List Entry) (d : DiskState) (left : List ℕ) → KeepsNoneOrAll node cluster earlier batch d → MayLeave (moment d) left
+    → (found : List Entry) × ((found ≡ earlier) ⊎ (found ≡ earlier ++ batch)) × ((past : List Moment) → Keeps node cluster found None (at_rest left past))
+
+-- an opening that is refused keeps what may stand, and leaves it at any moment
+abbrev pub SyncKeepsBatch : Type 0
+SyncKeepsBatch = (node cluster : ℕ) (earlier batch : List Entry) (d : DiskState) → KeepsNoneOrAll node cluster earlier batch d
+    → KeepsNoneOrAll node cluster earlier batch (after_sync d) × LeavesOnly d (after_sync d) (IsNoneOrAll node cluster earlier batch)
+
+-- nothing in its bytes is a reason to refuse it
+abbrev pub NeverRefusedBatch : Type 0
+NeverRefusedBatch = (node cluster : ℕ) (earlier batch : List Entry) (d : DiskState) → KeepsNoneOrAll node cluster earlier batch d
     → (¬ IsNoRecord d.seen) × (¬ IsOfAnother node cluster d.seen) × (¬ IsDamaged node cluster d.seen)

@@ -12,6 +12,7 @@ use Rattle.durable.specs.Spelling.{block, behind_gate}
 use Rattle.durable.specs.Keeping.{IsFound, Keeps}
 use Rattle.durable.specs.Reading.{IsKept}
 use Rattle.durable.specs.Ready.{IsStored, IsReady, IsUnchanged}
+use Rattle.durable.specs.Batches.{IsBatchOpen, Stages, GoesAhead}
 use Rattle.durable.specs.Slots.{slot_at}
 use Rattle.durable.specs.declared.fault.RecordFault.{RecordFault}
 use Rattle.durable.specs.declared.fault.RecordFault.TheVariants.{Device, OutOfMemory, Full, Stopped}
@@ -58,6 +59,20 @@ abbrev pub BreaksOff : {D : Type 0} → (D → DiskState → Type 0) → Record 
 BreaksOff stands_for old new bytes = (d : DiskState) (entries : List Entry) (entry : Entry) → IsStored stands_for old d entries → MayFollow old.cluster entries entry → bytes ≡ behind_gate entry
     → (e : DiskState) × stands_for new.disk e × LeavesOnly d e (IsFound old.node old.cluster entries (Some entry)) × Keeps old.node old.cluster entries (Some entry) e
 
+-- The bytes were written behind the gate, to the disk or to the batch that is open: where they are an entry's, the one or the other has it. Of what is kept in memory
+-- the gate alone changes. A device that fails stops the record and is counted; want of memory is only a batch's.
+pub record Writes {D : Type 0} (stands_for : D → DiskState → Type 0) (failed : D → ℕ) (old new : Record D) (bytes : List ℕ) (result : Result (Unit {0}) RecordFault) : Type 0 where
+  pub appends : OnOk result (Appends stands_for old new bytes)
+  pub stages : OnOk result (Stages stands_for old new bytes)
+  pub recorded : OnOk result (new.recorded ≡ record old.recorded { gate = old.recorded.gate + length bytes })
+  pub running : OnOk result ((new.stopped ≡ false) × (failed new.disk ≡ failed old.disk))
+  pub breaks_off : IsErrOf result Device → BreaksOff stands_for old new bytes × (new.stopped ≡ true) × (new.recorded ≡ old.recorded) × ((failed old.disk < failed new.disk) ⊎ (failed old.disk ≡ 2 ^ 64 - 1))
+  pub no_memory : IsErrOf result OutOfMemory → IsBatchOpen old × IsUnchanged old new
+  pub others : OnErr result (IsErrOf result Device ⊎ IsErrOf result OutOfMemory)
+  pub batched : IsBatchOpen old → (new.disk ≡ old.disk) × (¬ IsErrOf result Device)
+  pub same_mode : IsBatchOpen new ↔ IsBatchOpen old
+  pub whose : (new.node ≡ old.node) × (new.cluster ≡ old.cluster)
+
 -- A put of the entry has succeeded, over any disk: the record runs and keeps the entry in memory, and no call of the disk has failed.
 pub record IsPut {D : Type 0} (failed : D → ℕ) (old new : Record D) (entry : Entry) : Type 0 where
   pub follows : (entries : List Entry) → IsKept entries old.recorded → MayFollow old.cluster entries entry
@@ -91,6 +106,12 @@ pub record IsCutShort {D : Type 0} (stands_for : D → DiskState → Type 0) (fa
 abbrev pub IsFullFor : {D : Type 0} → Record D → Entry → Type 0
 IsFullFor store entry = MAX_RECORD < store.recorded.gate + 1 + length (behind_gate entry)
 
+-- A put of the entry while a batch is open: the batch has it too, and no call of the disk is made
+pub record IsBatched {D : Type 0} (stands_for : D → DiskState → Type 0) (old new : Record D) (entry : Entry) (result : Result (Unit {0}) RecordFault) : Type 0 where
+  pub ahead : OnOk result (GoesAhead stands_for old new entry)
+  pub untouched : new.disk ≡ old.disk
+  pub no_device : ¬ IsErrOf result Device
+
 -- A put of the entry. Stopped comes before Full, Full before want of memory, and that before any write.
 pub record Puts {D : Type 0} (stands_for : D → DiskState → Type 0) (failed : D → ℕ) (old new : Record D) (entry : Entry) (result : Result (Unit {0}) RecordFault) : Type 0 where
   pub put : OnOk result (IsPut failed old new entry)
@@ -100,4 +121,6 @@ pub record Puts {D : Type 0} (stands_for : D → DiskState → Type 0) (failed :
   pub full : IsErrOf result Full ↔ ((old.stopped ≡ false) × IsFullFor old entry)
   pub others : OnErr result (IsErrOf result Device ⊎ ((IsErrOf result Stopped ⊎ (IsErrOf result Full ⊎ IsErrOf result OutOfMemory)) × IsUnchanged old new))
   pub kept : OnErr result (IsMemoryKept old.recorded new.recorded)
+  pub batched : IsBatchOpen old → IsBatched stands_for old new entry result
+  pub same_mode : IsBatchOpen new ↔ IsBatchOpen old
   pub whose : (new.node ≡ old.node) × (new.cluster ≡ old.cluster)

@@ -1,5 +1,5 @@
 -- When a record is in order, and for which entries.
-use Rattle.std.specs.Prelude.{◌≡◌, ℕ, ◌+◌, List, length, false}
+use Rattle.std.specs.Prelude.{◌≡◌, ℕ, ◌+◌, List, [], length, false}
 use Rattle.site_disk.specs.Model.{DiskState, after_sync}
 use Rattle.durable.specs.Append.{IsSettled}
 use Rattle.durable.specs.Entries.{Entry}
@@ -10,22 +10,25 @@ use Rattle.durable.specs.Reading.{IsKept}
 use Rattle.durable.specs.Slots.{slot_at}
 use Rattle.durable.specs.declared.record.Record.{Record}
 
--- the record runs, its file stands for these entries, and all of it is on the disk
+-- the record runs, its file stands for these entries, all of it is on the disk, and no batch is open
 pub record IsStored {D : Type 0} (stands_for : D → DiskState → Type 0) (store : Record D) (d : DiskState) (entries : List Entry) : Type 0 where
   pub stands : stands_for store.disk d
   pub settled : IsSettled d
   pub reads : StandsFor store.node store.cluster d.seen entries
   pub gate : store.recorded.gate ≡ 10 + length (blocks entries)
   pub running : store.stopped ≡ false
+  pub none_staged : store.staged.bytes.items ≡ []
 
 -- and what it keeps in memory is what they record
 pub record IsReady {D : Type 0} (stands_for : D → DiskState → Type 0) (store : Record D) (d : DiskState) (entries : List Entry) : Type 0 where
   pub stored : IsStored stands_for store d entries
   pub kept : IsKept entries store.recorded
 
--- only room for a slot has changed, which cannot be seen
+-- only room for a slot, or for what waits in a batch, has changed, which cannot be seen
 pub record IsUnchanged {D : Type 0} (old new : Record D) : Type 0 where
-  pub same : new ≡ record old { recorded = record old.recorded { slots = new.recorded.slots } }
+  pub same : new ≡ record old { recorded = record old.recorded { slots = new.recorded.slots }; staged = new.staged }
+  pub staged : new.staged.bytes.items ≡ old.staged.bytes.items
+  pub base : new.staged.base ≡ old.staged.base
   pub slots : (i : ℕ) → slot_at new.recorded.slots i ≡ slot_at old.recorded.slots i
 
 -- what a record that was opened keeps in memory is what these entries record, over any disk; and of each state that the disk stood for, they are the entries of its file
@@ -33,4 +36,5 @@ pub record IsOpened {D : Type 0} (stands_for : D → DiskState → Type 0) (disk
   pub history : IsHistory store.cluster entries
   pub kept : IsKept entries store.recorded
   pub running : store.stopped ≡ false
+  pub none_staged : store.staged.bytes.items ≡ []
   pub ready : (d : DiskState) → stands_for disk d → IsReady stands_for store (after_sync d) entries

@@ -1,4 +1,4 @@
-ghost use Rattle.durable.specs.Laws.{OneList, SettledKeeps, CrashSettles, OpeningSettles, SyncKeeps, NeverRefused};
+ghost use Rattle.durable.specs.Laws.{OneList, SettledKeeps, CrashSettles, OpeningSettles, SyncKeeps, NeverRefused, OpeningSettlesBatch, CrashSettlesBatch, SyncKeepsBatch, NeverRefusedBatch};
 
 /// A file stands for one list of entries at most.
 pub fn files_stand_for_one_list()
@@ -17,4 +17,13 @@ pub fn in_flight_settles()
 /// No disk that keeps a record is refused for its bytes.
 pub fn kept_records_open()
     ensures { NeverRefused }
+{}
+
+/// An opening, or a crash, settles whether the batch stands that a device cut short as it was sealed: all of it or none.
+/// No such disk is refused for its bytes.
+pub fn batches_settle()
+    ensures opening { OpeningSettlesBatch }
+    ensures crash { CrashSettlesBatch }
+    ensures sync { SyncKeepsBatch }
+    ensures refused { NeverRefusedBatch }
 {}

@@ -2,6 +2,7 @@
 #![tactic(auto)]
 
 mod append;
+mod batch;
 mod fault;
 mod laws;
 mod parsing;
@@ -11,7 +12,8 @@ mod record;
 mod recorded;
 mod slots;
 mod spelling;
+mod staged;
 
 pub use fault::RecordFault;
-pub use laws::{files_stand_for_one_list, in_flight_settles, kept_records_open};
+pub use laws::{batches_settle, files_stand_for_one_list, in_flight_settles, kept_records_open};
 pub use record::Record;

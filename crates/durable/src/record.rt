@@ -12,6 +12,7 @@ ghost use Rattle.durable.specs.Reading.{AreRead};
 use crate::RecordFault;
 use crate::reading::read_entries;
 use crate::recorded::Recorded;
+use crate::staged::Staged;
 use acceptor::Slot;
 use site_disk::{Armed, Disk};
 use site_ids::{Cluster, Instance, MAX_RECORD, NodeId};
@@ -29,6 +30,8 @@ pub struct Record<D> {
     pub(crate) recorded: Recorded,
     // from a failure of the device on
     pub(crate) stopped: bool,
+    // the batch that is open, if one is
+    pub(crate) staged: Staged,
 }
 
 // The head of a record, and its gate.
@@ -114,6 +117,7 @@ impl<D: Disk> Record<D> {
                 cluster,
                 recorded,
                 stopped: false,
+                staged: Staged::new(alloc),
             }),
             Err(fault) => Err((fault, disk)),
         }
@@ -140,7 +144,7 @@ impl<D: Disk> Record<D> {
         self.recorded.greatest
     }
 
-    /// Whether the device failed in a put since the record was opened.
+    /// Whether the device failed in a put or a seal since the record was opened.
     pub fn is_stopped(&self) -> bool
         ensures { result ≡ self.now.stopped }
     {
@@ -162,7 +166,7 @@ impl<D: Disk> Record<D> {
         payload <= MAX_RECORD - 6 && self.recorded.gate <= MAX_RECORD - 6 - payload
     }
 
-    /// Gives the disk back.
+    /// Gives the disk back, without the entries of a batch that is open.
     pub fn close(self) -> D
         ensures { result ≡ self.disk }
     {
@@ -173,6 +177,7 @@ impl<D: Disk> Record<D> {
             cluster: _,
             recorded: _recorded,
             stopped: _,
+            staged: _staged,
         } = self;
         disk
     }

@@ -161,6 +161,11 @@ pub fn ask<N: Net<Stream = TcpStream>>(
     Ok(answers)
 }
 
+/// Why a node can't be connected to; nothing where it can.
+pub(crate) fn unreached<N: Net<Stream = TcpStream>>(net: &N, node: &Node) -> Option<io::Error> {
+    connect(net, node.host.as_str()).err()
+}
+
 /// The number that a node answers.
 fn number_in(answer: &Answer) -> Option<u64> {
     if answer.status != 200 {

@@ -1,5 +1,5 @@
 //! Whether a ledger is the newest of its editor, as the group says.
-use crate::asking::ask;
+use crate::asking::{ask, unreached};
 use crate::group::Group;
 use crate::node::Node;
 use editor_parts::{Halt, now, passed, rest, say};
@@ -111,13 +111,44 @@ fn reason(
         }
         Standing::Elsewhere => {
             format!(in alloc;
-                "{folder}/published: no node knows ticket {last} of editor {editor}, so it is of another group, or these nodes have lost what they had. To publish here as a new editor remove the file"
+                "{folder}/published: no node that answers knows ticket {last} of editor {editor}, so nothing was sent. Nodes that were down need a majority to learn what they had: see that one runs, and publish again. Where this is another group, remove the file to publish there as a new editor"
             )
         }
         Standing::Unanswered | Standing::Newest => {
             String::from_str(alloc, "no node answers: nothing was sent")
         }
     }
+}
+
+/// Tells why a node is silent.
+fn tell_silent<N: Net<Stream = TcpStream>, E: Write>(
+    net: &N,
+    alloc: Global,
+    err: &mut E,
+    node: &Node,
+) -> Result<(), Halt> {
+    let url = node.url.as_str();
+    let line = match unreached(net, node) {
+        Some(fault) => format!(in alloc; "{url}: {fault}")?,
+        None => format!(in alloc; "{url}: is no node, or too busy to answer")?,
+    };
+    say(err, line.as_str())
+}
+
+/// Tells why none of the nodes answers, where none does.
+fn tell_unanswered<N: Net<Stream = TcpStream>, E: Write>(
+    net: &N,
+    alloc: Global,
+    err: &mut E,
+    nodes: &[Node],
+    found: Standing,
+) -> Result<(), Halt> {
+    if found == Standing::Unanswered {
+        for node in nodes {
+            tell_silent(net, alloc, err, node)?;
+        }
+    }
+    Ok(())
 }
 
 /// What is told while it waits for a standing to change.
@@ -153,6 +184,9 @@ fn settled<R: Net<Stream = TcpStream> + Clock + AllocGlobal, E: Write>(
     let since = now(rt)?;
     for tries in 0..u64::MAX {
         let found = ask_group(rt, rt.alloc(), group, claim)?;
+        if tries == 0 {
+            tell_unanswered(rt, rt.alloc(), err, group.nodes(), found)?;
+        }
         if is_final(rt, since, patience, found)? {
             return Ok(found);
         }

@@ -13,6 +13,7 @@ pub mod FreshAttempts
 pub mod Moving
 pub mod Examples
 pub mod Stepping
+pub mod Sealing
 pub mod Opening
 pub mod Preparing
 pub mod Judging

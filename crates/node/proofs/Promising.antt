@@ -76,5 +76,5 @@ module _ {D : Type 0} (stands_for : D → DiskState → Type 0) where
           heard = heard ∙ parts.heard;
           reached = reached ∙ ap (λ r. max r i) parts.reached;
         };
-        on_disk = stays_there stands_for old new s t others seems refl refl;
+        stays = stays_there stands_for old new s t others seems refl refl;
       })

@@ -1,5 +1,5 @@
 -- Fresh attempts: the ballot that they take, and the whole ending of a call that begins them.
-use Rattle.std.proofs.Common.{◌≡◌, ℕ, suc, ◌+◌, ◌<◌, max, false, Option, List, [], ◌∷◌, ◌++◌, length, refl, sym, ap, subst, ◌∙◌, arith}
+use Rattle.std.proofs.Common.{◌≡◌, ℕ, suc, ◌+◌, ◌<◌, max, false, Option, Ok, List, [], ◌∷◌, ◌++◌, length, refl, sym, ap, subst, ◌∙◌, arith}
 use Rattle.std.specs.Prelude.{◌↔◌}
 use Rattle.site_ids.specs.declared.TheConstants.{MAX_ROUND}
 use Rattle.site_disk.specs.Model.{DiskState}
@@ -8,7 +8,7 @@ use Rattle.site_ids.specs.Lists.{In}
 use Rattle.wire.specs.declared.message.Message.{Message}
 use Rattle.wire.specs.declared.message.Message.TheVariants.{Prepare}
 use Rattle.durable.specs.Entries.{Round, last_round}
-use Rattle.durable.specs.Puts.{IsPut, Acknowledges}
+use Rattle.durable.specs.Puts.{Puts}
 use Rattle.learner.specs.Votes.{IsTold}
 use Rattle.learner.specs.declared.learning.Learner.{Learner}
 use Rattle.proposer.specs.Attempts.{Attempt, opened_span}
@@ -45,8 +45,7 @@ module _ {D : Type 0} where
 
   -- the round is on record, and an attempt for each of the values is open
   pub record Starts (stands_for : D → DiskState → Type 0) (failed : D → ℕ) (old new : Running D) (i : ℕ) (b : BallotOf) (values : List Value) : Type 0 where
-    pub put : IsPut failed old.store new.store (Round b.round)
-    pub acknowledged : Acknowledges stands_for old.store new.store (Round b.round)
+    pub puts : Puts stands_for failed old.store new.store (Round b.round) (Ok tt)
     pub attempts : (attempts : ℕ → Option Attempt) → Attempting old.proposer attempts → Attempting new.proposer (opened_span attempts i b values)
     pub heard : new.proposer.heard ≡ old.proposer.heard
     pub learner : new.learner ≡ old.learner
@@ -64,7 +63,7 @@ module _ {D : Type 0} where
         does = does;
         handed = refl;
         parts = record {
-          on_record = put_record stands_for failed old new (Round b.round) others runs s parts starts.put;
+          on_record = put_record stands_for failed old new (Round b.round) others runs s parts starts.puts.put;
           votes = λ x. subst (λ (l : Learner). IsTold l x ↔ In s.votes x) (sym starts.learner) (parts.votes x);
           known = subst (λ (k : Known). AreKnown k s.known) (sym starts.known) parts.known;
           attempts = starts.attempts s.attempts parts.attempts;
@@ -72,5 +71,5 @@ module _ {D : Type 0} where
           heard = starts.heard ∙ parts.heard;
           reached = starts.reached ∙ parts.reached;
         };
-        on_disk = put_stays stands_for failed old new (Round b.round) others runs s t parts starts.acknowledged refl refl;
+        stays = put_stays stands_for failed old new (Round b.round) others runs s t parts starts.puts.acknowledged (λ open_now. (starts.puts.batched open_now).ahead) refl refl;
       }

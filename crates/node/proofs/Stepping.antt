@@ -1,5 +1,5 @@
 -- The three endings of a call, from what the code did.
-use Rattle.std.proofs.Common.{◌≡◌, ℕ, max, true, false, cond, ◌⊎◌, inl, inr, ⊎_elim, Result, Ok, Err, Option, Some, None, List, [], ◌∷◌, ◌++◌, refl, sym, ap, subst, ◌∙◌, append-nil}
+use Rattle.std.proofs.Common.{◌≡◌, ℕ, max, true, false, cond, ◌⊎◌, inl, inr, ⊎_elim, Result, Ok, Err, Option, Some, None, List, [], ◌∷◌, ◌++◌, length, refl, sym, ap, subst, ◌∙◌, append-nil, append_assoc, arith, length-append}
 use Rattle.std.specs.Prelude.{◌↔◌, IsErrOf}
 use Rattle.std.specs.Result.{IsErrAnd}
 use Rattle.site_disk.specs.Model.{DiskState}
@@ -10,10 +10,12 @@ use Rattle.acceptor.specs.declared.slot.Slot.{Slot}
 use Rattle.durable.specs.Entries.{Entry, IsSlot}
 use Rattle.durable.specs.Histories.{MayFollow, IsHistory}
 use Rattle.durable.specs.Keeping.{IsFound, Keeps}
+use Rattle.durable.specs.Batches.{IsAhead, IsBatchOpen, GoesAhead}
 use Rattle.durable.specs.Puts.{Puts, IsPut, IsMemoryKept, Acknowledges, LeavesInFlight}
 use Rattle.durable.specs.Reading.{IsKept}
 use Rattle.durable.specs.Ready.{IsStored, IsReady, IsUnchanged}
 use Rattle.durable.specs.Slots.{slot_at}
+use Rattle.durable.specs.Spelling.{blocks}
 use Rattle.durable.specs.Standing.{StandsFor}
 use Rattle.durable.specs.declared.fault.RecordFault.{RecordFault}
 use Rattle.durable.specs.declared.fault.RecordFault.TheVariants as stored
@@ -36,6 +38,7 @@ use Rattle.node.specs.Calls.{Call, deliver, Does}
 use Rattle.node.specs.Effects.{Effect, recorded}
 use Rattle.node.specs.Endings.{Ending, Whole, Refused, Failed, Ends, EndsWhole, EndsRefused, EndsFailed, TakesRoom, Refuses}
 use Rattle.node.specs.Faults.{of_record}
+use Rattle.node.specs.Ahead.{StaysAhead}
 use Rattle.node.specs.Knowing.{AreKnown}
 use Rattle.node.specs.Ranges.{HasRanges, IsCallInRange}
 use Rattle.node.specs.Standing.{ending_by, ending_of, IsOnRecord, HasParts, IsNodeOf, IsOnDisk, IsEither, StaysOnDisk, Leads, IsEvent, KeepsOthers, CountsDevice}
@@ -80,6 +83,8 @@ module _ {D : Type 0} where
     pub cluster : new.cluster ≡ old.cluster
     pub gate : new.recorded.gate ≡ old.recorded.gate
     pub stopped : new.stopped ≡ old.stopped
+    pub staged : new.staged.bytes.items ≡ old.staged.bytes.items
+    pub base : new.staged.base ≡ old.staged.base
     pub kept : IsMemoryKept old.recorded new.recorded
 
   pub same_memory : (old new : Record D) → new ≡ old → IsMemoryKept old.recorded new.recorded
@@ -96,6 +101,8 @@ module _ {D : Type 0} where
     cluster = ap (λ (r : Record D). r.cluster) is;
     gate = ap (λ (r : Record D). r.recorded.gate) is;
     stopped = ap (λ (r : Record D). r.stopped) is;
+    staged = ap (λ (r : Record D). r.staged.bytes.items) is;
+    base = ap (λ (r : Record D). r.staged.base) is;
     kept = same_memory old new is;
   }
 
@@ -106,6 +113,8 @@ module _ {D : Type 0} where
     cluster = ap (λ (r : Record D). r.cluster) unchanged.same;
     gate = ap (λ (r : Record D). r.recorded.gate) unchanged.same;
     stopped = ap (λ (r : Record D). r.stopped) unchanged.same;
+    staged = unchanged.staged;
+    base = unchanged.base;
     kept = record { round = ap (λ (r : Record D). r.recorded.round) unchanged.same; greatest = ap (λ (r : Record D). r.recorded.greatest) unchanged.same; slots = unchanged.slots };
   }
 
@@ -155,33 +164,70 @@ module _ {D : Type 0} where
       rest_with old new s s parts rest (same_record old new s s others (same_store old.store new.store store) refl refl refl parts.on_record) (λ k. record s { reached = (sym parts.reached ∙ sym reached) k })
 
   module _ (stands_for : D → DiskState → Type 0) where
-    of_node : (store : Record D) (p n : ℕ) (d : DiskState) (entries : List Entry) → store.node ≡ p → store.cluster ≡ n → IsStored stands_for store d entries → Keeps p n entries None d
+    pub of_node : (store : Record D) (p n : ℕ) (d : DiskState) (entries : List Entry) → store.node ≡ p → store.cluster ≡ n → IsStored stands_for store d entries → Keeps p n entries None d
     of_node store p n d entries node cluster has =
         subst (λ (q : ℕ). Keeps q n entries None d) node (subst (λ (m : ℕ). Keeps store.node m entries None d) cluster (settled_keeps store.node store.cluster entries d has.settled has.reads))
 
+    -- the node is on the disk, or ahead of it, as it was before
+    pub record Stays (old new : Running D) (s t : Node) : Type 0 where
+      pub on_disk : StaysOnDisk stands_for old new s t
+      pub ahead : StaysAhead stands_for old new s t
+
+    is_open : (store : Record D) (d : DiskState) (earlier batch : List Entry) → IsAhead stands_for store d earlier batch → IsBatchOpen store
+    is_open store d earlier batch ahead = omega (arith, ap length ahead.staged.waiting, length-append (blocks batch) (0 ∷ []))
+
+    -- what waits in a batch is as it was
+    still_ahead : (old new : Record D) (d : DiskState) (earlier batch : List Entry) → SeemsSame old new → IsAhead stands_for old d earlier batch → IsAhead stands_for new d earlier batch
+    still_ahead old new d earlier batch same ahead =
+        let has = ahead.staged in
+        record {
+          staged = record {
+            stands = subst (λ (x : D). stands_for x d) (sym same.disk) has.stands;
+            settled = has.settled;
+            reads = subst (λ (p : ℕ). StandsFor p new.cluster d.seen earlier) (sym same.node) (subst (λ (n : ℕ). StandsFor old.node n d.seen earlier) (sym same.cluster) has.reads);
+            history = subst (λ (n : ℕ). IsHistory n (earlier ++ batch)) (sym same.cluster) has.history;
+            waiting = same.staged ∙ has.waiting;
+            base = λ some. same.base ∙ has.base some;
+            gate = same.gate ∙ has.gate;
+            running = same.stopped ∙ has.running;
+          };
+          kept = still_kept old new (earlier ++ batch) same.kept ahead.kept;
+        }
+
+    stays_ahead : (old new : Running D) (s t : Node) → SeemsSame old.store new.store → t.entries ≡ s.entries → t.in_flight ≡ s.in_flight → StaysAhead stands_for old new s t
+    stays_ahead old new s t same entries in_flight base d of = record {
+      batch = of.batch;
+      entries = entries ∙ of.entries;
+      before = of.before;
+      after = in_flight ∙ of.after;
+      ahead = still_ahead old.store new.store d base.entries of.batch same of.ahead;
+    }
+
     -- nothing was written
-    pub stays_there : (old new : Running D) (s t : Node) → KeepsOthers old new → SeemsSame old.store new.store → t.entries ≡ s.entries → t.in_flight ≡ s.in_flight → StaysOnDisk stands_for old new s t
-    stays_there old new s t others same entries in_flight d on =
+    still_on_disk : (old new : Running D) (s t : Node) (d : DiskState) → KeepsOthers old new → SeemsSame old.store new.store → t.entries ≡ s.entries → t.in_flight ≡ s.in_flight → IsOnDisk stands_for old s d → IsOnDisk stands_for new t d
+    still_on_disk old new s t d others same entries in_flight on =
         let disk : stands_for new.store.disk d = subst (λ (x : D). stands_for x d) (sym same.disk) on.stands in
-        let keeps : Keeps new.me new.cluster t.entries t.in_flight d =
-        subst (λ (p : ℕ). Keeps p new.cluster t.entries t.in_flight d) (sym others.me) (subst (λ (n : ℕ). Keeps old.me n t.entries t.in_flight d) (sym others.cluster)
-        (subst (λ (es : List Entry). Keeps old.me old.cluster es t.in_flight d) (sym entries) (subst (λ (e : Option Entry). Keeps old.me old.cluster s.entries e d) (sym in_flight) on.keeps))) in (
-          d,
-          record {
-            stands = disk;
-            keeps = keeps;
-            stored = λ runs.
-                let has = on.stored (sym same.stopped ∙ runs) in
-                subst (λ (es : List Entry). IsStored stands_for new.store d es) (sym entries) (record {
-                  stands = disk;
-                  settled = has.settled;
-                  reads = subst (λ (p : ℕ). StandsFor p new.store.cluster d.seen s.entries) (sym same.node) (subst (λ (n : ℕ). StandsFor old.store.node n d.seen s.entries) (sym same.cluster) has.reads);
-                  gate = same.gate ∙ has.gate;
-                  running = runs;
-                });
-          },
-          started d (IsEither old.me old.cluster s t) (λ left may. inl (on.keeps.left left may)),
-        )
+        record {
+          stands = disk;
+          keeps = subst (λ (p : ℕ). Keeps p new.cluster t.entries t.in_flight d) (sym others.me) (subst (λ (n : ℕ). Keeps old.me n t.entries t.in_flight d) (sym others.cluster)
+              (subst (λ (es : List Entry). Keeps old.me old.cluster es t.in_flight d) (sym entries) (subst (λ (e : Option Entry). Keeps old.me old.cluster s.entries e d) (sym in_flight) on.keeps)));
+          stored = λ runs.
+              let has = on.stored (sym same.stopped ∙ runs) in
+              subst (λ (es : List Entry). IsStored stands_for new.store d es) (sym entries) (record {
+                stands = disk;
+                settled = has.settled;
+                reads = subst (λ (p : ℕ). StandsFor p new.store.cluster d.seen s.entries) (sym same.node) (subst (λ (n : ℕ). StandsFor old.store.node n d.seen s.entries) (sym same.cluster) has.reads);
+                gate = same.gate ∙ has.gate;
+                running = runs;
+                none_staged = same.staged ∙ has.none_staged;
+              });
+        }
+
+    written_nothing : (old new : Running D) (s t : Node) → KeepsOthers old new → SeemsSame old.store new.store → t.entries ≡ s.entries → t.in_flight ≡ s.in_flight → StaysOnDisk stands_for old new s t
+    written_nothing old new s t others same entries in_flight d on = (d, still_on_disk old new s t d others same entries in_flight on, started d (IsEither old.me old.cluster s t) (λ left may. inl (on.keeps.left left may)))
+
+    pub stays_there : (old new : Running D) (s t : Node) → KeepsOthers old new → SeemsSame old.store new.store → t.entries ≡ s.entries → t.in_flight ≡ s.in_flight → Stays old new s t
+    stays_there old new s t others same entries in_flight = record { on_disk = written_nothing old new s t others same entries in_flight; ahead = stays_ahead old new s t same entries in_flight }
 
     -- ---- endings
 
@@ -195,13 +241,14 @@ module _ {D : Type 0} where
     }
 
     leads : (old new : Running D) (call : Call) (ending : Ending) (before after out : Handed) (s t : Node) → KeepsOthers old new → IsCallInRange old.cluster call → IsNodeOf old s → Ends old.cluster old.me s call ending out t
-        → HasParts new t → StaysOnDisk stands_for old new s t → after ≡ before ++ out → Leads stands_for old new call ending before after s
-    leads old new call ending before after out s t others in_range stands ends parts on_disk told = record {
+        → HasParts new t → Stays old new s t → after ≡ before ++ out → Leads stands_for old new call ending before after s
+    leads old new call ending before after out s t others in_range stands ends parts stays told = record {
       next = t;
       out = out;
       ends = ends;
       stands = stands_after old new call ending out s t others in_range stands ends parts;
-      on_disk = on_disk;
+      on_disk = stays.on_disk;
+      ahead = stays.ahead;
       outbox = told;
       few = says_few old.cluster old.me s t call ending out ends stands.tidy in_range;
       messages = says_messages old.cluster old.me s t call ending out old.of_cluster stands.parts.on_record.history stands.tidy stands.ranges in_range ends;
@@ -213,7 +260,7 @@ module _ {D : Type 0} where
       pub does : Does old.cluster old.me s call effect
       pub handed : effect.out ≡ out
       pub parts : HasParts new (recorded s effect)
-      pub on_disk : StaysOnDisk stands_for old new s (recorded s effect)
+      pub stays : Stays old new s (recorded s effect)
 
     pub whole : (old new : Running D) (call : Call) (before after out : Handed) → KeepsOthers old new → old.store.stopped ≡ false → IsCallInRange old.cluster call → after ≡ before ++ out
         → ((s : Node) → IsNodeOf old s → Done old new call out s) → IsEvent stands_for old new call Whole before after
@@ -227,7 +274,7 @@ module _ {D : Type 0} where
             handed_out = sym how.handed;
             node = refl;
           } in
-          leads old new call Whole before after out s (recorded s how.effect) others in_range stands ends how.parts how.on_disk told;
+          leads old new call Whole before after out s (recorded s how.effect) others in_range stands ends how.parts how.stays told;
     }
 
     pub refused : (old new : Running D) (call : Call) (cause : NodeFault) (before after : Handed) → KeepsOthers old new → IsCallInRange old.cluster call → after ≡ before → ((s : Node) → IsNodeOf old s → Refuses s call cause)
@@ -274,8 +321,8 @@ module _ {D : Type 0} where
       }
 
       -- and on the disk
-      pub put_stays : (s t : Node) → HasParts old s → Acknowledges stands_for old.store new.store entry → t.entries ≡ s.entries ++ entry ∷ [] → t.in_flight ≡ s.in_flight → StaysOnDisk stands_for old new s t
-      put_stays s t parts put entries in_flight d on =
+      put_there : (s t : Node) → HasParts old s → Acknowledges stands_for old.store new.store entry → t.entries ≡ s.entries ++ entry ∷ [] → t.in_flight ≡ s.in_flight → StaysOnDisk stands_for old new s t
+      put_there s t parts put entries in_flight d on =
           let after = put d s.entries (is_ready s d parts on) in
           let has : IsStored stands_for new.store after.0 t.entries = subst (λ (es : List Entry). IsStored stands_for new.store after.0 es) (sym entries) after.1.stored in
           let none : t.in_flight ≡ None = in_flight ∙ parts.on_record.settled runs in (
@@ -291,6 +338,20 @@ module _ {D : Type 0} where
           either : (file : List ℕ) (t : Node) → IsFound old.me old.cluster s.entries (Some entry) file → t.entries ≡ s.entries ++ entry ∷ [] → IsEither old.me old.cluster s t file
           either file t found is = ⊎_elim (λ without. inl (found.0, inl without, found.2)) (λ with. inr (found.0, inl (with ∙ sym is), found.2)) found.1
 
+      -- or in the batch
+      put_ahead : (s t : Node) → (IsBatchOpen old.store → GoesAhead stands_for old.store new.store entry) → t.entries ≡ s.entries ++ entry ∷ [] → t.in_flight ≡ s.in_flight → StaysAhead stands_for old new s t
+      put_ahead s t put entries in_flight base d of = record {
+        batch = of.batch ++ entry ∷ [];
+        entries = entries ∙ ap (λ (l : List Entry). l ++ entry ∷ []) of.entries ∙ append_assoc base.entries of.batch (entry ∷ []);
+        before = of.before;
+        after = in_flight ∙ of.after;
+        ahead = put (is_open old.store d base.entries of.batch of.ahead) d base.entries of.batch of.ahead;
+      }
+
+      pub put_stays : (s t : Node) → HasParts old s → Acknowledges stands_for old.store new.store entry → (IsBatchOpen old.store → GoesAhead stands_for old.store new.store entry)
+          → t.entries ≡ s.entries ++ entry ∷ [] → t.in_flight ≡ s.in_flight → Stays old new s t
+      put_stays s t parts put batched entries in_flight = record { on_disk = put_there s t parts put entries in_flight; ahead = put_ahead s t batched entries in_flight }
+
       -- one that was cut short leaves the entry in flight
       cut_record : (s : Node) → HasParts old s → IsMemoryKept old.store.recorded new.store.recorded → new.store.stopped ≡ true → IsOnRecord new.store new.cluster Stopped s.entries (Some entry)
       cut_record s parts same stops = record {
@@ -300,8 +361,8 @@ module _ {D : Type 0} where
         settled = λ still. absurd (off (sym stops ∙ still));
       }
 
-      cut_stays : (s : Node) → HasParts old s → new.store.stopped ≡ true → LeavesInFlight stands_for old.store new.store entry → StaysOnDisk stands_for old new s (record s { mode = Stopped; in_flight = Some entry })
-      cut_stays s parts stops left d on =
+      cut_there : (s : Node) → HasParts old s → new.store.stopped ≡ true → LeavesInFlight stands_for old.store new.store entry → StaysOnDisk stands_for old new s (record s { mode = Stopped; in_flight = Some entry })
+      cut_there s parts stops left d on =
           let after = left d s.entries (is_ready s d parts on) in
           let me : old.store.node ≡ new.me = old.store_node ∙ sym others.me in
           let cluster : old.store.cluster ≡ new.cluster = old.store_cluster ∙ sym others.cluster in (
@@ -352,25 +413,28 @@ module _ {D : Type 0} where
                     } in
                     leads old new call Failed before after [] s t others in_range stands ends
                     (rest_with old new s t stands.parts rest (cut_record s stands.parts puts.kept short.stops) (λ k. record t { reached = (sym stands.parts.reached ∙ sym reached) k }))
-                    (cut_stays s stands.parts short.stops short.in_flight) (told ∙ sym (append-nil before));
+                    (record {
+                      on_disk = cut_there s stands.parts short.stops short.in_flight;
+                      ahead = λ base d of. absurd ((puts.batched (is_open old.store d base.entries of.batch of.ahead)).no_device device);
+                    }) (told ∙ sym (append-nil before));
               })
 
     -- ---- a message that counts for wanting a tick
 
     -- an entry is on record, and then the messages are handed out
     pub put_whole : (failed : D → ℕ) (old new : Running D) (call : Call) (entry : Entry) (i : ℕ) (before after wanted out : Handed) → KeepsOthers old new → old.store.stopped ≡ false → IsCallInRange old.cluster call → KeepsRest old new
-        → new.reached ≡ max old.reached i → IsPut failed old.store new.store entry → Acknowledges stands_for old.store new.store entry → after ≡ before ++ out → wanted ≡ out
+        → new.reached ≡ max old.reached i → Puts stands_for failed old.store new.store entry (Ok tt) → after ≡ before ++ out → wanted ≡ out
         → ((s : Node) → IsNodeOf old s → Does old.cluster old.me s call (record { entry = Some entry; after = touched i s; out = wanted }))
         → IsEvent stands_for old new call Whole before after
-    put_whole failed old new call entry i before after wanted out others runs in_range rest reached put acknowledged told same does =
+    put_whole failed old new call entry i before after wanted out others runs in_range rest reached puts told same does =
         whole old new call before after out others runs in_range told (λ s stands.
         let t : Node = record s { entries = s.entries ++ entry ∷ []; reached = max s.reached i } in
         record {
           effect = record { entry = Some entry; after = touched i s; out = wanted };
           does = does s stands;
           handed = same;
-          parts = rest_with old new s t stands.parts rest (put_record failed old new entry others runs s stands.parts put) (λ k. record t { reached = (sym (reached ∙ ap (λ r. max r i) stands.parts.reached)) k });
-          on_disk = put_stays failed old new entry others runs s t stands.parts acknowledged refl refl;
+          parts = rest_with old new s t stands.parts rest (put_record failed old new entry others runs s stands.parts puts.put) (λ k. record t { reached = (sym (reached ∙ ap (λ r. max r i) stands.parts.reached)) k });
+          stays = put_stays failed old new entry others runs s t stands.parts puts.acknowledged (λ open_now. (puts.batched open_now).ahead) refl refl;
         })
 
     -- nothing goes on record
@@ -387,7 +451,7 @@ module _ {D : Type 0} where
           does = does s stands;
           handed = same;
           parts = rest_with old new s t stands.parts rest (same_record old new s t others seems refl refl refl stands.parts.on_record) (λ k. record t { reached = (sym (reached ∙ ap (λ r. max r i) stands.parts.reached)) k });
-          on_disk = stays_there old new s t others seems refl refl;
+          stays = stays_there old new s t others seems refl refl;
         })
 
 -- ---- counts

@@ -35,5 +35,5 @@ module _ {D : Type 0} where
         does = inr (none s stands, refl);
         handed = refl;
         parts = stands.parts;
-        on_disk = stays_there stands_for code code s s others (same_store code.store code.store refl) refl refl;
+        stays = stays_there stands_for code code s s others (same_store code.store code.store refl) refl refl;
       })

@@ -15,6 +15,8 @@ pub mod Stuck
 pub mod Faults
 pub mod Waiting
 pub mod Knowing
+pub mod Ahead
 pub mod Standing
+pub mod Batches
 pub mod Beginning
 pub mod ReadValues

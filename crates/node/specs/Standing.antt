@@ -18,6 +18,7 @@ use Rattle.node.specs.declared.fault.NodeFault.{NodeFault}
 use Rattle.node.specs.declared.fault.NodeFault.TheVariants as fault
 use Rattle.node.specs.declared.to.To.{To}
 use Rattle.node.specs.declared.running.Node.{Node as Running}
+use Rattle.node.specs.Ahead.{StaysAhead}
 use Rattle.node.specs.Nodes.{Mode, Up, Stopped, Node, opened, BeginsKnown}
 use Rattle.node.specs.Calls.{Call}
 use Rattle.node.specs.Endings.{Ending, Whole, Refused, Failed, Ends}
@@ -83,13 +84,15 @@ abbrev pub ending_of : {T : Type 0} → Result T NodeFault → Ending
 ending_of (Ok x) = Whole
 ending_of (Err cause) = ending_by cause
 
--- From s the call ends so, at a node that the new value stands for. The outbox is longer by what is handed out: few messages, each of the cluster
+-- From s the call ends so, at a node that the new value stands for, on the disk as before or, while a batch is open, ahead of it. The outbox is longer by what
+-- is handed out: few messages, each of the cluster
 pub record Leads {D : Type 0} (stands_for : D → DiskState → Type 0) (old new : Running D) (call : Call) (ending : Ending) (before after : List (To × Message)) (s : Node) : Type 0 where
   pub next : Node
   pub out : List (To × Message)
   pub ends : Ends old.cluster old.me s call ending out next
   pub stands : IsNodeOf new next
   pub on_disk : StaysOnDisk stands_for old new s next
+  pub ahead : StaysAhead stands_for old new s next
   pub outbox : after ≡ before ++ out
   pub few : length out ≤ 64
   pub messages : (x : To × Message) → In out x → IsMessage old.cluster x.1

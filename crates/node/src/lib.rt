@@ -5,6 +5,7 @@ mod accepted;
 mod again;
 mod asked;
 mod asking;
+mod batching;
 mod beginning;
 mod chosen;
 mod delivering;

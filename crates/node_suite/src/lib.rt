@@ -1,6 +1,8 @@
-//! Nodes over disks in memory: worked rows of one node, devices that fail at each call of a put, and each growth refused.
+//! Nodes over disks in memory: worked rows of one node, devices that fail at each call of a put and of a seal, and each growth refused.
 #![tactic(auto)]
 
+#[cfg(test)]
+mod batches;
 #[cfg(test)]
 mod devices;
 #[cfg(test)]

@@ -132,6 +132,14 @@ impl Peer {
         self.node.arm(calls);
     }
 
+    pub(crate) fn begin(&mut self) -> Result<(), NodeFault> {
+        self.node.begin()
+    }
+
+    pub(crate) fn seal(&mut self) -> Result<(), NodeFault> {
+        self.node.seal()
+    }
+
     pub(crate) fn tick(&mut self) -> Result<(), NodeFault> {
         self.node.tick(&mut self.out)
     }

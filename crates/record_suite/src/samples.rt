@@ -151,7 +151,7 @@ pub fn put_vote_for<D: Disk>(
 }
 
 /// Puts a vote. `NotARecord` where an acceptor wouldn't vote.
-fn put_vote<D: Disk>(
+pub fn put_vote<D: Disk>(
     record: &mut Record<D>,
     instance: Instance,
     ballot: Ballot,

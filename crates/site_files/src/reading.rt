@@ -54,8 +54,13 @@ fn tell_passed_over<E: Write>(
     if count == 0 {
         return Ok(());
     }
+    let noun = if count == 1 {
+        "file or folder"
+    } else {
+        "files and folders"
+    };
     let line = format!(in alloc;
-        "{folder}: {count} files and folders passed over: names with a dot before or a ~ behind, README, and by --ignore others"
+        "{folder}: {count} {noun} passed over: names with a dot before or a ~ behind, README, and by --ignore others"
     )?;
     say(err, line.as_str())
 }

@@ -53,17 +53,22 @@ fn write_whole<R: Files>(rt: &R, path: &str, text: &str) -> io::Result<()> {
     file.sync_all()
 }
 
-/// Saves a folder's ledger: the file is the one before, or the whole of this one, whenever it is interrupted.
+/// Replaces a file of a folder by another one with this text, which is on disk then under that name.
+fn replace<R: Files>(rt: &R, folder: &str, fresh: &str, path: &str, text: &str) -> io::Result<()> {
+    write_whole(rt, fresh, text)?;
+    fs::rename(rt, fresh, path)?;
+    File::open(rt, folder)?.sync_all()
+}
+
+/// Saves a folder's ledger: the file is the one before, or the whole of this one, whenever it is interrupted, and this one once it is saved.
 pub fn save<R: Files + AllocGlobal>(rt: &R, folder: &str, ledger: &Ledger) -> Result<(), Halt> {
     let alloc = rt.alloc();
     let text = ledger.spelled(alloc)?;
     let path = ledger_path(alloc, folder)?;
     let fresh = below(alloc, folder, ".published.new")?;
-    if let Err(fault) = write_whole(rt, fresh.as_str(), text.as_str()) {
-        return Err(Halt::at_path(alloc, fresh.as_str(), fault));
-    }
-    match fs::rename(rt, fresh.as_str(), path.as_str()) {
+    let (fresh, path) = (fresh.as_str(), path.as_str());
+    match replace(rt, folder, fresh, path, text.as_str()) {
         Ok(()) => Ok(()),
-        Err(fault) => Err(Halt::at_path(alloc, path.as_str(), fault)),
+        Err(fault) => Err(Halt::at_path(alloc, path, fault)),
     }
 }

@@ -1,5 +1,5 @@
 -- What a publication plans next.
-use Rattle.std.specs.Prelude.{◌≡◌, List, [], ℕ, false, if◌then◌else◌}
+use Rattle.std.specs.Prelude.{◌≡◌, ◌≤◌, ◌+◌, ◌^◌, List, [], ℕ, length, false, if◌then◌else◌}
 use Rattle.site_ledger.specs.Books.{Book}
 use Rattle.site_ledger.specs.Plans.{plan_of}
 use Rattle.site_ledger.specs.Steps.{is_idle, has_unshown, planned, release_planned}
@@ -19,3 +19,7 @@ pub record IsDone (wanted : List (List ℕ)) (old new : Book) : Type 0 where
   pub idle : old.sent ≡ []
   pub has_all : plan_of old.kept wanted ≡ []
   pub shown : has_unshown old ≡ false
+
+-- the plan and its release want more tickets than numbers of 64 bits are left
+abbrev pub LacksTickets : List (List ℕ) → Book → Type 0
+LacksTickets wanted book = 2 ^ 64 ≤ book.next + length (plan_of book.kept wanted) + 1

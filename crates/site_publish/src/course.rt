@@ -1,7 +1,7 @@
 //! What is planned next.
-ghost use Rattle.std.specs.Prelude.{◌≡◌, map, IfOk, OnOk, OnErr};
+ghost use Rattle.std.specs.Prelude.{◌≡◌, map, IfOk, OnOk, OnErr, IsErrOf};
 ghost use Rattle.site_ledger.specs.Steps.{planned};
-ghost use Rattle.site_publish.specs.Courses.{advanced, stage_of, IsDone};
+ghost use Rattle.site_publish.specs.Courses.{advanced, stage_of, IsDone, LacksTickets};
 
 use site_ledger::{Ledger, LedgerFault};
 use std::alloc::Global;
@@ -29,6 +29,7 @@ fn stage_of(ledger: &Ledger) -> Stage
 fn plan_texts(alloc: Global, ledger: &mut Ledger, wanted: &[&str]) -> Result<(), LedgerFault>
     ensures ok { OnOk result (ledger.new ≡ planned (map (λ t. t.now) wanted.now) ledger.old) }
     ensures err { OnErr result (ledger.new ≡ ledger.old) }
+    ensures tickets { IsErrOf result LedgerFault.NoTickets → LacksTickets (map (λ t. t.now) wanted.now) ledger.old }
 {
     if ledger.is_idle() {
         ledger.plan(alloc, wanted)?;
@@ -40,6 +41,7 @@ fn plan_texts(alloc: Global, ledger: &mut Ledger, wanted: &[&str]) -> Result<(),
 fn plan_next(alloc: Global, ledger: &mut Ledger, wanted: &[&str]) -> Result<(), LedgerFault>
     ensures ok { OnOk result (ledger.new ≡ advanced (map (λ t. t.now) wanted.now) ledger.old) }
     ensures err { OnErr result (ledger.new ≡ ledger.old) }
+    ensures tickets { IsErrOf result LedgerFault.NoTickets → LacksTickets (map (λ t. t.now) wanted.now) ledger.old }
 {
     plan_texts(alloc, ledger, wanted)?;
     if ledger.is_idle() {
@@ -49,12 +51,13 @@ fn plan_next(alloc: Global, ledger: &mut Ledger, wanted: &[&str]) -> Result<(), 
 }
 
 /// Plans what is to be sent next of a folder of these texts: nothing more while something is on its way; else the texts that the group has not and the
-/// removals of those that it has and the folder has not; else their release.
+/// removals of those that it has and the folder has not; else their release. It lacks tickets only where their numbers no longer fit 64 bits.
 pub fn advance(alloc: Global, ledger: &mut Ledger, wanted: &[&str]) -> Result<Stage, LedgerFault>
     ensures ok { OnOk result (ledger.new ≡ advanced (map (λ t. t.now) wanted.now) ledger.old) }
     ensures stage { IfOk result (λ stage. stage ≡ stage_of ledger.new) }
     ensures done { IfOk result (λ stage. stage ≡ Stage.Done → IsDone (map (λ t. t.now) wanted.now) ledger.old ledger.new) }
     ensures err { OnErr result (ledger.new ≡ ledger.old) }
+    ensures tickets { IsErrOf result LedgerFault.NoTickets → LacksTickets (map (λ t. t.now) wanted.now) ledger.old }
 {
     plan_next(alloc, ledger, wanted)?;
     Ok(stage_of(ledger))

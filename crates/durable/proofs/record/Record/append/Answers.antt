@@ -24,7 +24,7 @@ returns-clause-done g c = λ d entries entry stored follows is.
     let Only : List ℕ → Type 0 = λ b. LeavesOnly d after.0 (IsAppendedOrNot old.recorded.gate d.seen b) in
     let Open : List ℕ → Type 0 = λ b. IsOpenAt old.recorded.gate d.seen b after.0.seen in (
       after.0,
-      stored_after S old d entries stored entry follows _ after.0 after.1 after.3 (subst Open is after.4) refl refl (omega (arith, ap length is)) refl,
+      stored_after S old d entries stored entry follows _ after.0 after.1 after.3 (subst Open is after.4) refl refl (omega (arith, ap length is)) refl stored.none_staged,
       leaves S old d entries stored entry follows after.0 (subst Only is after.2),
       after.5,
       subst Open is after.4,

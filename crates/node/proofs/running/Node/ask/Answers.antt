@@ -35,7 +35,7 @@ returns-clause-event g c =
       does = record { instance = i; first = first_unknown old.known.log s.known i stands.parts.known.values c.in-Some.ensures; is = refl };
       handed = refl;
       parts = stands.parts;
-      on_disk = stays_there g.D.Disk.stands_for old _ s s (record { me = refl; cluster = refl; releases = refl }) (same_store old.store old.store refl) refl refl;
+      stays = stays_there g.D.Disk.stands_for old _ s s (record { me = refl; cluster = refl; releases = refl }) (same_store old.store old.store refl) refl refl;
     })
 
 pub returns-clause-grows : goal.returns-clause-grows

@@ -1,7 +1,7 @@
-use Rattle.std.proofs.Common.{◌≡◌, ℕ, Some, ◌∷◌, ◌++◌, length, refl, sym, ap, subst, ◌∙◌, arith}
+use Rattle.std.proofs.Common.{◌≡◌, Ok, ℕ, Some, ◌∷◌, ◌++◌, length, refl, sym, ap, subst, ◌∙◌, arith}
 use Rattle.site_ids.specs.Spans.{IsSpan}
 use Rattle.durable.specs.Entries.{Round}
-use Rattle.durable.specs.Puts.{IsPut, Acknowledges}
+use Rattle.durable.specs.Puts.{Puts}
 use Rattle.wire.specs.declared.message.Message.TheVariants.{Prepare}
 use Rattle.node.specs.declared.to.To.TheVariants.{All}
 use Rattle.node.specs.Beginning.{begun}
@@ -44,7 +44,6 @@ returns-clause-event g c call by =
     let values = c.args.due.values.items in
     let again = c.args.due.again.items in
     let counted : c.len-count.result ≡ length values = c.len-count.ensures ∙ c.args.due.values.ok.0 in
-    let put = c.in_ok-put_round.ensures.put in
     let out : Handed = (All, Prepare old.me i b (length values)) ∷ again in
     let told : Handed = (All, Prepare old.me i b c.len-count.result) ∷ again in
     whole g.D.Disk.stands_for old _ call _ _ out (record { me = refl; cluster = refl; releases = refl }) c.requires.running by.in_range
@@ -52,8 +51,7 @@ returns-clause-event g c call by =
     (many_more c.args.outbox.now.items _ _ _ _ _ c.reserve.ensures.items c.push_reserved.ensures.items (when_ok c.append.result _ _ _ (c.append.ensures.succeeds (omega (arith, c.in_ok-reserve.ensures.ok, c.push_reserved.ensures.len, c.push_reserved.ensures.capacity, c.len.ensures))) c.append.ensures.items)))
     (λ s stands. started g.D.Disk.stands_for g.D.Disk.failed old _ s call i b values again stands c.requires.running (record { me = refl; cluster = refl; releases = refl }) (by.does s stands)
     (record {
-      put = subst (λ (r : ℕ). IsPut g.D.Disk.failed old.store c.put_round.new.self (Round r)) c.round.ensures.is put.put;
-      acknowledged = subst (λ (r : ℕ). Acknowledges g.D.Disk.stands_for old.store c.put_round.new.self (Round r)) c.round.ensures.is put.acknowledged;
+      puts = subst (λ (r : ℕ). Puts g.D.Disk.stands_for g.D.Disk.failed old.store c.put_round.new.self (Round r) (Ok tt)) c.round.ensures.is c.in_ok-put_round.ensures.put;
       attempts = λ attempts are. c.open_span.ensures.opened attempts (c.make_room_for_span.ensures.stays attempts are);
       heard = c.open_span.ensures.same.2 ∙ c.make_room_for_span.ensures.same.2;
       learner = refl;

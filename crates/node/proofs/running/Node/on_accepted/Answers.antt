@@ -47,7 +47,7 @@ returns-then-completes-clause-event g c before in_range =
       handed = refl;
       parts = counted_parts c.learn.new.self _ s (told_vote q i b v ∷ s.votes) i v (max s.reached i) (record { me = refl; cluster = refl; releases = refl }) now refl refl refl refl refl
           (c.max-reached.ensures ∙ ap (max old.reached) c.number.ensures.is ∙ ap (λ r. max r i) parts.reached) (told_elsewhere_with i (told_vote q i b v) s.votes c.learn.new.self.learner refl now.votes);
-      on_disk = stays_there stands_for old _ s (learned (with_vote (touched i s) (told_vote q i b v)) i v) (record { me = others.me; cluster = others.cluster; releases = others.releases }) (same_store old.store c.learn.new.self.store c.learn.ensures.same.1) refl refl;
+      stays = stays_there stands_for old _ s (learned (with_vote (touched i s) (told_vote q i b v)) i v) (record { me = others.me; cluster = others.cluster; releases = others.releases }) (same_store old.store c.learn.new.self.store c.learn.ensures.same.1) refl refl;
     })
 
 pub returns-in_err-on_accepted-clause-event : goal.returns-in_err-on_accepted-clause-event
@@ -94,7 +94,7 @@ returns-clause-event g c before in_range =
         heard = parts.heard;
         reached = c.max-reached.ensures ∙ ap (max old.reached) c.number.ensures.is ∙ ap (λ r. max r i) parts.reached;
       };
-      on_disk = stays_there stands_for old _ s (with_vote (touched i s) (told_vote q i b v)) (record { me = refl; cluster = refl; releases = refl }) (same_store old.store old.store refl) refl refl;
+      stays = stays_there stands_for old _ s (with_vote (touched i s) (told_vote q i b v)) (record { me = refl; cluster = refl; releases = refl }) (same_store old.store old.store refl) refl refl;
     })
   where
     off : true ≡ false → ⊥

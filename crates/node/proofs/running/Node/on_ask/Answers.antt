@@ -13,7 +13,7 @@ returns-in_default-clause-event g c in_range =
     let old = c.args.self.now in
     let i = c.args.instance in
     whole g.D.Disk.stands_for old _ (deliver (Ask c.args.from i)) _ _ [] (record { me = refl; cluster = refl; releases = refl }) c.requires.running in_range (sym (append-nil c.args.outbox.now.items))
-    (λ s stands. record { effect = quiet s; does = inr (sym (stands.parts.known.values i) ∙ sym c.in_default.ensures, refl); handed = refl; parts = stands.parts; on_disk = stays_there g.D.Disk.stands_for old _ s s (record { me = refl; cluster = refl; releases = refl }) (same_store old.store old.store refl) refl refl })
+    (λ s stands. record { effect = quiet s; does = inr (sym (stands.parts.known.values i) ∙ sym c.in_default.ensures, refl); handed = refl; parts = stands.parts; stays = stays_there g.D.Disk.stands_for old _ s s (record { me = refl; cluster = refl; releases = refl }) (same_store old.store old.store refl) refl refl })
 
 pub returns-clause-event : goal.returns-clause-event
 returns-clause-event g c in_range =
@@ -28,7 +28,7 @@ returns-clause-event g c in_range =
       does = inl (v, sym (stands.parts.known.values i) ∙ sym c.in-Some.ensures, refl);
       handed = ap (λ (x : Value). (One c.args.from, Chosen old.me i x) ∷ []) (sym c.in_ok-value.ensures);
       parts = stands.parts;
-      on_disk = stays_there g.D.Disk.stands_for old _ s s (record { me = refl; cluster = refl; releases = refl }) (same_store old.store old.store refl) refl refl;
+      stays = stays_there g.D.Disk.stands_for old _ s s (record { me = refl; cluster = refl; releases = refl }) (same_store old.store old.store refl) refl refl;
     })
 
 pub returns-in_err-reserve-clause-event : goal.returns-in_err-reserve-clause-event

@@ -45,7 +45,7 @@ returns-in_default-clause-event g c from before in_range =
         heard = now.heard;
         reached = c.max-reached.ensures ∙ ap (max old.reached) c.number.ensures.is ∙ ap (λ r. max r i) parts.reached;
       };
-      on_disk = stays_there stands_for old _ s (learned (touched i s) i v) (record { me = others.me; cluster = others.cluster; releases = others.releases }) (same_store old.store c.learn.new.self.store c.learn.ensures.same.1) refl refl;
+      stays = stays_there stands_for old _ s (learned (touched i s) i v) (record { me = others.me; cluster = others.cluster; releases = others.releases }) (same_store old.store c.learn.new.self.store c.learn.ensures.same.1) refl refl;
     })
 
 negated : (b r : Bool) → r ≡ not b → r ≡ false → b ≡ true

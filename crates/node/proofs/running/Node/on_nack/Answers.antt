@@ -26,5 +26,5 @@ returns-clause-event g c from instance asked before in_range =
         heard = ap (λ (p : Proposer). p.heard) c.on_nack.ensures ∙ ap (λ h. max h c.args.promised.round) parts.heard;
         reached = parts.reached;
       };
-      on_disk = stays_there g.D.Disk.stands_for old _ s (record s { heard = max s.heard c.args.promised.round }) (record { me = refl; cluster = refl; releases = refl }) (same_store old.store old.store refl) refl refl;
+      stays = stays_there g.D.Disk.stands_for old _ s (record s { heard = max s.heard c.args.promised.round }) (record { me = refl; cluster = refl; releases = refl }) (same_store old.store old.store refl) refl refl;
     })

@@ -75,7 +75,7 @@ returns-clause-event g c from in_range =
     let out : Handed = told.answers.items in
     put_whole g.D.Disk.stands_for g.D.Disk.failed old _ (deliver (Prepare from i b k)) (promise_of i k b) (last_of i k) _ _ (span_out old.me i b is.judged) out (record { me = refl; cluster = refl; releases = refl }) c.requires.running in_range
     (record { learner = refl; known = refl; queue = refl; attempts = λ a are. are; heard = refl }) (c.max-reached.ensures ∙ ap (λ (n : ℕ). max old.reached (n + k - 1)) c.number.ensures.is)
-    c.in_ok-put_promises.ensures.put c.in_ok-put_promises.ensures.acknowledged
+    c.in_ok-put_promises.ensures
     (when_ok c.append-2.result _ _ _ (c.append-2.ensures.succeeds (omega (arith, c.in_ok-reserve.ensures.ok, c.len.ensures))) c.append-2.ensures.items ∙ ap (λ (l : Handed). l ++ out) c.reserve.ensures.items)
     (sym is.answers)
     (prepare_rises old i b k told is from c.if-not-judgement.false)

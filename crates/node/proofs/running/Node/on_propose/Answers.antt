@@ -39,7 +39,7 @@ returns-in_ok-put_vote-in-Vote-clause-event g c from in_range =
     let slot = c.slot.result.now in
     let out : Handed = c.accepted.result ∷ [] in
     put_whole stands_for g.D.Disk.failed old _ (deliver (Propose from i b v)) (Voted i b v) i _ _ ((All, Accepted old.me i b v) ∷ []) out (record { me = refl; cluster = refl; releases = refl }) c.requires.running in_range
-    (record { learner = refl; known = refl; queue = refl; attempts = λ a are. are; heard = refl }) (c.max-reached.ensures ∙ ap (max old.reached) c.number.ensures.is) c.in_ok-put_vote-in-Vote.ensures.put c.in_ok-put_vote-in-Vote.ensures.acknowledged
+    (record { learner = refl; known = refl; queue = refl; attempts = λ a are. are; heard = refl }) (c.max-reached.ensures ∙ ap (max old.reached) c.number.ensures.is) c.in_ok-put_vote-in-Vote.ensures
     (c.push_reserved.ensures.items ∙ ap (λ (l : Handed). l ++ out) c.reserve.ensures.items)
     (ap (λ (x : Value). (All, Accepted old.me i b x) ∷ []) (sym c.in_ok-copy-in-Vote.ensures) ∙ ap (λ (x : To × Message). x ∷ []) (sym c.accepted.ensures))
     (propose_does old i slot c.slot.ensures from b v verdict.Vote c.in-Vote.ensures)

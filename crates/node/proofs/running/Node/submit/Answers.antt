@@ -29,7 +29,7 @@ returns-then-holds-clause-event g c =
     let runs = sym c.is_stopped.ensures ∙ c.if-is_stopped.false in
     let o = c.in_ok-ticket.ensures in
     whole stands_for old _ (submission v) [] [] [] (record { me = refl; cluster = refl; releases = refl }) runs tt refl
-    (λ s stands. record { effect = quiet s; does = inl ((o.0, o.1), returns-then-holds-clause-answered g c s stands, refl); handed = refl; parts = stands.parts; on_disk = stays_there stands_for old _ s s (record { me = refl; cluster = refl; releases = refl }) (same_store old.store old.store refl) refl refl })
+    (λ s stands. record { effect = quiet s; does = inl ((o.0, o.1), returns-then-holds-clause-answered g c s stands, refl); handed = refl; parts = stands.parts; stays = stays_there stands_for old _ s s (record { me = refl; cluster = refl; releases = refl }) (same_store old.store old.store refl) refl refl })
 
 unheld : (s : Node) (v : Value) (b : Bool) (t : Ticket) → b ≡ false → (HoldsTicket s t → IsTrue b) → (IsHeld s v → HoldsTicket s t) → ¬ IsHeld s v
 unheld s v b t is tells to held = off (sym (true_is b (tells (to held))) ∙ is)
@@ -121,7 +121,7 @@ returns-clause-event g c =
         heard = parts.heard;
         reached = parts.reached;
       };
-      on_disk = stays_there stands_for old _ s (queued s v) (record { me = refl; cluster = refl; releases = refl }) (same_store old.store old.store refl) refl refl;
+      stays = stays_there stands_for old _ s (queued s v) (record { me = refl; cluster = refl; releases = refl }) (same_store old.store old.store refl) refl refl;
     })
 
 pub returns-in_err-ticket-clause-cause : goal.returns-in_err-ticket-clause-cause

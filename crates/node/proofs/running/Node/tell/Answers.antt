@@ -23,7 +23,7 @@ returns-then-is_empty-clause-event g c =
       does = refl;
       handed = sym (c.in_ok-told.ensures.told s stands) ∙ none_told c.in_ok-told.told.items _ (sym c.in_ok-told.told.ok.0) (sym c.is_empty.ensures ∙ c.if-is_empty.true);
       parts = stands.parts;
-      on_disk = stays_there g.D.Disk.stands_for old _ s s (record { me = refl; cluster = refl; releases = refl }) (same_store old.store old.store refl) refl refl;
+      stays = stays_there g.D.Disk.stands_for old _ s s (record { me = refl; cluster = refl; releases = refl }) (same_store old.store old.store refl) refl refl;
     })
 
 pub returns-in_err-reserve-clause-event : goal.returns-in_err-reserve-clause-event
@@ -45,5 +45,5 @@ returns-clause-event g c =
       does = refl;
       handed = sym (c.in_ok-told.ensures.told s stands);
       parts = stands.parts;
-      on_disk = stays_there g.D.Disk.stands_for old _ s s (record { me = refl; cluster = refl; releases = refl }) (same_store old.store old.store refl) refl refl;
+      stays = stays_there g.D.Disk.stands_for old _ s s (record { me = refl; cluster = refl; releases = refl }) (same_store old.store old.store refl) refl refl;
     })

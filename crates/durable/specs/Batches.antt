@@ -1,0 +1,75 @@
+-- A batch: entries that are put in memory first, and then stand on the disk together.
+use Rattle.std.specs.Prelude.{◌≡◌, ◌≢◌, ◌⊎◌, ℕ, ◌+◌, ◌<◌, List, [], ◌∷◌, ◌++◌, length, drop, false}
+use Rattle.site_disk.specs.Model.{DiskState, MayLeave, LeavesOnly, moment}
+use Rattle.durable.specs.Append.{IsSettled, IsOpenAt}
+use Rattle.durable.specs.Entries.{Entry}
+use Rattle.durable.specs.Histories.{IsHistory, MayFollow}
+use Rattle.durable.specs.Spelling.{blocks, behind_gate}
+use Rattle.durable.specs.Standing.{StandsFor}
+use Rattle.durable.specs.Reading.{IsKept}
+use Rattle.durable.specs.Ready.{IsReady}
+use Rattle.durable.specs.declared.record.Record.{Record}
+
+-- a batch is open: what waits ends with a closed gate at least
+abbrev pub IsBatchOpen : {D : Type 0} → Record D → Type 0
+IsBatchOpen store = 0 < length store.staged.bytes.items
+
+-- what is written behind a closed gate for entries: their blocks but for the first gate, and the next closed one
+abbrev pub behind_gates : List Entry → List ℕ
+behind_gates batch = drop 1 (blocks batch ++ 0 ∷ [])
+
+-- how many writes and syncs of the disk a batch takes
+abbrev pub calls_for : List Entry → ℕ
+calls_for [] = 0
+calls_for (entry ∷ batch) = 4
+
+-- the record runs and a batch is open: the file stands for the earlier entries, all of it is on the disk, and the blocks of the batch wait
+pub record IsStaged {D : Type 0} (stands_for : D → DiskState → Type 0) (store : Record D) (d : DiskState) (earlier batch : List Entry) : Type 0 where
+  pub stands : stands_for store.disk d
+  pub settled : IsSettled d
+  pub reads : StandsFor store.node store.cluster d.seen earlier
+  pub history : IsHistory store.cluster (earlier ++ batch)
+  pub waiting : store.staged.bytes.items ≡ blocks batch ++ 0 ∷ []
+  pub base : batch ≢ [] → store.staged.base ≡ 10 + length (blocks earlier)
+  pub gate : store.recorded.gate ≡ 10 + length (blocks (earlier ++ batch))
+  pub running : store.stopped ≡ false
+
+-- and its memory is ahead of the disk: what it keeps is what they record with the batch
+pub record IsAhead {D : Type 0} (stands_for : D → DiskState → Type 0) (store : Record D) (d : DiskState) (earlier batch : List Entry) : Type 0 where
+  pub staged : IsStaged stands_for store d earlier batch
+  pub kept : IsKept (earlier ++ batch) store.recorded
+
+-- the file stands for the earlier entries, with all of the batch or with none of it
+abbrev pub IsNoneOrAll : ℕ → ℕ → List Entry → List Entry → List ℕ → Type 0
+IsNoneOrAll node cluster earlier batch file = StandsFor node cluster file earlier ⊎ StandsFor node cluster file (earlier ++ batch)
+
+-- the disk keeps the earlier entries and perhaps the batch: so it reads without a crash, and so after any crash
+pub record KeepsNoneOrAll (node cluster : ℕ) (earlier batch : List Entry) (d : DiskState) : Type 0 where
+  pub read : IsNoneOrAll node cluster earlier batch d.seen
+  pub left : (left : List ℕ) → MayLeave (moment d) left → IsNoneOrAll node cluster earlier batch left
+
+-- a batch was opened, and nothing is in it
+abbrev pub Begins : {D : Type 0} → (D → DiskState → Type 0) → Record D → Record D → Type 0
+Begins stands_for old new = (d : DiskState) (entries : List Entry) → IsReady stands_for old d entries → IsAhead stands_for new d entries []
+
+-- the bytes were taken into the batch. Where they are an entry's, it waits with the others
+abbrev pub Stages : {D : Type 0} → (D → DiskState → Type 0) → Record D → Record D → List ℕ → Type 0
+Stages stands_for old new bytes = (d : DiskState) (earlier batch : List Entry) (entry : Entry) → IsStaged stands_for old d earlier batch → MayFollow old.cluster (earlier ++ batch) entry → bytes ≡ behind_gate entry
+    → IsStaged stands_for new d earlier (batch ++ entry ∷ [])
+
+-- the batch has an entry more
+abbrev pub GoesAhead : {D : Type 0} → (D → DiskState → Type 0) → Record D → Record D → Entry → Type 0
+GoesAhead stands_for old new entry = (d : DiskState) (earlier batch : List Entry) → IsAhead stands_for old d earlier batch → IsAhead stands_for new d earlier (batch ++ entry ∷ [])
+
+-- The record is ready with all of the batch, after two writes and two syncs however many its entries are, and none for no entry; at the gate of the
+-- earlier entries stand its blocks and the next closed gate. A crash at any moment since then leaves the earlier entries, with all of the batch or with none of it.
+abbrev pub Seals : {D : Type 0} → (D → DiskState → Type 0) → Record D → Record D → Type 0
+Seals stands_for old new = (d : DiskState) (earlier batch : List Entry) → IsAhead stands_for old d earlier batch
+    → (e : DiskState) × IsReady stands_for new e (earlier ++ batch) × LeavesOnly d e (IsNoneOrAll old.node old.cluster earlier batch)
+    × (length e.past ≡ calls_for batch + length d.past) × (batch ≢ [] → IsOpenAt (10 + length (blocks earlier)) d.seen (behind_gates batch) e.seen)
+
+-- The device failed as the batch was written. A crash at any moment since then leaves the earlier entries, with all of the batch or with none of it,
+-- and so does none.
+abbrev pub LeavesBatch : {D : Type 0} → (D → DiskState → Type 0) → Record D → Record D → Type 0
+LeavesBatch stands_for old new = (d : DiskState) (earlier batch : List Entry) → IsAhead stands_for old d earlier batch
+    → (e : DiskState) × stands_for new.disk e × LeavesOnly d e (IsNoneOrAll old.node old.cluster earlier batch) × KeepsNoneOrAll old.node old.cluster earlier batch e

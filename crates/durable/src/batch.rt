@@ -1,0 +1,74 @@
+//! A batch of entries, which stand on the disk together or not at all.
+
+ghost use Rattle.std.specs.Prelude.{◌≡◌, ◌⊎◌, ◌↔◌, ◌+◌, ◌-◌, ◌<◌, ◌≤◌, ◌^◌, ◌∷◌, [], IsOk, IsErrOf, OnOk, OnErr, length, false, true};
+
+use crate::append::append;
+use crate::{Record, RecordFault};
+use site_disk::Disk;
+use std::alloc::AllocError;
+
+impl<D: Disk> Record<D> {
+    ghost use Rattle.durable.specs.Batches.{IsBatchOpen, Begins, Stages, Seals, LeavesBatch};
+    ghost use Rattle.durable.specs.Ready.{IsUnchanged};
+
+    /// Opens a batch: from now until it is sealed, a put takes its entry into memory alone, and nothing of it may be told.
+    /// A batch that is open stays as it is.
+    pub fn begin(&mut self) -> Result<(), RecordFault>
+        ensures begun { OnOk result (Begins D.stands_for self.old self.new) }
+        ensures open { OnOk result (IsBatchOpen self.new × (¬ IsBatchOpen self.old → length self.new.staged.bytes.items ≡ 1)) }
+        ensures was_open { IsBatchOpen self.old → (self.new ≡ self.old) × (¬ IsErrOf result RecordFault.OutOfMemory) }
+        ensures was_stopped { IsErrOf result RecordFault.Stopped ↔ (self.old.stopped ≡ true) }
+        ensures others { OnErr result (IsErrOf result RecordFault.Stopped ⊎ IsErrOf result RecordFault.OutOfMemory) }
+        ensures refused { OnErr result (IsUnchanged self.old self.new) }
+        ensures same { self.new ≡ record self.old { staged = self.new.staged } }
+    {
+        if self.stopped {
+            return Err(RecordFault::Stopped);
+        }
+        self.staged.open()?;
+        Ok(())
+    }
+
+    /// Has all of a batch stand on the disk, and closes it; without entries it makes no call of the disk, and it takes no memory.
+    /// A device that fails leaves all of the batch there or none of it: the record stops, its memory stays ahead of
+    /// the disk, and only the next opening tells.
+    pub fn seal(&mut self) -> Result<(), RecordFault>
+        ensures sealed { OnOk result (Seals D.stands_for self.old self.new) }
+        ensures closed { OnOk result ((self.new.staged.bytes.items ≡ []) × (self.new.stopped ≡ false) × (D.failed self.new.disk ≡ D.failed self.old.disk)) }
+        ensures none { length self.old.staged.bytes.items ≤ 1 → self.new.disk ≡ self.old.disk }
+        ensures cut_short { IsErrOf result RecordFault.Device → LeavesBatch D.stands_for self.old self.new × ((D.failed self.old.disk < D.failed self.new.disk) ⊎ (D.failed self.old.disk ≡ 2 ^ 64 - 1)) }
+        ensures was_stopped { IsErrOf result RecordFault.Stopped ↔ (self.old.stopped ≡ true) }
+        ensures refused { IsErrOf result RecordFault.Stopped → self.new ≡ self.old }
+        ensures others { OnErr result (IsErrOf result RecordFault.Stopped ⊎ IsErrOf result RecordFault.Device) }
+        ensures stops { OnErr result (self.new ≡ record self.old { disk = self.new.disk; stopped = true }) }
+        ensures same { self.new ≡ record self.old { disk = self.new.disk; stopped = self.new.stopped; staged = self.new.staged } }
+    {
+        if self.stopped {
+            return Err(RecordFault::Stopped);
+        }
+        if !self.staged.has_entries() {
+            self.staged.close();
+            return Ok(());
+        }
+        self.stopped = true;
+        append(&mut self.disk, self.staged.base, self.staged.behind_base())?;
+        self.stopped = false;
+        self.staged.close();
+        Ok(())
+    }
+
+    // Takes an entry's bytes into the batch that is open.
+    pub(crate) fn stage(&mut self, bytes: &[u8]) -> Result<(), AllocError>
+        requires open { IsBatchOpen self.old }
+        requires near { self.old.recorded.gate + length bytes.now < 2 ^ 63 }
+        ensures staged { OnOk result (Stages D.stands_for self.old self.new bytes.now) }
+        ensures recorded { OnOk result (self.new.recorded ≡ record self.old.recorded { gate = self.old.recorded.gate + length bytes.now }) }
+        ensures open { IsBatchOpen self.new }
+        ensures refused { OnErr result (IsUnchanged self.old self.new) }
+        ensures same { self.new ≡ record self.old { recorded = self.new.recorded; staged = self.new.staged } }
+    {
+        self.staged.push(self.recorded.gate, bytes)?;
+        self.recorded.gate += bytes.len() as u64;
+        Ok(())
+    }
+}

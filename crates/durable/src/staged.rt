@@ -1,0 +1,87 @@
+//! What waits to be written behind a gate.
+
+ghost use Rattle.std.specs.Prelude.{◌≡◌, ◌↔◌, ◌<◌, ◌^◌, ◌∷◌, ◌++◌, [], ℕ, List, IsTrue, IsOk, OnOk, OnErr, length, drop};
+
+use std::alloc::{AllocError, Global};
+
+/// The entries of a batch that is open.
+#[derive(Drop)]
+pub(crate) struct Staged {
+    // nothing while no batch is open; else the blocks of its entries, and a closed gate
+    pub(crate) bytes: Vec<u8>,
+    // the gate on the disk, where the batch has entries
+    pub(crate) base: u64,
+    ghost near: { 1 < length bytes.items → base < 2 ^ 63 },
+}
+
+impl Staged {
+    /// No batch is open.
+    pub(crate) fn new(alloc: Global) -> Staged
+        ensures { result.bytes.items ≡ [] }
+    {
+        Staged {
+            bytes: Vec::new(alloc),
+            base: 0,
+        }
+    }
+
+    pub(crate) fn is_open(&self) -> bool
+        ensures { IsTrue result ↔ (0 < length self.now.bytes.items) }
+    {
+        !self.bytes.is_empty()
+    }
+
+    pub(crate) fn has_entries(&self) -> bool
+        ensures { IsTrue result ↔ (1 < length self.now.bytes.items) }
+    {
+        self.bytes.len() > 1
+    }
+
+    /// What is written behind the gate on the disk: the blocks without their first gate, and the closed one.
+    pub(crate) fn behind_base(&self) -> &[u8]
+        requires { 0 < length self.now.bytes.items }
+        ensures { result.now ≡ drop 1 self.now.bytes.items }
+    {
+        &self.bytes[1..]
+    }
+
+    /// Opens a batch where none is open.
+    pub(crate) fn open(&mut self) -> Result<(), AllocError>
+        ensures opened { OnOk result (self.old.bytes.items ≡ [] → self.new.bytes.items ≡ 0 ∷ []) }
+        ensures was_open { 0 < length self.old.bytes.items → (self.new ≡ self.old) × IsOk result }
+        ensures refused { OnErr result (self.new.bytes.items ≡ self.old.bytes.items) }
+        ensures base { self.new.base ≡ self.old.base }
+    {
+        if self.is_open() {
+            return Ok(());
+        }
+        self.bytes.push(0)?;
+        Ok(())
+    }
+
+    /// Takes an entry's bytes behind the gate that ends those that wait. The first entry's stands at the given gate of the disk.
+    pub(crate) fn push(&mut self, gate: u64, bytes: &[u8]) -> Result<(), AllocError>
+        requires open { 0 < length self.old.bytes.items }
+        requires near { gate < 2 ^ 63 }
+        ensures waiting { OnOk result ((front : List ℕ) → self.old.bytes.items ≡ front ++ 0 ∷ [] → self.new.bytes.items ≡ front ++ 1 ∷ bytes.now) }
+        ensures first { OnOk result (length self.old.bytes.items ≡ 1 → self.new.base ≡ gate) }
+        ensures later { OnOk result (1 < length self.old.bytes.items → self.new.base ≡ self.old.base) }
+        ensures still_open { 0 < length self.new.bytes.items }
+        ensures refused { OnErr result ((self.new.bytes.items ≡ self.old.bytes.items) × (self.new.base ≡ self.old.base)) }
+    {
+        let closed = self.bytes.len() - 1;
+        self.bytes.extend_from_slice(bytes)?;
+        self.bytes[closed] = 1;
+        if closed == 0 {
+            self.base = gate;
+        }
+        Ok(())
+    }
+
+    /// Closes the batch, and keeps its memory for the next.
+    pub(crate) fn close(&mut self)
+        ensures { self.new.bytes.items ≡ [] }
+    {
+        self.bytes.clear();
+    }
+}

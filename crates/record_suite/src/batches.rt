@@ -1,0 +1,268 @@
+//! Batches: all of one stands or none of it, whichever call of its seal fails and whatever a crash chooses; their bytes are those of single puts.
+use crate::listed::{RECORD, SPANNED, entries};
+use crate::samples::{
+    ballot, disk_of, empty, formatted, instance, one_of_three, opened, put_promise, put_round,
+    put_span, put_vote_for,
+};
+use crate::standing::stands_for;
+use durable::{Record, RecordFault};
+use site_disk::{Armed, Call, Disk, FailOnce, MemDisk};
+use std::alloc::Global;
+use std::process::Abort;
+
+/// How many calls of a seal pass, what the crash chooses, and then the file's length and whether the batch stands.
+const CRASHES: [(u32, u8, u64, bool); 15] = [
+    (0, 0, 11, false),
+    (0, 1, 11, false),
+    (0, 7, 11, false),
+    (1, 0, 11, false),
+    (1, 1, 53, false),
+    (1, 7, 53, false),
+    (2, 0, 53, false),
+    (2, 1, 53, false),
+    (2, 7, 53, false),
+    (3, 0, 53, false),
+    (3, 1, 53, true),
+    (3, 7, 53, false),
+    (4, 0, 53, true),
+    (4, 1, 53, true),
+    (4, 7, 53, true),
+];
+
+/// How many calls pass before one fails, and whether the batch stands for the next opening, without a crash.
+const SEALS: [(u32, bool); 4] = [(0, false), (1, false), (2, false), (3, true)];
+
+/// A step of a record, where a ballot is its round, of node 1.
+#[derive(Clone, Copy, Debug)]
+enum Step {
+    Begin,
+    Seal,
+    Round(u32),
+    /// A promise at an instance.
+    Promise(u32, u32),
+    /// The promise of a span from an instance on, of so many.
+    Span(u32, u8, u32),
+    /// A vote at an instance for a text.
+    Vote(u32, u32, &'static str),
+}
+
+/// What `RECORD` holds.
+const THREE: [Step; 3] = [Step::Round(1), Step::Promise(1, 1), Step::Vote(1, 2, "ab")];
+
+fn act<D: Disk>(
+    rt: &impl Abort,
+    alloc: Global,
+    record: &mut Record<D>,
+    step: Step,
+) -> Result<(), RecordFault> {
+    match step {
+        Step::Begin => record.begin(),
+        Step::Seal => record.seal(),
+        Step::Round(round) => put_round(record, round),
+        Step::Promise(at, round) => put_promise(record, instance(rt, at), ballot(rt, round)),
+        Step::Span(first, count, round) => {
+            put_span(record, instance(rt, first), count, ballot(rt, round))
+        }
+        Step::Vote(at, round, text) => {
+            let vote = (instance(rt, at), ballot(rt, round));
+            put_vote_for(rt, alloc, record, vote, text.as_bytes())
+        }
+    }
+}
+
+fn take<D: Disk>(rt: &impl Abort, alloc: Global, record: &mut Record<D>, steps: &[Step]) {
+    for one in steps {
+        assert_eq!(rt; act(rt, alloc, record, *one), Ok(()), "{one:?}");
+    }
+}
+
+/// The record tells the three entries, or none of them.
+fn tells<D: Disk>(rt: &impl Abort, record: &Record<D>, all: bool) {
+    let promised = if all { Some(ballot(rt, 2)) } else { None };
+    assert_eq!(rt; record.round(), u32::from(all));
+    assert_eq!(rt; record.greatest_round(), if all { 2 } else { 0 });
+    assert_eq!(rt; record.slot(instance(rt, 1)).promised, promised);
+    assert_eq!(rt; record.slot(instance(rt, 1)).vote.is_some(), all);
+}
+
+/// A batch of three, whose seal ends so.
+fn seal_three<D: Disk>(
+    rt: &impl Abort,
+    alloc: Global,
+    record: &mut Record<D>,
+    sealed: Result<(), RecordFault>,
+) {
+    take(rt, alloc, record, &THREE);
+    tells(rt, record, true);
+    assert_eq!(rt; record.seal(), sealed);
+    tells(rt, record, true);
+}
+
+/// A record that stopped takes nothing more.
+fn is_over<D: Disk>(rt: &impl Abort, alloc: Global, record: &mut Record<D>) {
+    assert!(rt; record.is_stopped());
+    for one in [Step::Begin, Step::Round(9), Step::Promise(9, 9), Step::Seal] {
+        let taken = act(rt, alloc, record, one);
+        assert_eq!(rt; taken, Err(RecordFault::Stopped), "{one:?}");
+    }
+}
+
+/// A batch of three, of which so many calls of the disk pass.
+fn seal_armed<D: Armed>(rt: &impl Abort, alloc: Global, record: &mut Record<D>, calls: u32) {
+    take(rt, alloc, record, &[Step::Begin]);
+    record.arm(calls);
+    if calls < 4 {
+        seal_three(rt, alloc, record, Err(RecordFault::Device));
+        is_over(rt, alloc, record);
+    } else {
+        seal_three(rt, alloc, record, Ok(()));
+    }
+}
+
+fn crash(rt: &impl Abort, alloc: Global, row: (u32, u8, u64, bool)) {
+    let (calls, choice, length, all) = row;
+    let mut record = empty(rt, alloc);
+    seal_armed(rt, alloc, &mut record, calls);
+    let mut disk = record.close();
+    disk.crash(choice);
+    assert_eq!(rt; disk.len(), Ok(length), "{calls} {choice}");
+    tells(rt, &opened(rt, alloc, disk), all);
+}
+
+#[test]
+fn a_crash_after_each_call_of_a_seal_keeps_all_or_none(rt: HostRuntime) {
+    for row in CRASHES {
+        crash(&rt, rt.alloc(), row);
+    }
+}
+
+/// The disk of a seal of which one call failed.
+fn failed_seal(rt: &impl Abort, alloc: Global, calls: u32) -> FailOnce<MemDisk> {
+    let mut record = opened(rt, alloc, FailOnce::new(formatted(rt, alloc)));
+    seal_armed(rt, alloc, &mut record, calls);
+    let disk = record.close();
+    assert_eq!(rt; disk.failures(), 1);
+    disk
+}
+
+fn settles(rt: &impl Abort, alloc: Global, calls: u32, choice: u8, all: bool) {
+    let record = opened(rt, alloc, failed_seal(rt, alloc, calls));
+    tells(rt, &record, all);
+    let mut disk = record.close().into_inner();
+    disk.crash(choice);
+    tells(rt, &opened(rt, alloc, disk), all);
+}
+
+/// Whatever a crash chooses behind an opening, it keeps what that found.
+#[test]
+fn an_opening_settles_the_batch(rt: HostRuntime) {
+    for (calls, all) in SEALS {
+        for choice in [0, 1, 7] {
+            settles(&rt, rt.alloc(), calls, choice, all);
+        }
+    }
+}
+
+/// Nothing of a batch that isn't sealed is on the disk.
+#[test]
+fn a_batch_that_is_not_sealed_is_lost(rt: HostRuntime) {
+    let mut record = empty(&rt, rt.alloc());
+    take(&rt, rt.alloc(), &mut record, &[Step::Begin]);
+    take(&rt, rt.alloc(), &mut record, &THREE);
+    let mut disk = record.close();
+    assert_eq!(rt; disk.len(), Ok(11));
+    tells(&rt, &opened(&rt, rt.alloc(), disk), false);
+}
+
+fn writes_and_syncs(disk: &MemDisk) -> usize {
+    disk.calls()
+        .iter()
+        .filter(|call| matches!(call, Call::Write { .. } | Call::Sync))
+        .count()
+}
+
+/// The disk of an empty record behind these steps.
+fn disk_behind(rt: &impl Abort, alloc: Global, steps: &[Step]) -> MemDisk {
+    let mut record = empty(rt, alloc);
+    take(rt, alloc, &mut record, steps);
+    record.close()
+}
+
+/// The disk holds these bytes, behind so many writes and syncs, an opening's among them.
+fn holds<const N: usize>(rt: &impl Abort, disk: &mut MemDisk, wanted: [u8; N], calls: usize) {
+    assert_eq!(rt; writes_and_syncs(disk), calls);
+    let mut bytes = [0; N];
+    disk.read_at(0, &mut bytes).expect(rt, "a read");
+    assert_eq!(rt; bytes, wanted);
+    assert_eq!(rt; disk.len(), Ok(N as u64));
+}
+
+/// However a record's entries came there, its bytes are the same.
+#[test]
+fn batches_and_puts_write_the_same_bytes(rt: HostRuntime) {
+    let [round, promise, vote] = THREE;
+    let empty_batch = [Step::Begin, Step::Seal];
+    let all = [Step::Begin, round, promise, vote, Step::Seal];
+    let last = [round, Step::Begin, promise, vote, Step::Seal];
+    let first = [Step::Begin, round, Step::Begin, promise, Step::Seal, vote];
+    let each = [
+        Step::Begin,
+        round,
+        Step::Seal,
+        Step::Seal,
+        promise,
+        Step::Begin,
+        vote,
+        Step::Seal,
+    ];
+    for (steps, calls) in [
+        (&THREE[..], 13),
+        (&all[..], 5),
+        (&last[..], 9),
+        (&first[..], 9),
+        (&each[..], 13),
+    ] {
+        holds(&rt, &mut disk_behind(&rt, rt.alloc(), steps), RECORD, calls);
+    }
+    let span = [Step::Begin, Step::Span(5, 3, 1), Step::Seal];
+    holds(&rt, &mut disk_behind(&rt, rt.alloc(), &span), SPANNED, 5);
+    assert_eq!(rt;
+        writes_and_syncs(&disk_behind(&rt, rt.alloc(), &empty_batch)),
+        1
+    );
+}
+
+/// What a batch wrote is what the definition of a record reads there.
+#[test]
+fn a_batch_stands_for_its_entries(rt: HostRuntime) {
+    let (cluster, node) = one_of_three(&rt, 2);
+    let steps = [Step::Begin, THREE[0], THREE[1], THREE[2], Step::Seal];
+    let mut disk = disk_behind(&rt, rt.alloc(), &steps);
+    let mut bytes = [0; 53];
+    disk.read_at(0, &mut bytes).expect(&rt, "a read");
+    let entries = entries(&rt, rt.alloc()).expect(&rt, "memory");
+    let stands = stands_for(rt.alloc(), cluster, node, &bytes, &entries);
+    assert_eq!(rt; stands, Ok(true));
+}
+
+/// A record that single puts wrote takes a batch, and one that a batch wrote takes a put.
+#[test]
+fn a_stored_record_goes_on(rt: HostRuntime) {
+    let mut record = opened(&rt, rt.alloc(), disk_of(&rt, rt.alloc(), &RECORD));
+    let steps = [
+        Step::Begin,
+        Step::Round(5),
+        Step::Span(1, 2, 6),
+        Step::Seal,
+        Step::Vote(2, 6, "w"),
+    ];
+    take(&rt, rt.alloc(), &mut record, &steps);
+    let record = opened(&rt, rt.alloc(), record.close());
+    assert_eq!(rt; record.round(), 5);
+    assert_eq!(rt; record.greatest_round(), 6);
+    assert_eq!(rt;
+        record.slot(instance(&rt, 1)).promised,
+        Some(ballot(&rt, 6))
+    );
+    assert!(rt; record.slot(instance(&rt, 2)).vote.is_some());
+}

@@ -1,0 +1,115 @@
+//! A batch with one growth refused, as `tools/refuse-growths` runs this: a step is taken as ever, or memory was refused, the batch is as it was, and the
+//! next try takes it. Where the disk in memory found none its call failed, so the record is opened again, and all of the batch stands or none of it.
+use crate::samples::{ballot, instance, one_of_three, put_promise, put_round, put_span, put_vote};
+use durable::{Record, RecordFault};
+use site_disk::MemDisk;
+use site_ids::Value;
+use std::alloc::Global;
+use std::process::Abort;
+
+/// A step of a batch. A ballot is of round 1.
+#[derive(Clone, Copy, Debug)]
+enum Step {
+    Begin,
+    Round,
+    Promise,
+    Span,
+    Vote,
+}
+
+const BATCH: [Step; 5] = [
+    Step::Begin,
+    Step::Round,
+    Step::Promise,
+    Step::Span,
+    Step::Vote,
+];
+
+/// An empty record's disk. A growth that was refused leaves a beginning of it behind, so it is made on another disk then.
+fn formatted(rt: &impl Abort, alloc: Global) -> MemDisk {
+    let (cluster, node) = one_of_three(rt, 2);
+    let mut disk = MemDisk::new(alloc);
+    if Record::format(cluster, node, &mut disk).is_err() {
+        disk = MemDisk::new(alloc);
+        Record::format(cluster, node, &mut disk).expect(rt, "a record");
+    }
+    disk
+}
+
+/// The record on a disk, whose opening is tried twice.
+fn opened(rt: &impl Abort, alloc: Global, disk: MemDisk) -> Record<MemDisk> {
+    let (cluster, node) = one_of_three(rt, 2);
+    match Record::open(alloc, cluster, node, disk) {
+        Ok(record) => record,
+        Err((_fault, disk)) => match Record::open(alloc, cluster, node, disk) {
+            Ok(record) => record,
+            Err((fault, _disk)) => panic!(rt; "{fault:?}"),
+        },
+    }
+}
+
+fn value(rt: &impl Abort, alloc: Global) -> Value {
+    match Value::copied_from(alloc, b"v") {
+        Ok(value) => value,
+        Err(_) => Value::copied_from(alloc, b"v").expect(rt, "memory"),
+    }
+}
+
+fn act(
+    rt: &impl Abort,
+    alloc: Global,
+    record: &mut Record<MemDisk>,
+    step: Step,
+) -> Result<(), RecordFault> {
+    let ballot = ballot(rt, 1);
+    match step {
+        Step::Begin => record.begin(),
+        Step::Round => put_round(record, 1),
+        Step::Promise => put_promise(record, instance(rt, 1), ballot),
+        Step::Span => put_span(record, instance(rt, 5), 3, ballot),
+        Step::Vote => put_vote(record, instance(rt, 1), ballot, &value(rt, alloc)),
+    }
+}
+
+/// The record tells all of the batch, or nothing.
+fn tells(rt: &impl Abort, record: &Record<MemDisk>) -> bool {
+    let all = record.round() == 1;
+    let promised = if all { Some(ballot(rt, 1)) } else { None };
+    for at in [1, 5, 7] {
+        assert_eq!(rt; record.slot(instance(rt, at)).promised, promised);
+    }
+    assert_eq!(rt; record.slot(instance(rt, 1)).vote.is_some(), all);
+    all
+}
+
+/// A batch that waits to be sealed.
+fn fill(rt: &impl Abort, alloc: Global, record: &mut Record<MemDisk>) {
+    for one in BATCH {
+        if let Err(fault) = act(rt, alloc, record, one) {
+            assert_eq!(rt; fault, RecordFault::OutOfMemory);
+            assert_eq!(rt; act(rt, alloc, record, one), Ok(()), "{one:?}");
+        }
+    }
+    assert!(rt; tells(rt, record));
+}
+
+/// The same on a record that a failed seal left.
+fn fill_again(rt: &impl Abort, alloc: Global, record: &mut Record<MemDisk>) {
+    if !tells(rt, record) {
+        fill(rt, alloc, record);
+        assert_eq!(rt; record.seal(), Ok(()));
+    }
+}
+
+#[test]
+fn batches(rt: HostRuntime) {
+    let alloc = rt.alloc();
+    let mut record = opened(&rt, alloc, formatted(&rt, alloc));
+    fill(&rt, alloc, &mut record);
+    if let Err(fault) = record.seal() {
+        assert_eq!(rt; fault, RecordFault::Device);
+    }
+    let mut record = opened(&rt, alloc, record.close());
+    fill_again(&rt, alloc, &mut record);
+    assert!(rt; tells(&rt, &opened(&rt, alloc, record.close())));
+}
