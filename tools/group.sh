@@ -10,7 +10,7 @@ alone() {
     fi
 }
 
-# a port that the system picks, that nobody has now, and that was not picked before
+# a port that the system picks, that nobody has now, a connection of TCP either, and that was not picked before
 free_port() {
     local inode port
     while :; do
@@ -19,6 +19,7 @@ free_port() {
         inode=${inode#socket:[}
         port=$(awk -v inode="${inode%]}" '$10 == inode { split($2, local, ":"); print local[2] }' /proc/net/udp)
         exec 9>&-
+        if grep -q ":$port " /proc/net/tcp; then continue; fi
         port=$((16#$port))
         grep -qsx "$port" "$group/ports" || break
     done
@@ -50,12 +51,22 @@ runs() { [ -e "$group/$1.pid" ] && kill -0 "$(process "$1")" 2> /dev/null && ! g
 # it is ready: P
 is_ready() { grep -q "^node $1 ready" "$group/$1.out"; }
 
-# starts a node over its record file, which is formatted where it is empty or absent, and waits until it is ready, for 30 or $ready_within seconds: P
+# runs a node over its record file: P [OPTION..]. The words of `under`, if there are any, stand before the program's.
+under=()
+run_node() {
+    local p=$1
+    shift
+    : > "$group/$p.out"
+    # shellcheck disable=SC2046,SC2086 # a word an option, and an address
+    "${under[@]}" "$sited" --id "$p" --record "$group/$p.record" --http "${http[p - 1]}" --rounds 4294967295 "$@" ${options:-} $(peers_of "$p") \
+        > "$group/$p.out" 2> "$group/$p.err" < /dev/null &
+    echo $! > "$group/$p.pid"
+}
+
+# starts a node, whose record file is formatted where it is empty or absent, and waits until it is ready, for 30 or $ready_within seconds: P
 start_node() {
     local p=$1 k
-    : > "$group/$p.out"
-    "$sited" --id "$p" --record "$group/$p.record" --http "${http[p - 1]}" --rounds 4294967295 --format ${options:-} $(peers_of "$p") > "$group/$p.out" 2> "$group/$p.err" < /dev/null &
-    echo $! > "$group/$p.pid"
+    run_node "$p" --format
     for ((k = 0; k < ${ready_within:-30} * 10; k++)); do
         is_ready "$p" && return
         runs "$p" || break

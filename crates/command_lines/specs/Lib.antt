@@ -3,3 +3,4 @@ pub mod Options
 pub mod SimOptions
 pub mod ServeOptions
 pub mod ClusterOptions
+pub mod Versions

@@ -40,7 +40,7 @@ fn sim_matches<'a>(alloc: Global, words: &'a [String]) -> Result<ArgMatches<'a>,
     let does =
         "Runs one to nine servers in memory by a written schedule, and shows what each publishes";
     let example =
-        "Example, a file of these lines:\n  nodes 3\n  submit 1 7 1 8\n  release\n\n  tick 1\n  settle\n  show 3";
+        "Example, a file of these lines:\n  nodes 3\n  submit 1 7 1 8\n  release\n\n  tick 1\n  settle\n  show 3\n\n--version prints the program's version";
     let command = described(alloc, "sitesim", does, example).arg(file_argument(alloc))?;
     command.try_get_matches_from(words)
 }

@@ -53,7 +53,7 @@ impl Link for Broken {
 }
 
 /// Whether receives fail, and whether sends do; the turns of a drive, whose last call sends to three nodes; how many calls fail.
-const DRIVES: [(bool, bool, u32, u64); 5] = [
+const DRIVES: &[(bool, bool, u32, u64)] = &[
     (false, false, 9, 0),
     (true, false, 9, 9),
     (false, true, 9, 3),
@@ -69,7 +69,7 @@ fn drive(rt: &impl Abort, server: &mut Server<Broken>, turns: u32, failed: u64) 
 }
 
 fn drive_each(rt: &impl Abort, server: &mut Server<Broken>) {
-    for (receives_fail, sends_fail, turns, failed) in DRIVES {
+    for &(receives_fail, sends_fail, turns, failed) in DRIVES {
         server.link.receives_fail = receives_fail;
         server.link.sends_fail = sends_fail;
         drive(rt, server, turns, failed);

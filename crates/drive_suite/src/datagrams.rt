@@ -5,7 +5,7 @@ use std::alloc::Global;
 use std::process::Abort;
 
 /// Datagrams that spell none.
-const MALFORMED: [&str; 7] = [
+const MALFORMED: &[&str] = &[
     "",
     "01",
     "ff",
@@ -18,14 +18,14 @@ const MALFORMED: [&str; 7] = [
 ];
 
 fn each_alone(rt: &impl Abort, server: &mut Server<MemLink>) {
-    for text in MALFORMED {
+    for &text in MALFORMED {
         server.queue(rt, text);
         passes(rt, text, server.exchange(1), 1, 0);
     }
 }
 
 fn all_at_once(rt: &impl Abort, server: &mut Server<MemLink>) {
-    for text in MALFORMED {
+    for &text in MALFORMED {
         server.queue(rt, text);
     }
     passes(rt, "all at once", server.exchange(99), 7, 0);
@@ -52,7 +52,7 @@ const PROMISE_OF_3: &str = "01020300000001000000020101000000010200008000";
 const PROPOSAL: &str = "01030100000001000000020100008000";
 
 /// Lengths of datagrams that begin so, and how many of each are malformed: with a slice of the longest one's length, longer ones would be cut to it.
-const LENGTHS: [(&str, usize, u32); 6] = [
+const LENGTHS: &[(&str, usize, u32)] = &[
     ("no value", 22, 1),
     ("a byte less", 32_789, 1),
     ("a byte more", 32_791, 1),
@@ -74,7 +74,7 @@ fn push(rt: &impl Abort, server: &mut Server<MemLink>, head: &str, length: usize
 }
 
 fn hear_each(rt: &impl Abort, server: &mut Server<MemLink>) {
-    for (row, length, malformed) in LENGTHS {
+    for &(row, length, malformed) in LENGTHS {
         push(rt, server, PROMISE_OF_2, length);
         passes(rt, row, server.exchange(1), malformed, 0);
     }

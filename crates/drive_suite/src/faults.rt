@@ -21,7 +21,7 @@ const ANSWER: &str = "010701000000010000001400000001000000000000000172656c656173
 type End = (Option<NodeFault>, u64, usize);
 
 /// What is heard, after how many calls the device fails, and how a drive of 9 turns and one of 2 end at a node where a value is pending.
-const FAULTS: [(&[&str], Option<u32>, End, End); 3] = [
+const FAULTS: &[(&[&str], Option<u32>, End, End)] = &[
     // The prepare's put is the first call.
     (
         &[CHOSEN, QUESTION, PREPARE, QUESTION],
@@ -80,7 +80,7 @@ fn fail(
 
 #[test]
 fn a_fault_ends_a_drive_and_takes_nothing_back(rt: HostRuntime) {
-    for (heard, calls, first, second) in FAULTS {
+    for &(heard, calls, first, second) in FAULTS {
         fail(&rt, rt.alloc(), heard, calls, first, second);
     }
 }

@@ -4,7 +4,7 @@ use crate::server::{Server, passes};
 use std::alloc::Global;
 use std::process::Abort;
 
-const COMMANDS: [(u64, &str); 4] = [
+const COMMANDS: &[(u64, &str)] = &[
     (1, "put template t\nHello, {{subject}}!\n"),
     (2, "put data d\n{\"subject\":\"world\"}"),
     (3, "put route / t d\n"),
@@ -12,7 +12,7 @@ const COMMANDS: [(u64, &str); 4] = [
 ];
 
 /// Drives of a node with so many turns, and how often the list of them comes.
-const DRIVES: [(usize, &[(u8, u32)]); 3] = [
+const DRIVES: &[(usize, &[(u8, u32)])] = &[
     (2, &[(1, 0)]),
     (8, &[(2, 99), (1, 99)]),
     (1, &[(3, 99)]),
@@ -63,7 +63,7 @@ fn drive_all(
     two: &mut Server<Looped>,
     three: &mut Server<Looped>,
 ) {
-    for (times, drives) in DRIVES {
+    for &(times, drives) in DRIVES {
         for _ in 0..times {
             drive_each(rt, drives, one, two, three);
         }
@@ -71,7 +71,7 @@ fn drive_all(
 }
 
 fn submit_all(rt: &impl Abort, server: &mut Server<Looped>) {
-    for (number, text) in COMMANDS {
+    for &(number, text) in COMMANDS {
         server.submit(rt, number, text);
     }
 }

@@ -1,9 +1,11 @@
 //! Nodes over disks in memory, boxed: what owns one is proved to let it go, and a box is let go of in one step.
 ghost use Rattle.site_ids.specs.Ids.{IsNode};
 
+use crate::server::Server;
 use durable::Record;
 use node::Node;
 use site_disk::MemDisk;
+use site_drive::MemLink;
 use site_ids::{Cluster, NodeId};
 use std::alloc::Global;
 use std::process::Abort;
@@ -49,4 +51,22 @@ pub(crate) fn again(
     let cluster = Cluster::new(3).expect(rt, "a cluster");
     let me = cluster.node(1).expect(rt, "a node");
     open(alloc, cluster, me, Box::into_inner(node).close()).expect(rt, "memory")
+}
+
+/// Node 1 of three, closed and opened again, behind a crash by that choice, or without one.
+pub(crate) fn reopened(
+    rt: &impl Abort,
+    server: Server<MemLink>,
+    crash: Option<u8>,
+) -> Server<MemLink> {
+    let Server { alloc, node, link } = server;
+    let cluster = Cluster::new(3).expect(rt, "a cluster");
+    let me = cluster.node(1).expect(rt, "a node");
+    let mut disk = Box::into_inner(node).close();
+    match crash {
+        Some(choice) => disk.crash(choice),
+        None => disk.disarm(),
+    }
+    let node = open(alloc, cluster, me, disk).expect(rt, "memory");
+    Server { alloc, node, link }
 }

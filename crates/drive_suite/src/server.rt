@@ -3,7 +3,7 @@ use crate::opening::{again, fresh};
 use command::write;
 use node::{Node, NodeFault, Submitted};
 use site_disk::MemDisk;
-use site_drive::{Desk, Driven, LastCall, Link, MemLink, drive};
+use site_drive::{Batched, Desk, Driven, LastCall, Link, MemLink, drive};
 use site_ids::{Ticket, Value};
 use std::alloc::Global;
 use std::process::Abort;
@@ -52,6 +52,12 @@ impl<L: Link + Drop> Server<L> {
         last: LastCall,
     ) -> Result<Driven, NodeFault> {
         desk.drive_with(&mut self.node, &mut self.link, turns, last)
+    }
+
+    /// One batch.
+    pub(crate) fn batch(&mut self, turns: u32, last: LastCall) -> Result<Batched, NodeFault> {
+        let mut desk = Desk::new(self.alloc)?;
+        desk.drive_batch(&mut self.node, &mut self.link, turns, last)
     }
 
     /// Turns alone.

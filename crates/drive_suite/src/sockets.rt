@@ -91,7 +91,7 @@ fn a_datagram_to_nowhere_is_a_failure(rt: HostRuntime) {
 }
 
 /// The longest promise, and the same with more behind it, which a receive cuts: lengths, and how many are malformed.
-const LENGTHS: [(&str, usize, u32); 3] = [
+const LENGTHS: &[(&str, usize, u32)] = &[
     ("whole", 32_790, 0),
     ("a byte more", 32_791, 1),
     ("thousands more", 40_000, 1),
@@ -103,7 +103,7 @@ fn send(rt: &impl Abort, alloc: Global, length: usize, from: &UdpSocket, to: Soc
 }
 
 fn hear_each(rt: &impl Abort, server: &mut Server<UdpLink>, peer: &UdpSocket, to: SocketAddr) {
-    for (row, length, malformed) in LENGTHS {
+    for &(row, length, malformed) in LENGTHS {
         send(rt, server.alloc, length, peer, to);
         passes(rt, row, server.exchange(1), malformed, 0);
     }

@@ -1,6 +1,6 @@
 //! What node 1 of three sends for what it hears, datagram by datagram; turns alone beside `drive`, and the other calls behind turns.
 use crate::server::{Server, passes};
-use site_drive::{Desk, LastCall, MemLink};
+use site_drive::{Batched, Desk, LastCall, MemLink};
 use std::alloc::Global;
 use std::process::Abort;
 
@@ -42,7 +42,7 @@ const TURNS: [(&str, &[(u8, &str)]); 9] = [
 
 /// After so many of these turns, how many datagrams were malformed, and the last call: a tick where the instance was reached and isn't known, and else a
 /// question about the next one.
-const LAST_CALLS: [(u8, u32, &str); 3] = [
+const LAST_CALLS: &[(u8, u32, &str)] = &[
     (0, 0, "01060100000001"),
     (6, 0, "010101000000010000000101"),
     (9, 1, "01060100000002"),
@@ -106,11 +106,30 @@ fn drive(rt: &impl Abort, alloc: Global, turns: u8, malformed: u32, last: &str) 
     last_to_all(rt, &server, sent, 3, last);
 }
 
+/// One batch of so many turns: it sends what they would, in order, and then what the last call hands out.
+fn batch(rt: &impl Abort, alloc: Global, turns: u8, malformed: u32, last: &str) {
+    let mut server = server(rt, alloc, 3);
+    hear(rt, &mut server, usize::from(turns));
+    let batched = Batched {
+        turns: u32::from(turns),
+        malformed,
+        failed: 0,
+    };
+    assert_eq!(rt;
+        server.batch(batched.turns, LastCall::TickOrAsk),
+        Ok(batched),
+        "{last}"
+    );
+    let sent = sent_in_turns(rt, &server, usize::from(turns));
+    last_to_all(rt, &server, sent, 3, last);
+}
+
 #[test]
-fn a_drive_is_an_exchange_and_a_last_call(rt: HostRuntime) {
-    for (turns, malformed, last) in LAST_CALLS {
+fn a_drive_is_an_exchange_and_a_last_call_and_so_is_a_batch(rt: HostRuntime) {
+    for &(turns, malformed, last) in LAST_CALLS {
         exchange(&rt, rt.alloc(), turns, malformed, last);
         drive(&rt, rt.alloc(), turns, malformed, last);
+        batch(&rt, rt.alloc(), turns, malformed, last);
     }
 }
 
@@ -144,6 +163,11 @@ fn questions_and_widenings_need_no_tick(rt: HostRuntime) {
 /// Node 3 asks for what it is told behind the answer; whatever else comes is no question.
 fn told_behind_a_question(rt: &impl Abort, desk: &mut Desk, server: &mut Server<MemLink>) {
     hear(rt, server, 9);
+    let cluster = server.node.cluster();
+    let (me, to) = (
+        cluster.node(1).expect(rt, "a node"),
+        cluster.node(3).expect(rt, "a node"),
+    );
     for turn in 0..9 {
         passes(
             rt,
@@ -152,12 +176,13 @@ fn told_behind_a_question(rt: &impl Abort, desk: &mut Desk, server: &mut Server<
             u32::from(turn == 8),
             0,
         );
-        let asked = desk.asked();
+        let (asked, others) = (desk.asked().of(to), desk.asked().of(me));
         assert_eq!(rt; asked.is_some(), turn == 4 || turn == 7, "turn {turn}");
-        let Some((to, first)) = asked else {
+        assert!(rt; others.is_none());
+        let Some(first) = asked else {
             continue;
         };
-        assert!(rt; to.number() == 3 && first.number() == 1);
+        assert_eq!(rt; first.number(), 1);
         let sent = server.link.sent().len();
         let last = LastCall::Tell { to, first };
         passes(rt, "a telling", server.drive_with(desk, 0, last), 0, 0);

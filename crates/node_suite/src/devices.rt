@@ -7,7 +7,7 @@ use std::process::Abort;
 
 /// After so many calls the device fails. Then the node is opened again, behind a crash by a choice or without one: the entry is found only where its gate
 /// was written and not lost.
-const FAILURES: [(u32, Option<u8>, bool); 16] = [
+const FAILURES: &[(u32, Option<u8>, bool)] = &[
     (0, Some(0), false),
     (0, Some(1), false),
     (0, Some(7), false),
@@ -85,7 +85,7 @@ fn found(rt: &impl Abort, alloc: Global, which: Put, calls: u32, crash: Option<u
 }
 
 fn each_failure(rt: &impl Abort, alloc: Global, which: Put) {
-    for (calls, crash, wanted) in FAILURES {
+    for &(calls, crash, wanted) in FAILURES {
         assert_eq!(rt;
             found(rt, alloc, which, calls, crash),
             wanted,

@@ -1,4 +1,5 @@
-//! A node over a disk in memory, lent to the rows: a row that owned one would have to be proved to let it go at each of its ends.
+//! A node over a disk in memory, lent to the rows, and boxed: what owns one is proved to let it go at each of its ends, and a box is let go of in one
+//! step.
 ghost use Rattle.site_ids.specs.Ids.{IsNode};
 
 use durable::{Record, RecordFault};
@@ -13,7 +14,7 @@ use wire::Message;
 #[derive(Drop)]
 pub(crate) struct Peer {
     alloc: Global,
-    node: Node<MemDisk>,
+    node: Box<Node<MemDisk>>,
     out: Outbox,
 }
 
@@ -47,6 +48,18 @@ fn open(
     Node::open(alloc, cluster, me, disk)
 }
 
+/// A box that was refused memory is made once more.
+fn boxed(rt: &impl Abort, alloc: Global, node: Node<MemDisk>) -> Box<Node<MemDisk>> {
+    let node = match Box::new(alloc, node) {
+        Ok(boxed) => return boxed,
+        Err(refused) => refused.value,
+    };
+    match Box::new(alloc, node) {
+        Ok(boxed) => boxed,
+        Err(_refused) => panic!(rt; "memory"),
+    }
+}
+
 /// An opening that was refused memory is tried once more.
 fn opened(rt: &impl Abort, alloc: Global, cluster: Cluster, disk: MemDisk) -> Node<MemDisk> {
     let me = cluster.node(1).expect(rt, "a node");
@@ -62,8 +75,8 @@ fn opened(rt: &impl Abort, alloc: Global, cluster: Cluster, disk: MemDisk) -> No
 }
 
 /// The disk of a node that is closed, behind a crash by that choice, or without one.
-fn closed(node: Node<MemDisk>, crash: Option<u8>) -> MemDisk {
-    let mut disk = node.close();
+fn closed(node: Box<Node<MemDisk>>, crash: Option<u8>) -> MemDisk {
+    let mut disk = Box::into_inner(node).close();
     match crash {
         Some(choice) => disk.crash(choice),
         None => disk.disarm(),
@@ -79,7 +92,7 @@ impl Peer {
         let disk = formatted(rt, alloc, cluster, me);
         Peer {
             alloc,
-            node: opened(rt, alloc, cluster, disk),
+            node: boxed(rt, alloc, opened(rt, alloc, cluster, disk)),
             out: Vec::new(alloc),
         }
     }
@@ -91,7 +104,7 @@ impl Peer {
         let disk = closed(node, crash);
         Peer {
             alloc,
-            node: opened(rt, alloc, cluster, disk),
+            node: boxed(rt, alloc, opened(rt, alloc, cluster, disk)),
             out,
         }
     }

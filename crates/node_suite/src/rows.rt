@@ -40,7 +40,7 @@ fn votes_of_a_majority_make_a_value_known(rt: HostRuntime) {
 }
 
 /// A chosen value, how many are known without a gap then, and the newest release.
-const CHOSEN: [(u32, u64, &str, u32, u64); 4] = [
+const CHOSEN: &[(u32, u64, &str, u32, u64)] = &[
     (1, 1, "put data d\n{}", 1, 0),
     (3, 3, "release\n", 1, 0),
     (2, 2, "put data e\n{}", 3, 1),
@@ -56,7 +56,7 @@ fn step(rt: &impl Abort, node: &mut Peer, row: (u32, u64, &str, u32, u64)) {
 }
 
 fn up_to_a_gap(rt: &impl Abort, node: &mut Peer) {
-    for row in CHOSEN {
+    for &row in CHOSEN {
         step(rt, node, row);
     }
     assert_eq!(rt; node.status("/"), Some(404));

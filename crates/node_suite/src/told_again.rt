@@ -146,10 +146,10 @@ fn propose_long(rt: &impl Abort, node: &mut Peer, at: u32, size: usize) {
 }
 
 /// Values of 32,768, 32,767 and one byte: two fit, and then one byte more does.
-const SIZES: [(u32, usize); 5] = [(1, 32_768), (2, 32_767), (3, 1), (4, 32_768), (5, 32_768)];
+const SIZES: &[(u32, usize)] = &[(1, 32_768), (2, 32_767), (3, 1), (4, 32_768), (5, 32_768)];
 
 fn long_values(rt: &impl Abort, node: &mut Peer) {
-    for (at, size) in SIZES {
+    for &(at, size) in SIZES {
         propose_long(rt, node, at, size);
     }
     for (first, told) in [(1, 3), (2, 3), (3, 2)] {

@@ -19,3 +19,5 @@ mod runs;
 mod scripts;
 #[cfg(test)]
 mod serve_options;
+#[cfg(test)]
+mod versions;

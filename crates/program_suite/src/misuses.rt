@@ -73,19 +73,19 @@ fn help_is_told_as_a_refusal(rt: HostRuntime) -> Result<(), Fail> {
     let helps = [
         (
             refused_by(render_options(alloc, words)),
-            "\n\nExample:\n  tools/frame examples/status/1 | siterender /status\n",
+            "\n\nExample:\n  tools/frame examples/status/1 | siterender /status\n\n--version prints the program's version\n",
         ),
         (
             refused_by(sim_options(alloc, words)),
-            "  settle\n  show 3\n",
+            "  settle\n  show 3\n\n--version prints the program's version\n",
         ),
         (
             refused_by(cluster_options(alloc, words)),
-            "  drive 2 9\n  drive 1 9\n  get 1 /_newest\n",
+            "  drive 2 9\n  drive 1 9\n  get 1 /_newest\n\n--version prints the program's version\n",
         ),
         (
             refused_by(sited_options(alloc, words)),
-            " --record /var/lib/sited/1.record --format --http 127.0.0.1:8001 --rounds 4294967295 127.0.0.1:7001 127.0.0.1:7002 127.0.0.1:7003\n",
+            " --record /var/lib/sited/1.record --format --http 127.0.0.1:8001 --rounds 4294967295 127.0.0.1:7001 127.0.0.1:7002 127.0.0.1:7003\n\n--version prints the program's version\n",
         ),
     ];
     for (why, example) in helps {

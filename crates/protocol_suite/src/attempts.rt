@@ -125,7 +125,7 @@ fn ballots_above_all_rounds_heard(rt: HostRuntime) {
 }
 
 /// The voter, the round and the node of its ballot, its value, and whether that value becomes known.
-const VOTES: [(u8, u32, u8, &str, bool); 6] = [
+const VOTES: &[(u8, u32, u8, &str, bool)] = &[
     (2, 1, 1, "v", false),
     (2, 1, 1, "v", false),
     (2, 1, 1, "v", false),
@@ -162,7 +162,7 @@ fn tell(rt: &impl Abort, alloc: Global, learner: &mut Learner, row: (u8, u32, u8
 }
 
 fn votes(rt: &impl Abort, alloc: Global, learner: &mut Learner) {
-    for row in VOTES {
+    for &row in VOTES {
         tell(rt, alloc, learner, row);
     }
     learner.forget(instance(rt, 1));
@@ -180,7 +180,7 @@ fn votes_at_one_ballot_make_a_value_known(rt: HostRuntime) {
 }
 
 /// The instance, its value, how it is learned (not at all: a conflict), and the first gap then.
-const LEARNED: [(u32, &str, Option<Learned>, u32); 5] = [
+const LEARNED: &[(u32, &str, Option<Learned>, u32)] = &[
     (1, "a", Some(Learned::New), 2),
     (3, "c", Some(Learned::New), 2),
     (1, "b", None, 2),
@@ -213,7 +213,7 @@ fn is_known(rt: &impl Abort, log: &ChosenLog, number: u32, text: &str) -> bool {
 }
 
 fn learn_each(rt: &impl Abort, alloc: Global, log: &mut ChosenLog) {
-    for (number, text, expected, gap) in LEARNED {
+    for &(number, text, expected, gap) in LEARNED {
         assert_eq!(rt; learn(rt, alloc, log, number, text), expected);
         assert_eq!(rt; log.next_gap(), Some(instance(rt, gap)));
         assert_eq!(rt; is_known(rt, log, number, text), expected.is_some());

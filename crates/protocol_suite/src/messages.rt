@@ -7,7 +7,7 @@ use std::process::Abort;
 use wire::{MAX_MESSAGE, Message, WireFault, decode, encode};
 
 /// One spelling of each kind, in a cluster of three.
-const SPELLINGS: [&str; 14] = [
+const SPELLINGS: &[&str] = &[
     "010102000000010000000102",
     "02010100000005000000020103",
     "020103000f423f000000010302",
@@ -25,7 +25,7 @@ const SPELLINGS: [&str; 14] = [
 ];
 
 /// Bytes that are no message of a cluster of three, each for one reason.
-const MALFORMED: [&str; 32] = [
+const MALFORMED: &[&str] = &[
     // A span of none, of one, of sixty-five, and one past the last instance.
     "02010100000005000000020100",
     "02010100000005000000020101",
@@ -91,7 +91,7 @@ fn spells(rt: &impl Abort, alloc: Global, message: &Message, bytes: &[u8], text:
 
 #[test]
 fn spellings_are_read_and_written_again(rt: HostRuntime) {
-    for text in SPELLINGS {
+    for &text in SPELLINGS {
         let bytes = bytes_of(&rt, rt.alloc(), text);
         let message = decoded(&rt, rt.alloc(), &bytes).expect(&rt, text);
         spells(&rt, rt.alloc(), &message, &bytes, text);
@@ -117,7 +117,7 @@ fn one_byte_more(rt: &impl Abort, alloc: Global, bytes: &mut Vec<u8>, text: &str
 
 #[test]
 fn beginnings_and_one_byte_more(rt: HostRuntime) {
-    for text in SPELLINGS {
+    for &text in SPELLINGS {
         let mut bytes = bytes_of(&rt, rt.alloc(), text);
         beginnings(&rt, rt.alloc(), &bytes, text);
         one_byte_more(&rt, rt.alloc(), &mut bytes, text);
@@ -126,7 +126,7 @@ fn beginnings_and_one_byte_more(rt: HostRuntime) {
 
 #[test]
 fn other_bytes_are_malformed(rt: HostRuntime) {
-    for text in MALFORMED {
+    for &text in MALFORMED {
         let bytes = bytes_of(&rt, rt.alloc(), text);
         assert!(rt; is_malformed(&rt, rt.alloc(), &bytes), "{text}");
     }

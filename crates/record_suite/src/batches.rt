@@ -10,27 +10,32 @@ use site_disk::{Armed, Call, Disk, FailOnce, MemDisk};
 use std::alloc::Global;
 use std::process::Abort;
 
-/// How many calls of a seal pass, what the crash chooses, and then the file's length and whether the batch stands.
-const CRASHES: [(u32, u8, u64, bool); 15] = [
-    (0, 0, 11, false),
-    (0, 1, 11, false),
-    (0, 7, 11, false),
-    (1, 0, 11, false),
-    (1, 1, 53, false),
-    (1, 7, 53, false),
-    (2, 0, 53, false),
-    (2, 1, 53, false),
-    (2, 7, 53, false),
-    (3, 0, 53, false),
-    (3, 1, 53, true),
-    (3, 7, 53, false),
-    (4, 0, 53, true),
-    (4, 1, 53, true),
-    (4, 7, 53, true),
+/// How many calls of a seal pass, what the crash chooses, if there is one, and then the file's length and whether the batch stands.
+const CRASHES: &[(u32, Option<u8>, u64, bool)] = &[
+    (0, None, 11, false),
+    (0, Some(0), 11, false),
+    (0, Some(1), 11, false),
+    (0, Some(7), 11, false),
+    (1, None, 53, false),
+    (1, Some(0), 11, false),
+    (1, Some(1), 53, false),
+    (1, Some(7), 53, false),
+    (2, None, 53, false),
+    (2, Some(0), 53, false),
+    (2, Some(1), 53, false),
+    (2, Some(7), 53, false),
+    (3, None, 53, true),
+    (3, Some(0), 53, false),
+    (3, Some(1), 53, true),
+    (3, Some(7), 53, false),
+    (4, None, 53, true),
+    (4, Some(0), 53, true),
+    (4, Some(1), 53, true),
+    (4, Some(7), 53, true),
 ];
 
 /// How many calls pass before one fails, and whether the batch stands for the next opening, without a crash.
-const SEALS: [(u32, bool); 4] = [(0, false), (1, false), (2, false), (3, true)];
+const SEALS: &[(u32, bool)] = &[(0, false), (1, false), (2, false), (3, true)];
 
 /// A step of a record, where a ballot is its round, of node 1.
 #[derive(Clone, Copy, Debug)]
@@ -46,8 +51,41 @@ enum Step {
     Vote(u32, u32, &'static str),
 }
 
+const ROUND: Step = Step::Round(1);
+
+const PROMISE: Step = Step::Promise(1, 1);
+
+const VOTE: Step = Step::Vote(1, 2, "ab");
+
 /// What `RECORD` holds.
-const THREE: [Step; 3] = [Step::Round(1), Step::Promise(1, 1), Step::Vote(1, 2, "ab")];
+const THREE: &[Step] = &[ROUND, PROMISE, VOTE];
+
+/// Steps that write `RECORD`, and how many writes and syncs there are then, an opening's among them.
+const WRITERS: &[(&[Step], usize)] = &[
+    (THREE, 13),
+    (&[Step::Begin, ROUND, PROMISE, VOTE, Step::Seal], 5),
+    (&[ROUND, Step::Begin, PROMISE, VOTE, Step::Seal], 9),
+    (
+        &[Step::Begin, ROUND, Step::Begin, PROMISE, Step::Seal, VOTE],
+        9,
+    ),
+    (
+        &[
+            Step::Begin,
+            ROUND,
+            Step::Seal,
+            Step::Seal,
+            PROMISE,
+            Step::Begin,
+            VOTE,
+            Step::Seal,
+        ],
+        13,
+    ),
+];
+
+/// Steps behind the last, which a record that stopped refuses.
+const REFUSED: &[Step] = &[Step::Begin, Step::Round(9), Step::Promise(9, 9), Step::Seal];
 
 fn act<D: Disk>(
     rt: &impl Abort,
@@ -71,8 +109,8 @@ fn act<D: Disk>(
 }
 
 fn take<D: Disk>(rt: &impl Abort, alloc: Global, record: &mut Record<D>, steps: &[Step]) {
-    for one in steps {
-        assert_eq!(rt; act(rt, alloc, record, *one), Ok(()), "{one:?}");
+    for &one in steps {
+        assert_eq!(rt; act(rt, alloc, record, one), Ok(()), "{one:?}");
     }
 }
 
@@ -92,7 +130,7 @@ fn seal_three<D: Disk>(
     record: &mut Record<D>,
     sealed: Result<(), RecordFault>,
 ) {
-    take(rt, alloc, record, &THREE);
+    take(rt, alloc, record, THREE);
     tells(rt, record, true);
     assert_eq!(rt; record.seal(), sealed);
     tells(rt, record, true);
@@ -101,7 +139,7 @@ fn seal_three<D: Disk>(
 /// A record that stopped takes nothing more.
 fn is_over<D: Disk>(rt: &impl Abort, alloc: Global, record: &mut Record<D>) {
     assert!(rt; record.is_stopped());
-    for one in [Step::Begin, Step::Round(9), Step::Promise(9, 9), Step::Seal] {
+    for &one in REFUSED {
         let taken = act(rt, alloc, record, one);
         assert_eq!(rt; taken, Err(RecordFault::Stopped), "{one:?}");
     }
@@ -119,19 +157,22 @@ fn seal_armed<D: Armed>(rt: &impl Abort, alloc: Global, record: &mut Record<D>, 
     }
 }
 
-fn crash(rt: &impl Abort, alloc: Global, row: (u32, u8, u64, bool)) {
+fn crash(rt: &impl Abort, alloc: Global, row: (u32, Option<u8>, u64, bool)) {
     let (calls, choice, length, all) = row;
     let mut record = empty(rt, alloc);
     seal_armed(rt, alloc, &mut record, calls);
     let mut disk = record.close();
-    disk.crash(choice);
-    assert_eq!(rt; disk.len(), Ok(length), "{calls} {choice}");
+    match choice {
+        Some(choice) => disk.crash(choice),
+        None => disk.disarm(),
+    }
+    assert_eq!(rt; disk.len(), Ok(length), "{row:?}");
     tells(rt, &opened(rt, alloc, disk), all);
 }
 
 #[test]
 fn a_crash_after_each_call_of_a_seal_keeps_all_or_none(rt: HostRuntime) {
-    for row in CRASHES {
+    for &row in CRASHES {
         crash(&rt, rt.alloc(), row);
     }
 }
@@ -156,7 +197,7 @@ fn settles(rt: &impl Abort, alloc: Global, calls: u32, choice: u8, all: bool) {
 /// Whatever a crash chooses behind an opening, it keeps what that found.
 #[test]
 fn an_opening_settles_the_batch(rt: HostRuntime) {
-    for (calls, all) in SEALS {
+    for &(calls, all) in SEALS {
         for choice in [0, 1, 7] {
             settles(&rt, rt.alloc(), calls, choice, all);
         }
@@ -168,7 +209,7 @@ fn an_opening_settles_the_batch(rt: HostRuntime) {
 fn a_batch_that_is_not_sealed_is_lost(rt: HostRuntime) {
     let mut record = empty(&rt, rt.alloc());
     take(&rt, rt.alloc(), &mut record, &[Step::Begin]);
-    take(&rt, rt.alloc(), &mut record, &THREE);
+    take(&rt, rt.alloc(), &mut record, THREE);
     let mut disk = record.close();
     assert_eq!(rt; disk.len(), Ok(11));
     tells(&rt, &opened(&rt, rt.alloc(), disk), false);
@@ -200,30 +241,10 @@ fn holds<const N: usize>(rt: &impl Abort, disk: &mut MemDisk, wanted: [u8; N], c
 /// However a record's entries came there, its bytes are the same.
 #[test]
 fn batches_and_puts_write_the_same_bytes(rt: HostRuntime) {
-    let [round, promise, vote] = THREE;
-    let empty_batch = [Step::Begin, Step::Seal];
-    let all = [Step::Begin, round, promise, vote, Step::Seal];
-    let last = [round, Step::Begin, promise, vote, Step::Seal];
-    let first = [Step::Begin, round, Step::Begin, promise, Step::Seal, vote];
-    let each = [
-        Step::Begin,
-        round,
-        Step::Seal,
-        Step::Seal,
-        promise,
-        Step::Begin,
-        vote,
-        Step::Seal,
-    ];
-    for (steps, calls) in [
-        (&THREE[..], 13),
-        (&all[..], 5),
-        (&last[..], 9),
-        (&first[..], 9),
-        (&each[..], 13),
-    ] {
+    for &(steps, calls) in WRITERS {
         holds(&rt, &mut disk_behind(&rt, rt.alloc(), steps), RECORD, calls);
     }
+    let empty_batch = [Step::Begin, Step::Seal];
     let span = [Step::Begin, Step::Span(5, 3, 1), Step::Seal];
     holds(&rt, &mut disk_behind(&rt, rt.alloc(), &span), SPANNED, 5);
     assert_eq!(rt;
@@ -236,7 +257,7 @@ fn batches_and_puts_write_the_same_bytes(rt: HostRuntime) {
 #[test]
 fn a_batch_stands_for_its_entries(rt: HostRuntime) {
     let (cluster, node) = one_of_three(&rt, 2);
-    let steps = [Step::Begin, THREE[0], THREE[1], THREE[2], Step::Seal];
+    let steps = [Step::Begin, ROUND, PROMISE, VOTE, Step::Seal];
     let mut disk = disk_behind(&rt, rt.alloc(), &steps);
     let mut bytes = [0; 53];
     disk.read_at(0, &mut bytes).expect(&rt, "a read");

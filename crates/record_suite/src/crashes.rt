@@ -6,7 +6,7 @@ use std::alloc::Global;
 use std::process::Abort;
 
 /// How many calls pass, what the crash chooses, and then the file's length and round.
-const CRASHES: [(u32, u8, u64, u32); 15] = [
+const CRASHES: &[(u32, u8, u64, u32)] = &[
     (0, 0, 11, 0),
     (0, 1, 11, 0),
     (0, 7, 11, 0),
@@ -48,7 +48,7 @@ fn crash(rt: &impl Abort, alloc: Global, row: (u32, u8, u64, u32)) {
 
 #[test]
 fn a_crash_after_each_call_keeps_the_round_or_not(rt: HostRuntime) {
-    for row in CRASHES {
+    for &row in CRASHES {
         crash(&rt, rt.alloc(), row);
     }
 }

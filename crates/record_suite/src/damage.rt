@@ -12,7 +12,7 @@ use std::process::Abort;
 
 /// Worked out by hand: a place, a byte there, and of the history for which the record then stands, if it does, how many entries it has, the
 /// last round, and the value that is voted for at instance 1.
-const LISTED: [(usize, u8, Option<(usize, u32, &str)>); 12] = [
+const LISTED: &[(usize, u8, Option<(usize, u32, &str)>)] = &[
     (9, 0, None),
     (11, 1, None),
     (16, 1, Some((3, 16_777_217, "ab"))),
@@ -145,12 +145,15 @@ fn cut_at_each_byte(rt: &impl Abort, alloc: Global, bytes: &[u8], entries: &[Ent
     }
 }
 
-/// Also with the last entry's gate closed: what stands behind it isn't read.
+/// As a put of the last entry that was torn leaves it, a batch of the last two, one of all three, and whole.
+const GATES: &[(usize, u8)] = &[(35, 0), (20, 0), (10, 0), (35, 1)];
+
+/// What stands behind a closed gate isn't read, however many entries it is.
 #[test]
 fn a_record_cut_at_each_byte(rt: HostRuntime) {
     let entries = entries(&rt, rt.alloc()).expect(&rt, "memory");
-    for gate in [0, 1] {
-        let bytes = with_byte(rt.alloc(), &RECORD, 35, gate).expect(&rt, "memory");
+    for &(place, gate) in GATES {
+        let bytes = with_byte(rt.alloc(), &RECORD, place, gate).expect(&rt, "memory");
         cut_at_each_byte(&rt, rt.alloc(), &bytes, &entries);
     }
 }
@@ -202,7 +205,7 @@ fn is_such(history: &[Entry], count: usize, round: u32, value: &str) -> bool {
 
 /// The first row that is wrong.
 fn wrong_row(listed: &Listed<'_>) -> Option<(usize, u8)> {
-    for (place, byte, want) in LISTED {
+    for &(place, byte, want) in LISTED {
         let is_right = match (listed.at(place, byte), want) {
             (Some(history), Some((count, round, value))) => {
                 is_such(history, count, round, value)

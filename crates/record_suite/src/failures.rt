@@ -9,7 +9,7 @@ use std::alloc::Global;
 use std::process::Abort;
 
 /// How many calls of a put pass before one fails, and the round of the next opening, without a crash.
-const PUTS: [(u32, u32); 4] = [(0, 0), (1, 0), (2, 0), (3, 1)];
+const PUTS: &[(u32, u32)] = &[(0, 0), (1, 0), (2, 0), (3, 1)];
 
 /// A put whose call fails so, and one that is Stopped.
 fn fail_put(rt: &impl Abort, record: &mut Record<FailOnce<MemDisk>>, calls: u32) {
@@ -39,7 +39,7 @@ fn settles(rt: &impl Abort, alloc: Global, calls: u32, choice: u8, round: u32) {
 /// Whatever a crash chooses behind an opening, it keeps what that found.
 #[test]
 fn an_opening_settles_the_entry_in_flight(rt: HostRuntime) {
-    for (calls, round) in PUTS {
+    for &(calls, round) in PUTS {
         for choice in [0, 1, 7] {
             settles(&rt, rt.alloc(), calls, choice, round);
         }

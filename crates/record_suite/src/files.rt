@@ -1,5 +1,5 @@
-//! A record on a real file.
-use crate::samples::{ONE_ROUND, one_of_three, opened, put_round};
+//! A record on a real file. `tools/trace-put` shows the system's calls of these tests.
+use crate::samples::{ONE_ROUND, ballot, instance, one_of_three, opened, put_round, put_vote_for};
 use durable::Record;
 use site_disk::{Disk, FileDisk};
 use std::alloc::Global;
@@ -11,6 +11,11 @@ use std::test::Fail;
 const FOLDER: &str = "record_suite_files";
 
 const FILE: &str = "record_suite_files/record";
+
+const BATCH_FILE: &str = "record_suite_batch";
+
+/// How many votes the batch has.
+const VOTES: u32 = 64;
 
 /// The bytes of the file are these, as this handle reads them.
 fn has_bytes(rt: &impl Abort, file: &File, wanted: [u8; 21]) {
@@ -26,12 +31,17 @@ fn check_disk(rt: &impl Abort, disk: &mut FileDisk) {
     assert_eq!(rt; disk.failures(), 1);
 }
 
-/// A record on a new file takes a round, and the reader finds it while the record is open.
-fn keep_round(rt: &impl Abort, alloc: Global, file: File, reader: &File) {
+/// A record on a new file.
+fn made(rt: &impl Abort, alloc: Global, file: File) -> Record<FileDisk> {
     let (cluster, node) = one_of_three(rt, 2);
     let mut disk = FileDisk::new(file);
     Record::format(cluster, node, &mut disk).expect(rt, "a record");
-    let mut record = opened(rt, alloc, disk);
+    opened(rt, alloc, disk)
+}
+
+/// A record on a new file takes a round, and the reader finds it while the record is open.
+fn keep_round(rt: &impl Abort, alloc: Global, file: File, reader: &File) {
+    let mut record = made(rt, alloc, file);
     assert_eq!(rt; put_round(&mut record, 1), Ok(()));
     has_bytes(rt, reader, ONE_ROUND);
 }
@@ -58,5 +68,37 @@ fn a_real_file_keeps_the_record(rt: HostRuntime) -> Result<(), Fail> {
     assert_eq!(rt; file.metadata()?.len(), 21);
     find_round(&rt, rt.alloc(), file);
     fs::remove_dir_all(&rt, FOLDER)?;
+    Ok(())
+}
+
+/// A record on a new file takes a vote at each of so many instances, all in one batch.
+fn keep_votes(rt: &impl Abort, alloc: Global, file: File) {
+    let mut record = made(rt, alloc, file);
+    assert_eq!(rt; record.begin(), Ok(()));
+    for at in 1..=VOTES {
+        let vote = (instance(rt, at), ballot(rt, 1));
+        assert_eq!(rt;
+            put_vote_for(rt, alloc, &mut record, vote, b"value"),
+            Ok(())
+        );
+    }
+    assert_eq!(rt; record.seal(), Ok(()));
+}
+
+fn find_votes(rt: &impl Abort, alloc: Global, file: File) {
+    let record = opened(rt, alloc, FileDisk::new(file));
+    for at in 1..=VOTES {
+        assert!(rt; record.slot(instance(rt, at)).vote.is_some(), "{at}");
+    }
+}
+
+#[test]
+fn a_real_file_keeps_a_batch(rt: HostRuntime) -> Result<(), Fail> {
+    let _ = fs::remove_file(&rt, BATCH_FILE);
+    let mut anew = OpenOptions::new();
+    anew.read(true).write(true).create(true);
+    keep_votes(&rt, rt.alloc(), anew.open(&rt, BATCH_FILE)?);
+    find_votes(&rt, rt.alloc(), anew.open(&rt, BATCH_FILE)?);
+    fs::remove_file(&rt, BATCH_FILE)?;
     Ok(())
 }

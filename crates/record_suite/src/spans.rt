@@ -11,7 +11,7 @@ use std::alloc::{AllocError, Global};
 use std::process::Abort;
 
 /// How many calls of a put pass, what the crash chooses, and then the file's length and whether the promise is kept.
-const CRASHES: [(u32, u8, u64, bool); 15] = [
+const CRASHES: &[(u32, u8, u64, bool)] = &[
     (0, 0, 11, false),
     (0, 1, 11, false),
     (0, 7, 11, false),
@@ -224,7 +224,7 @@ fn crash(rt: &impl Abort, alloc: Global, row: (u32, u8, u64, bool)) {
 
 #[test]
 fn a_crash_after_each_call_keeps_the_span_or_not(rt: HostRuntime) {
-    for row in CRASHES {
+    for &row in CRASHES {
         crash(&rt, rt.alloc(), row);
     }
 }

@@ -15,12 +15,12 @@ use std::net::{Net, SocketAddr, TcpListener, TcpStream, UdpSocket};
 /// How many turns a node takes where all take turns.
 const TURNS: u32 = 20;
 
-/// The servers 1 to 3, in order.
+/// The servers 1 to 3, in order. Each is boxed, since what owns one is proved to let it go, and a box is let go of in one step.
 #[derive(Drop)]
 pub(crate) struct Servers {
-    first: Server,
-    second: Server,
-    third: Server,
+    first: Box<Server>,
+    second: Box<Server>,
+    third: Box<Server>,
 }
 
 /// The servers' sockets for datagrams, in order.
@@ -49,6 +49,13 @@ impl Sockets {
     }
 }
 
+fn boxed(alloc: Global, server: Server) -> Result<Box<Server>, ServerFault> {
+    match Box::new(alloc, server) {
+        Ok(server) => Ok(server),
+        Err(_) => Err(ServerFault::OutOfMemory),
+    }
+}
+
 /// The server of that number, over its socket. The p-th peer is the address of node p.
 fn open_server<N: Net<Listener = TcpListener, Stream = TcpStream>>(
     net: &N,
@@ -56,7 +63,7 @@ fn open_server<N: Net<Listener = TcpListener, Stream = TcpStream>>(
     number: u8,
     socket: UdpSocket,
     peers: &[SocketAddr],
-) -> Result<Server, ServerFault>
+) -> Result<Box<Server>, ServerFault>
     requires { IsNode SERVERS number }
 {
     let Some(cluster) = Cluster::new(SERVERS) else {
@@ -66,7 +73,8 @@ fn open_server<N: Net<Listener = TcpListener, Stream = TcpStream>>(
         unreachable!()
     };
     let peers = Vec::from_slice(alloc, peers)?;
-    Server::open(net, alloc, cluster, me, UdpLink::new(socket, peers))
+    let server = Server::open(net, alloc, cluster, me, UdpLink::new(socket, peers))?;
+    boxed(alloc, server)
 }
 
 impl Servers {

@@ -4,7 +4,7 @@ use std::process::Abort;
 
 /// How many values became known since the last question, whether that was just now, whether nothing waits, whether nobody tries a value, whether its time
 /// has passed; and whether a question is due.
-const QUESTIONS: [(u32, bool, bool, bool, bool, bool); 12] = [
+const QUESTIONS: &[(u32, bool, bool, bool, bool, bool)] = &[
     (0, true, false, false, false, false),
     (0, true, true, true, false, false),
     (0, false, false, false, true, true),
@@ -21,7 +21,7 @@ const QUESTIONS: [(u32, bool, bool, bool, bool, bool); 12] = [
 
 #[test]
 fn a_question_that_brought_news_is_followed_by_the_next(rt: HostRuntime) {
-    for (learned, quick, drained, calm, passed, due) in QUESTIONS {
+    for &(learned, quick, drained, calm, passed, due) in QUESTIONS {
         let asking = Asking {
             learned,
             quick,
@@ -34,7 +34,7 @@ fn a_question_that_brought_news_is_followed_by_the_next(rt: HostRuntime) {
 }
 
 /// Whether it is full, whether nobody tries a value, whether its time has passed, and whether it is due.
-const TELLINGS: [(bool, bool, bool, bool); 5] = [
+const TELLINGS: &[(bool, bool, bool, bool)] = &[
     (false, true, false, false),
     (false, false, true, false),
     (false, true, true, true),
@@ -44,7 +44,7 @@ const TELLINGS: [(bool, bool, bool, bool); 5] = [
 
 #[test]
 fn a_full_telling_comes_at_once(rt: HostRuntime) {
-    for (full, calm, passed, due) in TELLINGS {
+    for &(full, calm, passed, due) in TELLINGS {
         let telling = Telling { full, calm, passed };
         assert_eq!(rt; telling.is_due(), due, "{telling:?}");
     }

@@ -1,22 +1,20 @@
-//! What a patient server calls behind a turn.
+//! What a server calls behind the turns of a batch.
 use site_drive::LastCall;
 use site_ids::{Cluster, Instance, NodeId};
 use site_serve::Due;
 use std::process::Abort;
 
-/// What stands (fresh, a telling, a question, a tick, the first turn), and what is called: the first of them that applies; a telling where none is given.
-const CALLS: [(bool, bool, bool, bool, bool, Option<LastCall>); 11] = [
-    (false, false, false, false, false, Some(LastCall::Nothing)),
-    (false, false, false, false, true, Some(LastCall::Widen)),
-    (false, false, false, true, false, Some(LastCall::TickOrAsk)),
-    (false, false, false, true, true, Some(LastCall::TickOrAsk)),
-    (false, false, true, false, true, Some(LastCall::Ask)),
-    (false, false, true, true, false, Some(LastCall::Ask)),
-    (false, true, false, false, false, None),
-    (false, true, true, true, true, None),
-    (true, false, false, false, false, Some(LastCall::TickOrAsk)),
-    (true, false, true, true, true, Some(LastCall::TickOrAsk)),
-    (true, true, true, true, true, Some(LastCall::TickOrAsk)),
+/// What stands (fresh, a telling, a question, a tick), and what is called: the first of them that applies; a telling where none is given.
+const CALLS: [(bool, bool, bool, bool, Option<LastCall>); 9] = [
+    (false, false, false, false, Some(LastCall::Widen)),
+    (false, false, false, true, Some(LastCall::TickOrAsk)),
+    (false, false, true, false, Some(LastCall::Ask)),
+    (false, false, true, true, Some(LastCall::Ask)),
+    (false, true, false, false, None),
+    (false, true, true, true, None),
+    (true, false, false, false, Some(LastCall::TickOrAsk)),
+    (true, false, true, true, Some(LastCall::TickOrAsk)),
+    (true, true, true, true, Some(LastCall::TickOrAsk)),
 ];
 
 /// Node 2, and instance 7.
@@ -25,15 +23,14 @@ fn told() -> Option<(NodeId, Instance)> {
 }
 
 #[test]
-fn one_call_is_due_behind_a_turn(rt: HostRuntime) {
+fn one_call_is_due_behind_a_batch(rt: HostRuntime) {
     let (to, first_told) = told().expect(&rt, "a node and an instance");
-    for (fresh, telling, question, tick, first, call) in CALLS {
+    for (fresh, telling, question, tick, call) in CALLS {
         let due = Due {
             fresh,
             telling: telling.then_some((to, first_told)),
             question,
             tick,
-            first,
         };
         let tell = LastCall::Tell {
             to,

@@ -46,7 +46,7 @@ const WANTS_GET: Row = (
 );
 
 /// Paths of two releases, and what GET answers; HEAD answers the same without the body, and POST wants GET or HEAD.
-const PATHS: [(&str, Row); 20] = [
+const PATHS: &[(&str, Row)] = &[
     ("/h", LATER),
     ("/@1/h", FIRST),
     ("/@2/h", LATER),
@@ -73,7 +73,7 @@ const PATHS: [(&str, Row); 20] = [
 ];
 
 /// Paths that are kept for the server, and name nothing, whatever the method.
-const RESERVED: [&str; 27] = [
+const RESERVED: &[&str] = &[
     "/_",
     "/_submit",
     "/_submit/1",
@@ -134,8 +134,11 @@ fn check_path(
 
 fn check_paths(rt: &impl Abort, alloc: Global, desk: &mut Desk<'_>) {
     for (path, row) in PATHS {
-        check_path(rt, alloc, desk, path, row, WANTS_GET);
+        check_path(rt, alloc, desk, path, *row, WANTS_GET);
     }
+}
+
+fn check_reserved(rt: &impl Abort, alloc: Global, desk: &mut Desk<'_>) {
     for path in RESERVED {
         check_path(rt, alloc, desk, path, NOT_FOUND, NOT_FOUND);
     }
@@ -153,12 +156,13 @@ fn check_submissions(rt: &impl Abort, alloc: Global, desk: &mut Desk<'_>) {
 fn each_path_with_each_method(rt: HostRuntime) {
     let mut desk = open_desk(rt.alloc(), "Hi\n", 2);
     check_paths(&rt, rt.alloc(), &mut desk);
+    check_reserved(&rt, rt.alloc(), &mut desk);
     check_submissions(&rt, rt.alloc(), &mut desk);
     assert!(rt; desk.values.is_empty());
 }
 
 /// Paths where there is no release, and what GET answers where each ticket has a receipt.
-const UNRELEASED: [(&str, Row); 5] = [
+const UNRELEASED: &[(&str, Row)] = &[
     ("/h", NO_RELEASE),
     ("/@0/h", NO_RELEASE),
     ("/@1/h", NO_RELEASE),
@@ -167,7 +171,7 @@ const UNRELEASED: [(&str, Row); 5] = [
 ];
 
 fn check_unreleased(rt: &impl Abort, alloc: Global, desk: &mut Desk<'_>) {
-    for (path, row) in UNRELEASED {
+    for &(path, row) in UNRELEASED {
         check_path(rt, alloc, desk, path, row, WANTS_GET);
     }
 }

@@ -9,7 +9,7 @@ use std::process::Abort;
 /// What is sent, the response that may stand where memory was refused for the next one, and the end of what is written.
 type Row = (&'static str, &'static str, &'static str);
 
-const ROWS: [Row; 7] = [
+const ROWS: &[Row] = &[
     ("GET /h HTTP/1.1\r\nHost: a\r\n\r\n", "", "Hi\n"),
     ("HEAD /_newest HTTP/1.1\r\nHost: a\r\n\r\n", "", "\r\n\r\n"),
     (
@@ -88,7 +88,7 @@ fn tried_again(rt: &impl Abort, alloc: Global, desk: &mut Desk<'_>, row: Row) {
 #[test]
 fn connections(rt: HostRuntime) {
     let mut desk = open_desk(rt.alloc(), "Hi\n", 1);
-    for row in ROWS {
+    for &row in ROWS {
         tried_again(&rt, rt.alloc(), &mut desk, row);
     }
     assert!(rt; desk.values.is_empty());

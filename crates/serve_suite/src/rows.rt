@@ -19,7 +19,7 @@ const BAD: &str =
 const BAD_HEAD: &str =
     "HTTP/1.1 400 Bad Request\r\nContent-Type: text/plain; charset=utf-8\r\nContent-Length: 12\r\nConnection: close\r\n\r\n";
 
-const ROWS: [(&str, &str); 10] = [
+const ROWS: &[(&str, &str)] = &[
     ("GET /%68?x HTTP/1.1\r\nHost: a\r\n\r\n", PAGE),
     ("HEAD /%68?x HTTP/1.1\r\nHost: a\r\n\r\n", PAGE_HEAD),
     ("GET /h HTTP/1.0\r\n\r\n", LAST_PAGE),
@@ -43,7 +43,7 @@ const ROWS: [(&str, &str); 10] = [
 ];
 
 /// What stands behind `GET /h HTTP/1.1` and a Host line, and its refusal.
-const REFUSED: [(&str, Row); 5] = [
+const REFUSED: &[(&str, Row)] = &[
     (
         "Transfer-Encoding: gzip\r\n\r\n",
         ("400 Bad Request", PLAIN, "", "bad request\n"),
@@ -67,7 +67,7 @@ const REFUSED: [(&str, Row); 5] = [
 ];
 
 /// Heads that are too long, for 414 and for 431: what stands before 8,188 letters and behind them, and the refusal.
-const LONG: [(&str, &str, Row); 2] = [
+const LONG: &[(&str, &str, Row)] = &[
     (
         "GET /",
         "",
@@ -98,10 +98,10 @@ fn check_refused(
 }
 
 fn check_rows(rt: &impl Abort, alloc: Global, desk: &mut Desk<'_>) {
-    for (request, expected) in ROWS {
+    for &(request, expected) in ROWS {
         check(rt, alloc, desk, request, expected);
     }
-    for (behind, row) in REFUSED {
+    for &(behind, row) in REFUSED {
         let before = "GET /h HTTP/1.1\r\nHost: a\r\n";
         check_refused(rt, alloc, desk, before, behind, row);
     }
@@ -139,7 +139,7 @@ fn check_long(
 #[test]
 fn long_heads(rt: HostRuntime) {
     let mut desk = open_desk(rt.alloc(), "Hi\n", 1);
-    for (before, behind, row) in LONG {
+    for &(before, behind, row) in LONG {
         check_long(&rt, rt.alloc(), &mut desk, before, behind, row);
     }
 }

@@ -33,7 +33,7 @@ const BOTH_QUEUED: &[u8] =
     b"HTTP/1.1 202 Accepted\r\nContent-Type: text/plain; charset=utf-8\r\nContent-Length: 7\r\n\r\nqueued\nHTTP/1.1 202 Accepted\r\nContent-Type: text/plain; charset=utf-8\r\nContent-Length: 7\r\n\r\nqueued\n";
 
 /// What a client sends, what is written, and how it ends: a further request behind each closing one isn't answered.
-const ENDS: [(&str, &str, Result<(), ServeFault>); 8] = [
+const ENDS: &[(&str, &str, Result<(), ServeFault>)] = &[
     ("", "", Err(ServeFault::EndedEarly)),
     ("\r\n", "", Err(ServeFault::EndedEarly)),
     (
@@ -131,7 +131,7 @@ fn a_page_and_one_that_moved(rt: HostRuntime) {
 }
 
 fn check_ends(rt: &impl Abort, alloc: Global, desk: &mut Desk<'_>) {
-    for (sent, written, result) in ENDS {
+    for &(sent, written, result) in ENDS {
         let end = (result, written.as_bytes());
         reads(rt, alloc, desk, whole(sent.as_bytes()), end, (sent, 0));
     }

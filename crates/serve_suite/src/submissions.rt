@@ -22,7 +22,7 @@ const BUSY: Row = ("503 Service Unavailable", PLAIN, "", "busy\n");
 const STOPPED: Row = ("503 Service Unavailable", PLAIN, "", "stopped\n");
 
 /// Texts that are no command, and the line of their fault.
-const FAULTY: [(&str, &str); 13] = [
+const FAULTY: &[(&str, &str)] = &[
     ("", "2 Form\n"),
     ("release", "2 Form\n"),
     ("put nothing n\n", "2 Form\n"),
@@ -61,7 +61,7 @@ fn check_text(rt: &impl Abort, alloc: Global, desk: &mut Desk<'_>, text: &str, r
 }
 
 fn check_faults(rt: &impl Abort, alloc: Global, desk: &mut Desk<'_>) {
-    for (text, line) in FAULTY {
+    for &(text, line) in FAULTY {
         let row = ("422 Unprocessable Content", PLAIN, "", line);
         check_text(rt, alloc, desk, text, row);
     }

@@ -1,10 +1,8 @@
 -- Calls of a node, one after another.
 use Rattle.std.proofs.Common.{◌≡◌, ◌≢◌, inl, inr, ⊎_elim, ℕ, suc, List, [], ◌++◌, append-nil, append_assoc, refl, sym, ap, subst, ◌∙◌}
-use Rattle.site_ids.specs.Lists.{In}
 use Rattle.site_ids.proofs.MemberLemmas.{in_split}
 use Rattle.site_disk.specs.Model.{DiskState}
 use Rattle.wire.specs.declared.message.Message.{Message}
-use Rattle.wire.specs.Messages.{Fits}
 use Rattle.node.specs.declared.fault.NodeFault.{NodeFault}
 use Rattle.node.specs.declared.fault.NodeFault.TheVariants as fault
 use Rattle.node.specs.declared.to.To.{To}
@@ -17,14 +15,10 @@ use Rattle.node.specs.Effects.{Effect, quiet}
 use Rattle.node.specs.Endings.{Ending, Whole, Ends}
 use Rattle.node.specs.Standing.{IsNodeOf, IsEvent, KeepsOthers, ending_by}
 use Rattle.site_drive.specs.Drives.{Begin}
-use Rattle.site_drive.specs.Leading.{NodeLeads, Called}
+use Rattle.site_drive.specs.Leading.{AllFit, NodeLeads, Called}
 use Rattle.site_drive.specs.declared.last_call.LastCall.TheVariants.{TickOrAsk, Widen, Ask, Tell, Nothing}
 
--- what is handed out fits
-abbrev pub AllFit : List (To × Message) → Type 0
-AllFit out = (x : To × Message) → In out x → Fits x.1
-
-all_fit : (xs ys : List (To × Message)) → AllFit xs → AllFit ys → AllFit (xs ++ ys)
+pub all_fit : (xs ys : List (To × Message)) → AllFit xs → AllFit ys → AllFit (xs ++ ys)
 all_fit xs ys left right x k = ⊎_elim (λ a. left x a) (λ b. right x b) (in_split xs ys x k)
 
 -- one call ends so, from a node that the value stands for; what it hands out stands behind what was there
@@ -55,22 +49,32 @@ not_whole fault.Conflict e = cc
 
 module _ {D : Type 0} (stands_for : D → DiskState → Type 0) where
   pub eased : (old new : Running D) (How Other : Node → Node → Type 0) → ((s t : Node) → How s t → Other s t) → NodeLeads stands_for old new How → NodeLeads stands_for old new Other
-  eased old new How Other so h = record { leads = λ s stands. let r = h.leads s stands in (r.0, so s r.0 r.1, r.2, r.3) }
+  eased old new How Other so h = record { leads = λ s stands. let r = h.leads s stands in (r.0, so s r.0 r.1, r.2, r.3, r.4) }
+
+  -- where nothing waited, what is handed out is all that does
+  pub alone : (old new : Running D) (before after : List (To × Message)) (How : List (To × Message) → Node → Node → Type 0) → before ≡ []
+      → NodeLeads stands_for old new (λ s next. (out : List (To × Message)) × (after ≡ before ++ out) × How out s next × AllFit out)
+      → NodeLeads stands_for old new (λ s next. How after s next × AllFit after)
+  alone old new before after How empty h =
+      eased old new (λ s next. (out : List (To × Message)) × (after ≡ before ++ out) × How out s next × AllFit out) (λ s next. How after s next × AllFit after)
+      (λ s next r.
+      let out : r.0 ≡ after = sym (r.1 ∙ ap (λ l. l ++ r.0) empty) in
+      (subst (λ l. How l s next) out r.2, subst AllFit out r.3)) h
 
   one_call : (old new : Running D) (call : Call) (ending : Ending) (before after : List (To × Message)) → IsEvent stands_for old new call ending before after
       → NodeLeads stands_for old new (Calls old old.cluster old.me call ending before after)
   one_call old new call ending before after event = record {
     leads = λ s stands.
         let h = event.leads s stands in
-        (h.next, (stands, (h.out, h.outbox, h.ends, λ x k. (h.messages x k).fits)), h.stands, λ d on. let e = h.on_disk d on in (e.0, e.1));
+        (h.next, (stands, (h.out, h.outbox, h.ends, λ x k. (h.messages x k).fits)), h.stands, (λ d on. let e = h.on_disk d on in (e.0, e.1)), h.ahead);
   }
 
   pub none_begun : (old : Running D) (n p : ℕ) (before : List (To × Message)) → NodeLeads stands_for old old (Widening n p before before)
-  none_begun old n p before = record { leads = λ s stands. (s, (0, [], sym (append-nil before), (refl, refl), λ x k. absurd k), stands, λ d on. (d, on)) }
+  none_begun old n p before = record { leads = λ s stands. (s, (0, [], sym (append-nil before), (refl, refl), λ x k. absurd k), stands, (λ d on. (d, on)), λ b d of. of) }
 
   -- behind turns that nothing is called behind
   pub none_called : (old : Running D) (n p : ℕ) (before : List (To × Message)) → NodeLeads stands_for old old (Called Nothing n p Whole before before)
-  none_called old n p before = record { leads = λ s stands. (s, ([], sym (append-nil before), (refl, refl, refl), λ x k. absurd k), stands, λ d on. (d, on)) }
+  none_called old n p before = record { leads = λ s stands. (s, ([], sym (append-nil before), (refl, refl, refl), λ x k. absurd k), stands, (λ d on. (d, on)), λ b d of. of) }
 
   -- ---- this and then that, of one node
 
@@ -85,7 +89,7 @@ module _ {D : Type 0} (stands_for : D → DiskState → Type 0) where
           leads = λ s stands.
               let a = first.leads s stands in
               let b = of_same.leads a.0 a.2 in
-              (b.0, joins s a.0 b.0 a.1 b.1, b.2, λ d on. let e = a.3 d on in b.3 e.0 e.1);
+              (b.0, joins s a.0 b.0 a.1 b.1, b.2, (λ d on. let e = a.3 d on in b.3 e.0 e.1), λ base d of. b.4 base d (a.4 base d of));
         }
 
     module _ (before between after : List (To × Message)) where

@@ -13,10 +13,10 @@ use Rattle.node.specs.Effects.{Effect, quiet}
 use Rattle.node.specs.Endings.{Ending, Whole, Refused, Failed, Ends}
 use Rattle.node.specs.Standing.{ending_by}
 use Rattle.site_drive.specs.Drives.{Begin, Widens, EndsLast, EndsTurns, sent_of, Scene, Exchanges, GivesUp, Closes, GivesUpLast, DrivesWith, GivesUpDrivingWith}
-use Rattle.site_drive.specs.Leading.{NodeLeads, Called, LeadsTo, StaysWhose}
+use Rattle.site_drive.specs.Leading.{AllFit, NodeLeads, Called, LeadsTo, StaysWhose}
 use Rattle.site_drive.specs.declared.last_call.LastCall.{LastCall}
 use Rattle.site_drive.specs.declared.last_call.LastCall.TheVariants.{TickOrAsk, Widen, Ask, Tell, Nothing}
-use Rattle.site_drive.proofs.Calling.{AllFit, eased}
+use Rattle.site_drive.proofs.Calling.{eased}
 use Rattle.site_drive.proofs.ManyTurns.{leads_on, of_same}
 
 -- ---- the calls
@@ -25,22 +25,14 @@ module _ {D : Type 0} (stands_for : D → DiskState → Type 0) (old new : Runni
   abbrev pub Ended : Ending → Type 0
   Ended ending = NodeLeads stands_for old new (Called last old.cluster old.me ending before after)
 
-  -- where nothing waited to be sent, what they hand out is all that does
-  all_of : before ≡ [] → (ending : Ending) → Ended ending → NodeLeads stands_for old new (λ s next. EndsLast last old.cluster old.me s ending after next × AllFit after)
-  all_of empty ending h =
-      eased stands_for old new (Called last old.cluster old.me ending before after) (λ s next. EndsLast last old.cluster old.me s ending after next × AllFit after)
-      (λ s next r.
-      let out : r.0 ≡ after = sym (r.1 ∙ ap (λ l. l ++ r.0) empty) in
-      (subst (λ l. EndsLast last old.cluster old.me s ending l next) out r.2, subst AllFit out r.3)) h
-
   abbrev pub EndedTurns : Type 0
-  EndedTurns = NodeLeads stands_for old new (λ s next. EndsTurns last old.cluster old.me s after next × AllFit after)
+  EndedTurns = NodeLeads stands_for old new (λ s next. (out : List (To × Message)) × (after ≡ before ++ out) × EndsTurns last old.cluster old.me s out next × AllFit out)
 
-  pub whole : before ≡ [] → Ended Whole → EndedTurns
-  whole empty h = eased stands_for old new _ _ (λ s next r. (inl r.0, r.1)) (all_of empty Whole h)
+  pub whole : Ended Whole → EndedTurns
+  whole h = eased stands_for old new (Called last old.cluster old.me Whole before after) _ (λ s next r. (r.0, r.1, inl r.2, r.3)) h
 
-  pub used_up : before ≡ [] → Ended (Refused InstancesUsedUp) → EndedTurns
-  used_up empty h = eased stands_for old new _ _ (λ s next r. (inr r.0, r.1)) (all_of empty (Refused InstancesUsedUp) h)
+  pub used_up : Ended (Refused InstancesUsedUp) → EndedTurns
+  used_up h = eased stands_for old new (Called last old.cluster old.me (Refused InstancesUsedUp) before after) _ (λ s next r. (r.0, r.1, inr r.2, r.3)) h
 
   pub refused : (why : NodeFault) → Ended (ending_by why) → NodeLeads stands_for old new (λ s next. (out : List (To × Message)) × EndsLast last old.cluster old.me s (ending_by why) out next)
   refused why h = eased stands_for old new _ _ (λ s next r. (r.0, r.2)) h
@@ -128,11 +120,11 @@ last_knows Ask n p s next ending out asks = same_known n p s next ask ending out
 last_knows (Tell q i) n p s next ending out tells = same_known n p s next (tell (One q) i) ending out (λ effect how. ap (λ (e : Effect). e.after.known) how) tells
 last_knows Nothing n p s next ending out none = ap (λ (t : Node). t.known) none.2
 
-known_stays : (last : LastCall) (n p : ℕ) (s next : Node) (out : List (To × Message)) → EndsTurns last n p s out next → next.known ≡ s.known
+pub known_stays : (last : LastCall) (n p : ℕ) (s next : Node) (out : List (To × Message)) → EndsTurns last n p s out next → next.known ≡ s.known
 known_stays last n p s next out (inl h) = last_knows last n p s next Whole out h
 known_stays last n p s next out (inr h) = last_knows last n p s next (Refused InstancesUsedUp) out h
 
-prefix_stays : (s next : Node) (fed : List (List ℕ)) → next.known ≡ s.known → IsKnownPrefix s fed → IsKnownPrefix next fed
+pub prefix_stays : (s next : Node) (fed : List (List ℕ)) → next.known ≡ s.known → IsKnownPrefix s fed → IsKnownPrefix next fed
 prefix_stays s next fed same h = record {
   begins = λ k v got. ap (λ f. f (suc k)) same ∙ h.begins k v got;
   gap = ap (λ f. f (suc (length fed))) same ∙ h.gap;

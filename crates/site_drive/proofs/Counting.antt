@@ -22,3 +22,10 @@ counted_on k l m i j o first second = record {
   here = rose_on first.calls second.calls k l m first.here second.here;
   there = rose_on first.calls second.calls i j o first.there second.there;
 }
+
+-- one's own count began at none
+pub told_by : (mine i o : ℕ) → Counted 0 mine i o → RoseBy mine i o
+told_by mine i o c fits =
+    let own : mine ≡ min (0 + c.calls) (2 ^ 64 - 1) = c.here (omega arith) in
+    let links : o ≡ min (i + c.calls) (2 ^ 64 - 1) = c.there fits in
+    omega (arith, own, links, fits)

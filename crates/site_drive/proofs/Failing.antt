@@ -1,9 +1,9 @@
 -- Failures of the device, over many calls.
-use Rattle.std.proofs.Common.{◌≡◌, ℕ, Result, Ok, Err, sym, ap, subst, ◌∙◌}
+use Rattle.std.proofs.Common.{◌≡◌, ◌⊎◌, ⊎_elim, ℕ, Result, Ok, Err, sym, ap, subst, ◌∙◌}
 use Rattle.std.specs.Result.{IsErrAnd}
 use Rattle.durable.specs.declared.record.Record.{Record}
 use Rattle.node.specs.declared.fault.NodeFault.{NodeFault}
-use Rattle.node.specs.declared.fault.NodeFault.TheVariants.{Device, OutOfMemory}
+use Rattle.node.specs.declared.fault.NodeFault.TheVariants.{Device, OutOfMemory, Stopped}
 use Rattle.node.specs.Standing.{CountsDevice}
 
 one_fault : {T : Type 0} (x y : NodeFault) → ◌≡◌ {A = Result T NodeFault} (Err x) (Err y) → x ≡ y
@@ -14,6 +14,9 @@ fine x e = cc
 
 other : OutOfMemory ≡ Device → ⊥
 other e = cc
+
+running : Stopped ≡ Device → ⊥
+running e = cc
 
 -- nothing was counted where no fault came
 pub none_failed : {T : Type 0} (x : T) (before now : ℕ) → CountsDevice {T = T} (Ok x) before now → now ≡ before
@@ -41,6 +44,18 @@ none_of fault cause before now is apart c = c.none (λ e. apart (sym is ∙ one_
 pub memory_alone : {T : Type 0} (r : Result T NodeFault) (fault : NodeFault) (before now : ℕ) → IsErrAnd r (λ y. y ≡ fault) → fault ≡ OutOfMemory → now ≡ before → CountsDevice r before now
 memory_alone (Ok x) fault before now is memory same = absurd is
 memory_alone (Err y) fault before now is memory same = record { counted = λ e. absurd (other (sym memory ∙ (sym is ∙ one_fault y Device e))); none = λ _. same }
+
+-- and behind the fault as before it
+pub counts_before : {T : Type 0} (r : Result T NodeFault) (before mid now : ℕ) → now ≡ mid → CountsDevice r before mid → CountsDevice r before now
+counts_before r before mid now same c = subst (λ k. CountsDevice r before k) (sym same) c
+
+-- a cause that no device has
+pub no_device : {T : Type 0} (r : Result T NodeFault) (fault : NodeFault) (before now : ℕ) → IsErrAnd r (λ y. y ≡ fault) → ((fault ≡ Stopped) ⊎ (fault ≡ OutOfMemory)) → now ≡ before → CountsDevice r before now
+no_device (Ok x) fault before now is causes same = absurd is
+no_device (Err y) fault before now is causes same = record {
+  counted = λ e. ⊎_elim (λ stopped. absurd (running (sym stopped ∙ (sym is ∙ one_fault y Device e)))) (λ memory. absurd (other (sym memory ∙ (sym is ∙ one_fault y Device e)))) causes;
+  none = λ _. same;
+}
 
 -- a record that stays has counted nothing
 pub store_kept : {D : Type 0} (failed : D → ℕ) (old new : Record D) → new ≡ old → failed new.disk ≡ failed old.disk

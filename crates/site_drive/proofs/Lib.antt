@@ -6,4 +6,6 @@ pub mod Turning
 pub mod ManyTurns
 pub mod Calling
 pub mod Closing
+pub mod Batching
+pub mod Sealing
 pub mod Failing

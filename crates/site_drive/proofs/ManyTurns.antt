@@ -13,7 +13,7 @@ use Rattle.node.specs.Nodes.{Node}
 use Rattle.site_drive.specs.Drives.{Heard, TakesAll, datagrams, addressed, sent_of, Scene, Exchanges, GivesUp}
 use Rattle.site_drive.specs.Leading.{LeadsTo, StaysWhose}
 
-takes_on : (n p : ℕ) (s mid next : Node) (hs ks : List Heard) (a b : ℕ) (first later : List (To × Message))
+pub takes_on : (n p : ℕ) (s mid next : Node) (hs ks : List Heard) (a b : ℕ) (first later : List (To × Message))
     → TakesAll n p s hs a first mid → TakesAll n p mid ks b later next → TakesAll n p s (hs ++ ks) (a + b) (first ++ later) next
 takes_on n p s mid next [] ks a b first later (none, empty, same) more =
     subst (λ k. TakesAll n p s ks (k + b) (first ++ later) next) (sym none)
@@ -29,7 +29,7 @@ datagrams_on [] ks = refl
 datagrams_on (None ∷ hs) ks = datagrams_on hs ks
 datagrams_on (Some d ∷ hs) ks = ap (λ l. d ∷ l) (datagrams_on hs ks)
 
-received_on : (ds es fs : List (List ℕ)) (hs ks : List Heard) → es ≡ ds ++ datagrams hs → fs ≡ es ++ datagrams ks → fs ≡ ds ++ datagrams (hs ++ ks)
+pub received_on : (ds es fs : List (List ℕ)) (hs ks : List Heard) → es ≡ ds ++ datagrams hs → fs ≡ es ++ datagrams ks → fs ≡ ds ++ datagrams (hs ++ ks)
 received_on ds es fs hs ks first then =
     then ∙ ap (λ l. l ++ datagrams ks) first ∙ append_assoc ds (datagrams hs) (datagrams ks) ∙ ap (λ l. ds ++ l) (sym (datagrams_on hs ks))
 

@@ -1,13 +1,11 @@
 -- One turn: what was heard, what the node does with it, and what is sent.
-use Rattle.std.proofs.Common.{◌≡◌, ◌⊎◌, inl, inr, ⊎_elim, ℕ, zero, suc, ◌+◌, ◌≤◌, ◌<◌, Option, Some, None, List, [], ◌∷◌, ◌++◌, length, take, refl, sym, ap, subst, ◌∙◌, append-nil, arith}
+use Rattle.std.proofs.Common.{◌≡◌, ◌⊎◌, inl, inr, ⊎_elim, ℕ, zero, suc, ◌+◌, ◌≤◌, ◌<◌, Option, Some, None, List, [], ◌∷◌, ◌++◌, length, take, refl, sym, ap, subst, append-nil, arith}
 use Rattle.std.specs.Prelude.{IfSome, IfNone}
 use Rattle.std.proofs.lemmas.List.{length-take}
 use Rattle.std.proofs.Math.Seq.{take-append_seam}
-use Rattle.site_ids.specs.Lists.{In}
 use Rattle.site_disk.specs.Model.{DiskState}
 use Rattle.wire.specs.declared.TheConstants.{MAX_MESSAGE}
 use Rattle.wire.specs.declared.message.Message.{Message}
-use Rattle.wire.specs.Messages.{Fits}
 use Rattle.wire.specs.Decoding.{Spells}
 use Rattle.wire.proofs.LengthLemmas.{longest_spelling}
 use Rattle.node.specs.declared.fault.NodeFault.{NodeFault}
@@ -20,7 +18,7 @@ use Rattle.node.specs.Endings.{Whole, Ends}
 use Rattle.node.specs.Standing.{IsNodeOf, IsOnDisk, IsEvent, ending_by}
 use Rattle.site_drive.proofs.Giving.{take_past}
 use Rattle.site_drive.specs.Drives.{Heard, Takes, datagrams, sent_of, Exchanges, BreaksOff, GivesUp}
-use Rattle.site_drive.specs.Leading.{NodeLeads, LeadsTo, IsHeldAs}
+use Rattle.site_drive.specs.Leading.{AllFit, NodeLeads, LeadsTo, IsHeldAs}
 
 -- ---- what was heard
 
@@ -58,6 +56,10 @@ module _ (n k : ℕ) (d : List ℕ) (room : k ≡ MAX_MESSAGE + 1) where
 
 -- ---- a delivery
 
+-- what was heard is taken; what is handed out waits behind what was there
+abbrev pub TakesIn : ℕ → ℕ → Heard → ℕ → List (To × Message) → List (To × Message) → Node → Node → Type 0
+TakesIn n p h malformed before after s next = (out : List (To × Message)) × (after ≡ before ++ out) × Takes n p s h malformed out next × AllFit out
+
 pub nothing_out : (n p : ℕ) (s next : Node) (call : Call) (out : List (To × Message)) (why : NodeFault) → Ends n p s call (ending_by why) out next → out ≡ []
 nothing_out n p s next call out fault.OutOfMemory h = h.nothing
 nothing_out n p s next call out fault.Device h = h.nothing
@@ -71,21 +73,12 @@ nothing_out n p s next call out fault.Conflict h = h.nothing
 pub none_out : (n p : ℕ) (s next : Node) (call : Call) (out : List (To × Message)) (why : NodeFault) → Ends n p s call (ending_by why) out next → Ends n p s call (ending_by why) [] next
 none_out n p s next call out why h = subst (λ l. Ends n p s call (ending_by why) l next) (nothing_out n p s next call out why h) h
 
-module _ {D : Type 0} (stands_for : D → DiskState → Type 0) (old new : Running D) (bytes : List ℕ) (m : Message) (before after : List (To × Message)) (spells : Spells old.cluster bytes m) (empty : before ≡ []) where
-  pub taken : IsEvent stands_for old new (deliver m) Whole before after
-      → NodeLeads stands_for old new (λ s next. Takes old.cluster old.me s (Some bytes) 0 after next × ((x : To × Message) → In after x → Fits x.1))
+module _ {D : Type 0} (stands_for : D → DiskState → Type 0) (old new : Running D) (bytes : List ℕ) (m : Message) (before after : List (To × Message)) (spells : Spells old.cluster bytes m) where
+  pub taken : IsEvent stands_for old new (deliver m) Whole before after → NodeLeads stands_for old new (TakesIn old.cluster old.me (Some bytes) 0 before after)
   taken event = record {
     leads = λ s stands.
         let h = event.leads s stands in
-        let out : h.out ≡ after = sym (h.outbox ∙ ap (λ l. l ++ h.out) empty) in (
-          h.next,
-          (
-            inl (m, spells, subst (λ l. Ends old.cluster old.me s (deliver m) Whole l h.next) out h.ends, refl),
-            λ x k. (h.messages x (subst (λ l. In l x) (sym out) k)).fits,
-          ),
-          h.stands,
-          λ d on. let e = h.on_disk d on in (e.0, e.1),
-        );
+        (h.next, (h.out, h.outbox, inl (m, spells, h.ends, refl), λ x k. (h.messages x k).fits), h.stands, (λ d on. let e = h.on_disk d on in (e.0, e.1)), h.ahead);
   }
 
   pub broken : (why : NodeFault) → IsEvent stands_for old new (deliver m) (ending_by why) before after
@@ -96,21 +89,22 @@ module _ {D : Type 0} (stands_for : D → DiskState → Type 0) (old new : Runni
           h.next,
           (m, spells, inl (none_out old.cluster old.me s h.next (deliver m) h.out why h.ends)),
           h.stands,
-          λ d on. let e = h.on_disk d on in (e.0, e.1),
+          (λ d on. let e = h.on_disk d on in (e.0, e.1)),
+          h.ahead,
         );
   }
 
 -- nothing was delivered
-pub passed : {D : Type 0} (stands_for : D → DiskState → Type 0) (old : Running D) (bytes : List ℕ) (out : List (To × Message)) → out ≡ [] → ((m : Message) → ¬ Spells old.cluster bytes m)
-    → NodeLeads stands_for old old (λ s next. Takes old.cluster old.me s (Some bytes) 1 out next × ((x : To × Message) → In out x → Fits x.1))
-passed stands_for old bytes out empty none = record {
-  leads = λ s stands. (s, (inr (none, refl, empty, refl), λ x k. absurd (subst (λ l. In l x) empty k)), stands, λ d on. (d, on));
+pub passed : {D : Type 0} (stands_for : D → DiskState → Type 0) (old : Running D) (bytes : List ℕ) (waits : List (To × Message)) → ((m : Message) → ¬ Spells old.cluster bytes m)
+    → NodeLeads stands_for old old (TakesIn old.cluster old.me (Some bytes) 1 waits waits)
+passed stands_for old bytes waits none = record {
+  leads = λ s stands. (s, ([], sym (append-nil waits), inr (none, refl, refl, refl), λ x k. absurd k), stands, (λ d on. (d, on)), λ b d of. of);
 }
 
 -- memory was wanted to read it
 pub unread : {D : Type 0} (stands_for : D → DiskState → Type 0) (old : Running D) (bytes : List ℕ) → ((m : Message) × Spells old.cluster bytes m)
     → NodeLeads stands_for old old (λ s next. BreaksOff old.cluster old.me s bytes fault.OutOfMemory next)
-unread stands_for old bytes some = record { leads = λ s stands. (s, (some.0, some.1, inr (refl, refl)), stands, λ d on. (d, on)) }
+unread stands_for old bytes some = record { leads = λ s stands. (s, (some.0, some.1, inr (refl, refl)), stands, (λ d on. (d, on)), λ b d of. of) }
 
 -- whatever the buffer kept of what was heard
 module _ {D : Type 0} (stands_for : D → DiskState → Type 0) (old new : Running D) (buffer : List ℕ) (room : length buffer ≡ MAX_MESSAGE + 1) (k n p : ℕ) where
@@ -119,14 +113,13 @@ module _ {D : Type 0} (stands_for : D → DiskState → Type 0) (old new : Runni
   takes_heard s next d malformed out is (inl h) = inl (h.0, spells_whole n (length buffer) d room h.0 (subst (λ b. Spells n b h.0) is h.1), h.2, h.3)
   takes_heard s next d malformed out is (inr h) = inr (λ m spells. h.0 m (subst (λ b. Spells n b m) (sym is) (spells_cut n (length buffer) d room m spells)), h.1, h.2, h.3)
 
-  pub took_some : (malformed : ℕ) (out : List (To × Message))
-      → NodeLeads stands_for old new (λ s next. Takes n p s (Some (take k buffer)) malformed out next × ((x : To × Message) → In out x → Fits x.1))
-      → (h : Heard) → IsHeldAs (Some k) buffer h → NodeLeads stands_for old new (λ s next. Takes n p s h malformed out next × ((x : To × Message) → In out x → Fits x.1))
-  took_some malformed out leads None is = absurd is
-  took_some malformed out leads (Some d) is = record {
+  pub took_some : (malformed : ℕ) (before after : List (To × Message)) → NodeLeads stands_for old new (TakesIn n p (Some (take k buffer)) malformed before after)
+      → (h : Heard) → IsHeldAs (Some k) buffer h → NodeLeads stands_for old new (TakesIn n p h malformed before after)
+  took_some malformed before after leads None is = absurd is
+  took_some malformed before after leads (Some d) is = record {
     leads = λ s stands.
         let r = leads.leads s stands in
-        (r.0, (takes_heard s r.0 d malformed out is r.1.0, r.1.1), r.2, r.3);
+        (r.0, (r.1.0, r.1.1, takes_heard s r.0 d malformed r.1.0 is r.1.2, r.1.3), r.2, r.3, r.4);
   }
 
   pub broke_some : (why : NodeFault) → NodeLeads stands_for old new (λ s next. BreaksOff n p s (take k buffer) why next)
@@ -136,13 +129,13 @@ module _ {D : Type 0} (stands_for : D → DiskState → Type 0) (old new : Runni
     leads = λ s stands.
         let r = leads.leads s stands in
         let o = r.1 in
-        (r.0, (d, refl, (o.0, spells_whole n (length buffer) d room o.0 (subst (λ b. Spells n b o.0) is o.1), o.2)), r.2, r.3);
+        (r.0, (d, refl, (o.0, spells_whole n (length buffer) d room o.0 (subst (λ b. Spells n b o.0) is o.1), o.2)), r.2, r.3, r.4);
   }
 
-pub took_none : {D : Type 0} (stands_for : D → DiskState → Type 0) (old : Running D) (n p : ℕ) (out : List (To × Message)) (buffer : List ℕ) → out ≡ [] → (h : Heard) → IsHeldAs None buffer h
-    → NodeLeads stands_for old old (λ s next. Takes n p s h 0 out next × ((x : To × Message) → In out x → Fits x.1))
-took_none stands_for old n p out buffer empty None is = record { leads = λ s stands. (s, ((refl, empty, refl), λ x k. absurd (subst (λ l. In l x) empty k)), stands, λ d on. (d, on)) }
-took_none stands_for old n p out buffer empty (Some d) is = absurd is
+pub took_none : {D : Type 0} (stands_for : D → DiskState → Type 0) (old : Running D) (n p : ℕ) (waits : List (To × Message)) (buffer : List ℕ) (h : Heard) → IsHeldAs None buffer h
+    → NodeLeads stands_for old old (TakesIn n p h 0 waits waits)
+took_none stands_for old n p waits buffer None is = record { leads = λ s stands. (s, ([], sym (append-nil waits), (refl, refl, refl), λ x k. absurd k), stands, (λ d on. (d, on)), λ b d of. of) }
+took_none stands_for old n p waits buffer (Some d) is = absurd is
 
 -- ---- a turn
 
@@ -152,7 +145,7 @@ module _ {D L : Type 0} (stands_for : D → DiskState → Type 0) (received : L 
     (keeps_given : (gs : List (ℕ × List ℕ)) → given before gs → given heard_by gs)
   where
     abbrev Took : Type 0
-    Took = (h : Heard) → IsHeldAs came buffer h → NodeLeads stands_for old mid (λ s next. Takes n p s h malformed out next × ((x : To × Message) → In out x → Fits x.1))
+    Took = (h : Heard) → IsHeldAs came buffer h → NodeLeads stands_for old mid (λ s next. Takes n p s h malformed out next × AllFit out)
 
     -- the node publishes, and this is sent
     module _ (took : Took) (new : Running D) (after : L) (same : (s : Node) → IsNodeOf mid s → IsNodeOf new s)
@@ -160,7 +153,7 @@ module _ {D L : Type 0} (stands_for : D → DiskState → Type 0) (received : L 
         (keeps_received : (ds : List (List ℕ)) → received heard_by ds → received after ds)
       where
         pub turned : ((s : Node) → IsNodeOf mid s → IsKnownPrefix s new.releases)
-            → (((x : To × Message) → In out x → Fits x.1) → (gs : List (ℕ × List ℕ)) → given heard_by gs → given after (gs ++ sent_of n out))
+            → (AllFit out → (gs : List (ℕ × List ℕ)) → given heard_by gs → given after (gs ++ sent_of n out))
             → LeadsTo stands_for received given old new before after (Exchanges n p 1 malformed new.releases)
         turned fed sends = record {
           leads = λ x at.
@@ -183,7 +176,7 @@ module _ {D L : Type 0} (stands_for : D → DiskState → Type 0) (received : L 
 
         -- or memory is wanted for it
         pub turned_short : (why : NodeFault) → why ≡ fault.OutOfMemory
-            → (((x : To × Message) → In out x → Fits x.1) → (gs : List (ℕ × List ℕ)) → given heard_by gs → (k : ℕ) × given after (gs ++ take k (sent_of n out)))
+            → (AllFit out → (gs : List (ℕ × List ℕ)) → given heard_by gs → (k : ℕ) × given after (gs ++ take k (sent_of n out)))
             → LeadsTo stands_for received given old new before after (GivesUp n p 1 why)
         turned_short why is sends = record {
           leads = λ x at.

@@ -6,23 +6,28 @@ use Rattle.wire.specs.declared.message.Message.{Message}
 use Rattle.wire.specs.Messages.{Fits}
 use Rattle.node.specs.declared.running.Node.{Node as Running}
 use Rattle.node.specs.declared.to.To.{To}
+use Rattle.node.specs.Ahead.{StaysAhead}
 use Rattle.node.specs.Endings.{Ending}
 use Rattle.node.specs.Nodes.{Node}
 use Rattle.node.specs.Standing.{IsNodeOf, IsOnDisk}
 use Rattle.site_drive.specs.Drives.{Heard, Scene, EndsLast}
 use Rattle.site_drive.specs.declared.last_call.LastCall.{LastCall}
 
+-- what is handed out fits a datagram
+abbrev pub AllFit : List (To × Message) → Type 0
+AllFit out = (x : To × Message) → In out x → Fits x.1
+
 -- what the disk keeps of one node it keeps of the next
 abbrev pub KeepsRecord : {D : Type 0} → (D → DiskState → Type 0) → Running D → Running D → Node → Node → Type 0
 KeepsRecord stands_for old new s next = (d : DiskState) → IsOnDisk stands_for old s d → (e : DiskState) × IsOnDisk stands_for new next e
 
--- from each node that the old value stands for, this leads to one that the new value stands for
+-- From each node that the old value stands for, this leads to one that the new value stands for, on the disk as before or, while a batch is open, ahead of it
 pub record NodeLeads {D : Type 0} (stands_for : D → DiskState → Type 0) (old new : Running D) (How : Node → Node → Type 0) : Type 0 where
-  pub leads : (s : Node) → IsNodeOf old s → (next : Node) × How s next × IsNodeOf new next × KeepsRecord stands_for old new s next
+  pub leads : (s : Node) → IsNodeOf old s → (next : Node) × How s next × IsNodeOf new next × KeepsRecord stands_for old new s next × StaysAhead stands_for old new s next
 
 -- calls behind the last turn end so; what they hand out stands behind what was there, and fits
 abbrev pub Called : LastCall → ℕ → ℕ → Ending → List (To × Message) → List (To × Message) → Node → Node → Type 0
-Called last n p ending before after s next = (out : List (To × Message)) × (after ≡ before ++ out) × EndsLast last n p s ending out next × ((x : To × Message) → In out x → Fits x.1)
+Called last n p ending before after s next = (out : List (To × Message)) × (after ≡ before ++ out) × EndsLast last n p s ending out next × AllFit out
 
 -- node and link stand for the scene
 pub record IsAt {D L : Type 0} (received : L → List (List ℕ) → Type 0) (given : L → List (ℕ × List ℕ) → Type 0) (code : Running D) (link : L) (x : Scene) : Type 0 where

@@ -4,3 +4,4 @@ pub mod Sending
 pub mod Drives
 pub mod Leading
 pub mod Ending
+pub mod Batches

@@ -1,14 +1,12 @@
 //! The calls behind the last turn.
 
-ghost use Rattle.std.specs.Prelude.{◌≡◌, ◌≢◌, [], List, IfErr, OnOk};
-ghost use Rattle.site_ids.specs.Lists.{In};
+ghost use Rattle.std.specs.Prelude.{◌≡◌, ◌≢◌, ◌++◌, [], List, IfErr, OnOk};
 ghost use Rattle.wire.specs.declared.message.Message.{Message};
-ghost use Rattle.wire.specs.Messages.{Fits};
 ghost use Rattle.node.specs.Standing.{KeepsOthers, CountsDevice, ending_by, ending_of};
 ghost use Rattle.node.specs.declared.to.To.{To};
 ghost use Rattle.site_drive.specs.Sending.{Counted};
 ghost use Rattle.site_drive.specs.Drives.{EndsLast, EndsTurns, Closes, GivesUpLast};
-ghost use Rattle.site_drive.specs.Leading.{LeadsTo, NodeLeads, Called};
+ghost use Rattle.site_drive.specs.Leading.{AllFit, LeadsTo, NodeLeads, Called};
 
 use crate::desk::Desk;
 use crate::sending::send_all;
@@ -58,9 +56,12 @@ impl Desk {
     }
 
     /// The same. That every instance is known is passed over.
-    fn last_call<D: Disk>(&mut self, node: &mut Node<D>, last: LastCall) -> Result<(), NodeFault>
-        requires { self.old.outbox.items ≡ [] }
-        ensures ok { OnOk result (NodeLeads D.stands_for node.old node.new (λ s next. EndsTurns last node.old.cluster node.old.me s self.new.outbox.items next × ((x : To × Message) → In self.new.outbox.items x → Fits x.1))) }
+    pub(crate) fn last_call<D: Disk>(
+        &mut self,
+        node: &mut Node<D>,
+        last: LastCall,
+    ) -> Result<(), NodeFault>
+        ensures ok { OnOk result (NodeLeads D.stands_for node.old node.new (λ s next. (out : List (To × Message)) × (self.new.outbox.items ≡ self.old.outbox.items ++ out) × EndsTurns last node.old.cluster node.old.me s out next × AllFit out)) }
         ensures fault { IfErr result (λ fault. NodeLeads D.stands_for node.old node.new (λ s next. (out : List (To × Message)) × EndsLast last node.old.cluster node.old.me s (ending_by fault) out next)) }
         ensures other { IfErr result (λ fault. fault ≢ NodeFault.InstancesUsedUp) }
         ensures others { KeepsOthers node.old node.new }

@@ -3,8 +3,8 @@
 ghost use Rattle.std.specs.Prelude.{◌≡◌, ◌+◌, [], length, IfOk};
 ghost use Rattle.wire.specs.declared.TheConstants.{MAX_MESSAGE};
 
+use crate::asked::Asked;
 use node::Outbox;
-use site_ids::{Instance, NodeId};
 use std::alloc::{AllocError, Global};
 use wire::MAX_MESSAGE;
 
@@ -18,8 +18,8 @@ pub struct Desk {
     pub(crate) outbox: Outbox,
     /// Calls of the link that failed.
     pub(crate) failed: u64,
-    /// Who asked for which instance, where the last turn delivered a question.
-    pub(crate) asked: Option<(NodeId, Instance)>,
+    /// The questions that this drive delivered.
+    pub(crate) asked: Asked,
     ghost room: { length datagram.items ≡ MAX_MESSAGE + 1 },
 }
 
@@ -36,12 +36,12 @@ impl Desk {
             spelling: Vec::new(alloc),
             outbox: Vec::new(alloc),
             failed: 0,
-            asked: None,
+            asked: Asked::none(),
         })
     }
 
-    /// Who asked for which instance, where the last turn delivered a question.
-    pub fn asked(&self) -> Option<(NodeId, Instance)>
+    /// The questions that the last drive delivered.
+    pub fn asked(&self) -> Asked
         ensures { result ≡ self.now.asked }
     {
         self.asked

@@ -1,36 +1,25 @@
 //! Turns: what is received is delivered, the node publishes, and what it hands out is sent.
 
 ghost use Rattle.std.specs.Prelude.{◌≡◌, ◌≤◌, ◌++◌, ◌∷◌, [], ℕ, List, length, take, Some, IfOk, IfErr, IfSome, OnOk};
-ghost use Rattle.site_ids.specs.Lists.{In};
 ghost use Rattle.wire.specs.declared.message.Message.{Message};
-ghost use Rattle.wire.specs.Messages.{Fits};
 ghost use Rattle.node.specs.Nodes.{Node as AbstractNode};
 ghost use Rattle.node.specs.declared.to.To.{To};
 ghost use Rattle.node.specs.Standing.{IsNodeOf, KeepsOthers, CountsDevice};
 ghost use Rattle.site_drive.specs.Links.{RoseBy};
 ghost use Rattle.site_drive.specs.Sending.{Counted};
 ghost use Rattle.site_drive.specs.Drives.{Heard, datagrams, Takes, BreaksOff, Exchanges, GivesUp};
-ghost use Rattle.site_drive.specs.Leading.{LeadsTo, NodeLeads, StaysWhose, IsHeldAs};
+ghost use Rattle.site_drive.specs.Leading.{AllFit, LeadsTo, NodeLeads, StaysWhose, IsHeldAs};
 
 use crate::desk::Desk;
 use crate::sending::send_all;
 use crate::{Link, LinkFailed};
 use node::{Node, NodeFault};
 use site_disk::Disk;
-use site_ids::{Instance, NodeId};
-use wire::{Message, WireFault, decode};
-
-/// Who asks for which instance, if the message is a question.
-fn question_in(message: &Message) -> Option<(NodeId, Instance)> {
-    match message {
-        Message::Ask { from, instance } => Some((*from, *instance)),
-        _ => None,
-    }
-}
+use wire::{WireFault, decode};
 
 impl Desk {
     /// Receives once: how many bytes came. A failure is counted, and nothing came.
-    fn hear<L: Link>(&mut self, link: &mut L) -> Option<usize>
+    pub(crate) fn hear<L: Link>(&mut self, link: &mut L) -> Option<usize>
         ensures bound { IfSome result (λ n. n ≤ length self.new.datagram.items) }
         ensures heard { (ds : List (List ℕ)) → L.received link.old ds → (h : Heard) × L.received link.new (ds ++ datagrams (h ∷ [])) × IsHeldAs result self.new.datagram.items h }
         ensures given { (gs : List (ℕ × List ℕ)) → L.given link.old gs → L.given link.new gs }
@@ -38,7 +27,6 @@ impl Desk {
         ensures counted { Counted self.old.failed self.new.failed (L.failed link.old) (L.failed link.new) }
         ensures outbox { self.new.outbox ≡ self.old.outbox }
     {
-        self.asked = None;
         match link.receive(self.datagram.as_mut_slice()) {
             Ok(came) => came,
             Err(LinkFailed) => {
@@ -48,17 +36,16 @@ impl Desk {
         }
     }
 
-    /// Delivers what came: how many datagrams were malformed, one or none.
-    fn take_in<D: Disk>(
+    /// Delivers what came, and has what that hands out wait behind what does already: how many datagrams were malformed, one or none.
+    pub(crate) fn take_in<D: Disk>(
         &mut self,
         node: &mut Node<D>,
         came: Option<usize>,
     ) -> Result<u32, NodeFault>
-        requires bound { IfSome came (λ n. n ≤ length self.old.datagram.items) }
-        requires empty { self.old.outbox.items ≡ [] }
+        requires { IfSome came (λ n. n ≤ length self.old.datagram.items) }
         ensures one { IfOk result (λ malformed. malformed ≤ 1) }
         ensures taken { IfOk result (λ malformed. (h : Heard) → IsHeldAs came self.old.datagram.items h → NodeLeads D.stands_for node.old node.new (λ s next.
-            Takes node.old.cluster node.old.me s h malformed self.new.outbox.items next × ((x : To × Message) → In self.new.outbox.items x → Fits x.1))) }
+            (out : List (To × Message)) × (self.new.outbox.items ≡ self.old.outbox.items ++ out) × Takes node.old.cluster node.old.me s h malformed out next × AllFit out)) }
         ensures broken { IfErr result (λ fault. (h : Heard) → IsHeldAs came self.old.datagram.items h → NodeLeads D.stands_for node.old node.new (λ s next.
             (d : List ℕ) × (h ≡ Some d) × BreaksOff node.old.cluster node.old.me s d fault next)) }
         ensures others { KeepsOthers node.old node.new }
@@ -70,7 +57,7 @@ impl Desk {
         };
         match decode(self.alloc, &self.datagram[..n], node.cluster()) {
             Ok(message) => {
-                self.asked = question_in(&message);
+                self.asked.note(&message);
                 match node.deliver(&message, &mut self.outbox) {
                     Ok(()) => Ok(0),
                     Err(fault) => Err(fault),

@@ -1,11 +1,15 @@
--- What a server's rounds do with its node, and with what its link has received and was given: turns, each with what is due behind it, and then connections.
+-- What a server's rounds do with its node, and with what its link has received and was given: batches, each with what is due behind it, and then connections.
 use Rattle.std.specs.Prelude.{◌≡◌, ◌≢◌, ◌⊎◌, ℕ, zero, suc, ◌+◌, ◌*◌, ◌<◌, ◌≤◌, List, [], ◌∷◌, length, ⊤}
 use Rattle.site_ids.specs.declared.Ticket.{Ticket}
 use Rattle.command.specs.Written.{value_of}
 use Rattle.http_serve.specs.Services.{Outcome}
+use Rattle.site_disk.specs.Model.{DiskState}
 use Rattle.node.specs.declared.fault.NodeFault.{NodeFault}
+use Rattle.node.specs.declared.running.Node.{Node as Running}
 use Rattle.node.specs.Nodes.{Node, IsKnownPrefix}
-use Rattle.site_drive.specs.Drives.{Scene, DrivesWith, GivesUpDrivingWith}
+use Rattle.site_drive.specs.Batches.{DrivesBatch, GivesUpBatch, LosesBatch}
+use Rattle.site_drive.specs.Drives.{Scene}
+use Rattle.site_drive.specs.Leading.{LeadsTo}
 use Rattle.site_drive.specs.declared.last_call.LastCall.{LastCall}
 use Rattle.site_serve.specs.Halts.{of_node}
 use Rattle.site_serve.specs.Served.{ComesTo}
@@ -48,22 +52,13 @@ pub record TakesSteps (Step : Scene → Scene → Type 0) (count : ℕ) (before 
   pub each : AreSteps Step before scenes
   pub last : after ≡ last_of before scenes
 
--- one turn, behind which these values are published, and then one of the last calls
-abbrev pub TakesTurn : ℕ → ℕ → List (List ℕ) → Scene → Scene → Type 0
-TakesTurn n p fed before after = (last : LastCall) × (malformed : ℕ) × DrivesWith last n p 1 malformed fed before after
-
--- so many of them; behind the last, all that is known without a gap is published
-pub record TakesTurns (n p turns : ℕ) (fed : List (List ℕ)) (before after : Scene) : Type 0 where
-  pub steps : TakesSteps (λ x y. (then : List (List ℕ)) × TakesTurn n p then x y) turns before after
-  pub fed_is : turns ≢ 0 → IsKnownPrefix after.node fed
-
--- a pass: at least one turn, and then connections
+-- a pass: one batch, behind whose turns these values are published, and then connections
 pub record TakesPass (n p : ℕ) (fed : List (List ℕ)) (before after : Scene) : Type 0 where
+  pub last : LastCall
   pub turns : ℕ
-  pub some : turns ≢ 0
-  pub most : turns ≤ 257
+  pub malformed : ℕ
   pub heard : Scene
-  pub hears : TakesTurns n p turns fed before heard
+  pub drives : DrivesBatch last n p 257 turns malformed fed before heard
   pub clients : ℕ
   pub few : clients ≤ 16
   pub serves : TakesSteps (Serves n p) clients heard after
@@ -73,23 +68,10 @@ pub record TakesPasses (n p count : ℕ) (fed : List (List ℕ)) (before after :
   pub steps : TakesSteps (λ x y. (then : List (List ℕ)) × TakesPass n p then x y) count before after
   pub fed_is : count ≢ 0 → IsKnownPrefix after.node fed
 
--- a turn that ends its server: it was given up
-abbrev pub BreaksTurn : ℕ → ℕ → Halt → Scene → Scene → Type 0
-BreaksTurn n p why before after = (last : LastCall) × (fault : NodeFault) × (why ≡ of_node fault) × GivesUpDrivingWith last n p 1 fault before after
-
--- turns, fewer than a pass may have, and then one that ends the server
-pub record BreaksTurns (n p : ℕ) (why : Halt) (before after : Scene) : Type 0 where
-  pub whole : ℕ
-  pub fewer : whole < 257
-  pub mid : Scene
-  pub fed : List (List ℕ)
-  pub taken : TakesTurns n p whole fed before mid
-  pub breaks : BreaksTurn n p why mid after
-
--- a pass that ends its server: in a turn, or it is whole and memory was wanted to answer a connection
+-- a pass that ends its server: its batch is given up, or it is whole and memory was wanted to answer a connection
 abbrev pub BreaksPass : ℕ → ℕ → Halt → Scene → Scene → Type 0
 BreaksPass n p why before after =
-    BreaksTurns n p why before after
+    ((last : LastCall) × (fault : NodeFault) × (why ≡ of_node fault) × GivesUpBatch last n p 257 fault before after)
     ⊎ ((why ≡ halt.OutOfMemory) × (fed : List (List ℕ)) × TakesPass n p fed before after)
 
 -- whole passes, fewer than so many, and then one that ends the server
@@ -111,3 +93,19 @@ BreaksWork n p count why before after =
     (((why ≡ halt.OutOfMemory) ⊎ (why ≡ halt.Write)) × (after ≡ before))
     ⊎ BreaksPasses n p count why before after
     ⊎ ((why ≡ halt.Write) × (fed : List (List ℕ)) × TakesPasses n p count fed before after)
+
+-- ---- a batch that is lost
+
+-- the device failed in a pass
+abbrev pub LosesPass : {D L : Type 0} → (D → DiskState → Type 0) → (L → List (List ℕ) → Type 0) → (L → List (ℕ × List ℕ) → Type 0) → Running D → Running D → L → L → Halt → Type 0
+LosesPass stands_for received given old new before after why = (why ≡ halt.Stopped) × ((last : LastCall) × LosesBatch stands_for received given old new before after last 257)
+
+-- whole passes, fewer than so many, and then one in which the device failed
+pub record LosesPasses {D L : Type 0} (stands_for : D → DiskState → Type 0) (received : L → List (List ℕ) → Type 0) (given : L → List (ℕ × List ℕ) → Type 0) (old new : Running D) (before after : L) (count : ℕ) (why : Halt) : Type 0 where
+  pub whole : ℕ
+  pub fewer : whole < count
+  pub mid : Running D
+  pub between : L
+  pub fed : List (List ℕ)
+  pub taken : LeadsTo stands_for received given old mid before between (TakesPasses old.cluster old.me whole fed)
+  pub loses : LosesPass stands_for received given mid new between after why

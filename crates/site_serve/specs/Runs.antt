@@ -6,6 +6,8 @@ use Rattle.node.specs.declared.running.Node.{Node as Running}
 use Rattle.node.specs.Standing.{OpensAs}
 use Rattle.site_drive.specs.Drives.{Scene}
 use Rattle.site_drive.specs.Leading.{LeadsTo}
+use Rattle.site_serve.specs.Rounds.{LosesPasses}
+use Rattle.site_serve.specs.declared.halt.Halt.{Halt}
 
 -- node p of n, opened over some disk; it has published nothing
 pub record IsOpened {D : Type 0} (stands_for : D → DiskState → Type 0) (n p : ℕ) (node : Running D) : Type 0 where
@@ -28,3 +30,9 @@ pub record IsRun {D L : Type 0} (stands_for : D → DiskState → Type 0) (recei
   pub ended : Running D
   pub is_opened : IsOpened stands_for n p opened
   pub is_led : IsLed stands_for received given opened ended (How ended.releases)
+
+-- over some link, so many passes of a node end with one in which the device failed
+pub record IsLost {D L : Type 0} (stands_for : D → DiskState → Type 0) (received : L → List (List ℕ) → Type 0) (given : L → List (ℕ × List ℕ) → Type 0) (old new : Running D) (count : ℕ) (why : Halt) : Type 0 where
+  pub first : L
+  pub last : L
+  pub loses : LosesPasses stands_for received given old new first last count why

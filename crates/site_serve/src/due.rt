@@ -1,4 +1,4 @@
-//! What a server calls behind a turn.
+//! What a server calls behind the turns of a batch.
 
 ghost use Rattle.std.specs.Prelude.{◌≡◌};
 ghost use Rattle.site_serve.specs.Turns.{call_behind};
@@ -6,7 +6,7 @@ ghost use Rattle.site_serve.specs.Turns.{call_behind};
 use site_drive::LastCall;
 use site_ids::{Instance, NodeId};
 
-/// What stands as a turn begins.
+/// What stands as a batch begins.
 #[derive(Clone, Copy, Debug, PartialEq, Eq, Drop)]
 pub struct Due {
     /// A value was just submitted, and nobody tries one.
@@ -17,13 +17,11 @@ pub struct Due {
     pub question: bool,
     /// A tick is due.
     pub tick: bool,
-    /// It is the first turn of a pass: what came in a burst before was taken in.
-    pub first: bool,
 }
 
 impl Due {
-    /// A tick at once for a value that nobody tries; else a telling, a question or a tick that is due; else widenings, behind the first turn of a pass alone, so that the
-    /// values that came in one burst share a prepare.
+    /// A tick at once for a value that nobody tries; else a telling, a question or a tick that is due; else widenings, so that the values that came since the last
+    /// batch share a prepare.
     pub fn last_call(self) -> LastCall
         ensures { result ≡ call_behind self }
     {
@@ -39,9 +37,6 @@ impl Due {
         if self.tick {
             return LastCall::TickOrAsk;
         }
-        if self.first {
-            return LastCall::Widen;
-        }
-        LastCall::Nothing
+        LastCall::Widen
     }
 }

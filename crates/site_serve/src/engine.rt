@@ -1,11 +1,11 @@
 //! A server: its parts opened in order, and its rounds.
 
-ghost use Rattle.std.specs.Prelude.{◌≡◌, IfOk, OnOk, IfErr, length};
+ghost use Rattle.std.specs.Prelude.{◌≡◌, ◌⊎◌, IfOk, OnOk, IfErr, length};
 ghost use Rattle.http_read.specs.Bytes.{end_of};
 ghost use Rattle.site_drive.specs.Leading.{LeadsTo};
 ghost use Rattle.site_serve.specs.Placing.{IsPlaced};
-ghost use Rattle.site_serve.specs.Rounds.{TakesPasses, BreaksWork, passes_of};
-ghost use Rattle.site_serve.specs.Runs.{IsOpened, IsLed, IsRun};
+ghost use Rattle.site_serve.specs.Rounds.{TakesPasses, BreaksWork, LosesPasses, passes_of};
+ghost use Rattle.site_serve.specs.Runs.{IsOpened, IsLed, IsLost, IsRun};
 ghost use Rattle.site_serve.specs.Running.{EndsBefore, WorkEnds, RunEnds, HasServed};
 
 use crate::ServeOptions;
@@ -68,7 +68,8 @@ fn work<C: Clock, W: Write>(
 ) -> Result<(), Halt>
     ensures said { WorkEnds (end_of W.contents out.old out.new) id result }
     ensures passes { OnOk result (LeadsTo ⟦<FileDisk as Disk>⟧.stands_for ⟦<PatientLink as Link>⟧.received ⟦<PatientLink as Link>⟧.given served.old.node served.new.node link.old link.new (TakesPasses served.old.node.cluster served.old.node.me count served.new.node.releases)) }
-    ensures halted { IfErr result (λ why. LeadsTo ⟦<FileDisk as Disk>⟧.stands_for ⟦<PatientLink as Link>⟧.received ⟦<PatientLink as Link>⟧.given served.old.node served.new.node link.old link.new (BreaksWork served.old.node.cluster served.old.node.me count why)) }
+    ensures halted { IfErr result (λ why. LeadsTo ⟦<FileDisk as Disk>⟧.stands_for ⟦<PatientLink as Link>⟧.received ⟦<PatientLink as Link>⟧.given served.old.node served.new.node link.old link.new (BreaksWork served.old.node.cluster served.old.node.me count why)
+        ⊎ LosesPasses ⟦<FileDisk as Disk>⟧.stands_for ⟦<PatientLink as Link>⟧.received ⟦<PatientLink as Link>⟧.given served.old.node served.new.node link.old link.new count why) }
 {
     let mut desk = Desk::new(alloc)?;
     say_ready(alloc, out, id)?;
@@ -88,7 +89,8 @@ fn start<C: Clock, W: Write>(
 ) -> Result<(), Halt>
     ensures said { WorkEnds (end_of W.contents out.old out.new) options.now.id result }
     ensures rounds { OnOk result (IsLed ⟦<FileDisk as Disk>⟧.stands_for ⟦<PatientLink as Link>⟧.received ⟦<PatientLink as Link>⟧.given served.old.node served.new.node (TakesPasses served.old.node.cluster served.old.node.me (passes_of options.now.id options.now.rounds) served.new.node.releases)) }
-    ensures halted { IfErr result (λ why. IsLed ⟦<FileDisk as Disk>⟧.stands_for ⟦<PatientLink as Link>⟧.received ⟦<PatientLink as Link>⟧.given served.old.node served.new.node (BreaksWork served.old.node.cluster served.old.node.me (passes_of options.now.id options.now.rounds) why)) }
+    ensures halted { IfErr result (λ why. IsLed ⟦<FileDisk as Disk>⟧.stands_for ⟦<PatientLink as Link>⟧.received ⟦<PatientLink as Link>⟧.given served.old.node served.new.node (BreaksWork served.old.node.cluster served.old.node.me (passes_of options.now.id options.now.rounds) why)
+        ⊎ IsLost ⟦<FileDisk as Disk>⟧.stands_for ⟦<PatientLink as Link>⟧.received ⟦<PatientLink as Link>⟧.given served.old.node served.new.node (passes_of options.now.id options.now.rounds) why) }
 {
     let mut link = PatientLink::new(link, door);
     let mut pace = Pace::new(options.patience.unwrap_or(PATIENCE), options.id);

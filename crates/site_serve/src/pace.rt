@@ -7,8 +7,8 @@ use crate::due::Due;
 use crate::questions::Questions;
 use node::Node;
 use site_disk::Disk;
-use site_drive::LastCall;
-use site_ids::{Instance, NodeId};
+use site_drive::{Asked, LastCall};
+use site_ids::{Cluster, Instance, NodeId};
 use std::rt::Clock;
 use std::thread;
 use std::time::{Duration, Instant};
@@ -94,7 +94,7 @@ pub(crate) struct Pace {
     questions: Questions,
     // how many passes went by in which nothing but questions came; a server begins quiet
     idle: u32,
-    // how many datagrams had come that are none: at the last turn, and at the last rest
+    // how many datagrams had come that are none: at the last batch, and at the last rest
     heard: u64,
     stirs: u64,
 }
@@ -133,9 +133,9 @@ impl Pace {
         self.heard = heard;
     }
 
-    /// The question of another node, where one came.
-    pub(crate) fn hear(&mut self, question: Option<(NodeId, Instance)>) {
-        self.questions.hear(question);
+    /// The questions of other nodes that came.
+    pub(crate) fn hear(&mut self, cluster: Cluster, asked: Asked) {
+        self.questions.hear(cluster, asked);
     }
 
     /// Whether nobody was seen to try a value since it asked last, with so many datagrams of attempts that came.
@@ -174,22 +174,21 @@ impl Pace {
         self.since = Instant::now(clock).ok();
     }
 
-    /// What is called behind a turn, the first of a pass or a later one, with so many datagrams of attempts that came. A telling, a question or a tick that
-    /// is due begins by that.
+    /// What is called behind the turns of a batch, with so many datagrams of attempts that came, where all that had come was taken in or more waits. A telling,
+    /// a question or a tick that is due begins by that.
     pub(crate) fn due<C: Clock, D: Disk>(
         &mut self,
         clock: &C,
         node: &Node<D>,
         attempts: u64,
         wanted: bool,
-        first: bool,
+        drained: bool,
     ) -> LastCall {
         let due = Due {
             fresh: self.fresh,
             telling: self.next_telling(clock, node, attempts),
-            question: self.asks_now(clock, first, attempts),
+            question: self.asks_now(clock, drained, attempts),
             tick: self.ticks_now(clock, wanted),
-            first,
         };
         let last = due.last_call();
         if last == LastCall::Ask {

@@ -4,7 +4,8 @@ use crate::asking::Telling;
 use crate::pace::has_passed;
 use node::{MAX_TOLD, Node};
 use site_disk::Disk;
-use site_ids::{Instance, MAX_NODES, NodeId};
+use site_drive::Asked;
+use site_ids::{Cluster, Instance, MAX_NODES, NodeId};
 use std::rt::Clock;
 use std::time::Instant;
 
@@ -44,10 +45,15 @@ impl Questions {
         }
     }
 
-    /// A question, where one came. It takes the place of that node's last one.
-    pub(crate) fn hear(&mut self, question: Option<(NodeId, Instance)>) {
-        if let Some((from, instance)) = question {
-            self.asked[usize::from(from.number()) - 1] = Some(instance);
+    /// Questions that came. Each takes the place of that node's last one.
+    pub(crate) fn hear(&mut self, cluster: Cluster, asked: Asked) {
+        for number in 1..=cluster.size() {
+            let Some(node) = cluster.node(number) else {
+                return;
+            };
+            if let Some(instance) = asked.of(node) {
+                self.asked[usize::from(number) - 1] = Some(instance);
+            }
         }
     }
 

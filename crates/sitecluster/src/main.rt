@@ -1,7 +1,9 @@
 //! `sitecluster`: three servers on the loopback, done line by line as a script on standard input says.
 #![tactic(auto)]
 
-use sitectl::{Counted, Misuse, cluster_options, command_line, refuse, sitecluster};
+use sitectl::{
+    Counted, Misuse, asks_version, cluster_options, command_line, refuse, sitecluster, tell_version,
+};
 use std::io::Write;
 use std::process::ExitCode;
 
@@ -9,6 +11,9 @@ use std::process::ExitCode;
 fn run<E: Write>(rt: &HostRuntime, err: &mut Counted<E>) -> Result<u8, Misuse> {
     let alloc = rt.alloc();
     let words = command_line(rt)?;
+    if asks_version(words.as_slice()) {
+        return Ok(tell_version(alloc, &mut Counted::new(rt.stdout()), "sitecluster")?);
+    }
     cluster_options(alloc, words.as_slice())?;
     let mut reader = Counted::new(rt.stdin());
     let mut out = Counted::new(rt.stdout());

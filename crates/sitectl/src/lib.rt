@@ -2,8 +2,8 @@
 #![tactic(auto)]
 
 pub use command_lines::{
-    Misuse, RenderOptions, SimOptions, cluster_options, command_line, refuse, render_options,
-    sim_options, sited_options,
+    Misuse, RenderOptions, SimOptions, asks_version, cluster_options, command_line, refuse,
+    render_options, sim_options, sited_options, tell_version,
 };
 pub use http_read::Counted;
 pub use page_engine::{an_input_has_one_verdict, siterender};

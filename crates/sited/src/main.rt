@@ -1,7 +1,9 @@
 //! `sited --id P --record FILE --http ADDRESS --rounds R [--format] ADDRESS..`: one node of a group, over UDP and HTTP.
 #![tactic(auto)]
 
-use sitectl::{Counted, Misuse, command_line, refuse, sited, sited_options};
+use sitectl::{
+    Counted, Misuse, asks_version, command_line, refuse, sited, sited_options, tell_version,
+};
 use std::io::Write;
 use std::process::ExitCode;
 
@@ -9,6 +11,9 @@ use std::process::ExitCode;
 fn run<E: Write>(rt: &HostRuntime, err: &mut Counted<E>) -> Result<u8, Misuse> {
     let alloc = rt.alloc();
     let words = command_line(rt)?;
+    if asks_version(words.as_slice()) {
+        return Ok(tell_version(alloc, &mut Counted::new(rt.stdout()), "sited")?);
+    }
     let options = sited_options(alloc, words.as_slice())?;
     let mut out = Counted::new(rt.stdout());
     Ok(sited(rt, alloc, &mut out, err, &options))

@@ -1,7 +1,9 @@
 //! `siterender [--release N] PATH`: the page for a path, from framed commands on standard input.
 #![tactic(auto)]
 
-use sitectl::{Counted, Misuse, command_line, refuse, render_options, siterender};
+use sitectl::{
+    Counted, Misuse, asks_version, command_line, refuse, render_options, siterender, tell_version,
+};
 use std::io::Write;
 use std::process::ExitCode;
 
@@ -9,6 +11,9 @@ use std::process::ExitCode;
 fn run<E: Write>(rt: &HostRuntime, err: &mut Counted<E>) -> Result<u8, Misuse> {
     let alloc = rt.alloc();
     let words = command_line(rt)?;
+    if asks_version(words.as_slice()) {
+        return Ok(tell_version(alloc, &mut Counted::new(rt.stdout()), "siterender")?);
+    }
     let options = render_options(alloc, words.as_slice())?;
     let mut reader = Counted::new(rt.stdin());
     let mut out = Counted::new(rt.stdout());

@@ -1,7 +1,9 @@
 //! `sitesim FILE`: a schedule of a cluster's events, done line by line, and what its nodes show.
 #![tactic(auto)]
 
-use sitectl::{Counted, Misuse, command_line, refuse, sim_options, sitesim};
+use sitectl::{
+    Counted, Misuse, asks_version, command_line, refuse, sim_options, sitesim, tell_version,
+};
 use std::fs::File;
 use std::io::Write;
 use std::process::ExitCode;
@@ -10,6 +12,9 @@ use std::process::ExitCode;
 fn run<E: Write>(rt: &HostRuntime, err: &mut Counted<E>) -> Result<u8, Misuse> {
     let alloc = rt.alloc();
     let words = command_line(rt)?;
+    if asks_version(words.as_slice()) {
+        return Ok(tell_version(alloc, &mut Counted::new(rt.stdout()), "sitesim")?);
+    }
     let options = sim_options(alloc, words.as_slice())?;
     let Ok(file) = File::open(rt, options.file) else {
         let _ = eprintln!(rt; "read failed");

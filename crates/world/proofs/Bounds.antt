@@ -1,5 +1,5 @@
 -- Rounds on record, and that nobody has voted at a fresh ballot.
-use Rattle.std.proofs.Common.{◌≡◌, ◌≢◌, inl, ⊎_elim, ℕ, suc, ◌≤◌, max, Option, Some, None, List, [], ◌∷◌, sym, ap, subst, arith}
+use Rattle.std.proofs.Common.{◌≡◌, ◌≢◌, inl, ⊎_elim, ℕ, suc, ◌≤◌, max, Some, List, [], ◌∷◌, sym, ap, subst, arith}
 use Rattle.site_ids.specs.Ids.{BallotOf, IsNode, NotAbove}
 use Rattle.site_ids.specs.Lists.{In}
 use Rattle.site_ids.specs.declared.value.Vote.{Vote}

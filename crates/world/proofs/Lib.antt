@@ -49,3 +49,7 @@ mod Overbidders
 mod Pushing
 mod QuietPlans
 pub mod QuietWorked
+mod Batching
+mod BatchesOnDisk
+mod Senders
+mod BatchWorked

@@ -8,6 +8,7 @@ pub mod Places
 pub mod Steps
 pub mod Telling
 pub mod Answering
+pub mod Batches
 pub mod Bids
 pub mod Quiet
 pub mod Quieting

@@ -1,6 +1,7 @@
 //! A cluster's nodes and the list of all messages ever handed out: events, schedules, that every schedule agrees, and a world that runs.
 #![tactic(auto)]
 
+mod batches;
 mod bid;
 mod event;
 mod fault;
@@ -14,6 +15,7 @@ mod quiet;
 mod state;
 mod whole;
 
+pub use batches::batches_are_runs;
 pub use event::Event;
 pub use fault::{AskFault, WorldFault};
 pub use laws::{

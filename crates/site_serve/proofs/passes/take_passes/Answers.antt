@@ -1,7 +1,7 @@
 use Rattle.std.proofs.Common.{[], append-nil, arith, refl, sym, ◌∙◌}
 use Rattle.site_drive.proofs.ManyTurns.{stays_on}
 use Rattle.site_drive.proofs.Results.{err_gives}
-use Rattle.site_serve.proofs.ManyPasses.{no_passes, one_pass_more, pass_breaks}
+use Rattle.site_serve.proofs.ManyPasses.{no_passes, one_pass_more, pass_ends}
 use Rattle.site_serve.proofs.Failing.{counts_on, none_failed}
 use Rattle.site_serve.proofs.passes.take_passes.Goals as goal
 
@@ -15,7 +15,7 @@ loop-init g c = record {
 
 pub returns-in_err-take_pass-clause-fault : goal.returns-in_err-take_pass-clause-fault
 returns-in_err-take_pass-clause-fault g c = err_gives c.from_residual.result c.from_residual.ensures.1 λ e is.
-    pass_breaks g.D.Disk.stands_for _ _ c.args.served.now.node c.loop.served.node c.take_pass.new.served.node c.args.link.now c.loop.link c.take_pass.new.link
+    pass_ends g.D.Disk.stands_for _ _ c.args.served.now.node c.loop.served.node c.take_pass.new.served.node c.args.link.now c.loop.link c.take_pass.new.link
     c.loop.invariant.whose c.loop.counter _ c.loop.invariant.leads c.args.count _ e is c.loop-test.true c.in_err-take_pass.ensures.fault
 
 pub loop-preserved : goal.loop-preserved

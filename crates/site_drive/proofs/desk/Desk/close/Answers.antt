@@ -1,6 +1,7 @@
 use Rattle.std.proofs.Common.{◌++◌, ℕ, List, take, refl, subst, ◌∙◌}
-use Rattle.site_drive.specs.Drives.{sent_of}
-use Rattle.site_drive.proofs.Calling.{AllFit}
+use Rattle.site_drive.specs.Drives.{EndsTurns, sent_of}
+use Rattle.site_drive.specs.Leading.{AllFit}
+use Rattle.site_drive.proofs.Calling.{alone}
 use Rattle.site_drive.proofs.Results.{err_gives}
 use Rattle.site_drive.proofs.Closing.{closes, closes_short, not_closed}
 use Rattle.site_drive.proofs.Failing.{none_failed, all_fine, counts_on, memory_alone}
@@ -13,7 +14,8 @@ returns-in_err-last_call-clause-fault g c = err_gives c.from_residual.result c.f
 pub returns-in_err-send_all-clause-fault : goal.returns-in_err-send_all-clause-fault
 returns-in_err-send_all-clause-fault g c = err_gives c.from_residual-in_err-send_all.result c.from_residual-in_err-send_all.ensures.1 λ e is.
     closes_short g.D.Disk.stands_for g.L.Link.received g.L.Link.given c.args.node.now c.last_call.new.node c.args.link.now c.send_all.new.link c.args.last _ _ c.last_call.new.self.outbox.items
-    c.send_all.ensures.received c.in_ok-last_call.ensures.ok e is
+    c.send_all.ensures.received (alone g.D.Disk.stands_for c.args.node.now c.last_call.new.node c.args.self.now.outbox.items c.last_call.new.self.outbox.items
+    (λ out s next. EndsTurns c.args.last c.args.node.now.cluster c.args.node.now.me s out next) c.requires c.in_ok-last_call.ensures.ok) e is
     (subst (λ k. AllFit c.last_call.new.self.outbox.items → (gs : List (ℕ × List ℕ)) → g.L.Link.given c.args.link.now gs
     → (i : ℕ) × g.L.Link.given c.send_all.new.link (gs ++ take i (sent_of k c.last_call.new.self.outbox.items)))
     (c.cluster.ensures ∙ c.last_call.ensures.others.cluster) c.in_err-send_all.ensures.refused)
@@ -21,7 +23,9 @@ returns-in_err-send_all-clause-fault g c = err_gives c.from_residual-in_err-send
 pub returns-clause-ok : goal.returns-clause-ok
 returns-clause-ok g c =
     closes g.D.Disk.stands_for g.L.Link.received g.L.Link.given c.args.node.now c.last_call.new.node c.args.link.now c.send_all.new.link c.args.last _ _ c.last_call.new.self.outbox.items
-    c.send_all.ensures.received c.in_ok-last_call.ensures.ok
+    c.send_all.ensures.received
+    (alone g.D.Disk.stands_for c.args.node.now c.last_call.new.node c.args.self.now.outbox.items c.last_call.new.self.outbox.items
+    (λ out s next. EndsTurns c.args.last c.args.node.now.cluster c.args.node.now.me s out next) c.requires c.in_ok-last_call.ensures.ok)
     (subst (λ k. AllFit c.last_call.new.self.outbox.items → (gs : List (ℕ × List ℕ)) → g.L.Link.given c.args.link.now gs
     → g.L.Link.given c.send_all.new.link (gs ++ sent_of k c.last_call.new.self.outbox.items))
     (c.cluster.ensures ∙ c.last_call.ensures.others.cluster) c.in_ok-send_all.ensures.given)

@@ -7,12 +7,12 @@ use Rattle.site_drive.proofs.Failing.{none_failed, all_fine, none_of}
 use Rattle.site_drive.proofs.desk.Desk.last_call.Goals as goal
 
 pub returns-in-Ok-clause-ok : goal.returns-in-Ok-clause-ok
-returns-in-Ok-clause-ok g c = whole g.D.Disk.stands_for c.args.node.now c.call.new.node c.args.last c.args.self.now.outbox.items c.call.new.self.outbox.items c.requires c.in-Ok.ensures.event
+returns-in-Ok-clause-ok g c = whole g.D.Disk.stands_for c.args.node.now c.call.new.node c.args.last c.args.self.now.outbox.items c.call.new.self.outbox.items c.in-Ok.ensures.event
 
 pub returns-in-Err-clause-ok : goal.returns-in-Err-clause-ok
 returns-in-Err-clause-ok g c =
     let same : c.in-Err.fault ≡ InstancesUsedUp = search rules in
-    used_up g.D.Disk.stands_for c.args.node.now c.call.new.node c.args.last c.args.self.now.outbox.items c.call.new.self.outbox.items c.requires
+    used_up g.D.Disk.stands_for c.args.node.now c.call.new.node c.args.last c.args.self.now.outbox.items c.call.new.self.outbox.items
     (subst (λ w. Ended g.D.Disk.stands_for c.args.node.now c.call.new.node c.args.last c.args.self.now.outbox.items c.call.new.self.outbox.items (ending_by w)) same c.in-Err.ensures.event)
 
 pub returns-in-Err-2-clause-fault : goal.returns-in-Err-2-clause-fault

@@ -1,8 +1,9 @@
 use Rattle.std.proofs.Common.{Err, take, refl, subst}
+use Rattle.wire.specs.declared.message.Message.{Message}
 use Rattle.wire.specs.Decoding.{Spells, Decodes}
 use Rattle.node.specs.declared.fault.NodeFault.TheVariants as fault
 use Rattle.site_drive.specs.Leading.{IsHeldAs}
-use Rattle.site_drive.proofs.Turning.{taken, broken, unread, took_some, broke_some}
+use Rattle.site_drive.proofs.Turning.{taken, broken, passed, unread, took_some, broke_some}
 use Rattle.site_drive.proofs.Failing.{none_failed, all_fine, counts_on}
 use Rattle.site_drive.proofs.desk.Desk.take_in.Goals as goal
 
@@ -13,10 +14,21 @@ returns-in-Ok-deliver-clause-taken g c = λ h is.
     let spells = subst (λ k. Spells k (take c.in-Some.n buffer) c.in-Ok.message) c.cluster.ensures
     (subst (λ b. Spells c.cluster.result (take c.in-Some.n b) c.in-Ok.message) c.deref.ensures.value c.in-Ok.ensures)
     in
-    took_some g.D.Disk.stands_for c.args.node.now c.deliver.new.self buffer c.args.self.now.room c.in-Some.n c.args.node.now.cluster c.args.node.now.me 0 c.deliver.new.outbox.items
+    took_some g.D.Disk.stands_for c.args.node.now c.deliver.new.self buffer c.args.self.now.room c.in-Some.n c.args.node.now.cluster c.args.node.now.me 0 c.args.self.now.outbox.items c.deliver.new.outbox.items
     (taken g.D.Disk.stands_for c.args.node.now c.deliver.new.self (take c.in-Some.n buffer) c.in-Ok.message c.args.self.now.outbox.items c.deliver.new.outbox.items
-    spells c.requires.empty c.in-Ok-deliver.ensures.event)
+    spells c.in-Ok-deliver.ensures.event)
     h (subst (λ k. IsHeldAs k buffer h) c.in-Some.is is)
+
+pub returns-in-Err-Malformed-clause-taken : goal.returns-in-Err-Malformed-clause-taken
+returns-in-Err-Malformed-clause-taken g c = λ h is.
+    let buffer = c.args.self.now.datagram.items in
+    let waits = c.args.self.now.outbox.items in
+    let none = subst (λ f. Decodes c.cluster.result (take c.in-Some.n c.deref.result.now) (Err f)) c.in-Err-Malformed.field-0-is c.in-Err-Malformed.ensures in
+    let none_spelled = subst (λ k. (m : Message) → ¬ Spells k (take c.in-Some.n buffer) m) c.cluster.ensures
+    (subst (λ b. (m : Message) → ¬ Spells c.cluster.result (take c.in-Some.n b) m) c.deref.ensures.value none)
+    in
+    took_some g.D.Disk.stands_for c.args.node.now c.args.node.now buffer c.args.self.now.room c.in-Some.n c.args.node.now.cluster c.args.node.now.me 1 waits waits
+    (passed g.D.Disk.stands_for c.args.node.now (take c.in-Some.n buffer) waits none_spelled) h (subst (λ k. IsHeldAs k buffer h) c.in-Some.is is)
 
 -- src/turns.rt:52:5
 pub returns-in-Ok-clause-broken : goal.returns-in-Ok-clause-broken
@@ -27,7 +39,7 @@ returns-in-Ok-clause-broken g c = λ h is.
     in
     broke_some g.D.Disk.stands_for c.args.node.now c.deliver.new.self buffer c.args.self.now.room c.in-Some.n c.args.node.now.cluster c.args.node.now.me c.in-Err.fault
     (broken g.D.Disk.stands_for c.args.node.now c.deliver.new.self (take c.in-Some.n buffer) c.in-Ok.message c.args.self.now.outbox.items c.deliver.new.outbox.items
-    spells c.requires.empty c.in-Err.fault c.in-Err.ensures.event)
+    spells c.in-Err.fault c.in-Err.ensures.event)
     h (subst (λ k. IsHeldAs k buffer h) c.in-Some.is is)
 
 -- src/turns.rt:42:5

@@ -1,11 +1,8 @@
-use Rattle.std.proofs.Common.{◌≡◌, ℕ, Some, List, [], append-nil, ◌++◌, take, refl, sym, subst, ◌∙◌}
-use Rattle.site_ids.specs.Lists.{In}
-use Rattle.wire.specs.declared.message.Message.{Message}
-use Rattle.wire.specs.Messages.{Fits}
-use Rattle.node.specs.declared.to.To.{To}
+use Rattle.std.proofs.Common.{◌≡◌, ℕ, Some, List, [], append-nil, ◌++◌, take, refl, sym, ap, subst, ◌∙◌}
 use Rattle.site_drive.specs.Sending.{Counted}
-use Rattle.site_drive.specs.Drives.{BreaksOff, sent_of}
-use Rattle.site_drive.specs.Leading.{NodeLeads}
+use Rattle.site_drive.specs.Drives.{BreaksOff, Takes, sent_of}
+use Rattle.site_drive.specs.Leading.{AllFit, NodeLeads}
+use Rattle.site_drive.proofs.Calling.{alone}
 use Rattle.site_drive.proofs.Counting.{counted_on}
 use Rattle.site_drive.proofs.Results.{err_gives, same_err}
 use Rattle.site_drive.proofs.Turning.{turned, turned_short, turned_off}
@@ -25,7 +22,8 @@ pub returns-in_err-publish-clause-fault : goal.returns-in_err-publish-clause-fau
 returns-in_err-publish-clause-fault g c = err_gives c.from_residual-in_err-publish.result c.from_residual-in_err-publish.ensures.1 λ e is.
     turned_short g.D.Disk.stands_for g.L.Link.received g.L.Link.given c.args.node.now c.take_in.new.node c.args.link.now c.hear-came.new.link c.args.node.now.cluster c.args.node.now.me
     c.in_ok-malformed.malformed c.take_in.new.self.outbox.items
-    c.hear-came.result c.hear-came.new.self.datagram.items c.hear-came.ensures.heard c.hear-came.ensures.given c.in_ok-malformed.ensures.taken
+    c.hear-came.result c.hear-came.new.self.datagram.items c.hear-came.ensures.heard c.hear-came.ensures.given (λ h held. alone g.D.Disk.stands_for c.args.node.now c.take_in.new.node c.hear-came.new.self.outbox.items c.take_in.new.self.outbox.items
+    (λ out s next. Takes c.args.node.now.cluster c.args.node.now.me s h c.in_ok-malformed.malformed out next) (ap (λ o. o.items) c.hear-came.ensures.outbox ∙ c.requires) (c.in_ok-malformed.ensures.taken h held))
     c.publish.new.self c.hear-came.new.link c.publish.ensures.same c.publish.ensures.on_disk (λ ds h. h) e (is ∙ same_err c.in_err-publish.ensures.err) (λ fits gs h. (0, subst (g.L.Link.given c.hear-came.new.link) (sym (append-nil gs)) h))
 
 -- src/turns.rt:84:9
@@ -33,9 +31,10 @@ pub returns-in_err-send_all-clause-fault : goal.returns-in_err-send_all-clause-f
 returns-in_err-send_all-clause-fault g c = err_gives c.from_residual-in_err-send_all.result c.from_residual-in_err-send_all.ensures.1 λ e is.
     turned_short g.D.Disk.stands_for g.L.Link.received g.L.Link.given c.args.node.now c.take_in.new.node c.args.link.now c.hear-came.new.link c.args.node.now.cluster c.args.node.now.me
     c.in_ok-malformed.malformed c.take_in.new.self.outbox.items
-    c.hear-came.result c.hear-came.new.self.datagram.items c.hear-came.ensures.heard c.hear-came.ensures.given c.in_ok-malformed.ensures.taken
+    c.hear-came.result c.hear-came.new.self.datagram.items c.hear-came.ensures.heard c.hear-came.ensures.given (λ h held. alone g.D.Disk.stands_for c.args.node.now c.take_in.new.node c.hear-came.new.self.outbox.items c.take_in.new.self.outbox.items
+    (λ out s next. Takes c.args.node.now.cluster c.args.node.now.me s h c.in_ok-malformed.malformed out next) (ap (λ o. o.items) c.hear-came.ensures.outbox ∙ c.requires) (c.in_ok-malformed.ensures.taken h held))
     c.publish.new.self c.send_all.new.link c.publish.ensures.same c.publish.ensures.on_disk c.send_all.ensures.received e is
-    (subst (λ k. ((x : To × Message) → In c.take_in.new.self.outbox.items x → Fits x.1) → (gs : List (ℕ × List ℕ)) → g.L.Link.given c.hear-came.new.link gs
+    (subst (λ k. AllFit c.take_in.new.self.outbox.items → (gs : List (ℕ × List ℕ)) → g.L.Link.given c.hear-came.new.link gs
     → (i : ℕ) × g.L.Link.given c.send_all.new.link (gs ++ take i (sent_of k c.take_in.new.self.outbox.items)))
     (c.cluster.ensures ∙ c.publish.ensures.whose.1 ∙ c.take_in.ensures.others.cluster) c.in_err-send_all.ensures.refused)
 
@@ -50,9 +49,10 @@ pub returns-clause-ok : goal.returns-clause-ok
 returns-clause-ok g c =
     turned g.D.Disk.stands_for g.L.Link.received g.L.Link.given c.args.node.now c.take_in.new.node c.args.link.now c.hear-came.new.link c.args.node.now.cluster c.args.node.now.me
     c.in_ok-malformed.malformed c.take_in.new.self.outbox.items
-    c.hear-came.result c.hear-came.new.self.datagram.items c.hear-came.ensures.heard c.hear-came.ensures.given c.in_ok-malformed.ensures.taken
+    c.hear-came.result c.hear-came.new.self.datagram.items c.hear-came.ensures.heard c.hear-came.ensures.given (λ h held. alone g.D.Disk.stands_for c.args.node.now c.take_in.new.node c.hear-came.new.self.outbox.items c.take_in.new.self.outbox.items
+    (λ out s next. Takes c.args.node.now.cluster c.args.node.now.me s h c.in_ok-malformed.malformed out next) (ap (λ o. o.items) c.hear-came.ensures.outbox ∙ c.requires) (c.in_ok-malformed.ensures.taken h held))
     c.publish.new.self c.send_all.new.link c.publish.ensures.same c.publish.ensures.on_disk c.send_all.ensures.received c.in_ok-publish.ensures.ok.1
-    (subst (λ k. ((x : To × Message) → In c.take_in.new.self.outbox.items x → Fits x.1) → (gs : List (ℕ × List ℕ)) → g.L.Link.given c.hear-came.new.link gs
+    (subst (λ k. AllFit c.take_in.new.self.outbox.items → (gs : List (ℕ × List ℕ)) → g.L.Link.given c.hear-came.new.link gs
     → g.L.Link.given c.send_all.new.link (gs ++ sent_of k c.take_in.new.self.outbox.items))
     (c.cluster.ensures ∙ c.publish.ensures.whose.1 ∙ c.take_in.ensures.others.cluster) c.in_ok-send_all.ensures.given)
 

@@ -1,4 +1,4 @@
-use Rattle.std.proofs.Common.{◌∙◌, subst}
+use Rattle.std.proofs.Common.{subst}
 use Rattle.http_serve.specs.declared.submission.Submission.TheVariants.{Queued, Already}
 use Rattle.http_serve.specs.declared.submission.SubmitFault.TheVariants.{Command, Busy, Stopped, OutOfMemory}
 use Rattle.node.specs.Faults.{IsSubmitCause}
