@@ -4,21 +4,17 @@ use Rattle.std.specs.Option.{is_some}
 use Rattle.std.proofs.lemmas.List.{length-append}
 use Rattle.site_disk.specs.Model.{DiskState}
 use Rattle.wire.specs.declared.message.Message.{Message}
-use Rattle.durable.specs.declared.record.Record.{Record}
-use Rattle.durable.specs.Batches.{IsAhead}
 use Rattle.node.specs.declared.fault.NodeFault.{NodeFault}
 use Rattle.node.specs.declared.fault.NodeFault.TheVariants as fault
 use Rattle.node.specs.declared.to.To.{To}
 use Rattle.node.specs.declared.running.Node.{Node as Running}
-use Rattle.node.specs.Ahead.{StaysAhead}
-use Rattle.node.specs.Nodes.{Node, IsKnownPrefix}
-use Rattle.node.specs.Standing.{IsNodeOf, ending_by}
+use Rattle.node.specs.Nodes.{Node}
+use Rattle.node.specs.Standing.{ending_by}
 use Rattle.site_drive.specs.declared.last_call.LastCall.{LastCall}
 use Rattle.site_drive.specs.Drives.{Heard, TakesAll, datagrams, Scene, EndsLast, EndsTurns, BreaksOff}
 use Rattle.site_drive.specs.Leading.{AllFit, NodeLeads, StaysWhose, IsHeldAs}
 use Rattle.site_drive.specs.Batches.{Hears, HearsAll, Works, GivesUpHearing, GivesUpWork, LeadsAhead}
 use Rattle.site_drive.proofs.Calling.{all_fit}
-use Rattle.site_drive.proofs.Closing.{known_stays, prefix_stays}
 use Rattle.site_drive.proofs.ManyTurns.{takes_on, received_on}
 use Rattle.site_drive.proofs.Turning.{TakesIn}
 
@@ -139,82 +135,34 @@ module _ {D L : Type 0} (stands_for : D → DiskState → Type 0) (received : L 
         (r.0, (r.1.0, r.1.1, ⊎_elim (λ none. inr (r.1.2 none)) (λ all. inl (r.1.1.turns_are ∙ all)) why), r.2, r.3);
   }
 
-  -- ---- then the node publishes, and the last call is made
+  -- ---- then the last call is made
 
-  published_ahead : (mid new : Running D) → new.store ≡ mid.store → (s : Node) → StaysAhead stands_for mid new s s
-  published_ahead mid new same s base d of = record {
-    batch = of.batch;
-    entries = of.entries;
-    before = of.before;
-    after = of.after;
-    ahead = subst (λ (store : Record D). IsAhead stands_for store d base.entries of.batch) (sym same) of.ahead;
-  }
+  module _ (old mid : Running D) (before after : L) (n p turns a malformed : ℕ) (first : List (To × Message)) (heard : LeadsAhead stands_for received given old mid before after (HearsAll n p turns a malformed first)) where
+    pub worked : (new : Running D) (last : LastCall) (out : List (To × Message)) → NodeLeads stands_for mid new (λ s next. (then : List (To × Message)) × (out ≡ first ++ then) × EndsTurns last n p s then next × AllFit then)
+        → LeadsAhead stands_for received given old new before after (Works last n p turns a malformed out)
+    worked new last out called = record {
+      leads = λ x at.
+          let r = heard.leads x at in
+          let t = called.leads r.0.node r.2.node in (
+            record { node = t.0; received = r.0.received; given = r.0.given },
+            record { mid = r.0; first = first; then = t.1.0; hears = r.1; ends = t.1.2; fits = t.1.3; out_is = t.1.1; received = refl; given = refl },
+            record { node = t.2; heard = r.2.heard; told = r.2.told },
+            λ b d of. t.4 b d (r.3 b d of),
+          );
+    }
 
-  module _ (old mid public : Running D) (before after : L) (n p turns a malformed : ℕ) (first : List (To × Message)) (same : (s : Node) → IsNodeOf mid s → IsNodeOf public s) (store : public.store ≡ mid.store)
-      (heard : LeadsAhead stands_for received given old mid before after (HearsAll n p turns a malformed first))
-    where
-      pub worked : (new : Running D) (last : LastCall) (out : List (To × Message)) (fed : List (List ℕ)) → ((s : Node) → IsNodeOf mid s → IsKnownPrefix s fed)
-          → NodeLeads stands_for public new (λ s next. (then : List (To × Message)) × (out ≡ first ++ then) × EndsTurns last n p s then next × AllFit then)
-          → LeadsAhead stands_for received given old new before after (Works last n p turns a malformed out fed)
-      worked new last out fed known called = record {
-        leads = λ x at.
-            let r = heard.leads x at in
-            let t = called.leads r.0.node (same r.0.node r.2.node) in (
-              record { node = t.0; received = r.0.received; given = r.0.given },
-              record {
-                mid = r.0;
-                first = first;
-                then = t.1.0;
-                hears = r.1;
-                ends = t.1.2;
-                fits = t.1.3;
-                out_is = t.1.1;
-                received = refl;
-                given = refl;
-                fed_is = prefix_stays r.0.node t.0 fed (known_stays last n p r.0.node t.0 t.1.0 t.1.2) (known r.0.node r.2.node);
-              },
-              record { node = t.2; heard = r.2.heard; told = r.2.told },
-              λ b d of. t.4 b d (published_ahead mid public store r.0.node b d (r.3 b d of)),
-            );
-      }
-
-      pub called_off : (new : Running D) (last : LastCall) (why : NodeFault) → why ≢ fault.InstancesUsedUp
-          → NodeLeads stands_for public new (λ s next. (then : List (To × Message)) × EndsLast last n p s (ending_by why) then next)
-          → LeadsAhead stands_for received given old new before after (GivesUpWork last n p turns why)
-      called_off new last why other called = record {
-        leads = λ x at.
-            let r = heard.leads x at in
-            let t = called.leads r.0.node (same r.0.node r.2.node) in (
-              record { node = t.0; received = r.0.received; given = r.0.given },
-              inr (record { mid = r.0; taken = a; malformed = malformed; first = first; then = t.1.0; hears = r.1; ends = t.1.1; other = other; received = refl; given = refl }),
-              record { node = t.2; heard = r.2.heard; told = r.2.told },
-              λ b d of. t.4 b d (published_ahead mid public store r.0.node b d (r.3 b d of)),
-            );
-      }
-
-      -- memory was wanted to publish
-      pub not_published : (last : LastCall) (why : NodeFault) → why ≡ fault.OutOfMemory → a ≤ turns → LeadsAhead stands_for received given old public before after (GivesUpWork last n p turns why)
-      not_published last why is few = record {
-        leads = λ x at.
-            let r = heard.leads x at in
-            let h = r.1.1 in (
-              r.0,
-              inl (
-                record {
-                  heard = r.1.0;
-                  malformed = malformed;
-                  out = first;
-                  mid = r.0.node;
-                  taken = h.takes;
-                  given = (0, h.given ∙ sym (append-nil x.given));
-                  how = inr (is, refl, h.received, omega (arith, h.turns_are, few));
-                },
-                h.given,
-              ),
-              record { node = same r.0.node r.2.node; heard = r.2.heard; told = r.2.told },
-              λ b d of. published_ahead mid public store r.0.node b d (r.3 b d of),
-            );
-      }
+    pub called_off : (new : Running D) (last : LastCall) (why : NodeFault) → why ≢ fault.InstancesUsedUp → NodeLeads stands_for mid new (λ s next. (then : List (To × Message)) × EndsLast last n p s (ending_by why) then next)
+        → LeadsAhead stands_for received given old new before after (GivesUpWork last n p turns why)
+    called_off new last why other called = record {
+      leads = λ x at.
+          let r = heard.leads x at in
+          let t = called.leads r.0.node r.2.node in (
+            record { node = t.0; received = r.0.received; given = r.0.given },
+            inr (record { mid = r.0; taken = a; malformed = malformed; first = first; then = t.1.0; hears = r.1; ends = t.1.1; other = other; received = refl; given = refl }),
+            record { node = t.2; heard = r.2.heard; told = r.2.told },
+            λ b d of. t.4 b d (r.3 b d of),
+          );
+    }
 
   pub given_up_hearing : (old new : Running D) (before after : L) (last : LastCall) (n p turns : ℕ) (why told : NodeFault) → told ≡ why → LeadsAhead stands_for received given old new before after (GivesUpHearing n p turns why)
       → LeadsAhead stands_for received given old new before after (GivesUpWork last n p turns told)

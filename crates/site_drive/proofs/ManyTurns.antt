@@ -24,7 +24,7 @@ takes_on n p s mid next [] ks a b first later (none, empty, same) more =
 takes_on n p s mid next (h ∷ hs) ks a b first later (u, one, others, out, then, taken, rest, sum, joined) more =
     (u, one, others + b, out, then ++ later, taken, takes_on n p u mid next hs ks others b then later rest more, omega (arith, sum), ap (λ l. l ++ later) joined ∙ append_assoc out then later)
 
-datagrams_on : (hs ks : List Heard) → datagrams (hs ++ ks) ≡ datagrams hs ++ datagrams ks
+pub datagrams_on : (hs ks : List Heard) → datagrams (hs ++ ks) ≡ datagrams hs ++ datagrams ks
 datagrams_on [] ks = refl
 datagrams_on (None ∷ hs) ks = datagrams_on hs ks
 datagrams_on (Some d ∷ hs) ks = ap (λ l. d ∷ l) (datagrams_on hs ks)

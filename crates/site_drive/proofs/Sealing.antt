@@ -14,7 +14,7 @@ use Rattle.node.specs.Ahead.{IsAheadOf}
 use Rattle.node.specs.Batches.{BeginsAt, SealsAt, LosesOneOf}
 use Rattle.node.specs.Calls.{Call, tick, widen, ask, tell, deliver}
 use Rattle.node.specs.Endings.{Whole, Failed, Ends}
-use Rattle.node.specs.Nodes.{Node, Up, Stopped}
+use Rattle.node.specs.Nodes.{Node, Up, Stopped, IsKnownPrefix}
 use Rattle.node.specs.Standing.{HasParts, IsNodeOf, IsOnDisk, IsEither, KeepsOthers, StaysOnDisk}
 use Rattle.node.proofs.Stepping.{is_down}
 use Rattle.site_drive.specs.declared.last_call.LastCall.{LastCall}
@@ -26,19 +26,19 @@ use Rattle.site_drive.proofs.Calling.{all_fit}
 use Rattle.site_drive.proofs.Results.{same_err}
 
 -- what was worked fits
-works_fit : (last : LastCall) (n p turns taken malformed : ℕ) (out : List (To × Message)) (fed : List (List ℕ)) (x y : Scene) → Works last n p turns taken malformed out fed x y → AllFit out
-works_fit last n p turns taken malformed out fed x y w = subst AllFit (sym w.out_is) (all_fit w.first w.then w.hears.1.fits w.fits)
+works_fit : (last : LastCall) (n p turns taken malformed : ℕ) (out : List (To × Message)) (x y : Scene) → Works last n p turns taken malformed out x y → AllFit out
+works_fit last n p turns taken malformed out x y w = subst AllFit (sym w.out_is) (all_fit w.first w.then w.hears.1.fits w.fits)
 
 -- and nothing of it is given
-works_give : (last : LastCall) (n p turns taken malformed : ℕ) (out : List (To × Message)) (fed : List (List ℕ)) (x y : Scene) → Works last n p turns taken malformed out fed x y → y.given ≡ x.given
-works_give last n p turns taken malformed out fed x y w = w.given ∙ w.hears.1.given
+works_give : (last : LastCall) (n p turns taken malformed : ℕ) (out : List (To × Message)) (x y : Scene) → Works last n p turns taken malformed out x y → y.given ≡ x.given
+works_give last n p turns taken malformed out x y w = w.given ∙ w.hears.1.given
 
 gave_up_gives : (last : LastCall) (n p turns : ℕ) (why : NodeFault) (x y : Scene) → GivesUpWork last n p turns why x y → y.given ≡ x.given
 gave_up_gives last n p turns why x y (inl h) = h.1
 gave_up_gives last n p turns why x y (inr h) = h.given ∙ h.hears.1.given
 
 has_given : (last : LastCall) (n p turns : ℕ) (x y : Scene) → HasWorked last n p turns x y → y.given ≡ x.given
-has_given last n p turns x y (inl h) = works_give last n p turns h.0 h.1 h.2 h.3 x y h.4
+has_given last n p turns x y (inl h) = works_give last n p turns h.0 h.1 h.2 x y h.3
 has_given last n p turns x y (inr h) = gave_up_gives last n p turns h.0 x y h.1
 
 pub of_others : {D : Type 0} (old new : Running D) → KeepsOthers old new → StaysWhose old new
@@ -133,6 +133,10 @@ module _ {D L : Type 0} (stands_for : D → DiskState → Type 0) (received : L 
         );
       })
 
+  -- a publication behind the seal leaves the disk alone
+  pub published : (mid new public : Running D) → ((s : Node) (d : DiskState) → IsOnDisk stands_for new s d → IsOnDisk stands_for public s d) → SealsAt stands_for mid new → SealsAt stands_for mid public
+  published mid new public on_disk seals = λ s t d stands of. let e = seals s t d stands of in (e.0, on_disk t e.0 e.1, e.2)
+
   -- ---- begun
 
   module _ (old begun mid : Running D) (before after : L) (begins : BeginsAt stands_for old begun) (same : (s : Node) → IsNodeOf old s → IsNodeOf begun s) (whose : StaysWhose old mid) where
@@ -152,36 +156,36 @@ module _ {D L : Type 0} (stands_for : D → DiskState → Type 0) (received : L 
       sealed_there s t stands ahead d on = let e = seals s t d stands (ahead d on) in (e.0, e.1, either_mine d e.0 s t e.2)
 
       module _ (last : LastCall) (n p turns : ℕ) where
-        module _ (taken malformed : ℕ) (out : List (To × Message)) (fed : List (List ℕ)) (worked : LeadsAhead stands_for received given begun mid before after (Works last n p turns taken malformed out fed))
+        module _ (taken malformed : ℕ) (out : List (To × Message)) (worked : LeadsAhead stands_for received given begun mid before after (Works last n p turns taken malformed out))
             (link : L) (keeps_received : (ds : List (List ℕ)) → received after ds → received link ds)
           where
-            pub sealed_and_sent : (AllFit out → (gs : List (ℕ × List ℕ)) → given after gs → given link (gs ++ sent_of n out))
+            pub sealed_and_sent : (fed : List (List ℕ)) → ((s : Node) → IsNodeOf mid s → IsKnownPrefix s fed) → (AllFit out → (gs : List (ℕ × List ℕ)) → given after gs → given link (gs ++ sent_of n out))
                 → LeadsSealed stands_for received given old new before link (DrivesBatch last n p turns taken malformed fed)
-            sealed_and_sent sends = record {
+            sealed_and_sent fed known sends = record {
               leads = λ x at.
-                  let r = from_begun (Works last n p turns taken malformed out fed) worked x at in
+                  let r = from_begun (Works last n p turns taken malformed out) worked x at in
                   let y = r.0 in
-                  let gives = works_give last n p turns taken malformed out fed x y r.1 in (
+                  let gives = works_give last n p turns taken malformed out x y r.1 in (
                     record { node = y.node; received = y.received; given = y.given ++ sent_of n out },
-                    record { worked = y; out = out; works = r.1; node = refl; received = refl; given = ap (λ gs. gs ++ sent_of n out) gives },
-                    record { node = kept y.node r.2.node; heard = keeps_received y.received r.2.heard; told = sends (works_fit last n p turns taken malformed out fed x y r.1) y.given r.2.told },
+                    record { worked = y; out = out; works = r.1; node = refl; received = refl; given = ap (λ gs. gs ++ sent_of n out) gives; fed_is = known y.node r.2.node },
+                    record { node = kept y.node r.2.node; heard = keeps_received y.received r.2.heard; told = sends (works_fit last n p turns taken malformed out x y r.1) y.given r.2.told },
                     sealed_there x.node y.node r.2.node r.3,
                   );
             }
 
-            -- memory was wanted to send all of it
+            -- memory was wanted to publish, or to send all of it
             pub sealed_not_sent : (why : NodeFault) → why ≡ fault.OutOfMemory → (AllFit out → (gs : List (ℕ × List ℕ)) → given after gs → (k : ℕ) × given link (gs ++ take k (sent_of n out)))
                 → LeadsSealed stands_for received given old new before link (GivesUpBatch last n p turns why)
             sealed_not_sent why memory sends = record {
               leads = λ x at.
-                  let r = from_begun (Works last n p turns taken malformed out fed) worked x at in
+                  let r = from_begun (Works last n p turns taken malformed out) worked x at in
                   let y = r.0 in
-                  let gives = works_give last n p turns taken malformed out fed x y r.1 in
-                  let sent = sends (works_fit last n p turns taken malformed out fed x y r.1) y.given r.2.told in (
+                  let gives = works_give last n p turns taken malformed out x y r.1 in
+                  let sent = sends (works_fit last n p turns taken malformed out x y r.1) y.given r.2.told in (
                     record { node = y.node; received = y.received; given = y.given ++ take sent.0 (sent_of n out) },
                     inr (inr (
                       memory,
-                      record { worked = y; taken = taken; malformed = malformed; fed = fed; out = out; works = r.1; node = refl; received = refl; given = (sent.0, ap (λ gs. gs ++ take sent.0 (sent_of n out)) gives) },
+                      record { worked = y; taken = taken; malformed = malformed; out = out; works = r.1; node = refl; received = refl; given = (sent.0, ap (λ gs. gs ++ take sent.0 (sent_of n out)) gives) },
                     )),
                     record { node = kept y.node r.2.node; heard = keeps_received y.received r.2.heard; told = sent.1 },
                     sealed_there x.node y.node r.2.node r.3,
@@ -244,9 +248,9 @@ module _ {D L : Type 0} (stands_for : D → DiskState → Type 0) (received : L 
       }
 
   -- the work, whole or given up
-  pub has_worked : (old new : Running D) (before after : L) (last : LastCall) (n p turns taken malformed : ℕ) (out : List (To × Message)) (fed : List (List ℕ))
-      → LeadsAhead stands_for received given old new before after (Works last n p turns taken malformed out fed) → LeadsAhead stands_for received given old new before after (HasWorked last n p turns)
-  has_worked old new before after last n p turns taken malformed out fed h = record { leads = λ x at. let r = h.leads x at in (r.0, inl (taken, malformed, out, fed, r.1), r.2, r.3) }
+  pub has_worked : (old new : Running D) (before after : L) (last : LastCall) (n p turns taken malformed : ℕ) (out : List (To × Message))
+      → LeadsAhead stands_for received given old new before after (Works last n p turns taken malformed out) → LeadsAhead stands_for received given old new before after (HasWorked last n p turns)
+  has_worked old new before after last n p turns taken malformed out h = record { leads = λ x at. let r = h.leads x at in (r.0, inl (taken, malformed, out, r.1), r.2, r.3) }
 
   pub has_given_up : (old new : Running D) (before after : L) (last : LastCall) (n p turns : ℕ) (why : NodeFault)
       → LeadsAhead stands_for received given old new before after (GivesUpWork last n p turns why) → LeadsAhead stands_for received given old new before after (HasWorked last n p turns)

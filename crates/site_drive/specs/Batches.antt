@@ -35,8 +35,8 @@ pub record Hears (n p taken malformed : ℕ) (heard : List Heard) (out : List (T
 abbrev pub HearsAll : ℕ → ℕ → ℕ → ℕ → ℕ → List (To × Message) → Scene → Scene → Type 0
 HearsAll n p turns taken malformed out before after = (heard : List Heard) × Hears n p taken malformed heard out before after × EndsHearing turns heard
 
--- turns, and the last call. All that is known without a gap is published
-pub record Works (last : LastCall) (n p turns taken malformed : ℕ) (out : List (To × Message)) (fed : List (List ℕ)) (before after : Scene) : Type 0 where
+-- turns, and the last call
+pub record Works (last : LastCall) (n p turns taken malformed : ℕ) (out : List (To × Message)) (before after : Scene) : Type 0 where
   pub mid : Scene
   pub first : List (To × Message)
   pub then : List (To × Message)
@@ -46,9 +46,8 @@ pub record Works (last : LastCall) (n p turns taken malformed : ℕ) (out : List
   pub out_is : out ≡ first ++ then
   pub received : after.received ≡ mid.received
   pub given : after.given ≡ mid.given
-  pub fed_is : IsKnownPrefix after.node fed
 
--- given up in a turn, or as memory was wanted to publish
+-- given up in a turn
 abbrev pub GivesUpHearing : ℕ → ℕ → ℕ → NodeFault → Scene → Scene → Type 0
 GivesUpHearing n p turns why before after = GivesUp n p turns why before after × (after.given ≡ before.given)
 
@@ -80,28 +79,28 @@ pub record LeadsSealed {D L : Type 0} (stands_for : D → DiskState → Type 0) 
 
 -- ---- a batch that is sealed
 
--- what the work handed out is given
+-- All that is known without a gap is published, and what the work handed out is given
 pub record DrivesBatch (last : LastCall) (n p turns taken malformed : ℕ) (fed : List (List ℕ)) (before after : Scene) : Type 0 where
   pub worked : Scene
   pub out : List (To × Message)
-  pub works : Works last n p turns taken malformed out fed before worked
+  pub works : Works last n p turns taken malformed out before worked
   pub node : after.node ≡ worked.node
   pub received : after.received ≡ worked.received
   pub given : after.given ≡ before.given ++ sent_of n out
+  pub fed_is : IsKnownPrefix after.node fed
 
--- memory was wanted to send all of it
+-- memory was wanted to publish, or to give all of it
 pub record SendsPart (last : LastCall) (n p turns : ℕ) (before after : Scene) : Type 0 where
   pub worked : Scene
   pub taken : ℕ
   pub malformed : ℕ
-  pub fed : List (List ℕ)
   pub out : List (To × Message)
-  pub works : Works last n p turns taken malformed out fed before worked
+  pub works : Works last n p turns taken malformed out before worked
   pub node : after.node ≡ worked.node
   pub received : after.received ≡ worked.received
   pub given : IsPartlyGiven n out before after
 
--- given up: it was not begun, at a node that is stopped; or its work was given up, want of memory before it among that; or memory was wanted to send
+-- given up: it was not begun, at a node that is stopped; or its work was given up, want of memory before it among that; or memory was wanted to publish or to send
 abbrev pub GivesUpBatch : LastCall → ℕ → ℕ → ℕ → NodeFault → Scene → Scene → Type 0
 GivesUpBatch last n p turns why before after =
     ((why ≡ fault.Stopped) × (before.node.mode ≡ Stopped) × (after ≡ before))
@@ -113,7 +112,7 @@ GivesUpBatch last n p turns why before after =
 -- the work of a batch, whole or given up
 abbrev pub HasWorked : LastCall → ℕ → ℕ → ℕ → Scene → Scene → Type 0
 HasWorked last n p turns before after =
-    ((taken : ℕ) × (malformed : ℕ) × (out : List (To × Message)) × (fed : List (List ℕ)) × Works last n p turns taken malformed out fed before after)
+    ((taken : ℕ) × (malformed : ℕ) × (out : List (To × Message)) × Works last n p turns taken malformed out before after)
     ⊎ ((why : NodeFault) × GivesUpWork last n p turns why before after)
 
 -- the disk keeps what was there before, with all that was put since or with none of it, whether it crashes or not; and so it was at any moment

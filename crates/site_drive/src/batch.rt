@@ -63,7 +63,7 @@ impl Desk {
         Ok(taken)
     }
 
-    /// These turns; then the node publishes, and the last call is made.
+    /// These turns, and then the last call.
     fn work<D: Disk, L: Link>(
         &mut self,
         node: &mut Node<D>,
@@ -72,7 +72,7 @@ impl Desk {
         last: LastCall,
     ) -> Result<Taken, NodeFault>
         requires { self.old.outbox.items ≡ [] }
-        ensures ok { IfOk result (λ t. LeadsAhead D.stands_for L.received L.given node.old node.new link.old link.new (Works last node.old.cluster node.old.me turns t.turns t.malformed self.new.outbox.items node.new.releases)) }
+        ensures ok { IfOk result (λ t. LeadsAhead D.stands_for L.received L.given node.old node.new link.old link.new (Works last node.old.cluster node.old.me turns t.turns t.malformed self.new.outbox.items)) }
         ensures fault { IfErr result (λ why. LeadsAhead D.stands_for L.received L.given node.old node.new link.old link.new (GivesUpWork last node.old.cluster node.old.me turns why)) }
         ensures whose { StaysWhose node.old node.new }
         ensures tried { IfOk result (λ t. (t.turns ≤ turns) × RoseBy t.turns (L.tried link.old) (L.tried link.new)) }
@@ -81,15 +81,14 @@ impl Desk {
         ensures counts { CountsDevice result (D.failed node.old.store.disk) (D.failed node.new.store.disk) }
     {
         let taken = self.hear_all(node, link, turns)?;
-        node.publish()?;
         self.last_call(node, last)?;
         Ok(taken)
     }
 
     /// One batch: turns as those of `drive_with`, until one hears nothing or there were so many, and then these calls. What they put on record stands
-    /// on the disk by two writes and two syncs, and by none where they put nothing; behind that all that they hand out is sent.
+    /// on the disk by two writes and two syncs, and by none where they put nothing; behind that the node publishes, and all that they hand out is sent.
     ///
-    /// A device that fails leaves all of it on the disk or nothing, and nothing is sent; the node is stopped then. Want of memory has what was done
+    /// A device that fails leaves all of it on the disk or nothing, and nothing is published or sent; the node is stopped then. Want of memory has what was done
     /// before it on the disk, and nothing of it may be sent. A datagram that spells no message and a call of the link that fails are
     /// counted and passed over, as losses.
     pub fn drive_batch<D: Disk, L: Link>(
@@ -115,6 +114,7 @@ impl Desk {
             }
         };
         node.seal()?;
+        node.publish()?;
         send_all(
             link,
             node.cluster(),

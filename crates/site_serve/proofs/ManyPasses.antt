@@ -19,15 +19,12 @@ use Rattle.site_serve.proofs.ManySteps.{no_steps, one_step_more, still_published
 
 -- ---- what is published
 
-batch_fed : (last : LastCall) (n p turns taken malformed : ℕ) (fed : List (List ℕ)) (x y : Scene) → DrivesBatch last n p turns taken malformed fed x y → IsKnownPrefix y.node fed
-batch_fed last n p turns taken malformed fed x y d = subst (λ s. IsKnownPrefix s fed) (sym d.node) d.works.fed_is
-
 served_fed : (n p : ℕ) (fed : List (List ℕ)) (x : Scene) (ys : List Scene) → AreSteps (Serves n p) x ys → IsKnownPrefix x.node fed → IsKnownPrefix (last_of x ys).node fed
 served_fed n p fed x [] each h = h
 served_fed n p fed x (y ∷ ys) each h = served_fed n p fed y ys each.1 (still_published n p x.node y.node fed each.0.node h)
 
 pass_fed : (n p : ℕ) (fed : List (List ℕ)) (x y : Scene) → TakesPass n p fed x y → IsKnownPrefix y.node fed
-pass_fed n p fed x y r = subst (λ (w : Scene). IsKnownPrefix w.node fed) (sym r.serves.last) (served_fed n p fed r.heard r.serves.scenes r.serves.each (batch_fed r.last n p 257 r.turns r.malformed fed x r.heard r.drives))
+pass_fed n p fed x y r = subst (λ (w : Scene). IsKnownPrefix w.node fed) (sym r.serves.last) (served_fed n p fed r.heard r.serves.scenes r.serves.each r.drives.fed_is)
 
 -- ---- one more
 

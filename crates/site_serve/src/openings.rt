@@ -17,7 +17,7 @@ use std::io;
 use std::path::Path;
 use std::rt::Files;
 
-/// The record's file, made where it is absent and that was asked.
+/// The record's file, made where it is absent and that was asked. It is this process's alone as long as it runs: two that write one record would damage it.
 fn file<R: Files<File = File>>(rt: &R, path: &str, make: bool) -> Result<File, Halt>
     ensures { IfErr result EndsOpening }
 {
@@ -27,7 +27,8 @@ fn file<R: Files<File = File>>(rt: &R, path: &str, make: bool) -> Result<File, H
         .create(make)
         .open(rt, path);
     match opened {
-        Ok(file) => Ok(file),
+        Ok(file) if file.try_lock().is_ok() => Ok(file),
+        Ok(_) => Err(Halt::Record(RecordFault::Device)),
         Err(e) if e.kind() == io::ErrorKind::OutOfMemory => Err(Halt::OutOfMemory),
         Err(_) => Err(Halt::Record(RecordFault::Device)),
     }
