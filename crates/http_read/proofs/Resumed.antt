@@ -24,14 +24,14 @@ use Rattle.http_read.specs.declared.progress.Progress.TheVariants as progress
 use Rattle.http_read.specs.Heads.{window, got, refused, ended, ReadsHead}
 use Rattle.http_read.specs.Looks.{Finds}
 use Rattle.http_read.specs.Bodies.{ReadsBody}
-use Rattle.http_read.specs.Bodily.{IsUsed, ShowsRead, left_of, chunks_left}
-use Rattle.http_read.specs.Bodily as bodily
+use Rattle.http_read.specs.BodyProgress.{IsUsed, ShowsRead, left_of, chunks_left}
+use Rattle.http_read.specs.BodyProgress as so_far
 use Rattle.http_read.specs.Framings.{Judges, framing_meant, stated}
 use Rattle.http_read.specs.Opened.{ShowsHead}
 use Rattle.http_read.specs.Requests.{Heard, Answers, IsCutShort, asks, refuses, stops, ends, is_head}
 use Rattle.http_read.specs.Incoming.{Shows, request_of}
 use Rattle.http_read.specs.Input.{input_of, StopsAt}
-use Rattle.http_read.specs.Resumes.{Resumes, asks_of, bytes_left, Advances, KeepsBound, Waits, ShowsOpened}
+use Rattle.http_read.specs.Progress.{Resumes, asks_of, bytes_left, Advances, KeepsBound, Waits, ShowsOpened}
 use Rattle.http_read.proofs.Longer.{got_still, stands}
 
 
@@ -87,7 +87,7 @@ opened_before b held = (
 
 -- reading on in the body, behind a head
 body_advances : (p : Progress) (b : Begun) (new : Body) (held mid left : List ℕ) → Advances p (progress.Body b) held mid
-    → bodily.GoesOn b.body new mid left
+    → so_far.GoesOn b.body new mid left
     → Advances p (progress.Body (record { passed = b.passed; path = b.path; of_head = b.of_head; body = new })) held left
 body_advances p b new held mid left first on = λ used is.
     let f = first used is in
@@ -106,7 +106,7 @@ body_advances p b new held mid left first on = λ used is.
     )
 
 pub body_kept : (p : Progress) (b : Begun) (new : Body) (held mid left : List ℕ) → ShowsOpened (opened.Head b) p held mid
-    → bodily.GoesOn b.body new mid left
+    → so_far.GoesOn b.body new mid left
     → Advances p (progress.Body (record { passed = b.passed; path = b.path; of_head = b.of_head; body = new })) held left
 body_kept p b new held mid left opens on = body_advances p b new held mid left opens.0 on
 

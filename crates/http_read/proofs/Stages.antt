@@ -20,7 +20,7 @@ use Rattle.httparse.specs.Grammar.{ChunkLine, print_chunk_line, chunk_size}
 use Rattle.http_read.specs.Heads.{Reading, got, refused, ended, ReadsTrailer}
 use Rattle.http_read.specs.Checks.{Framing, fixed, chunked}
 use Rattle.http_read.specs.Bodies.{Chunk, IsChunk, print_chunk, chunks_joined, BeginsWithChunks, BeginsWithLine, EndsChunks, ReadsChunks, ReadsBody}
-use Rattle.http_read.specs.Bodily.{IsAfterChunks, IsWithinChunk, IsAfterLastLine, IsUsedUpTo, IsUsed, left_of, GoesOn, ShowsRead, ShowsStep}
+use Rattle.http_read.specs.BodyProgress.{IsAfterChunks, IsWithinChunk, IsAfterLastLine, IsUsedUpTo, IsUsed, left_of, GoesOn, ShowsRead, ShowsStep}
 use Rattle.http_read.specs.Lines.{ShowsLine}
 use Rattle.http_read.specs.BodySteps.{ShowsBreak, ShowsTrailer}
 use Rattle.http_read.specs.Taken.{TakesHeld}

@@ -2,7 +2,7 @@
 ghost use Rattle.std.specs.Prelude.{◌≡◌, ℕ, ◌≤◌, List, [], IfOk, OnErr};
 ghost use Rattle.http_read.specs.declared.lengths.TheConstants.{BODY_LIMIT};
 ghost use Rattle.http_read.specs.Framings.{framing_meant, stated};
-ghost use Rattle.http_read.specs.Bodily.{IsUsed, left_of, chunks_left, GoesOn, ShowsStep, ShowsRead};
+ghost use Rattle.http_read.specs.BodyProgress.{IsUsed, left_of, chunks_left, GoesOn, ShowsStep, ShowsRead};
 
 use crate::checks::Cut;
 use crate::chunk_lines::{LineRead, chunk_line};

@@ -1,7 +1,7 @@
 //! How far a request is read.
 ghost use Rattle.std.specs.Prelude.{◌≡◌, ◌≢◌, ℕ, List, ◌++◌, Some, IfOk, OnErr, IfSome, IfNone};
 ghost use Rattle.http_read.specs.Incoming.{Shows};
-ghost use Rattle.http_read.specs.Resumes.{Resumes, asks_of, Advances, Waits, ShowsOpened};
+ghost use Rattle.http_read.specs.Progress.{Resumes, asks_of, Advances, Waits, ShowsOpened};
 
 use crate::body::{Body, BodyRead};
 use crate::checks::Passed;

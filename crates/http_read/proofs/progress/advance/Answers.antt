@@ -1,7 +1,7 @@
 use Rattle.std.proofs.Common.{List, ℕ, ◌++◌, Some, subst, sym}
 use Rattle.http_read.specs.declared.incoming.Incoming.TheVariants as came
 use Rattle.http_read.specs.Incoming.{Shows}
-use Rattle.http_read.specs.Resumes.{Resumes}
+use Rattle.http_read.specs.Progress.{Resumes}
 use Rattle.http_read.proofs.Resumed.{body_whole, body_refused, body_open, body_kept}
 use Rattle.http_read.proofs.progress.advance.Goals as goal
 

@@ -1,7 +1,7 @@
 use Rattle.std.proofs.Common.{subst}
 use Rattle.std.proofs.lemmas.Result.{IfOk-weaker}
 use Rattle.http_read.specs.declared.opening.Opened.TheVariants.{Head}
-use Rattle.http_read.specs.Resumes.{ShowsOpened}
+use Rattle.http_read.specs.Progress.{ShowsOpened}
 use Rattle.http_read.proofs.Resumed.{opened_now, opened_before}
 use Rattle.http_read.proofs.progress.take_begun.Goals as goal
 

@@ -1,7 +1,7 @@
 use Rattle.std.proofs.Common.{◌≡◌, ◌-◌, length}
 use Rattle.http_read.specs.Counted.{inside, failed}
 use Rattle.http_read.specs.Input.{input_of}
-use Rattle.http_read.specs.Resumes.{bytes_left}
+use Rattle.http_read.specs.Progress.{bytes_left}
 use Rattle.http_read.proofs.Resumed.{HasUsed}
 use Rattle.http_read.proofs.reading.read_one.Given as goal
 

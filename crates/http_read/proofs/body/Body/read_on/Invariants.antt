@@ -1,5 +1,5 @@
 use Rattle.std.proofs.Common.{◌+◌, ◌≤◌, length}
-use Rattle.http_read.specs.Bodily.{GoesOn, left_of, steps_left}
+use Rattle.http_read.specs.BodyProgress.{GoesOn, left_of, steps_left}
 use Rattle.http_read.proofs.body.Body.read_on.Given as goal
 
 abbrev pub invariant-loop-read : goal.invariant-loop-read

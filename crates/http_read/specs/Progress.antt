@@ -12,7 +12,7 @@ use Rattle.http_read.specs.declared.progress.Progress.{Progress}
 use Rattle.http_read.specs.declared.progress.Progress.TheVariants.{Head, Body}
 use Rattle.http_read.specs.Heads.{got, ended, ReadsHead}
 use Rattle.http_read.specs.Framings.{framing_meant, Judges}
-use Rattle.http_read.specs.Bodily.{IsUsed, left_of, chunks_left}
+use Rattle.http_read.specs.BodyProgress.{IsUsed, left_of, chunks_left}
 use Rattle.http_read.specs.Requests.{Answers, refuses, IsCutShort, is_head}
 
 -- the request of a begun one whose body is whole
