@@ -1,6 +1,6 @@
 -- What the search for a trailer section finds.
-use Rattle.std.proofs.Common.{◌≡◌, ℕ, ◌<◌, ◌≤◌, List, ◌++◌, length, take, drop, arith, sym, ap, subst, refl, ◌∙◌, append_assoc, length-append, inl, inr, Some, None}
-use Rattle.std.proofs.lemmas.List.{take-append-drop, take-append-le, drop-append-le, length-take, length-map}
+use Rattle.std.proofs.Common.{◌≡◌, ℕ, ◌<◌, ◌≤◌, List, ◌++◌, length, take, drop, arith, sym, ap, subst, refl, ◌∙◌, append_assoc, length-append, append-nil, [], inl, inr}
+use Rattle.std.proofs.lemmas.List.{take-append-drop, drop-append-le, length-take, length-map}
 use Rattle.std.proofs.Math.Seq.{drop-append_seam}
 use Rattle.http_read.specs.declared.heads.TheConstants.{HEAD_LIMIT}
 use Rattle.httparse.specs.declared.spans.HeaderSpan.{HeaderSpan}
@@ -10,8 +10,8 @@ use Rattle.httparse.proofs.GrammarLemmas.{ReadsSection-append}
 use Rattle.http_read.specs.Heads.{window, refused, ended, ReadsTrailer}
 use Rattle.http_read.specs.Sections.{SeesSection}
 use Rattle.http_read.specs.BodySteps.{ShowsTrailer}
+use Rattle.http_read.specs.declared.trailers.TrailerRead.TheVariants as trailer
 use Rattle.http_read.specs.declared.trailers.Section.TheVariants.{Whole, Never, Open}
-use Rattle.http_read.proofs.Windows.{take_goes_on}
 
 -- what the parser answers
 pub sees_whole : (bytes : List ℕ) (headers : List HeaderSpan) (len count : ℕ) → IsSectionWithin bytes headers len count
@@ -32,10 +32,6 @@ sees_whole bytes headers len count within (fields, last, at) = (
   within.len_fits,
 )
 
-never_a_section : (bytes w : List ℕ) → NeverHasSection bytes → NeverHasSection (bytes ++ w)
-never_a_section bytes w never = λ more fields last rest reads.
-    never (w ++ more) fields last rest (subst (λ text. ReadsSection text fields last rest) (append_assoc bytes w more) reads)
-
 -- a section of the first bytes is one of the input
 section_of_front : (n len count : ℕ) (held more : List ℕ) (fields : List Field) (last : LineEnd)
     → ReadsSection (take n held) fields last (drop len (take n held)) → len ≡ length (print_section fields last) → len ≤ length (take n held)
@@ -52,57 +48,55 @@ section_of_front n len count held more fields last reads is within =
     ∙ drop-append_seam (print_section fields last) (drop len (take n held) ++ (drop n held ++ more)) in
     (whole.0, whole.1 ∙ ap (λ t. print_section fields last ++ t) (sym rest))
 
-pub trailer_whole : (held bytes more : List ℕ) (len count : ℕ) → bytes ≡ window held → SeesSection bytes (Whole len count) → count ≤ 64
-    → ShowsTrailer None (Some (drop len held ++ more)) (held ++ more)
-trailer_whole held bytes more len count same seen few =
+-- the same without more
+section_held : (len count : ℕ) (held : List ℕ) (fields : List Field) (last : LineEnd)
+    → ReadsSection (window held) fields last (drop len (window held)) → len ≡ length (print_section fields last) → len ≤ length (window held)
+    → ReadsSection held fields last (drop len held)
+section_held len count held fields last reads is within =
+    subst (λ rest. ReadsSection held fields last rest) (append-nil (drop len held))
+    (subst (λ t. ReadsSection t fields last (drop len held ++ [])) (append-nil held)
+    (section_of_front HEAD_LIMIT len count held [] fields last reads is within))
+
+pub trailer_whole : (held bytes left : List ℕ) (len count : ℕ) → bytes ≡ window held → SeesSection bytes (Whole len count) → count ≤ 64
+    → left ≡ drop len held → ShowsTrailer trailer.Whole held left
+trailer_whole held bytes left len count same seen few is =
     let s = subst (λ b. SeesSection b (Whole len count)) same seen in (
       s.0,
-      drop len held ++ more,
       (
         s.1,
-        section_of_front HEAD_LIMIT len count held more s.0 s.1 s.2 s.3 s.5,
+        subst (λ rest. ReadsSection held s.0 s.1 rest) (sym is) (section_held len count held s.0 s.1 s.2 s.3 s.5),
         omega (arith, s.3, s.5, length-take HEAD_LIMIT held),
         omega (arith, s.4, few),
       ),
-      refl,
     )
 
-pub trailer_many : (held bytes more : List ℕ) (len count : ℕ) → bytes ≡ window held → SeesSection bytes (Whole len count) → 64 < count
-    → ReadsTrailer (held ++ more) (refused 431)
-trailer_many held bytes more len count same seen many =
+pub trailer_many : (held bytes left : List ℕ) (len count : ℕ) → bytes ≡ window held → SeesSection bytes (Whole len count) → 64 < count
+    → ShowsTrailer (trailer.Refused 431) held left
+trailer_many held bytes left len count same seen many =
     let s = subst (λ b. SeesSection b (Whole len count)) same seen in
     inr (inr (
       refl,
       (
         s.0,
         s.1,
-        drop len held ++ more,
-        section_of_front HEAD_LIMIT len count held more s.0 s.1 s.2 s.3 s.5,
+        drop len held,
+        section_held len count held s.0 s.1 s.2 s.3 s.5,
         omega (arith, s.3, s.5, length-take HEAD_LIMIT held),
         omega (arith, s.4, many),
       ),
     ))
 
-never_within : (n : ℕ) (held more : List ℕ) → NeverHasSection (take n held) → NeverHasSection (take n (held ++ more))
-never_within n held more never =
-    let r = take_goes_on n held more in subst NeverHasSection (sym r.1) (never_a_section (take n held) r.0 never)
+pub trailer_never : (held bytes left : List ℕ) → bytes ≡ window held → SeesSection bytes Never → ShowsTrailer (trailer.Refused 400) held left
+trailer_never held bytes left same never = inl (refl, subst NeverHasSection same never)
 
-pub trailer_never : (held bytes more : List ℕ) → bytes ≡ window held → SeesSection bytes Never → ReadsTrailer (held ++ more) (refused 400)
-trailer_never held bytes more same never = inl (refl, never_within HEAD_LIMIT held more (subst NeverHasSection same never))
+pub trailer_long : (held bytes left : List ℕ) → bytes ≡ window held → SeesSection bytes Open → HEAD_LIMIT < length held
+    → ShowsTrailer (trailer.Refused 431) held left
+trailer_long held bytes left same wanted full =
+    inr (inl (refl, subst HasNoSection same wanted.0, subst MayBecomeSection same wanted.1, full))
 
-pub trailer_long : (held bytes more : List ℕ) → bytes ≡ window held → SeesSection bytes Open → HEAD_LIMIT < length held
-    → ReadsTrailer (held ++ more) (refused 431)
-trailer_long held bytes more same wanted full =
-    let front : window (held ++ more) ≡ window held = take-append-le HEAD_LIMIT held more (omega arith) in
-    inr (inl (
-      refl,
-      subst HasNoSection (same ∙ sym front) wanted.0,
-      subst MayBecomeSection (same ∙ sym front) wanted.1,
-      omega (arith, length-append held more),
-    ))
-
-pub trailer_short : (held bytes : List ℕ) → bytes ≡ window held → SeesSection bytes Open → length held ≤ HEAD_LIMIT → ReadsTrailer held ended
-trailer_short held bytes same wanted short = (subst HasNoSection same wanted.0, subst MayBecomeSection same wanted.1, short)
+pub trailer_short : (held bytes : List ℕ) → bytes ≡ window held → SeesSection bytes Open → length held ≤ HEAD_LIMIT
+    → ShowsTrailer trailer.Open held held
+trailer_short held bytes same wanted short = ((subst HasNoSection same wanted.0, subst MayBecomeSection same wanted.1, short), refl)
 
 pub section_fits_held : (held bytes : List ℕ) (len count : ℕ) → bytes ≡ window held → SeesSection bytes (Whole len count) → len ≤ length held
 section_fits_held held bytes len count same seen = omega (arith, seen.5, ap length same, length-take HEAD_LIMIT held)

@@ -1,6 +1,6 @@
 pub mod Held
 pub mod Room
-pub mod Takings
+pub mod Stages
 pub mod Windows
 pub mod FoundHeads
 pub mod ChunkLines
@@ -12,10 +12,11 @@ pub mod Commas
 pub mod Numbers
 pub mod SameFaults
 pub mod FoundSections
-pub mod Chunked
 pub mod Answered
+pub mod Resumed
 pub mod Begun
 pub mod OneTrailer
 pub mod OneBody
 pub mod OneAnswer
+pub mod Longer
 pub mod Examples

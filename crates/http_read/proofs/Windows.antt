@@ -47,23 +47,11 @@ pub head_is_short : (n : ℕ) (held : List ℕ) (h : RequestHead) (rest : List �
 head_is_short n held h rest reads =
     omega (arith, length-take n held, ap length reads.1, length-append (print_request h) rest)
 
--- what holds of the held bytes with any more behind them holds of the input
-pub of_input : (held : List ℕ) (left : Option (List ℕ)) (P : List ℕ → Type 0) → ((more : List ℕ) → P (held ++ more))
-    → IfSome (input_of held left) P
-of_input held None P each = tt
-of_input held (Some more) P each = each more
-
 -- what holds of the input holds of the same input seen earlier
 pub of_kept : (old new : Option (List ℕ)) (P : List ℕ → Type 0) → Keeps old new → IfSome new P → IfSome old P
 of_kept None new P same holds = tt
 of_kept (Some xs) None P same holds = absurd same
 of_kept (Some xs) (Some ys) P same holds = subst P same holds
-
--- at the end of the reader the input is what is held
-pub of_end : (held : List ℕ) (left : Option (List ℕ)) (P : List ℕ → Type 0) → IsAtEnd left → P held
-    → IfSome (input_of held left) P
-of_end held None P end holds = tt
-of_end held (Some more) P end holds = subst P (sym (ap (λ t. held ++ t) end ∙ append-nil held)) holds
 
 -- where nothing more came, what was taken is what is held
 pub stops_here : (first : Option (List ℕ)) (held after : List ℕ) (left left_now : Option (List ℕ)) (P : List ℕ → Type 0)
@@ -77,12 +65,3 @@ stops_here (Some xs) held after left (Some rest) P kept kept_now same holds = (
   sym (Keeps-trans (Some xs) (input_of held left) (Some (after ++ rest)) kept kept_now) ∙ ap (λ t. t ++ rest) same,
   holds,
 )
-
--- what holds of each input that begins with the held bytes, of which some are passed, holds of the input as it was at first
-pub of_passed : (first : Option (List ℕ)) (held after : List ℕ) (n : ℕ) (left : Option (List ℕ)) (P : Option (List ℕ) → List ℕ → Type 0)
-    → Keeps first (input_of held left) → after ≡ drop n held → ((more : List ℕ) → P (Some (drop n held ++ more)) (held ++ more))
-    → IfSome first (P (input_of after left))
-of_passed None held after n left P kept passed each = tt
-of_passed (Some xs) held after n None P kept passed each = absurd kept
-of_passed (Some xs) held after n (Some more) P kept passed each =
-    subst (λ t. P (Some (t ++ more)) xs) (sym passed) (subst (P (Some (drop n held ++ more))) kept (each more))

@@ -1,7 +1,8 @@
 -- How the code tells the framing of a body.
-use Rattle.std.specs.Prelude.{◌≡◌, ℕ, ◌⊎◌, List, Some, None}
+use Rattle.std.specs.Prelude.{◌≡◌, ℕ, ◌≤◌, ◌⊎◌, List, Some, None}
 use Rattle.std.specs.String.{string_bytes}
 use Rattle.httparse.specs.Grammar.{RequestHead}
+use Rattle.http_read.specs.declared.lengths.TheConstants.{BODY_LIMIT}
 use Rattle.http_read.specs.declared.checks.Cut.{Cut}
 use Rattle.http_read.specs.declared.checks.Cut.TheVariants.{Length, Chunks}
 use Rattle.http_read.specs.declared.checks.Passed.{Passed}
@@ -16,11 +17,17 @@ abbrev pub framing_meant : Cut → Framing
 framing_meant (Length n) = fixed n
 framing_meant Chunks = chunked
 
+-- the stated length, or 0
+abbrev pub stated : Cut → ℕ
+stated (Length n) = n
+stated Chunks = 0
+
 -- the head passes all tests, and this is its method, how its body is cut, and whether the connection may stay
 pub record Passes (minor : ℕ) (method : List ℕ) (fields : List FieldPair) (passed : Passed) : Type 0 where
   pub sound : fault_of minor method fields ≡ None
   pub named : method_name passed.method ≡ method
   pub framed : framing_meant passed.cut ≡ framing_of fields
+  pub small : stated passed.cut ≤ BODY_LIMIT
   pub keep : passed.keep ≡ keeps minor fields
 
 -- what is known of a whole head before its body is read

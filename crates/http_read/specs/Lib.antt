@@ -12,7 +12,9 @@ pub mod Requests
 pub mod Looks
 pub mod Framings
 pub mod BodySteps
+pub mod BodyProgress
 pub mod Sections
+pub mod Progress
 pub mod Opened
 pub mod Incoming
 pub mod Lines

@@ -1,5 +1,6 @@
 //! The tests that a head has to pass, in their order.
-ghost use Rattle.std.specs.Prelude.{◌≡◌, ◌≤◌, ◌<◌, ℕ, length, MatchOption, MatchResult, codes, false, None, Some};
+ghost use Rattle.std.specs.Prelude.{◌≡◌, ◌≤◌, ◌<◌, ℕ, length, MatchOption, MatchResult, IfOk, codes, false, None, Some};
+ghost use Rattle.http_read.specs.declared.lengths.TheConstants.{BODY_LIMIT};
 ghost use Rattle.http_read.specs.Checks.{host_fault, coding_fault, length_fault, fault_of, is_known_method, values_of, stated_length};
 ghost use Rattle.http_read.specs.Framings.{Passes};
 ghost use Rattle.http_read.specs.Methods.{method_name};
@@ -83,8 +84,9 @@ fn coding_status(minor: u8, bytes: &[u8], fields: &[HeaderSpan]) -> Option<u16>
 /// The stated length of the body, or the status where it can't be taken (RFC 9112, section 6.2).
 fn length_named(bytes: &[u8], fields: &[HeaderSpan]) -> Result<usize, u16>
     requires { LieIn bytes.now fields.now }
-    ensures { let values = values_of (codes "content-length") (covered bytes.now fields.now) in
+    ensures stated { let values = values_of (codes "content-length") (covered bytes.now fields.now) in
         MatchResult result (λ n. (length_fault values ≡ None) × (n ≡ stated_length values)) (λ status. length_fault values ≡ Some status) }
+    ensures small { IfOk result (λ n. n ≤ BODY_LIMIT) }
 {
     if count_named(bytes, fields, b"content-length") > 1 {
         return Err(400);

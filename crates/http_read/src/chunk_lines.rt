@@ -1,18 +1,23 @@
 //! Reads the line before a chunk.
-ghost use Rattle.std.specs.Prelude.{◌≡◌, ◌≢◌, ℕ, List, length, MatchOption, Some, IfOk, IfSome, IfErr, IsErrOf, OnOk};
-ghost use Rattle.std.specs.Io.KnownBytes.{IsAtEnd};
-ghost use Rattle.http_read.specs.Counted.{inside, failed, RoseByOne};
-ghost use Rattle.http_read.specs.Input.{input_of, StopsAt};
-ghost use Rattle.http_read.specs.Bodies.{IsCutLine, IsFirstLine};
+ghost use Rattle.std.specs.Prelude.{◌≡◌, ℕ, List, length, MatchOption};
+ghost use Rattle.http_read.specs.Bodies.{IsFirstLine};
 ghost use Rattle.httparse.specs.Grammar.{ChunkLine, IsChunkLine, print_chunk_line};
-ghost use Rattle.http_read.specs.Lines.{ReadsLine, IsLineOf};
+ghost use Rattle.http_read.specs.Lines.{ShowsLine, IsLineOf};
 
-use crate::counted::Counted;
-use crate::fault::ReadFault;
 use crate::inbox::Inbox;
-use crate::lines::next_line;
+use crate::lines::{LINE_LIMIT, line_len};
 use httparse::{Status, parse_chunk_size};
-use std::io::Read;
+
+/// What stands at the front.
+#[derive(Clone, Copy)]
+pub(crate) enum LineRead {
+    /// More bytes are wanted.
+    Open,
+    /// No chunk line.
+    Wrong,
+    /// A chunk line, which tells this size.
+    Size(u64),
+}
 
 /// The size on a line, if it is a chunk line.
 fn size_on(line: &[u8]) -> Option<u64>
@@ -26,25 +31,23 @@ fn size_on(line: &[u8]) -> Option<u64>
     }
 }
 
-/// Reads a chunk line and passes over it. The answer is the size, or `None` where the line is none.
-pub(crate) fn chunk_line<R: Read>(
-    reader: &mut Counted<R>,
-    inbox: &mut Inbox,
-) -> Result<Option<u64>, ReadFault>
-    ensures line { IfOk result (λ found. IfSome (input_of inbox.old (R.remaining (inside reader.old)))
-        (ReadsLine found (input_of inbox.new (R.remaining (inside reader.new))))) }
-    ensures stopped { IfErr result (λ fault. fault ≢ ReadFault.OutOfMemory →
-        StopsAt (input_of inbox.old (R.remaining (inside reader.old))) (R.remaining (inside reader.new)) IsCutLine) }
-    ensures ended { IsErrOf result ReadFault.EndedEarly → IsAtEnd (R.remaining (inside reader.new)) }
-    ensures failed { IsErrOf result ReadFault.Read → RoseByOne (failed reader.old) (failed reader.new) }
-    ensures quiet { ¬ (IsErrOf result ReadFault.Read) → failed reader.new ≡ failed reader.old }
+/// Reads a chunk line and passes over it.
+pub(crate) fn chunk_line(inbox: &mut Inbox) -> LineRead
+    ensures { ShowsLine result inbox.old inbox.new }
 {
-    let Some(len) = next_line(reader, inbox)? else {
-        return Ok(None);
+    let held = inbox.held();
+    let Some(len) = line_len(held) else {
+        return if held.len() < LINE_LIMIT {
+            LineRead::Open
+        } else {
+            LineRead::Wrong
+        };
     };
-    let size = size_on(&inbox.held()[..len]);
-    if size.is_some() {
-        inbox.pass(len);
+    match size_on(&held[..len]) {
+        Some(size) => {
+            inbox.pass(len);
+            LineRead::Size(size)
+        }
+        None => LineRead::Wrong,
     }
-    Ok(size)
 }

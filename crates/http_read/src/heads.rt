@@ -1,19 +1,12 @@
 //! Finds the head of a request at the front of an input (RFC 9112, sections 2 to 5).
-ghost use Rattle.std.specs.Prelude.{◌≡◌, ◌≢◌, if◌then◌else◌, ℕ, List, ◌≤◌, ◌<◌, length, IfOk, IfSome, OnOk, IfErr, IsErrOf};
-ghost use Rattle.std.specs.Io.KnownBytes.{Keeps, IsAtEnd};
+ghost use Rattle.std.specs.Prelude.{◌≡◌, if◌then◌else◌, ℕ, List, ◌≤◌, length, IfOk};
 ghost use Rattle.http_read.specs.declared.heads.TheConstants.{HEAD_LIMIT};
-ghost use Rattle.http_read.specs.Counted.{inside, failed, RoseByOne};
-ghost use Rattle.http_read.specs.Input.{input_of, StopsAt};
-ghost use Rattle.http_read.specs.Heads.{window, skip_breaks, is_long_line, ended, ReadsHead};
-ghost use Rattle.http_read.specs.Looks.{Sees, LiesWithin, Finds};
+ghost use Rattle.http_read.specs.Heads.{window, skip_breaks, is_long_line};
+ghost use Rattle.http_read.specs.Looks.{Sees, Finds};
 
-use crate::counted::Counted;
-use crate::fault::ReadFault;
-use crate::inbox::Inbox;
 use httparse::spans::{EMPTY_HEADER_SPAN, HeaderSpan, RequestSpans, parse_request};
 use httparse::{Error, Status};
 use std::alloc::AllocError;
-use std::io::Read;
 
 /// The most bytes of a head, its request line and its last line among them.
 pub(crate) const HEAD_LIMIT: usize = 8192;
@@ -37,6 +30,8 @@ pub(crate) enum Found {
     At(RequestSpans),
     /// No head: the status of the refusal.
     Refused(u16),
+    /// More bytes are wanted.
+    Wanted,
 }
 
 /// The first 8,192 bytes.
@@ -88,33 +83,20 @@ fn overlong(bytes: &[u8]) -> u16
     }
 }
 
-/// Reads until the input shows a head or a reason to refuse it.
-pub(crate) fn find_head<R: Read>(
-    reader: &mut Counted<R>,
-    inbox: &mut Inbox,
-    spans: &mut Vec<HeaderSpan>,
-) -> Result<Found, ReadFault>
-    ensures input { OnOk result (Keeps (input_of inbox.old (R.remaining (inside reader.old)))
-        (input_of inbox.new (R.remaining (inside reader.new)))) }
-    ensures found { IfOk result (λ found. IfSome (input_of inbox.new (R.remaining (inside reader.new)))
-        (Finds inbox.new spans.new.items found)) }
-    ensures within { IfOk result (LiesWithin inbox.new spans.new.items) }
-    ensures stopped { IfErr result (λ fault. fault ≢ ReadFault.OutOfMemory →
-        StopsAt (input_of inbox.old (R.remaining (inside reader.old))) (R.remaining (inside reader.new)) (λ taken. ReadsHead taken ended)) }
-    ensures ended { IsErrOf result ReadFault.EndedEarly → IsAtEnd (R.remaining (inside reader.new)) }
-    ensures failed { IsErrOf result ReadFault.Read → RoseByOne (failed reader.old) (failed reader.new) }
-    ensures quiet { ¬ (IsErrOf result ReadFault.Read) → failed reader.new ≡ failed reader.old }
+/// Looks for a head, or a reason to refuse what is held.
+pub(crate) fn find_head(held: &[u8], spans: &mut Vec<HeaderSpan>) -> Result<Found, AllocError>
+    ensures { IfOk result (Finds held.now spans.new.items) }
 {
-    loop {
-        let bytes = first_bytes(inbox.held());
-        match look_within(bytes, spans)? {
-            Look::Head(found) => return Ok(Found::At(found)),
-            Look::Never => return Ok(Found::Refused(400)),
-            Look::Open => {}
+    let bytes = first_bytes(held);
+    match look_within(bytes, spans)? {
+        Look::Head(found) => Ok(Found::At(found)),
+        Look::Never => Ok(Found::Refused(400)),
+        Look::Open => {
+            if held.len() > HEAD_LIMIT {
+                Ok(Found::Refused(overlong(bytes)))
+            } else {
+                Ok(Found::Wanted)
+            }
         }
-        if inbox.held().len() > HEAD_LIMIT {
-            return Ok(Found::Refused(overlong(first_bytes(inbox.held()))));
-        }
-        inbox.read_more(reader)?;
     }
 }

@@ -1,13 +1,15 @@
 //! The bytes that were read from a connection and not yet used.
-ghost use Rattle.std.specs.Prelude.{◌≡◌, ◌≢◌, ℕ, ◌+◌, ◌-◌, List, [], ◌<◌, ◌≤◌, length, take, drop, slice_range, OnOk, IfErr, IsErrOf, vec_len};
+ghost use Rattle.std.specs.Prelude.{◌≡◌, ◌≢◌, ℕ, ◌+◌, ◌-◌, List, [], ◌<◌, ◌≤◌, length, take, drop, slice_range, Ok, IfOk, OnOk, OnErr, IfErr, IsErrOf, IsTrue, ◌↔◌, vec_len};
 ghost use Rattle.std.specs.Io.KnownBytes.{Keeps, IsAtEnd};
 ghost use Rattle.http_read.specs.declared.heads.TheConstants.{HEAD_LIMIT};
 ghost use Rattle.http_read.specs.Counted.{inside, failed, RoseByOne};
-ghost use Rattle.http_read.specs.Input.{input_of};
+ghost use Rattle.http_read.specs.declared.inbox.TheConstants.{ROOM};
+ghost use Rattle.http_read.specs.Input.{input_of, Receives};
 
 use crate::counted::Counted;
 use crate::fault::ReadFault;
 use std::alloc::{AllocError, Global};
+use std::io;
 use std::io::Read;
 use std::marker::Model;
 
@@ -59,7 +61,45 @@ impl Inbox {
         self.start += n;
     }
 
+    /// Whether there is no room for one more byte.
+    pub fn is_full(&self) -> bool
+        ensures { IsTrue result ↔ (ROOM ≤ length self.now) }
+    {
+        self.end - self.start >= ROOM
+    }
+
     /// Reads once, behind what is held, which is moved to the front first: so the room of all used bytes is given back.
+    ///
+    /// `Ok(0)` is the end of the input. A reader that has no byte yet and doesn't wait for one (`WouldBlock`) has failed; it can be read again.
+    pub fn read_from<R: Read>(
+        &mut self,
+        reader: &mut Counted<R>,
+    ) -> Result<io::Result<usize>, AllocError>
+        requires { length self.old < ROOM }
+        ensures came { IfOk result (λ read. IfOk read (λ n. Receives n self.old self.new
+            (R.remaining (inside reader.old)) (R.remaining (inside reader.new)))) }
+        ensures ended { result ≡ Ok (Ok 0) → IsAtEnd (R.remaining (inside reader.new)) }
+        ensures unread { IfOk result (λ read. OnErr read ((self.new ≡ self.old)
+            × Keeps (R.remaining (inside reader.old)) (R.remaining (inside reader.new)))) }
+        ensures failed { IfOk result (λ read. OnErr read (RoseByOne (failed reader.old) (failed reader.new))) }
+        ensures quiet { IfOk result (λ read. OnOk read (failed reader.new ≡ failed reader.old)) }
+        ensures memory { OnErr result ((self.new ≡ self.old) × (reader.new ≡ reader.old)) }
+    {
+        make_buffer(&mut self.buffer)?;
+        let held = self.end - self.start;
+        move_down(&mut self.buffer, self.start, self.end);
+        self.start = 0;
+        self.end = held;
+        match reader.read(&mut self.buffer.as_mut_slice()[held..]) {
+            Ok(n) => {
+                self.end = held + n;
+                Ok(Ok(n))
+            }
+            Err(e) => Ok(Err(e)),
+        }
+    }
+
+    /// Reads once, as `read_from` does, for a byte or more.
     pub(crate) fn read_more<R: Read>(&mut self, reader: &mut Counted<R>) -> Result<(), ReadFault>
         requires { length self.old ≤ HEAD_LIMIT }
         ensures input { OnOk result (Keeps (input_of self.old (R.remaining (inside reader.old)))
@@ -72,17 +112,9 @@ impl Inbox {
         ensures failed { IsErrOf result ReadFault.Read → RoseByOne (failed reader.old) (failed reader.new) }
         ensures quiet { ¬ (IsErrOf result ReadFault.Read) → failed reader.new ≡ failed reader.old }
     {
-        make_buffer(&mut self.buffer)?;
-        let held = self.end - self.start;
-        move_down(&mut self.buffer, self.start, self.end);
-        self.start = 0;
-        self.end = held;
-        match reader.read(&mut self.buffer.as_mut_slice()[held..]) {
+        match self.read_from(reader)? {
             Ok(0) => Err(ReadFault::EndedEarly),
-            Ok(n) => {
-                self.end = held + n;
-                Ok(())
-            }
+            Ok(_) => Ok(()),
             Err(_) => Err(ReadFault::Read),
         }
     }
@@ -91,7 +123,7 @@ impl Inbox {
 /// Makes the buffer as long as it shall be.
 fn make_buffer(buffer: &mut Vec<u8>) -> Result<(), AllocError>
     ensures front { take (vec_len buffer.old) buffer.new.items ≡ buffer.old.items }
-    ensures room { OnOk result (16384 ≤ vec_len buffer.new) }
+    ensures room { OnOk result (ROOM ≤ vec_len buffer.new) }
     ensures len { vec_len buffer.old ≤ vec_len buffer.new }
 {
     if buffer.len() < ROOM {

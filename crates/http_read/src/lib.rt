@@ -4,10 +4,10 @@
 //! more. What the client sent is read as one list of bytes, however it was cut. Readers and writers are counted ends: `Counted` says how many of their calls failed.
 #![tactic(auto)]
 
-mod bodies;
+mod body;
+mod breaks;
 mod checks;
 mod chunk_lines;
-mod chunks;
 mod codings;
 mod connection;
 mod counted;
@@ -21,6 +21,8 @@ mod laws;
 mod lengths;
 mod lines;
 mod opening;
+mod place;
+mod progress;
 mod reading;
 mod taking;
 mod targets;
@@ -31,6 +33,8 @@ pub use counted::Counted;
 pub use fault::ReadFault;
 pub use inbox::Inbox;
 pub use incoming::{Incoming, Method, Request};
-pub use laws::{answer_is_one, candidates_agree, head_is_one};
+pub use laws::{answer_is_one, answer_stands, candidates_agree, head_is_one};
+pub use place::Place;
+pub use progress::{Progress, advance};
 pub use reading::request;
 pub use writing::write_all;

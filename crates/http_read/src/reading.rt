@@ -6,13 +6,12 @@ ghost use Rattle.http_read.specs.Input.{input_of, StopsAt, HasBegun};
 ghost use Rattle.http_read.specs.Requests.{Answers, IsCutShort, stops};
 ghost use Rattle.http_read.specs.Incoming.{Shows};
 
-use crate::bodies::{BodyRead, read_body};
 use crate::checks::FIELD_LIMIT;
 use crate::counted::Counted;
 use crate::fault::ReadFault;
 use crate::inbox::Inbox;
-use crate::incoming::{Incoming, Request};
-use crate::opening::{Opened, open_head};
+use crate::incoming::Incoming;
+use crate::progress::{Progress, advance};
 use httparse::spans::{EMPTY_HEADER_SPAN, HeaderSpan};
 use std::alloc::{AllocError, Global};
 use std::io::Read;
@@ -59,18 +58,12 @@ fn read_one<R: Read>(
     ensures failed { IsErrOf result ReadFault.Read → RoseByOne (failed reader.old) (failed reader.new) }
     ensures quiet { ¬ (IsErrOf result ReadFault.Read) → failed reader.new ≡ failed reader.old }
 {
-    let (passed, path, head) = match open_head(alloc, reader, inbox, spans)? {
-        Opened::Head(passed, path, head) => (passed, path, head),
-        Opened::Refused(status, head) => return Ok(Incoming::Refused { status, head }),
-    };
-    match read_body(alloc, reader, inbox, spans, passed.cut)? {
-        BodyRead::Got(body) => Ok(Incoming::Request(Request {
-            method: passed.method,
-            path,
-            keep: passed.keep,
-            body,
-        })),
-        BodyRead::Refused(status) => Ok(Incoming::Refused { status, head }),
+    let mut progress = Progress::Head;
+    loop {
+        match advance(alloc, &mut progress, inbox, spans)? {
+            Some(incoming) => return Ok(incoming),
+            None => inbox.read_more(reader)?,
+        }
     }
 }
 

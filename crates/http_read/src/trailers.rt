@@ -1,22 +1,15 @@
 //! Reads the field lines behind the last chunk, the trailer section (RFC 9112, section 7.1.2).
-ghost use Rattle.std.specs.Prelude.{◌≡◌, ◌≢◌, ℕ, List, ◌≤◌, ◌<◌, length, IfOk, IfErr, IfSome, OnOk, IsErrOf};
-ghost use Rattle.std.specs.Io.KnownBytes.{Keeps, IsAtEnd};
+ghost use Rattle.std.specs.Prelude.{◌≡◌, List, ◌≤◌, length, IfOk, OnErr};
 ghost use Rattle.http_read.specs.declared.heads.TheConstants.{HEAD_LIMIT};
-ghost use Rattle.http_read.specs.Counted.{inside, failed, RoseByOne};
-ghost use Rattle.http_read.specs.Input.{input_of, StopsAt};
-ghost use Rattle.http_read.specs.Heads.{window, ended, ReadsTrailer};
 ghost use Rattle.http_read.specs.Sections.{SeesSection};
 ghost use Rattle.http_read.specs.BodySteps.{ShowsTrailer};
 
 use crate::checks::FIELD_LIMIT;
-use crate::counted::Counted;
-use crate::fault::ReadFault;
 use crate::heads::{FIELD_ROOM, HEAD_LIMIT, first_bytes};
 use crate::inbox::Inbox;
 use httparse::spans::{EMPTY_HEADER_SPAN, HeaderSpan, parse_headers};
 use httparse::{Error, Status};
 use std::alloc::AllocError;
-use std::io::Read;
 
 /// What the bytes so far say of a section of field lines.
 pub(crate) enum Section {
@@ -43,36 +36,34 @@ fn look_for_section(bytes: &[u8], spans: &mut Vec<HeaderSpan>) -> Result<Section
     }
 }
 
-/// Reads the field lines and passes over them. The answer is the status where they can't be taken.
-pub(crate) fn read_trailer<R: Read>(
-    reader: &mut Counted<R>,
+/// What stands at the front.
+#[derive(Clone, Copy)]
+pub(crate) enum TrailerRead {
+    /// More bytes are wanted.
+    Open,
+    /// A whole section stood there.
+    Whole,
+    /// Field lines that can't be taken: the status of the refusal.
+    Refused(u16),
+}
+
+/// Reads the field lines and passes over them.
+pub(crate) fn pass_trailer(
     inbox: &mut Inbox,
     spans: &mut Vec<HeaderSpan>,
-) -> Result<Option<u16>, ReadFault>
-    ensures trailer { IfOk result (λ found. IfSome (input_of inbox.old (R.remaining (inside reader.old)))
-        (ShowsTrailer found (input_of inbox.new (R.remaining (inside reader.new))))) }
-    ensures stopped { IfErr result (λ fault. fault ≢ ReadFault.OutOfMemory →
-        StopsAt (input_of inbox.old (R.remaining (inside reader.old))) (R.remaining (inside reader.new)) (λ taken. ReadsTrailer taken ended)) }
-    ensures ended { IsErrOf result ReadFault.EndedEarly → IsAtEnd (R.remaining (inside reader.new)) }
-    ensures failed { IsErrOf result ReadFault.Read → RoseByOne (failed reader.old) (failed reader.new) }
-    ensures quiet { ¬ (IsErrOf result ReadFault.Read) → failed reader.new ≡ failed reader.old }
+) -> Result<TrailerRead, AllocError>
+    ensures shows { IfOk result (λ read. ShowsTrailer read inbox.old inbox.new) }
+    ensures kept { OnErr result (inbox.new ≡ inbox.old) }
 {
-    loop {
-        let bytes = first_bytes(inbox.held());
-        match look_for_section(bytes, spans)? {
-            Section::Whole(len, count) => {
-                if count > FIELD_LIMIT {
-                    return Ok(Some(431));
-                }
-                inbox.pass(len);
-                return Ok(None);
-            }
-            Section::Never => return Ok(Some(400)),
-            Section::Open => {}
+    let held = inbox.held();
+    match look_for_section(first_bytes(held), spans)? {
+        Section::Whole(_, count) if count > FIELD_LIMIT => Ok(TrailerRead::Refused(431)),
+        Section::Whole(len, _) => {
+            inbox.pass(len);
+            Ok(TrailerRead::Whole)
         }
-        if inbox.held().len() > HEAD_LIMIT {
-            return Ok(Some(431));
-        }
-        inbox.read_more(reader)?;
+        Section::Never => Ok(TrailerRead::Refused(400)),
+        Section::Open if held.len() > HEAD_LIMIT => Ok(TrailerRead::Refused(431)),
+        Section::Open => Ok(TrailerRead::Open),
     }
 }

@@ -1,4 +1,4 @@
-//! Requests and what comes of them, as tables; requests cut in every way, over readers that fail; limits; several requests on a
+//! Requests and what comes of them, as tables; requests cut in every way, over readers that fail; where a reading stands; limits; several requests on a
 //! connection; and a request with one growth refused.
 #![tactic(auto)]
 
@@ -16,5 +16,7 @@ mod pieces;
 mod refusals;
 #[cfg(test)]
 mod several;
+#[cfg(test)]
+mod standing;
 #[cfg(test)]
 mod targets;

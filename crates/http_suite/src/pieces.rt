@@ -1,7 +1,7 @@
 //! A reader over memory that gives its bytes in pieces and may fail, and what a request comes to, in a line of text.
 ghost use Rattle.std.specs.Prelude.{Some};
 
-use http_read::{Counted, Inbox, Incoming, Method, ReadFault, request};
+use http_read::{Counted, Inbox, Incoming, Method, Progress, ReadFault, advance, request};
 use std::alloc::{AllocError, Global};
 use std::io;
 use std::io::{ErrorKind, Read};
@@ -51,15 +51,11 @@ pub(crate) fn name_of(method: Method) -> &'static str {
     }
 }
 
-/// What the next request comes to: `GET /h`, with its body where it has one, and whether it closes its connection; `400`, or `400 to HEAD`; the end
+/// What a request comes to: `GET /h`, with its body where it has one, and whether it closes its connection; `400`, or `400 to HEAD`; the end
 /// of the input; or the fault.
-pub(crate) fn told(
-    alloc: Global,
-    reader: &mut Counted<Pieces<'_>>,
-    inbox: &mut Inbox,
-) -> Result<String, Fail> {
+fn told_of(alloc: Global, came: Result<Incoming, ReadFault>) -> Result<String, Fail> {
     let mut text = String::new(alloc);
-    match request(alloc, reader, inbox) {
+    match came {
         Ok(Incoming::Request(asked)) => {
             let keep = asked.keep;
             text.push_str(name_of(asked.method))?;
@@ -90,6 +86,39 @@ pub(crate) fn told(
     Ok(text)
 }
 
+/// What the next request comes to.
+pub(crate) fn told(
+    alloc: Global,
+    reader: &mut Counted<Pieces<'_>>,
+    inbox: &mut Inbox,
+) -> Result<String, Fail> {
+    told_of(alloc, request(alloc, reader, inbox))
+}
+
+/// The same, read on after each reading; where the input ends before it is whole, that it ended early.
+pub(crate) fn told_so_far(
+    alloc: Global,
+    reader: &mut Counted<Pieces<'_>>,
+    inbox: &mut Inbox,
+) -> Result<String, Fail> {
+    let mut progress = Progress::Head;
+    let mut spans = Vec::new(alloc);
+    for _ in 0..1_000_000 {
+        if let Some(incoming) = advance(alloc, &mut progress, inbox, &mut spans)? {
+            return told_of(alloc, Ok(incoming));
+        }
+        if inbox.is_full() {
+            return Err(Fail::from("full and not whole"));
+        }
+        match inbox.read_from(reader)? {
+            Ok(0) => return told_of(alloc, Err(ReadFault::EndedEarly)),
+            Ok(_) => {}
+            Err(_) => return told_of(alloc, Err(ReadFault::Read)),
+        }
+    }
+    Err(Fail::from("read on without an end"))
+}
+
 /// What is left behind a request: what the inbox holds, and then what the reader has.
 pub(crate) fn left_of(
     alloc: Global,
@@ -106,6 +135,51 @@ pub(crate) type Row = (&'static str, &'static str);
 
 fn is_asked(told: &str) -> bool {
     told.starts_with("GET ") || told.starts_with("HEAD ") || told.starts_with("POST ")
+}
+
+/// Checks what is left behind a request.
+fn check_left(
+    rt: &impl Abort,
+    alloc: Global,
+    reader: Counted<Pieces<'_>>,
+    inbox: &Inbox,
+    left: &str,
+) -> Result<(), Fail> {
+    let rest = left_of(alloc, reader, inbox)?;
+    assert_eq!(rt; rest.as_slice(), left.as_bytes());
+    Ok(())
+}
+
+/// Reads on in one request that comes in two pieces, cut at each place or, if it is long, at some; and in one-byte pieces.
+fn check_cuts(
+    rt: &impl Abort,
+    alloc: Global,
+    text: &str,
+    expected: &str,
+    left: &str,
+) -> Result<(), Fail> {
+    let bytes = text.as_bytes();
+    let stride = if bytes.len() < 1_000 { 1 } else { 4_099 };
+    for cut in (0..=bytes.len()).step_by(stride) {
+        for piece in [usize::MAX, 1] {
+            if piece == 1 && cut > 0 {
+                continue;
+            }
+            let mut reader = Counted::new(Pieces {
+                bytes,
+                first: cut,
+                piece,
+                good: usize::MAX,
+            });
+            let mut inbox = Inbox::new(alloc);
+            let told = told_so_far(alloc, &mut reader, &mut inbox)?;
+            assert_eq!(rt; told.as_str(), expected, "{text} cut behind {cut}");
+            if is_asked(expected) {
+                check_left(rt, alloc, reader, &inbox, left)?;
+            }
+        }
+    }
+    Ok(())
 }
 
 /// Reads one request in pieces of several sizes. Where it doesn't end early more bytes follow it, which are left behind a request.
@@ -133,11 +207,10 @@ pub(crate) fn check_one(
         assert_eq!(rt; told.as_str(), expected, "{bytes} in pieces of {piece}");
         assert_eq!(rt; reader.failures(), 0);
         if is_asked(expected) {
-            let rest = left_of(alloc, reader, &inbox)?;
-            assert_eq!(rt; rest.as_slice(), left.as_bytes(), "behind {bytes}");
+            check_left(rt, alloc, reader, &inbox, left)?;
         }
     }
-    Ok(())
+    check_cuts(rt, alloc, text.as_str(), expected, left)
 }
 
 /// Reads the request of each row, which stands between these bytes.

@@ -1,0 +1,32 @@
+//! Reads the line break behind a chunk (RFC 9112, section 7.1).
+ghost use Rattle.std.specs.Prelude.{◌≡◌, List};
+ghost use Rattle.http_read.specs.BodySteps.{ShowsBreak};
+
+use crate::inbox::Inbox;
+
+/// What stands at the front.
+#[derive(Clone, Copy)]
+pub(crate) enum BreakRead {
+    /// More bytes are wanted.
+    Open,
+    /// Two other bytes.
+    Wrong,
+    /// A line break stood there.
+    Passed,
+}
+
+/// Reads a line break and passes over it.
+pub(crate) fn pass_break(inbox: &mut Inbox) -> BreakRead
+    ensures { ShowsBreak result inbox.old inbox.new }
+{
+    let held = inbox.held();
+    if held.len() < 2 {
+        return BreakRead::Open;
+    }
+    if held[0] == b'\r' && held[1] == b'\n' {
+        inbox.pass(2);
+        BreakRead::Passed
+    } else {
+        BreakRead::Wrong
+    }
+}

@@ -1,0 +1,113 @@
+//! How far a request is read.
+ghost use Rattle.std.specs.Prelude.{◌≡◌, ◌≢◌, ℕ, List, ◌++◌, Some, IfOk, OnErr, IfSome, IfNone};
+ghost use Rattle.http_read.specs.Incoming.{Shows};
+ghost use Rattle.http_read.specs.Progress.{Resumes, asks_of, Advances, Waits, ShowsOpened};
+
+use crate::body::{Body, BodyRead};
+use crate::checks::Passed;
+use crate::inbox::Inbox;
+use crate::incoming::{Incoming, Request};
+use crate::opening::{Opened, open_head};
+use crate::place::Place;
+use httparse::spans::HeaderSpan;
+use std::alloc::{AllocError, Global};
+use std::mem;
+
+/// How far the request is read whose first bytes are used already, and are held no more.
+#[derive(Drop)]
+pub enum Progress {
+    /// None is used: its head isn't whole.
+    Head,
+    /// Its head is used, and so much of its body.
+    Body(Begun),
+}
+
+/// A request whose head is used.
+#[derive(Drop)]
+pub struct Begun {
+    /// What the tests tell of the head.
+    pub(crate) passed: Passed,
+    pub(crate) path: String,
+    /// Whether the method is HEAD.
+    pub(crate) of_head: bool,
+    pub(crate) body: Body,
+}
+
+impl Begun {
+    /// The request, whose body is whole.
+    fn into_request(self) -> Request
+        ensures { result ≡ asks_of self }
+    {
+        Request {
+            method: self.passed.method,
+            path: self.path,
+            keep: self.passed.keep,
+            body: self.body.bytes,
+        }
+    }
+}
+
+impl Progress {
+    /// Where the reading of the body stands, if the head is used.
+    pub fn place(&self) -> Option<Place> {
+        match self {
+            Progress::Head => None,
+            Progress::Body(begun) => Some(begun.body.place),
+        }
+    }
+}
+
+/// The request whose head is used, now or earlier. It is taken out of the progress.
+fn take_begun(
+    alloc: Global,
+    progress: &mut Progress,
+    inbox: &mut Inbox,
+    spans: &mut Vec<HeaderSpan>,
+) -> Result<Opened, AllocError>
+    ensures head { IfOk result (λ opened. ShowsOpened opened progress.old inbox.old inbox.new) }
+    ensures taken { progress.new ≡ Progress.Head }
+    ensures kept { OnErr result ((progress.old ≡ Progress.Head) × (inbox.new ≡ inbox.old)) }
+{
+    match mem::replace(progress, Progress::Head) {
+        Progress::Body(begun) => Ok(Opened::Head(begun)),
+        Progress::Head => open_head(alloc, inbox, spans),
+    }
+}
+
+/// Reads on in what the inbox holds. `None`: more bytes are wanted, and an inbox has room for them.
+///
+/// Behind a request the progress is that of the next one. Behind a refusal the connection is to be closed.
+pub fn advance(
+    alloc: Global,
+    progress: &mut Progress,
+    inbox: &mut Inbox,
+    spans: &mut Vec<HeaderSpan>,
+) -> Result<Option<Incoming>, AllocError>
+    ensures whole { IfOk result (λ read. IfSome read (λ incoming. (used : List ℕ) → Resumes progress.old used →
+        Shows incoming (Some inbox.new) (used ++ inbox.old))) }
+    ensures begun { IfOk result (λ read. IfSome read (λ incoming. incoming ≢ Incoming.Ended)) }
+    ensures next { IfOk result (λ read. IfSome read (λ _. progress.new ≡ Progress.Head)) }
+    ensures short { IfOk result (λ read. IfNone read (Waits progress.old progress.new inbox.old inbox.new)) }
+    ensures kept { OnErr result (Advances progress.old progress.new inbox.old inbox.new) }
+{
+    let mut begun = match take_begun(alloc, progress, inbox, spans)? {
+        Opened::Head(begun) => begun,
+        Opened::Refused(status, head) => return Ok(Some(Incoming::Refused { status, head })),
+        Opened::Open => return Ok(None),
+    };
+    match begun.body.read_on(inbox, spans) {
+        Ok(BodyRead::Whole) => Ok(Some(Incoming::Request(begun.into_request()))),
+        Ok(BodyRead::Refused(status)) => Ok(Some(Incoming::Refused {
+            status,
+            head: begun.of_head,
+        })),
+        Ok(BodyRead::Open) => {
+            *progress = Progress::Body(begun);
+            Ok(None)
+        }
+        Err(refused) => {
+            *progress = Progress::Body(begun);
+            Err(refused)
+        }
+    }
+}
