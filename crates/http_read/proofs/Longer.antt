@@ -118,10 +118,18 @@ ends_refused n tail more status (inl (is, bad)) = inl (is, no_line_longer tail m
 ends_refused n tail more status (inr (line, behind, begins, inl (is, large))) =
     inr (line, behind ++ more, line_longer tail line behind more begins, inl (is, large))
 ends_refused n tail more status (inr (line, behind, begins, inr (inl (is, some, small, enough, wrong)))) =
-    inr (line, behind ++ more, line_longer tail line behind more begins, inr (inl (
-      is, some, small, omega (arith, enough, length-append behind more),
-      λ same. wrong (sym (same_two behind more (chunk_size line) enough) ∙ same),
-    )))
+    inr (
+      line,
+      behind ++ more,
+      line_longer tail line behind more begins,
+      inr (inl (
+        is,
+        some,
+        small,
+        omega (arith, enough, length-append behind more),
+        λ same. wrong (sym (same_two behind more (chunk_size line) enough) ∙ same),
+      )),
+    )
 ends_refused n tail more status (inr (line, behind, begins, inr (inr (none, trailer)))) =
     inr (line, behind ++ more, line_longer tail line behind more begins, inr (inr (none, trailer_refused behind more status trailer)))
 
@@ -147,7 +155,9 @@ refusal_still head rest more status of_head (is, inr (inr (passes, path, body)))
 
 pub stands : (input : List ℕ) → AnswerStands input
 stands input more (asks request left) open_end none (head, rest, begins, (passes, method, path, keep, body)) = (
-  head, rest ++ more, got_still input more head rest begins,
+  head,
+  rest ++ more,
+  got_still input more head rest begins,
   (passes, method, path, keep, body_got (framing_of (pairs_of head)) rest more request.body left body),
 )
 stands input more (refuses status of_head) open_end none (inl (is, r)) = inl (is, refused_still input more status r)

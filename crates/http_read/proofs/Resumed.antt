@@ -34,7 +34,6 @@ use Rattle.http_read.specs.Input.{input_of, StopsAt}
 use Rattle.http_read.specs.Progress.{Resumes, asks_of, bytes_left, Advances, KeepsBound, Waits, ShowsOpened}
 use Rattle.http_read.proofs.Longer.{got_still, stands}
 
-
 -- ---- heads
 
 -- a head that passes its tests
@@ -129,8 +128,12 @@ body_open p b new held mid left (first, bound) waits = record {
         r.0,
         r.1 ++ mid,
         head_with b used f.0 held mid f.1 r,
-        (r.3.0.sound, (string_bytes b.path, r.3.1), subst (λ x. ReadsBody x (r.1 ++ mid) ended) r.3.0.framed
-            (waits.short (framing_meant b.passed.cut) r.1 r.5)),
+        (
+          r.3.0.sound,
+          (string_bytes b.path, r.3.1),
+          subst (λ x. ReadsBody x (r.1 ++ mid) ended) r.3.0.framed
+              (waits.short (framing_meant b.passed.cut) r.1 r.5),
+        ),
       );
   bound = omega (arith, bound, waits.bound);
   room = waits.room;
@@ -172,8 +175,12 @@ body_refused p b new status held mid left (first, bound) refuses_it = λ used is
       head_with b used f.0 held mid f.1 r,
       (
         r.4,
-        inr (inr (r.3.0.sound, (string_bytes b.path, r.3.1), subst (λ x. ReadsBody x (r.1 ++ mid) (refused status)) r.3.0.framed
-            (refuses_it (framing_meant b.passed.cut) r.1 r.5))),
+        inr (inr (
+          r.3.0.sound,
+          (string_bytes b.path, r.3.1),
+          subst (λ x. ReadsBody x (r.1 ++ mid) (refused status)) r.3.0.framed
+              (refuses_it (framing_meant b.passed.cut) r.1 r.5),
+        )),
       ),
     )
 

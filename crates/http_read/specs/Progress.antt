@@ -1,5 +1,5 @@
 -- How far a request is read of which the first bytes are used already.
-use Rattle.std.specs.Prelude.{◌≡◌, ℕ, ◌+◌, ◌*◌, ◌<◌, ◌≤◌, List, [], ◌++◌, length, Some, None}
+use Rattle.std.specs.Prelude.{◌≡◌, ℕ, ◌+◌, ◌*◌, ◌<◌, ◌≤◌, List, [], ◌++◌, length, Option, Some, None}
 use Rattle.httparse.specs.Grammar.{RequestHead}
 use Rattle.http_read.specs.declared.heads.TheConstants.{HEAD_LIMIT}
 use Rattle.http_read.specs.declared.lengths.TheConstants.{BODY_LIMIT}
@@ -9,11 +9,17 @@ use Rattle.http_read.specs.declared.opening.Opened.{Opened}
 use Rattle.http_read.specs.declared.opening.Opened.TheVariants as opened
 use Rattle.http_read.specs.declared.progress.Begun.{Begun}
 use Rattle.http_read.specs.declared.progress.Progress.{Progress}
+use Rattle.http_read.specs.declared.place.Place.{Place}
 use Rattle.http_read.specs.declared.progress.Progress.TheVariants.{Head, Body}
 use Rattle.http_read.specs.Heads.{got, ended, ReadsHead}
 use Rattle.http_read.specs.Framings.{framing_meant, Judges}
 use Rattle.http_read.specs.BodyProgress.{IsUsed, left_of, chunks_left}
 use Rattle.http_read.specs.Requests.{Answers, refuses, IsCutShort, is_head}
+
+-- where the reading of the body stands, if the head is used
+abbrev pub place_of : Progress → Option Place
+place_of Head = None
+place_of (Body b) = Some b.body.place
 
 -- the request of a begun one whose body is whole
 abbrev pub asks_of : Begun → Request

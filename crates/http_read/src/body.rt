@@ -4,9 +4,9 @@ ghost use Rattle.http_read.specs.declared.lengths.TheConstants.{BODY_LIMIT};
 ghost use Rattle.http_read.specs.Framings.{framing_meant, stated};
 ghost use Rattle.http_read.specs.BodyProgress.{IsUsed, left_of, chunks_left, GoesOn, ShowsStep, ShowsRead};
 
+use crate::breaks::{BreakRead, pass_break};
 use crate::checks::Cut;
 use crate::chunk_lines::{LineRead, chunk_line};
-use crate::breaks::{BreakRead, pass_break};
 use crate::inbox::Inbox;
 use crate::lengths::BODY_LIMIT;
 use crate::place::Place;

@@ -2,11 +2,11 @@
 ghost use Rattle.std.specs.Prelude.{◌≡◌, List, IfOk, OnErr};
 ghost use Rattle.http_read.specs.Opened.{ShowsHead};
 
-use crate::progress::Begun;
 use crate::body::Body;
 use crate::heads::{Found, find_head, first_bytes};
 use crate::inbox::Inbox;
 use crate::judging::{Judged, asks_for_head, judge};
+use crate::progress::Begun;
 use httparse::spans::HeaderSpan;
 use std::alloc::{AllocError, Global};
 

@@ -1,7 +1,7 @@
 //! How far a request is read.
 ghost use Rattle.std.specs.Prelude.{◌≡◌, ◌≢◌, ℕ, List, ◌++◌, Some, IfOk, OnErr, IfSome, IfNone};
 ghost use Rattle.http_read.specs.Incoming.{Shows};
-ghost use Rattle.http_read.specs.Progress.{Resumes, asks_of, Advances, Waits, ShowsOpened};
+ghost use Rattle.http_read.specs.Progress.{Resumes, place_of, asks_of, Advances, Waits, ShowsOpened};
 
 use crate::body::{Body, BodyRead};
 use crate::checks::Passed;
@@ -49,7 +49,9 @@ impl Begun {
 
 impl Progress {
     /// Where the reading of the body stands, if the head is used.
-    pub fn place(&self) -> Option<Place> {
+    pub fn place(&self) -> Option<Place>
+        ensures { result ≡ place_of self.now }
+    {
         match self {
             Progress::Head => None,
             Progress::Body(begun) => Some(begun.body.place),
@@ -76,7 +78,9 @@ fn take_begun(
 
 /// Reads on in what the inbox holds. `None`: more bytes are wanted, and an inbox has room for them.
 ///
-/// Behind a request the progress is that of the next one. Behind a refusal the connection is to be closed.
+/// Behind a request the progress is that of the next one. Behind a refusal the connection is to be closed. The spans are room for where field
+/// lines lie, of any length at first: they grow where a head or a trailer section has more, up to 2,730 (87 KB). Beyond them memory is taken
+/// as `request` takes it.
 pub fn advance(
     alloc: Global,
     progress: &mut Progress,

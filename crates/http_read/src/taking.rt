@@ -6,7 +6,11 @@ use crate::inbox::Inbox;
 use std::alloc::AllocError;
 
 /// Adds to the body what is held of so many bytes, and passes over it. The answer is how many are still missing.
-pub(crate) fn take_held(inbox: &mut Inbox, n: usize, body: &mut Vec<u8>) -> Result<usize, AllocError>
+pub(crate) fn take_held(
+    inbox: &mut Inbox,
+    n: usize,
+    body: &mut Vec<u8>,
+) -> Result<usize, AllocError>
     ensures taken { IfOk result (TakesHeld n inbox.old inbox.new body.old.items body.new.items) }
     ensures all { IfOk result (λ missing. 0 < missing → inbox.new ≡ []) }
     ensures kept { OnErr result ((inbox.new ≡ inbox.old) × (body.new.items ≡ body.old.items)) }

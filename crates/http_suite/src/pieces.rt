@@ -150,7 +150,31 @@ fn check_left(
     Ok(())
 }
 
-/// Reads on in one request that comes in two pieces, cut at each place or, if it is long, at some; and in one-byte pieces.
+/// Reads on in one request that comes in a first piece and then in pieces of one size.
+fn check_so_far(
+    rt: &impl Abort,
+    alloc: Global,
+    (text, first, piece): (&str, usize, usize),
+    expected: &str,
+    left: &str,
+) -> Result<(), Fail> {
+    let mut reader = Counted::new(Pieces {
+        bytes: text.as_bytes(),
+        first,
+        piece,
+        good: usize::MAX,
+    });
+    let mut inbox = Inbox::new(alloc);
+    let told = told_so_far(alloc, &mut reader, &mut inbox)?;
+    assert_eq!(rt; told.as_str(), expected, "{text} cut behind {first}");
+    assert_eq!(rt; reader.failures(), 0);
+    if is_asked(expected) {
+        check_left(rt, alloc, reader, &inbox, left)?;
+    }
+    Ok(())
+}
+
+/// The same for each cut into two pieces, and byte by byte; a long one is cut in its middle, and comes in longer pieces.
 fn check_cuts(
     rt: &impl Abort,
     alloc: Global,
@@ -158,28 +182,16 @@ fn check_cuts(
     expected: &str,
     left: &str,
 ) -> Result<(), Fail> {
-    let bytes = text.as_bytes();
-    let stride = if bytes.len() < 1_000 { 1 } else { 4_099 };
-    for cut in (0..=bytes.len()).step_by(stride) {
-        for piece in [usize::MAX, 1] {
-            if piece == 1 && cut > 0 {
-                continue;
-            }
-            let mut reader = Counted::new(Pieces {
-                bytes,
-                first: cut,
-                piece,
-                good: usize::MAX,
-            });
-            let mut inbox = Inbox::new(alloc);
-            let told = told_so_far(alloc, &mut reader, &mut inbox)?;
-            assert_eq!(rt; told.as_str(), expected, "{text} cut behind {cut}");
-            if is_asked(expected) {
-                check_left(rt, alloc, reader, &inbox, left)?;
-            }
-        }
+    let is_long = text.len() >= 1_000;
+    let (stride, piece) = if is_long {
+        (text.len() / 2, 997)
+    } else {
+        (1, 1)
+    };
+    for first in (0..=text.len()).step_by(stride) {
+        check_so_far(rt, alloc, (text, first, usize::MAX), expected, left)?;
     }
-    Ok(())
+    check_so_far(rt, alloc, (text, piece, piece), expected, left)
 }
 
 /// Reads one request in pieces of several sizes. Where it doesn't end early more bytes follow it, which are left behind a request.
