@@ -101,11 +101,8 @@ fn event_in(alloc: Global, line: &Line<'_>) -> Result<Option<Event>, AllocError>
             node: *node,
             choice: *choice,
         },
-        Line::Settle
-        | Line::Quiet { .. }
-        | Line::Show { .. }
-        | Line::Get { .. }
-        | Line::Trace => return Ok(None),
+        Line::Settle | Line::Quiet { .. } | Line::Show { .. } | Line::Get { .. } | Line::Trace =>
+            return Ok(None),
     };
     Ok(Some(event))
 }

@@ -58,7 +58,9 @@ fn voted_line(
     let (from, instance) = (from.number(), instance.number());
     let (round, node) = (ballot.round(), ballot.node().number());
     let value = value_words(alloc, value)?;
-    format!(in alloc; "{kind} from {from} instance {instance} ballot {round} {node} value {value}\n")
+    format!(in alloc;
+        "{kind} from {from} instance {instance} ballot {round} {node} value {value}\n"
+    )
 }
 
 fn message_line(alloc: Global, message: &Message) -> Result<String, AllocError>
@@ -68,7 +70,9 @@ fn message_line(alloc: Global, message: &Message) -> Result<String, AllocError>
     match message {
         Message::Prepare { ballot, count, .. } => {
             let (round, node, count) = (ballot.round(), ballot.node().number(), *count);
-            format!(in alloc; "prepare from {sender} instance {at} count {count} ballot {round} {node}\n")
+            format!(in alloc;
+                "prepare from {sender} instance {at} count {count} ballot {round} {node}\n"
+            )
         }
         Message::Promise { ballot, prior, .. } => {
             let (round, node) = (ballot.round(), ballot.node().number());
@@ -88,11 +92,15 @@ fn message_line(alloc: Global, message: &Message) -> Result<String, AllocError>
             value,
         } => voted_line(alloc, "accepted", *from, *instance, *ballot, value),
         Message::Nack {
-            asked, promised, ..
+            asked,
+            promised,
+            ..
         } => {
             let (round, node) = (asked.round(), asked.node().number());
             let (above, by) = (promised.round(), promised.node().number());
-            format!(in alloc; "nack from {sender} instance {at} asked {round} {node} promised {above} {by}\n")
+            format!(in alloc;
+                "nack from {sender} instance {at} asked {round} {node} promised {above} {by}\n"
+            )
         }
         Message::Ask { .. } => format!(in alloc; "ask from {sender} instance {at}\n"),
         Message::Chosen { value, .. } => {
