@@ -252,7 +252,7 @@ static const char *schedules(void) {
         const int p = mostly(9) ? 1 + (int)chance(nodes ? nodes : 1) : (int)chance(12);
         switch (chance(8)) {
         case 0: snprintf(line, sizeof line, "submit %d ", p); framed(line); text("\n"); break;
-        case 1: text("settle\n"); break;
+        case 1: text(chance(4) ? "settle\n" : "trace\n"); break;
         case 2: snprintf(line, sizeof line, "deliver %d %d\n", p, (int)chance(40)); text(line); break;
         case 3: snprintf(line, sizeof line, "arm %d %d\n", p, (int)chance(12)); text(line); break;
         case 4: snprintf(line, sizeof line, "crash %d %d\nrestart %d\n", p, (int)chance(256), p); text(line); break;

@@ -2,3 +2,4 @@ pub mod ScheduleLemmas
 pub mod Simulating
 pub mod Simulated
 pub mod OneLine
+pub mod Traced

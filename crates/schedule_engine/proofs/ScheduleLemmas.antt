@@ -4,7 +4,7 @@ use Rattle.std.proofs.lemmas.Fmt.{decimal_injective}
 use Rattle.site_ids.specs.Ids.{IsNode}
 use Rattle.site_ids.specs.declared.Ticket.{Ticket}
 use Rattle.engine_parts.specs.Cuts.{Lacks, IsCut}
-use Rattle.schedule_engine.specs.Schedule.{Line, submit_line, tick_line, widen_line, ask_line, tell_line, restart_line, deliver_line, arm_line, crash_line, settle_line, quiet_line, show_line, get_line, submit_words, words, body, spelled, Fits, HasNoLine, GetsNoLine, spelled_nodes, HasNoNodes, GetsNoNodes}
+use Rattle.schedule_engine.specs.Schedule.{Line, submit_line, tick_line, widen_line, ask_line, tell_line, restart_line, deliver_line, arm_line, crash_line, settle_line, quiet_line, show_line, get_line, trace_line, submit_words, words, body, spelled, Fits, HasNoLine, GetsNoLine, spelled_nodes, HasNoNodes, GetsNoNodes}
 use Rattle.engine_parts.specs.Submissions.{joined, FitsSubmission}
 use Rattle.engine_parts.proofs.CutLemmas.{Same, no_cut, one_cut}
 use Rattle.engine_parts.proofs.CutLemmas.{lacks-decimal}
@@ -32,6 +32,7 @@ lacks-words settle_line ok = lacks-codes 10 (codes "settle") refl
 lacks-words (quiet_line p) ok = lacks-behind (codes "quiet ") _ refl (lacks-last p (omega arith))
 lacks-words (show_line p) ok = lacks-behind (codes "show ") _ refl (lacks-last p (omega arith))
 lacks-words (get_line p n path) ok = lacks-behind (codes "get ") _ refl (lacks-number p _ (omega arith) (lacks-number n _ (omega arith) ok.2.no_newline))
+lacks-words trace_line ok = lacks-codes 10 (codes "trace") refl
 
 -- ---- the words before the first newline are those of any line there
 
@@ -65,6 +66,7 @@ of_neither head settle_line plain submission ok e = plain settle_line ok refl e
 of_neither head (quiet_line p) plain submission ok e = plain (quiet_line p) ok refl e
 of_neither head (show_line p) plain submission ok e = plain (show_line p) ok refl e
 of_neither head (get_line p n path) plain submission ok e = plain (get_line p n path) ok refl e
+of_neither head trace_line plain submission ok e = plain trace_line ok refl e
 
 pub bad_head : (bytes head after : List ℕ) → IsCut 10 bytes head after → IsNoLine head → IsNoSubmission head → GetsNoLine bytes
 bad_head bytes head after cut plain submission more line rest ok is =
@@ -95,6 +97,7 @@ text_of p ticket len after settle_line rest hp ok is whole = let starts = begins
 text_of p ticket len after (quiet_line q) rest hp ok is whole = let starts = begins_so _ _ is in absurd (omega (arith, starts.0, starts.1))
 text_of p ticket len after (show_line q) rest hp ok is whole = let starts = begins_so _ _ is in absurd (omega (arith, starts.0, starts.1))
 text_of p ticket len after (get_line q n path) rest hp ok is whole = let starts = begins_so _ _ is in absurd (omega (arith, starts.0, starts.1))
+text_of p ticket len after trace_line rest hp ok is whole = let starts = begins_so _ _ is in absurd (omega (arith, starts.0, starts.1))
 
 text_there : (p : ℕ) (ticket : Ticket) (len : ℕ) (after : List ℕ) (line : Line) (rest : List ℕ) → FitsSubmission p ticket len → Fits line → joined (submit_words p ticket len) ++ (10 ∷ after) ≡ spelled line ++ rest → HasText after rest len
 text_there p ticket len after line rest hp ok is =

@@ -1,6 +1,7 @@
 -- Steps of the simulator.
 use Rattle.std.proofs.Common.{◌≡◌, ◌⊎◌, append-nil, String, Global, string_bytes, ℕ, zero, suc, ◌<◌, ◌≤◌, ◌+◌, List, [], ◌∷◌, ◌++◌, length, Some, None, refl, sym, ap, ◌∙◌, subst, arith, append_assoc, Option, Bool, Result, Ok, Err, inl, inr}
 use Rattle.std.specs.Prelude.{IfOk, IfErr, IsErrOf}
+use Rattle.std.specs.List.{flat_map}
 use Rattle.command.specs.Effective.{effective}
 use Rattle.command.specs.Releases.{release_count}
 use Rattle.node.specs.Effects.{messages_of}
@@ -26,7 +27,8 @@ use Rattle.engine_parts.specs.declared.ends.InputFault.TheVariants as input
 use Rattle.schedule_engine.specs.declared.simulator.SimFault.{SimFault}
 use Rattle.schedule_engine.specs.declared.simulator.Simulation.{Simulation}
 use Rattle.schedule_engine.specs.declared.simulator.SimFault.TheVariants as sim
-use Rattle.schedule_engine.specs.Schedule.{Line, submit_line, tick_line, widen_line, ask_line, tell_line, restart_line, deliver_line, arm_line, crash_line, settle_line, quiet_line, show_line, get_line}
+use Rattle.schedule_engine.specs.Schedule.{Line, submit_line, tick_line, widen_line, ask_line, tell_line, restart_line, deliver_line, arm_line, crash_line, settle_line, quiet_line, show_line, get_line, trace_line}
+use Rattle.schedule_engine.specs.Tracing.{message_line}
 use Rattle.schedule_engine.specs.Simulation.{Moment, IsMoment, Takes, to_each, deliveries, event_of, HasRelease, IsPage, IsNoPage, Does, TakesOne, TakesPlan}
 use Rattle.schedule_engine.specs.SimulationEnds.{IsStart}
 use Rattle.engine_parts.specs.Feeds.{Grown, ReadEnds}
@@ -194,6 +196,7 @@ does_one n old new settle_line event printed is t = absurd (no_event event is)
 does_one n old new (quiet_line p) event printed is t = absurd (no_event event is)
 does_one n old new (show_line p) event printed is t = absurd (no_event event is)
 does_one n old new (get_line p r path) event printed is t = absurd (no_event event is)
+does_one n old new trace_line event printed is t = absurd (no_event event is)
 
 pub happened_one : (old new : Simulation) (line : Line) (event : Event) (text : String Global) → event_of line ≡ Some event → string_bytes text ≡ [] → new.settled ≡ old.settled
     → ((n : ℕ) (events : List Event) → IsMoment n (moment_of old events) → Takes n (moment_of old events) (event ∷ []) (moment_of new (events ++ event ∷ []))) → HappenEnds old new line (Ok text)
@@ -208,6 +211,10 @@ pub happened_settle : (old new : Simulation) (text : String Global) → string_b
 happened_settle old new text none all ok = λ n events m.
     let s = ok n events m in
     (events ++ deliveries n old.settled s.0, s.2.moment, (record { count = s.0; takes = s.2; settled = s.1; none_left = all }, none))
+
+-- the messages that are told
+pub happened_trace : (s : Simulation) (text : String Global) → string_bytes text ≡ flat_map message_line (messages_of s.world.sent.items) → HappenEnds s s trace_line (Ok text)
+happened_trace s text is = λ n events m. (events, m, ((λ w stands. is ∙ ap (flat_map message_line) (sym stands.sent)), refl))
 
 -- ---- a quiet line
 

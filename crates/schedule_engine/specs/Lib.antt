@@ -1,4 +1,5 @@
 pub mod Schedule
+pub mod Tracing
 pub mod ScheduleView
 pub mod Simulation
 pub mod SimulationEnds

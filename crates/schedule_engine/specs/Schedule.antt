@@ -21,6 +21,7 @@ pub data Line : Type 0 where
   quiet_line : (p : ℕ) → Line
   show_line : (p : ℕ) → Line
   get_line : (p n : ℕ) (path : List ℕ) → Line
+  trace_line : Line
 
 abbrev pub submit_words : ℕ → Ticket → ℕ → List (List ℕ)
 submit_words p ticket len = codes "submit" ∷ numbers p ticket len
@@ -39,6 +40,7 @@ words settle_line = codes "settle" ∷ []
 words (quiet_line p) = codes "quiet" ∷ decimal p ∷ []
 words (show_line p) = codes "show" ∷ decimal p ∷ []
 words (get_line p n path) = codes "get" ∷ decimal p ∷ decimal n ∷ path ∷ []
+words trace_line = codes "trace" ∷ []
 
 -- what follows the newline behind the words
 abbrev pub body : Line → List ℕ
@@ -69,6 +71,7 @@ Fits settle_line = ⊤
 Fits (quiet_line p) = IsNode 9 p
 Fits (show_line p) = IsNode 9 p
 Fits (get_line p n path) = IsNode 9 p × (n < 2 ^ 64) × IsPath path
+Fits trace_line = ⊤
 
 -- no line stands at the front of the bytes
 abbrev pub HasNoLine : List ℕ → Type 0

@@ -8,7 +8,7 @@ use Rattle.schedule_engine.specs.declared.schedule.Found.TheVariants as found
 use Rattle.schedule_engine.specs.declared.schedule.FoundNodes.{FoundNodes}
 use Rattle.schedule_engine.specs.declared.schedule.FoundNodes.TheVariants as found_nodes
 use Rattle.engine_parts.specs.declared.words.Submission.{Submission}
-use Rattle.schedule_engine.specs.Schedule.{Line, submit_line, tick_line, widen_line, ask_line, tell_line, restart_line, deliver_line, arm_line, crash_line, settle_line, quiet_line, show_line, get_line, submit_words, Fits, spelled, HasNoLine, GetsNoLine, spelled_nodes, HasNoNodes, GetsNoNodes}
+use Rattle.schedule_engine.specs.Schedule.{Line, submit_line, tick_line, widen_line, ask_line, tell_line, restart_line, deliver_line, arm_line, crash_line, settle_line, quiet_line, show_line, get_line, trace_line, submit_words, Fits, spelled, HasNoLine, GetsNoLine, spelled_nodes, HasNoNodes, GetsNoNodes}
 
 abbrev pub line_view : Code → Line
 line_view (code.Submit node ticket text) = submit_line node ticket text.now
@@ -24,6 +24,7 @@ line_view code.Settle = settle_line
 line_view (code.Quiet node) = quiet_line node
 line_view (code.Show node) = show_line node
 line_view (code.Get node release path) = get_line node release path.now
+line_view code.Trace = trace_line
 
 abbrev pub submission_words : Submission → List (List ℕ)
 submission_words s = submit_words s.node s.ticket s.text_len

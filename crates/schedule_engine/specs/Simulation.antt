@@ -1,5 +1,6 @@
 -- What a schedule's lines do to a world, and what they print.
 use Rattle.std.specs.Prelude.{ℕ, zero, suc, ◌≡◌, ◌≢◌, ◌⊎◌, ◌≤◌, ◌+◌, List, [], ◌∷◌, ◌++◌, length, codes, decimal, Option, Some, None}
+use Rattle.std.specs.List.{flat_map}
 use Rattle.command.specs.Effective.{effective}
 use Rattle.command.specs.Releases.{release_count}
 use Rattle.command.specs.Written.{value_of}
@@ -19,7 +20,8 @@ use Rattle.world.specs.Steps.{LeadsTo, Reached, IsAnswer}
 use Rattle.world.specs.Taking.{TakesAll, IsBad}
 use Rattle.world.specs.Telling.{mode_told}
 use Rattle.world.specs.Worlds.{World}
-use Rattle.schedule_engine.specs.Schedule.{Line, submit_line, tick_line, widen_line, ask_line, tell_line, restart_line, deliver_line, arm_line, crash_line, settle_line, quiet_line, show_line, get_line}
+use Rattle.schedule_engine.specs.Schedule.{Line, submit_line, tick_line, widen_line, ask_line, tell_line, restart_line, deliver_line, arm_line, crash_line, settle_line, quiet_line, show_line, get_line, trace_line}
+use Rattle.schedule_engine.specs.Tracing.{message_line}
 use Rattle.engine_parts.specs.Answers.{answer_lines}
 
 -- a running world, the events that it has taken since the start, and the least index that no settle has taken
@@ -124,6 +126,10 @@ pub record IsNoPage (m : Moment) (p n : ℕ) (path printed : List ℕ) : Type 0 
   pub none : (w : World) → IsWorldOf m.world w → ((w.node p).mode ≡ Down) ⊎ ¬ HasRelease (w.node p) n
   pub printed_is : printed ≡ got p n path (codes "none\n")
 
+-- a line for each message that any node has handed out since the start, the oldest first
+abbrev pub IsTraced : Moment → List ℕ → Type 0
+IsTraced m printed = (w : World) → IsWorldOf m.world w → printed ≡ flat_map message_line w.sent
+
 -- ---- lines
 
 -- a line with an event: it is taken, and nothing is printed
@@ -140,6 +146,7 @@ Does n old settle_line printed new = Settles n old new × (printed ≡ [])
 Does n old (quiet_line p) printed new = IsNode n p × TakesPlan n old p new × (printed ≡ [])
 Does n old (show_line p) printed new = IsNode n p × IsShown old p printed × (new ≡ old)
 Does n old (get_line p r path) printed new = IsNode n p × (IsPage old p r path printed ⊎ IsNoPage old p r path printed) × (new ≡ old)
+Does n old trace_line printed new = IsTraced old printed × (new ≡ old)
 Does n old line printed new = TakesOne n old line printed new
 
 -- a quiet line of none of the nodes, or a question to none

@@ -4,6 +4,7 @@
 mod laws;
 mod schedule;
 mod simulator;
+mod tracing;
 
 pub use laws::a_schedule_has_one_reading;
 pub use simulator::sitesim;

@@ -61,6 +61,7 @@ pub(crate) enum Line<'a> {
         release: u64,
         path: &'a str,
     },
+    Trace,
 }
 
 /// What stands at the front of the bytes that were read so far.
@@ -176,6 +177,9 @@ fn plain_line(head: &[u8]) -> Option<Line<'_>>
     }
     if head == b"settle".as_slice() {
         return Some(Line::Settle);
+    }
+    if head == b"trace".as_slice() {
+        return Some(Line::Trace);
     }
     None
 }

@@ -15,6 +15,7 @@ ghost use Rattle.world.specs.Taking.{IsBad};
 ghost use Rattle.world.specs.Worlds.{World as AbstractWorld};
 
 use crate::schedule::{Found, FoundNodes, Line, line_in, nodes_in};
+use crate::tracing::traced;
 use command::write;
 use engine_parts::{Feed, InputFault, say};
 use http_read::{Counted, write_all};
@@ -100,7 +101,8 @@ fn event_in(alloc: Global, line: &Line<'_>) -> Result<Option<Event>, AllocError>
             node: *node,
             choice: *choice,
         },
-        Line::Settle | Line::Quiet { .. } | Line::Show { .. } | Line::Get { .. } => return Ok(None),
+        Line::Settle | Line::Quiet { .. } | Line::Show { .. } | Line::Get { .. } | Line::Trace =>
+            return Ok(None),
     };
     Ok(Some(event))
 }
@@ -261,6 +263,7 @@ impl Simulation {
                 release,
                 path,
             } => self.got(alloc, *node, *release, path),
+            Line::Trace => Ok(traced(alloc, &self.world)?),
             Line::Settle => {
                 self.settle()?;
                 Ok(String::new(alloc))
