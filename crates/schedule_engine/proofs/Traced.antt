@@ -1,21 +1,16 @@
 -- Lines of messages, one after another.
-use Rattle.std.proofs.Common.{◌≡◌, ◌<◌, ◌≤◌, ◌⊎◌, ⊥, get_or, ℕ, suc, List, [], ◌∷◌, ◌++◌, length, take, slice_get, Option, Some, None, sym, ap, ap₂, ◌∙◌, arith, append-nil, inl, inr}
+use Rattle.std.proofs.Common.{◌≡◌, ℕ, zero, suc, List, [], ◌∷◌, ◌++◌, take, slice_get, refl, sym, ap, subst, ◌∙◌, append-nil, append_assoc}
 use Rattle.std.specs.List.{flat_map}
-use Rattle.std.proofs.lemmas.List.Concat.{flat_map-append}
-use Rattle.std.proofs.lemmas.Option.{slice_get_cases}
 use Rattle.wire.specs.declared.message.Message.{Message}
-use Rattle.world.proofs.Following.{take_more}
-use Rattle.schedule_engine.specs.Tracing.{message_line}
+use Rattle.schedule_engine.specs.Tracing.{message_line, line_or_nothing}
 
-pub one_more_line : (xs : List Message) (k : ℕ) (m : Message) (text line : List ℕ) → slice_get xs k ≡ Some m → text ≡ flat_map message_line (take k xs) → line ≡ message_line m → text ++ line ≡ flat_map message_line (take (suc k) xs)
-one_more_line xs k m text line got so_far is =
-    ap₂ (λ a b. a ++ b) so_far is
-    ∙ sym (ap (flat_map message_line) (take_more xs k m got) ∙ (flat_map-append message_line (take k xs) (m ∷ []) ∙ ap (λ t. flat_map message_line (take k xs) ++ t) (append-nil (message_line m))))
+line_more : (ms : List Message) (k : ℕ) → flat_map message_line (take (suc k) ms) ≡ flat_map message_line (take k ms) ++ line_or_nothing (slice_get ms k)
+line_more [] zero = refl
+line_more [] (suc k) = refl
+line_more (m ∷ ms) zero = append-nil (message_line m)
+line_more (m ∷ ms) (suc k) =
+    ap (λ t. message_line m ++ t) (line_more ms k) ∙ sym (append_assoc (message_line m) (flat_map message_line (take k ms)) (line_or_nothing (slice_get ms k)))
 
-past : (xs : List Message) (k : ℕ) → k < length xs → slice_get xs k ≡ None → ((m : Message) × (k < length xs) × (slice_get xs k ≡ Some m) × (get_or xs k m ≡ m)) ⊎ ((length xs ≤ k) × (slice_get xs k ≡ None)) → ⊥
-past xs k less none (inl (m, _, got, _)) = cc
-past xs k less none (inr (low, _)) = omega (arith, less, low)
-
--- below the length there is a message
-pub no_gap : (xs : List Message) (k : ℕ) → k < length xs → slice_get xs k ≡ None → ⊥
-no_gap xs k less none = past xs k less none (slice_get_cases xs k).1
+-- one message more, if there is one
+pub one_more_line : (ms : List Message) (k next : ℕ) → next ≡ suc k → flat_map message_line (take k ms) ++ line_or_nothing (slice_get ms k) ≡ flat_map message_line (take next ms)
+one_more_line ms k next is = subst (λ n. flat_map message_line (take k ms) ++ line_or_nothing (slice_get ms k) ≡ flat_map message_line (take n ms)) (sym is) (sym (line_more ms k))

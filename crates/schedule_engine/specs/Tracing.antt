@@ -1,5 +1,5 @@
 -- What `trace` prints of a message.
-use Rattle.std.specs.Prelude.{ℕ, List, ◌++◌, Option, Some, None, length, codes, decimal, nat_le, if◌then◌else◌}
+use Rattle.std.specs.Prelude.{ℕ, List, [], ◌++◌, Option, Some, None, length, codes, decimal, nat_le, if◌then◌else◌}
 use Rattle.site_ids.specs.Ids.{BallotOf}
 use Rattle.site_ids.specs.declared.TheConstants.{TICKET_BYTES}
 use Rattle.site_ids.specs.declared.value.Vote.{Vote}
@@ -33,3 +33,8 @@ message_line (Accepted p i b v) = codes "accepted" ++ sender_words p i (codes " 
 message_line (Nack p i b c) = codes "nack" ++ sender_words p i (codes " asked " ++ ballot_words b (codes " promised " ++ ballot_words c (codes "\n")))
 message_line (Ask p i) = codes "ask" ++ sender_words p i (codes "\n")
 message_line (Chosen p i v) = codes "chosen" ++ sender_words p i (codes " value " ++ (value_words v ++ codes "\n"))
+
+-- of a message that may be missing
+abbrev pub line_or_nothing : Option Message → List ℕ
+line_or_nothing None = []
+line_or_nothing (Some m) = message_line m

@@ -263,7 +263,6 @@ impl Simulation {
                 release,
                 path,
             } => self.got(alloc, *node, *release, path),
-            Line::Trace => Ok(traced(alloc, &self.world)?),
             Line::Settle => {
                 self.settle()?;
                 Ok(String::new(alloc))
@@ -272,6 +271,7 @@ impl Simulation {
                 self.quiet(*node)?;
                 Ok(String::new(alloc))
             }
+            Line::Trace => Ok(traced(alloc, &self.world)?),
             _ => match event_in(alloc, line)? {
                 Some(event) => {
                     self.take(event)?;

@@ -1,10 +1,10 @@
 //! What `trace` prints.
-ghost use Rattle.std.specs.Prelude.{◌≡◌, ◌++◌, ◌≤◌, IfOk, codes, length, string_bytes};
+ghost use Rattle.std.specs.Prelude.{◌≡◌, ◌++◌, ◌≤◌, IfOk, codes, length, slice_get, string_bytes};
 ghost use Rattle.std.specs.List.{flat_map};
 ghost use Rattle.site_ids.specs.declared.TheConstants.{TICKET_BYTES};
 ghost use Rattle.command.specs.Reading.{ticket_of};
 ghost use Rattle.node.specs.Effects.{messages_of};
-ghost use Rattle.schedule_engine.specs.Tracing.{ballot_words, value_words, prior_words, sender_words, message_line};
+ghost use Rattle.schedule_engine.specs.Tracing.{ballot_words, value_words, prior_words, sender_words, message_line, line_or_nothing};
 
 use byteorder::{BigEndian, ByteOrder};
 use site_ids::{Ballot, Instance, NodeId, TICKET_BYTES, Ticket, Value, Vote};
@@ -63,6 +63,14 @@ fn voted_line(
     )
 }
 
+/// The ballot that a refusal tells of.
+fn promised_words(alloc: Global, promised: Ballot) -> Result<String, AllocError>
+    ensures { IfOk result (λ text. string_bytes text ≡ codes " promised " ++ ballot_words promised (codes "\n")) }
+{
+    let (round, node) = (promised.round(), promised.node().number());
+    format!(in alloc; " promised {round} {node}\n")
+}
+
 fn message_line(alloc: Global, message: &Message) -> Result<String, AllocError>
     ensures { IfOk result (λ text. string_bytes text ≡ message_line message.now) }
 {
@@ -97,10 +105,8 @@ fn message_line(alloc: Global, message: &Message) -> Result<String, AllocError>
             ..
         } => {
             let (round, node) = (asked.round(), asked.node().number());
-            let (above, by) = (promised.round(), promised.node().number());
-            format!(in alloc;
-                "nack from {sender} instance {at} asked {round} {node} promised {above} {by}\n"
-            )
+            let promised = promised_words(alloc, *promised)?;
+            format!(in alloc; "nack from {sender} instance {at} asked {round} {node}{promised}")
         }
         Message::Ask { .. } => format!(in alloc; "ask from {sender} instance {at}\n"),
         Message::Chosen { value, .. } => {
@@ -110,15 +116,23 @@ fn message_line(alloc: Global, message: &Message) -> Result<String, AllocError>
     }
 }
 
+/// The line of the message at an index, and nothing past the last.
+fn line_at(alloc: Global, world: &World, index: usize) -> Result<String, AllocError>
+    ensures { IfOk result (λ text. string_bytes text ≡ line_or_nothing (slice_get (messages_of world.now.sent.items) index)) }
+{
+    match world.sent(index) {
+        Some(message) => message_line(alloc, message),
+        None => Ok(String::new(alloc)),
+    }
+}
+
 /// A line for each message that any node has handed out, the oldest first.
 pub(crate) fn traced(alloc: Global, world: &World) -> Result<String, AllocError>
     ensures { IfOk result (λ text. string_bytes text ≡ flat_map message_line (messages_of world.now.sent.items)) }
 {
     let mut text = String::new(alloc);
     for index in 0..world.sent_count() {
-        if let Some(message) = world.sent(index) {
-            text.push_str(message_line(alloc, message)?.as_str())?;
-        }
+        text.push_str(line_at(alloc, world, index)?.as_str())?;
     }
     Ok(text)
 }

@@ -2,7 +2,7 @@ use Rattle.std.proofs.Common.{◌∙◌, ap, sym, subst, Err, Ok, rules}
 use Rattle.std.proofs.lemmas.Result.{err_from_is_err_and}
 use Rattle.schedule_engine.specs.ScheduleView.{line_view}
 use Rattle.schedule_engine.specs.Stepping.{HappenEnds}
-use Rattle.schedule_engine.proofs.Simulating.{settle_fault, take_fault, happened_one, happened_settle, happened_plan, plan_fault, asked_page}
+use Rattle.schedule_engine.proofs.Simulating.{settle_fault, take_fault, happened_one, happened_settle, happened_plan, plan_fault, asked_page, happened_trace}
 use Rattle.schedule_engine.proofs.simulator.Simulation.happen.Goals as goal
 
 pub returns-in_err-settle-in-Settle : goal.returns-in_err-settle-in-Settle
@@ -40,3 +40,8 @@ pub returns-in_ok-quiet-in-Quiet : goal.returns-in_ok-quiet-in-Quiet
 returns-in_ok-quiet-in-Quiet c =
     subst (λ l. HappenEnds c.args.self.now c.quiet.new.self (line_view l) (Ok c.new-in-Quiet.result)) (sym c.in-Quiet.is)
     (happened_plan c.args.self.now c.quiet.new.self c.in-Quiet.node c.new-in-Quiet.result (search rules) c.in_ok-quiet-in-Quiet.ensures.ok.0 c.in_ok-quiet-in-Quiet.ensures.ok.1)
+
+pub returns-in_ok-traced-in-Trace : goal.returns-in_ok-traced-in-Trace
+returns-in_ok-traced-in-Trace c =
+    subst (λ l. HappenEnds c.args.self.now c.args.self.now (line_view l) (Ok c.in_ok-traced-in-Trace.field-0)) (sym c.in-Trace.is)
+    (happened_trace c.args.self.now c.in_ok-traced-in-Trace.field-0 c.in_ok-traced-in-Trace.ensures)
