@@ -1,7 +1,5 @@
 -- Turns, last calls and submissions as lists of calls.
-use Rattle.std.proofs.Common.{◌≡◌, ◌⊎◌, inl, inr, ⊎_elim, ℕ, zero, suc, Some, None, List, [], ◌∷◌, ◌++◌, Ok, Err, refl, sym, ap, subst, ◌∙◌, append-nil, append_assoc}
-use Rattle.site_ids.specs.declared.Ticket.{Ticket}
-use Rattle.site_ids.specs.Lists.{In}
+use Rattle.std.proofs.Common.{◌≡◌, inl, inr, ⊎_elim, ℕ, zero, suc, Some, None, List, [], ◌∷◌, ◌++◌, Ok, Err, refl, sym, ap, subst, ◌∙◌, append-nil, append_assoc}
 use Rattle.site_ids.proofs.MemberLemmas.{in_left, in_right, in_split}
 use Rattle.wire.specs.declared.message.Message.{Message}
 use Rattle.wire.specs.Decoding.{Spells}
@@ -15,15 +13,15 @@ use Rattle.node.specs.declared.to.To.{To}
 use Rattle.node.specs.declared.to.To.TheVariants.{One}
 use Rattle.node.specs.Nodes.{Node, Value}
 use Rattle.node.specs.Calls.{Call, submit, tick, widen, ask, tell, deliver}
-use Rattle.node.specs.Endings.{Ending, Whole, Refused, Failed, Ends}
+use Rattle.node.specs.Endings.{Ending, Whole, Refused, Ends}
 use Rattle.node.specs.Standing.{ending_by}
 use Rattle.site_drive.specs.declared.last_call.LastCall.{LastCall}
 use Rattle.site_drive.specs.declared.last_call.LastCall.TheVariants.{TickOrAsk, Widen, Ask, Tell, Nothing}
-use Rattle.site_drive.specs.Drives.{Heard, Takes, TakesAll, datagrams, Begin, Widens, TicksAndWidens, TicksOrAsks, EndsLast, EndsTurns, BreaksOff}
+use Rattle.site_drive.specs.Drives.{Heard, Takes, TakesAll, datagrams, Begin, Widens, TicksAndWidens, EndsLast, EndsTurns, BreaksOff}
 use Rattle.site_serve.specs.Served.{ComesTo}
 use Rattle.site_serve.specs.Rounds.{MayTake, MayTakeMany}
 use Rattle.world.specs.Batches.{AllEnd}
-use Rattle.sitectl.specs.Passes.{AreSpelled, AreCalls}
+use Rattle.sitectl.specs.Passes.{AreCalls}
 
 -- ---- one after the other
 
@@ -64,7 +62,7 @@ delivered : (n p : ℕ) (s next : Node) (bytes : List ℕ) (m : Message) (ending
 delivered n p s next bytes m ending out spells ends = record {
   calls = deliver m ∷ [];
   ends = (ending, out, next, [], ends, (refl, refl), sym (append-nil out));
-  spelled = λ k of. ⊎_elim (λ (e : deliver m ≡ deliver k). (bytes, inl refl, subst (Spells n bytes) cc spells)) (λ no. absurd no) of;
+  spelled = λ k of. ⊎_elim (λ (e : deliver m ≡ deliver k). let same : m ≡ k = cc in (bytes, inl refl, subst (λ x. Spells n bytes x) same spells)) (λ no. absurd no) of;
 }
 
 -- ---- turns

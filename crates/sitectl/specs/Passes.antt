@@ -4,16 +4,16 @@ use Rattle.site_ids.specs.Ids.{IsNode}
 use Rattle.site_ids.specs.Lists.{In}
 use Rattle.wire.specs.declared.message.Message.{Message}
 use Rattle.wire.specs.Decoding.{Spells}
+use Rattle.node.specs.declared.fault.NodeFault.{NodeFault}
 use Rattle.node.specs.declared.to.To.{To}
 use Rattle.node.specs.Calls.{Call, deliver}
 use Rattle.node.specs.Effects.{messages_of}
 use Rattle.node.specs.Nodes.{Node}
 use Rattle.node.specs.Standing.{IsEither}
 use Rattle.site_drive.specs.declared.last_call.LastCall.{LastCall}
-use Rattle.site_drive.specs.Batches.{HasWorked}
+use Rattle.site_drive.specs.Batches.{HasWorked, GivesUpBatch}
 use Rattle.site_drive.specs.Drives.{Scene, sent_of, IsPartlyGiven}
-use Rattle.site_serve.specs.Rounds.{TakesPass, BreaksPass}
-use Rattle.site_serve.specs.declared.halt.Halt.{Halt}
+use Rattle.site_serve.specs.Rounds.{TakesPass}
 use Rattle.world.specs.declared.event.Event.{Event}
 use Rattle.world.specs.Worlds.{World}
 use Rattle.world.specs.Batches.{AllEnd, IsBatch, LeadTo, IsLeft}
@@ -48,9 +48,9 @@ WorkIsCalls = (last : LastCall) (n p turns : ℕ) (x y : Scene) → HasWorked la
 abbrev pub PassIsCalls : Type 0
 PassIsCalls = (n p : ℕ) (fed : List (List ℕ)) (x y : Scene) → TakesPass n p fed x y → (out : List (To × Message)) × CallsOn n p out x y × (y.given ≡ x.given ++ sent_of n out)
 
--- one that ends its server: a beginning of it is
-abbrev pub BrokenIsCalls : Type 0
-BrokenIsCalls = (n p : ℕ) (why : Halt) (x y : Scene) → BreaksPass n p why x y → (out : List (To × Message)) × CallsOn n p out x y × IsPartlyGiven n out x y
+-- a batch that is given up: a beginning of it is
+abbrev pub GivenUpIsCalls : Type 0
+GivenUpIsCalls = (last : LastCall) (n p turns : ℕ) (why : NodeFault) (x y : Scene) → GivesUpBatch last n p turns why x y → (out : List (To × Message)) × CallsOn n p out x y × IsPartlyGiven n out x y
 
 -- Where nothing is forged such calls are a batch of the world: a run of their events, and cut short a crash before the first of them or behind the last one
 abbrev pub CallsAreABatch : Type 0

@@ -1,5 +1,5 @@
 //! What a server does with its node is a schedule's.
-ghost use Rattle.sitectl.specs.Passes.{WorkIsCalls, PassIsCalls, BrokenIsCalls, CallsAreABatch};
+ghost use Rattle.sitectl.specs.Passes.{WorkIsCalls, PassIsCalls, GivenUpIsCalls, CallsAreABatch};
 
 use site_disk::MemDisk;
 use world::batches_are_runs;
@@ -10,7 +10,7 @@ use world::batches_are_runs;
 pub fn passes_are_batches()
     ensures work { WorkIsCalls }
     ensures pass { PassIsCalls }
-    ensures broken { BrokenIsCalls }
+    ensures given_up { GivenUpIsCalls }
     ensures batch { CallsAreABatch }
 {
     batches_are_runs::<MemDisk>();

@@ -1,21 +1,17 @@
 -- A pass is calls, and these are a batch of the world.
-use Rattle.std.proofs.Common.{◌≡◌, ◌⊎◌, inl, inr, ⊎_elim, ℕ, Some, List, [], ◌∷◌, ◌++◌, length, refl, sym, ap, subst, ◌∙◌, append-nil}
-use Rattle.std.proofs.Math.Seq.{take-length}
-use Rattle.site_ids.specs.Ids.{IsNode}
+use Rattle.std.proofs.Common.{◌≡◌, inl, inr, ⊎_elim, ℕ, Some, List, [], ◌∷◌, ◌++◌, refl, sym, ap, subst, ◌∙◌, append-nil}
 use Rattle.wire.specs.declared.message.Message.{Message}
 use Rattle.node.specs.declared.fault.NodeFault.{NodeFault}
 use Rattle.node.specs.declared.to.To.{To}
 use Rattle.node.specs.Nodes.{Node}
 use Rattle.node.specs.Standing.{ending_by}
 use Rattle.site_drive.specs.declared.last_call.LastCall.{LastCall}
-use Rattle.site_drive.specs.Batches.{HearsAll, Works, GivesUpWork, GivesUpBatch, HasWorked, DrivesBatch}
-use Rattle.site_drive.specs.Drives.{datagrams, Scene, GivesUp, sent_of, IsPartlyGiven}
+use Rattle.site_drive.specs.Batches.{HearsAll, Works, GivesUpWork, DrivesBatch}
+use Rattle.site_drive.specs.Drives.{datagrams, Scene, GivesUp, IsPartlyGiven}
 use Rattle.site_drive.proofs.ManyTurns.{datagrams_on}
-use Rattle.site_serve.specs.Rounds.{Serves, AreSteps, last_of, TakesPass, BreaksPass}
-use Rattle.site_serve.specs.declared.halt.Halt.{Halt}
-use Rattle.world.specs.Worlds.{World}
+use Rattle.site_serve.specs.Rounds.{Serves, AreSteps, last_of}
 use Rattle.world.specs.Batches.{IsBatch, CallsAreEvents, SealedIsARun, CrashIsARun}
-use Rattle.sitectl.specs.Passes.{AreCalls, CallsOn, NoneForged, WorkIsCalls, PassIsCalls, BrokenIsCalls, CallsAreABatch}
+use Rattle.sitectl.specs.Passes.{AreCalls, CallsOn, WorkIsCalls, PassIsCalls, GivenUpIsCalls, CallsAreABatch}
 use Rattle.sitectl.proofs.Calls.{none_called, called_on, turns_called, broken_off, last_called, last_ended, may_take_many}
 
 -- ---- from scene to scene
@@ -76,11 +72,11 @@ work_is_calls last n p turns x y (inr h) = let r = work_off last n p turns h.0 x
 drives_on : (last : LastCall) (n p turns taken malformed : ℕ) (fed : List (List ℕ)) (x y : Scene) → (d : DrivesBatch last n p turns taken malformed fed x y) → CallsOn n p d.out x y
 drives_on last n p turns taken malformed fed x y d = moved n p d.out x d.worked y (works_on last n p turns taken malformed d.out x d.worked d.works) d.node d.received
 
-batch_off : (last : LastCall) (n p turns : ℕ) (why : NodeFault) (x y : Scene) → GivesUpBatch last n p turns why x y → SomeCalls n p x y
-batch_off last n p turns why x y (inl h) =
+pub given_up_is_calls : GivenUpIsCalls
+given_up_is_calls last n p turns why x y (inl h) =
     subst (λ (z : Scene). SomeCalls n p x z) (sym h.2) ([], record { came = []; received = sym (append-nil x.received); are = none_called n p x.node }, (0, sym (append-nil x.given)))
-batch_off last n p turns why x y (inr (inl h)) = work_off last n p turns why x y h
-batch_off last n p turns why x y (inr (inr h)) =
+given_up_is_calls last n p turns why x y (inr (inl h)) = work_off last n p turns why x y h
+given_up_is_calls last n p turns why x y (inr (inr h)) =
     let s = h.1 in
     (s.out, moved n p s.out x s.worked y (works_on last n p turns s.taken s.malformed s.out x s.worked s.works) s.node s.received, s.given)
 
@@ -104,12 +100,6 @@ pass_is_calls n p fed x y t =
       subst (λ (z : Scene). CallsOn n p d.out x z) (sym to) (served_on n p d.out x t.heard t.serves.scenes t.serves.each (drives_on t.last n p 257 t.turns t.malformed fed x t.heard d)),
       ap (λ z. z.given) to ∙ none_given n p t.heard t.serves.scenes t.serves.each ∙ d.given,
     )
-
-pub broken_is_calls : BrokenIsCalls
-broken_is_calls n p why x y (inl h) = batch_off h.0 n p 257 h.1 x y h.3
-broken_is_calls n p why x y (inr h) =
-    let r = pass_is_calls n p h.1 x y h.2 in
-    (r.0, r.1, (length (sent_of n r.0), r.2 ∙ ap (λ l. x.given ++ l) (sym (take-length (sent_of n r.0)))))
 
 -- ---- in a world
 
