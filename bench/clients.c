@@ -8,7 +8,7 @@
      clients [--kept] burst EDITOR COUNT 0 HOST:PORT..             so many commands at each server at once, until each receipt stands at every server
 
    The clients take the servers in turn. Each request has a fresh connection; with --kept it goes over the one before, while the server lets that stay.
-   It prints one line, and fails where a server answers what it should not, or something takes two minutes. */
+   It prints one line, and fails where a server answers what it should not, or something is not done two minutes after it began, or after the time was up. */
 #define _GNU_SOURCE
 #include <arpa/inet.h>
 #include <errno.h>
@@ -208,7 +208,7 @@ static void run(enum kind what, int many) {
         double wait = 1;
         for (int i = 0; i < many; i++) {
             struct client *c = &clients[i];
-            if (isfinite(c->due) && t - c->began > 2 * LONGEST) fail("something took two minutes", 0);
+            if (isfinite(c->due) && t - (c->began > end ? c->began : end) > 2 * LONGEST) fail("something took two minutes", 0);
             if (c->due <= t && c->due) send_request(c);
             if (c->due && c->due - t < wait) wait = c->due > t ? c->due - t : 0;
             ready[i] = (struct pollfd){c->due ? -1 : c->socket, c->sent < c->size ? POLLOUT : POLLIN, 0};
