@@ -160,7 +160,7 @@ fn questions_and_widenings_need_no_tick(rt: HostRuntime) {
     without_a_tick(&rt, &mut desk, &mut server);
 }
 
-/// Node 3 asks for what it is told behind the answer; whatever else comes is no question.
+/// Node 3 asks for what it is told behind the answer; whatever else comes is no question: four messages of attempts, and two votes.
 fn told_behind_a_question(rt: &impl Abort, desk: &mut Desk, server: &mut Server<MemLink>) {
     hear(rt, server, 9);
     let cluster = server.node.cluster();
@@ -176,9 +176,12 @@ fn told_behind_a_question(rt: &impl Abort, desk: &mut Desk, server: &mut Server<
             u32::from(turn == 8),
             0,
         );
-        let (asked, others) = (desk.asked().of(to), desk.asked().of(me));
+        let delivered = desk.delivered();
+        let asked = delivered.question_of(to);
         assert_eq!(rt; asked.is_some(), turn == 4 || turn == 7, "turn {turn}");
-        assert!(rt; others.is_none());
+        assert!(rt; delivered.question_of(me).is_none());
+        assert_eq!(rt; delivered.attempts(), u32::from(turn < 4), "turn {turn}");
+        assert_eq!(rt; delivered.stirs(), u32::from(turn < 7 && turn != 4), "turn {turn}");
         let Some(first) = asked else {
             continue;
         };

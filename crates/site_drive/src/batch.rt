@@ -7,7 +7,7 @@ ghost use Rattle.site_drive.specs.Leading.{StaysWhose};
 ghost use Rattle.site_drive.specs.Links.{RoseBy};
 ghost use Rattle.site_drive.specs.Sending.{Counted};
 
-use crate::asked::Asked;
+use crate::delivered::Delivered;
 use crate::desk::Desk;
 use crate::sending::send_all;
 use crate::{LastCall, Link};
@@ -102,7 +102,7 @@ impl Desk {
     {
         self.outbox.clear();
         self.failed = 0;
-        self.asked = Asked::none();
+        self.delivered = Delivered::none();
         node.begin()?;
         let taken = match self.work(node, link, turns, last) {
             Ok(taken) => taken,

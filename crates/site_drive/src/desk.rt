@@ -3,7 +3,7 @@
 ghost use Rattle.std.specs.Prelude.{◌≡◌, ◌+◌, [], length, IfOk};
 ghost use Rattle.wire.specs.declared.TheConstants.{MAX_MESSAGE};
 
-use crate::asked::Asked;
+use crate::delivered::Delivered;
 use node::Outbox;
 use std::alloc::{AllocError, Global};
 use wire::MAX_MESSAGE;
@@ -18,8 +18,8 @@ pub struct Desk {
     pub(crate) outbox: Outbox,
     /// Calls of the link that failed.
     pub(crate) failed: u64,
-    /// The questions that this drive delivered.
-    pub(crate) asked: Asked,
+    /// What this drive delivered.
+    pub(crate) delivered: Delivered,
     ghost room: { length datagram.items ≡ MAX_MESSAGE + 1 },
 }
 
@@ -36,14 +36,14 @@ impl Desk {
             spelling: Vec::new(alloc),
             outbox: Vec::new(alloc),
             failed: 0,
-            asked: Asked::none(),
+            delivered: Delivered::none(),
         })
     }
 
-    /// The questions that the last drive delivered.
-    pub fn asked(&self) -> Asked
-        ensures { result ≡ self.now.asked }
+    /// What the last drive delivered.
+    pub fn delivered(&self) -> Delivered
+        ensures { result ≡ self.now.delivered }
     {
-        self.asked
+        self.delivered
     }
 }

@@ -8,7 +8,7 @@ ghost use Rattle.site_drive.specs.Drives.{Exchanges, GivesUp, DrivesWith, GivesU
 ghost use Rattle.site_drive.specs.Ending.{EndsDrive};
 ghost use Rattle.site_drive.specs.Leading.{LeadsTo, StaysWhose};
 
-use crate::asked::Asked;
+use crate::delivered::Delivered;
 use crate::desk::Desk;
 use crate::{Driven, LastCall, Link};
 use node::{Node, NodeFault};
@@ -59,7 +59,7 @@ impl Desk {
     {
         self.outbox.clear();
         self.failed = 0;
-        self.asked = Asked::none();
+        self.delivered = Delivered::none();
         let malformed = self.take_turns(node, link, turns)?;
         self.close(node, link, last)?;
         Ok(Driven {

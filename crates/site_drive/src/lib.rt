@@ -1,9 +1,9 @@
 //! A node at work: messages between nodes over a link, and turns that take what was received and send what is handed out.
 #![tactic(auto)]
 
-mod asked;
 mod batch;
 mod calls;
+mod delivered;
 mod desk;
 mod driven;
 mod driving;
@@ -15,8 +15,8 @@ mod sending;
 mod turns;
 mod udp;
 
-pub use asked::Asked;
 pub use batch::Batched;
+pub use delivered::Delivered;
 pub use desk::Desk;
 pub use driven::Driven;
 pub use driving::drive;

@@ -57,7 +57,7 @@ impl Desk {
         };
         match decode(self.alloc, &self.datagram[..n], node.cluster()) {
             Ok(message) => {
-                self.asked.note(&message);
+                self.delivered.note(&message);
                 match node.deliver(&message, &mut self.outbox) {
                     Ok(()) => Ok(0),
                     Err(fault) => Err(fault),
