@@ -1,8 +1,9 @@
-//! Drives that are one batch: the calls that a burst makes of the device, and what one that fails leaves: nothing is sent, and all of the batch is found again or none.
+//! Batches: what one takes and posts, the calls that a burst makes of the device, and what one that fails leaves: nothing is posted, and all of the batch is
+//! found again or none.
 use crate::opening::reopened;
-use crate::server::Server;
-use node::NodeFault;
-use site_drive::{LastCall, MemLink};
+use crate::server::{Server, bytes};
+use node::{NodeFault, To};
+use site_drive::{LastCall, Letter, MemLink};
 use site_ids::Instance;
 use std::alloc::Global;
 use std::process::Abort;
@@ -16,6 +17,34 @@ const BURST: &[&str] = &[
 
 /// A question about an instance that isn't known, a refused value and no message: nothing goes on record for them.
 const IDLE: &[&str] = &["01060300000001", "0104020000000900000001020000000107", "ff"];
+
+/// What comes, and what is posted for it: to whom, 0 for all, and the bytes.
+const MAIL: &[(&str, &[(u8, &str)])] = &[
+    // A prepare of node 2, and a promise to it.
+    (
+        "010102000000010000000102",
+        &[(2, "01020100000001000000010200")],
+    ),
+    // Its proposal, and a vote for all.
+    (
+        "0103020000000100000001020000000107",
+        &[(0, "0104010000000100000001020000000107")],
+    ),
+    // Votes of a majority.
+    ("0104020000000100000001020000000107", &[]),
+    ("0104030000000100000001020000000107", &[]),
+    // A question, and the value to the asker.
+    ("01060300000001", &[(3, "010701000000010000000107")]),
+    ("ff", &[]),
+];
+
+/// After so many of these datagrams, how many were malformed, and what a last call posts for all: a tick where a value waits, and else a question about the
+/// next instance.
+const LAST_CALLS: &[(u8, usize, &str)] = &[
+    (0, 0, "01060100000001"),
+    (2, 0, "010101000000010000000101"),
+    (6, 1, "01060100000002"),
+];
 
 /// After so many calls the device fails. Then the node is opened again, behind a crash by a choice or without one: whether the three votes are found.
 const FAILURES: &[(u32, Option<u8>, bool)] = &[
@@ -37,12 +66,57 @@ const FAILURES: &[(u32, Option<u8>, bool)] = &[
     (3, None, true),
 ];
 
-fn server(rt: &impl Abort, alloc: Global, heard: &[&str]) -> Server<MemLink> {
-    let mut server = Server::new(rt, alloc, 3, 1, MemLink::new(alloc));
-    for text in heard {
-        server.queue(rt, text);
+fn server(rt: &impl Abort, alloc: Global) -> Server<MemLink> {
+    Server::new(rt, alloc, 3, 1, MemLink::new(alloc))
+}
+
+fn datagrams(rt: &impl Abort, alloc: Global, texts: &[&str]) -> Vec<Vec<u8>> {
+    let mut came = Vec::new(alloc);
+    for text in texts {
+        let datagram = bytes(rt, alloc, text);
+        came.push(datagram).expect(rt, "a place");
     }
-    server
+    came
+}
+
+/// The letter is for that node, or for all, and has these bytes, in hexadecimal.
+fn is_letter(rt: &impl Abort, alloc: Global, letter: &Letter, to: u8, text: &str) {
+    let number = match letter.to {
+        To::All => 0,
+        To::One(node) => node.number(),
+    };
+    let expected = bytes(rt, alloc, text);
+    assert!(rt; number == to && letter.bytes.as_slice() == expected.as_slice(), "{text} to {to}");
+}
+
+/// The first so many datagrams are a batch: what is posted for each, in order, and then what the last call hands out.
+fn posts(rt: &impl Abort, alloc: Global, count: u8, malformed: usize, last: &str) {
+    let mut server = server(rt, alloc);
+    let mut came = Vec::new(alloc);
+    for (text, _) in MAIL.iter().take(usize::from(count)) {
+        let datagram = bytes(rt, alloc, text);
+        came.push(datagram).expect(rt, "a place");
+    }
+    let (strange, letters) = server
+        .batch(came.as_slice(), LastCall::TickOrAsk)
+        .expect(rt, "a batch");
+    assert_eq!(rt; strange, malformed, "{last}");
+    let mut at = 0;
+    for (_, posted) in MAIL.iter().take(usize::from(count)) {
+        for (to, text) in *posted {
+            is_letter(rt, alloc, letters.get(at).expect(rt, "a letter"), *to, text);
+            at += 1;
+        }
+    }
+    is_letter(rt, alloc, letters.get(at).expect(rt, "a letter"), 0, last);
+    assert_eq!(rt; letters.len(), at + 1, "{last}");
+}
+
+#[test]
+fn a_batch_posts_what_it_hands_out_in_order(rt: HostRuntime) {
+    for &(count, malformed, last) in LAST_CALLS {
+        posts(&rt, rt.alloc(), count, malformed, last);
+    }
 }
 
 /// The node has all votes of the burst on record, or none.
@@ -53,36 +127,35 @@ fn has_votes(rt: &impl Abort, server: &Server<MemLink>, all: bool) {
     }
 }
 
-/// So many calls of the device are enough for it at a node where a value waits, and so many datagrams are sent then.
-fn takes(rt: &impl Abort, alloc: Global, heard: &[&str], last: LastCall, calls: u32, sent: usize) {
-    let mut server = server(rt, alloc, heard);
+/// So many calls of the device are enough for it at a node where a value waits, and so many letters are posted then.
+fn takes(rt: &impl Abort, alloc: Global, heard: &[&str], last: LastCall, calls: u32, posted: usize) {
+    let mut server = server(rt, alloc);
     server.submit(rt, 1, "release\n");
     server.node.arm(calls);
-    let batched = server.batch(99, last).expect(rt, "no call more");
-    assert_eq!(rt; batched.turns, 4);
-    assert_eq!(rt; server.link.sent().len(), sent);
+    let came = datagrams(rt, alloc, heard);
+    let (_, letters) = server.batch(came.as_slice(), last).expect(rt, "no call more");
+    assert_eq!(rt; letters.len(), posted);
 }
 
 #[test]
 fn a_burst_takes_four_calls_of_the_device_and_what_puts_nothing_takes_none(rt: HostRuntime) {
-    takes(&rt, rt.alloc(), BURST, LastCall::Nothing, 4, 9);
-    // A tick puts a round, and asks three nodes to promise.
-    takes(&rt, rt.alloc(), BURST, LastCall::TickOrAsk, 4, 12);
-    takes(&rt, rt.alloc(), IDLE, LastCall::TickOrAsk, 4, 3);
-    takes(&rt, rt.alloc(), IDLE, LastCall::Ask, 0, 3);
+    takes(&rt, rt.alloc(), BURST, LastCall::Nothing, 4, 3);
+    // A tick puts a round, and asks all nodes to promise.
+    takes(&rt, rt.alloc(), BURST, LastCall::TickOrAsk, 4, 4);
+    takes(&rt, rt.alloc(), IDLE, LastCall::TickOrAsk, 4, 1);
+    takes(&rt, rt.alloc(), IDLE, LastCall::Ask, 0, 1);
     takes(&rt, rt.alloc(), IDLE, LastCall::Nothing, 0, 0);
 }
 
 fn fail(rt: &impl Abort, alloc: Global, calls: u32, crash: Option<u8>, found: bool) {
-    let mut server = server(rt, alloc, BURST);
+    let mut server = server(rt, alloc);
     server.node.arm(calls);
-    let fault = server.batch(99, LastCall::Nothing).err();
+    let came = datagrams(rt, alloc, BURST);
+    let fault = server.batch(came.as_slice(), LastCall::Nothing).err();
     assert_eq!(rt; fault, Some(NodeFault::Device), "{calls} {crash:?}");
-    assert!(rt; server.node.is_stopped() && server.link.sent().is_empty());
-    assert_eq!(rt;
-        server.batch(99, LastCall::Nothing).err(),
-        Some(NodeFault::Stopped)
-    );
+    assert!(rt; server.node.is_stopped());
+    let again = server.batch(came.as_slice(), LastCall::Nothing).err();
+    assert_eq!(rt; again, Some(NodeFault::Stopped));
     has_votes(rt, &reopened(rt, server, crash), found);
 }
 
@@ -90,20 +163,5 @@ fn fail(rt: &impl Abort, alloc: Global, calls: u32, crash: Option<u8>, found: bo
 fn a_device_that_fails_leaves_all_of_a_batch_or_none(rt: HostRuntime) {
     for &(calls, crash, found) in FAILURES {
         fail(&rt, rt.alloc(), calls, crash, found);
-    }
-}
-
-/// How many turns are asked for, one batch after another; how many are made, and how many datagrams are sent in all.
-const TURNS: &[(u32, u32, usize)] = &[(2, 2, 6), (2, 2, 9), (2, 1, 9), (0, 0, 9)];
-
-#[test]
-fn a_batch_ends_with_the_turn_that_hears_nothing(rt: HostRuntime) {
-    let mut server = server(&rt, rt.alloc(), BURST);
-    for &(turns, made, sent) in TURNS {
-        let batched = server
-            .batch(turns, LastCall::Nothing)
-            .expect(&rt, "a batch");
-        assert_eq!(rt; batched.turns, made);
-        assert_eq!(rt; server.link.sent().len(), sent);
     }
 }

@@ -1,7 +1,7 @@
 //! A drive with one growth refused, turn by turn and as one batch, as `tools/refuse-growths` runs this: it ends as ever, or by the fault that memory was
 //! wanted, or by that of the device where the disk in memory found none, and then the node is opened again. Where the link found none it counts a failure.
 //! Either way what was heard may be lost, as a datagram may; so it comes once more, and then the node is where it is without refusals.
-use crate::server::Server;
+use crate::server::{Server, bytes};
 use node::NodeFault;
 use site_drive::{LastCall, MemLink};
 use std::alloc::Global;
@@ -19,30 +19,28 @@ const HEARD: &[&str] = &[
 /// What the question is answered with.
 const ANSWER: &str = "010701000000010000001400000001000000000000000172656c656173650a";
 
-fn hear(rt: &impl Abort, server: &mut Server<MemLink>) {
+/// What a drive, or a batch, that hears all of it came to: whether it ended as without a refusal. Turns are left for what an earlier drive did not take.
+fn turn(rt: &impl Abort, server: &mut Server<MemLink>, at_once: bool) -> Result<bool, NodeFault> {
+    if at_once {
+        let mut came = Vec::new(server.alloc);
+        for &text in HEARD {
+            came.push(bytes(rt, server.alloc, text))?;
+        }
+        let (malformed, letters) = server.batch(came.as_slice(), LastCall::TickOrAsk)?;
+        assert!(rt; malformed == 1 && letters.len() > 1);
+        return Ok(true);
+    }
     for &text in HEARD {
         server.queue(rt, text);
     }
-}
-
-/// Drives ten turns, as one batch or one by one: how many datagrams were malformed, and how many calls of the link failed.
-fn turn(server: &mut Server<MemLink>, at_once: bool) -> Result<(u32, u64), NodeFault> {
-    if at_once {
-        let batched = server.batch(10, LastCall::TickOrAsk)?;
-        return Ok((batched.malformed, batched.failed));
-    }
     let driven = server.drive(10)?;
-    Ok((driven.malformed, driven.failed))
+    assert!(rt; 1 <= driven.malformed && driven.failed <= 1);
+    Ok(driven.failed == 0)
 }
 
-/// Whether a drive that hears all of it ends as without a refusal. Turns are left for what an earlier one did not take.
 fn drives(rt: &impl Abort, server: &mut Server<MemLink>, at_once: bool) -> bool {
-    hear(rt, server);
-    match turn(server, at_once) {
-        Ok((malformed, failed)) => {
-            assert!(rt; 1 <= malformed && failed <= 1);
-            failed == 0
-        }
+    match turn(rt, server, at_once) {
+        Ok(whole) => whole,
         Err(fault) => {
             let cause = if server.node.is_stopped() {
                 NodeFault::Device
@@ -64,15 +62,18 @@ fn going(rt: &impl Abort, server: Server<MemLink>) -> Server<MemLink> {
     }
 }
 
+/// Where a growth is refused, the second drive has all that the first one may have lost.
 fn driven(rt: &impl Abort, alloc: Global, at_once: bool) {
     let mut server = Server::new(rt, alloc, 3, 1, MemLink::new(alloc));
     let whole = drives(rt, &mut server, at_once);
     let mut server = going(rt, server);
     assert!(rt; whole || drives(rt, &mut server, at_once));
     assert!(rt; server.node.known() == 1 && server.node.newest() == 1);
-    // The last are the answer, and a tick to all.
-    let at = server.link.sent().len().saturating_sub(4);
-    server.sent(rt, at, 3, ANSWER);
+    if !at_once {
+        // The last are the answer, and a tick to all.
+        let at = server.link.sent().len().saturating_sub(4);
+        server.sent(rt, at, 3, ANSWER);
+    }
 }
 
 #[test]

@@ -3,7 +3,7 @@ use crate::opening::{again, fresh};
 use command::write;
 use node::{Node, NodeFault, Submitted};
 use site_disk::MemDisk;
-use site_drive::{Batched, Desk, Driven, LastCall, Link, MemLink, drive};
+use site_drive::{Desk, Driven, LastCall, Letter, Link, MemLink, drive};
 use site_ids::{Ticket, Value};
 use std::alloc::Global;
 use std::process::Abort;
@@ -54,10 +54,17 @@ impl<L: Link + Drop> Server<L> {
         desk.drive_with(&mut self.node, &mut self.link, turns, last)
     }
 
-    /// One batch.
-    pub(crate) fn batch(&mut self, turns: u32, last: LastCall) -> Result<Batched, NodeFault> {
+    /// One batch over these datagrams: how many were malformed, and the letters.
+    pub(crate) fn batch(
+        &mut self,
+        came: &[Vec<u8>],
+        last: LastCall,
+    ) -> Result<(usize, Vec<Letter>), NodeFault> {
         let mut desk = Desk::new(self.alloc)?;
-        desk.drive_batch(&mut self.node, &mut self.link, turns, last)
+        let malformed = desk.take_batch(&mut self.node, came, last)?;
+        let mut letters = Vec::new(self.alloc);
+        desk.post(&mut letters)?;
+        Ok((malformed, letters))
     }
 
     /// Turns alone.

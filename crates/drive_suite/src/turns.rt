@@ -1,6 +1,6 @@
 //! What node 1 of three sends for what it hears, datagram by datagram; turns alone beside `drive`, and the other calls behind turns.
 use crate::server::{Server, passes};
-use site_drive::{Batched, Desk, LastCall, MemLink};
+use site_drive::{Desk, LastCall, MemLink};
 use std::alloc::Global;
 use std::process::Abort;
 
@@ -106,30 +106,11 @@ fn drive(rt: &impl Abort, alloc: Global, turns: u8, malformed: u32, last: &str) 
     last_to_all(rt, &server, sent, 3, last);
 }
 
-/// One batch of so many turns: it sends what they would, in order, and then what the last call hands out.
-fn batch(rt: &impl Abort, alloc: Global, turns: u8, malformed: u32, last: &str) {
-    let mut server = server(rt, alloc, 3);
-    hear(rt, &mut server, usize::from(turns));
-    let batched = Batched {
-        turns: u32::from(turns),
-        malformed,
-        failed: 0,
-    };
-    assert_eq!(rt;
-        server.batch(batched.turns, LastCall::TickOrAsk),
-        Ok(batched),
-        "{last}"
-    );
-    let sent = sent_in_turns(rt, &server, usize::from(turns));
-    last_to_all(rt, &server, sent, 3, last);
-}
-
 #[test]
-fn a_drive_is_an_exchange_and_a_last_call_and_so_is_a_batch(rt: HostRuntime) {
+fn a_drive_is_an_exchange_and_a_last_call(rt: HostRuntime) {
     for &(turns, malformed, last) in LAST_CALLS {
         exchange(&rt, rt.alloc(), turns, malformed, last);
         drive(&rt, rt.alloc(), turns, malformed, last);
-        batch(&rt, rt.alloc(), turns, malformed, last);
     }
 }
 

@@ -5,14 +5,19 @@ use crate::server_fault::ServerFault;
 use durable::Record;
 use engine_parts::read_all;
 use http_read::Counted;
+use http_serve::ServeFault;
 use node::{Node, NodeFault};
 use site_disk::MemDisk;
 use site_drive::{UdpLink, drive};
 use site_ids::{Cluster, NodeId};
-use site_serve::{Served, answer_connection, limit_waiting};
+use site_serve::{Served, close, serve_requests};
 use std::alloc::Global;
-use std::io::Write;
+use std::io::{self, Write};
 use std::net::{Net, SocketAddr, TcpListener, TcpStream};
+use std::time::Duration;
+
+/// How many seconds a call of a connection may wait.
+const PATIENCE: u64 = 1;
 
 /// A node, its link to the others, and where it is asked.
 #[derive(Drop)]
@@ -37,6 +42,13 @@ fn fresh_node(alloc: Global, cluster: Cluster, me: NodeId) -> Result<Served<MemD
         Ok(node) => Ok(Served { node }),
         Err(_) => Err(ServerFault::OutOfMemory),
     }
+}
+
+/// Has each read and each write of a connection wait for a second at most.
+fn limit_waiting(stream: &TcpStream) -> io::Result<()> {
+    let patience = Some(Duration::from_secs(PATIENCE));
+    stream.set_read_timeout(patience)?;
+    stream.set_write_timeout(patience)
 }
 
 /// A connection to an address.
@@ -78,12 +90,18 @@ impl Server {
         Ok(())
     }
 
-    /// Takes the connection that waits, and answers its requests.
+    /// Takes the connection that waits, answers its requests and closes it. That it fails is passed over.
     fn answer(&mut self, alloc: Global) -> Result<(), ServerFault> {
         let (stream, _from) = self.listener.accept()?;
         limit_waiting(&stream)?;
-        answer_connection(alloc, stream, &mut self.served)?;
-        Ok(())
+        let mut reader = Counted::new(&stream);
+        let mut writer = Counted::new(&stream);
+        let served = serve_requests(alloc, &mut reader, &mut writer, &mut self.served);
+        close(stream);
+        match served {
+            Err(ServeFault::OutOfMemory) => Err(ServerFault::OutOfMemory),
+            _ => Ok(()),
+        }
     }
 
     /// Connects and sends a request, answers it, and reads to the end.

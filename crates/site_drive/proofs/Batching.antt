@@ -1,7 +1,6 @@
--- A batch: turns and calls whose messages wait, and its seal.
-use Rattle.std.proofs.Common.{◌≡◌, ◌≢◌, ◌⊎◌, inl, inr, ⊎_elim, true, false, Bool, ℕ, ◌+◌, ◌<◌, ◌≤◌, Option, Some, None, List, [], ◌∷◌, ◌++◌, refl, sym, ap, subst, ◌∙◌, append-nil, arith}
-use Rattle.std.specs.Option.{is_some}
-use Rattle.std.proofs.lemmas.List.{length-append}
+-- Datagrams that came, delivered one after the other, and the last call.
+use Rattle.std.proofs.Common.{◌≡◌, ◌≢◌, inl, inr, ℕ, zero, suc, ◌+◌, ◌<◌, ◌≤◌, Some, List, [], ◌∷◌, ◌++◌, length, map, take, drop, slice_index_or, refl, sym, ap, subst, ◌∙◌, append-nil, append_assoc, arith}
+use Rattle.std.proofs.lemmas.List.{map-append, take-append-drop}
 use Rattle.site_disk.specs.Model.{DiskState}
 use Rattle.wire.specs.declared.message.Message.{Message}
 use Rattle.node.specs.declared.fault.NodeFault.{NodeFault}
@@ -9,162 +8,114 @@ use Rattle.node.specs.declared.fault.NodeFault.TheVariants as fault
 use Rattle.node.specs.declared.to.To.{To}
 use Rattle.node.specs.declared.running.Node.{Node as Running}
 use Rattle.node.specs.Nodes.{Node}
-use Rattle.node.specs.Standing.{ending_by}
+use Rattle.node.specs.Standing.{KeepsOthers, ending_by}
 use Rattle.site_drive.specs.declared.last_call.LastCall.{LastCall}
-use Rattle.site_drive.specs.Drives.{Heard, TakesAll, datagrams, Scene, EndsLast, EndsTurns, BreaksOff}
-use Rattle.site_drive.specs.Leading.{AllFit, NodeLeads, StaysWhose, IsHeldAs}
-use Rattle.site_drive.specs.Batches.{Hears, HearsAll, Works, GivesUpHearing, GivesUpWork, LeadsAhead}
+use Rattle.site_drive.specs.Drives.{TakesAll, EndsLast, EndsTurns, BreaksOff}
+use Rattle.site_drive.specs.Leading.{AllFit, NodeLeads, TakesIn}
+use Rattle.site_drive.specs.Batches.{TakesEach, Works, GivesUpTaking, GivesUpWork}
 use Rattle.site_drive.proofs.Calling.{all_fit}
-use Rattle.site_drive.proofs.ManyTurns.{takes_on, received_on}
-use Rattle.site_drive.proofs.Turning.{TakesIn}
+use Rattle.site_drive.proofs.Giving.{take_more, take_past}
+use Rattle.site_drive.proofs.ManyTurns.{takes_on}
 
--- ---- turns so far
+-- ---- the first so many, and one more
 
--- Turns of a batch so far. Where no more come, the last one heard nothing
-abbrev pub HearsSoFar : ℕ → ℕ → ℕ → ℕ → Bool → List (To × Message) → Scene → Scene → Type 0
-HearsSoFar n p taken malformed more out x y = (heard : List Heard) × Hears n p taken malformed heard out x y × (more ≡ false → (front : List Heard) × (heard ≡ front ++ None ∷ []))
+module _ {X : Type 0} (bytes : X → List ℕ) (xs : List X) (i : ℕ) (x : X) where
+  first_more : i < length xs → x ≡ slice_index_or xs i x → map Some (map bytes (take (i + 1) xs)) ≡ map Some (map bytes (take i xs)) ++ Some (bytes x) ∷ []
+  first_more below got =
+      let next : suc i ≡ i + 1 = omega arith in
+      ap (λ k. map Some (map bytes (take k xs))) (sym next) ∙ ap (λ l. map Some (map bytes l)) (take_more xs i x below got)
+      ∙ ap (map Some) (map-append bytes (take i xs) (x ∷ [])) ∙ map-append Some (map bytes (take i xs)) (bytes x ∷ [])
 
-pub none_came : (came : Option ℕ) (b : Bool) → b ≡ is_some came → b ≡ false → came ≡ None
-none_came None b is off = refl
-none_came (Some n) b is off = let yet : true ≡ false = sym is ∙ off in absurd (cc)
-
-heard_none : (came : Option ℕ) (buffer : List ℕ) (h : Heard) → IsHeldAs came buffer h → came ≡ None → h ≡ None
-heard_none None buffer None is e = refl
-heard_none None buffer (Some d) is e = absurd is
-heard_none (Some n) buffer h is e = absurd (cc)
+  -- those before it, it, and those behind
+  split_at : i < length xs → x ≡ slice_index_or xs i x → map bytes xs ≡ map bytes (take i xs) ++ bytes x ∷ map bytes (drop (suc i) xs)
+  split_at below got =
+      ap (map bytes) (sym (take-append-drop (suc i) xs)) ∙ ap (λ l. map bytes (l ++ drop (suc i) xs)) (take_more xs i x below got)
+      ∙ map-append bytes (take i xs ++ x ∷ []) (drop (suc i) xs) ∙ ap (λ l. l ++ map bytes (drop (suc i) xs)) (map-append bytes (take i xs) (x ∷ []))
+      ∙ append_assoc (map bytes (take i xs)) (bytes x ∷ []) (map bytes (drop (suc i) xs))
 
 -- of the same node
-pub of_same_node : {D : Type 0} (stands_for : D → DiskState → Type 0) (old mid new : Running D) → StaysWhose old mid → (How : ℕ → ℕ → Node → Node → Type 0)
+pub of_same_node : {D : Type 0} (stands_for : D → DiskState → Type 0) (old mid new : Running D) → KeepsOthers old mid → (How : ℕ → ℕ → Node → Node → Type 0)
     → NodeLeads stands_for mid new (How mid.cluster mid.me) → NodeLeads stands_for mid new (How old.cluster old.me)
-of_same_node stands_for old mid new whose How h =
-    subst (λ p. NodeLeads stands_for mid new (How old.cluster p)) whose.me (subst (λ n. NodeLeads stands_for mid new (How n mid.me)) whose.cluster h)
+of_same_node stands_for old mid new others How h =
+    subst (λ p. NodeLeads stands_for mid new (How old.cluster p)) others.me (subst (λ n. NodeLeads stands_for mid new (How n mid.me)) others.cluster h)
 
-module _ {D L : Type 0} (stands_for : D → DiskState → Type 0) (received : L → List (List ℕ) → Type 0) (given : L → List (ℕ × List ℕ) → Type 0) where
-  pub none_so_far : (code : Running D) (link : L) (n p : ℕ) (out : List (To × Message)) → out ≡ [] → LeadsAhead stands_for received given code code link link (HearsSoFar n p 0 0 true out)
-  none_so_far code link n p out empty = record {
-    leads = λ x at. (
-      x,
-      (
-        [],
-        record {
-          turns_are = refl;
-          takes = (refl, empty, refl);
-          fits = subst AllFit (sym empty) (λ m k. absurd k);
-          received = sym (append-nil x.received);
-          given = refl;
-        },
-        λ e. absurd (cc),
-      ),
-      at,
-      λ b d of. of,
-    );
+module _ {D : Type 0} (stands_for : D → DiskState → Type 0) where
+  -- and then
+  then_leads : (old mid new : Running D) (A B C : Node → Node → Type 0) → ((s t u : Node) → A s t → B t u → C s u) → NodeLeads stands_for old mid A → NodeLeads stands_for mid new B → NodeLeads stands_for old new C
+  then_leads old mid new A B C so first then = record {
+    leads = λ s stands.
+        let r = first.leads s stands in
+        let t = then.leads r.0 r.2 in
+        (t.0, so s r.0 t.0 r.1 t.1, t.2, λ d on. let e = r.3 d on in t.3 e.0 e.1, λ b d of. t.4 b d (r.4 b d of));
   }
 
-  module _ (old mid new : Running D) (before between after : L) (n p a malformed : ℕ) (more : Bool) (out : List (To × Message)) (came : Option ℕ) (buffer : List ℕ)
-      (earlier : LeadsAhead stands_for received given old mid before between (HearsSoFar n p a malformed more out))
-      (hears : (ds : List (List ℕ)) → received between ds → (h : Heard) × received after (ds ++ datagrams (h ∷ [])) × IsHeldAs came buffer h)
-      (keeps_given : (gs : List (ℕ × List ℕ)) → given between gs → given after gs)
+  -- what of these datagrams was taken so far
+  abbrev pub TakenSoFar : ℕ → ℕ → List (List ℕ) → ℕ → List (To × Message) → Node → Node → Type 0
+  TakenSoFar n p came malformed out s next = TakesEach n p came malformed out s next × AllFit out
+
+  pub none_taken : (code : Running D) (n p : ℕ) (out : List (To × Message)) → out ≡ [] → NodeLeads stands_for code code (TakenSoFar n p [] 0 out)
+  none_taken code n p out empty = record { leads = λ s stands. (s, ((refl, empty, refl), subst AllFit (sym empty) (λ m k. absurd k)), stands, (λ d on. (d, on)), λ b d of. of) }
+
+  module _ {X : Type 0} (bytes : X → List ℕ) (xs : List X) (i : ℕ) (x : X) (below : i < length xs) (got : x ≡ slice_index_or xs i x)
+      (old mid new : Running D) (n p malformed : ℕ) (out : List (To × Message)) (earlier : NodeLeads stands_for old mid (TakenSoFar n p (map bytes (take i xs)) malformed out))
     where
-      pub hears_more : (one : ℕ) (out_then : List (To × Message)) (goes_on : Bool) → (goes_on ≡ false → came ≡ None)
-          → ((h : Heard) → IsHeldAs came buffer h → NodeLeads stands_for mid new (TakesIn n p h one out out_then))
-          → LeadsAhead stands_for received given old new before after (HearsSoFar n p (a + 1) (malformed + one) goes_on out_then)
-      hears_more one out_then goes_on ends took = record {
-        leads = λ x at.
-            let r = earlier.leads x at in
-            let so_far = r.1.1 in
-            let h = hears r.0.received r.2.heard in
-            let t = (took h.0 h.2).leads r.0.node r.2.node in
-            let o = t.1.0 in (
-              record { node = t.0; received = r.0.received ++ datagrams (h.0 ∷ []); given = r.0.given },
-              (
-                r.1.0 ++ h.0 ∷ [],
-                record {
-                  turns_are = length-append r.1.0 (h.0 ∷ []) ∙ ap (λ k. k + 1) so_far.turns_are;
-                  takes = subst (λ l. TakesAll n p x.node (r.1.0 ++ h.0 ∷ []) (malformed + one) l t.0) (sym t.1.1)
-                      (takes_on n p x.node r.0.node t.0 r.1.0 (h.0 ∷ []) malformed one out o so_far.takes (t.0, one, 0, o, [], t.1.2, (refl, refl, refl), omega arith, sym (append-nil o)));
-                  fits = subst AllFit (sym t.1.1) (all_fit out o so_far.fits t.1.3);
-                  received = received_on x.received r.0.received _ r.1.0 (h.0 ∷ []) so_far.received refl;
-                  given = so_far.given;
-                },
-                λ none. (r.1.0, ap (λ z. r.1.0 ++ z ∷ []) (heard_none came buffer h.0 h.2 (ends none))),
-              ),
-              record { node = t.2; heard = h.1; told = keeps_given _ r.2.told },
-              λ b d of. t.4 b d (r.3 b d of),
-            );
-      }
+      pub one_more : (one : ℕ) (after : List (To × Message)) → NodeLeads stands_for mid new (TakesIn n p (Some (bytes x)) one out after)
+          → NodeLeads stands_for old new (TakenSoFar n p (map bytes (take (i + 1) xs)) (malformed + one) after)
+      one_more one after taken =
+          then_leads old mid new (TakenSoFar n p (map bytes (take i xs)) malformed out) (TakesIn n p (Some (bytes x)) one out after) (TakenSoFar n p (map bytes (take (i + 1) xs)) (malformed + one) after)
+          (λ s t u before r. (
+            subst (λ hs. TakesAll n p s hs (malformed + one) after u) (sym (first_more bytes xs i x below got)) (subst (λ l. TakesAll n p s (map Some (map bytes (take i xs)) ++ Some (bytes x) ∷ []) (malformed + one) l u) (sym r.1)
+            (takes_on n p s t u (map Some (map bytes (take i xs))) (Some (bytes x) ∷ []) malformed one out r.0 before.0 (u, one, 0, r.0, [], r.2, (refl, refl, refl), omega arith, sym (append-nil r.0)))),
+            subst AllFit (sym r.1) (all_fit out r.0 before.1 r.3),
+          ))
+          earlier taken
 
-      pub hears_off : (turns : ℕ) (why : NodeFault) → a < turns
-          → ((h : Heard) → IsHeldAs came buffer h → NodeLeads stands_for mid new (λ s next. (d : List ℕ) × (h ≡ Some d) × BreaksOff n p s d why next))
-          → LeadsAhead stands_for received given old new before after (GivesUpHearing n p turns why)
-      hears_off turns why below off = record {
-        leads = λ x at.
-            let r = earlier.leads x at in
-            let so_far = r.1.1 in
-            let h = hears r.0.received r.2.heard in
-            let t = (off h.0 h.2).leads r.0.node r.2.node in (
-              record { node = t.0; received = r.0.received ++ datagrams (h.0 ∷ []); given = r.0.given },
-              (
-                record {
-                  heard = r.1.0;
-                  malformed = malformed;
-                  out = out;
-                  mid = r.0.node;
-                  taken = so_far.takes;
-                  given = (0, so_far.given ∙ sym (append-nil x.given));
-                  how = inl (
-                    t.1.0,
-                    t.1.2,
-                    received_on x.received r.0.received _ r.1.0 (Some t.1.0 ∷ []) so_far.received (ap (λ z. r.0.received ++ datagrams (z ∷ [])) t.1.1),
-                    omega (arith, so_far.turns_are, below),
-                  );
-                },
-                so_far.given,
-              ),
-              record { node = t.2; heard = h.1; told = keeps_given _ r.2.told },
-              λ b d of. t.4 b d (r.3 b d of),
-            );
-      }
+      pub breaks_off : (why : NodeFault) → NodeLeads stands_for mid new (λ s next. BreaksOff n p s (bytes x) why next) → NodeLeads stands_for old new (GivesUpTaking n p (map bytes xs) why)
+      breaks_off why broken =
+          then_leads old mid new (TakenSoFar n p (map bytes (take i xs)) malformed out) (λ s next. BreaksOff n p s (bytes x) why next) (GivesUpTaking n p (map bytes xs) why)
+          (λ s t u before off. record {
+            front = map bytes (take i xs);
+            bytes = bytes x;
+            behind = map bytes (drop (suc i) xs);
+            came_is = split_at bytes xs i x below got;
+            mid = t;
+            malformed = malformed;
+            out = out;
+            takes = before.0;
+            breaks = off;
+          })
+          earlier broken
 
-  -- ---- all turns
-
-  pub heard_all : (old new : Running D) (before after : L) (n p turns a malformed : ℕ) (more : Bool) (out : List (To × Message)) → ((more ≡ false) ⊎ (a ≡ turns))
-      → LeadsAhead stands_for received given old new before after (HearsSoFar n p a malformed more out) → LeadsAhead stands_for received given old new before after (HearsAll n p turns a malformed out)
-  heard_all old new before after n p turns a malformed more out why h = record {
-    leads = λ x at.
-        let r = h.leads x at in
-        (r.0, (r.1.0, r.1.1, ⊎_elim (λ none. inr (r.1.2 none)) (λ all. inl (r.1.1.turns_are ∙ all)) why), r.2, r.3);
-  }
+  pub all_taken : {X : Type 0} (bytes : X → List ℕ) (xs : List X) (i : ℕ) (old new : Running D) (n p malformed : ℕ) (out : List (To × Message)) → length xs ≤ i
+      → NodeLeads stands_for old new (TakenSoFar n p (map bytes (take i xs)) malformed out) → NodeLeads stands_for old new (TakenSoFar n p (map bytes xs) malformed out)
+  all_taken bytes xs i old new n p malformed out past h = subst (λ l. NodeLeads stands_for old new (TakenSoFar n p (map bytes l) malformed out)) (take_past xs i past) h
 
   -- ---- then the last call is made
 
-  module _ (old mid : Running D) (before after : L) (n p turns a malformed : ℕ) (first : List (To × Message)) (heard : LeadsAhead stands_for received given old mid before after (HearsAll n p turns a malformed first)) where
-    pub worked : (new : Running D) (last : LastCall) (out : List (To × Message)) → NodeLeads stands_for mid new (λ s next. (then : List (To × Message)) × (out ≡ first ++ then) × EndsTurns last n p s then next × AllFit then)
-        → LeadsAhead stands_for received given old new before after (Works last n p turns a malformed out)
-    worked new last out called = record {
-      leads = λ x at.
-          let r = heard.leads x at in
-          let t = called.leads r.0.node r.2.node in (
-            record { node = t.0; received = r.0.received; given = r.0.given },
-            record { mid = r.0; first = first; then = t.1.0; hears = r.1; ends = t.1.2; fits = t.1.3; out_is = t.1.1; received = refl; given = refl },
-            record { node = t.2; heard = r.2.heard; told = r.2.told },
-            λ b d of. t.4 b d (r.3 b d of),
-          );
-    }
+  module _ (old mid new : Running D) (last : LastCall) (n p malformed : ℕ) (came : List (List ℕ)) (first : List (To × Message)) (taken : NodeLeads stands_for old mid (TakenSoFar n p came malformed first)) where
+    pub worked : (out : List (To × Message)) → NodeLeads stands_for mid new (λ s next. (then : List (To × Message)) × (out ≡ first ++ then) × EndsTurns last n p s then next × AllFit then)
+        → NodeLeads stands_for old new (Works last n p came malformed out)
+    worked out called =
+        then_leads old mid new (TakenSoFar n p came malformed first) (λ s next. (then : List (To × Message)) × (out ≡ first ++ then) × EndsTurns last n p s then next × AllFit then) (Works last n p came malformed out)
+        (λ s t u before r. record {
+          mid = t;
+          first = first;
+          then = r.0;
+          takes = before.0;
+          ends = r.2;
+          fits = subst AllFit (sym r.1) (all_fit first r.0 before.1 r.3);
+          out_is = r.1;
+        })
+        taken called
 
-    pub called_off : (new : Running D) (last : LastCall) (why : NodeFault) → why ≢ fault.InstancesUsedUp → NodeLeads stands_for mid new (λ s next. (then : List (To × Message)) × EndsLast last n p s (ending_by why) then next)
-        → LeadsAhead stands_for received given old new before after (GivesUpWork last n p turns why)
-    called_off new last why other called = record {
-      leads = λ x at.
-          let r = heard.leads x at in
-          let t = called.leads r.0.node r.2.node in (
-            record { node = t.0; received = r.0.received; given = r.0.given },
-            inr (record { mid = r.0; taken = a; malformed = malformed; first = first; then = t.1.0; hears = r.1; ends = t.1.1; other = other; received = refl; given = refl }),
-            record { node = t.2; heard = r.2.heard; told = r.2.told },
-            λ b d of. t.4 b d (r.3 b d of),
-          );
-    }
+    pub called_off : (why : NodeFault) → why ≢ fault.InstancesUsedUp → NodeLeads stands_for mid new (λ s next. (then : List (To × Message)) × EndsLast last n p s (ending_by why) then next)
+        → NodeLeads stands_for old new (GivesUpWork last n p came why)
+    called_off why other called =
+        then_leads old mid new (TakenSoFar n p came malformed first) (λ s next. (then : List (To × Message)) × EndsLast last n p s (ending_by why) then next) (GivesUpWork last n p came why)
+        (λ s t u before r. inr (record { mid = t; malformed = malformed; first = first; then = r.0; takes = before.0; ends = r.1; other = other }))
+        taken called
 
-  pub given_up_hearing : (old new : Running D) (before after : L) (last : LastCall) (n p turns : ℕ) (why told : NodeFault) → told ≡ why → LeadsAhead stands_for received given old new before after (GivesUpHearing n p turns why)
-      → LeadsAhead stands_for received given old new before after (GivesUpWork last n p turns told)
-  given_up_hearing old new before after last n p turns why told is h =
-      subst (λ w. LeadsAhead stands_for received given old new before after (GivesUpWork last n p turns w)) (sym is) (record { leads = λ x at. let r = h.leads x at in (r.0, inl r.1, r.2, r.3) })
+  pub given_up_taking : (old new : Running D) (last : LastCall) (n p : ℕ) (came : List (List ℕ)) (why told : NodeFault) → told ≡ why → NodeLeads stands_for old new (GivesUpTaking n p came why)
+      → NodeLeads stands_for old new (GivesUpWork last n p came told)
+  given_up_taking old new last n p came why told is h =
+      subst (λ w. NodeLeads stands_for old new (GivesUpWork last n p came w)) (sym is) (record { leads = λ s stands. let r = h.leads s stands in (r.0, inl r.1, r.2, r.3, r.4) })

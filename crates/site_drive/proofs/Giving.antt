@@ -19,7 +19,7 @@ next_to k p d gs is =
     ∙ ap (λ (l : List (ℕ × List ℕ)). gs ++ l) (sym (map-append (λ (q : ℕ). (q, d)) (up_to k) (suc k ∷ [])))
     ∙ ap (λ (i : ℕ). gs ++ map (λ q. (q, d)) (up_to i)) next
 
-take_more : {X : Type 0} (xs : List X) (k : ℕ) (x : X) → k < length xs → x ≡ slice_index_or xs k x → take (suc k) xs ≡ take k xs ++ x ∷ []
+pub take_more : {X : Type 0} (xs : List X) (k : ℕ) (x : X) → k < length xs → x ≡ slice_index_or xs k x → take (suc k) xs ≡ take k xs ++ x ∷ []
 take_more [] k x below got = absurd (omega (arith, below))
 take_more (y ∷ ys) zero x below got = ap (λ z. z ∷ []) (sym got)
 take_more (y ∷ ys) (suc k) x below got = ap (λ l. y ∷ l) (take_more ys k x (omega (arith, below)) got)

@@ -8,4 +8,5 @@ pub mod Calling
 pub mod Closing
 pub mod Batching
 pub mod Sealing
+pub mod Posting
 pub mod Failing

@@ -18,7 +18,7 @@ use Rattle.node.specs.Endings.{Whole, Ends}
 use Rattle.node.specs.Standing.{IsNodeOf, IsOnDisk, IsEvent, ending_by}
 use Rattle.site_drive.proofs.Giving.{take_past}
 use Rattle.site_drive.specs.Drives.{Heard, Takes, datagrams, sent_of, Exchanges, BreaksOff, GivesUp}
-use Rattle.site_drive.specs.Leading.{AllFit, NodeLeads, LeadsTo, IsHeldAs}
+use Rattle.site_drive.specs.Leading.{AllFit, NodeLeads, TakesIn, LeadsTo, IsHeldAs}
 
 -- ---- what was heard
 
@@ -55,10 +55,6 @@ module _ (n k : ℕ) (d : List ℕ) (room : k ≡ MAX_MESSAGE + 1) where
   spells_cut m spells = ⊎_elim (λ same. subst (λ b. Spells n b m) (sym same) spells) (λ long. absurd (too_long n d m long.0 spells)) cut_or_whole
 
 -- ---- a delivery
-
--- what was heard is taken; what is handed out waits behind what was there
-abbrev pub TakesIn : ℕ → ℕ → Heard → ℕ → List (To × Message) → List (To × Message) → Node → Node → Type 0
-TakesIn n p h malformed before after s next = (out : List (To × Message)) × (after ≡ before ++ out) × Takes n p s h malformed out next × AllFit out
 
 pub nothing_out : (n p : ℕ) (s next : Node) (call : Call) (out : List (To × Message)) (why : NodeFault) → Ends n p s call (ending_by why) out next → out ≡ []
 nothing_out n p s next call out fault.OutOfMemory h = h.nothing

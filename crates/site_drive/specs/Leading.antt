@@ -10,7 +10,7 @@ use Rattle.node.specs.Ahead.{StaysAhead}
 use Rattle.node.specs.Endings.{Ending}
 use Rattle.node.specs.Nodes.{Node}
 use Rattle.node.specs.Standing.{IsNodeOf, IsOnDisk}
-use Rattle.site_drive.specs.Drives.{Heard, Scene, EndsLast}
+use Rattle.site_drive.specs.Drives.{Heard, Takes, Scene, EndsLast}
 use Rattle.site_drive.specs.declared.last_call.LastCall.{LastCall}
 
 -- what is handed out fits a datagram
@@ -24,6 +24,10 @@ KeepsRecord stands_for old new s next = (d : DiskState) → IsOnDisk stands_for 
 -- From each node that the old value stands for, this leads to one that the new value stands for, on the disk as before or, while a batch is open, ahead of it
 pub record NodeLeads {D : Type 0} (stands_for : D → DiskState → Type 0) (old new : Running D) (How : Node → Node → Type 0) : Type 0 where
   pub leads : (s : Node) → IsNodeOf old s → (next : Node) × How s next × IsNodeOf new next × KeepsRecord stands_for old new s next × StaysAhead stands_for old new s next
+
+-- what was heard is taken; what that hands out stands behind what was there, and fits
+abbrev pub TakesIn : ℕ → ℕ → Heard → ℕ → List (To × Message) → List (To × Message) → Node → Node → Type 0
+TakesIn n p h malformed before after s next = (out : List (To × Message)) × (after ≡ before ++ out) × Takes n p s h malformed out next × AllFit out
 
 -- calls behind the last turn end so; what they hand out stands behind what was there, and fits
 abbrev pub Called : LastCall → ℕ → ℕ → Ending → List (To × Message) → List (To × Message) → Node → Node → Type 0

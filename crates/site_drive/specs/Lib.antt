@@ -5,3 +5,4 @@ pub mod Drives
 pub mod Leading
 pub mod Ending
 pub mod Batches
+pub mod Posting

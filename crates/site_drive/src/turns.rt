@@ -7,15 +7,44 @@ ghost use Rattle.node.specs.declared.to.To.{To};
 ghost use Rattle.node.specs.Standing.{IsNodeOf, KeepsOthers, CountsDevice};
 ghost use Rattle.site_drive.specs.Links.{RoseBy};
 ghost use Rattle.site_drive.specs.Sending.{Counted};
-ghost use Rattle.site_drive.specs.Drives.{Heard, datagrams, Takes, BreaksOff, Exchanges, GivesUp};
-ghost use Rattle.site_drive.specs.Leading.{AllFit, LeadsTo, NodeLeads, StaysWhose, IsHeldAs};
+ghost use Rattle.site_drive.specs.Drives.{Heard, datagrams, BreaksOff, Exchanges, GivesUp};
+ghost use Rattle.site_drive.specs.Leading.{LeadsTo, NodeLeads, TakesIn, StaysWhose, IsHeldAs};
 
+use crate::delivered::Delivered;
 use crate::desk::Desk;
 use crate::sending::send_all;
 use crate::{Link, LinkFailed};
-use node::{Node, NodeFault};
+use node::{Node, NodeFault, Outbox};
 use site_disk::Disk;
+use std::alloc::Global;
 use wire::{WireFault, decode};
+
+/// Delivers a datagram, and has what that hands out wait behind what does already: how many were malformed, one or none.
+pub(crate) fn deliver_datagram<D: Disk>(
+    alloc: Global,
+    node: &mut Node<D>,
+    datagram: &[u8],
+    delivered: &mut Delivered,
+    outbox: &mut Outbox,
+) -> Result<u32, NodeFault>
+    ensures one { IfOk result (λ malformed. malformed ≤ 1) }
+    ensures taken { IfOk result (λ malformed. NodeLeads D.stands_for node.old node.new (TakesIn node.old.cluster node.old.me (Some datagram.now) malformed outbox.old.items outbox.new.items)) }
+    ensures broken { IfErr result (λ fault. NodeLeads D.stands_for node.old node.new (λ s next. BreaksOff node.old.cluster node.old.me s datagram.now fault next)) }
+    ensures others { KeepsOthers node.old node.new }
+    ensures counts { CountsDevice result (D.failed node.old.store.disk) (D.failed node.new.store.disk) }
+{
+    match decode(alloc, datagram, node.cluster()) {
+        Ok(message) => {
+            delivered.note(&message);
+            match node.deliver(&message, outbox) {
+                Ok(()) => Ok(0),
+                Err(fault) => Err(fault),
+            }
+        }
+        Err(WireFault::Malformed) => Ok(1),
+        Err(WireFault::OutOfMemory) => Err(NodeFault::OutOfMemory),
+    }
+}
 
 impl Desk {
     /// Receives once: how many bytes came. A failure is counted, and nothing came.
@@ -44,8 +73,7 @@ impl Desk {
     ) -> Result<u32, NodeFault>
         requires { IfSome came (λ n. n ≤ length self.old.datagram.items) }
         ensures one { IfOk result (λ malformed. malformed ≤ 1) }
-        ensures taken { IfOk result (λ malformed. (h : Heard) → IsHeldAs came self.old.datagram.items h → NodeLeads D.stands_for node.old node.new (λ s next.
-            (out : List (To × Message)) × (self.new.outbox.items ≡ self.old.outbox.items ++ out) × Takes node.old.cluster node.old.me s h malformed out next × AllFit out)) }
+        ensures taken { IfOk result (λ malformed. (h : Heard) → IsHeldAs came self.old.datagram.items h → NodeLeads D.stands_for node.old node.new (TakesIn node.old.cluster node.old.me h malformed self.old.outbox.items self.new.outbox.items)) }
         ensures broken { IfErr result (λ fault. (h : Heard) → IsHeldAs came self.old.datagram.items h → NodeLeads D.stands_for node.old node.new (λ s next.
             (d : List ℕ) × (h ≡ Some d) × BreaksOff node.old.cluster node.old.me s d fault next)) }
         ensures others { KeepsOthers node.old node.new }
@@ -55,17 +83,13 @@ impl Desk {
         let Some(n) = came else {
             return Ok(0);
         };
-        match decode(self.alloc, &self.datagram[..n], node.cluster()) {
-            Ok(message) => {
-                self.delivered.note(&message);
-                match node.deliver(&message, &mut self.outbox) {
-                    Ok(()) => Ok(0),
-                    Err(fault) => Err(fault),
-                }
-            }
-            Err(WireFault::Malformed) => Ok(1),
-            Err(WireFault::OutOfMemory) => Err(NodeFault::OutOfMemory),
-        }
+        deliver_datagram(
+            self.alloc,
+            node,
+            &self.datagram[..n],
+            &mut self.delivered,
+            &mut self.outbox,
+        )
     }
 
     /// One turn: how many datagrams were malformed, one or none.

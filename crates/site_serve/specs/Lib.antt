@@ -1,6 +1,8 @@
 pub mod Served
 pub mod Halts
 pub mod Placing
+pub mod Mailing
+pub mod Staying
 pub mod Rounds
 pub mod Turns
 pub mod Running

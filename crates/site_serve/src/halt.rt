@@ -7,7 +7,7 @@ use thiserror::Error;
 
 /// Why a server ends before its rounds are done.
 #[derive(Clone, Copy, Debug, Drop, PartialEq, Eq, Error)]
-pub(crate) enum Halt {
+pub enum Halt {
     #[error("bad address")]
     BadAddress,
     #[error("the record was refused: {0}")]

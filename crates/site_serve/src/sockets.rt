@@ -5,11 +5,12 @@ ghost use Rattle.site_ids.specs.Ids.{IsNode};
 ghost use Rattle.site_serve.specs.Halts.{EndsBinding};
 
 use crate::addresses::Addresses;
-use crate::door::Door;
 use crate::halt::Halt;
-use site_drive::UdpLink;
+use crate::shell::Shell;
+use std::alloc::Global;
 use std::io;
 use std::net::{Net, SocketAddr, TcpListener, TcpStream, UdpSocket};
+use std::rt::Clock;
 use std::time::Duration;
 
 /// How many milliseconds a receive may wait.
@@ -35,39 +36,36 @@ fn connections<R: Net<Listener = TcpListener, Stream = TcpStream>>(
 /// Opens both sockets. Where the system picked the server's own port, the server is found there.
 fn open<R: Net<Listener = TcpListener, Stream = TcpStream>>(
     rt: &R,
-    addresses: Addresses,
-    budget: Option<u64>,
-) -> io::Result<(UdpLink, Door)>
-    requires { IsNode addresses.cluster addresses.me × (length addresses.peers.items ≡ addresses.cluster) }
+    addresses: &mut Addresses,
+) -> io::Result<(UdpSocket, TcpListener)>
+    requires { IsNode addresses.old.cluster addresses.old.me × (length addresses.old.peers.items ≡ addresses.old.cluster) }
 {
-    let Addresses {
-        cluster: _,
-        me,
-        peers,
-        http,
-    } = addresses;
-    let mut peers = peers;
-    let own = me.number() as usize - 1;
-    let Some(at) = peers.get_mut(own) else {
+    let own = addresses.me.number() as usize - 1;
+    let Some(at) = addresses.peers.get_mut(own) else {
         unreachable!()
     };
     let socket = datagrams(rt, *at)?;
     *at = socket.local_addr()?;
-    let listener = connections(rt, http)?;
-    Ok((UdpLink::new(socket, peers), Door::new(listener, budget)))
+    socket.set_nonblocking(true)?;
+    let listener = connections(rt, addresses.http)?;
+    Ok((socket, listener))
 }
 
 /// Opens both sockets of a server.
-pub(crate) fn open_sockets<R: Net<Listener = TcpListener, Stream = TcpStream>>(
+pub(crate) fn open_sockets<R: Net<Listener = TcpListener, Stream = TcpStream> + Clock>(
     rt: &R,
+    alloc: Global,
     addresses: Addresses,
-    budget: Option<u64>,
-) -> Result<(UdpLink, Door), Halt>
+) -> Result<Shell, Halt>
     requires { IsNode addresses.cluster addresses.me × (length addresses.peers.items ≡ addresses.cluster) }
     ensures { IfErr result EndsBinding }
 {
-    match open(rt, addresses, budget) {
-        Ok(both) => Ok(both),
+    let mut addresses = addresses;
+    match open(rt, &mut addresses) {
+        Ok((socket, listener)) => {
+            let Addresses { me, peers, .. } = addresses;
+            Ok(Shell::new(rt, alloc, me, socket, peers, listener)?)
+        }
         Err(e) if e.kind() == io::ErrorKind::OutOfMemory => Err(Halt::OutOfMemory),
         Err(_) => Err(Halt::Socket),
     }

@@ -1,15 +1,15 @@
 //! What a server does with its node is a schedule's.
-ghost use Rattle.sitectl.specs.Passes.{WorkIsCalls, PassIsCalls, GivenUpIsCalls, CallsAreABatch};
+ghost use Rattle.sitectl.specs.Passes.{WorkIsCalls, StepIsCalls, GivenUpIsCalls, CallsAreABatch};
 
 use site_disk::MemDisk;
 use world::batches_are_runs;
 
-/// A pass of a server is calls of its node: those of one batch, of which each delivery is of a datagram that was received, and then submissions. Where
+/// A step of a server is calls of its node: those of one batch, of which each delivery is of a datagram that came, and then submissions. Where
 /// no datagram is forged they are a batch of the world, of which `batches_are_runs` speaks: a run of its events, and where it is cut short a crash
 /// of the node before the first of them or behind the last one.
 pub fn passes_are_batches()
     ensures work { WorkIsCalls }
-    ensures pass { PassIsCalls }
+    ensures step { StepIsCalls }
     ensures given_up { GivenUpIsCalls }
     ensures batch { CallsAreABatch }
 {

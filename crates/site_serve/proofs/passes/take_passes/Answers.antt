@@ -8,22 +8,22 @@ use Rattle.site_serve.proofs.passes.take_passes.Goals as goal
 pub loop-init : goal.loop-init
 loop-init g c = record {
   within = omega arith;
-  leads = no_passes g.D.Disk.stands_for _ _ c.args.served.now.node c.args.link.now _ _ _;
-  whose = record { me = refl; cluster = refl; more = ([], sym (append-nil c.args.served.now.node.releases)) };
+  leads = no_passes g.D.Disk.stands_for c.args.server.now.served.node _ _ _;
+  whose = record { me = refl; cluster = refl; more = ([], sym (append-nil c.args.server.now.served.node.releases)) };
   counts = refl;
 }
 
 pub returns-in_err-take_pass-clause-fault : goal.returns-in_err-take_pass-clause-fault
 returns-in_err-take_pass-clause-fault g c = err_gives c.from_residual.result c.from_residual.ensures.1 λ e is.
-    pass_ends g.D.Disk.stands_for _ _ c.args.served.now.node c.loop.served.node c.take_pass.new.served.node c.args.link.now c.loop.link c.take_pass.new.link
+    pass_ends g.D.Disk.stands_for c.args.server.now.served.node c.loop.server.served.node c.take_pass.new.server.served.node
     c.loop.invariant.whose c.loop.counter _ c.loop.invariant.leads c.args.count _ e is c.loop-test.true c.in_err-take_pass.ensures.fault
 
 pub loop-preserved : goal.loop-preserved
 loop-preserved g c = record {
   within = omega (arith, c.loop-test.true);
   leads =
-      one_pass_more g.D.Disk.stands_for _ _ c.args.served.now.node c.loop.served.node c.take_pass.new.served.node c.args.link.now c.loop.link c.take_pass.new.link
-      c.loop.invariant.whose c.loop.counter _ c.loop.invariant.leads c.take_pass.new.served.node.releases c.in_ok-take_pass.ensures.ok;
+      one_pass_more g.D.Disk.stands_for c.args.server.now.served.node c.loop.server.served.node c.take_pass.new.server.served.node
+      c.loop.invariant.whose c.loop.counter _ c.loop.invariant.leads c.take_pass.new.server.served.node.releases c.in_ok-take_pass.ensures.ok;
   whose = stays_on _ _ _ c.loop.invariant.whose c.take_pass.ensures.whose;
   counts = none_failed _ _ _ c.in_ok-take_pass.ensures.counts ∙ c.loop.invariant.counts;
 }

@@ -1,0 +1,99 @@
+//! Datagrams between a node and who carries them, in memory.
+
+ghost use Rattle.std.specs.Prelude.{◌≡◌, ◌++◌, ◌∷◌, [], ◌↔◌, ◌<◌, length, IsTrue, OnOk, OnErr, vec_len};
+ghost use Rattle.site_serve.specs.Mailing.{waiting_of, posted_of, own_of, is_for};
+
+use node::To;
+use site_drive::Letter;
+use site_ids::NodeId;
+use std::alloc::{AllocError, Global};
+
+/// How many datagrams wait at most.
+const DATAGRAMS: usize = 256;
+
+/// Where so many bytes wait, some 1 MB, no further datagram is received.
+const BYTES: usize = 1_000_000;
+
+/// Datagrams that came and wait for the next step, and letters that the last one handed out.
+///
+/// Who carries them pushes what came, and sends each letter to whom it is for, one for all to each other node. What is for this node itself never leaves it: it
+/// waits for the next step, before all that comes until then.
+#[derive(Drop)]
+pub struct Mail {
+    alloc: Global,
+    pub(crate) came: Vec<Vec<u8>>,
+    // how many bytes of datagrams were pushed since the last step, as far as they are counted
+    bytes: usize,
+    pub(crate) letters: Vec<Letter>,
+}
+
+/// Whether a letter is for a node.
+fn reaches(to: To, node: NodeId) -> bool
+    ensures { result ≡ is_for node to }
+{
+    match to {
+        To::All => true,
+        To::One(one) => one.number() == node.number(),
+    }
+}
+
+impl Mail {
+    /// Nothing waits, and nothing is to be sent.
+    pub fn new(alloc: Global) -> Mail
+        ensures { (waiting_of result ≡ []) × (posted_of result ≡ []) }
+    {
+        Mail {
+            alloc,
+            came: Vec::new(alloc),
+            bytes: 0,
+            letters: Vec::new(alloc),
+        }
+    }
+
+    /// Whether a datagram may be received before the next step.
+    pub fn has_room(&self) -> bool
+        ensures { IsTrue result ↔ ((vec_len self.now.came < DATAGRAMS) × (self.now.bytes < BYTES)) }
+    {
+        self.came.len() < DATAGRAMS && self.bytes < BYTES
+    }
+
+    /// Whether nothing waits.
+    pub fn is_empty(&self) -> bool {
+        self.came.is_empty()
+    }
+
+    /// A datagram came: it waits behind the others.
+    pub fn push(&mut self, datagram: &[u8]) -> Result<(), AllocError>
+        ensures came { OnOk result (waiting_of self.new ≡ waiting_of self.old ++ datagram.now ∷ []) }
+        ensures refused { OnErr result (waiting_of self.new ≡ waiting_of self.old) }
+        ensures same { self.new.letters ≡ self.old.letters }
+    {
+        let datagram = Vec::from_slice(self.alloc, datagram)?;
+        self.bytes = self.bytes.saturating_add(datagram.len());
+        self.came.push(datagram)?;
+        Ok(())
+    }
+
+    /// What is to be sent.
+    pub fn letters(&self) -> &[Letter]
+        ensures { result.now ≡ self.now.letters.items }
+    {
+        self.letters.as_slice()
+    }
+
+    /// What waited was taken: what waits now is what these letters have for this node.
+    pub(crate) fn keep_own(&mut self, me: NodeId) -> Result<(), AllocError>
+        ensures own { OnOk result (waiting_of self.new ≡ own_of me (posted_of self.old)) }
+        ensures same { self.new.letters ≡ self.old.letters }
+    {
+        self.came.clear();
+        self.bytes = 0;
+        for letter in self.letters.as_slice() {
+            if reaches(letter.to, me) {
+                let bytes = Vec::from_slice(self.alloc, letter.bytes.as_slice())?;
+                self.came.push(bytes)?;
+            }
+        }
+        Ok(())
+    }
+}

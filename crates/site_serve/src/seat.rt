@@ -1,0 +1,106 @@
+//! A client's connection, with what carries its bytes.
+
+use crate::stay::Stay;
+use crate::times::Times;
+use http_read::Counted;
+use http_serve::{Heard, Line, Told};
+use std::alloc::{AllocError, Global};
+use std::io::{Read, Write};
+
+/// A connection and its stream: who gives one away gives the other. Times are milliseconds since the server began.
+#[derive(Drop)]
+pub struct Seat<S> {
+    stream: Counted<S>,
+    pub(crate) line: Line,
+    // when bytes last came or went
+    moved: u64,
+    // when the request began that is being read or answered, if one is
+    begun: Option<u64>,
+}
+
+impl<S> Seat<S> {
+    /// A client came.
+    pub(crate) fn new(alloc: Global, stream: S, now: u64) -> Seat<S> {
+        Seat {
+            stream: Counted::new(stream),
+            line: Line::new(alloc),
+            moved: now,
+            begun: None,
+        }
+    }
+
+    /// What it does, and for how long.
+    fn stay(&self, now: u64) -> Stay {
+        Stay {
+            still: now.saturating_sub(self.moved),
+            busy: match self.begun {
+                Some(begun) => Some(now.saturating_sub(begun)),
+                None => None,
+            },
+        }
+    }
+
+    /// Whether it is to be closed: all is done, a call failed, or it stays too long.
+    pub(crate) fn is_over(&self, times: Times, now: u64) -> bool {
+        self.line.is_over() || self.stay(now).is_too_long(times)
+    }
+
+    /// Since when nothing moved, where it owes no response: then it may be given up for another client.
+    pub(crate) fn idle_since(&self) -> Option<u64> {
+        if self.line.owes() {
+            None
+        } else {
+            Some(self.moved)
+        }
+    }
+
+    /// The stream, which is to be closed.
+    pub(crate) fn into_stream(self) -> S {
+        let Seat { stream, .. } = self;
+        stream.into_inner()
+    }
+
+    /// Bytes came or went; a request is being read or answered, or none is.
+    fn note(&mut self, now: u64) {
+        self.moved = now;
+        if self.line.is_idle() && !self.line.owes() {
+            self.begun = None;
+        } else if self.begun.is_none() {
+            self.begun = Some(now);
+        }
+    }
+}
+
+impl<S: Read> Seat<S> {
+    /// Reads once, if it may: whether anything came.
+    pub(crate) fn hear(&mut self, now: u64) -> Result<bool, AllocError> {
+        if !self.line.may_hear() {
+            return Ok(false);
+        }
+        match self.line.hear(&mut self.stream)? {
+            Heard::Nothing => Ok(false),
+            Heard::Came => {
+                self.note(now);
+                Ok(true)
+            }
+            Heard::Ended | Heard::Failed => Ok(true),
+        }
+    }
+}
+
+impl<S: Write> Seat<S> {
+    /// Writes once, if something waits: whether anything went.
+    pub(crate) fn tell(&mut self, now: u64) -> bool {
+        if !self.line.owes() {
+            return false;
+        }
+        match self.line.tell(&mut self.stream) {
+            Told::Nothing => false,
+            Told::Written => {
+                self.note(now);
+                true
+            }
+            Told::Failed => true,
+        }
+    }
+}

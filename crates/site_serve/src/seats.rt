@@ -1,0 +1,137 @@
+//! The clients of a server.
+
+ghost use Rattle.std.specs.Prelude.{◌≡◌, ◌≤◌, ℕ, length, IfOk, OnErr};
+ghost use Rattle.http_serve.specs.Services.{MaySubmitMany};
+ghost use Rattle.site_serve.specs.Served.{offered};
+
+use crate::seat::Seat;
+use crate::served::Served;
+use crate::times::Times;
+use httparse::spans::HeaderSpan;
+use site_disk::Disk;
+use std::alloc::{AllocError, Global};
+use std::io::{Read, Write};
+
+/// How many clients have a seat at most.
+const SEATS: usize = 64;
+
+/// The clients that are connected, 64 at most.
+#[derive(Drop)]
+pub struct Seats<S> {
+    alloc: Global,
+    times: Times,
+    seats: Vec<Seat<S>>,
+    // room to read heads, for all of them
+    spans: Vec<HeaderSpan>,
+    ghost within: { length seats.items ≤ 64 },
+}
+
+impl<S> Seats<S> {
+    /// Nobody came yet.
+    pub fn new(alloc: Global, times: Times) -> Seats<S> {
+        Seats {
+            alloc,
+            times,
+            seats: Vec::new(alloc),
+            spans: Vec::new(alloc),
+        }
+    }
+
+    /// How many clients are there.
+    pub fn len(&self) -> usize {
+        self.seats.len()
+    }
+
+    /// The seat of the client that was silent longest and is owed nothing.
+    fn first_to_go(&self) -> Option<usize> {
+        let mut first = None;
+        for (i, seat) in self.seats.iter().enumerate() {
+            match (seat.idle_since(), first) {
+                (Some(since), Some((_, least))) if since >= least => {}
+                (Some(since), _) => first = Some((i, since)),
+                (None, _) => {}
+            }
+        }
+        match first {
+            Some((i, _)) => Some(i),
+            None => None,
+        }
+    }
+
+    /// The stream of the client that goes for another one, where all seats are taken: whoever was silent longest, unless a response is owed to it.
+    pub fn make_room(&mut self) -> Option<S> {
+        if self.seats.len() < SEATS {
+            return None;
+        }
+        let first = self.first_to_go()?;
+        Some(self.seats.swap_remove(first).into_stream())
+    }
+
+    /// Whether a client may be seated, perhaps for another one.
+    pub fn has_room(&self) -> bool {
+        self.seats.len() < SEATS || self.first_to_go().is_some()
+    }
+
+    /// A client takes a seat, where one is free. Otherwise its stream is given back.
+    pub fn admit(&mut self, stream: S, now: u64) -> Result<Option<S>, AllocError> {
+        if self.seats.len() >= SEATS {
+            return Ok(Some(stream));
+        }
+        self.seats.push(Seat::new(self.alloc, stream, now))?;
+        Ok(None)
+    }
+
+    /// The stream of a client whose connection is to be closed, if there is one.
+    pub fn leave(&mut self, now: u64) -> Option<S> {
+        let mut i = 0;
+        while i < self.seats.len() {
+            if self.seats[i].is_over(self.times, now) {
+                return Some(self.seats.swap_remove(i).into_stream());
+            }
+            i += 1;
+        }
+        None
+    }
+
+    /// Answers one request of each client that sent a whole one and read the response before it: how many were answered.
+    pub(crate) fn answer_each<D: Disk>(&mut self, served: &mut Served<D>) -> Result<u32, AllocError>
+        ensures taken { (n : ℕ) × (n ≤ 64) × MaySubmitMany offered n served.old served.new }
+    {
+        let mut answered = 0;
+        let mut i = 0;
+        while i < self.seats.len() {
+            let did = self.seats[i]
+                .line
+                .answer(self.alloc, served, &mut self.spans)?;
+            answered += u32::from(did);
+            i += 1;
+        }
+        Ok(answered)
+    }
+}
+
+impl<S: Read> Seats<S> {
+    /// Reads once from each client: whether anything came.
+    pub fn hear(&mut self, now: u64) -> Result<bool, AllocError> {
+        let mut came = false;
+        let mut i = 0;
+        while i < self.seats.len() {
+            came |= self.seats[i].hear(now)?;
+            i += 1;
+        }
+        Ok(came)
+    }
+}
+
+impl<S: Write> Seats<S> {
+    /// Writes once to each client that is owed something: whether anything went.
+    pub fn tell(&mut self, now: u64) -> bool {
+        let mut went = false;
+        let mut i = 0;
+        while i < self.seats.len() {
+            went |= self.seats[i].tell(now);
+            i += 1;
+        }
+        went
+    }
+}

@@ -1,0 +1,106 @@
+//! A server without sockets and clock.
+
+ghost use Rattle.std.specs.Prelude.{◌≡◌, ◌⊎◌, ℕ, IfOk, IfErr, OnOk};
+ghost use Rattle.node.specs.Standing.{KeepsOthers};
+ghost use Rattle.site_drive.specs.Batches.{TakesBatch, LeadsSealed};
+ghost use Rattle.site_drive.specs.Leading.{StaysWhose};
+ghost use Rattle.site_drive.specs.Posting.{spelled_of};
+ghost use Rattle.site_drive.specs.declared.last_call.LastCall.{LastCall};
+ghost use Rattle.site_serve.specs.Halts.{CountsNone, EndsRounds};
+ghost use Rattle.site_serve.specs.Mailing.{waiting_of, posted_of, own_of};
+ghost use Rattle.site_serve.specs.Rounds.{Led, TakesStep, BreaksStep, LosesStep, IsBatched};
+
+use crate::halt::Halt;
+use crate::mail::Mail;
+use crate::pace::Pace;
+use crate::seats::Seats;
+use crate::served::Served;
+use crate::times::Times;
+use site_disk::Disk;
+use site_drive::Desk;
+use std::alloc::{AllocError, Global};
+
+/// A server without sockets and clock: a node, its mail, its clients, and when it tries and asks.
+///
+/// Who has the sockets puts datagrams into the mail and clients on seats, has the seats hear, takes a step, sends the mail's letters, has the seats tell, and closes
+/// the connections that leave. S is what a client's bytes come and go by.
+#[derive(Drop)]
+pub struct Server<D, S> {
+    pub served: Served<D>,
+    pub mail: Mail,
+    pub seats: Seats<S>,
+    desk: Desk,
+    pace: Pace,
+}
+
+/// What a step came to.
+#[derive(Clone, Copy, Debug, PartialEq, Eq, Drop)]
+pub struct Stepped {
+    /// Datagrams waited for it.
+    pub came: bool,
+    /// So many requests were answered.
+    pub answered: u32,
+}
+
+impl<D: Disk, S> Server<D, S> {
+    /// A node that serves nobody yet, and has heard nothing.
+    pub fn new(alloc: Global, served: Served<D>, times: Times) -> Result<Server<D, S>, AllocError>
+        ensures { IfOk result (λ server. server.served ≡ served) }
+    {
+        let node = served.node.me().number();
+        Ok(Server {
+            served,
+            mail: Mail::new(alloc),
+            seats: Seats::new(alloc, times),
+            desk: Desk::new(alloc)?,
+            pace: Pace::new(times, node),
+        })
+    }
+
+    /// The batch of a step: all that waits, and the call that is due behind it. What that hands out is posted.
+    fn take_batch(&mut self, now: u64) -> Result<(), Halt>
+        ensures ok { OnOk result (IsBatched D.stands_for (waiting_of self.old.mail) (posted_of self.new.mail) self.old.served.node self.new.served.node) }
+        ensures own { OnOk result (waiting_of self.new.mail ≡ own_of self.old.served.node.me (posted_of self.new.mail)) }
+        ensures fault { IfErr result (λ why. Led D.stands_for self.old.served.node self.new.served.node (BreaksStep self.old.served.node.cluster self.old.served.node.me (waiting_of self.old.mail) why)
+            ⊎ LosesStep D.stands_for (waiting_of self.old.mail) self.old.served.node self.new.served.node why) }
+        ensures ends { IfErr result EndsRounds }
+        ensures whose { StaysWhose self.old.served.node self.new.served.node }
+        ensures counts { CountsNone result (D.failed self.old.served.node.store.disk) (D.failed self.new.served.node.store.disk) }
+    {
+        let drained = self.mail.has_room();
+        let last = self.pace.due(now, &self.served.node, drained);
+        self.mail.letters.clear();
+        let came = self.mail.came.as_slice();
+        self.desk.take_batch(&mut self.served.node, came, last)?;
+        let delivered = self.desk.delivered();
+        self.pace.hear(self.served.node.cluster(), &delivered);
+        self.desk.post(&mut self.mail.letters)?;
+        self.mail.keep_own(self.served.node.me())?;
+        Ok(())
+    }
+
+    /// One step, so many milliseconds after the server began, and never less than before: all that waits is one batch, behind which the node publishes, and what that
+    /// hands out are the mail's letters; then requests are answered.
+    pub fn step(&mut self, now: u64) -> Result<Stepped, Halt>
+        ensures ok { OnOk result (Led D.stands_for self.old.served.node self.new.served.node (TakesStep self.old.served.node.cluster self.old.served.node.me (waiting_of self.old.mail) (posted_of self.new.mail) self.new.served.node.releases)) }
+        ensures own { OnOk result (waiting_of self.new.mail ≡ own_of self.old.served.node.me (posted_of self.new.mail)) }
+        ensures fault { IfErr result (λ why. Led D.stands_for self.old.served.node self.new.served.node (BreaksStep self.old.served.node.cluster self.old.served.node.me (waiting_of self.old.mail) why)
+            ⊎ LosesStep D.stands_for (waiting_of self.old.mail) self.old.served.node self.new.served.node why) }
+        ensures ends { IfErr result EndsRounds }
+        ensures whose { StaysWhose self.old.served.node self.new.served.node }
+        ensures counts { CountsNone result (D.failed self.old.served.node.store.disk) (D.failed self.new.served.node.store.disk) }
+    {
+        let came = !self.mail.is_empty();
+        self.take_batch(now)?;
+        let answered = self.seats.answer_each(&mut self.served)?;
+        Ok(Stepped { came, answered })
+    }
+
+    /// How many microseconds to rest behind a step, where it came to this, and bytes of clients moved or none.
+    pub fn rest(&mut self, stepped: Stepped, moved: bool) -> Option<u64>
+        ensures { self.new.served ≡ self.old.served }
+    {
+        let served = moved || stepped.answered > 0;
+        self.pace.rest(stepped.came || !self.mail.is_empty(), served)
+    }
+}

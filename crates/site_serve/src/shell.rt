@@ -1,0 +1,158 @@
+//! What carries a server's bytes: its sockets and its clock. It is read: nothing is proved of it but that it is safe and returns.
+
+use crate::mail::Mail;
+use crate::seats::Seats;
+use node::To;
+use site_drive::Letter;
+use site_ids::NodeId;
+use std::alloc::{AllocError, Global};
+use std::io::{ErrorKind, Read};
+use std::net::{Shutdown, SocketAddr, TcpListener, TcpStream, UdpSocket};
+use std::rt::Clock;
+use std::time::Instant;
+use wire::MAX_MESSAGE;
+
+/// How many datagrams, and how many clients, a pass takes at most.
+const RECEIVED: u32 = 256;
+
+const ACCEPTED: u32 = 64;
+
+/// How many reads of what a client still sends come before its connection is closed, each of at most 4,096 bytes.
+const LINGER: u32 = 16;
+
+/// The sockets, none of which waits, and the time.
+#[derive(Drop)]
+pub(crate) struct Shell {
+    me: NodeId,
+    socket: UdpSocket,
+    // those of nodes 1 to n, in order
+    peers: Vec<SocketAddr>,
+    listener: TcpListener,
+    // room for the longest datagram and a byte more, so that one that was cut spells nothing
+    datagram: Vec<u8>,
+    start: Option<Instant>,
+    now: u64,
+}
+
+/// Closes a connection whose client may have sent more than was read: where that is left unread, the system resets the connection, and the client
+/// may lose its response.
+pub fn close(stream: TcpStream) {
+    if stream.shutdown(Shutdown::Write).is_err() || stream.set_nonblocking(true).is_err() {
+        return;
+    }
+    let mut buffer = [0; 4096];
+    for _ in 0..LINGER {
+        match (&stream).read(&mut buffer) {
+            Ok(n) if n > 0 => {}
+            _ => return,
+        }
+    }
+}
+
+impl Shell {
+    /// Node p has the p-th address. Both sockets are there, and do not wait.
+    pub(crate) fn new<C: Clock>(
+        clock: &C,
+        alloc: Global,
+        me: NodeId,
+        socket: UdpSocket,
+        peers: Vec<SocketAddr>,
+        listener: TcpListener,
+    ) -> Result<Shell, AllocError> {
+        let mut datagram = Vec::new(alloc);
+        datagram.resize(MAX_MESSAGE + 1, 0)?;
+        Ok(Shell {
+            me,
+            socket,
+            peers,
+            listener,
+            datagram,
+            start: Instant::now(clock).ok(),
+            now: 0,
+        })
+    }
+
+    /// How many milliseconds have passed since it began, and never less than before. Where the clock can't tell, one more than before.
+    pub(crate) fn now<C: Clock>(&mut self, clock: &C) -> u64 {
+        let passed = match self.start {
+            Some(start) => start.elapsed(clock).ok(),
+            None => None,
+        };
+        let now = match passed {
+            Some(passed) => u64::try_from(passed.as_millis()).unwrap_or(u64::MAX),
+            None => self.now.saturating_add(1),
+        };
+        self.now = now.max(self.now);
+        self.now
+    }
+
+    /// Receives what has come, as far as the mail has room. A failure is a loss.
+    pub(crate) fn receive(&mut self, mail: &mut Mail) -> Result<(), AllocError> {
+        for _ in 0..RECEIVED {
+            if !mail.has_room() {
+                return Ok(());
+            }
+            match self.socket.recv_from(self.datagram.as_mut_slice()) {
+                Ok((n, _from)) => mail.push(&self.datagram[..n])?,
+                Err(e) if e.kind() == ErrorKind::WouldBlock => return Ok(()),
+                Err(_) => {}
+            }
+        }
+        Ok(())
+    }
+
+    /// Seats the clients that have come, each perhaps for one that was silent for long. One that fails at once is passed over.
+    pub(crate) fn accept(
+        &self,
+        seats: &mut Seats<TcpStream>,
+        now: u64,
+    ) -> Result<(), AllocError> {
+        for _ in 0..ACCEPTED {
+            if !seats.has_room() {
+                return Ok(());
+            }
+            let Ok((stream, _from)) = self.listener.accept() else {
+                return Ok(());
+            };
+            if stream.set_nonblocking(true).is_err() {
+                continue;
+            }
+            let _ = stream.set_nodelay(true);
+            if let Some(gone) = seats.make_room() {
+                close(gone);
+            }
+            let _ = seats.admit(stream, now)?;
+        }
+        Ok(())
+    }
+
+    fn send_to(&self, to: &SocketAddr, datagram: &[u8]) {
+        let _ = self.socket.send_to(datagram, *to);
+    }
+
+    /// Sends each letter to the node that it is for, or to each of the others. A failure is a loss.
+    pub(crate) fn send(&self, letters: &[Letter]) {
+        for letter in letters {
+            for (i, peer) in self.peers.iter().enumerate() {
+                let other = i + 1 != usize::from(self.me.number());
+                let wanted = match letter.to {
+                    To::All => other,
+                    To::One(to) => other && i + 1 == usize::from(to.number()),
+                };
+                if wanted {
+                    self.send_to(peer, letter.bytes.as_slice());
+                }
+            }
+        }
+    }
+
+    /// Closes the connections that leave.
+    pub(crate) fn part(&self, seats: &mut Seats<TcpStream>, now: u64) {
+        for _ in 0..ACCEPTED {
+            match seats.leave(now) {
+                Some(stream) => close(stream),
+                None => return,
+            }
+        }
+    }
+}
