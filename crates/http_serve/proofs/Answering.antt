@@ -1,10 +1,14 @@
 -- The response to a request, by its method.
 use Rattle.std.proofs.lemmas.Bool.Decides.{nat_tests}
-use Rattle.std.proofs.Common.{◌≡◌, ◌∙◌, ℕ, suc, ◌+◌, ◌<◌, nat_lt, Bool, true, false, true≢false, not, ◌&&◌, List, [], codes, bytes_eq, slice_index, Option, Some, None, Result, Ok, Err, OnErr, IfSome, arith, refl, sym, ap, subst, inl, inr}
+use Rattle.std.proofs.Common.{◌≡◌, ◌∙◌, ℕ, suc, ◌+◌, ◌<◌, nat_lt, Bool, true, false, true≢false, not, ◌&&◌, List, codes, bytes_eq, slice_index, Option, Some, Result, Ok, Err, OnErr, arith, refl, sym, ap, subst, inl, inr}
 use Rattle.http_read.specs.declared.incoming.Method.{Method}
 use Rattle.http_read.specs.declared.incoming.Method.TheVariants.{Get, Head, Post}
+use Rattle.http_read.specs.declared.incoming.Incoming.{Incoming}
+use Rattle.http_read.specs.declared.incoming.Incoming.TheVariants as came
+use Rattle.http_read.specs.declared.incoming.Request.{Request}
+use Rattle.http_read.specs.Incoming.{Shows, request_of}
 use Rattle.http_read.specs.Methods.{method_name}
-use Rattle.http_read.specs.Requests.{Asked, Answers, asks, refuses, ends}
+use Rattle.http_read.specs.Requests.{Asked, Answers, asks}
 use Rattle.http_serve.specs.Paths.{Place, Names}
 use Rattle.http_serve.specs.Replies.{Reply, closes, stays_behind, print_reply}
 use Rattle.http_serve.specs.Responses.{asked_reply, refusal, RepliesToPost}
@@ -13,7 +17,7 @@ use Rattle.http_serve.specs.Shown.{Written, written_in, write_as, closing}
 use Rattle.http_serve.specs.declared.replies.Manner.{Manner}
 use Rattle.http_serve.specs.declared.replies.Message.{Message}
 use Rattle.http_serve.specs.Connections.{IsResponse, may_keep, may_stay}
-use Rattle.http_serve.specs.Exchanges.{Responds}
+use Rattle.http_serve.specs.Exchanges.{Responds, Finds}
 
 -- the method isn't POST, and this tells whether it is HEAD
 pub record Asks (method : List ℕ) (to_head : Bool) : Type 0 where
@@ -95,34 +99,34 @@ few_answered n keep kept reply stays is stays_is so =
     below (n + 1) (both keep (nat_lt (n + 1) 100) (sym is ∙ may)).1
 
 -- the response to a request
-pub request_responds : {S : Type 0} (service : Offered S) (n : ℕ) (now after : S) (request : Asked) (reply : Reply) (stays : Bool) (text : List ℕ) (input rest : Option (List ℕ))
-    → IfSome input (λ i. (left : List ℕ) × Answers i (asks request left) × (rest ≡ Some left))
+request_responds : {S : Type 0} (service : Offered S) (n : ℕ) (now after : S) (request : Asked) (reply : Reply) (stays : Bool) (text i : List ℕ) (rest : Option (List ℕ))
+    → (left : List ℕ) × Answers i (asks request left) × (rest ≡ Some left)
     → stays ≡ may_stay n request reply → IsResponse service now request after reply stays text
-    → IfSome input (λ i. Responds service n now i rest after stays text)
-request_responds service n now after request reply stays text None rest heard is answered = tt
-request_responds service n now after request reply true text (Some i) rest (left, asked, behind) is answered =
+    → Responds service n now i rest after stays text
+request_responds service n now after request reply true text i rest (left, asked, behind) is answered =
     (left, record { request = request; reply = reply; asked = asked; stays_is = is; answered = answered }, behind)
-request_responds service n now after request reply false text (Some i) rest (left, asked, behind) is answered =
+request_responds service n now after request reply false text i rest (left, asked, behind) is answered =
     inl (left, record { request = request; reply = reply; asked = asked; stays_is = is; answered = answered })
 
+pub asked_finds : {S : Type 0} (service : Offered S) (n : ℕ) (now after : S) (incoming : Incoming) (request : Request) (reply : Reply) (m : Message)
+    → incoming ≡ came.Request request → m.stays ≡ may_stay n (request_of request) reply
+    → IsResponse service now (request_of request) after reply m.stays m.bytes.items
+    → (input : List ℕ) (left : Option (List ℕ)) → Shows incoming left input → Finds service n now input left after (Some m)
+asked_finds service n now after incoming request reply m is stays answered input left shows =
+    request_responds service n now after (request_of request) reply m.stays m.bytes.items input left
+    (subst (λ x. Shows x left input) is shows) stays answered
+
 -- the response to a refused one is the last
-pub refusal_responds : {S : Type 0} (service : Offered S) (n : ℕ) (now : S) (status : ℕ) (to_head : Bool) (m : Message) (input rest : Option (List ℕ))
-    → IfSome input (λ i. Answers i (refuses status to_head)) → written_in m ≡ write_as (closing to_head) (refusal status)
-    → IfSome input (λ i. Responds service n now i rest now m.stays m.bytes.items)
-refusal_responds service n now status to_head m None rest heard written = tt
-refusal_responds service n now status to_head m (Some i) rest heard written =
+pub refusal_finds : {S : Type 0} (service : Offered S) (n : ℕ) (now : S) (incoming : Incoming) (status : ℕ) (to_head : Bool) (m : Message)
+    → incoming ≡ came.Refused status to_head → written_in m ≡ write_as (closing to_head) (refusal status)
+    → (input : List ℕ) (left : Option (List ℕ)) → Shows incoming left input → Finds service n now input left now (Some m)
+refusal_finds service n now incoming status to_head m is written input left shows =
     let closed : m.stays ≡ false = stays_of m (closing to_head) (refusal status) written in
-    subst (λ b. Responds service n now i rest now b m.bytes.items) (sym closed)
-    (inr (status, to_head, heard, refl, ap (λ (w : Written). w.bytes) written))
+    subst (λ b. Responds service n now input left now b m.bytes.items) (sym closed)
+    (inr (status, to_head, subst (λ x. Shows x left input) is shows, refl, ap (λ (w : Written). w.bytes) written))
 
 -- a connection doesn't stay behind it
 pub not_kept : {P : Type 0} (m : Message) (to_head : Bool) (status : ℕ) → written_in m ≡ write_as (closing to_head) (refusal status)
     → m.stays ≡ true → P
 not_kept m to_head status written so =
     absurd (true≢false (sym so ∙ stays_of m (closing to_head) (refusal status) written))
-
--- the client sent no more, and nothing was asked of the service
-pub ended_over : {S : Type 0} (now : S) (input rest : Option (List ℕ)) → IfSome input (λ i. Answers i ends × (rest ≡ Some []))
-    → IfSome input (λ i. Answers i ends × (now ≡ now))
-ended_over now None rest heard = tt
-ended_over now (Some i) rest heard = (heard.0, refl)

@@ -5,3 +5,5 @@ pub mod Answering
 pub mod Connecting
 pub mod Running
 pub mod Examples
+pub mod Standing
+pub mod Talking

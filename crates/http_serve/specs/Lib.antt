@@ -9,3 +9,6 @@ pub mod Exchanges
 pub mod Faults
 pub mod Laws
 pub mod Fixed
+pub mod Talks
+pub mod Lines
+pub mod LineTalks

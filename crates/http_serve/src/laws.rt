@@ -1,5 +1,7 @@
 //! Facts about the definitions, for their readers.
 ghost use Rattle.http_serve.specs.Laws.{NamesOne, AreConnection};
+ghost use Rattle.http_serve.specs.LineTalks.{AreTalks};
+ghost use Rattle.http_serve.specs.Talks.{TalksStand, OneMore, AloneIsServed, FarewellStands};
 
 use crate::service::Service;
 
@@ -11,4 +13,29 @@ pub fn paths_name_one_place()
 /// Exchanges one after another, each of which but the last keeps the connection, are what `serve` says of the whole.
 pub fn exchanges_are_a_connection<S: Service>(_service: &S)
     ensures { AreConnection S.offered }
+{}
+
+/// What passed on a connection stands when more bytes come.
+pub fn talks_stand<S: Service>(_service: &S)
+    ensures { TalksStand S.offered }
+{}
+
+/// A request that was whole and is answered is one exchange more.
+pub fn one_exchange_more<S: Service>(_service: &S)
+    ensures { OneMore S.offered }
+{}
+
+/// Where nothing else happens between its exchanges, a connection's exchanges are those of one that is served alone.
+pub fn a_talk_alone_is_served<S: Service>(_service: &S)
+    ensures { AloneIsServed S.offered }
+{}
+
+/// A last response stays the last one, whatever more comes.
+pub fn farewells_stand<S: Service>(_service: &S)
+    ensures { FarewellStands S.offered }
+{}
+
+/// What the calls do to a `Line`, over all that came on it and all that was written.
+pub fn lines_are_talks<S: Service>(_service: &S)
+    ensures { AreTalks S.offered }
 {}

@@ -1,5 +1,5 @@
 //! Serves one connection.
-ghost use Rattle.std.specs.Prelude.{◌≡◌, ◌⊎◌, ◌&&◌, ◌+◌, ◌<◌, ◌≤◌, ℕ, suc, nat_lt, true, List, None, IfOk, IfSome, IsErrOf};
+ghost use Rattle.std.specs.Prelude.{◌≡◌, ◌⊎◌, ◌+◌, ◌<◌, ◌≤◌, ℕ, suc, true, List, None, IfOk, IfSome, IsErrOf};
 ghost use Rattle.std.specs.Io.KnownBytes.{Appends};
 ghost use Rattle.http_read.specs.Counted.{inside, failed, RoseByOne};
 ghost use Rattle.http_read.specs.Bytes.{end_of, IsSilent, HasFailed, IsSound};
@@ -10,23 +10,13 @@ ghost use Rattle.http_serve.specs.Exchanges.{Exchanges, Finds};
 ghost use Rattle.http_serve.specs.Services.{MaySubmit, MaySubmitMany};
 
 use crate::fault::ServeFault;
+use crate::messages::message_for;
 use crate::next::Next;
 use crate::replies::Message;
-use crate::responding::{refused, respond};
 use crate::service::Service;
-use http_read::{Counted, Inbox, Incoming, request, write_all};
+use http_read::{Counted, Inbox, request, write_all};
 use std::alloc::Global;
 use std::io::{Read, Write};
-
-/// The most requests of a connection.
-const REQUESTS: u32 = 100;
-
-/// Whether a connection may be kept behind the request that comes behind so many.
-fn may_keep(keep: bool, answered: u32) -> bool
-    ensures { result ≡ (keep && nat_lt (answered + 1) 100) }
-{
-    keep && answered < REQUESTS - 1
-}
 
 /// The response to the next request of a connection, of which so many were answered; none where the client sent no more.
 fn next_message<R: Read, S: Service>(
@@ -52,14 +42,8 @@ fn next_message<R: Read, S: Service>(
     ensures failed { IsErrOf result ServeFault.Read → RoseByOne (failed reader.old) (failed reader.new) }
     ensures quiet { ¬ (IsErrOf result ServeFault.Read) → failed reader.new ≡ failed reader.old }
 {
-    match request(alloc, reader, inbox)? {
-        Incoming::Request(asked) => {
-            let keep = may_keep(asked.keep, answered);
-            Ok(Some(respond(alloc, keep, &asked, service)?))
-        }
-        Incoming::Refused { status, head } => { Ok(Some(refused(alloc, head, status)?)) }
-        Incoming::Ended => Ok(None),
-    }
+    let incoming = request(alloc, reader, inbox)?;
+    Ok(message_for(alloc, incoming, service, answered)?)
 }
 
 /// Reads the next request of a connection, of which so many were answered before, and writes its response.

@@ -1,0 +1,238 @@
+//! A client's connection, without what carries its bytes.
+ghost use Rattle.std.specs.Prelude.{◌≡◌, ◌⊎◌, ◌<◌, ℕ, List, length, true, false, IfOk, OnErr, IsTrue, IsFalse, ◌↔◌};
+ghost use Rattle.http_read.specs.Bytes.{end_of};
+ghost use Rattle.http_serve.specs.declared.messages.TheConstants.{REQUESTS};
+ghost use Rattle.http_serve.specs.Lines.{owed, is_going, IsNew, MayHear, MayAnswer, IsIdle, IsOver, failed_line, with_response, waiting, Hears, Tells, Answers, Waits, GivesUp, answered as answered_of};
+ghost use Rattle.http_serve.specs.Services.{MaySubmit};
+
+use crate::heard::{Heard, Told};
+use crate::messages::{REQUESTS, next_response};
+use crate::outbox::Outbox;
+use crate::replies::Message;
+use crate::service::Service;
+use http_read::{Counted, Inbox, Progress};
+use httparse::spans::HeaderSpan;
+use std::alloc::{AllocError, Global};
+use std::io;
+use std::io::{ErrorKind, Read, Write};
+
+/// How a connection stands.
+#[derive(Clone, Copy, Debug, Drop, PartialEq, Eq)]
+pub(crate) enum LineState {
+    /// The client may send more.
+    Open,
+    /// The client sends no more: what came is answered.
+    Ended,
+    /// The last response was made, or none is to be made any more.
+    Closing,
+    /// A call failed.
+    Failed,
+}
+
+/// A client's connection, without what carries its bytes: a server holds many at once, and none waits for another.
+///
+/// A server reads by `hear` where `may_hear`, makes responses by `answer`, writes by `tell` where the connection `owes`, and closes it where it
+/// `is_over`. A response is made only once the one before it is written whole: so it lies where it was made, and no memory is wanted behind a
+/// submission that was taken. Reading goes on meanwhile, up to 16 KB. Behind bytes that came, behind the end of the client's input, and behind
+/// a response that was written whole, `answer` is called again.
+#[derive(Drop)]
+pub struct Line {
+    inbox: Inbox,
+    progress: Progress,
+    outbox: Outbox,
+    answered: u32,
+    state: LineState,
+}
+
+/// Whether the call only came too early.
+fn is_early(e: &io::Error) -> bool {
+    matches!(
+        e.kind(),
+        ErrorKind::WouldBlock | ErrorKind::TimedOut | ErrorKind::Interrupted
+    )
+}
+
+impl LineState {
+    fn is_going(self) -> bool
+        ensures { result ≡ is_going self }
+    {
+        match self {
+            LineState::Open | LineState::Ended => true,
+            LineState::Closing | LineState::Failed => false,
+        }
+    }
+}
+
+impl Line {
+    /// Nothing was read yet. It takes no memory.
+    pub fn new(alloc: Global) -> Line
+        ensures { IsNew result }
+    {
+        Line {
+            inbox: Inbox::new(alloc),
+            progress: Progress::Head,
+            outbox: Outbox::new(alloc),
+            answered: 0,
+            state: LineState::Open,
+        }
+    }
+
+    /// Whether bytes may be read now.
+    pub fn may_hear(&self) -> bool
+        ensures { IsTrue result ↔ MayHear self.now }
+    {
+        matches!(self.state, LineState::Open) && !self.inbox.is_full()
+    }
+
+    /// Reads once. Behind the end of the client's input, and behind a failure, nothing more is read.
+    pub fn hear<R: Read>(&mut self, reader: &mut Counted<R>) -> Result<Heard, AllocError>
+        requires { MayHear self.old }
+        ensures heard { IfOk result (λ heard. Hears heard self.old self.new (end_of R.remaining reader.old reader.new)) }
+        ensures memory { OnErr result ((self.new ≡ self.old) × (reader.new ≡ reader.old)) }
+    {
+        match self.inbox.read_from(reader)? {
+            Ok(0) => {
+                self.state = LineState::Ended;
+                Ok(Heard::Ended)
+            }
+            Ok(_) => Ok(Heard::Came),
+            Err(e) if is_early(&e) => Ok(Heard::Nothing),
+            Err(_) => {
+                self.fail();
+                Ok(Heard::Failed)
+            }
+        }
+    }
+
+    /// Whether the next request may be answered now, if it is there.
+    fn may_answer(&self) -> bool
+        ensures { IsTrue result ↔ MayAnswer self.now }
+    {
+        self.state.is_going() && self.outbox.is_empty() && self.answered < REQUESTS
+    }
+
+    /// Answers the next request, if a whole one is there and the response before it is written whole: whether it did.
+    ///
+    /// Of a connection's requests a hundred are answered at most: the last response says so (`Connection: close`), and so do those to a
+    /// request that is refused, or whose client wants no further one. Where memory was wanted the connection is closed too. The spans are room
+    /// for where field lines lie (`advance`), for all connections the same.
+    pub fn answer<S: Service>(
+        &mut self,
+        alloc: Global,
+        service: &mut S,
+        spans: &mut Vec<HeaderSpan>,
+    ) -> Result<bool, AllocError>
+        ensures answered { IfOk result (λ did. did ≡ true → MayAnswer self.old × Answers S.offered service.old service.new self.old self.new) }
+        ensures idle { IfOk result (λ did. did ≡ false → (service.new ≡ service.old)
+            × ((¬ (MayAnswer self.old) × (self.new ≡ self.old)) ⊎ (MayAnswer self.old × Waits self.old self.new))) }
+        ensures refused { OnErr result (MayAnswer self.old × GivesUp S.offered service.old service.new self.old self.new) }
+        ensures taken { MaySubmit S.offered service.old service.new }
+    {
+        if !self.may_answer() {
+            return Ok(false);
+        }
+        let found = next_response(
+            alloc,
+            &mut self.progress,
+            &mut self.inbox,
+            spans,
+            service,
+            self.answered,
+        );
+        match found {
+            Ok(Some(message)) => {
+                self.put(message);
+                Ok(true)
+            }
+            Ok(None) => {
+                self.wait();
+                Ok(false)
+            }
+            Err(refused) => {
+                self.state = LineState::Closing;
+                Err(refused)
+            }
+        }
+    }
+
+    /// A response is to be written; behind a last one nothing more is read or answered.
+    fn put(&mut self, message: Message)
+        requires { self.old.answered < REQUESTS }
+        ensures { self.new ≡ with_response self.old message }
+    {
+        self.outbox.put(message.bytes);
+        self.answered += 1;
+        if !message.stays {
+            self.state = LineState::Closing;
+        }
+    }
+
+    /// No whole request is there: where the client sends no more, none will be.
+    fn wait(&mut self)
+        ensures { self.new ≡ record self.old { state = waiting self.old.state } }
+    {
+        if self.state == LineState::Ended {
+            self.state = LineState::Closing;
+        }
+    }
+
+    /// A call failed: what waits is given up.
+    fn fail(&mut self)
+        ensures { self.new ≡ failed_line self.old }
+    {
+        self.outbox.clear();
+        self.state = LineState::Failed;
+    }
+
+    /// Whether bytes wait to be written.
+    pub fn owes(&self) -> bool
+        ensures { IsTrue result ↔ (0 < length (owed self.now)) }
+    {
+        !self.outbox.is_empty()
+    }
+
+    /// Writes once of what waits. Behind a failure, also where the writer takes no byte, the rest of it is never written, and nothing more is
+    /// read or answered. Nothing is flushed.
+    pub fn tell<W: Write>(&mut self, writer: &mut Counted<W>) -> Told
+        requires { 0 < length (owed self.old) }
+        ensures { Tells result self.old self.new (end_of W.contents writer.old writer.new) }
+    {
+        match writer.write(self.outbox.waiting()) {
+            Ok(n) if n > 0 => {
+                self.outbox.pass(n);
+                Told::Written
+            }
+            Err(e) if is_early(&e) => Told::Nothing,
+            Ok(_) | Err(_) => {
+                self.fail();
+                Told::Failed
+            }
+        }
+    }
+
+    /// Whether the connection is to be closed: a call failed, or the last response is written whole, or the client sends no more and what it
+    /// sent is answered.
+    pub fn is_over(&self) -> bool
+        ensures { IsTrue result ↔ IsOver self.now }
+    {
+        match self.state {
+            LineState::Open | LineState::Ended => false,
+            LineState::Closing => self.outbox.is_empty(),
+            LineState::Failed => true,
+        }
+    }
+
+    /// Whether a part of a request is there, or a whole one that waits to be answered.
+    pub fn has_begun(&self) -> bool
+        ensures { IsFalse result ↔ IsIdle self.now }
+    {
+        self.progress.place().is_some() || !self.inbox.held().is_empty()
+    }
+
+    /// How many requests were answered, 100 at most.
+    pub fn answered(&self) -> u32
+        ensures { result ≡ answered_of self.now }
+    {
+        self.answered
+    }
+}
