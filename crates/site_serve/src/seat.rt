@@ -63,7 +63,7 @@ impl<S> Seat<S> {
     /// Bytes came or went; a request is being read or answered, or none is.
     fn note(&mut self, now: u64) {
         self.moved = now;
-        if self.line.is_idle() && !self.line.owes() {
+        if !self.line.has_begun() && !self.line.owes() {
             self.begun = None;
         } else if self.begun.is_none() {
             self.begun = Some(now);
