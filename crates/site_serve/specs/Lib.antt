@@ -3,5 +3,6 @@ pub mod Halts
 pub mod Placing
 pub mod Rounds
 pub mod Turns
+pub mod Pacing
 pub mod Running
 pub mod Runs
