@@ -13,6 +13,8 @@ mod desk;
 #[cfg(test)]
 mod ends;
 #[cfg(test)]
+mod pacing;
+#[cfg(test)]
 mod paths;
 #[cfg(test)]
 mod refusals;

@@ -1,7 +1,7 @@
 //! When a server asks, and when it tells.
 
-ghost use Rattle.std.specs.Prelude.{◌≡◌, ◌≢◌, ◌⊎◌, ◌↔◌, ◌≤◌, IsTrue, true};
-ghost use Rattle.node.specs.declared.TheConstants.{MAX_TOLD};
+ghost use Rattle.std.specs.Prelude.{◌↔◌, IsTrue};
+ghost use Rattle.site_serve.specs.Pacing.{Asks, Tells};
 
 use node::MAX_TOLD;
 
@@ -24,7 +24,7 @@ impl Asking {
     /// A question that brought a whole telling, in no time, is followed by the next; where nobody tries a value, one that brought anything, once all of it
     /// came; any other only after its time.
     pub fn is_due(self) -> bool
-        ensures { IsTrue result ↔ ((self.passed ≡ true) ⊎ (((MAX_TOLD ≤ self.learned) × (self.quick ≡ true)) ⊎ ((self.learned ≢ 0) × (self.drained ≡ true) × (self.calm ≡ true)))) }
+        ensures { IsTrue result ↔ Asks self }
     {
         self.passed
             || (self.learned >= MAX_TOLD && self.quick)
@@ -46,7 +46,7 @@ pub struct Telling {
 impl Telling {
     /// A telling to the last of its instances comes at once; any other where nobody tries a value, after its time.
     pub fn is_due(self) -> bool
-        ensures { IsTrue result ↔ ((self.full ≡ true) ⊎ ((self.calm ≡ true) × (self.passed ≡ true))) }
+        ensures { IsTrue result ↔ Tells self }
     {
         self.full || (self.calm && self.passed)
     }

@@ -1,228 +1,159 @@
-//! When a server tries again, when it asks, and how long it rests.
+//! When a server tries again, when it asks and tells, and how long it rests: all of it numbers.
 
-ghost use Rattle.std.specs.Prelude.{◌≡◌, ◌≤◌, ◌<◌};
+ghost use Rattle.std.specs.Prelude.{◌≡◌, ◌↔◌, ◌<◌, ℕ, Option, IsSome, IfSome, IsTrue, Some, None, true, false, if◌then◌else◌};
+ghost use Rattle.node.specs.Nodes.{Node as AbstractNode, WantsTick};
+ghost use Rattle.node.specs.Standing.{IsNodeOf};
+ghost use Rattle.site_serve.specs.declared.due.Due.{Due};
+ghost use Rattle.site_serve.specs.declared.seen.Seen.{Seen};
+ghost use Rattle.site_drive.specs.declared.last_call.LastCall.TheVariants.{Ask, TickOrAsk};
+ghost use Rattle.site_serve.specs.Pacing.{empty_after, first_pace, heard, pace_after, question_after, rest_after, resting_of, ticking_after, IsDue, IsFresh, IsSeen};
+ghost use Rattle.site_serve.specs.Turns.{call_behind};
 
-use crate::asking::Asking;
 use crate::due::Due;
+use crate::last_question::LastQuestion;
 use crate::questions::Questions;
+use crate::resting::Resting;
+use crate::seen::Seen;
+use crate::ticking::Ticking;
+use crate::times::Times;
+use site_drive::{Delivered, LastCall};
 use node::Node;
 use site_disk::Disk;
-use site_drive::{Asked, LastCall};
 use site_ids::{Cluster, Instance, NodeId};
-use std::rt::Clock;
-use std::thread;
-use std::time::{Duration, Instant};
 
-/// How many milliseconds lie between questions that bring nothing, and between those of a server that is quiet.
-const ASKING: u64 = 400;
-
-const QUIET_ASKING: u64 = 800;
-
-/// What 64 values that were on record take to be told, in milliseconds: those that are decided meanwhile take longer.
-const QUICK: u64 = 20;
-
-/// The patience grows with the ticks since an instance became known, up to so many times.
-const MOST: u32 = 3;
-
-/// So many passes in which nothing came are more than a client takes to come again: it is idle.
-const IDLE: u32 = 200;
-
-/// So many are some three seconds: it is quiet.
-const QUIET: u32 = 2000;
-
-/// How many microseconds a server rests behind a pass in which nothing came: while it is busy, once it is idle, and once it is quiet.
-const REST: u64 = 50;
-
-const IDLE_REST: u64 = 1500;
-
-const QUIET_REST: u64 = 8000;
-
-/// How many milliseconds a node waits before its first tick: longer at nodes of greater numbers, so that two do not try as one.
-fn step(patience: u64, node: u8) -> u64 {
-    patience.saturating_mul(u64::from(node) + 1) / 2
-}
-
-/// Whether so many milliseconds have passed. Where the clock cannot tell, they have.
-pub(crate) fn has_passed<C: Clock>(clock: &C, since: Option<Instant>, millis: u64) -> bool {
-    let Some(since) = since else {
-        return true;
-    };
-    match since.elapsed(clock) {
-        Ok(passed) => passed.as_millis() >= u128::from(millis),
-        Err(_) => true,
-    }
-}
-
-/// How many microseconds it rests behind the last of so many passes in which nothing came.
-fn rest_after(passes: u32) -> u64
-    ensures busy { passes < 200 → result ≡ 50 }
-    ensures idle { 200 ≤ passes → passes < 2000 → result ≡ 1500 }
-    ensures quiet { 2000 ≤ passes → result ≡ 8000 }
-{
-    if passes < IDLE {
-        REST
-    } else if passes < QUIET {
-        IDLE_REST
-    } else {
-        QUIET_REST
-    }
-}
-
-/// How many milliseconds behind a question that brought nothing the next one comes, after so many passes in which nothing came.
-fn asks_after(passes: u32) -> u64
-    ensures awake { passes < 2000 → result ≡ 400 }
-    ensures quiet { 2000 ≤ passes → result ≡ 800 }
-{
-    if passes < QUIET { ASKING } else { QUIET_ASKING }
-}
-
-/// How many values are known, and what was tried, asked and heard since.
-#[derive(Clone, Copy, Drop)]
-pub(crate) struct Pace {
-    step: u64,
-    known: u32,
-    ticks: u32,
-    // since when a tick is wanted, and nothing became known, and none was made
-    since: Option<Instant>,
-    // whether a value was just submitted, and nobody tries one
-    fresh: bool,
-    // when it asked last, how many values were known then, and how many datagrams of attempts had come
-    asked: Option<Instant>,
-    known_then: u32,
-    attempts_then: u64,
-    // those of others
+/// What was tried, asked, heard and told, and when.
+///
+/// A step calls `due`, then `hear` behind its batch, and then `rest`. Its moments are milliseconds since the server began, none of them less than the one before.
+#[derive(Clone, Copy, Debug, PartialEq, Eq, Drop)]
+pub struct Pace {
+    times: Times,
+    // what this server waits before its first try
+    patience: u64,
+    ticking: Ticking,
+    last: LastQuestion,
+    // those of other nodes
     questions: Questions,
-    // how many passes went by in which nothing but questions came; a server begins quiet
-    idle: u32,
-    // how many datagrams had come that are none: at the last batch, and at the last rest
-    heard: u64,
-    stirs: u64,
+    // whether messages that are no questions came since what is due was asked for
+    stirred: bool,
+    // how many steps went by in which nothing came, questions aside
+    empty: u32,
 }
 
 impl Pace {
-    pub(crate) fn new(patience: u64, node: u8) -> Pace {
+    /// That of a server which begins: it is quiet.
+    pub fn new(times: Times, node: u8) -> Pace
+        ensures { result ≡ first_pace times node }
+    {
         Pace {
-            step: step(patience, node),
-            known: 0,
-            ticks: 0,
-            since: None,
-            fresh: false,
-            asked: None,
-            known_then: 0,
-            attempts_then: 0,
+            times,
+            patience: times.patience_of(node),
+            ticking: Ticking::new(),
+            last: LastQuestion::never(),
             questions: Questions::new(),
-            idle: QUIET,
-            heard: 0,
-            stirs: 0,
+            stirred: false,
+            empty: times.quiet,
         }
     }
 
-    /// So many values are known now, a tick is wanted or not, and so many datagrams came that are no questions.
-    ///
-    /// Where a tick begins to be wanted and no such datagram came, a value was submitted, and neither this node nor another tries one.
-    pub(crate) fn note<C: Clock>(&mut self, clock: &C, known: u32, wanted: bool, heard: u64) {
-        self.fresh = wanted && self.since.is_none() && heard == self.heard;
-        if !wanted {
-            self.since = None;
-            self.ticks = 0;
-        } else if self.since.is_none() || known != self.known {
-            self.since = Instant::now(clock).ok();
-            self.ticks = 0;
-        }
-        self.known = known;
-        self.heard = heard;
+    /// Behind a batch: what it delivered.
+    pub fn hear(&mut self, cluster: Cluster, delivered: &Delivered)
+        ensures { (attempts : ℕ) × (stirs : ℕ) × (self.new ≡ record (heard self.old attempts stirs) { questions = self.new.questions }) }
+    {
+        self.questions.hear(cluster, delivered);
+        self.note(delivered.attempts(), delivered.stirs());
     }
 
-    /// The questions of other nodes that came.
-    pub(crate) fn hear(&mut self, cluster: Cluster, asked: Asked) {
-        self.questions.hear(cluster, asked);
+    /// So many messages of an attempt came, and so many that are no questions.
+    fn note(&mut self, attempts: u32, stirs: u32)
+        ensures { self.new ≡ heard self.old attempts stirs }
+    {
+        self.last.tried |= attempts != 0;
+        self.stirred |= stirs != 0;
     }
 
-    /// Whether nobody was seen to try a value since it asked last, with so many datagrams of attempts that came.
-    fn is_calm(&self, attempts: u64) -> bool {
-        attempts == self.attempts_then
+    /// What is called behind the turns of the next batch, which begins now, where all that had come was taken in by the last one, or not. What is called
+    /// counts from now on.
+    pub fn due<D: Disk>(&mut self, now: u64, node: &Node<D>, drained: bool) -> LastCall
+        ensures fresh { (s : AbstractNode) → IsNodeOf node.now s → WantsTick s → self.old.ticking.since ≡ None → self.old.stirred ≡ false → result ≡ TickOrAsk }
+        ensures due { (s : AbstractNode) → IsNodeOf node.now s → (seen : Seen) × (telling : Option (ℕ × ℕ)) × (due : Due) × IsSeen s drained seen × IsDue self.old now seen telling due × (result ≡ call_behind due)
+            × (self.new ≡ record (pace_after self.old now seen due.fresh result) { questions = self.new.questions }) }
+    {
+        let seen = Seen::of(node, drained);
+        let telling = self.next_telling(now, node, seen.wanted);
+        self.call(now, seen, telling)
     }
 
-    /// Whether a question is due, with nothing that waits or something, and so many datagrams of attempts that came.
-    fn asks_now<C: Clock>(&self, clock: &C, drained: bool, attempts: u64) -> bool {
-        let asking = Asking {
-            learned: self.known.saturating_sub(self.known_then),
-            quick: !has_passed(clock, self.asked, QUICK),
-            drained,
-            calm: self.is_calm(attempts),
-            passed: has_passed(clock, self.asked, asks_after(self.idle)),
-        };
-        asking.is_due()
-    }
-
-    /// It asks.
-    fn begin_question<C: Clock>(&mut self, clock: &C, attempts: u64) {
-        self.asked = Instant::now(clock).ok();
-        self.known_then = self.known;
-        self.attempts_then = attempts;
-    }
-
-    /// Whether a tick is wanted, and has been for so long that it is due: longer behind each such tick.
-    fn ticks_now<C: Clock>(&self, clock: &C, wanted: bool) -> bool {
-        let tries = u64::from(self.ticks.saturating_add(1).min(MOST));
-        wanted && has_passed(clock, self.since, self.step.saturating_mul(tries))
-    }
-
-    /// It ticks.
-    fn begin_tick<C: Clock>(&mut self, clock: &C) {
-        self.ticks = self.ticks.saturating_add(1);
-        self.since = Instant::now(clock).ok();
-    }
-
-    /// What is called behind the turns of a batch, with so many datagrams of attempts that came, where all that had come was taken in or more waits. A telling,
-    /// a question or a tick that is due begins by that.
-    pub(crate) fn due<C: Clock, D: Disk>(
+    /// The next telling, unless a value is fresh: then it waits.
+    fn next_telling<D: Disk>(
         &mut self,
-        clock: &C,
+        now: u64,
         node: &Node<D>,
-        attempts: u64,
         wanted: bool,
-        drained: bool,
-    ) -> LastCall {
+    ) -> Option<(NodeId, Instance)>
+        ensures same { self.new ≡ record self.old { questions = self.new.questions } }
+        ensures waits { IsFresh self.old.ticking wanted self.old.stirred → (result ≡ None) × (self.new ≡ self.old) }
+    {
+        if self.ticking.is_fresh(wanted, self.stirred) {
+            return None;
+        }
+        self.questions.next(self.times, now, node, !self.last.tried)
+    }
+
+    /// What is called behind the turns of the next batch, where so much is seen and this telling is due. What is called counts from now on.
+    fn call(&mut self, now: u64, seen: Seen, telling: Option<(NodeId, Instance)>) -> LastCall
+        ensures due { (due : Due) × IsDue self.old now seen telling due × (result ≡ call_behind due) × (self.new ≡ pace_after self.old now seen due.fresh result) }
+        ensures fresh { IsFresh self.old.ticking seen.wanted self.old.stirred → result ≡ TickOrAsk }
+        ensures news { ¬ IsFresh self.old.ticking seen.wanted self.old.stirred → telling ≡ None → self.old.last.known < seen.known → seen.drained ≡ true → self.old.last.tried ≡ false → result ≡ Ask }
+    {
+        let fresh = self.ticking.is_fresh(seen.wanted, self.stirred);
+        let asking = self.last.asking(self.times, now, seen, self.empty);
+        self.ticking = self.ticking.noted(now, seen.wanted, seen.known);
         let due = Due {
-            fresh: self.fresh,
-            telling: self.next_telling(clock, node, attempts),
-            question: self.asks_now(clock, drained, attempts),
-            tick: self.ticks_now(clock, wanted),
+            fresh,
+            telling,
+            question: asking.is_due(),
+            tick: self.ticking.is_due(now, self.patience, self.times.growth),
         };
         let last = due.last_call();
-        if last == LastCall::Ask {
-            self.begin_question(clock, attempts);
-        }
-        if last == LastCall::TickOrAsk && !self.fresh {
-            self.begin_tick(clock);
-        }
+        self.begin(now, seen.known, fresh, &last);
+        self.stirred = false;
         last
     }
 
-    /// The next telling, unless a value was just submitted: then it waits.
-    fn next_telling<C: Clock, D: Disk>(
-        &mut self,
-        clock: &C,
-        node: &Node<D>,
-        attempts: u64,
-    ) -> Option<(NodeId, Instance)> {
-        if self.fresh {
-            return None;
+    /// A question, or a tick that was due, counts from now on.
+    fn begin(&mut self, now: u64, known: u32, fresh: bool, last: &LastCall)
+        ensures { self.new ≡ record self.old { ticking = ticking_after self.old.ticking now fresh last.now; last = question_after self.old.last now known last.now } }
+    {
+        match last {
+            LastCall::Ask => {
+                self.last = LastQuestion {
+                    at: Some(now),
+                    known,
+                    tried: false,
+                };
+            }
+            LastCall::TickOrAsk if !fresh => {
+                self.ticking = self.ticking.ticked(now);
+            }
+            _ => {}
         }
-        let calm = self.is_calm(attempts);
-        self.questions.next(clock, node, calm)
     }
 
-    /// Rests behind a pass in which nothing came: no datagram and no client.
-    pub(crate) fn rest<C: Clock>(&mut self, clock: &C, came: bool, served: bool, stirs: u64) {
-        if served || stirs != self.stirs {
-            self.stirs = stirs;
-            self.idle = 0;
-        } else if !came {
-            let rest = Duration::from_micros(rest_after(self.idle));
-            self.idle = self.idle.saturating_add(1);
-            thread::sleep(clock, rest);
-        }
+    /// How many microseconds are rested behind a step: none while something came. It is told whether datagrams came or bytes of clients, and whether a response
+    /// was written.
+    pub fn rest(&mut self, came: bool, served: bool) -> Option<u64>
+        ensures rests { IsSome result ↔ (came ≡ false) × (served ≡ false) × (self.old.stirred ≡ false) }
+        ensures long { IfSome result (λ micros. micros ≡ rest_after self.old.times self.old.empty) }
+        ensures counts { self.new ≡ record self.old { empty = empty_after (resting_of self.old came served) } }
+    {
+        let resting = Resting {
+            came,
+            served,
+            stirred: self.stirred,
+            empty: self.empty,
+        };
+        let micros = self.times.rest_after(self.empty);
+        self.empty = resting.empty_after();
+        resting.is_due().then_some(micros)
     }
 }

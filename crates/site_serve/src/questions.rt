@@ -1,27 +1,31 @@
 //! Questions that were heard, and whom to tell what.
 
+ghost use Rattle.std.specs.Prelude.{◌≡◌, ◌↔◌, ◌-◌, ◌&&◌, ℕ, List, length, not, get_or, set, MatchOption, IfSome, IfNone, IsTrue, if◌then◌else◌};
+ghost use Rattle.node.specs.Nodes.{Node as AbstractNode, Value as Bytes, IsKnownPrefix};
+ghost use Rattle.node.specs.Standing.{IsNodeOf};
+ghost use Rattle.site_ids.specs.Ids.{IsInstance, IsNode};
+ghost use Rattle.site_serve.specs.Pacing.{no_questions, passed, told_from, IsFirstAsked, IsFull, IsToldOf, Tells};
+
+use site_drive::Delivered;
 use crate::asking::Telling;
-use crate::pace::has_passed;
+use crate::times::{Times, has_passed};
 use node::{MAX_TOLD, Node};
 use site_disk::Disk;
-use site_drive::Asked;
 use site_ids::{Cluster, Instance, MAX_NODES, NodeId};
-use std::rt::Clock;
-use std::time::Instant;
-
-/// How many milliseconds lie between tellings to a node that are not full.
-const TELLING: u64 = 400;
 
 /// For each node the instance that it asked for and was not told of yet, and when it was told less than it may be at once.
-#[derive(Clone, Copy, Drop)]
-pub(crate) struct Questions {
+#[derive(Clone, Copy, Debug, PartialEq, Eq, Drop)]
+pub struct Questions {
     asked: [Option<Instance>; 9],
-    told: [Option<Instant>; 9],
+    told: [Option<u64>; 9],
 }
 
-/// What is told behind an answer: from the instance behind it on, where the value is known, and else from it.
-fn first_told<D: Disk>(node: &Node<D>, asked: Instance) -> Option<Instance> {
-    if asked.number() <= node.known() {
+/// From which instance on is told behind an answer, with so many values known: from the one behind it, where its value is known, and else from it. None
+/// where that would be past the last one.
+pub fn first_told(known: u32, asked: Instance) -> Option<Instance>
+    ensures { MatchOption result (¬ IsInstance (told_from known asked)) (λ first. (first ≡ told_from known asked) × IsInstance first) }
+{
+    if asked.number() <= known {
         Instance::new(asked.number() + 1)
     } else {
         Some(asked)
@@ -29,8 +33,10 @@ fn first_told<D: Disk>(node: &Node<D>, asked: Instance) -> Option<Instance> {
 }
 
 /// Whether there is something to tell of the last instance of a telling.
-fn is_full<D: Disk>(node: &Node<D>, first: Instance) -> bool {
-    match Instance::new(first.number() + MAX_TOLD - 1) {
+fn is_full<D: Disk>(node: &Node<D>, first: Instance) -> bool
+    ensures { (s : AbstractNode) → IsNodeOf node.now s → (values : List Bytes) × IsKnownPrefix s values × (IsTrue result ↔ IsFull s (length values) first) }
+{
+    match Instance::new(first.number() + (MAX_TOLD - 1)) {
         Some(last) => last.number() <= node.known() || node.slot(last).vote.is_some(),
         None => false,
     }
@@ -38,63 +44,76 @@ fn is_full<D: Disk>(node: &Node<D>, first: Instance) -> bool {
 
 impl Questions {
     /// None was heard.
-    pub(crate) fn new() -> Questions {
+    pub(crate) fn new() -> Questions
+        ensures { result ≡ no_questions }
+    {
         Questions {
             asked: [None; 9],
             told: [None; 9],
         }
     }
 
-    /// Questions that came. Each takes the place of that node's last one.
-    pub(crate) fn hear(&mut self, cluster: Cluster, asked: Asked) {
+    /// Those that were delivered. Each takes the place of that node's last one.
+    pub(crate) fn hear(&mut self, cluster: Cluster, delivered: &Delivered)
+        ensures { self.new.told ≡ self.old.told }
+    {
         for number in 1..=cluster.size() {
             let Some(node) = cluster.node(number) else {
                 return;
             };
-            if let Some(instance) = asked.of(node) {
+            if let Some(instance) = delivered.question_of(node) {
                 self.asked[usize::from(number) - 1] = Some(instance);
             }
         }
     }
 
-    /// Whom to tell, and from which instance on: the first node whose question waits. By that it is forgotten, whether its telling is due or not.
-    pub(crate) fn next<C: Clock, D: Disk>(
-        &mut self,
-        clock: &C,
-        node: &Node<D>,
-        calm: bool,
-    ) -> Option<(NodeId, Instance)> {
-        for number in 1..=MAX_NODES {
-            let to = node.cluster().node(number)?;
+    /// The first node whose question waits, and the instance that it was for. By that it is forgotten.
+    fn take_first(&mut self, cluster: Cluster) -> Option<(NodeId, Instance)>
+        ensures some { IfSome result (λ x. IsNode cluster x.0 × IsFirstAsked self.old.asked x.0 x.1 × (self.new.asked ≡ set self.old.asked (x.0 - 1) None)) }
+        ensures none { IfNone result ((self.new ≡ self.old) × ((p : ℕ) → IsNode cluster p → get_or self.old.asked (p - 1) None ≡ None)) }
+        ensures told { self.new.told ≡ self.old.told }
+    {
+        for number in 1..=cluster.size() {
+            let to = cluster.node(number)?;
             let at = usize::from(number) - 1;
             if let Some(asked) = self.asked[at] {
                 self.asked[at] = None;
-                return self.telling(clock, node, calm, to, asked);
+                return Some((to, asked));
             }
         }
         None
     }
 
-    /// What is told of a question, where that is due.
-    fn telling<C: Clock, D: Disk>(
+    /// Whom to tell, and from which instance on: the first node whose question waits. By that it is forgotten, whether its telling is due or not.
+    pub(crate) fn next<D: Disk>(
         &mut self,
-        clock: &C,
+        times: Times,
+        now: u64,
         node: &Node<D>,
         calm: bool,
-        to: NodeId,
-        asked: Instance,
-    ) -> Option<(NodeId, Instance)> {
-        let first = first_told(node, asked)?;
-        let at = usize::from(to.number()) - 1;
+    ) -> Option<(NodeId, Instance)>
+        ensures { (s : AbstractNode) → IsNodeOf node.now s → (values : List Bytes) × IsKnownPrefix s values × IfSome result (λ x. IsToldOf self.old.asked (length values) x.0 x.1) }
+    {
+        let (to, asked) = self.take_first(node.cluster())?;
+        let first = first_told(node.known(), asked)?;
         let full = is_full(node, first);
-        let passed = has_passed(clock, self.told[at], TELLING);
+        self.tells(times, now, to, full, calm)
+            .then_some((to, first))
+    }
+
+    /// Whether a telling to a node is due, which is of all 64 instances or less, while nobody tries a value or somebody does. The time of one that is of less
+    /// counts from now on.
+    fn tells(&mut self, times: Times, now: u64, to: NodeId, full: bool, calm: bool) -> bool
+        ensures due { IsTrue result ↔ Tells (record { full = full; calm = calm; passed = passed (get_or self.old.told (to - 1) None) now times.telling }) }
+        ensures counts { self.new ≡ record self.old { told = if result && not full then set self.old.told (to - 1) (Some now) else self.old.told } }
+    {
+        let at = usize::from(to.number()) - 1;
+        let passed = has_passed(self.told[at], now, times.telling);
         let telling = Telling { full, calm, passed };
-        if !telling.is_due() {
-            return None;
+        let due = telling.is_due();
+        if due && !full {
+            self.told[at] = Some(now);
         }
-        if !full {
-            self.told[at] = Instant::now(clock).ok();
-        }
-        Some((to, first))
+        due
     }
 }

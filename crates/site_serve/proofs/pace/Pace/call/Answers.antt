@@ -1,0 +1,13 @@
+use Rattle.std.proofs.Common.{rules, ◌≡◌, ℕ, Option, Some, None, Bool, true, false, ap, sym, ◌∙◌}
+use Rattle.site_serve.specs.declared.due.Due.{Due}
+use Rattle.site_serve.specs.Pacing.{IsDue, pace_after}
+use Rattle.site_serve.proofs.pace.Pace.call.Goals as goal
+
+-- due is what the calls answered
+pub returns-clause-due : goal.returns-clause-due
+returns-clause-due c = (
+  record { fresh = c.is_fresh-fresh.result; telling = c.args.telling; question = c.is_due.result; tick = c.is_due-2.result },
+  record { fresh = search rules; told = search rules; question = search rules; tick = search rules },
+  search rules,
+  search rules,
+)
