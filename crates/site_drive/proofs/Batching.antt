@@ -65,7 +65,7 @@ module _ {D : Type 0} (stands_for : D → DiskState → Type 0) where
           then_leads old mid new (TakenSoFar n p (map bytes (take i xs)) malformed out) (TakesIn n p (Some (bytes x)) one out after) (TakenSoFar n p (map bytes (take (i + 1) xs)) (malformed + one) after)
           (λ s t u before r. (
             subst (λ hs. TakesAll n p s hs (malformed + one) after u) (sym (first_more bytes xs i x below got)) (subst (λ l. TakesAll n p s (map Some (map bytes (take i xs)) ++ Some (bytes x) ∷ []) (malformed + one) l u) (sym r.1)
-            (takes_on n p s t u (map Some (map bytes (take i xs))) (Some (bytes x) ∷ []) malformed one out r.0 before.0 (u, one, 0, r.0, [], r.2, (refl, refl, refl), omega arith, sym (append-nil r.0)))),
+                (takes_on n p s t u (map Some (map bytes (take i xs))) (Some (bytes x) ∷ []) malformed one out r.0 before.0 (u, one, 0, r.0, [], r.2, (refl, refl, refl), omega arith, sym (append-nil r.0)))),
             subst AllFit (sym r.1) (all_fit out r.0 before.1 r.3),
           ))
           earlier taken

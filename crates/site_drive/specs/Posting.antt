@@ -1,13 +1,13 @@
 -- Datagrams that came, and letters to send.
-use Rattle.std.specs.Prelude.{ℕ, List, map}
-
+use Rattle.std.specs.Prelude.{ℕ, List, map, Vec}
+use Rattle.std.specs.declared.alloc.Global.{Global}
 use Rattle.wire.specs.declared.message.Message.{Message}
 use Rattle.wire.specs.Spelling.{spelled}
 use Rattle.node.specs.declared.to.To.{To}
 use Rattle.site_drive.specs.declared.letter.Letter.{Letter}
 
 -- what these datagrams are
-abbrev pub bytes_of : List (Vec ℕ) → List (List ℕ)
+abbrev pub bytes_of : List (Vec ℕ Global) → List (List ℕ)
 bytes_of came = map (λ d. d.items) came
 
 -- letters: to whom, and the bytes

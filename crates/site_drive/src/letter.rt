@@ -1,6 +1,6 @@
 //! What a batch handed out, as datagrams to send.
 
-ghost use Rattle.std.specs.Prelude.{◌≡◌, ◌++◌, ℕ, take, IfOk, OnOk, OnErr};
+ghost use Rattle.std.specs.Prelude.{◌≡◌, ◌++◌, ◌∷◌, [], ℕ, take, IfOk, OnOk, OnErr};
 ghost use Rattle.wire.specs.Messages.{Fits};
 ghost use Rattle.wire.specs.Spelling.{spelled};
 ghost use Rattle.site_drive.specs.Leading.{AllFit};
@@ -19,7 +19,7 @@ pub struct Letter {
 }
 
 /// A message, spelled.
-fn letter(alloc: Global, to: To, message: &Message) -> Result<Letter, AllocError>
+fn spell(alloc: Global, to: To, message: &Message) -> Result<Letter, AllocError>
     requires { Fits message.now }
     ensures { IfOk result (λ l. (l.to ≡ to) × (l.bytes.items ≡ spelled message.now)) }
 {
@@ -28,17 +28,30 @@ fn letter(alloc: Global, to: To, message: &Message) -> Result<Letter, AllocError
     Ok(Letter { to, bytes })
 }
 
+/// Puts a message behind these letters. One that fits no datagram, as none is, is passed over.
+fn put(
+    alloc: Global,
+    letters: &mut Vec<Letter>,
+    to: To,
+    message: &Message,
+) -> Result<(), AllocError>
+    ensures ok { OnOk result (Fits message.now → letters_of letters.new.items ≡ letters_of letters.old.items ++ (to, spelled message.now) ∷ []) }
+    ensures refused { OnErr result (letters_of letters.new.items ≡ letters_of letters.old.items) }
+{
+    if message.fits() {
+        letters.push(spell(alloc, to, message)?)?;
+    }
+    Ok(())
+}
+
 impl Desk {
-    /// Puts what waits behind these letters, in order: one for each message, whether it is for one node or for all. One that fits no datagram, as none is, is
-    /// passed over.
+    /// Puts what waits behind these letters, in order: one for each message, whether it is for one node or for all.
     pub fn post(&self, letters: &mut Vec<Letter>) -> Result<(), AllocError>
         ensures ok { OnOk result (AllFit self.now.outbox.items → letters_of letters.new.items ≡ letters_of letters.old.items ++ spelled_of self.now.outbox.items) }
         ensures refused { OnErr result (AllFit self.now.outbox.items → (k : ℕ) × (letters_of letters.new.items ≡ letters_of letters.old.items ++ take k (spelled_of self.now.outbox.items))) }
     {
         for (to, message) in self.outbox.as_slice() {
-            if message.fits() {
-                letters.push(letter(self.alloc, *to, message)?)?;
-            }
+            put(self.alloc, letters, *to, message)?;
         }
         Ok(())
     }

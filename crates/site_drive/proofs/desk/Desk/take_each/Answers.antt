@@ -19,20 +19,20 @@ pub loop-datagram-preserved : goal.loop-datagram-preserved
 loop-datagram-preserved g c =
     let old = c.args.node.now in
     let mid = c.loop-datagram.node in
-    let new = c.deliver_datagram-one.new.node in
+    let new = c.deliver_datagram.new.node in
     let others = c.loop-datagram.invariant.others in
     let before = c.loop-datagram.self.outbox.items in
-    let after = c.deliver_datagram-one.new.outbox.items in
+    let after = c.deliver_datagram.new.outbox.items in
     let one = c.in_ok-one.one in
-    let x = c.loop-datagram-item.result in
+    let x = c.datagram-item.result in
     record {
       leads =
-          one_more g.D.Disk.stands_for (λ d. d.items) c.args.came.now c.loop-datagram.datagram-index x c.loop-datagram-test.true c.loop-datagram-item.is
+          one_more g.D.Disk.stands_for (λ d. d.items) c.args.came.now c.loop-datagram.datagram-index x c.loop-datagram-test.true c.datagram-item.is
           old mid new old.cluster old.me c.loop-datagram.malformed before c.loop-datagram.invariant.leads one after
           (of_same_node g.D.Disk.stands_for old mid new others (λ n p. TakesIn n p (Some x.items) one before after)
           (subst (λ b. NodeLeads g.D.Disk.stands_for mid new (TakesIn mid.cluster mid.me (Some b) one before after)) c.as_slice.ensures.value c.in_ok-one.ensures.taken));
       few = omega (arith, c.loop-datagram.invariant.few, c.in_ok-one.ensures.one);
-      others = others_on old mid new others c.deliver_datagram-one.ensures.others;
+      others = others_on old mid new others c.deliver_datagram.ensures.others;
       counts = none_failed _ _ _ c.in_ok-one.ensures.counts ∙ c.loop-datagram.invariant.counts;
     }
 
@@ -40,16 +40,16 @@ pub returns-in_err-one-clause-fault : goal.returns-in_err-one-clause-fault
 returns-in_err-one-clause-fault g c = err_gives c.from_residual.result c.from_residual.ensures.1 λ e is.
     let old = c.args.node.now in
     let mid = c.loop-datagram.node in
-    let new = c.deliver_datagram-one.new.node in
-    let x = c.loop-datagram-item.result in
-    breaks_off g.D.Disk.stands_for (λ d. d.items) c.args.came.now c.loop-datagram.datagram-index x c.loop-datagram-test.true c.loop-datagram-item.is
+    let new = c.deliver_datagram.new.node in
+    let x = c.datagram-item.result in
+    breaks_off g.D.Disk.stands_for (λ d. d.items) c.args.came.now c.loop-datagram.datagram-index x c.loop-datagram-test.true c.datagram-item.is
     old mid new old.cluster old.me c.loop-datagram.malformed c.loop-datagram.self.outbox.items c.loop-datagram.invariant.leads e
     (of_same_node g.D.Disk.stands_for old mid new c.loop-datagram.invariant.others (λ n p s next. BreaksOff n p s x.items e next)
     (subst (λ b. NodeLeads g.D.Disk.stands_for mid new (λ s next. BreaksOff mid.cluster mid.me s b e next)) c.as_slice.ensures.value
     (subst (λ w. NodeLeads g.D.Disk.stands_for mid new (λ s next. BreaksOff mid.cluster mid.me s c.as_slice.result.now w next)) (sym is) c.in_err-one.ensures.broken)))
 
 pub returns-in_err-one-clause-others : goal.returns-in_err-one-clause-others
-returns-in_err-one-clause-others g c = others_on c.args.node.now c.loop-datagram.node c.deliver_datagram-one.new.node c.loop-datagram.invariant.others c.deliver_datagram-one.ensures.others
+returns-in_err-one-clause-others g c = others_on c.args.node.now c.loop-datagram.node c.deliver_datagram.new.node c.loop-datagram.invariant.others c.deliver_datagram.ensures.others
 
 pub returns-in_err-one-clause-counts : goal.returns-in_err-one-clause-counts
 returns-in_err-one-clause-counts g c = counts_on c.from_residual.result c.in_err-one.field-0.0 _ _ _ c.from_residual.ensures.1 c.loop-datagram.invariant.counts c.in_err-one.ensures.counts
