@@ -8,6 +8,6 @@ abbrev pub IsTooLong : Stay → Times → Type 0
 IsTooLong stay times = by stay.busy times.serve_ms
   where
     abbrev by : Option ℕ → Option ℕ → Type 0
-    by None most = times.between ≤ stay.still
-    by (Some busy) None = times.progress ≤ stay.still
-    by (Some busy) (Some most) = (times.progress ≤ stay.still) ⊎ (most ≤ busy)
+    by None most = times.between_requests ≤ stay.still
+    by (Some busy) None = times.without_progress ≤ stay.still
+    by (Some busy) (Some most) = (times.without_progress ≤ stay.still) ⊎ (most ≤ busy)

@@ -39,7 +39,7 @@ fn open<R: Net<Listener = TcpListener, Stream = TcpStream> + Files<File = File> 
     let (cluster, me) = (addresses.cluster, addresses.me);
     let served = open_node(rt, alloc, cluster, me, options.record, options.format)?;
     let times = Times::new(options.patience, options.serve_ms);
-    let server = Server::new(alloc, served, times)?;
+    let server = Server::new(alloc, me, served, times)?;
     let shell = open_sockets(rt, alloc, addresses)?;
     Ok((server, shell))
 }

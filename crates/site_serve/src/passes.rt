@@ -15,7 +15,7 @@ use std::thread;
 use std::time::Duration;
 
 /// One pass. Where nothing came and nothing went, it rests.
-fn take_pass<D: Disk, C: Clock>(
+fn take_pass<D: Disk + Drop, C: Clock>(
     clock: &C,
     shell: &mut Shell,
     server: &mut Server<D, TcpStream>,
@@ -41,7 +41,7 @@ fn take_pass<D: Disk, C: Clock>(
 }
 
 /// So many passes.
-pub(crate) fn take_passes<D: Disk, C: Clock>(
+pub(crate) fn take_passes<D: Disk + Drop, C: Clock>(
     clock: &C,
     shell: &mut Shell,
     server: &mut Server<D, TcpStream>,

@@ -26,7 +26,7 @@ pub struct Seats<S> {
     ghost within: { length seats.items ≤ 64 },
 }
 
-impl<S> Seats<S> {
+impl<S: Drop> Seats<S> {
     /// Nobody came yet.
     pub fn new(alloc: Global, times: Times) -> Seats<S> {
         Seats {
@@ -110,7 +110,7 @@ impl<S> Seats<S> {
     }
 }
 
-impl<S: Read> Seats<S> {
+impl<S: Read + Drop> Seats<S> {
     /// Reads once from each client: whether anything came.
     pub fn hear(&mut self, now: u64) -> Result<bool, AllocError> {
         let mut came = false;
@@ -123,7 +123,7 @@ impl<S: Read> Seats<S> {
     }
 }
 
-impl<S: Write> Seats<S> {
+impl<S: Write + Drop> Seats<S> {
     /// Writes once to each client that is owed something: whether anything went.
     pub fn tell(&mut self, now: u64) -> bool {
         let mut went = false;

@@ -18,6 +18,7 @@ use crate::served::Served;
 use crate::times::Times;
 use site_disk::Disk;
 use site_drive::Desk;
+use site_ids::NodeId;
 use std::alloc::{AllocError, Global};
 
 /// A server without sockets and clock: a node, its mail, its clients, and when it tries and asks.
@@ -26,6 +27,7 @@ use std::alloc::{AllocError, Global};
 /// the connections that leave. S is what a client's bytes come and go by.
 #[derive(Drop)]
 pub struct Server<D, S> {
+    me: NodeId,
     pub served: Served<D>,
     pub mail: Mail,
     pub seats: Seats<S>,
@@ -42,25 +44,31 @@ pub struct Stepped {
     pub answered: u32,
 }
 
-impl<D: Disk, S> Server<D, S> {
-    /// A node that serves nobody yet, and has heard nothing.
-    pub fn new(alloc: Global, served: Served<D>, times: Times) -> Result<Server<D, S>, AllocError>
-        ensures { IfOk result (λ server. server.served ≡ served) }
+impl<D: Disk + Drop, S: Drop> Server<D, S> {
+    /// This node serves nobody yet, and has heard nothing.
+    pub fn new(
+        alloc: Global,
+        me: NodeId,
+        served: Served<D>,
+        times: Times,
+    ) -> Result<Server<D, S>, AllocError>
+        requires { me ≡ served.node.me }
+        ensures { IfOk result (λ server. (server.served ≡ served) × (server.me ≡ me)) }
     {
-        let node = served.node.me().number();
         Ok(Server {
+            me,
             served,
             mail: Mail::new(alloc),
             seats: Seats::new(alloc, times),
             desk: Desk::new(alloc)?,
-            pace: Pace::new(times, node),
+            pace: Pace::new(times, me.number()),
         })
     }
 
     /// The batch of a step: all that waits, and the call that is due behind it. What that hands out is posted.
     fn take_batch(&mut self, now: u64) -> Result<(), Halt>
         ensures ok { OnOk result (IsBatched D.stands_for (waiting_of self.old.mail) (posted_of self.new.mail) self.old.served.node self.new.served.node) }
-        ensures own { OnOk result (waiting_of self.new.mail ≡ own_of self.old.served.node.me (posted_of self.new.mail)) }
+        ensures own { OnOk result (waiting_of self.new.mail ≡ own_of self.old.me (posted_of self.new.mail)) }
         ensures fault { IfErr result (λ why. Led D.stands_for self.old.served.node self.new.served.node (BreaksStep self.old.served.node.cluster self.old.served.node.me (waiting_of self.old.mail) why)
             ⊎ LosesStep D.stands_for (waiting_of self.old.mail) self.old.served.node self.new.served.node why) }
         ensures ends { IfErr result EndsRounds }
@@ -75,7 +83,7 @@ impl<D: Disk, S> Server<D, S> {
         let delivered = self.desk.delivered();
         self.pace.hear(self.served.node.cluster(), &delivered);
         self.desk.post(&mut self.mail.letters)?;
-        self.mail.keep_own(self.served.node.me())?;
+        self.mail.keep_own(self.me)?;
         Ok(())
     }
 
@@ -83,7 +91,7 @@ impl<D: Disk, S> Server<D, S> {
     /// hands out are the mail's letters; then requests are answered.
     pub fn step(&mut self, now: u64) -> Result<Stepped, Halt>
         ensures ok { OnOk result (Led D.stands_for self.old.served.node self.new.served.node (TakesStep self.old.served.node.cluster self.old.served.node.me (waiting_of self.old.mail) (posted_of self.new.mail) self.new.served.node.releases)) }
-        ensures own { OnOk result (waiting_of self.new.mail ≡ own_of self.old.served.node.me (posted_of self.new.mail)) }
+        ensures own { OnOk result (waiting_of self.new.mail ≡ own_of self.old.me (posted_of self.new.mail)) }
         ensures fault { IfErr result (λ why. Led D.stands_for self.old.served.node self.new.served.node (BreaksStep self.old.served.node.cluster self.old.served.node.me (waiting_of self.old.mail) why)
             ⊎ LosesStep D.stands_for (waiting_of self.old.mail) self.old.served.node self.new.served.node why) }
         ensures ends { IfErr result EndsRounds }

@@ -21,9 +21,9 @@ impl Stay {
         ensures { IsTrue result ↔ IsTooLong self times }
     {
         match (self.busy, times.serve_ms) {
-            (None, _) => self.still >= times.between,
-            (Some(_), None) => self.still >= times.progress,
-            (Some(busy), Some(most)) => self.still >= times.progress || busy >= most,
+            (None, _) => self.still >= times.between_requests,
+            (Some(_), None) => self.still >= times.without_progress,
+            (Some(busy), Some(most)) => self.still >= times.without_progress || busy >= most,
         }
     }
 }

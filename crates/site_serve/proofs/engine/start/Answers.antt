@@ -1,2 +1,0 @@
-use Rattle.std.proofs.Common.{inl, inr, ⊎_elim}
-use Rattle.site_serve.proofs.engine.start.Goals as goal
