@@ -44,11 +44,11 @@ pub struct Line {
     state: LineState,
 }
 
-/// Whether the call only came too early.
+/// Whether the call only came too early: it can be made again.
 fn is_early(e: &io::Error) -> bool {
     matches!(
         e.kind(),
-        ErrorKind::WouldBlock | ErrorKind::TimedOut | ErrorKind::Interrupted
+        ErrorKind::WouldBlock | ErrorKind::Interrupted
     )
 }
 
