@@ -1,5 +1,6 @@
 //! Requests served from a service in memory, as tables: each path with each method, submissions with each outcome, refusals; responses cut in
-//! every way, over readers and writers that fail; several requests on a connection; a connection with one growth refused.
+//! every way, over readers and writers that fail; several requests on a connection, and on one in many steps; a connection with one growth
+//! refused.
 #![tactic(auto)]
 
 #[cfg(test)]
@@ -13,6 +14,8 @@ mod desk;
 #[cfg(test)]
 mod ends;
 #[cfg(test)]
+mod lines;
+#[cfg(test)]
 mod paths;
 #[cfg(test)]
 mod refusals;
@@ -22,5 +25,7 @@ mod rows;
 mod several;
 #[cfg(test)]
 mod speed;
+#[cfg(test)]
+mod steps;
 #[cfg(test)]
 mod submissions;
