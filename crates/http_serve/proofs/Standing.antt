@@ -3,9 +3,9 @@ use Rattle.std.proofs.Common.{◌≡◌, ◌≢◌, ℕ, zero, suc, ◌+◌, Boo
 use Rattle.std.specs.Prelude.{⊤}
 use Rattle.http_read.specs.Requests.{Asked, Heard, asks, refuses, stops, ends}
 use Rattle.http_read.proofs.Longer.{stands}
-use Rattle.http_serve.specs.Connections.{IsExchange, HasServed}
+use Rattle.http_serve.specs.Connections.{IsExchange, IsLast, HasServed, IsServed}
 use Rattle.http_serve.specs.Services.{Offered}
-use Rattle.http_serve.specs.Talks.{Exchange, AreExchanges, IsAlone, TalksStand, OneMore, AloneIsServed, FarewellStands}
+use Rattle.http_serve.specs.Talks.{Exchange, AreExchanges, IsWholeTalk, IsAlone, TalksStand, OneMore, AloneIsServed, FarewellStands}
 
 -- an answer to a request, or a refusal, is neither that the input ended within one nor before one
 abbrev Goes : Heard → Type 0
@@ -92,10 +92,30 @@ goes_on {S} service k now mid after came between left earlier later (x ∷ xs) s
     (append_assoc earlier x.text rest ∙ ap (λ t. earlier ++ t) (sym is))
     (subst (λ n. HasServed service n now came after left ((earlier ++ x.text) ++ rest)) (one_longer S x xs k) all)
 
-pub alone_is_served : {S : Type 0} (service : Offered S) → AloneIsServed service
-alone_is_served service now after came left text xs are no_others =
+so_far : {S : Type 0} (service : Offered S) (now after : S) (came left text : List ℕ) (xs : List (Exchange S))
+    → AreExchanges service zero came left text xs → IsAlone now xs after → HasServed service (length xs) now came after left text
+so_far service now after came left text xs are no_others =
     subst (λ n. HasServed service n now came after left text) (omega arith)
     (goes_on service zero now now after came came left [] text xs (refl, refl, refl) are no_others)
+
+whole : {S : Type 0} (service : Offered S) (now : S) (came text : List ℕ) (w : IsWholeTalk service came text)
+    → IsAlone now w.talk.exchanges w.now → IsServed service now came w.after text
+whole service now came text w no_others = (
+  length w.talk.exchanges,
+  w.now,
+  w.left,
+  w.earlier,
+  w.response,
+  so_far service now w.now came w.left w.earlier w.talk.exchanges w.talk.are no_others,
+  subst (λ n. IsLast service (suc n) w.now w.left w.after w.response) w.talk.counted w.last,
+  w.spelled,
+)
+
+pub alone_is_served : {S : Type 0} (service : Offered S) → AloneIsServed service
+alone_is_served service = record {
+  so_far = λ now after came left text xs are no_others. so_far service now after came left text xs are no_others;
+  whole = λ now came text w no_others. whole service now came text w no_others;
+}
 
 -- ---- one exchange more
 

@@ -6,7 +6,7 @@ use Rattle.http_read.specs.Progress.{Resumes}
 use Rattle.http_serve.specs.declared.line.Line.{Line}
 use Rattle.http_serve.specs.Connections.{IsExchange}
 use Rattle.http_serve.specs.Exchanges.{Responds}
-use Rattle.http_serve.specs.Lines.{IsNew, Answers, Waits}
+use Rattle.http_serve.specs.Lines.{IsNew, IsAnswered, Waits}
 use Rattle.http_serve.specs.LineTalks.{HasTalked, HasClosed, AreTalks}
 use Rattle.http_serve.specs.Services.{Offered}
 use Rattle.http_serve.specs.Talks.{IsOpenTalk, IsWholeTalk}
@@ -70,7 +70,7 @@ is_last service now after came said left response behind count false talk last s
 }
 
 answered : {S : Type 0} (service : Offered S) (old new : Line) (now after : S) (came said : List ℕ) → length old.outbox ≡ 0 → HasTalked service old came said
-    → (a : Answers service now after old new)
+    → (a : IsAnswered service now after old new)
     → (a.stays ≡ true → HasTalked service new came said) × (a.stays ≡ false → HasClosed service new came said)
 answered service old new now after came said none (left, (used, resumes, is), talk) a =
     let all : IsOpenTalk service came left said old.answered = subst (λ t. IsOpenTalk service came left t old.answered) (behind_all said old.outbox none) talk in

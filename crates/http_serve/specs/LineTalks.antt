@@ -1,7 +1,7 @@
 -- What passed on a connection: all that came on it, and all that was written.
 use Rattle.std.specs.Prelude.{◌≡◌, ℕ, true, false, List, [], ◌++◌, length}
 use Rattle.http_serve.specs.declared.line.Line.{Line}
-use Rattle.http_serve.specs.Lines.{HasLeft, IsNew, Answers, Waits}
+use Rattle.http_serve.specs.Lines.{HasLeft, IsNew, IsAnswered, Waits}
 use Rattle.http_serve.specs.Services.{Offered}
 use Rattle.http_serve.specs.Talks.{IsOpenTalk, IsWholeTalk}
 
@@ -22,7 +22,7 @@ pub record AreTalks {S : Type 0} (service : Offered S) : Type 0 where
       → HasTalked service (record line { inbox = line.inbox ++ more }) (came ++ more) said
   -- one response more was made
   pub answered : (old new : Line) (now after : S) (came said : List ℕ) → length old.outbox ≡ 0 → HasTalked service old came said
-      → (a : Answers service now after old new)
+      → (a : IsAnswered service now after old new)
       → (a.stays ≡ true → HasTalked service new came said) × (a.stays ≡ false → HasClosed service new came said)
   -- no whole request was there
   pub waited : (old new : Line) (came said : List ℕ) → HasTalked service old came said → Waits old new → HasTalked service new came said

@@ -90,7 +90,7 @@ abbrev pub with_response : Line → Message → Line
 with_response line m = record line { outbox = m.bytes.items; answered = suc line.answered; state = if m.stays then line.state else Closing }
 
 -- a response to the request at the front of what is left: it waits now, and what follows the request is left
-pub record Answers {S : Type 0} (service : Offered S) (now after : S) (old new : Line) : Type 0 where
+pub record IsAnswered {S : Type 0} (service : Offered S) (now after : S) (old new : Line) : Type 0 where
   pub stays : Bool
   pub response : (used : List ℕ) → Resumes old.progress used
       → Responds service (suc old.answered) now (used ++ old.inbox) (Some new.inbox) after stays new.outbox

@@ -1,6 +1,6 @@
 -- What passes on a connection whose bytes come and go in many steps, between which other things happen to the service.
 use Rattle.std.specs.Prelude.{◌≡◌, ℕ, zero, suc, true, List, [], ◌∷◌, ◌++◌, length}
-use Rattle.http_serve.specs.Connections.{IsExchange, IsLast, HasServed}
+use Rattle.http_serve.specs.Connections.{IsExchange, IsLast, HasServed, IsServed}
 use Rattle.http_serve.specs.Services.{Offered}
 
 -- an exchange, with the states of the service of its own moment, and its response
@@ -53,11 +53,14 @@ OneMore {S} service =
     (came left behind text response : List ℕ) (count : ℕ) (now after : S) → IsOpenTalk service came left text count
     → IsExchange service (suc count) now left behind after true response → IsOpenTalk service came behind (text ++ response) (suc count)
 
--- exchanges with nothing between them are those of a connection that is served alone
-abbrev pub AloneIsServed : {S : Type 0} → Offered S → Type 0
-AloneIsServed {S} service =
-    (now after : S) (came left text : List ℕ) (xs : List (Exchange S)) → AreExchanges service zero came left text xs → IsAlone now xs after
-    → HasServed service (length xs) now came after left text
+-- Exchanges with nothing between them are those of a connection that is served alone.
+pub record AloneIsServed {S : Type 0} (service : Offered S) : Type 0 where
+  -- as far as it came
+  pub so_far : (now after : S) (came left text : List ℕ) (xs : List (Exchange S)) → AreExchanges service zero came left text xs → IsAlone now xs after
+      → HasServed service (length xs) now came after left text
+  -- up to its last response
+  pub whole : (now : S) (came text : List ℕ) (w : IsWholeTalk service came text) → IsAlone now w.talk.exchanges w.now
+      → IsServed service now came w.after text
 
 -- a last response stays the last one, whatever more comes
 abbrev pub FarewellStands : {S : Type 0} → Offered S → Type 0

@@ -2,7 +2,7 @@
 ghost use Rattle.std.specs.Prelude.{◌≡◌, ◌⊎◌, ◌<◌, ℕ, List, length, true, false, IfOk, OnErr, IsTrue, IsFalse, ◌↔◌};
 ghost use Rattle.http_read.specs.Bytes.{end_of};
 ghost use Rattle.http_serve.specs.declared.messages.TheConstants.{REQUESTS};
-ghost use Rattle.http_serve.specs.Lines.{owed, is_going, IsNew, MayHear, MayAnswer, IsIdle, IsOver, failed_line, with_response, waiting, Hears, Tells, Answers, Waits, GivesUp, answered as answered_of};
+ghost use Rattle.http_serve.specs.Lines.{owed, is_going, IsNew, MayHear, MayAnswer, IsIdle, IsOver, failed_line, with_response, waiting, Hears, Tells, IsAnswered, Waits, GivesUp, answered as answered_of};
 ghost use Rattle.http_serve.specs.Services.{MaySubmit};
 
 use crate::heard::{Heard, Told};
@@ -44,12 +44,9 @@ pub struct Line {
     state: LineState,
 }
 
-/// Whether the call only came too early.
+/// Whether the call only came too early: it can be made again.
 fn is_early(e: &io::Error) -> bool {
-    matches!(
-        e.kind(),
-        ErrorKind::WouldBlock | ErrorKind::TimedOut | ErrorKind::Interrupted
-    )
+    matches!(e.kind(), ErrorKind::WouldBlock | ErrorKind::Interrupted)
 }
 
 impl LineState {
@@ -122,7 +119,7 @@ impl Line {
         service: &mut S,
         spans: &mut Vec<HeaderSpan>,
     ) -> Result<bool, AllocError>
-        ensures answered { IfOk result (λ did. did ≡ true → MayAnswer self.old × Answers S.offered service.old service.new self.old self.new) }
+        ensures answered { IfOk result (λ did. did ≡ true → MayAnswer self.old × IsAnswered S.offered service.old service.new self.old self.new) }
         ensures idle { IfOk result (λ did. did ≡ false → (service.new ≡ service.old)
             × ((¬ (MayAnswer self.old) × (self.new ≡ self.old)) ⊎ (MayAnswer self.old × Waits self.old self.new))) }
         ensures refused { OnErr result (MayAnswer self.old × GivesUp S.offered service.old service.new self.old self.new) }

@@ -1,5 +1,6 @@
 //! Requests served from a service in memory, as tables: each path with each method, submissions with each outcome, refusals; responses cut in
-//! every way, over readers and writers that fail; several requests on a connection; a connection with one growth refused.
+//! every way, over readers and writers that fail; several requests on a connection, and on one in many steps; a connection with one growth
+//! refused.
 #![tactic(auto)]
 
 #[cfg(test)]
@@ -14,6 +15,7 @@ mod desk;
 mod ends;
 #[cfg(test)]
 mod pacing;
+mod lines;
 #[cfg(test)]
 mod paths;
 #[cfg(test)]
@@ -24,5 +26,7 @@ mod rows;
 mod several;
 #[cfg(test)]
 mod speed;
+#[cfg(test)]
+mod steps;
 #[cfg(test)]
 mod submissions;

@@ -2,6 +2,7 @@
 //! nothing taken where memory was refused, and then another one with the same request is answered as ever.
 use crate::desk::{Desk, open_desk};
 use crate::ends::{Connection, served, whole};
+use crate::steps::{AMPLE, Run, led};
 use http_serve::ServeFault;
 use std::alloc::Global;
 use std::process::Abort;
@@ -100,5 +101,47 @@ fn connections(rt: HostRuntime) {
 fn two_requests(rt: HostRuntime) {
     let mut desk = open_desk(rt.alloc(), "Hi\n", 1);
     tried_again(&rt, rt.alloc(), &mut desk, TWO);
+    assert_eq!(rt; desk.values.len(), 1);
+}
+
+/// Whether memory was refused to a connection in steps, before anything was taken and but for that response written, and it is over; or the
+/// writer's own growth was.
+fn is_ended(rt: &impl Abort, desk: &Desk<'_>, run: &Run, first: &[u8]) -> bool {
+    assert!(rt; run.is_over);
+    if run.result.is_err() {
+        let written = run.written.as_slice();
+        assert!(rt; written.is_empty() || written == first);
+        assert!(rt; desk.values.is_empty());
+        return true;
+    }
+    run.is_broken
+}
+
+/// Whether a connection in steps was answered as ever. Else memory was refused.
+fn answers_in_steps(rt: &impl Abort, alloc: Global, desk: &mut Desk<'_>, row: Row) -> bool {
+    let (sent, first, last) = row;
+    let run = led(alloc, desk, whole(sent.as_bytes()), AMPLE);
+    if is_ended(rt, desk, &run, first.as_bytes()) {
+        return false;
+    }
+    let written = run.written.as_slice();
+    assert!(rt; written.starts_with(first.as_bytes()), "{sent}");
+    assert!(rt; written.ends_with(last.as_bytes()), "{sent}");
+    true
+}
+
+/// A connection is answered, or else the next one.
+fn led_again(rt: &impl Abort, alloc: Global, desk: &mut Desk<'_>, row: Row) {
+    assert!(rt; answers_in_steps(rt, alloc, desk, row) || answers_in_steps(rt, alloc, desk, row));
+}
+
+#[test]
+fn lines(rt: HostRuntime) {
+    let mut desk = open_desk(rt.alloc(), "Hi\n", 1);
+    for &row in ROWS {
+        led_again(&rt, rt.alloc(), &mut desk, row);
+    }
+    assert!(rt; desk.values.is_empty());
+    led_again(&rt, rt.alloc(), &mut desk, TWO);
     assert_eq!(rt; desk.values.len(), 1);
 }

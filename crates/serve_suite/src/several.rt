@@ -6,23 +6,23 @@ use http_serve::{Next, ServeFault, exchange};
 use std::alloc::{AllocError, Global};
 use std::process::Abort;
 
-const GET: &str = "GET /h HTTP/1.1\r\nHost: a\r\n\r\n";
+pub(crate) const GET: &str = "GET /h HTTP/1.1\r\nHost: a\r\n\r\n";
 
 /// A request, and a last one.
-const BOTH: &[u8] =
+pub(crate) const BOTH: &[u8] =
     b"GET /h HTTP/1.1\r\nHost: a\r\n\r\nGET /old HTTP/1.1\r\nHost: a\r\nConnection: close\r\n\r\n";
 
-const PAGE: &str =
+pub(crate) const PAGE: &str =
     "HTTP/1.1 200 OK\r\nContent-Type: text/html; charset=utf-8\r\nContent-Length: 3\r\n\r\nHi\n";
 
-const LAST_PAGE: &str =
+pub(crate) const LAST_PAGE: &str =
     "HTTP/1.1 200 OK\r\nContent-Type: text/html; charset=utf-8\r\nContent-Length: 3\r\nConnection: close\r\n\r\nHi\n";
 
 /// The page, and one that moved.
-const BOTH_PAGES: &[u8] =
+pub(crate) const BOTH_PAGES: &[u8] =
     b"HTTP/1.1 200 OK\r\nContent-Type: text/html; charset=utf-8\r\nContent-Length: 3\r\n\r\nHi\nHTTP/1.1 301 Moved Permanently\r\nContent-Type: text/plain; charset=utf-8\r\nLocation: /h\r\nContent-Length: 12\r\nConnection: close\r\n\r\nmoved to /h\n";
 
-const BAD: &str =
+pub(crate) const BAD: &str =
     "HTTP/1.1 400 Bad Request\r\nContent-Type: text/plain; charset=utf-8\r\nContent-Length: 12\r\nConnection: close\r\n\r\nbad request\n";
 
 /// Two submissions, each with a ticket of its own.
@@ -144,7 +144,7 @@ fn where_it_ends(rt: HostRuntime) {
     assert!(rt; desk.values.is_empty());
 }
 
-fn repeated(alloc: Global, text: &str, count: usize) -> Result<String, AllocError> {
+pub(crate) fn repeated(alloc: Global, text: &str, count: usize) -> Result<String, AllocError> {
     let mut all = String::new(alloc);
     for _ in 0..count {
         all.push_str(text)?;
@@ -153,7 +153,7 @@ fn repeated(alloc: Global, text: &str, count: usize) -> Result<String, AllocErro
 }
 
 /// What is written for so many requests: the hundredth response is the last.
-fn pages(alloc: Global, count: usize) -> Result<String, AllocError> {
+pub(crate) fn pages(alloc: Global, count: usize) -> Result<String, AllocError> {
     let mut pages = repeated(alloc, PAGE, count.min(99))?;
     if count >= 100 {
         pages.push_str(LAST_PAGE)?;
