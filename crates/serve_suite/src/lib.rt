@@ -26,3 +26,5 @@ mod several;
 mod speed;
 #[cfg(test)]
 mod submissions;
+#[cfg(test)]
+mod written_clock;

@@ -124,7 +124,7 @@ fn fresh(alloc: Global, cluster: Cluster, me: NodeId) -> Option<Box<Node<MemDisk
     }
 }
 
-fn paced(rt: &impl Abort, alloc: Global) -> Paced {
+fn begun(rt: &impl Abort, alloc: Global) -> Paced {
     let cluster = Cluster::new(3).expect(rt, "a cluster");
     let me = cluster.node(1).expect(rt, "a node");
     Paced {
@@ -147,15 +147,15 @@ impl Paced {
         assert_eq!(rt; self.node.submit(&value), Ok(Submitted::Queued));
     }
 
-    /// One batch of these datagrams and that call, and what it delivered is heard.
-    fn batch(&mut self, rt: &impl Abort, heard: &[&[u8]], last: LastCall) {
+    /// These datagrams and then that call; and what was delivered is heard.
+    fn drive(&mut self, rt: &impl Abort, heard: &[&[u8]], last: LastCall) {
         let mut turns = 0;
         for datagram in heard {
             self.link.push(datagram).expect(rt, "a place");
             turns += 1;
         }
-        let batched = self.desk.drive_batch(&mut self.node, &mut self.link, turns, last);
-        assert!(rt; batched.is_ok());
+        let driven = self.desk.drive_with(&mut self.node, &mut self.link, turns, last);
+        assert!(rt; driven.is_ok());
         self.pace.hear(self.node.cluster(), &self.desk.delivered());
     }
 
@@ -165,12 +165,12 @@ impl Paced {
         }
         let last = self.pace.due(now, &self.node, drained);
         assert_eq!(rt; called(last), call, "{now}");
-        self.batch(rt, heard, last);
+        self.drive(rt, heard, last);
     }
 }
 
 fn run(rt: &impl Abort, alloc: Global, steps: &[Step]) {
-    let mut paced = paced(rt, alloc);
+    let mut paced = begun(rt, alloc);
     for step in steps {
         paced.take(rt, step);
     }
