@@ -100,7 +100,7 @@ struct Paced {
     pace: Pace,
 }
 
-fn called(last: LastCall) -> Call {
+fn called(last: &LastCall) -> Call {
     match last {
         LastCall::Widen => Call::Widen,
         LastCall::TickOrAsk => Call::Tick,
@@ -154,7 +154,9 @@ impl Paced {
             self.link.push(datagram).expect(rt, "a place");
             turns += 1;
         }
-        let driven = self.desk.drive_with(&mut self.node, &mut self.link, turns, last);
+        let driven = self
+            .desk
+            .drive_with(&mut self.node, &mut self.link, turns, last);
         assert!(rt; driven.is_ok());
         self.pace.hear(self.node.cluster(), &self.desk.delivered());
     }
@@ -164,7 +166,7 @@ impl Paced {
             self.submit(rt);
         }
         let last = self.pace.due(now, &self.node, drained);
-        assert_eq!(rt; called(last), call, "{now}");
+        assert_eq!(rt; called(&last), call, "{now}");
         self.drive(rt, heard, last);
     }
 }

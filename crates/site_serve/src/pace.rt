@@ -16,9 +16,9 @@ use crate::resting::Resting;
 use crate::seen::Seen;
 use crate::ticking::Ticking;
 use crate::times::Times;
-use site_drive::{Delivered, LastCall};
 use node::Node;
 use site_disk::Disk;
+use site_drive::{Delivered, LastCall};
 use site_ids::{Cluster, Instance, NodeId};
 
 /// What was tried, asked, heard and told, and when.

@@ -1,16 +1,16 @@
 //! Questions that were heard, and whom to tell what.
 
-ghost use Rattle.std.specs.Prelude.{◌≡◌, ◌↔◌, ◌-◌, ◌&&◌, ℕ, not, get_or, set, MatchOption, IfSome, IfNone, IsTrue, if◌then◌else◌};
+ghost use Rattle.std.specs.Prelude.{◌≡◌, ◌↔◌, ◌⊎◌, ◌-◌, ◌&&◌, ℕ, true, not, get_or, set, MatchOption, IsSome, IfSome, IfNone, IsTrue, if◌then◌else◌};
 ghost use Rattle.node.specs.Nodes.{Node as AbstractNode};
 ghost use Rattle.node.specs.Standing.{IsNodeOf};
 ghost use Rattle.site_ids.specs.Ids.{IsInstance, IsNode};
 ghost use Rattle.site_serve.specs.Pacing.{no_questions, passed, told_from, IsFirstAsked, IsFull, IsToldOf, Tells};
 
-use site_drive::Delivered;
 use crate::asking::Telling;
 use crate::times::{Times, has_passed};
 use node::{MAX_TOLD, Node};
 use site_disk::Disk;
+use site_drive::Delivered;
 use site_ids::{Cluster, Instance, MAX_NODES, NodeId};
 
 /// For each node the instance that it asked for and was not told of yet, and when it was told less than it may be at once.
@@ -94,7 +94,9 @@ impl Questions {
         known: u32,
         calm: bool,
     ) -> Option<(NodeId, Instance)>
-        ensures { IfSome result (λ x. IsToldOf self.old.asked known x.0 x.1) }
+        ensures told { IfSome result (λ x. IsToldOf self.old.asked known x.0 x.1) }
+        ensures due { (p i : ℕ) → IsNode node.now.cluster p → IsFirstAsked self.old.asked p i → IsInstance (told_from known i) → (s : AbstractNode) → IsNodeOf node.now s →
+            IsSome result ↔ (IsFull s known (told_from known i) ⊎ ((calm ≡ true) × (passed (get_or self.old.told (p - 1) None) now times.telling ≡ true))) }
     {
         let (to, asked) = self.take_first(node.cluster())?;
         let first = first_told(known, asked)?;
