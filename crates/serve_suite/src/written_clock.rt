@@ -149,11 +149,10 @@ impl Paced {
 
     /// These datagrams and then that call; and what was delivered is heard.
     fn drive(&mut self, rt: &impl Abort, heard: &[&[u8]], last: LastCall) {
-        let mut turns = 0;
         for datagram in heard {
             self.link.push(datagram).expect(rt, "a place");
-            turns += 1;
         }
+        let turns = u32::try_from(heard.len()).expect(rt, "few datagrams");
         let driven = self
             .desk
             .drive_with(&mut self.node, &mut self.link, turns, last);
