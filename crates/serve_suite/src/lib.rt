@@ -30,3 +30,5 @@ mod speed;
 mod steps;
 #[cfg(test)]
 mod submissions;
+#[cfg(test)]
+mod written_clock;

@@ -100,7 +100,7 @@ struct Paced {
     pace: Pace,
 }
 
-fn called(last: LastCall) -> Call {
+fn called(last: &LastCall) -> Call {
     match last {
         LastCall::Widen => Call::Widen,
         LastCall::TickOrAsk => Call::Tick,
@@ -124,7 +124,7 @@ fn fresh(alloc: Global, cluster: Cluster, me: NodeId) -> Option<Box<Node<MemDisk
     }
 }
 
-fn paced(rt: &impl Abort, alloc: Global) -> Paced {
+fn begun(rt: &impl Abort, alloc: Global) -> Paced {
     let cluster = Cluster::new(3).expect(rt, "a cluster");
     let me = cluster.node(1).expect(rt, "a node");
     Paced {
@@ -147,15 +147,16 @@ impl Paced {
         assert_eq!(rt; self.node.submit(&value), Ok(Submitted::Queued));
     }
 
-    /// One batch of these datagrams and that call, and what it delivered is heard.
-    fn batch(&mut self, rt: &impl Abort, heard: &[&[u8]], last: LastCall) {
-        let mut turns = 0;
+    /// These datagrams and then that call; and what was delivered is heard.
+    fn drive(&mut self, rt: &impl Abort, heard: &[&[u8]], last: LastCall) {
         for datagram in heard {
             self.link.push(datagram).expect(rt, "a place");
-            turns += 1;
         }
-        let batched = self.desk.drive_batch(&mut self.node, &mut self.link, turns, last);
-        assert!(rt; batched.is_ok());
+        let turns = u32::try_from(heard.len()).expect(rt, "few datagrams");
+        let driven = self
+            .desk
+            .drive_with(&mut self.node, &mut self.link, turns, last);
+        assert!(rt; driven.is_ok());
         self.pace.hear(self.node.cluster(), &self.desk.delivered());
     }
 
@@ -164,13 +165,13 @@ impl Paced {
             self.submit(rt);
         }
         let last = self.pace.due(now, &self.node, drained);
-        assert_eq!(rt; called(last), call, "{now}");
-        self.batch(rt, heard, last);
+        assert_eq!(rt; called(&last), call, "{now}");
+        self.drive(rt, heard, last);
     }
 }
 
 fn run(rt: &impl Abort, alloc: Global, steps: &[Step]) {
-    let mut paced = paced(rt, alloc);
+    let mut paced = begun(rt, alloc);
     for step in steps {
         paced.take(rt, step);
     }

@@ -6,7 +6,7 @@ ghost use Rattle.node.specs.Standing.{IsNodeOf};
 ghost use Rattle.site_serve.specs.declared.due.Due.{Due};
 ghost use Rattle.site_serve.specs.declared.seen.Seen.{Seen};
 ghost use Rattle.site_drive.specs.declared.last_call.LastCall.TheVariants.{Ask, TickOrAsk};
-ghost use Rattle.site_serve.specs.Pacing.{empty_after, first_pace, heard, pace_after, question_after, rest_after, resting_of, ticking_after, IsDue, IsFresh, IsSeen};
+ghost use Rattle.site_serve.specs.Pacing.{empty_after, first_pace, heard, pace_after, question_after, rest_after, resting_of, ticking_after, IsDue, IsFresh, IsSeen, IsToldOf};
 ghost use Rattle.site_serve.specs.Turns.{call_behind};
 
 use crate::due::Due;
@@ -16,9 +16,9 @@ use crate::resting::Resting;
 use crate::seen::Seen;
 use crate::ticking::Ticking;
 use crate::times::Times;
-use site_drive::{Delivered, LastCall};
 use node::Node;
 use site_disk::Disk;
+use site_drive::{Delivered, LastCall};
 use site_ids::{Cluster, Instance, NodeId};
 
 /// What was tried, asked, heard and told, and when.
@@ -75,11 +75,11 @@ impl Pace {
     /// counts from now on.
     pub fn due<D: Disk>(&mut self, now: u64, node: &Node<D>, drained: bool) -> LastCall
         ensures fresh { (s : AbstractNode) → IsNodeOf node.now s → WantsTick s → self.old.ticking.since ≡ None → self.old.stirred ≡ false → result ≡ TickOrAsk }
-        ensures due { (s : AbstractNode) → IsNodeOf node.now s → (seen : Seen) × (telling : Option (ℕ × ℕ)) × (due : Due) × IsSeen s drained seen × IsDue self.old now seen telling due × (result ≡ call_behind due)
+        ensures due { (s : AbstractNode) → IsNodeOf node.now s → (seen : Seen) × (telling : Option (ℕ × ℕ)) × (due : Due) × IsSeen s drained seen × IfSome telling (λ x. IsToldOf self.old.questions.asked seen.known x.0 x.1) × IsDue self.old now seen telling due × (result ≡ call_behind due)
             × (self.new ≡ record (pace_after self.old now seen due.fresh result) { questions = self.new.questions }) }
     {
         let seen = Seen::of(node, drained);
-        let telling = self.next_telling(now, node, seen.wanted);
+        let telling = self.next_telling(now, node, seen);
         self.call(now, seen, telling)
     }
 
@@ -88,15 +88,17 @@ impl Pace {
         &mut self,
         now: u64,
         node: &Node<D>,
-        wanted: bool,
+        seen: Seen,
     ) -> Option<(NodeId, Instance)>
+        ensures told { IfSome result (λ x. IsToldOf self.old.questions.asked seen.known x.0 x.1) }
         ensures same { self.new ≡ record self.old { questions = self.new.questions } }
-        ensures waits { IsFresh self.old.ticking wanted self.old.stirred → (result ≡ None) × (self.new ≡ self.old) }
+        ensures waits { IsFresh self.old.ticking seen.wanted self.old.stirred → (result ≡ None) × (self.new ≡ self.old) }
     {
-        if self.ticking.is_fresh(wanted, self.stirred) {
+        if self.ticking.is_fresh(seen.wanted, self.stirred) {
             return None;
         }
-        self.questions.next(self.times, now, node, !self.last.tried)
+        let calm = !self.last.tried;
+        self.questions.next(self.times, now, node, seen.known, calm)
     }
 
     /// What is called behind the turns of the next batch, where so much is seen and this telling is due. What is called counts from now on.

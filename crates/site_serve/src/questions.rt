@@ -1,16 +1,16 @@
 //! Questions that were heard, and whom to tell what.
 
-ghost use Rattle.std.specs.Prelude.{◌≡◌, ◌↔◌, ◌-◌, ◌&&◌, ℕ, List, length, not, get_or, set, MatchOption, IfSome, IfNone, IsTrue, if◌then◌else◌};
-ghost use Rattle.node.specs.Nodes.{Node as AbstractNode, Value as Bytes, IsKnownPrefix};
+ghost use Rattle.std.specs.Prelude.{◌≡◌, ◌↔◌, ◌⊎◌, ◌-◌, ◌&&◌, ℕ, true, not, get_or, set, MatchOption, IsSome, IfSome, IfNone, IsTrue, if◌then◌else◌};
+ghost use Rattle.node.specs.Nodes.{Node as AbstractNode};
 ghost use Rattle.node.specs.Standing.{IsNodeOf};
 ghost use Rattle.site_ids.specs.Ids.{IsInstance, IsNode};
 ghost use Rattle.site_serve.specs.Pacing.{no_questions, passed, told_from, IsFirstAsked, IsFull, IsToldOf, Tells};
 
-use site_drive::Delivered;
 use crate::asking::Telling;
 use crate::times::{Times, has_passed};
 use node::{MAX_TOLD, Node};
 use site_disk::Disk;
+use site_drive::Delivered;
 use site_ids::{Cluster, Instance, MAX_NODES, NodeId};
 
 /// For each node the instance that it asked for and was not told of yet, and when it was told less than it may be at once.
@@ -32,12 +32,12 @@ pub fn first_told(known: u32, asked: Instance) -> Option<Instance>
     }
 }
 
-/// Whether there is something to tell of the last instance of a telling.
-fn is_full<D: Disk>(node: &Node<D>, first: Instance) -> bool
-    ensures { (s : AbstractNode) → IsNodeOf node.now s → (values : List Bytes) × IsKnownPrefix s values × (IsTrue result ↔ IsFull s (length values) first) }
+/// Whether there is something to tell of the last instance of a telling, by a node that knows so many values.
+fn is_full<D: Disk>(node: &Node<D>, known: u32, first: Instance) -> bool
+    ensures { (s : AbstractNode) → IsNodeOf node.now s → IsTrue result ↔ IsFull s known first }
 {
     match Instance::new(first.number() + (MAX_TOLD - 1)) {
-        Some(last) => last.number() <= node.known() || node.slot(last).vote.is_some(),
+        Some(last) => last.number() <= known || node.slot(last).vote.is_some(),
         None => false,
     }
 }
@@ -84,19 +84,23 @@ impl Questions {
         None
     }
 
-    /// Whom to tell, and from which instance on: the first node whose question waits. By that it is forgotten, whether its telling is due or not.
+    /// Whom a node that knows so many values tells, and from which instance on: the first one whose question waits. By that it is forgotten, whether its
+    /// telling is due or not.
     pub(crate) fn next<D: Disk>(
         &mut self,
         times: Times,
         now: u64,
         node: &Node<D>,
+        known: u32,
         calm: bool,
     ) -> Option<(NodeId, Instance)>
-        ensures { (s : AbstractNode) → IsNodeOf node.now s → (values : List Bytes) × IsKnownPrefix s values × IfSome result (λ x. IsToldOf self.old.asked (length values) x.0 x.1) }
+        ensures told { IfSome result (λ x. IsToldOf self.old.asked known x.0 x.1) }
+        ensures due { (p i : ℕ) → IsNode node.now.cluster p → IsFirstAsked self.old.asked p i → IsInstance (told_from known i) → (s : AbstractNode) → IsNodeOf node.now s →
+            IsSome result ↔ (IsFull s known (told_from known i) ⊎ ((calm ≡ true) × (passed (get_or self.old.told (p - 1) None) now times.telling ≡ true))) }
     {
         let (to, asked) = self.take_first(node.cluster())?;
-        let first = first_told(node.known(), asked)?;
-        let full = is_full(node, first);
+        let first = first_told(known, asked)?;
+        let full = is_full(node, known, first);
         self.tells(times, now, to, full, calm)
             .then_some((to, first))
     }

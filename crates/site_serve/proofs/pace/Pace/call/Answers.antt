@@ -1,6 +1,4 @@
-use Rattle.std.proofs.Common.{rules, ◌≡◌, ℕ, Option, Some, None, Bool, true, false, ap, sym, ◌∙◌}
-use Rattle.site_serve.specs.declared.due.Due.{Due}
-use Rattle.site_serve.specs.Pacing.{IsDue, pace_after}
+use Rattle.std.proofs.Common.{rules}
 use Rattle.site_serve.proofs.pace.Pace.call.Goals as goal
 
 -- due is what the calls answered
