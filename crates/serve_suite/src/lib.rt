@@ -14,8 +14,9 @@ mod desk;
 #[cfg(test)]
 mod ends;
 #[cfg(test)]
-mod pacing;
 mod lines;
+#[cfg(test)]
+mod pacing;
 #[cfg(test)]
 mod paths;
 #[cfg(test)]
