@@ -1,6 +1,6 @@
 //! When a server tries again, when it asks and tells, and how long it rests: all of it numbers.
 
-ghost use Rattle.std.specs.Prelude.{◌≡◌, ◌↔◌, ◌<◌, ℕ, Option, IsSome, IfSome, IsTrue, Some, None, true, false, if◌then◌else◌};
+ghost use Rattle.std.specs.Prelude.{◌≡◌, ◌↔◌, ◌<◌, ℕ, Option, IsSome, IfSome, Some, None, true, false, if◌then◌else◌};
 ghost use Rattle.node.specs.Nodes.{Node as AbstractNode, WantsTick};
 ghost use Rattle.node.specs.Standing.{IsNodeOf};
 ghost use Rattle.site_serve.specs.declared.due.Due.{Due};

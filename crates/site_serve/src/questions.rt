@@ -11,7 +11,7 @@ use crate::times::{Times, has_passed};
 use node::{MAX_TOLD, Node};
 use site_disk::Disk;
 use site_drive::Delivered;
-use site_ids::{Cluster, Instance, MAX_NODES, NodeId};
+use site_ids::{Cluster, Instance, NodeId};
 
 /// For each node the instance that it asked for and was not told of yet, and when it was told less than it may be at once.
 #[derive(Clone, Copy, Debug, PartialEq, Eq, Drop)]
@@ -94,6 +94,7 @@ impl Questions {
         known: u32,
         calm: bool,
     ) -> Option<(NodeId, Instance)>
+        ensures forgets { (p i : ℕ) → IsNode node.now.cluster p → IsFirstAsked self.old.asked p i → self.new.asked ≡ set self.old.asked (p - 1) None }
         ensures told { IfSome result (λ x. IsToldOf self.old.asked known x.0 x.1) }
         ensures due { (p i : ℕ) → IsNode node.now.cluster p → IsFirstAsked self.old.asked p i → IsInstance (told_from known i) → (s : AbstractNode) → IsNodeOf node.now s →
             IsSome result ↔ (IsFull s known (told_from known i) ⊎ ((calm ≡ true) × (passed (get_or self.old.told (p - 1) None) now times.telling ≡ true))) }

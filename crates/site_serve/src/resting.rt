@@ -1,6 +1,6 @@
 //! When a server rests.
 
-ghost use Rattle.std.specs.Prelude.{◌≡◌, ◌↔◌, ◌⊎◌, IsTrue, true, false};
+ghost use Rattle.std.specs.Prelude.{◌≡◌, ◌↔◌, IsTrue, false};
 ghost use Rattle.site_serve.specs.Pacing.{empty_after};
 
 /// What a step came to, and how many empty ones lie before it.
