@@ -40,8 +40,8 @@ pub struct Server<D, S> {
 pub struct Stepped {
     /// Datagrams waited for it.
     pub came: bool,
-    /// So many requests were answered.
-    pub answered: u32,
+    /// Requests were answered.
+    pub answered: bool,
 }
 
 impl<D: Disk + Drop, S: Drop> Server<D, S> {
@@ -108,7 +108,7 @@ impl<D: Disk + Drop, S: Drop> Server<D, S> {
     pub fn rest(&mut self, stepped: Stepped, moved: bool) -> Option<u64>
         ensures { self.new.served ≡ self.old.served }
     {
-        let served = moved || stepped.answered > 0;
-        self.pace.rest(stepped.came || !self.mail.is_empty(), served)
+        self.pace
+            .rest(stepped.came || !self.mail.is_empty(), moved || stepped.answered)
     }
 }
