@@ -6,9 +6,9 @@ ghost use Rattle.site_serve.specs.Served.{offered};
 
 use crate::seat::Seat;
 use crate::served::Served;
-use crate::times::Times;
 use httparse::spans::HeaderSpan;
 use site_disk::Disk;
+use site_pace::Times;
 use std::alloc::{AllocError, Global};
 use std::io::{Read, Write};
 

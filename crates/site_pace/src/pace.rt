@@ -3,11 +3,11 @@
 ghost use Rattle.std.specs.Prelude.{◌≡◌, ◌↔◌, ◌<◌, ℕ, Option, IsSome, IfSome, Some, None, true, false, if◌then◌else◌};
 ghost use Rattle.node.specs.Nodes.{Node as AbstractNode, WantsTick};
 ghost use Rattle.node.specs.Standing.{IsNodeOf};
-ghost use Rattle.site_serve.specs.declared.due.Due.{Due};
-ghost use Rattle.site_serve.specs.declared.seen.Seen.{Seen};
+ghost use Rattle.site_pace.specs.declared.due.Due.{Due};
+ghost use Rattle.site_pace.specs.declared.seen.Seen.{Seen};
 ghost use Rattle.site_drive.specs.declared.last_call.LastCall.TheVariants.{Ask, TickOrAsk};
-ghost use Rattle.site_serve.specs.Pacing.{empty_after, first_pace, heard, pace_after, question_after, rest_after, resting_of, ticking_after, IsDue, IsFresh, IsSeen, IsToldOf};
-ghost use Rattle.site_serve.specs.Turns.{call_behind};
+ghost use Rattle.site_pace.specs.Pacing.{empty_after, first_pace, heard, pace_after, question_after, rest_after, resting_of, ticking_after, IsDue, IsFresh, IsSeen, IsToldOf};
+ghost use Rattle.site_pace.specs.Turns.{call_behind};
 
 use crate::due::Due;
 use crate::last_question::LastQuestion;

@@ -4,18 +4,18 @@ use Rattle.site_ids.specs.declared.TheConstants.{MAX_INSTANCE}
 use Rattle.durable.specs.Entries.{last_vote}
 use Rattle.node.specs.Nodes.{Node, Value, IsKnownPrefix, WantsTick}
 use Rattle.node.specs.declared.TheConstants.{MAX_TOLD}
-use Rattle.site_serve.specs.declared.asking.Asking.{Asking}
-use Rattle.site_serve.specs.declared.asking.Telling.{Telling}
-use Rattle.site_serve.specs.declared.due.Due.{Due}
+use Rattle.site_pace.specs.declared.asking.Asking.{Asking}
+use Rattle.site_pace.specs.declared.asking.Telling.{Telling}
+use Rattle.site_pace.specs.declared.due.Due.{Due}
 use Rattle.site_drive.specs.declared.last_call.LastCall.{LastCall}
 use Rattle.site_drive.specs.declared.last_call.LastCall.TheVariants.{Ask, TickOrAsk}
-use Rattle.site_serve.specs.declared.last_question.LastQuestion.{LastQuestion}
-use Rattle.site_serve.specs.declared.pace.Pace.{Pace}
-use Rattle.site_serve.specs.declared.questions.Questions.{Questions}
-use Rattle.site_serve.specs.declared.resting.Resting.{Resting}
-use Rattle.site_serve.specs.declared.seen.Seen.{Seen}
-use Rattle.site_serve.specs.declared.ticking.Ticking.{Ticking}
-use Rattle.site_serve.specs.declared.times.Times.{Times}
+use Rattle.site_pace.specs.declared.last_question.LastQuestion.{LastQuestion}
+use Rattle.site_pace.specs.declared.pace.Pace.{Pace}
+use Rattle.site_pace.specs.declared.questions.Questions.{Questions}
+use Rattle.site_pace.specs.declared.resting.Resting.{Resting}
+use Rattle.site_pace.specs.declared.seen.Seen.{Seen}
+use Rattle.site_pace.specs.declared.ticking.Ticking.{Ticking}
+use Rattle.site_pace.specs.declared.times.Times.{Times}
 
 -- ---- what is waited for
 

@@ -1,7 +1,7 @@
 //! When a server ticks.
 
 ghost use Rattle.std.specs.Prelude.{◌≡◌, ◌↔◌, ◌≤◌, ◌-◌, ◌*◌, ◌+◌, ℕ, IsTrue, Some, None, true, false, min};
-ghost use Rattle.site_serve.specs.Pacing.{noted, ticked};
+ghost use Rattle.site_pace.specs.Pacing.{noted, ticked};
 
 /// Since when a tick is wanted and nothing became known, and how often it ticked since.
 #[derive(Clone, Copy, Debug, PartialEq, Eq, Drop)]

@@ -1,7 +1,7 @@
 use Rattle.std.proofs.Common.{rules, arith, ◌≡◌, ◌↔◌, ◌⊎◌, ◌-◌, ◌<◌, ◌≤◌, ℕ, true, get_or, IsSome, List, Option, None, sym, ◌∙◌, ap, subst}
 use Rattle.std.proofs.lemmas.Option.{none-some, same_Some}
-use Rattle.site_serve.specs.Pacing.{passed, told_from, IsFirstAsked, IsFull}
-use Rattle.site_serve.proofs.questions.Questions.next.Goals as goal
+use Rattle.site_pace.specs.Pacing.{passed, told_from, IsFirstAsked, IsFull}
+use Rattle.site_pace.proofs.questions.Questions.next.Goals as goal
 
 -- the first of the nodes is before no other one
 first_first : (asked : List (Option ℕ)) (p q i j : ℕ) → 1 ≤ p → IsFirstAsked asked p i → IsFirstAsked asked q j → ¬ (p < q)

@@ -4,7 +4,7 @@ ghost use Rattle.std.specs.Prelude.{◌≡◌, ◌↔◌, ◌⊎◌, ◌-◌, �
 ghost use Rattle.node.specs.Nodes.{Node as AbstractNode};
 ghost use Rattle.node.specs.Standing.{IsNodeOf};
 ghost use Rattle.site_ids.specs.Ids.{IsInstance, IsNode};
-ghost use Rattle.site_serve.specs.Pacing.{no_questions, passed, told_from, IsFirstAsked, IsFull, IsToldOf, Tells};
+ghost use Rattle.site_pace.specs.Pacing.{no_questions, passed, told_from, IsFirstAsked, IsFull, IsToldOf, Tells};
 
 use crate::asking::Telling;
 use crate::times::{Times, has_passed};

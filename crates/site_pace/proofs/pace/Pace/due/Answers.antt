@@ -1,6 +1,6 @@
 use Rattle.std.proofs.Common.{rules, subst}
-use Rattle.site_serve.specs.Pacing.{IsDue}
-use Rattle.site_serve.proofs.pace.Pace.due.Goals as goal
+use Rattle.site_pace.specs.Pacing.{IsDue}
+use Rattle.site_pace.proofs.pace.Pace.due.Goals as goal
 
 -- it is what `call` answered; that the questions moved on before changes nothing else
 pub returns-clause-due : goal.returns-clause-due

@@ -1,7 +1,7 @@
 //! When a server rests.
 
 ghost use Rattle.std.specs.Prelude.{◌≡◌, ◌↔◌, IsTrue, false};
-ghost use Rattle.site_serve.specs.Pacing.{empty_after};
+ghost use Rattle.site_pace.specs.Pacing.{empty_after};
 
 /// What a step came to, and how many empty ones lie before it.
 #[derive(Clone, Copy, Debug, PartialEq, Eq, Drop)]

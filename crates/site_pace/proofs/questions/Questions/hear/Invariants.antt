@@ -1,5 +1,5 @@
 use Rattle.std.proofs.Common.{◌≡◌}
-use Rattle.site_serve.proofs.questions.Questions.hear.Given as goal
+use Rattle.site_pace.proofs.questions.Questions.hear.Given as goal
 
 -- when a node was told stays
 abbrev pub invariant-loop-number : goal.invariant-loop-number

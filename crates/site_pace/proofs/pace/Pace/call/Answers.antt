@@ -1,5 +1,5 @@
 use Rattle.std.proofs.Common.{rules}
-use Rattle.site_serve.proofs.pace.Pace.call.Goals as goal
+use Rattle.site_pace.proofs.pace.Pace.call.Goals as goal
 
 -- due is what the calls answered
 pub returns-clause-due : goal.returns-clause-due

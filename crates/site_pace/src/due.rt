@@ -1,7 +1,7 @@
 //! What a server calls behind the turns of a batch.
 
 ghost use Rattle.std.specs.Prelude.{◌≡◌};
-ghost use Rattle.site_serve.specs.Turns.{call_behind};
+ghost use Rattle.site_pace.specs.Turns.{call_behind};
 
 use site_drive::LastCall;
 use site_ids::{Instance, NodeId};

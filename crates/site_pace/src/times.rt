@@ -1,8 +1,8 @@
 //! All times of a server.
 
 ghost use Rattle.std.specs.Prelude.{◌≡◌, ◌↔◌, ℕ, ◌-◌, ◌≤◌, IfSome, IsTrue, Some, None, unwrap_or};
-ghost use Rattle.site_serve.specs.Pacing.{asks_after, passed, patience_of, rest_after};
-ghost use Rattle.site_serve.specs.declared.times.TheConstants.{STANDARD};
+ghost use Rattle.site_pace.specs.Pacing.{asks_after, passed, patience_of, rest_after};
+ghost use Rattle.site_pace.specs.declared.times.TheConstants.{STANDARD};
 
 /// All that a server waits for, in one place.
 #[derive(Clone, Copy, Debug, PartialEq, Eq, Drop)]

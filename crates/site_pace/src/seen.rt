@@ -2,7 +2,7 @@
 
 ghost use Rattle.node.specs.Nodes.{Node as AbstractNode};
 ghost use Rattle.node.specs.Standing.{IsNodeOf};
-ghost use Rattle.site_serve.specs.Pacing.{IsSeen};
+ghost use Rattle.site_pace.specs.Pacing.{IsSeen};
 
 use node::Node;
 use site_disk::Disk;

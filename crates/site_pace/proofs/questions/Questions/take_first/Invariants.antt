@@ -1,5 +1,5 @@
 use Rattle.std.proofs.Common.{◌≡◌, ℕ, ◌<◌, ◌≤◌, ◌-◌, None, get_or}
-use Rattle.site_serve.proofs.questions.Questions.take_first.Given as goal
+use Rattle.site_pace.proofs.questions.Questions.take_first.Given as goal
 
 -- none of the nodes so far has a question that waits
 abbrev pub invariant-loop-number : goal.invariant-loop-number

@@ -2,7 +2,7 @@
 use Rattle.std.specs.Prelude.{ℕ, Option, Some, None, if◌then◌else◌}
 use Rattle.site_drive.specs.declared.last_call.LastCall.{LastCall}
 use Rattle.site_drive.specs.declared.last_call.LastCall.TheVariants.{TickOrAsk, Widen, Ask, Tell}
-use Rattle.site_serve.specs.declared.due.Due.{Due}
+use Rattle.site_pace.specs.declared.due.Due.{Due}
 
 -- a telling goes before what else is called
 abbrev pub telling_or : Option (ℕ × ℕ) → LastCall → LastCall
