@@ -82,12 +82,17 @@ impl Group {
         let mut came = Vec::new(self.alloc);
         for letter in self.servers[from - 1].mail.letters() {
             if reaches(letter.to, to) {
-                let bytes = Vec::from_slice(self.alloc, letter.bytes.as_slice()).expect(rt, "memory");
+                let bytes = Vec::from_slice(self.alloc, letter.bytes.as_slice()).expect(
+                    rt, "memory",
+                );
                 came.push(bytes).expect(rt, "memory");
             }
         }
         for datagram in &came {
-            self.servers[to - 1].mail.push(datagram.as_slice()).expect(rt, "memory");
+            self.servers[to - 1]
+                .mail
+                .push(datagram.as_slice())
+                .expect(rt, "memory");
         }
     }
 
@@ -125,12 +130,25 @@ impl Group {
     }
 
     /// The connections of a server of that number end, and what each client got begins so and ends so.
-    pub(crate) fn got(&mut self, rt: &impl Abort, number: usize, count: usize, front: &[u8], end: &[u8]) {
+    pub(crate) fn got(
+        &mut self,
+        rt: &impl Abort,
+        number: usize,
+        count: usize,
+        front: &[u8],
+        end: &[u8],
+    ) {
         let late = self.now + 60_000;
         for k in 0..count {
-            let client = self.servers[number - 1].seats.leave(late).expect(rt, "a client");
+            let client = self.servers[number - 1]
+                .seats
+                .leave(late)
+                .expect(rt, "a client");
             let got = client.got();
-            assert!(rt; got.starts_with(front) && got.ends_with(end), "client {k} of node {number}");
+            assert!(rt;
+                got.starts_with(front) && got.ends_with(end),
+                "client {k} of node {number}"
+            );
         }
         assert!(rt; self.servers[number - 1].seats.leave(late).is_none());
     }

@@ -19,7 +19,6 @@ const TIMES: Times = Times {
     between_requests: 5000,
     without_progress: 1000,
     serve_ms: None,
-    seats: 64,
 };
 
 #[test]

@@ -3,13 +3,16 @@ use crate::group::Group;
 use std::alloc::Global;
 use std::process::Abort;
 
-const QUEUED: &[u8] = b"HTTP/1.1 202 Accepted\r\nContent-Type: text/plain; charset=utf-8\r\nContent-Length: 7\r\n\r\nqueued\n";
+const QUEUED: &[u8] =
+    b"HTTP/1.1 202 Accepted\r\nContent-Type: text/plain; charset=utf-8\r\nContent-Length: 7\r\n\r\nqueued\n";
 
 const HEAD: &[u8] = b"HTTP/1.1 200 OK\r\n";
 
 /// A release, under a ticket of that editor and number.
 fn post(rt: &impl Abort, alloc: Global, editor: usize, number: usize) -> String {
-    format!(in alloc; "POST /_submit/{editor}/{number} HTTP/1.1\r\nHost: a\r\nContent-Length: 8\r\n\r\nrelease\n").expect(rt, "memory")
+    format!(in alloc;
+        "POST /_submit/{editor}/{number} HTTP/1.1\r\nHost: a\r\nContent-Length: 8\r\n\r\nrelease\n"
+    ).expect(rt, "memory")
 }
 
 /// So many clients at a node, each of which posts a release, in pieces of so many bytes.
@@ -66,7 +69,12 @@ fn a_power_cut_loses_nothing_that_is_known(rt: HostRuntime) {
 fn a_byte_at_a_time_is_one_submission_and_holds_nobody_up(rt: HostRuntime) {
     let mut group = Group::new(&rt, rt.alloc(), 1);
     posts(&rt, &mut group, 1, 2, 1);
-    group.comes(&rt, 1, b"GET /_newest HTTP/1.1\r\nHost: a\r\n\r\n", usize::MAX);
+    group.comes(
+        &rt,
+        1,
+        b"GET /_newest HTTP/1.1\r\nHost: a\r\n\r\n",
+        usize::MAX,
+    );
     // The quick one is answered at once, while the slow ones still send.
     group.goes_on(&rt, 3, 0);
     group.stands(&rt, 1, 0, 0);
@@ -78,7 +86,12 @@ fn a_byte_at_a_time_is_one_submission_and_holds_nobody_up(rt: HostRuntime) {
 #[test]
 fn each_client_gets_its_own_response(rt: HostRuntime) {
     let mut group = Group::new(&rt, rt.alloc(), 1);
-    group.comes(&rt, 1, b"GET /_newest HTTP/1.1\r\nHost: a\r\n\r\n", usize::MAX);
+    group.comes(
+        &rt,
+        1,
+        b"GET /_newest HTTP/1.1\r\nHost: a\r\n\r\n",
+        usize::MAX,
+    );
     group.comes(&rt, 1, post(&rt, rt.alloc(), 1, 1).as_bytes(), usize::MAX);
     group.goes_on(&rt, 2, 0);
     let late = group.now + 60_000;
