@@ -1,10 +1,8 @@
 -- Letters, one more.
-use Rattle.std.proofs.Common.{◌≡◌, ℕ, zero, suc, ◌+◌, ◌<◌, slice_index_or, List, [], ◌∷◌, ◌++◌, length, take, sym, ap, ◌∙◌, arith}
+use Rattle.std.proofs.Common.{◌≡◌, ℕ, suc, ◌+◌, ◌<◌, slice_index_or, List, [], ◌∷◌, ◌++◌, length, take, sym, ap, ◌∙◌, arith}
 use Rattle.std.proofs.lemmas.List.{map-append, take-map}
-use Rattle.site_drive.proofs.Giving.{take_more, take_past}
-use Rattle.site_ids.specs.Lists.{In}
+use Rattle.site_drive.proofs.Giving.{take_more}
 use Rattle.wire.specs.declared.message.Message.{Message}
-use Rattle.wire.specs.Messages.{Fits}
 use Rattle.wire.specs.Spelling.{spelled}
 use Rattle.node.specs.declared.to.To.{To}
 use Rattle.site_drive.specs.Posting.{spelled_of}

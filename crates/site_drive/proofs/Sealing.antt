@@ -1,5 +1,5 @@
 -- A batch that is sealed, or lost.
-use Rattle.std.proofs.Common.{◌≡◌, ◌⊎◌, inl, inr, ⊎_elim, true, false, Bool, if◌then◌else◌, ℕ, Some, None, List, [], ◌++◌, Result, Ok, Err, refl, sym, ap, subst, ◌∙◌, append-nil}
+use Rattle.std.proofs.Common.{◌≡◌, ◌⊎◌, inl, inr, ⊎_elim, true, false, Bool, if◌then◌else◌, ℕ, Some, None, List, [], Result, Err, refl, sym, ap, subst, ◌∙◌, append-nil}
 use Rattle.site_disk.specs.Model.{DiskState, LeavesOnly}
 use Rattle.wire.specs.declared.message.Message.{Message}
 use Rattle.durable.specs.Batches.{KeepsNoneOrAll}

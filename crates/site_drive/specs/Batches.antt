@@ -9,7 +9,7 @@ use Rattle.node.specs.declared.fault.NodeFault.TheVariants as fault
 use Rattle.node.specs.declared.running.Node.{Node as Running}
 use Rattle.node.specs.declared.to.To.{To}
 use Rattle.node.specs.Nodes.{Node, Stopped, IsKnownPrefix}
-use Rattle.node.specs.Standing.{IsNodeOf, IsOnDisk, IsEither, KeepsOthers, StaysOnDisk, CountsDevice, ending_by}
+use Rattle.node.specs.Standing.{IsNodeOf, IsOnDisk, IsEither, StaysOnDisk, CountsDevice, ending_by}
 use Rattle.site_drive.specs.declared.last_call.LastCall.{LastCall}
 use Rattle.site_drive.specs.Drives.{TakesAll, EndsLast, EndsTurns, BreaksOff}
 use Rattle.site_drive.specs.Leading.{AllFit, StaysWhose}

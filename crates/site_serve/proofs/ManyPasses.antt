@@ -5,7 +5,6 @@ use Rattle.site_disk.specs.Model.{DiskState}
 use Rattle.wire.specs.declared.message.Message.{Message}
 use Rattle.http_serve.specs.Services.{MaySubmitMany}
 use Rattle.node.specs.Nodes.{Node, IsKnownPrefix}
-use Rattle.node.specs.Standing.{KeepsOthers}
 use Rattle.node.specs.declared.fault.NodeFault.{NodeFault}
 use Rattle.node.specs.declared.running.Node.{Node as Running}
 use Rattle.node.specs.declared.to.To.{To}
@@ -14,7 +13,7 @@ use Rattle.site_drive.specs.Leading.{AllFit, StaysWhose}
 use Rattle.site_drive.specs.Posting.{spelled_of}
 use Rattle.site_drive.specs.declared.last_call.LastCall.{LastCall}
 use Rattle.site_serve.specs.Halts.{of_node}
-use Rattle.site_serve.specs.Rounds.{MayTakeMany, TakesStep, BreaksStep, AreSteps, last_of, TakesPass, TakesPasses, BreaksPass, BreaksPasses, BreaksWork, Led, IsBatched, LosesStep, LosesPass, LosesPasses}
+use Rattle.site_serve.specs.Rounds.{MayTakeMany, TakesStep, BreaksStep, TakesPass, TakesPasses, BreaksPass, BreaksPasses, BreaksWork, Led, IsBatched, LosesStep, LosesPass, LosesPasses}
 use Rattle.site_serve.specs.Served.{offered}
 use Rattle.site_serve.specs.declared.halt.Halt.{Halt}
 use Rattle.site_serve.specs.declared.halt.Halt.TheVariants as halt

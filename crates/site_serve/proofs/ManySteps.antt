@@ -1,7 +1,6 @@
 -- What requests leave of a node, and steps one after another.
-use Rattle.std.proofs.Common.{◌≡◌, inl, inr, ⊎_elim, ℕ, zero, suc, ◌+◌, Some, None, List, [], ◌∷◌, ◌++◌, length, Result, Ok, Err, refl, sym, ap, subst, append-nil, ◌∙◌, false}
+use Rattle.std.proofs.Common.{◌≡◌, inl, inr, ⊎_elim, ℕ, zero, suc, Some, None, List, [], ◌∷◌, ◌++◌, length, Result, Ok, Err, refl, sym, subst, ◌∙◌, false}
 use Rattle.std.specs.Result.{IfErr}
-use Rattle.std.proofs.lemmas.List.{length-append}
 use Rattle.site_disk.specs.Model.{DiskState}
 use Rattle.command.specs.Written.{value_of}
 use Rattle.http_serve.specs.Services.{Outcome, MaySubmit, MaySubmitMany}

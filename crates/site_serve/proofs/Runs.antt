@@ -1,5 +1,5 @@
 -- What a server's node is led through.
-use Rattle.std.proofs.Common.{◌≡◌, ◌⊎◌, ℕ, List, Result, Ok, Err, OnOk, subst}
+use Rattle.std.proofs.Common.{◌≡◌, ℕ, List, Result, Ok, Err, OnOk, subst}
 use Rattle.site_disk.specs.Model.{DiskState}
 use Rattle.node.specs.Nodes.{Node}
 use Rattle.node.specs.declared.running.Node.{Node as Running}

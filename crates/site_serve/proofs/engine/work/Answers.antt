@@ -1,4 +1,4 @@
-use Rattle.std.proofs.Common.{inl, inr, refl}
+use Rattle.std.proofs.Common.{inl, inr}
 use Rattle.durable.proofs.Results.{on_ok}
 use Rattle.site_drive.proofs.Results.{err_gives}
 use Rattle.site_serve.proofs.Ending.{not_ready, ready_halts, ends_done, passed_on, done_halts}

@@ -1,4 +1,4 @@
-use Rattle.std.proofs.Common.{◌≡◌, ◌++◌, ◌∷◌, [], take, sym, ap, ◌∙◌, append_assoc}
+use Rattle.std.proofs.Common.{◌++◌, ◌∷◌, [], take, ap, ◌∙◌, append_assoc}
 use Rattle.site_drive.specs.Posting.{bytes_of, letters_of}
 use Rattle.site_drive.proofs.Giving.{take_past}
 use Rattle.site_serve.specs.Mailing.{own_of}

@@ -1,4 +1,4 @@
-use Rattle.std.proofs.Common.{◌≡◌, ◌++◌, ◌∷◌, [], take, sym, ap, subst, ◌∙◌, append_assoc, arith}
+use Rattle.std.proofs.Common.{◌++◌, ◌∷◌, [], take, sym, ap, subst, ◌∙◌, append_assoc}
 use Rattle.durable.proofs.Results.{on_err}
 use Rattle.site_ids.specs.Lists.{In}
 use Rattle.wire.specs.Spelling.{spelled}

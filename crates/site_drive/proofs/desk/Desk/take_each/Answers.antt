@@ -1,4 +1,4 @@
-use Rattle.std.proofs.Common.{◌≡◌, ◌≤◌, Some, map, refl, sym, ap, subst, ◌∙◌, arith}
+use Rattle.std.proofs.Common.{Some, refl, sym, subst, ◌∙◌, arith}
 use Rattle.site_drive.specs.Drives.{BreaksOff}
 use Rattle.site_drive.specs.Leading.{NodeLeads, TakesIn}
 use Rattle.site_drive.proofs.Batching.{of_same_node, none_taken, one_more, breaks_off, all_taken}

@@ -1,4 +1,4 @@
-use Rattle.std.proofs.Common.{◌≡◌, Some, take, subst, rules}
+use Rattle.std.proofs.Common.{Some, take, subst}
 use Rattle.site_drive.specs.Drives.{BreaksOff}
 use Rattle.site_drive.specs.Leading.{IsHeldAs, NodeLeads, TakesIn}
 use Rattle.site_drive.proofs.Results.{ok_gives, errs_give}

@@ -1,4 +1,4 @@
-use Rattle.std.proofs.Common.{◌≡◌, inl, ◌∙◌}
+use Rattle.std.proofs.Common.{inl, ◌∙◌}
 use Rattle.site_drive.proofs.ManyTurns.{stays_on}
 use Rattle.site_drive.proofs.Results.{err_gives}
 use Rattle.site_drive.proofs.Sealing.{of_others}

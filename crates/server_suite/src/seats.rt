@@ -1,0 +1,71 @@
+//! Seats: who goes for the 65th client, and how long a connection stays.
+use crate::client::Client;
+use site_pace::Times;
+use site_serve::{Seats, Stay};
+use std::alloc::Global;
+use std::process::Abort;
+
+const GET: &[u8] = b"GET /_newest HTTP/1.1\r\nHost: a\r\n\r\n";
+
+/// Since bytes moved and since the request began, where one did; whether a connection is closed then, without a limit for a request and with one of two
+/// seconds.
+const STAYS: &[(u64, Option<u64>, bool, bool)] = &[
+    (0, None, false, false),
+    (4_999, None, false, false),
+    (5_000, None, true, true),
+    (999, Some(999), false, false),
+    (1_000, Some(1_000), true, true),
+    (999, Some(1_999), false, false),
+    (999, Some(2_000), false, true),
+    (999, Some(60_000), false, true),
+];
+
+#[test]
+fn a_connection_stays_as_long_as_it_moves_and_its_request_may_take(rt: HostRuntime) {
+    for &(still, busy, alone, limited) in STAYS {
+        let stay = Stay { still, busy };
+        assert_eq!(rt; stay.is_too_long(Times::new(None, None)), alone, "{still} {busy:?}");
+        assert_eq!(rt; stay.is_too_long(Times::new(None, Some(2_000))), limited, "{still} {busy:?}");
+    }
+}
+
+fn comes(rt: &impl Abort, alloc: Global, seats: &mut Seats<Client>, sends: &[u8], now: u64) -> bool {
+    let client = Client::new(alloc, sends, usize::MAX).expect(rt, "memory");
+    seats.admit(client, now).expect(rt, "memory").is_none()
+}
+
+/// Sixty-four clients: each comes a millisecond behind the one before it, and the first so many send a request.
+fn full(rt: &impl Abort, alloc: Global, asking: u64) -> Seats<Client> {
+    let mut seats = Seats::new(alloc, Times::new(None, None));
+    for k in 0..64 {
+        assert!(rt; seats.has_room() && seats.make_room().is_none());
+        let sends: &[u8] = if k < asking { GET } else { b"" };
+        assert!(rt; comes(rt, alloc, &mut seats, sends, k));
+    }
+    assert_eq!(rt; seats.len(), 64);
+    seats
+}
+
+#[test]
+fn the_client_that_was_silent_longest_goes_for_another_one(rt: HostRuntime) {
+    let mut seats = full(&rt, rt.alloc(), 2);
+    assert!(rt; !comes(&rt, rt.alloc(), &mut seats, GET, 64));
+    // The first two send now, so the third was silent longest; it has sent nothing.
+    assert!(rt; seats.hear(100).expect(&rt, "memory"));
+    let gone = seats.make_room().expect(&rt, "a client that goes");
+    assert!(rt; gone.is_unheard());
+    assert!(rt; seats.len() == 63 && comes(&rt, rt.alloc(), &mut seats, GET, 101));
+}
+
+#[test]
+fn connections_leave_in_their_time(rt: HostRuntime) {
+    let mut seats = full(&rt, rt.alloc(), 1);
+    assert!(rt; seats.hear(64).expect(&rt, "memory"));
+    assert!(rt; seats.leave(1_063).is_none());
+    // The first one's request is unanswered for a second.
+    assert!(rt; !seats.leave(1_064).expect(&rt, "a client").is_unheard());
+    assert!(rt; seats.leave(5_000).is_none());
+    // The second one came at 1 and sent nothing in five seconds.
+    assert!(rt; seats.leave(5_001).expect(&rt, "a client").is_unheard());
+    assert!(rt; seats.leave(5_001).is_none());
+}
