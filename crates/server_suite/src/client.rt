@@ -21,6 +21,11 @@ impl Client {
         })
     }
 
+    /// Whether nothing that it sends was taken, and it got nothing.
+    pub(crate) fn is_unheard(&self) -> bool {
+        self.sent == 0 && self.got.is_empty()
+    }
+
     /// All that it got.
     pub(crate) fn got(&self) -> &[u8] {
         self.got.as_slice()

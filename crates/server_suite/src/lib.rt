@@ -12,6 +12,10 @@ mod group;
 #[cfg(test)]
 mod pacing;
 #[cfg(test)]
+mod refusals;
+#[cfg(test)]
 mod scripts;
+#[cfg(test)]
+mod seats;
 #[cfg(test)]
 mod written_clock;

@@ -1,0 +1,32 @@
+//! A server with one growth refused, as `tools/refuse-growths` runs this: it comes to what it comes to without refusals, or ends for want of memory; then
+//! another one opens over its disk, and comes to it.
+use crate::client::Client;
+use crate::group::{Boxed, fresh, reopened};
+use site_ids::Cluster;
+use site_serve::Halt;
+use std::alloc::{AllocError, Global};
+use std::process::Abort;
+
+const POST: &[u8] = b"POST /_submit/1/1 HTTP/1.1\r\nHost: a\r\nContent-Length: 8\r\n\r\nrelease\n";
+
+/// A question of node 1 itself, and no message.
+const CAME: &[&[u8]] = &[&[1, 6, 1, 0, 0, 0, 1], &[255]];
+
+/// A server takes a client and two datagrams, and goes on for so many milliseconds.
+fn goes_on(alloc: Global, server: &mut Boxed, millis: u64) -> Result<(), AllocError> {
+    let client = Client::new(alloc, POST, usize::MAX)?;
+    let _ = server.seats.admit(client, 0)?;
+    for &datagram in CAME {
+        server.mail.push(datagram)?;
+    }
+    for now in 0..millis {
+        let _ = server.seats.hear(now)?;
+        match server.step(now) {
+            Ok(_) => {}
+            Err(Halt::OutOfMemory) => return Err(AllocError),
+            Err(_) => unreachable!(),
+        }
+        let _ = server.seats.tell(now);
+    }
+    Ok(())
+}
