@@ -86,7 +86,10 @@ fn is_letter(rt: &impl Abort, alloc: Global, letter: &Letter, to: u8, text: &str
         To::One(node) => node.number(),
     };
     let expected = bytes(rt, alloc, text);
-    assert!(rt; number == to && letter.bytes.as_slice() == expected.as_slice(), "{text} to {to}");
+    assert!(rt;
+        number == to && letter.bytes.as_slice() == expected.as_slice(),
+        "{text} to {to}"
+    );
 }
 
 /// The first so many datagrams are a batch: what is posted for each, in order, and then what the last call hands out.
@@ -128,12 +131,21 @@ fn has_votes(rt: &impl Abort, server: &Server<MemLink>, all: bool) {
 }
 
 /// So many calls of the device are enough for it at a node where a value waits, and so many letters are posted then.
-fn takes(rt: &impl Abort, alloc: Global, heard: &[&str], last: LastCall, calls: u32, posted: usize) {
+fn takes(
+    rt: &impl Abort,
+    alloc: Global,
+    heard: &[&str],
+    last: LastCall,
+    calls: u32,
+    posted: usize,
+) {
     let mut server = server(rt, alloc);
     server.submit(rt, 1, "release\n");
     server.node.arm(calls);
     let came = datagrams(rt, alloc, heard);
-    let (_, letters) = server.batch(came.as_slice(), last).expect(rt, "no call more");
+    let (_, letters) = server
+        .batch(came.as_slice(), last)
+        .expect(rt, "no call more");
     assert_eq!(rt; letters.len(), posted);
 }
 

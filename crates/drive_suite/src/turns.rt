@@ -162,7 +162,11 @@ fn told_behind_a_question(rt: &impl Abort, desk: &mut Desk, server: &mut Server<
         assert_eq!(rt; asked.is_some(), turn == 4 || turn == 7, "turn {turn}");
         assert!(rt; delivered.question_of(me).is_none());
         assert_eq!(rt; delivered.attempts(), u32::from(turn < 4), "turn {turn}");
-        assert_eq!(rt; delivered.stirs(), u32::from(turn < 7 && turn != 4), "turn {turn}");
+        assert_eq!(rt;
+            delivered.stirs(),
+            u32::from(turn < 7 && turn != 4),
+            "turn {turn}"
+        );
         let Some(first) = asked else {
             continue;
         };

@@ -10,7 +10,7 @@ use Rattle.site_serve.specs.declared.halt.Halt.{Halt}
 use Rattle.site_serve.specs.declared.halt.Halt.TheVariants.{Stopped, OutOfMemory}
 use Rattle.site_serve.specs.declared.served.Served.{Served}
 use Rattle.site_serve.specs.Halts.{of_node, CountsNone}
-use Rattle.site_serve.specs.Served.{offered, MayAnswer}
+use Rattle.site_serve.specs.Served.{offered}
 
 one_fault : {T : Type 0} (x y : NodeFault) → ◌≡◌ {A = Result T NodeFault} (Err x) (Err y) → x ≡ y
 one_fault x y e = cc
@@ -46,10 +46,6 @@ request_kept failed old new may =
     (λ more. store_kept failed old.node.store new.node.store more.3.taken.record_is)
     may
 
-requests_kept : {D : Type 0} (failed : D → ℕ) (n : ℕ) (old new : Served D) → MaySubmitMany offered n old new → failed new.node.store.disk ≡ failed old.node.store.disk
+pub requests_kept : {D : Type 0} (failed : D → ℕ) (n : ℕ) (old new : Served D) → MaySubmitMany offered n old new → failed new.node.store.disk ≡ failed old.node.store.disk
 requests_kept failed zero old new same = ap (λ (s : Served _). failed s.node.store.disk) same
 requests_kept failed (suc n) old new (mid, earlier, one) = request_kept failed mid new one ∙ requests_kept failed n old mid earlier
-
--- so does a connection
-pub served_kept : {D : Type 0} (failed : D → ℕ) (old new : Served D) → MayAnswer old new → failed new.node.store.disk ≡ failed old.node.store.disk
-served_kept failed old new (requests, few, taken) = requests_kept failed requests old new taken

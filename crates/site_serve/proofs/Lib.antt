@@ -5,3 +5,4 @@ pub mod ManyPasses
 pub mod Ending
 pub mod Runs
 pub mod Failing
+pub mod Owning

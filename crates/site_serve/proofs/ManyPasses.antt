@@ -57,7 +57,7 @@ module _ {D : Type 0} (stands_for : D → DiskState → Type 0) where
         sealed_led old new (TakesBatch last old.cluster old.me came malformed out new.releases) (BreaksStep old.cluster old.me came told)
         (λ s t h. inr (
           is,
-          (spelled_of out, (new.releases, record { last = last; malformed = malformed; out = out; mid = t; batch = h; letters_are = refl; requests = 0; few = omega arith; takes = refl })),
+          (spelled_of out, new.releases, record { last = last; malformed = malformed; out = out; mid = t; batch = h; letters_are = refl; requests = 0; few = omega arith; takes = refl }),
         ))
         batch
 
@@ -91,7 +91,7 @@ module _ {D : Type 0} (stands_for : D → DiskState → Type 0) where
       -- memory was wanted for one
       pub not_answered : (told : Halt) → told ≡ halt.OutOfMemory → Led stands_for old new.node (BreaksStep old.cluster old.me came told)
       not_answered told is =
-          widened stands_for old new.node (TakesStep old.cluster old.me came letters new.node.releases) (BreaksStep old.cluster old.me came told) (λ s t h. inr (is, (letters, (new.node.releases, h)))) answered
+          widened stands_for old new.node (TakesStep old.cluster old.me came letters new.node.releases) (BreaksStep old.cluster old.me came told) (λ s t h. inr (is, (letters, new.node.releases, h))) answered
 
   -- ---- a pass
 

@@ -3,8 +3,9 @@ use Rattle.std.proofs.Common.{◌≡◌, ◌⊎◌, ℕ, List, Result, Ok, Err, 
 use Rattle.site_disk.specs.Model.{DiskState}
 use Rattle.node.specs.Nodes.{Node}
 use Rattle.node.specs.declared.running.Node.{Node as Running}
-use Rattle.site_serve.specs.Rounds.{Led}
+use Rattle.site_serve.specs.Rounds.{Led, LosesPasses}
 use Rattle.site_serve.specs.Runs.{IsOpened, IsRun}
+use Rattle.site_serve.specs.declared.halt.Halt.{Halt}
 
 pub on_ok_gives : {T E A B : Type 0} (r : Result T E) → OnOk r A → (A → B) → OnOk r B
 on_ok_gives (Ok x) a f = f a
@@ -19,3 +20,10 @@ run_of {D} {stands_for} n p How opened ended is led = record {
   is_opened = is;
   is_led = subst (λ u. Led stands_for opened ended (How u p ended.releases)) is.cluster (subst (λ v. Led stands_for opened ended (How opened.cluster v ended.releases)) is.me led);
 }
+
+-- so many passes, by another count
+pub as_many : {D : Type 0} {stands_for : D → DiskState → Type 0} {old new : Running D} {k wanted : ℕ} (How : ℕ → Node → Node → Type 0) → k ≡ wanted → Led stands_for old new (How k) → Led stands_for old new (How wanted)
+as_many {D} {stands_for} {old} {new} How same led = subst (λ (m : ℕ). Led stands_for old new (How m)) same led
+
+pub as_lost : {D : Type 0} {stands_for : D → DiskState → Type 0} {old new : Running D} {k wanted : ℕ} {why : Halt} → k ≡ wanted → LosesPasses stands_for old new k why → LosesPasses stands_for old new wanted why
+as_lost {D} {stands_for} {old} {new} {k} {wanted} {why} same lost = subst (λ (m : ℕ). LosesPasses stands_for old new m why) same lost

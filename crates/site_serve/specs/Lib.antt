@@ -4,7 +4,5 @@ pub mod Placing
 pub mod Mailing
 pub mod Staying
 pub mod Rounds
-pub mod Turns
-pub mod Pacing
 pub mod Running
 pub mod Runs

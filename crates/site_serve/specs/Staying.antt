@@ -1,7 +1,7 @@
 -- How long a connection may stay.
 use Rattle.std.specs.Prelude.{ℕ, ◌⊎◌, ◌≤◌, Option, Some, None}
 use Rattle.site_serve.specs.declared.stay.Stay.{Stay}
-use Rattle.site_serve.specs.declared.times.Times.{Times}
+use Rattle.site_pace.specs.declared.times.Times.{Times}
 
 -- so long nothing moved, for so long a request is being read or answered, where one is, and so much it may take, where that is limited
 abbrev pub IsTooLongFor : Times → ℕ → Option ℕ → Option ℕ → Type 0

@@ -9,16 +9,16 @@ ghost use Rattle.site_serve.specs.Running.{EndsBefore, WorkEnds, RunEnds, HasSer
 
 use crate::ServeOptions;
 use crate::addresses::read_addresses;
-use crate::server::Server;
 use crate::halt::Halt;
 use crate::openings::open_node;
 use crate::passes::take_passes;
 use crate::saying::{say, say_done, say_ready};
+use crate::server::Server;
 use crate::shell::Shell;
 use crate::sockets::open_sockets;
-use crate::times::Times;
 use http_read::Counted;
 use site_disk::{Disk, FileDisk};
+use site_pace::Times;
 use std::alloc::Global;
 use std::fs::File;
 use std::io::Write;

@@ -1,6 +1,7 @@
 //! Datagrams between a node and who carries them, in memory.
 
 ghost use Rattle.std.specs.Prelude.{◌≡◌, ◌++◌, ◌∷◌, [], ◌↔◌, ◌<◌, length, IsTrue, OnOk, OnErr, vec_len};
+ghost use Rattle.site_drive.specs.Posting.{bytes_of, letters_of};
 ghost use Rattle.site_serve.specs.Mailing.{waiting_of, posted_of, own_of, is_for};
 
 use node::To;
@@ -35,6 +36,36 @@ fn reaches(to: To, node: NodeId) -> bool
         To::All => true,
         To::One(one) => one.number() == node.number(),
     }
+}
+
+/// A letter is one more datagram where it is for that node.
+fn put_own(
+    alloc: Global,
+    letter: &Letter,
+    me: NodeId,
+    came: &mut Vec<Vec<u8>>,
+) -> Result<(), AllocError>
+    ensures { OnOk result (bytes_of came.new.items ≡ bytes_of came.old.items ++ own_of me (letters_of (letter.now ∷ []))) }
+{
+    if reaches(letter.to, me) {
+        came.push(Vec::from_slice(alloc, letter.bytes.as_slice())?)?;
+    }
+    Ok(())
+}
+
+/// So are these.
+fn put_each(
+    alloc: Global,
+    letters: &[Letter],
+    me: NodeId,
+    came: &mut Vec<Vec<u8>>,
+) -> Result<(), AllocError>
+    ensures { OnOk result (bytes_of came.new.items ≡ bytes_of came.old.items ++ own_of me (letters_of letters.now)) }
+{
+    for letter in letters {
+        put_own(alloc, letter, me, came)?;
+    }
+    Ok(())
 }
 
 impl Mail {
@@ -88,12 +119,6 @@ impl Mail {
     {
         self.came.clear();
         self.bytes = 0;
-        for letter in self.letters.as_slice() {
-            if reaches(letter.to, me) {
-                let bytes = Vec::from_slice(self.alloc, letter.bytes.as_slice())?;
-                self.came.push(bytes)?;
-            }
-        }
-        Ok(())
+        put_each(self.alloc, self.letters.as_slice(), me, &mut self.came)
     }
 }

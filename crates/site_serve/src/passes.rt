@@ -5,8 +5,8 @@ ghost use Rattle.site_drive.specs.Leading.{StaysWhose};
 ghost use Rattle.site_serve.specs.Halts.{CountsNone, EndsRounds};
 ghost use Rattle.site_serve.specs.Rounds.{Led, TakesPass, TakesPasses, BreaksPass, BreaksPasses, LosesPass, LosesPasses};
 
-use crate::server::Server;
 use crate::halt::Halt;
+use crate::server::Server;
 use crate::shell::Shell;
 use site_disk::Disk;
 use std::net::TcpStream;

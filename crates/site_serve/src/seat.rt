@@ -1,9 +1,9 @@
 //! A client's connection, with what carries its bytes.
 
 use crate::stay::Stay;
-use crate::times::Times;
 use http_read::Counted;
 use http_serve::{Heard, Line, Told};
+use site_pace::Times;
 use std::alloc::{AllocError, Global};
 use std::io::{Read, Write};
 

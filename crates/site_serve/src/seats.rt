@@ -1,14 +1,14 @@
 //! The clients of a server.
 
-ghost use Rattle.std.specs.Prelude.{◌≡◌, ◌≤◌, ℕ, length, IfOk, OnErr};
+ghost use Rattle.std.specs.Prelude.{◌≤◌, ◌<◌, ℕ, vec_len, IfSome};
 ghost use Rattle.http_serve.specs.Services.{MaySubmitMany};
 ghost use Rattle.site_serve.specs.Served.{offered};
 
 use crate::seat::Seat;
 use crate::served::Served;
-use crate::times::Times;
 use httparse::spans::HeaderSpan;
 use site_disk::Disk;
+use site_pace::Times;
 use std::alloc::{AllocError, Global};
 use std::io::{Read, Write};
 
@@ -23,7 +23,7 @@ pub struct Seats<S> {
     seats: Vec<Seat<S>>,
     // room to read heads, for all of them
     spans: Vec<HeaderSpan>,
-    ghost within: { length seats.items ≤ 64 },
+    ghost within: { vec_len seats ≤ 64 },
 }
 
 impl<S: Drop> Seats<S> {
@@ -43,19 +43,20 @@ impl<S: Drop> Seats<S> {
     }
 
     /// The seat of the client that was silent longest and is owed nothing.
-    fn first_to_go(&self) -> Option<usize> {
+    fn first_to_go(&self) -> Option<usize>
+        ensures { IfSome result (λ i. i < vec_len self.now.seats) }
+    {
         let mut first = None;
+        let mut least = u64::MAX;
         for (i, seat) in self.seats.iter().enumerate() {
-            match (seat.idle_since(), first) {
-                (Some(since), Some((_, least))) if since >= least => {}
-                (Some(since), _) => first = Some((i, since)),
-                (None, _) => {}
+            if let Some(since) = seat.idle_since() {
+                if since < least {
+                    least = since;
+                    first = Some(i);
+                }
             }
         }
-        match first {
-            Some((i, _)) => Some(i),
-            None => None,
-        }
+        first
     }
 
     /// The stream of the client that goes for another one, where all seats are taken: whoever was silent longest, unless a response is owed to it.
@@ -93,17 +94,19 @@ impl<S: Drop> Seats<S> {
         None
     }
 
-    /// Answers one request of each client that sent a whole one and read the response before it: how many were answered.
-    pub(crate) fn answer_each<D: Disk>(&mut self, served: &mut Served<D>) -> Result<u32, AllocError>
+    /// Answers one request of each client that sent a whole one and read the response before it: whether there was one.
+    pub(crate) fn answer_each<D: Disk>(
+        &mut self,
+        served: &mut Served<D>,
+    ) -> Result<bool, AllocError>
         ensures taken { (n : ℕ) × (n ≤ 64) × MaySubmitMany offered n served.old served.new }
     {
-        let mut answered = 0;
+        let mut answered = false;
         let mut i = 0;
         while i < self.seats.len() {
-            let did = self.seats[i]
+            answered |= self.seats[i]
                 .line
                 .answer(self.alloc, served, &mut self.spans)?;
-            answered += u32::from(did);
             i += 1;
         }
         Ok(answered)

@@ -12,13 +12,12 @@ ghost use Rattle.site_serve.specs.Rounds.{Led, TakesStep, BreaksStep, LosesStep,
 
 use crate::halt::Halt;
 use crate::mail::Mail;
-use crate::pace::Pace;
 use crate::seats::Seats;
 use crate::served::Served;
-use crate::times::Times;
 use site_disk::Disk;
 use site_drive::Desk;
 use site_ids::NodeId;
+use site_pace::{Pace, Times};
 use std::alloc::{AllocError, Global};
 
 /// A server without sockets and clock: a node, its mail, its clients, and when it tries and asks.
@@ -40,8 +39,8 @@ pub struct Server<D, S> {
 pub struct Stepped {
     /// Datagrams waited for it.
     pub came: bool,
-    /// So many requests were answered.
-    pub answered: u32,
+    /// Requests were answered.
+    pub answered: bool,
 }
 
 impl<D: Disk + Drop, S: Drop> Server<D, S> {
@@ -104,11 +103,21 @@ impl<D: Disk + Drop, S: Drop> Server<D, S> {
         Ok(Stepped { came, answered })
     }
 
+    /// The node, without all else.
+    pub fn into_served(self) -> Served<D>
+        ensures { result ≡ self.served }
+    {
+        let Server { served, .. } = self;
+        served
+    }
+
     /// How many microseconds to rest behind a step, where it came to this, and bytes of clients moved or none.
     pub fn rest(&mut self, stepped: Stepped, moved: bool) -> Option<u64>
         ensures { self.new.served ≡ self.old.served }
     {
-        let served = moved || stepped.answered > 0;
-        self.pace.rest(stepped.came || !self.mail.is_empty(), served)
+        self.pace.rest(
+            stepped.came || !self.mail.is_empty(),
+            moved || stepped.answered,
+        )
     }
 }

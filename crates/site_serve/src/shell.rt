@@ -102,11 +102,7 @@ impl Shell {
     }
 
     /// Seats the clients that have come, each perhaps for one that was silent for long. One that fails at once is passed over.
-    pub(crate) fn accept(
-        &self,
-        seats: &mut Seats<TcpStream>,
-        now: u64,
-    ) -> Result<(), AllocError> {
+    pub(crate) fn accept(&self, seats: &mut Seats<TcpStream>, now: u64) -> Result<(), AllocError> {
         for _ in 0..ACCEPTED {
             if !seats.has_room() {
                 return Ok(());

@@ -3,7 +3,7 @@
 ghost use Rattle.std.specs.Prelude.{◌↔◌, IsTrue};
 ghost use Rattle.site_serve.specs.Staying.{IsTooLong};
 
-use crate::times::Times;
+use site_pace::Times;
 
 /// What a connection does, and for how many milliseconds.
 #[derive(Clone, Copy, Debug, PartialEq, Eq, Drop)]

@@ -1,25 +1,17 @@
 use Rattle.std.proofs.Common.{inl, inr, refl}
-use Rattle.std.proofs.KnownBytes.{Keeps-refl}
 use Rattle.durable.proofs.Results.{on_ok}
 use Rattle.site_drive.proofs.Results.{err_gives}
 use Rattle.site_serve.proofs.Ending.{not_ready, ready_halts, ends_done, passed_on, done_halts}
 use Rattle.site_serve.proofs.ManySteps.{if_err_gives}
-use Rattle.site_serve.proofs.ManyPasses.{not_begun, passes_end, not_told}
+use Rattle.site_serve.proofs.ManyPasses.{not_ready as not_led, passes_end, not_told}
 use Rattle.site_serve.proofs.engine.work.Goals as goal
 
-pub returns-in_err-desk-clause-said : goal.returns-in_err-desk-clause-said
-returns-in_err-desk-clause-said g c = passed_on _ _ c.from_residual.result _ c.from_residual.ensures.1 (inl (refl, record { kept = Keeps-refl _; sound = refl }))
-
-pub returns-in_err-desk-clause-halted : goal.returns-in_err-desk-clause-halted
-returns-in_err-desk-clause-halted g c = err_gives c.from_residual.result c.from_residual.ensures.1 λ e is.
-    inl (not_begun _ _ _ c.args.served.now.node c.args.link.now _ _ _ _ e is (inl refl))
-
 pub returns-in_err-say_ready-clause-said : goal.returns-in_err-say_ready-clause-said
-returns-in_err-say_ready-clause-said g c = passed_on _ _ c.from_residual-in_err-say_ready.result _ c.from_residual-in_err-say_ready.ensures.1 (not_ready _ _ _ c.in_err-say_ready.ensures)
+returns-in_err-say_ready-clause-said g c = passed_on _ _ c.from_residual.result _ c.from_residual.ensures.1 (not_ready _ _ _ c.in_err-say_ready.ensures)
 
 pub returns-in_err-say_ready-clause-halted : goal.returns-in_err-say_ready-clause-halted
-returns-in_err-say_ready-clause-halted g c = err_gives c.from_residual-in_err-say_ready.result c.from_residual-in_err-say_ready.ensures.1 λ e is.
-    inl (not_begun _ _ _ c.args.served.now.node c.args.link.now _ _ _ _ e is (ready_halts _ _ _ c.in_err-say_ready.ensures))
+returns-in_err-say_ready-clause-halted g c = err_gives c.from_residual.result c.from_residual.ensures.1 λ e is.
+    inl (not_led _ c.args.server.now.served.node _ _ _ _ e is (ready_halts _ _ _ c.in_err-say_ready.ensures))
 
 pub returns-in_err-take_passes-clause-said : goal.returns-in_err-take_passes-clause-said
 returns-in_err-take_passes-clause-said g c =
@@ -27,7 +19,7 @@ returns-in_err-take_passes-clause-said g c =
 
 pub returns-in_err-take_passes-clause-halted : goal.returns-in_err-take_passes-clause-halted
 returns-in_err-take_passes-clause-halted g c = err_gives c.from_residual-in_err-take_passes.result c.from_residual-in_err-take_passes.ensures.1 λ e is.
-    passes_end _ _ _ c.args.served.now.node c.take_passes.new.served.node c.args.link.now c.take_passes.new.link _ _ c.args.count _ e is c.in_err-take_passes.ensures.fault
+    passes_end _ c.args.server.now.served.node c.take_passes.new.server.served.node _ _ c.args.count _ e is c.in_err-take_passes.ensures.fault
 
 pub returns-clause-said : goal.returns-clause-said
 returns-clause-said g c = ends_done _ _ _ _ _ _ _ _ c.in_ok-say_ready.ensures c.say_done.ensures
@@ -37,4 +29,4 @@ returns-clause-passes g c = on_ok c.say_done.result c.in_ok-take_passes.ensures.
 
 pub returns-clause-halted : goal.returns-clause-halted
 returns-clause-halted g c = if_err_gives c.say_done.result (done_halts _ c.say_done.result c.say_done.ensures) λ e is.
-    inl (not_told _ _ _ c.args.served.now.node c.take_passes.new.served.node c.args.link.now c.take_passes.new.link _ _ c.args.count _ e is c.in_ok-take_passes.ensures.ok)
+    inl (not_told _ c.args.server.now.served.node c.take_passes.new.server.served.node _ _ c.args.count _ e is c.in_ok-take_passes.ensures.ok)

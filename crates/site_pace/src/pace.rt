@@ -1,0 +1,161 @@
+//! When a server tries again, when it asks and tells, and how long it rests: all of it numbers.
+
+ghost use Rattle.std.specs.Prelude.{◌≡◌, ◌↔◌, ◌<◌, ℕ, Option, IsSome, IfSome, Some, None, true, false, if◌then◌else◌};
+ghost use Rattle.node.specs.Nodes.{Node as AbstractNode, WantsTick};
+ghost use Rattle.node.specs.Standing.{IsNodeOf};
+ghost use Rattle.site_pace.specs.declared.due.Due.{Due};
+ghost use Rattle.site_pace.specs.declared.seen.Seen.{Seen};
+ghost use Rattle.site_drive.specs.declared.last_call.LastCall.TheVariants.{Ask, TickOrAsk};
+ghost use Rattle.site_pace.specs.Pacing.{empty_after, first_pace, heard, pace_after, question_after, rest_after, resting_of, ticking_after, IsDue, IsFresh, IsSeen, IsToldOf};
+ghost use Rattle.site_pace.specs.Turns.{call_behind};
+
+use crate::due::Due;
+use crate::last_question::LastQuestion;
+use crate::questions::Questions;
+use crate::resting::Resting;
+use crate::seen::Seen;
+use crate::ticking::Ticking;
+use crate::times::Times;
+use node::Node;
+use site_disk::Disk;
+use site_drive::{Delivered, LastCall};
+use site_ids::{Cluster, Instance, NodeId};
+
+/// What was tried, asked, heard and told, and when.
+///
+/// A step calls `due`, then `hear` behind its batch, and then `rest`. Its moments are milliseconds since the server began, none of them less than the one before.
+#[derive(Clone, Copy, Debug, PartialEq, Eq, Drop)]
+pub struct Pace {
+    times: Times,
+    // what this server waits before its first try
+    patience: u64,
+    ticking: Ticking,
+    last: LastQuestion,
+    // those of other nodes
+    questions: Questions,
+    // whether messages that are no questions came since what is due was asked for
+    stirred: bool,
+    // how many steps went by in which nothing came, questions aside
+    empty: u32,
+}
+
+impl Pace {
+    /// That of a server which begins: it is quiet.
+    pub fn new(times: Times, node: u8) -> Pace
+        ensures { result ≡ first_pace times node }
+    {
+        Pace {
+            times,
+            patience: times.patience_of(node),
+            ticking: Ticking::new(),
+            last: LastQuestion::never(),
+            questions: Questions::new(),
+            stirred: false,
+            empty: times.quiet,
+        }
+    }
+
+    /// Behind a batch: what it delivered.
+    pub fn hear(&mut self, cluster: Cluster, delivered: &Delivered)
+        ensures { (attempts : ℕ) × (stirs : ℕ) × (self.new ≡ record (heard self.old attempts stirs) { questions = self.new.questions }) }
+    {
+        self.questions.hear(cluster, delivered);
+        self.note(delivered.attempts(), delivered.stirs());
+    }
+
+    /// So many messages of an attempt came, and so many that are no questions.
+    fn note(&mut self, attempts: u32, stirs: u32)
+        ensures { self.new ≡ heard self.old attempts stirs }
+    {
+        self.last.tried |= attempts != 0;
+        self.stirred |= stirs != 0;
+    }
+
+    /// What is called behind the turns of the next batch, which begins now, where all that had come was taken in by the last one, or not. What is called
+    /// counts from now on.
+    pub fn due<D: Disk>(&mut self, now: u64, node: &Node<D>, drained: bool) -> LastCall
+        ensures fresh { (s : AbstractNode) → IsNodeOf node.now s → WantsTick s → self.old.ticking.since ≡ None → self.old.stirred ≡ false → result ≡ TickOrAsk }
+        ensures due { (s : AbstractNode) → IsNodeOf node.now s → (seen : Seen) × (telling : Option (ℕ × ℕ)) × (due : Due) × IsSeen s drained seen × IfSome telling (λ x. IsToldOf self.old.questions.asked seen.known x.0 x.1) × IsDue self.old now seen telling due × (result ≡ call_behind due)
+            × (self.new ≡ record (pace_after self.old now seen due.fresh result) { questions = self.new.questions }) }
+    {
+        let seen = Seen::of(node, drained);
+        let telling = self.next_telling(now, node, seen);
+        self.call(now, seen, telling)
+    }
+
+    /// The next telling, unless a value is fresh: then it waits.
+    fn next_telling<D: Disk>(
+        &mut self,
+        now: u64,
+        node: &Node<D>,
+        seen: Seen,
+    ) -> Option<(NodeId, Instance)>
+        ensures told { IfSome result (λ x. IsToldOf self.old.questions.asked seen.known x.0 x.1) }
+        ensures same { self.new ≡ record self.old { questions = self.new.questions } }
+        ensures waits { IsFresh self.old.ticking seen.wanted self.old.stirred → (result ≡ None) × (self.new ≡ self.old) }
+    {
+        if self.ticking.is_fresh(seen.wanted, self.stirred) {
+            return None;
+        }
+        let calm = !self.last.tried;
+        self.questions.next(self.times, now, node, seen.known, calm)
+    }
+
+    /// What is called behind the turns of the next batch, where so much is seen and this telling is due. What is called counts from now on.
+    fn call(&mut self, now: u64, seen: Seen, telling: Option<(NodeId, Instance)>) -> LastCall
+        ensures due { (due : Due) × IsDue self.old now seen telling due × (result ≡ call_behind due) × (self.new ≡ pace_after self.old now seen due.fresh result) }
+        ensures fresh { IsFresh self.old.ticking seen.wanted self.old.stirred → result ≡ TickOrAsk }
+        ensures news { ¬ IsFresh self.old.ticking seen.wanted self.old.stirred → telling ≡ None → self.old.last.known < seen.known → seen.drained ≡ true → self.old.last.tried ≡ false → result ≡ Ask }
+    {
+        let fresh = self.ticking.is_fresh(seen.wanted, self.stirred);
+        let asking = self.last.asking(self.times, now, seen, self.empty);
+        self.ticking = self.ticking.noted(now, seen.wanted, seen.known);
+        let due = Due {
+            fresh,
+            telling,
+            question: asking.is_due(),
+            tick: self.ticking.is_due(now, self.patience, self.times.growth),
+        };
+        let last = due.last_call();
+        self.begin(now, seen.known, fresh, &last);
+        self.stirred = false;
+        last
+    }
+
+    /// A question, or a tick that was due, counts from now on.
+    fn begin(&mut self, now: u64, known: u32, fresh: bool, last: &LastCall)
+        ensures { self.new ≡ record self.old { ticking = ticking_after self.old.ticking now fresh last.now; last = question_after self.old.last now known last.now } }
+    {
+        match last {
+            LastCall::Ask => {
+                self.last = LastQuestion {
+                    at: Some(now),
+                    known,
+                    tried: false,
+                };
+            }
+            LastCall::TickOrAsk if !fresh => {
+                self.ticking = self.ticking.ticked(now);
+            }
+            _ => {}
+        }
+    }
+
+    /// How many microseconds are rested behind a step: none while something came. It is told whether datagrams came or bytes of clients, and whether a response
+    /// was written.
+    pub fn rest(&mut self, came: bool, served: bool) -> Option<u64>
+        ensures rests { IsSome result ↔ (came ≡ false) × (served ≡ false) × (self.old.stirred ≡ false) }
+        ensures long { IfSome result (λ micros. micros ≡ rest_after self.old.times self.old.empty) }
+        ensures counts { self.new ≡ record self.old { empty = empty_after (resting_of self.old came served) } }
+    {
+        let resting = Resting {
+            came,
+            served,
+            stirred: self.stirred,
+            empty: self.empty,
+        };
+        let micros = self.times.rest_after(self.empty);
+        self.empty = resting.empty_after();
+        resting.is_due().then_some(micros)
+    }
+}
