@@ -137,7 +137,7 @@ fn serve_matches<'a>(alloc: Global, words: &'a [String]) -> Result<ArgMatches<'a
         .arg(millis_option(
             alloc,
             "serve-ms",
-            "Gives a client N milliseconds in all, in place of a second for each call",
+            "Closes a connection whose request takes N milliseconds, from its first byte to the last of its response",
         ))?
         .arg(address_arguments(alloc))?;
     command.try_get_matches_from(words)

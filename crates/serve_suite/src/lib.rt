@@ -4,10 +4,6 @@
 #![tactic(auto)]
 
 #[cfg(test)]
-mod asking;
-#[cfg(test)]
-mod behind_turns;
-#[cfg(test)]
 mod cuts;
 #[cfg(test)]
 mod desk;
@@ -15,8 +11,6 @@ mod desk;
 mod ends;
 #[cfg(test)]
 mod lines;
-#[cfg(test)]
-mod pacing;
 #[cfg(test)]
 mod paths;
 #[cfg(test)]
@@ -31,5 +25,3 @@ mod speed;
 mod steps;
 #[cfg(test)]
 mod submissions;
-#[cfg(test)]
-mod written_clock;

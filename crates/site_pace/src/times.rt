@@ -35,10 +35,8 @@ pub struct Times {
     pub between_requests: u64,
     /// Milliseconds that a request which has begun, or a response which its client does not read, is given without a byte that moves.
     pub without_progress: u64,
-    /// Milliseconds that a connection is given in all, where that is limited. An option of the command line.
+    /// Milliseconds that a request is given, from its first byte to the last of its response, where that is limited. An option of the command line.
     pub serve_ms: Option<u64>,
-    /// So many connections are open at most.
-    pub seats: usize,
 }
 
 /// Those of a command line that names none.
@@ -57,7 +55,6 @@ const STANDARD: Times = Times {
     between_requests: 5000,
     without_progress: 1000,
     serve_ms: None,
-    seats: 64,
 };
 
 /// Whether so many milliseconds have passed since then, by a clock in milliseconds that never goes back: since never they have.

@@ -59,16 +59,6 @@ impl<S> Seat<S> {
         let Seat { stream, .. } = self;
         stream.into_inner()
     }
-
-    /// Bytes came or went; a request is being read or answered, or none is.
-    fn note(&mut self, now: u64) {
-        self.moved = now;
-        if !self.line.has_begun() && !self.line.owes() {
-            self.begun = None;
-        } else if self.begun.is_none() {
-            self.begun = Some(now);
-        }
-    }
 }
 
 impl<S: Read> Seat<S> {
@@ -80,7 +70,10 @@ impl<S: Read> Seat<S> {
         match self.line.hear(&mut self.stream)? {
             Heard::Nothing => Ok(false),
             Heard::Came => {
-                self.note(now);
+                self.moved = now;
+                if self.begun.is_none() {
+                    self.begun = Some(now);
+                }
                 Ok(true)
             }
             Heard::Ended | Heard::Failed => Ok(true),
@@ -97,7 +90,10 @@ impl<S: Write> Seat<S> {
         match self.line.tell(&mut self.stream) {
             Told::Nothing => false,
             Told::Written => {
-                self.note(now);
+                self.moved = now;
+                if !self.line.owes() {
+                    self.begun = self.line.has_begun().then_some(now);
+                }
                 true
             }
             Told::Failed => true,

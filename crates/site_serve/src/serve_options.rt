@@ -15,7 +15,7 @@ pub struct ServeOptions<'a> {
     pub format: bool,
     /// How many milliseconds it waits, at least, before it tries again; where none are named, 100.
     pub patience: Option<u64>,
-    /// How many milliseconds a client may take in all, where that is limited.
+    /// How many milliseconds a request may take, from its first byte to the last of its response, where that is limited.
     pub serve_ms: Option<u64>,
     /// The addresses of servers 1 to n, in order.
     pub peers: Vec<&'a str>,

@@ -1,5 +1,5 @@
 //! When a patient server asks, and when it tells.
-use site_serve::{Asking, Telling};
+use site_pace::{Asking, Telling};
 use std::process::Abort;
 
 /// How many values became known since the last question, whether that was just now, whether nothing waits, whether nobody tries a value, whether its time

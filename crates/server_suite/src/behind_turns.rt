@@ -1,7 +1,7 @@
 //! What a server calls behind the turns of a batch.
 use site_drive::LastCall;
 use site_ids::{Cluster, Instance, NodeId};
-use site_serve::Due;
+use site_pace::Due;
 use std::process::Abort;
 
 /// What stands (fresh, a telling, a question, a tick), and what is called: the first of them that applies; a telling where none is given.

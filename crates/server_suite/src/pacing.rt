@@ -1,6 +1,6 @@
 //! When a server ticks, whom it tells from where on, and how long it rests: each rule as a table.
 use site_ids::Instance;
-use site_serve::{LastQuestion, Pace, Resting, Seen, Ticking, Times, first_told, has_passed};
+use site_pace::{LastQuestion, Pace, Resting, Seen, Ticking, Times, first_told, has_passed};
 use std::process::Abort;
 
 /// Those of a server whose command line names none.
@@ -19,7 +19,6 @@ const TIMES: Times = Times {
     between_requests: 5000,
     without_progress: 1000,
     serve_ms: None,
-    seats: 64,
 };
 
 #[test]

@@ -7,7 +7,7 @@ use node::{Node, Submitted};
 use site_disk::MemDisk;
 use site_drive::{Desk, LastCall, MemLink};
 use site_ids::{Cluster, NodeId, Ticket, Value};
-use site_serve::{Pace, Times};
+use site_pace::{Pace, Times};
 use std::alloc::Global;
 use std::process::Abort;
 

@@ -1,0 +1,17 @@
+//! Servers without sockets and clock: the rules of their waiting as tables, seats, and groups joined in memory by scripts.
+#![tactic(auto)]
+
+#[cfg(test)]
+mod asking;
+#[cfg(test)]
+mod behind_turns;
+#[cfg(test)]
+mod client;
+#[cfg(test)]
+mod group;
+#[cfg(test)]
+mod pacing;
+#[cfg(test)]
+mod scripts;
+#[cfg(test)]
+mod written_clock;
