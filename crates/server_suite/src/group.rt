@@ -35,12 +35,29 @@ fn served(alloc: Global, cluster: Cluster, me: NodeId, disk: MemDisk) -> Option<
 }
 
 /// One over a record that was just made. None where memory was refused.
-fn fresh(alloc: Global, cluster: Cluster, me: NodeId) -> Option<Boxed>
+pub(crate) fn fresh(alloc: Global, cluster: Cluster, me: NodeId) -> Option<Boxed>
     requires { IsNode cluster me }
 {
     let mut disk = MemDisk::new(alloc);
     if Record::format(cluster, me, &mut disk).is_err() {
         return None;
+    }
+    served(alloc, cluster, me, disk)
+}
+
+/// Another one over its disk, behind a crash by that choice or without one. None where memory was refused.
+pub(crate) fn reopened(
+    alloc: Global,
+    cluster: Cluster,
+    me: NodeId,
+    server: Boxed,
+    crash: Option<u8>,
+) -> Option<Boxed>
+    requires { IsNode cluster me }
+{
+    let mut disk = Box::into_inner(server).into_served().node.close();
+    if let Some(choice) = crash {
+        disk.crash(choice);
     }
     served(alloc, cluster, me, disk)
 }
@@ -155,12 +172,10 @@ impl Group {
 
     /// The server of that number is ended at once, and opened over what a crash by that choice leaves of its disk.
     pub(crate) fn crashes(&mut self, rt: &impl Abort, number: usize, choice: u8) {
-        let server = self.servers.remove(number - 1);
-        let mut disk = Box::into_inner(server).into_served().node.close();
-        disk.crash(choice);
         let cluster = Cluster::new(3).expect(rt, "a cluster");
         let me = cluster.node(number as u8).expect(rt, "a node");
-        let again = served(self.alloc, cluster, me, disk).expect(rt, "memory");
+        let server = self.servers.remove(number - 1);
+        let again = reopened(self.alloc, cluster, me, server, Some(choice)).expect(rt, "memory");
         self.servers.insert(number - 1, again).expect(rt, "memory");
     }
 }

@@ -30,3 +30,26 @@ fn goes_on(alloc: Global, server: &mut Boxed, millis: u64) -> Result<(), AllocEr
     }
     Ok(())
 }
+
+/// Node 1 of one, over a record that was just made. Where memory was refused it is made once more.
+fn first(rt: &impl Abort, alloc: Global, cluster: Cluster) -> Boxed {
+    let me = cluster.node(1).expect(rt, "a node");
+    match fresh(alloc, cluster, me) {
+        Some(server) => server,
+        None => fresh(alloc, cluster, me).expect(rt, "memory"),
+    }
+}
+
+#[test]
+fn steps(rt: HostRuntime) {
+    let alloc = rt.alloc();
+    let cluster = Cluster::new(1).expect(&rt, "a cluster");
+    let me = cluster.node(1).expect(&rt, "a node");
+    let mut server = first(&rt, alloc, cluster);
+    if goes_on(alloc, &mut server, 40).is_err() {
+        let mut again = reopened(alloc, cluster, me, server, None).expect(&rt, "memory");
+        assert!(rt; goes_on(alloc, &mut again, 40).is_ok());
+        server = again;
+    }
+    assert!(rt; server.served.node.newest() == 1);
+}

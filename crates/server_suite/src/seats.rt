@@ -24,12 +24,26 @@ const STAYS: &[(u64, Option<u64>, bool, bool)] = &[
 fn a_connection_stays_as_long_as_it_moves_and_its_request_may_take(rt: HostRuntime) {
     for &(still, busy, alone, limited) in STAYS {
         let stay = Stay { still, busy };
-        assert_eq!(rt; stay.is_too_long(Times::new(None, None)), alone, "{still} {busy:?}");
-        assert_eq!(rt; stay.is_too_long(Times::new(None, Some(2_000))), limited, "{still} {busy:?}");
+        assert_eq!(rt;
+            stay.is_too_long(Times::new(None, None)),
+            alone,
+            "{still} {busy:?}"
+        );
+        assert_eq!(rt;
+            stay.is_too_long(Times::new(None, Some(2_000))),
+            limited,
+            "{still} {busy:?}"
+        );
     }
 }
 
-fn comes(rt: &impl Abort, alloc: Global, seats: &mut Seats<Client>, sends: &[u8], now: u64) -> bool {
+fn comes(
+    rt: &impl Abort,
+    alloc: Global,
+    seats: &mut Seats<Client>,
+    sends: &[u8],
+    now: u64,
+) -> bool {
     let client = Client::new(alloc, sends, usize::MAX).expect(rt, "memory");
     seats.admit(client, now).expect(rt, "memory").is_none()
 }
