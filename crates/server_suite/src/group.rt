@@ -62,11 +62,11 @@ pub(crate) fn reopened(
     served(alloc, cluster, me, disk)
 }
 
-/// Whether a letter is for a node of that number.
-fn reaches(to: To, number: usize) -> bool {
+/// Whether a letter is for the node of that number.
+fn reaches(to: To, number: u8) -> bool {
     match to {
         To::All => true,
-        To::One(node) => usize::from(node.number()) == number,
+        To::One(node) => node.number() == number,
     }
 }
 
@@ -87,40 +87,49 @@ impl Group {
         }
     }
 
+    /// How many servers there are.
+    fn size(&self) -> u8 {
+        u8::try_from(self.servers.len()).unwrap_or(u8::MAX)
+    }
+
+    /// The server of that number.
+    pub(crate) fn server(&mut self, rt: &impl Abort, number: u8) -> &mut Boxed {
+        let index = usize::from(number).saturating_sub(1);
+        self.servers.get_mut(index).expect(rt, "a server")
+    }
+
     /// A client comes to the server of that number.
-    pub(crate) fn comes(&mut self, rt: &impl Abort, number: usize, sends: &[u8], piece: usize) {
+    pub(crate) fn comes(&mut self, rt: &impl Abort, number: u8, sends: &[u8], piece: usize) {
         let client = Client::new(self.alloc, sends, piece).expect(rt, "memory");
-        let seats = &mut self.servers[number - 1].seats;
-        assert!(rt; seats.admit(client, self.now).expect(rt, "memory").is_none());
+        let now = self.now;
+        let seats = &mut self.server(rt, number).seats;
+        assert!(rt; seats.admit(client, now).expect(rt, "memory").is_none());
     }
 
     /// What the letters of one server have for another one.
-    fn carry(&mut self, rt: &impl Abort, from: usize, to: usize) {
-        let mut came = Vec::new(self.alloc);
-        for letter in self.servers[from - 1].mail.letters() {
+    fn carry(&mut self, rt: &impl Abort, from: u8, to: u8) {
+        let alloc = self.alloc;
+        let mut came = Vec::new(alloc);
+        for letter in self.server(rt, from).mail.letters() {
             if reaches(letter.to, to) {
-                let bytes = Vec::from_slice(self.alloc, letter.bytes.as_slice()).expect(
-                    rt, "memory",
-                );
-                came.push(bytes).expect(rt, "memory");
+                let bytes = Vec::from_slice(alloc, letter.bytes.as_slice());
+                came.push(bytes.expect(rt, "memory")).expect(rt, "memory");
             }
         }
+        let mail = &mut self.server(rt, to).mail;
         for datagram in &came {
-            self.servers[to - 1]
-                .mail
-                .push(datagram.as_slice())
-                .expect(rt, "memory");
+            mail.push(datagram.as_slice()).expect(rt, "memory");
         }
     }
 
     /// A pass of one server, whose letters reach each other one but for that number; 0 is nobody.
-    fn pass(&mut self, rt: &impl Abort, number: usize, away: usize) {
+    fn pass(&mut self, rt: &impl Abort, number: u8, away: u8) {
         let now = self.now;
-        let server = &mut self.servers[number - 1];
+        let server = self.server(rt, number);
         let _ = server.seats.hear(now).expect(rt, "memory");
         assert!(rt; server.step(now).is_ok());
         let _ = server.seats.tell(now);
-        for to in 1..=self.servers.len() {
+        for to in 1..=self.size() {
             if to != number && to != away {
                 self.carry(rt, number, to);
             }
@@ -128,10 +137,10 @@ impl Group {
     }
 
     /// So many milliseconds, with a pass of each server in each of them; the server of that number is away, if it is not 0.
-    pub(crate) fn goes_on(&mut self, rt: &impl Abort, millis: u64, away: usize) {
+    pub(crate) fn goes_on(&mut self, rt: &impl Abort, millis: u64, away: u8) {
         for _ in 0..millis {
-            self.now += 1;
-            for number in 1..=self.servers.len() {
+            self.now = self.now.saturating_add(1);
+            for number in 1..=self.size() {
                 if number != away {
                     self.pass(rt, number, away);
                 }
@@ -140,42 +149,46 @@ impl Group {
     }
 
     /// The server of that number knows so many values, and shows so many releases.
-    pub(crate) fn stands(&self, rt: &impl Abort, number: usize, known: u32, newest: u64) {
-        let node = &self.servers[number - 1].served.node;
-        assert_eq!(rt; node.known(), known, "node {number}");
-        assert_eq!(rt; node.newest(), newest, "node {number}");
+    pub(crate) fn stands(&mut self, rt: &impl Abort, number: u8, known: u32, newest: u64) {
+        let node = &self.server(rt, number).served.node;
+        assert!(rt;
+            node.known() == known && node.newest() == newest,
+            "node {number}"
+        );
     }
 
-    /// The connections of a server of that number end, and what each client got begins so and ends so.
-    pub(crate) fn got(
-        &mut self,
-        rt: &impl Abort,
-        number: usize,
-        count: usize,
-        front: &[u8],
-        end: &[u8],
-    ) {
-        let late = self.now + 60_000;
-        for k in 0..count {
-            let client = self.servers[number - 1]
-                .seats
-                .leave(late)
-                .expect(rt, "a client");
+    /// The next client of that server whose connection ends, long after all that was done.
+    pub(crate) fn leaves(&mut self, rt: &impl Abort, number: u8) -> Option<Client> {
+        let late = self.now.saturating_add(60_000);
+        self.server(rt, number).seats.leave(late)
+    }
+
+    /// So many clients of that server are there still, and what each of them got begins so and ends so.
+    pub(crate) fn got(&mut self, rt: &impl Abort, number: u8, count: u8, front: &[u8], end: &[u8]) {
+        for _ in 0..count {
+            let client = self.leaves(rt, number).expect(rt, "a client");
             let got = client.got();
             assert!(rt;
                 got.starts_with(front) && got.ends_with(end),
-                "client {k} of node {number}"
+                "node {number}"
             );
         }
-        assert!(rt; self.servers[number - 1].seats.leave(late).is_none());
+        assert!(rt; self.leaves(rt, number).is_none());
     }
 
-    /// The server of that number is ended at once, and opened over what a crash by that choice leaves of its disk.
-    pub(crate) fn crashes(&mut self, rt: &impl Abort, number: usize, choice: u8) {
-        let cluster = Cluster::new(3).expect(rt, "a cluster");
-        let me = cluster.node(number as u8).expect(rt, "a node");
-        let server = self.servers.remove(number - 1);
-        let again = reopened(self.alloc, cluster, me, server, Some(choice)).expect(rt, "memory");
-        self.servers.insert(number - 1, again).expect(rt, "memory");
+    /// Each server is ended at once, and opened over what a crash by that choice leaves of its disk.
+    pub(crate) fn crash(&mut self, rt: &impl Abort, choice: u8) {
+        let cluster = Cluster::new(self.size()).expect(rt, "a cluster");
+        let mut servers = Vec::new(self.alloc);
+        for number in (1..=self.size()).rev() {
+            let server = self.servers.pop().expect(rt, "a server");
+            let me = cluster.node(number).expect(rt, "a node");
+            let again = reopened(self.alloc, cluster, me, server, Some(choice));
+            servers
+                .push(again.expect(rt, "memory"))
+                .expect(rt, "memory");
+        }
+        servers.reverse();
+        self.servers = servers;
     }
 }

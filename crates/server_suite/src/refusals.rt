@@ -13,7 +13,12 @@ const POST: &[u8] = b"POST /_submit/1/1 HTTP/1.1\r\nHost: a\r\nContent-Length: 8
 const CAME: &[&[u8]] = &[&[1, 6, 1, 0, 0, 0, 1], &[255]];
 
 /// A server takes a client and two datagrams, and goes on for so many milliseconds.
-fn goes_on(alloc: Global, server: &mut Boxed, millis: u64) -> Result<(), AllocError> {
+fn goes_on(
+    rt: &impl Abort,
+    alloc: Global,
+    server: &mut Boxed,
+    millis: u64,
+) -> Result<(), AllocError> {
     let client = Client::new(alloc, POST, usize::MAX)?;
     let _ = server.seats.admit(client, 0)?;
     for &datagram in CAME {
@@ -21,10 +26,10 @@ fn goes_on(alloc: Global, server: &mut Boxed, millis: u64) -> Result<(), AllocEr
     }
     for now in 0..millis {
         let _ = server.seats.hear(now)?;
-        match server.step(now) {
-            Ok(_) => {}
-            Err(Halt::OutOfMemory) => return Err(AllocError),
-            Err(_) => unreachable!(),
+        if let Err(halt) = server.step(now) {
+            // (A disk in memory that finds none has failed.)
+            assert!(rt; matches!(halt, Halt::OutOfMemory | Halt::Stopped));
+            return Err(AllocError);
         }
         let _ = server.seats.tell(now);
     }
@@ -46,9 +51,9 @@ fn steps(rt: HostRuntime) {
     let cluster = Cluster::new(1).expect(&rt, "a cluster");
     let me = cluster.node(1).expect(&rt, "a node");
     let mut server = first(&rt, alloc, cluster);
-    if goes_on(alloc, &mut server, 40).is_err() {
+    if goes_on(&rt, alloc, &mut server, 40).is_err() {
         let mut again = reopened(alloc, cluster, me, server, None).expect(&rt, "memory");
-        assert!(rt; goes_on(alloc, &mut again, 40).is_ok());
+        assert!(rt; goes_on(&rt, alloc, &mut again, 40).is_ok());
         server = again;
     }
     assert!(rt; server.served.node.newest() == 1);

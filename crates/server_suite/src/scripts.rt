@@ -9,14 +9,14 @@ const QUEUED: &[u8] =
 const HEAD: &[u8] = b"HTTP/1.1 200 OK\r\n";
 
 /// A release, under a ticket of that editor and number.
-fn post(rt: &impl Abort, alloc: Global, editor: usize, number: usize) -> String {
+fn post(rt: &impl Abort, alloc: Global, editor: u8, number: u8) -> String {
     format!(in alloc;
         "POST /_submit/{editor}/{number} HTTP/1.1\r\nHost: a\r\nContent-Length: 8\r\n\r\nrelease\n"
     ).expect(rt, "memory")
 }
 
 /// So many clients at a node, each of which posts a release, in pieces of so many bytes.
-fn posts(rt: &impl Abort, group: &mut Group, node: usize, count: usize, piece: usize) {
+fn posts(rt: &impl Abort, group: &mut Group, node: u8, count: u8, piece: usize) {
     for number in 1..=count {
         let sends = post(rt, group.alloc, node, number);
         group.comes(rt, node, sends.as_bytes(), piece);
@@ -54,9 +54,7 @@ fn a_power_cut_loses_nothing_that_is_known(rt: HostRuntime) {
         posts(&rt, &mut group, 1, 3, usize::MAX);
         group.goes_on(&rt, 200, 0);
         group.stands(&rt, 2, 3, 3);
-        for node in 1..=3 {
-            group.crashes(&rt, node, choice);
-        }
+        group.crash(&rt, choice);
         posts(&rt, &mut group, 2, 1, usize::MAX);
         group.goes_on(&rt, 3_000, 0);
         for node in 1..=3 {
@@ -94,9 +92,8 @@ fn each_client_gets_its_own_response(rt: HostRuntime) {
     );
     group.comes(&rt, 1, post(&rt, rt.alloc(), 1, 1).as_bytes(), usize::MAX);
     group.goes_on(&rt, 2, 0);
-    let late = group.now + 60_000;
-    let newest = group.servers[0].seats.leave(late).expect(&rt, "a client");
+    let newest = group.leaves(&rt, 1).expect(&rt, "a client");
     assert!(rt; newest.got().starts_with(HEAD) && newest.got().ends_with(b"\n0\n"));
-    let posted = group.servers[0].seats.leave(late).expect(&rt, "a client");
+    let posted = group.leaves(&rt, 1).expect(&rt, "a client");
     assert_eq!(rt; posted.got(), QUEUED);
 }
