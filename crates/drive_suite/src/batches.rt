@@ -108,11 +108,11 @@ fn posts(rt: &impl Abort, alloc: Global, count: u8, malformed: usize, last: &str
     for (_, posted) in MAIL.iter().take(usize::from(count)) {
         for (to, text) in *posted {
             is_letter(rt, alloc, letters.get(at).expect(rt, "a letter"), *to, text);
-            at += 1;
+            at = at.saturating_add(1);
         }
     }
     is_letter(rt, alloc, letters.get(at).expect(rt, "a letter"), 0, last);
-    assert_eq!(rt; letters.len(), at + 1, "{last}");
+    assert_eq!(rt; letters.len(), at.saturating_add(1), "{last}");
 }
 
 #[test]

@@ -24,7 +24,9 @@ fn turn(rt: &impl Abort, server: &mut Server<MemLink>, at_once: bool) -> Result<
     if at_once {
         let mut came = Vec::new(server.alloc);
         for &text in HEARD {
-            came.push(bytes(rt, server.alloc, text))?;
+            if came.push(bytes(rt, server.alloc, text)).is_err() {
+                return Err(NodeFault::OutOfMemory);
+            }
         }
         let (malformed, letters) = server.batch(came.as_slice(), LastCall::TickOrAsk)?;
         assert!(rt; malformed == 1 && letters.len() > 1);
