@@ -1,7 +1,7 @@
-//! Readers and writers that fail in mid-stream.
+//! Readers that end and fail in mid-stream, and writers that fail.
 ghost use Rattle.std.specs.Prelude.{Some};
 
-use crate::runs::GREETING;
+use crate::runs::{GREETING, run};
 use sitectl::{Counted, siterender};
 use std::alloc::Global;
 use std::io;
@@ -59,6 +59,23 @@ fn with_room(alloc: Global, room: usize) -> Counted<Short> {
         taken: Vec::new(alloc),
         room,
     })
+}
+
+#[test]
+fn input_cut_off_anywhere(rt: HostRuntime) {
+    let alloc = rt.alloc();
+    let whole = GREETING.as_bytes();
+    let ends = [0, 42, 79, 102];
+    for end in 0..whole.len() {
+        let printed = run(alloc, &whole[..end], None, "/");
+        assert_eq!(rt; printed.status, 1);
+        assert!(rt; printed.out.is_empty());
+        if ends.contains(&end) {
+            assert_eq!(rt; printed.err.as_slice(), b"no release\n".as_slice(), "{end}");
+        } else {
+            assert!(rt; printed.err.ends_with(b": framing\n"), "{end}");
+        }
+    }
 }
 
 #[test]

@@ -1,7 +1,7 @@
 //! The renderer over memory.
 
 use sitectl::{Counted, siterender};
-use std::alloc::{AllocError, Global};
+use std::alloc::Global;
 
 /// Four commands that make a greeting and release it.
 pub(crate) const GREETING: &str =
@@ -26,17 +26,4 @@ pub(crate) fn run(alloc: Global, input: &[u8], release: Option<u64>, path: &str)
         out: out.into_inner(),
         err: err.into_inner(),
     }
-}
-
-/// Adds a frame with that ticket number to an input.
-pub(crate) fn push_frame(
-    alloc: Global,
-    input: &mut String,
-    number: u64,
-    text: &str,
-) -> Result<(), AllocError> {
-    let length = text.len();
-    let line = format!(in alloc; "7 {number} {length}\n")?;
-    input.push_str(line.as_str())?;
-    input.push_str(text)
 }

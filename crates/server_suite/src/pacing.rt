@@ -15,7 +15,7 @@ const TIMES: Times = Times {
     quiet: 2000,
     rest: 50,
     idle_rest: 1500,
-    quiet_rest: 8000,
+    quiet_rest: 20_000,
     between_requests: 5000,
     without_progress: 1000,
     serve_ms: None,
@@ -212,8 +212,8 @@ const RESTS: &[(bool, bool, bool, u32, Option<u64>, u32)] = &[
     (false, false, false, 199, Some(50), 200),
     (false, false, false, 200, Some(1500), 201),
     (false, false, false, 1999, Some(1500), 2000),
-    (false, false, false, 2000, Some(8000), 2001),
-    (false, false, false, u32::MAX, Some(8000), u32::MAX),
+    (false, false, false, 2000, Some(20_000), 2001),
+    (false, false, false, u32::MAX, Some(20_000), u32::MAX),
     (true, false, false, 300, None, 300),
     (true, false, true, 300, None, 0),
     (false, true, false, 300, None, 0),
@@ -237,14 +237,14 @@ fn a_step_rests_where_nothing_came(rt: HostRuntime) {
 
 /// Whether anything came, whether a response was written, how many such steps follow one another, and what each of them rests.
 const STEPS: &[(bool, bool, u32, Option<u64>)] = &[
-    (false, false, 3, Some(8000)),
+    (false, false, 3, Some(20_000)),
     (true, false, 2, None),
-    (false, false, 1, Some(8000)),
+    (false, false, 1, Some(20_000)),
     (true, true, 1, None),
     (false, false, 200, Some(50)),
     (true, false, 5, None),
     (false, false, 1800, Some(1500)),
-    (false, false, 9, Some(8000)),
+    (false, false, 9, Some(20_000)),
     (false, true, 1, None),
     (false, false, 1, Some(50)),
 ];

@@ -51,7 +51,7 @@ const STANDARD: Times = Times {
     quiet: 2000,
     rest: 50,
     idle_rest: 1500,
-    quiet_rest: 8000,
+    quiet_rest: 20_000,
     between_requests: 5000,
     without_progress: 1000,
     serve_ms: None,

@@ -11,8 +11,6 @@ use crate::shell::Shell;
 use site_disk::Disk;
 use std::net::TcpStream;
 use std::rt::Clock;
-use std::thread;
-use std::time::Duration;
 
 /// One pass. Where nothing came and nothing went, it rests.
 fn take_pass<D: Disk + Drop, C: Clock>(
@@ -35,7 +33,7 @@ fn take_pass<D: Disk + Drop, C: Clock>(
     let told = server.seats.tell(now);
     shell.part(&mut server.seats, now);
     if let Some(rest) = server.rest(stepped, heard || told) {
-        thread::sleep(clock, Duration::from_micros(rest));
+        shell.rest(clock, rest, &mut server.mail);
     }
     Ok(())
 }

@@ -6,16 +6,21 @@ use node::To;
 use site_drive::Letter;
 use site_ids::NodeId;
 use std::alloc::{AllocError, Global};
+use std::io;
 use std::io::{ErrorKind, Read};
 use std::net::{Shutdown, SocketAddr, TcpListener, TcpStream, UdpSocket};
 use std::rt::Clock;
-use std::time::Instant;
+use std::thread;
+use std::time::{Duration, Instant};
 use wire::MAX_MESSAGE;
 
 /// How many datagrams, and how many clients, a pass takes at most.
 const RECEIVED: u32 = 256;
 
 const ACCEPTED: u32 = 64;
+
+/// So many microseconds or more are a long rest, which a datagram ends. The system counts such a wait in milliseconds, so a shorter one sleeps.
+const LONG: u64 = 10_000;
 
 /// How many reads of what a client still sends come before its connection is closed, each of at most 4,096 bytes.
 const LINGER: u32 = 16;
@@ -120,6 +125,26 @@ impl Shell {
             let _ = seats.admit(stream, now)?;
         }
         Ok(())
+    }
+
+    /// Rests for so many microseconds, a long rest until a datagram comes. One that finds no memory is a loss.
+    pub(crate) fn rest<C: Clock>(&mut self, clock: &C, micros: u64, mail: &mut Mail) {
+        let length = Duration::from_micros(micros);
+        if micros < LONG || self.may_wait(length).is_err() {
+            thread::sleep(clock, length);
+            return;
+        }
+        let came = self.socket.recv_from(self.datagram.as_mut_slice());
+        let _ = self.socket.set_nonblocking(true);
+        if let Ok((n, _from)) = came {
+            let _ = mail.push(&self.datagram[..n]);
+        }
+    }
+
+    /// From now on a receive waits so long. Where it can't, none waits.
+    fn may_wait(&self, length: Duration) -> io::Result<()> {
+        self.socket.set_read_timeout(Some(length))?;
+        self.socket.set_nonblocking(false)
     }
 
     fn send_to(&self, to: &SocketAddr, datagram: &[u8]) {

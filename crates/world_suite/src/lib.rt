@@ -1,5 +1,5 @@
-//! Worlds over disks in memory: worked schedules, runs that stop at an event or go on over a refusal, each growth refused; and the simulator's lines
-//! of fault, over ends that fail at each byte.
+//! Worlds over disks in memory: worked schedules, runs that stop at an event or go on over a refusal, each growth refused; and the simulator
+//! over ends that fail at each byte.
 #![tactic(auto)]
 
 #[cfg(test)]
