@@ -1,5 +1,6 @@
 pub mod Serving
 pub mod Placed
+pub mod Answering
 pub mod ManySteps
 pub mod ManyPasses
 pub mod Ending

@@ -3,6 +3,7 @@ pub mod Halts
 pub mod Placing
 pub mod Mailing
 pub mod Staying
+pub mod Answering
 pub mod Rounds
 pub mod Running
 pub mod Runs

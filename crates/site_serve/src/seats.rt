@@ -1,7 +1,8 @@
 //! The clients of a server.
 
-ghost use Rattle.std.specs.Prelude.{◌≤◌, ◌<◌, ℕ, vec_len, IfSome};
+ghost use Rattle.std.specs.Prelude.{◌≡◌, ◌≤◌, ◌<◌, ℕ, vec_len, false, IfOk, IfSome, OnOk};
 ghost use Rattle.http_serve.specs.Services.{MaySubmitMany};
+ghost use Rattle.site_serve.specs.Answering.{AreAnswered};
 ghost use Rattle.site_serve.specs.Served.{offered};
 
 use crate::seat::Seat;
@@ -99,6 +100,8 @@ impl<S: Drop> Seats<S> {
         &mut self,
         served: &mut Served<D>,
     ) -> Result<bool, AllocError>
+        ensures each { OnOk result (AreAnswered offered served.old served.new self.old.seats.items self.new.seats.items) }
+        ensures none { IfOk result (λ answered. answered ≡ false → served.new ≡ served.old) }
         ensures taken { (n : ℕ) × (n ≤ 64) × MaySubmitMany offered n served.old served.new }
     {
         let mut answered = false;

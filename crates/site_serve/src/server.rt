@@ -6,9 +6,12 @@ ghost use Rattle.site_drive.specs.Batches.{TakesBatch, LeadsSealed};
 ghost use Rattle.site_drive.specs.Leading.{StaysWhose};
 ghost use Rattle.site_drive.specs.Posting.{spelled_of};
 ghost use Rattle.site_drive.specs.declared.last_call.LastCall.{LastCall};
+ghost use Rattle.site_serve.specs.Answering.{AreAnswered};
 ghost use Rattle.site_serve.specs.Halts.{CountsNone, EndsRounds};
 ghost use Rattle.site_serve.specs.Mailing.{waiting_of, posted_of, own_of};
 ghost use Rattle.site_serve.specs.Rounds.{Led, TakesStep, BreaksStep, LosesStep, IsBatched};
+ghost use Rattle.site_serve.specs.Served.{offered};
+ghost use Rattle.site_serve.specs.declared.served.Served.{Served};
 
 use crate::halt::Halt;
 use crate::mail::Mail;
@@ -68,6 +71,7 @@ impl<D: Disk + Drop, S: Drop> Server<D, S> {
     fn take_batch(&mut self, now: u64) -> Result<(), Halt>
         ensures ok { OnOk result (IsBatched D.stands_for (waiting_of self.old.mail) (posted_of self.new.mail) self.old.served.node self.new.served.node) }
         ensures own { OnOk result (waiting_of self.new.mail ≡ own_of self.old.me (posted_of self.new.mail)) }
+        ensures seats { self.new.seats ≡ self.old.seats }
         ensures fault { IfErr result (λ why. Led D.stands_for self.old.served.node self.new.served.node (BreaksStep self.old.served.node.cluster self.old.served.node.me (waiting_of self.old.mail) why)
             ⊎ LosesStep D.stands_for (waiting_of self.old.mail) self.old.served.node self.new.served.node why) }
         ensures ends { IfErr result EndsRounds }
@@ -89,6 +93,8 @@ impl<D: Disk + Drop, S: Drop> Server<D, S> {
     /// One step, so many milliseconds after the server began, and never less than before: all that waits is one batch, behind which the node publishes, and what that
     /// hands out are the mail's letters; then requests are answered.
     pub fn step(&mut self, now: u64) -> Result<Stepped, Halt>
+        ensures clients { OnOk result ((mid : Served D) × IsBatched D.stands_for (waiting_of self.old.mail) (posted_of self.new.mail) self.old.served.node mid.node
+            × AreAnswered offered mid self.new.served self.old.seats.seats.items self.new.seats.seats.items) }
         ensures ok { OnOk result (Led D.stands_for self.old.served.node self.new.served.node (TakesStep self.old.served.node.cluster self.old.served.node.me (waiting_of self.old.mail) (posted_of self.new.mail) self.new.served.node.releases)) }
         ensures own { OnOk result (waiting_of self.new.mail ≡ own_of self.old.me (posted_of self.new.mail)) }
         ensures fault { IfErr result (λ why. Led D.stands_for self.old.served.node self.new.served.node (BreaksStep self.old.served.node.cluster self.old.served.node.me (waiting_of self.old.mail) why)

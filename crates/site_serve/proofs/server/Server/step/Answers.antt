@@ -1,7 +1,9 @@
-use Rattle.std.proofs.Common.{inl, ◌∙◌}
+use Rattle.std.proofs.Common.{inl, subst, ◌∙◌}
 use Rattle.site_drive.proofs.ManyTurns.{stays_on}
 use Rattle.site_drive.proofs.Results.{err_gives}
 use Rattle.site_drive.proofs.Sealing.{of_others}
+use Rattle.site_serve.specs.Answering.{AreAnswered}
+use Rattle.site_serve.specs.Served.{offered}
 use Rattle.site_serve.proofs.Failing.{requests_kept, none_failed}
 use Rattle.site_serve.proofs.ManySteps.{many_others}
 use Rattle.site_serve.proofs.ManyPasses.{answered, not_answered}
@@ -36,3 +38,11 @@ pub returns-clause-counts : goal.returns-clause-counts
 returns-clause-counts g c = λ _.
     let taken = c.answer_each.ensures.taken in
     requests_kept g.D.Disk.failed taken.0 c.take_batch.new.self.served c.answer_each.new.served taken.2 ∙ none_failed _ _ _ c.in_ok-take_batch.ensures.counts
+
+pub returns-clause-clients : goal.returns-clause-clients
+returns-clause-clients g c = (
+  c.take_batch.new.self.served,
+  c.in_ok-take_batch.ensures.ok,
+  subst (λ seats. AreAnswered offered c.take_batch.new.self.served c.answer_each.new.served seats.seats.items c.answer_each.new.self.seats.items) c.take_batch.ensures.seats
+      c.in_ok-answered.ensures.each,
+)
