@@ -1,4 +1,4 @@
--- What a site has after an action, from what it had.
+-- What contents have after an action, from what they had.
 use Rattle.std.proofs.Common.{◌≡◌, ℕ, List, [], ◌∷◌, ◌++◌, ◌&&◌, Option, Some, None, String, Global, string_bytes, option_map, option_and_then, bytes_eq, refl, sym, ap, ◌∙◌}
 use Rattle.std.specs.Map.{update}
 use Rattle.site_ids.specs.declared.Ticket.{Ticket}
@@ -13,7 +13,7 @@ use Rattle.command.specs.View.{kind_view}
 use Rattle.command.specs.declared.commands.Action.TheVariants.{PutTemplate, PutPartial, PutData, PutRoute, PutRedirect, Remove, Release}
 use Rattle.command.specs.declared.commands.Kind.{Kind as CodeKind}
 use Rattle.content.specs.Answered.{answered}
-use Rattle.content.specs.View.{Named, SiteSeen, at_name, names_of}
+use Rattle.content.specs.View.{Named, ContentsSeen, at_name, names_of}
 use Rattle.content.specs.Standing.{IsOfText, HasContents}
 use Rattle.content.specs.declared.applied.Applied.TheVariants.{Changed, Released}
 use Rattle.content.specs.declared.target.Target.{Target}
@@ -37,26 +37,26 @@ Writes old new key v = (name : List ℕ) → at_name name new ≡ update bytes_e
 
 -- ---- a site whose one kind changed
 
-abbrev pub with_templates : SiteSeen → Named TemplateSeen → SiteSeen
-with_templates s new = record { tickets = s.tickets; templates = new; partials = s.partials; page_data = s.page_data; routes = s.routes; redirects = s.redirects }
+abbrev pub with_templates : ContentsSeen → Named TemplateSeen → ContentsSeen
+with_templates s new = record { templates = new; partials = s.partials; page_data = s.page_data; routes = s.routes; redirects = s.redirects }
 
-abbrev pub with_partials : SiteSeen → Named TemplateSeen → SiteSeen
-with_partials s new = record { tickets = s.tickets; templates = s.templates; partials = new; page_data = s.page_data; routes = s.routes; redirects = s.redirects }
+abbrev pub with_partials : ContentsSeen → Named TemplateSeen → ContentsSeen
+with_partials s new = record { templates = s.templates; partials = new; page_data = s.page_data; routes = s.routes; redirects = s.redirects }
 
-abbrev pub with_data : SiteSeen → Named Data → SiteSeen
-with_data s new = record { tickets = s.tickets; templates = s.templates; partials = s.partials; page_data = new; routes = s.routes; redirects = s.redirects }
+abbrev pub with_data : ContentsSeen → Named Data → ContentsSeen
+with_data s new = record { templates = s.templates; partials = s.partials; page_data = new; routes = s.routes; redirects = s.redirects }
 
-abbrev pub with_routes : SiteSeen → Named Target → SiteSeen
-with_routes s new = record { tickets = s.tickets; templates = s.templates; partials = s.partials; page_data = s.page_data; routes = new; redirects = s.redirects }
+abbrev pub with_routes : ContentsSeen → Named Target → ContentsSeen
+with_routes s new = record { templates = s.templates; partials = s.partials; page_data = s.page_data; routes = new; redirects = s.redirects }
 
-abbrev pub with_redirects : SiteSeen → Named (String Global) → SiteSeen
-with_redirects s new = record { tickets = s.tickets; templates = s.templates; partials = s.partials; page_data = s.page_data; routes = s.routes; redirects = new }
+abbrev pub with_redirects : ContentsSeen → Named (String Global) → ContentsSeen
+with_redirects s new = record { templates = s.templates; partials = s.partials; page_data = s.page_data; routes = s.routes; redirects = new }
 
 -- the action is about that kind and name alone
 abbrev About : Kind → List ℕ → Action → Type 0
 About kind key a = (k : Kind) (name : List ℕ) → is_about k name a ≡ (is_same_kind kind k && bytes_eq key name)
 
-templates_written : (site : SiteSeen) (new : Named TemplateSeen) (os : List Order) (o : Order) (key : List ℕ) (v : Option TemplateSeen) → Writes site.templates new key v
+templates_written : (site : ContentsSeen) (new : Named TemplateSeen) (os : List Order) (o : Order) (key : List ℕ) (v : Option TemplateSeen) → Writes site.templates new key v
     → About template key o.action → IsOfText v (option_and_then if_template (if_put o.action)) → HasContents site os → HasContents (with_templates site new) (os ++ o ∷ [])
 templates_written site new os o key v written only here h = record {
   templates = changes IsOfText if_template template site.templates new os o key v written (only template) here h.templates;
@@ -66,7 +66,7 @@ templates_written site new os o key v written only here h = record {
   redirects = stays Leads if_redirect redirect site.redirects os o (only redirect) h.redirects;
 }
 
-partials_written : (site : SiteSeen) (new : Named TemplateSeen) (os : List Order) (o : Order) (key : List ℕ) (v : Option TemplateSeen) → Writes site.partials new key v
+partials_written : (site : ContentsSeen) (new : Named TemplateSeen) (os : List Order) (o : Order) (key : List ℕ) (v : Option TemplateSeen) → Writes site.partials new key v
     → About partial key o.action → IsOfText v (option_and_then if_partial (if_put o.action)) → HasContents site os → HasContents (with_partials site new) (os ++ o ∷ [])
 partials_written site new os o key v written only here h = record {
   templates = stays IsOfText if_template template site.templates os o (only template) h.templates;
@@ -76,7 +76,7 @@ partials_written site new os o key v written only here h = record {
   redirects = stays Leads if_redirect redirect site.redirects os o (only redirect) h.redirects;
 }
 
-data_written : (site : SiteSeen) (new : Named Data) (os : List Order) (o : Order) (key : List ℕ) (v : Option Data) → Writes site.page_data new key v
+data_written : (site : ContentsSeen) (new : Named Data) (os : List Order) (o : Order) (key : List ℕ) (v : Option Data) → Writes site.page_data new key v
     → About page_data key o.action → IsData v (option_and_then if_data (if_put o.action)) → HasContents site os → HasContents (with_data site new) (os ++ o ∷ [])
 data_written site new os o key v written only here h = record {
   templates = stays IsOfText if_template template site.templates os o (only template) h.templates;
@@ -86,7 +86,7 @@ data_written site new os o key v written only here h = record {
   redirects = stays Leads if_redirect redirect site.redirects os o (only redirect) h.redirects;
 }
 
-routes_written : (site : SiteSeen) (new : Named Target) (os : List Order) (o : Order) (key : List ℕ) (v : Option Target) → Writes site.routes new key v
+routes_written : (site : ContentsSeen) (new : Named Target) (os : List Order) (o : Order) (key : List ℕ) (v : Option Target) → Writes site.routes new key v
     → About route key o.action → IsTarget v (option_and_then if_route (if_put o.action)) → HasContents site os → HasContents (with_routes site new) (os ++ o ∷ [])
 routes_written site new os o key v written only here h = record {
   templates = stays IsOfText if_template template site.templates os o (only template) h.templates;
@@ -96,7 +96,7 @@ routes_written site new os o key v written only here h = record {
   redirects = stays Leads if_redirect redirect site.redirects os o (only redirect) h.redirects;
 }
 
-redirects_written : (site : SiteSeen) (new : Named (String Global)) (os : List Order) (o : Order) (key : List ℕ) (v : Option (String Global)) → Writes site.redirects new key v
+redirects_written : (site : ContentsSeen) (new : Named (String Global)) (os : List Order) (o : Order) (key : List ℕ) (v : Option (String Global)) → Writes site.redirects new key v
     → About redirect key o.action → Leads v (option_and_then if_redirect (if_put o.action)) → HasContents site os → HasContents (with_redirects site new) (os ++ o ∷ [])
 redirects_written site new os o key v written only here h = record {
   templates = stays IsOfText if_template template site.templates os o (only template) h.templates;
@@ -109,10 +109,10 @@ redirects_written site new os o key v written only here h = record {
 -- ---- puts
 
 -- the site stands for the commands and one more, and the answer is right
-abbrev pub Done : SiteSeen → List Order → Ticket → Action → Type 0
+abbrev pub Done : ContentsSeen → List Order → Ticket → Action → Type 0
 Done site os ticket a = HasContents site (os ++ order ticket a ∷ []) × (Changed ≡ answered a)
 
-pub template_put : (site : SiteSeen) (new : Named TemplateSeen) (name : String Global) (t : TemplateSeen) (os : List Order) (ticket : Ticket) (a : Action)
+pub template_put : (site : ContentsSeen) (new : Named TemplateSeen) (name : String Global) (t : TemplateSeen) (os : List Order) (ticket : Ticket) (a : Action)
     → Writes site.templates new (string_bytes name) (Some t) → StandsAs (PutTemplate name t) a → HasContents site os → Done (with_templates site new) os ticket a
 template_put site new name t os ticket (put_template n body) written is h = (
   templates_written site new os (order ticket (put_template n body)) (string_bytes name) (Some t) written (λ k m. ap (λ x. is_same_kind template k && bytes_eq x m) (sym is.0)) (body, refl, is.1) h,
@@ -125,7 +125,7 @@ template_put site new name t os ticket (put_redirect p x) written is h = absurd 
 template_put site new name t os ticket (remove k n) written is h = absurd is
 template_put site new name t os ticket release written is h = absurd is
 
-pub partial_put : (site : SiteSeen) (new : Named TemplateSeen) (name : String Global) (t : TemplateSeen) (os : List Order) (ticket : Ticket) (a : Action)
+pub partial_put : (site : ContentsSeen) (new : Named TemplateSeen) (name : String Global) (t : TemplateSeen) (os : List Order) (ticket : Ticket) (a : Action)
     → Writes site.partials new (string_bytes name) (Some t) → StandsAs (PutPartial name t) a → HasContents site os → Done (with_partials site new) os ticket a
 partial_put site new name t os ticket (put_partial n body) written is h = (
   partials_written site new os (order ticket (put_partial n body)) (string_bytes name) (Some t) written (λ k m. ap (λ x. is_same_kind partial k && bytes_eq x m) (sym is.0)) (body, refl, is.1) h,
@@ -138,7 +138,7 @@ partial_put site new name t os ticket (put_redirect p x) written is h = absurd i
 partial_put site new name t os ticket (remove k n) written is h = absurd is
 partial_put site new name t os ticket release written is h = absurd is
 
-pub data_put : (site : SiteSeen) (new : Named Data) (name : String Global) (d : Data) (os : List Order) (ticket : Ticket) (a : Action)
+pub data_put : (site : ContentsSeen) (new : Named Data) (name : String Global) (d : Data) (os : List Order) (ticket : Ticket) (a : Action)
     → Writes site.page_data new (string_bytes name) (Some d) → StandsAs (PutData name d) a → HasContents site os → Done (with_data site new) os ticket a
 data_put site new name d os ticket (put_data n whole) written is h = (
   data_written site new os (order ticket (put_data n whole)) (string_bytes name) (Some d) written (λ k m. ap (λ x. is_same_kind page_data k && bytes_eq x m) (sym is.0)) (ap Some is.1) h,
@@ -151,7 +151,7 @@ data_put site new name d os ticket (put_redirect p x) written is h = absurd is
 data_put site new name d os ticket (remove k n) written is h = absurd is
 data_put site new name d os ticket release written is h = absurd is
 
-pub route_put : (site : SiteSeen) (new : Named Target) (path shows fills : String Global) (os : List Order) (ticket : Ticket) (a : Action)
+pub route_put : (site : ContentsSeen) (new : Named Target) (path shows fills : String Global) (os : List Order) (ticket : Ticket) (a : Action)
     → Writes site.routes new (string_bytes path) (Some (record { template = shows; page_data = fills })) → StandsAs (PutRoute path shows fills) a → HasContents site os → Done (with_routes site new) os ticket a
 route_put site new path shows fills os ticket (put_route p s f) written is h = (
   routes_written site new os (order ticket (put_route p s f)) (string_bytes path) (Some (record { template = shows; page_data = fills })) written
@@ -165,7 +165,7 @@ route_put site new path shows fills os ticket (put_redirect p x) written is h = 
 route_put site new path shows fills os ticket (remove k n) written is h = absurd is
 route_put site new path shows fills os ticket release written is h = absurd is
 
-pub redirect_put : (site : SiteSeen) (new : Named (String Global)) (path target : String Global) (os : List Order) (ticket : Ticket) (a : Action)
+pub redirect_put : (site : ContentsSeen) (new : Named (String Global)) (path target : String Global) (os : List Order) (ticket : Ticket) (a : Action)
     → Writes site.redirects new (string_bytes path) (Some target) → StandsAs (PutRedirect path target) a → HasContents site os → Done (with_redirects site new) os ticket a
 redirect_put site new path target os ticket (put_redirect p x) written is h = (
   redirects_written site new os (order ticket (put_redirect p x)) (string_bytes path) (Some target) written (λ k m. ap (λ y. is_same_kind redirect k && bytes_eq y m) (sym is.0)) (ap Some is.1) h,
@@ -183,29 +183,29 @@ redirect_put site new path target os ticket release written is h = absurd is
 about : (kind : Kind) (key : List ℕ) (a : Action) → a ≡ remove kind key → About kind key a
 about kind key a is k name = ap (is_about k name) is
 
-pub template_removed : (site : SiteSeen) (new : Named TemplateSeen) (key : List ℕ) (os : List Order) (o : Order) → Writes site.templates new key None → o.action ≡ remove template key
+pub template_removed : (site : ContentsSeen) (new : Named TemplateSeen) (key : List ℕ) (os : List Order) (o : Order) → Writes site.templates new key None → o.action ≡ remove template key
     → HasContents site os → HasContents (with_templates site new) (os ++ o ∷ [])
 template_removed site new key os o written is h = templates_written site new os o key None written (about template key o.action is) (ap (λ a. option_and_then if_template (if_put a)) is) h
 
-pub partial_removed : (site : SiteSeen) (new : Named TemplateSeen) (key : List ℕ) (os : List Order) (o : Order) → Writes site.partials new key None → o.action ≡ remove partial key
+pub partial_removed : (site : ContentsSeen) (new : Named TemplateSeen) (key : List ℕ) (os : List Order) (o : Order) → Writes site.partials new key None → o.action ≡ remove partial key
     → HasContents site os → HasContents (with_partials site new) (os ++ o ∷ [])
 partial_removed site new key os o written is h = partials_written site new os o key None written (about partial key o.action is) (ap (λ a. option_and_then if_partial (if_put a)) is) h
 
-pub data_removed : (site : SiteSeen) (new : Named Data) (key : List ℕ) (os : List Order) (o : Order) → Writes site.page_data new key None → o.action ≡ remove page_data key
+pub data_removed : (site : ContentsSeen) (new : Named Data) (key : List ℕ) (os : List Order) (o : Order) → Writes site.page_data new key None → o.action ≡ remove page_data key
     → HasContents site os → HasContents (with_data site new) (os ++ o ∷ [])
 data_removed site new key os o written is h = data_written site new os o key None written (about page_data key o.action is) (sym (ap (λ a. option_and_then if_data (if_put a)) is)) h
 
-pub route_removed : (site : SiteSeen) (new : Named Target) (key : List ℕ) (os : List Order) (o : Order) → Writes site.routes new key None → o.action ≡ remove route key
+pub route_removed : (site : ContentsSeen) (new : Named Target) (key : List ℕ) (os : List Order) (o : Order) → Writes site.routes new key None → o.action ≡ remove route key
     → HasContents site os → HasContents (with_routes site new) (os ++ o ∷ [])
 route_removed site new key os o written is h = routes_written site new os o key None written (about route key o.action is) (sym (ap (λ a. option_and_then if_route (if_put a)) is)) h
 
-pub redirect_removed : (site : SiteSeen) (new : Named (String Global)) (key : List ℕ) (os : List Order) (o : Order) → Writes site.redirects new key None → o.action ≡ remove redirect key
+pub redirect_removed : (site : ContentsSeen) (new : Named (String Global)) (key : List ℕ) (os : List Order) (o : Order) → Writes site.redirects new key None → o.action ≡ remove redirect key
     → HasContents site os → HasContents (with_redirects site new) (os ++ o ∷ [])
 redirect_removed site new key os o written is h = redirects_written site new os o key None written (about redirect key o.action is) (sym (ap (λ a. option_and_then if_redirect (if_put a)) is)) h
 
 -- ---- a release, and a remove by its kind
 
-pub released : (site : SiteSeen) (os : List Order) (ticket : Ticket) (a : Action) → StandsAs Release a → HasContents site os → HasContents site (os ++ order ticket a ∷ []) × (Released ≡ answered a)
+pub released : (site : ContentsSeen) (os : List Order) (ticket : Ticket) (a : Action) → StandsAs Release a → HasContents site os → HasContents site (os ++ order ticket a ∷ []) × (Released ≡ answered a)
 released site os ticket release is h =
     let o = order ticket release in (
       record {

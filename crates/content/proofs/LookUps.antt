@@ -1,4 +1,4 @@
--- What a look-up lends, from what the site has.
+-- What a look-up lends, from what there is.
 use Rattle.std.proofs.Common.{◌≡◌, ℕ, List, Option, Some, None, MatchOption, option_map, Bor, sym, ap, subst}
 use Rattle.std.specs.Option.{option_copied}
 use Rattle.mustache_parse.specs.Template.{TemplateSeen, IsTemplateOf}

@@ -1,12 +1,12 @@
 -- What is at each name, as one name changes.
-use Rattle.std.proofs.Common.{◌≡◌, ◌≢◌, ℕ, List, [], ◌∷◌, Bool, true, false, cond, Option, None, Some, Ordering, Less, Equal, Greater, String, Global, Result, Ok, Err, OnOk, nat_cmp, string_bytes, bytes_eq, refl, sym, ap, ◌∙◌, subst}
+use Rattle.std.proofs.Common.{◌≡◌, ℕ, List, [], ◌∷◌, Bool, true, false, cond, None, Ordering, Less, Equal, Greater, String, Global, Result, Ok, Err, OnOk, nat_cmp, string_bytes, bytes_eq, refl, sym, ap, ◌∙◌}
 use Rattle.std.proofs.lemmas.Cmp.{nat_list_cmp_total}
 use Rattle.std.proofs.lemmas.Map.Text.{is_eq-slice_cmp}
 use Rattle.std.specs.BTreeMap.{is_at}
 use Rattle.std.specs.Cmp.Lexicographic.{slice_cmp}
 use Rattle.std.specs.Ordering.{is_eq, ordering_reverse}
 use Rattle.shared_map.specs.Entries.{find}
-use Rattle.shared_map.specs.Search.{IsSearch, AreApart}
+use Rattle.shared_map.specs.Search.{AreApart}
 use Rattle.content.specs.View.{Named, at_name}
 
 pub on_ok : {A E P Q : Type 0} (r : Result A E) → (P → Q) → OnOk r P → OnOk r Q

@@ -30,7 +30,7 @@ not_a_command site values v fault reads is =
     let same = with_none values v fault reads in (
       record {
         tickets = λ t. is.tickets t ∙ sym (ap (has_ticket t) same);
-        contents = subst (HasContents site) (sym (ap firsts same)) is.contents;
+        contents = subst (HasContents site.contents) (sym (ap firsts same)) is.contents;
       },
       sym (ap (applied_after (commands_of values)) reads),
     )
@@ -49,7 +49,7 @@ pub repeated : (site : SiteSeen) (values : List (List ℕ)) (v : List ℕ) (o : 
 repeated site values v o reads has is = (
   record {
     tickets = λ t. is.tickets t ∙ sym (tickets_more values v o t reads ∙ still t (is_same_ticket o.ticket t) refl);
-    contents = subst (HasContents site) (sym (effective_more values v o true reads has ∙ append-nil (effective values))) is.contents;
+    contents = subst (HasContents site.contents) (sym (effective_more values v o true reads has ∙ append-nil (effective values))) is.contents;
   },
   sym (ap (applied_after (commands_of values)) reads ∙ rw has),
 )
@@ -61,11 +61,11 @@ repeated site values v o reads has is = (
 -- a command with a new ticket
 pub taken : (site new : SiteSeen) (values : List (List ℕ)) (v : List ℕ) (o : Order) (a : Applied) → value_reading v ≡ Ok o → has_ticket o.ticket (commands_of values) ≡ false → IsSiteOf site values
     → ((t : Ticket) → is_held t new.tickets ≡ cond (is_same_ticket o.ticket t) true (is_held t site.tickets))
-    → HasContents new (effective values ++ o ∷ []) × (a ≡ answered o.action) → IsSiteOf new (values ++ v ∷ []) × (a ≡ applied values v)
+    → HasContents new.contents (effective values ++ o ∷ []) × (a ≡ answered o.action) → IsSiteOf new (values ++ v ∷ []) × (a ≡ applied values v)
 taken site new values v o a reads has is tickets done = (
   record {
     tickets = λ t. tickets t ∙ ap (cond (is_same_ticket o.ticket t) true) (is.tickets t) ∙ sym (tickets_more values v o t reads);
-    contents = subst (HasContents new) (sym (effective_more values v o false reads has)) done.0;
+    contents = subst (HasContents new.contents) (sym (effective_more values v o false reads has)) done.0;
   },
   done.1 ∙ sym (ap (applied_after (commands_of values)) reads ∙ rw has),
 )

@@ -7,20 +7,20 @@ use Rattle.mustache_parse.specs.Template.{TemplateSeen, IsTemplateOf}
 use Rattle.command.specs.Action.{Order}
 use Rattle.command.specs.Effective.{is_same_ticket, has_ticket, commands_of, effective}
 use Rattle.command.specs.Site.{template_at, partial_at, data_at, route_at, redirect_at}
-use Rattle.content.specs.View.{SiteSeen, at_name, names_of}
+use Rattle.content.specs.View.{ContentsSeen, SiteSeen, at_name, names_of}
 
 -- a template is of the text, and there is none where there is no text
 abbrev pub IsOfText : Option TemplateSeen → Option (List ℕ) → Type 0
 IsOfText None text = text ≡ None
 IsOfText (Some t) text = (x : List ℕ) × (text ≡ Some x) × IsTemplateOf t x
 
--- at each name the site has what stands there after the commands
-pub record HasContents (site : SiteSeen) (orders : List Order) : Type 0 where
-  pub templates : (name : List ℕ) → IsOfText (at_name name site.templates) (template_at name orders)
-  pub partials : (name : List ℕ) → IsOfText (at_name name site.partials) (partial_at name orders)
-  pub page_data : (name : List ℕ) → option_map data_view (at_name name site.page_data) ≡ data_at name orders
-  pub routes : (path : List ℕ) → option_map names_of (at_name path site.routes) ≡ route_at path orders
-  pub redirects : (path : List ℕ) → option_map string_bytes (at_name path site.redirects) ≡ redirect_at path orders
+-- at each name there is what stands there after the commands
+pub record HasContents (contents : ContentsSeen) (orders : List Order) : Type 0 where
+  pub templates : (name : List ℕ) → IsOfText (at_name name contents.templates) (template_at name orders)
+  pub partials : (name : List ℕ) → IsOfText (at_name name contents.partials) (partial_at name orders)
+  pub page_data : (name : List ℕ) → option_map data_view (at_name name contents.page_data) ≡ data_at name orders
+  pub routes : (path : List ℕ) → option_map names_of (at_name path contents.routes) ≡ route_at path orders
+  pub redirects : (path : List ℕ) → option_map string_bytes (at_name path contents.redirects) ≡ redirect_at path orders
 
 abbrev pub is_held : Ticket → List Ticket → Bool
 is_held ticket tickets = list_any (is_same_ticket ticket) tickets
@@ -28,4 +28,4 @@ is_held ticket tickets = list_any (is_same_ticket ticket) tickets
 -- the site stands for the values: it has the tickets of their commands, and what their effective commands leave
 pub record IsSiteOf (site : SiteSeen) (values : List (List ℕ)) : Type 0 where
   pub tickets : (ticket : Ticket) → is_held ticket site.tickets ≡ has_ticket ticket (commands_of values)
-  pub contents : HasContents site (effective values)
+  pub contents : HasContents site.contents (effective values)

@@ -18,13 +18,16 @@ keys entries = map (λ e. e.0) entries
 abbrev pub Named : Type 0 → Type 0
 Named V = List (String Global × V)
 
-pub record SiteSeen : Type 0 where
-  pub tickets : List Ticket
+pub record ContentsSeen : Type 0 where
   pub templates : Named TemplateSeen
   pub partials : Named TemplateSeen
   pub page_data : Named Data
   pub routes : Named Target
   pub redirects : Named (String Global)
+
+pub record SiteSeen : Type 0 where
+  pub tickets : List Ticket
+  pub contents : ContentsSeen
 
 -- what there is at a name
 abbrev pub at_name : {V : Type 0} → List ℕ → Named V → Option V

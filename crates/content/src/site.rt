@@ -1,19 +1,18 @@
-ghost use Rattle.std.specs.Prelude.{◌≡◌, ◌≢◌, ℕ, List, [], ◌∷◌, ◌++◌, Some, None, Ok, IfOk, OnOk, OnErr, MatchOption, option_map};
-ghost use Rattle.command.specs.Action.{Order, remove};
+ghost use Rattle.std.specs.Prelude.{◌≡◌, ◌≢◌, ℕ, List, [], ◌∷◌, ◌++◌, Some, None, Ok, IfOk, OnErr, MatchOption, option_map};
+ghost use Rattle.command.specs.Action.{Order};
 ghost use Rattle.command.specs.Effective.{effective};
 ghost use Rattle.command.specs.Reading.{value_reading};
 ghost use Rattle.command.specs.Site.{template_at, partial_at, data_at, route_at, redirect_at};
-ghost use Rattle.command.specs.Standing.{StandsAs, StandsFor};
-ghost use Rattle.command.specs.View.{kind_view, pair_view};
+ghost use Rattle.command.specs.Standing.{StandsFor};
+ghost use Rattle.command.specs.View.{pair_view};
 ghost use Rattle.context.specs.View.{data_view};
 ghost use Rattle.mustache_parse.specs.Template.{IsTemplateOf};
-ghost use Rattle.content.specs.Standing.{HasContents, IsSiteOf};
-ghost use Rattle.content.specs.Answered.{answered, applied};
+ghost use Rattle.content.specs.Standing.{IsSiteOf};
+ghost use Rattle.content.specs.Answered.{applied};
 
 use crate::applied::Applied;
-use crate::maps::{put, take_away};
-use crate::target::Target;
-use command::{Action, Command, CommandFault, Kind, read};
+use crate::contents::Contents;
+use command::{Command, CommandFault, read};
 use context::Data;
 use mustache_parse::Template;
 use shared_map::SharedMap;
@@ -26,11 +25,7 @@ use std::marker::Model;
 pub struct Site {
     alloc: Global,
     tickets: SharedMap<Ticket, ()>,
-    templates: SharedMap<String, Template>,
-    partials: SharedMap<String, Template>,
-    page_data: SharedMap<String, Data>,
-    routes: SharedMap<String, Target>,
-    redirects: SharedMap<String, String>,
+    contents: Contents,
 }
 
 impl Model for Site {
@@ -43,14 +38,7 @@ impl Model for Site {
 
     ghost coded = { Prim.hlevel (codes, node_type.the_row.coded, data_type.the_row.coded) };
 
-    ghost view = { λ s. record {
-      tickets = keys s.tickets;
-      templates = s.templates;
-      partials = s.partials;
-      page_data = s.page_data;
-      routes = s.routes;
-      redirects = s.redirects;
-    } };
+    ghost view = { λ s. record { tickets = keys s.tickets; contents = s.contents } };
 }
 
 /// What a value that is no command is answered with.
@@ -71,11 +59,7 @@ impl Site {
         Site {
             alloc,
             tickets: SharedMap::new(alloc),
-            templates: SharedMap::new(alloc),
-            partials: SharedMap::new(alloc),
-            page_data: SharedMap::new(alloc),
-            routes: SharedMap::new(alloc),
-            redirects: SharedMap::new(alloc),
+            contents: Contents::new(alloc),
         }
     }
 
@@ -103,53 +87,9 @@ impl Site {
         }
         let mut tickets = self.tickets.copy()?;
         tickets.put(ticket, ())?;
-        let done = self.act(action)?;
+        let done = self.contents.act(action)?;
         self.tickets = tickets;
         Ok(done)
-    }
-
-    /// Puts or removes what the command says.
-    fn act(&mut self, action: Action) -> Result<Applied, AllocError>
-        ensures ok { IfOk result (λ a. (orders : List Order) (order : Order) → StandsAs action order.action
-            → HasContents self.old orders → HasContents self.new (orders ++ (order ∷ [])) × (a ≡ answered order.action)) }
-        ensures tickets { self.new.tickets ≡ self.old.tickets }
-        ensures err { OnErr result (self.new ≡ self.old) }
-    {
-        match action {
-            Action::PutTemplate { name, template } => put(&mut self.templates, name, template)?,
-            Action::PutPartial { name, template } => put(&mut self.partials, name, template)?,
-            Action::PutData { name, page_data } => put(&mut self.page_data, name, page_data)?,
-            Action::PutRoute {
-                path,
-                template,
-                page_data,
-            } => {
-                let target = Target {
-                    template,
-                    page_data,
-                };
-                put(&mut self.routes, path, target)?
-            }
-            Action::PutRedirect { path, target } => put(&mut self.redirects, path, target)?,
-            Action::Remove { kind, name } => self.remove(kind, &name)?,
-            Action::Release => return Ok(Applied::Released),
-        }
-        Ok(Applied::Changed)
-    }
-
-    fn remove(&mut self, kind: Kind, name: &str) -> Result<(), AllocError>
-        ensures removed { OnOk result ((orders : List Order) (order : Order) → order.action ≡ remove (kind_view kind) name.now
-            → HasContents self.old orders → HasContents self.new (orders ++ (order ∷ []))) }
-        ensures tickets { self.new.tickets ≡ self.old.tickets }
-        ensures err { OnErr result (self.new ≡ self.old) }
-    {
-        match kind {
-            Kind::Template => take_away(&mut self.templates, name),
-            Kind::Partial => take_away(&mut self.partials, name),
-            Kind::Data => take_away(&mut self.page_data, name),
-            Kind::Route => take_away(&mut self.routes, name),
-            Kind::Redirect => take_away(&mut self.redirects, name),
-        }
     }
 
     /// A copy, which shares its contents with this site. Either changes by itself.
@@ -159,11 +99,7 @@ impl Site {
         Ok(Site {
             alloc: self.alloc,
             tickets: self.tickets.copy()?,
-            templates: self.templates.copy()?,
-            partials: self.partials.copy()?,
-            page_data: self.page_data.copy()?,
-            routes: self.routes.copy()?,
-            redirects: self.redirects.copy()?,
+            contents: self.contents.copy()?,
         })
     }
 
@@ -173,7 +109,7 @@ impl Site {
             → MatchOption result (template_at name.now (effective values) ≡ None)
             (λ t. (text : List ℕ) × (template_at name.now (effective values) ≡ Some text) × IsTemplateOf t.now text) }
     {
-        self.templates.get(name)
+        self.contents.template(name)
     }
 
     /// The partial of that name.
@@ -182,29 +118,27 @@ impl Site {
             → MatchOption result (partial_at name.now (effective values) ≡ None)
             (λ t. (text : List ℕ) × (partial_at name.now (effective values) ≡ Some text) × IsTemplateOf t.now text) }
     {
-        self.partials.get(name)
+        self.contents.partial(name)
     }
 
     /// The data of that name.
     pub fn data(&self, name: &str) -> Option<&Data>
         ensures { (values : List (List ℕ)) → IsSiteOf self.now values → option_map (λ d. data_view d.now) result ≡ data_at name.now (effective values) }
     {
-        self.page_data.get(name)
+        self.contents.data(name)
     }
 
     /// The names of the template and the data of the route at that path.
     pub fn route(&self, path: &str) -> Option<(&str, &str)>
         ensures { (values : List (List ℕ)) → IsSiteOf self.now values → option_map pair_view result ≡ route_at path.now (effective values) }
     {
-        let target = self.routes.get(path)?;
-        Some((target.template.as_str(), target.page_data.as_str()))
+        self.contents.route(path)
     }
 
     /// The path that the redirect at that path leads to.
     pub fn redirect(&self, path: &str) -> Option<&str>
         ensures { (values : List (List ℕ)) → IsSiteOf self.now values → option_map (λ target. target.now) result ≡ redirect_at path.now (effective values) }
     {
-        let target = self.redirects.get(path)?;
-        Some(target.as_str())
+        self.contents.redirect(path)
     }
 }

@@ -10,7 +10,6 @@ use Rattle.learner.specs.declared.learning.Learner.{Learner}
 use Rattle.proposer.specs.Attempts.{Attempt}
 use Rattle.proposer.specs.Standing.{Attempting}
 use Rattle.proposer.specs.declared.proposing.Proposer.{Proposer}
-use Rattle.node.specs.declared.known.Known.{Known}
 use Rattle.node.specs.declared.queue.Queue.{Queue}
 use Rattle.node.specs.declared.running.Node.{Node as Running}
 use Rattle.node.specs.Nodes.{Value, Node}
@@ -84,7 +83,7 @@ module _ {D : Type 0} where
     pub store : new.store ≡ old.store
     pub reached : new.reached ≡ old.reached
     pub heard : new.proposer.heard ≡ old.proposer.heard
-    pub known : (known : ℕ → Option Value) → AreKnown old.known known → AreKnown new.known (put_at known i (Some v))
+    pub known : (published : List Value) (known : ℕ → Option Value) → AreKnown old.known published known → AreKnown new.known published (put_at known i (Some v))
     pub votes : (t : ToldVote) → IsTold new.learner t ↔ (IsTold old.learner t × (t.instance ≢ i))
     pub attempts : (attempts : ℕ → Option Attempt) → Attempting old.proposer attempts → Attempting new.proposer (put_at attempts i None)
     pub pending : (values : List Value) → AreWaiting old.queue.items.items values → AreWaiting new.queue.items.items (filter (λ u. not (has_same_ticket u v)) values)
@@ -93,7 +92,7 @@ module _ {D : Type 0} where
   learned_parts old new s i v others learns parts = record {
     on_record = same_record old new s (learned s i v) others (same_store old.store new.store learns.store) refl refl refl parts.on_record;
     votes = told_elsewhere i s.votes old.learner new.learner parts.votes learns.votes;
-    known = learns.known s.known parts.known;
+    known = subst (λ vs. AreKnown new.known vs (put_at s.known i (Some v))) (sym others.releases) (learns.known old.releases s.known parts.known);
     attempts = learns.attempts s.attempts parts.attempts;
     pending = learns.pending s.pending parts.pending;
     heard = learns.heard ∙ parts.heard;
@@ -102,11 +101,11 @@ module _ {D : Type 0} where
 
   -- nothing was learned: only what is known may have changed its room
   pub same_parts : (old new : Running D) (s : Node) → KeepsOthers old new → new.store ≡ old.store → new.reached ≡ old.reached → new.proposer ≡ old.proposer → new.learner ≡ old.learner → new.queue ≡ old.queue
-      → ((known : ℕ → Option Value) → AreKnown old.known known → AreKnown new.known known) → HasParts old s → HasParts new s
+      → ((published : List Value) (known : ℕ → Option Value) → AreKnown old.known published known → AreKnown new.known published known) → HasParts old s → HasParts new s
   same_parts old new s others store reached proposer learner queue known parts = record {
     on_record = same_record old new s s others (same_store old.store new.store store) refl refl refl parts.on_record;
     votes = λ t. subst (λ l. IsTold l t ↔ In s.votes t) (sym learner) (parts.votes t);
-    known = known s.known parts.known;
+    known = subst (λ vs. AreKnown new.known vs s.known) (sym others.releases) (known old.releases s.known parts.known);
     attempts = subst (λ p. Attempting p s.attempts) (sym proposer) parts.attempts;
     pending = subst (λ q. AreWaiting q.items.items s.pending) (sym queue) parts.pending;
     heard = ap (λ p. p.heard) proposer ∙ parts.heard;
@@ -122,7 +121,7 @@ module _ {D : Type 0} where
   counted_parts code counted s votes i v reached others parts store learner known queue proposer is told = record {
     on_record = same_record code counted (learned s i v) (learned (record s { votes = votes; reached = reached }) i v) others (same_store code.store counted.store store) refl refl refl parts.on_record;
     votes = λ t. subst (λ (l : Learner). IsTold l t ↔ In (elsewhere i votes) t) (sym learner) (told t);
-    known = subst (λ (k : Known). AreKnown k (put_at s.known i (Some v))) (sym known) parts.known;
+    known = rw (known, others.releases) parts.known;
     attempts = subst (λ (p : Proposer). Attempting p (put_at s.attempts i None)) (sym proposer) parts.attempts;
     pending = subst (λ (q : Queue). AreWaiting q.items.items (learned s i v).pending) (sym queue) parts.pending;
     heard = ap (λ (p : Proposer). p.heard) proposer ∙ parts.heard;

@@ -27,6 +27,7 @@ pub mod Promising
 pub mod Unread
 pub mod Counting
 pub mod TicketSets
+pub mod Published
 pub mod Adding
 pub mod Elsewhere
 pub mod Beginnings

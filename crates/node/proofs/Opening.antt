@@ -20,7 +20,7 @@ use Rattle.node.proofs.Ranging.{opens_in_range}
 use Rattle.node.proofs.Tidying.{opens_tidy}
 
 module _ {D : Type 0} (stands_for : D → DiskState → Type 0) (disk : D) (code : Running D) (entries : List Entry) where
-  pub opens : IsOpened stands_for disk code.store entries → ((t : ToldVote) → ¬ IsTold code.learner t) → AreKnown code.known (λ i. None) → Attempting code.proposer (λ i. None) → AreWaiting code.queue.items.items []
+  pub opens : IsOpened stands_for disk code.store entries → ((t : ToldVote) → ¬ IsTold code.learner t) → AreKnown code.known [] (λ i. None) → Attempting code.proposer (λ i. None) → AreWaiting code.queue.items.items []
       → code.proposer.heard ≡ 0 → code.reached ≡ 0 → code.releases ≡ [] → OpensAs stands_for disk code entries
   opens read votes known attempts pending heard reached releases = record {
     stands = record {
@@ -32,7 +32,7 @@ module _ {D : Type 0} (stands_for : D → DiskState → Type 0) (disk : D) (code
           settled = λ runs. refl;
         };
         votes = λ t. (λ h. absurd (votes t h), λ h. absurd h);
-        known = known;
+        known = subst (λ vs. AreKnown code.known vs (λ i. None)) (sym releases) known;
         attempts = attempts;
         pending = pending;
         heard = heard;

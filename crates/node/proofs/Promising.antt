@@ -18,9 +18,7 @@ use Rattle.proposer.specs.declared.proposing.Proposer.{Proposer}
 use Rattle.node.specs.declared.to.To.TheVariants.{All}
 use Rattle.node.specs.declared.running.Node.{Node as Running}
 use Rattle.node.specs.Nodes.{Value, Node}
-use Rattle.node.specs.Knowing.{AreKnown}
 use Rattle.node.specs.Waiting.{AreWaiting}
-use Rattle.node.specs.declared.known.Known.{Known}
 use Rattle.node.specs.declared.queue.Queue.{Queue}
 use Rattle.node.specs.Calls.{deliver}
 use Rattle.node.specs.Deliveries.{promise_out}
@@ -70,7 +68,7 @@ module _ {D : Type 0} (stands_for : D → DiskState → Type 0) where
         parts = record {
           on_record = same_record old new s t others seems refl refl refl parts.on_record;
           votes = λ x. subst (λ (l : Learner). IsTold l x ↔ In s.votes x) (sym learner) (parts.votes x);
-          known = subst (λ (k : Known). AreKnown k s.known) (sym known) parts.known;
+          known = rw (known, others.releases) parts.known;
           attempts = how.2;
           pending = subst (λ (q : Queue). AreWaiting q.items.items s.pending) (sym queue) parts.pending;
           heard = heard ∙ parts.heard;

@@ -13,14 +13,12 @@ use Rattle.learner.specs.Votes.{IsTold}
 use Rattle.learner.specs.declared.learning.Learner.{Learner}
 use Rattle.proposer.specs.Attempts.{Attempt, opened_span}
 use Rattle.proposer.specs.Standing.{Attempting}
-use Rattle.node.specs.declared.known.Known.{Known}
 use Rattle.node.specs.declared.queue.Queue.{Queue}
 use Rattle.node.specs.declared.running.Node.{Node as Running}
 use Rattle.node.specs.declared.to.To.{To}
 use Rattle.node.specs.declared.to.To.TheVariants.{All}
 use Rattle.node.specs.Nodes.{Value, Node}
 use Rattle.node.specs.Calls.{Call, fresh_ballot, HasRound, Does}
-use Rattle.node.specs.Knowing.{AreKnown}
 use Rattle.node.specs.Standing.{HasParts, IsNodeOf, KeepsOthers}
 use Rattle.node.specs.Waiting.{AreWaiting}
 use Rattle.node.specs.Beginning.{begun, next_of}
@@ -65,7 +63,7 @@ module _ {D : Type 0} where
         parts = record {
           on_record = put_record stands_for failed old new (Round b.round) others runs s parts starts.puts.put;
           votes = λ x. subst (λ (l : Learner). IsTold l x ↔ In s.votes x) (sym starts.learner) (parts.votes x);
-          known = subst (λ (k : Known). AreKnown k s.known) (sym starts.known) parts.known;
+          known = rw (starts.known, others.releases) parts.known;
           attempts = starts.attempts s.attempts parts.attempts;
           pending = subst (λ (q : Queue). AreWaiting q.items.items s.pending) (sym starts.queue) parts.pending;
           heard = starts.heard ∙ parts.heard;

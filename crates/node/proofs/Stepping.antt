@@ -29,7 +29,6 @@ use Rattle.proposer.specs.Attempts.{Attempt}
 use Rattle.proposer.specs.Standing.{Attempting}
 use Rattle.node.specs.declared.fault.NodeFault.{NodeFault}
 use Rattle.node.specs.declared.fault.NodeFault.TheVariants as fault
-use Rattle.node.specs.declared.known.Known.{Known}
 use Rattle.node.specs.declared.queue.Queue.{Queue}
 use Rattle.node.specs.declared.running.Node.{Node as Running}
 use Rattle.node.specs.declared.to.To.{To}
@@ -39,7 +38,6 @@ use Rattle.node.specs.Effects.{Effect, recorded}
 use Rattle.node.specs.Endings.{Ending, Whole, Refused, Failed, Ends, EndsWhole, EndsRefused, EndsFailed, TakesRoom, Refuses}
 use Rattle.node.specs.Faults.{of_record}
 use Rattle.node.specs.Ahead.{StaysAhead}
-use Rattle.node.specs.Knowing.{AreKnown}
 use Rattle.node.specs.Ranges.{HasRanges, IsCallInRange}
 use Rattle.node.specs.Standing.{ending_by, ending_of, IsOnRecord, HasParts, IsNodeOf, IsOnDisk, IsEither, StaysOnDisk, Leads, IsEvent, KeepsOthers, CountsDevice}
 use Rattle.node.specs.Waiting.{AreWaiting}
@@ -144,15 +142,15 @@ module _ {D : Type 0} where
     pub attempts : (attempts : ℕ → Option Attempt) → Attempting old.proposer attempts → Attempting new.proposer attempts
     pub heard : new.proposer.heard ≡ old.proposer.heard
 
-  pub rest_with : (old new : Running D) (s t : Node) → HasParts old s → KeepsRest old new → IsOnRecord new.store new.cluster t.mode t.entries t.in_flight → t ≡ record s { mode = t.mode; entries = t.entries; in_flight = t.in_flight; reached = new.reached }
+  pub rest_with : (old new : Running D) (s t : Node) → KeepsOthers old new → HasParts old s → KeepsRest old new → IsOnRecord new.store new.cluster t.mode t.entries t.in_flight → t ≡ record s { mode = t.mode; entries = t.entries; in_flight = t.in_flight; reached = new.reached }
       → HasParts new t
-  rest_with old new s t parts rest on is =
+  rest_with old new s t others parts rest on is =
       let u : Node = record s { mode = t.mode; entries = t.entries; in_flight = t.in_flight; reached = new.reached } in
       subst (λ (x : Node). HasParts new x) (sym is)
       (record {
         on_record = on;
         votes = λ x. subst (λ (l : Learner). IsTold l x ↔ In s.votes x) (sym rest.learner) (parts.votes x);
-        known = subst (λ (k : Known). AreKnown k s.known) (sym rest.known) parts.known;
+        known = rw (rest.known, others.releases) parts.known;
         attempts = rest.attempts s.attempts parts.attempts;
         pending = subst (λ (q : Queue). AreWaiting q.items.items s.pending) (sym rest.queue) parts.pending;
         heard = rest.heard ∙ parts.heard;
@@ -161,7 +159,7 @@ module _ {D : Type 0} where
 
   pub unmoved : (old new : Running D) (s : Node) → KeepsOthers old new → new.store ≡ old.store → KeepsRest old new → new.reached ≡ old.reached → HasParts old s → HasParts new s
   unmoved old new s others store rest reached parts =
-      rest_with old new s s parts rest (same_record old new s s others (same_store old.store new.store store) refl refl refl parts.on_record) (λ k. record s { reached = (sym parts.reached ∙ sym reached) k })
+      rest_with old new s s others parts rest (same_record old new s s others (same_store old.store new.store store) refl refl refl parts.on_record) (λ k. record s { reached = (sym parts.reached ∙ sym reached) k })
 
   module _ (stands_for : D → DiskState → Type 0) where
     pub of_node : (store : Record D) (p n : ℕ) (d : DiskState) (entries : List Entry) → store.node ≡ p → store.cluster ≡ n → IsStored stands_for store d entries → Keeps p n entries None d
@@ -392,7 +390,7 @@ module _ {D : Type 0} where
               let store = unchanged_store old.store new.store same in
               subst (λ (f : NodeFault). IsEvent stands_for old new call (ending_by f) before after) (sym memory)
               (refused old new call fault.OutOfMemory before after others in_range told wants store
-              (λ s parts. rest_with old new s s parts rest (same_record old new s s others store refl refl refl parts.on_record) (λ k. record s { reached = (sym parts.reached ∙ sym reached) k })))
+              (λ s parts. rest_with old new s s others parts rest (same_record old new s s others store refl refl refl parts.on_record) (λ k. record s { reached = (sym parts.reached ∙ sym reached) k })))
 
           cut : IsErrOf {T = Unit {0}} (Err e) stored.Device → IsEvent stands_for old new call (ending_by (of_record e)) before after
           cut device =
@@ -412,7 +410,7 @@ module _ {D : Type 0} where
                       node = refl;
                     } in
                     leads old new call Failed before after [] s t others in_range stands ends
-                    (rest_with old new s t stands.parts rest (cut_record s stands.parts puts.kept short.stops) (λ k. record t { reached = (sym stands.parts.reached ∙ sym reached) k }))
+                    (rest_with old new s t others stands.parts rest (cut_record s stands.parts puts.kept short.stops) (λ k. record t { reached = (sym stands.parts.reached ∙ sym reached) k }))
                     (record {
                       on_disk = cut_there s stands.parts short.stops short.in_flight;
                       ahead = λ base d of. absurd ((puts.batched (is_open old.store d base.entries of.batch of.ahead)).no_device device);
@@ -433,7 +431,7 @@ module _ {D : Type 0} where
           effect = record { entry = Some entry; after = touched i s; out = wanted };
           does = does s stands;
           handed = same;
-          parts = rest_with old new s t stands.parts rest (put_record failed old new entry others runs s stands.parts puts.put) (λ k. record t { reached = (sym (reached ∙ ap (λ r. max r i) stands.parts.reached)) k });
+          parts = rest_with old new s t others stands.parts rest (put_record failed old new entry others runs s stands.parts puts.put) (λ k. record t { reached = (sym (reached ∙ ap (λ r. max r i) stands.parts.reached)) k });
           stays = put_stays failed old new entry others runs s t stands.parts puts.acknowledged (λ open_now. (puts.batched open_now).ahead) refl refl;
         })
 
@@ -450,7 +448,7 @@ module _ {D : Type 0} where
           effect = record { entry = None; after = t; out = wanted };
           does = does s stands;
           handed = same;
-          parts = rest_with old new s t stands.parts rest (same_record old new s t others seems refl refl refl stands.parts.on_record) (λ k. record t { reached = (sym (reached ∙ ap (λ r. max r i) stands.parts.reached)) k });
+          parts = rest_with old new s t others stands.parts rest (same_record old new s t others seems refl refl refl stands.parts.on_record) (λ k. record t { reached = (sym (reached ∙ ap (λ r. max r i) stands.parts.reached)) k });
           stays = stays_there old new s t others seems refl refl;
         })
 

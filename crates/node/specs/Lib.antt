@@ -20,3 +20,4 @@ pub mod Standing
 pub mod Batches
 pub mod Beginning
 pub mod ReadValues
+pub mod Published

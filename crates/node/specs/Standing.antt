@@ -40,7 +40,7 @@ pub record IsOnRecord {D : Type 0} (store : Record D) (n : ℕ) (mode : Mode) (e
 pub record HasParts {D : Type 0} (code : Running D) (s : Node) : Type 0 where
   pub on_record : IsOnRecord code.store code.cluster s.mode s.entries s.in_flight
   pub votes : (t : ToldVote) → IsTold code.learner t ↔ In s.votes t
-  pub known : AreKnown code.known s.known
+  pub known : AreKnown code.known code.releases s.known
   pub attempts : Attempting code.proposer s.attempts
   pub pending : AreWaiting code.queue.items.items s.pending
   pub heard : code.proposer.heard ≡ s.heard

@@ -6,6 +6,7 @@ ghost use Rattle.site_disk.specs.Model.{DiskState};
 ghost use Rattle.command.specs.Effective.{effective};
 ghost use Rattle.command.specs.Releases.{release_count};
 ghost use Rattle.node.specs.Nodes.{Value as Bytes};
+ghost use Rattle.node.specs.Published.{AreHeldWith};
 ghost use Rattle.release.specs.Page.{answer};
 ghost use Rattle.release.specs.Receipts.{receipt_of};
 ghost use Rattle.release.specs.Standing.{answer_view};
@@ -16,23 +17,46 @@ use release::{Answer, AnswerFault, Releases};
 use site_disk::Disk;
 use site_ids::{Instance, Ticket, Value};
 use std::alloc::AllocError;
-use std::collections::BTreeMap;
+use std::collections::{BTreeMap, BTreeSet};
 
-// Feeds those of the values that were not fed yet, one after the other, with what was read of them.
+fn ticket_of(read: &Option<ReadValue>) -> Option<Ticket> {
+    match read {
+        Some(read) => Some(read.ticket()),
+        None => None,
+    }
+}
+
+// Takes a ticket out of a set, where the releases have it.
+fn drop_published(tickets: &mut BTreeSet<Ticket>, releases: &Releases, ticket: Option<Ticket>)
+    ensures { AreHeldWith tickets.old tickets.new releases.now }
+{
+    let Some(ticket) = ticket else {
+        return;
+    };
+    if releases.receipt(ticket).is_some() {
+        tickets.remove(&ticket);
+    }
+}
+
+// Feeds those of the values that were not fed yet, one after the other, with what was read of them. The releases have the tickets that are taken out.
 fn feed(
     values: &[Value],
     unpublished: &mut BTreeMap<u32, ReadValue>,
+    tickets: &mut BTreeSet<Ticket>,
     releases: &mut Releases,
 ) -> Result<(), AllocError>
     requires { length values.now ≤ MAX_INSTANCE }
     ensures more { (more : List Bytes) × (releases.new ≡ releases.old ++ more) }
     ensures begins { releases.old ≡ take (length releases.old) values.now → releases.new ≡ take (length releases.new) values.now }
+    ensures tickets { AreHeldWith tickets.old tickets.new releases.new }
     ensures all { OnOk result (length values.now ≤ length releases.new) }
     ensures short { OnErr result (length releases.new < length values.now) }
 {
     while let Some(value) = values.get(releases.len()) {
         let read = unpublished.remove(&(releases.len() as u32 + 1));
+        let ticket = ticket_of(&read);
         feed_value(value, read, releases)?;
+        drop_published(tickets, releases, ticket);
     }
     Ok(())
 }
@@ -57,6 +81,7 @@ impl<D: Disk> Node<D> {
         feed(
             known.log.prefix(),
             &mut known.unpublished,
+            &mut known.tickets,
             &mut self.releases,
         )?;
         Ok(self.releases.newest())

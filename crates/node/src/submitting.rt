@@ -51,6 +51,6 @@ impl<D: Disk> Node<D> {
     fn holds(&self, ticket: Ticket) -> bool
         ensures { (s : AbstractNode) → IsNodeOf self.now s → IsTrue result ↔ HoldsTicket s ticket }
     {
-        self.queue.holds(ticket) || self.known.holds(ticket)
+        self.queue.holds(ticket) || self.known.holds(&self.releases, ticket)
     }
 }

@@ -7,8 +7,8 @@ use Rattle.command.specs.Effective.{effective}
 use Rattle.command.specs.Releases.{is_release, release_count, through}
 use Rattle.command.proofs.EffectiveLemmas.{effective_grows}
 use Rattle.command.proofs.ReleaseLemmas.{next_begins, release_stays}
-use Rattle.content.specs.View.{SiteSeen}
-use Rattle.content.specs.Standing.{IsSiteOf}
+use Rattle.content.specs.View.{ContentsSeen}
+use Rattle.content.specs.Standing.{HasContents}
 use Rattle.release.specs.Page.{Page, page_of, released, answer}
 use Rattle.release.specs.ReleaseSite.{IsSiteOfRelease}
 use Rattle.release.specs.Laws.{ListBegins, AnswerStays, ReleasesStay, AnswerIsNone}
@@ -28,11 +28,11 @@ there_is (suc n) newest not = (omega arith, by (leb_tells (suc n) newest))
     by (inr past) = absurd (not (inr past.1))
 
 -- the page of a release's site is what the values answer for it
-pub site_answers : (values : List (List ℕ)) (n : ℕ) (path : List ℕ) (site : SiteSeen) (page : Page) → IsSiteOfRelease values n site → ((n ≡ 0) ⊎ (release_count (effective values) < n) → true ≡ false)
-    → ((shown : List (List ℕ)) → IsSiteOf site shown → page ≡ page_of (effective shown) path) → answer values n path ≡ Some page
+pub site_answers : (values : List (List ℕ)) (n : ℕ) (path : List ℕ) (site : ContentsSeen) (page : Page) → IsSiteOfRelease values n site → ((n ≡ 0) ⊎ (release_count (effective values) < n) → true ≡ false)
+    → ((orders : List Order) → HasContents site orders → page ≡ page_of orders path) → answer values n path ≡ Some page
 site_answers values n path site page is not gives =
     let there = there_is n (release_count (effective values)) (λ h. let never : true ≡ false = not h in cc) in
-    released_is (effective values) n path there.0 there.1 ∙ sym (ap Some (gives is.shown is.stands ∙ ap (λ os. page_of os path) is.list))
+    released_is (effective values) n path there.0 there.1 ∙ sym (ap Some (gives (through (effective values) n) is))
 
 -- ---- laws
 

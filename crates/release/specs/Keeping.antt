@@ -7,8 +7,8 @@ use Rattle.site_ids.specs.declared.TheConstants.{MAX_INSTANCE}
 use Rattle.site_ids.specs.declared.Ticket.{Ticket}
 use Rattle.command.specs.Effective.{effective}
 use Rattle.command.specs.Releases.{release_count}
-use Rattle.content.specs.View.{SiteSeen}
-use Rattle.content.specs.Standing.{IsSiteOf}
+use Rattle.content.specs.View.{ContentsSeen}
+use Rattle.content.specs.Standing.{HasContents}
 use Rattle.release.specs.Receipts.{receipt_of}
 use Rattle.release.specs.ReleaseSite.{IsSiteOfRelease}
 
@@ -21,9 +21,9 @@ listed None = []
 listed (Some x) = x ∷ []
 
 -- what is kept beside the values: the site of all, that of each release, and the receipts
-pub record Keeps (values : List (List ℕ)) (live : SiteSeen) (sites : List SiteSeen) (receipts : BTreeMap Ticket ℕ) : Type 0 where
+pub record Keeps (values : List (List ℕ)) (live : ContentsSeen) (sites : List ContentsSeen) (receipts : BTreeMap Ticket ℕ) : Type 0 where
   pub few : length values ≤ MAX_INSTANCE
-  pub stands : IsSiteOf live values
+  pub stands : HasContents live (effective values)
   pub count : length sites ≡ release_count (effective values)
-  pub each : (place : ℕ) (site : SiteSeen) → slice_get sites place ≡ Some site → IsSiteOfRelease values (suc place) site
+  pub each : (place : ℕ) (site : ContentsSeen) → slice_get sites place ≡ Some site → IsSiteOfRelease values (suc place) site
   pub found : (ticket : Ticket) → get ticket_cmp receipts ticket ≡ receipt_of ticket values

@@ -1,13 +1,10 @@
 -- The site of a release.
-use Rattle.std.specs.Prelude.{ℕ, ◌≡◌, List, ◌++◌}
+use Rattle.std.specs.Prelude.{ℕ, List}
 use Rattle.command.specs.Effective.{effective}
 use Rattle.command.specs.Releases.{through}
-use Rattle.content.specs.View.{SiteSeen}
-use Rattle.content.specs.Standing.{IsSiteOf}
+use Rattle.content.specs.View.{ContentsSeen}
+use Rattle.content.specs.Standing.{HasContents}
 
--- the site of release n: it stands for a beginning of the values, whose effective commands are that release's list
-pub record IsSiteOfRelease (values : List (List ℕ)) (n : ℕ) (site : SiteSeen) : Type 0 where
-  pub shown : List (List ℕ)
-  pub begins : (rest : List (List ℕ)) × (values ≡ shown ++ rest)
-  pub list : effective shown ≡ through (effective values) n
-  pub stands : IsSiteOf site shown
+-- the site of release n: it has what that release's list leaves
+abbrev pub IsSiteOfRelease : List (List ℕ) → ℕ → ContentsSeen → Type 0
+IsSiteOfRelease values n site = HasContents site (through (effective values) n)

@@ -1,13 +1,13 @@
--- What a command does to the site of the values before it.
-use Rattle.std.specs.Prelude.{ℕ, ◌≡◌, ◌≢◌, List, [], ◌∷◌, ◌++◌}
-use Rattle.content.specs.Answered.{applied}
-use Rattle.content.specs.Standing.{IsSiteOf}
+-- What a command that is no repeat does to the site of those before it.
+use Rattle.std.specs.Prelude.{◌≡◌, List, [], ◌∷◌, ◌++◌}
+use Rattle.command.specs.Action.{Order}
+use Rattle.content.specs.Answered.{answered}
+use Rattle.content.specs.Standing.{HasContents}
 use Rattle.content.specs.declared.applied.Applied.TheVariants.{Changed, Released}
 use Rattle.release.specs.declared.step.Step.{Step}
-use Rattle.release.specs.declared.step.Step.TheVariants.{Pass, Change, Release}
+use Rattle.release.specs.declared.step.Step.TheVariants.{Change, Release}
 
--- the step of the value v behind the values
-abbrev pub IsStep : Step → List (List ℕ) → List ℕ → Type 0
-IsStep (Pass done) values v = (done ≡ applied values v) × (applied values v ≢ Changed) × (applied values v ≢ Released)
-IsStep (Change site) values v = (Changed ≡ applied values v) × IsSiteOf site (values ++ v ∷ [])
-IsStep (Release site copy) values v = (Released ≡ applied values v) × IsSiteOf site (values ++ v ∷ []) × (copy ≡ site)
+-- the step of the order o behind the others
+abbrev pub IsStep : Step → List Order → Order → Type 0
+IsStep (Change site) orders o = (Changed ≡ answered o.action) × HasContents site (orders ++ o ∷ [])
+IsStep (Release site copy) orders o = (Released ≡ answered o.action) × HasContents site (orders ++ o ∷ []) × (copy ≡ site)

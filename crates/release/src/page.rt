@@ -1,13 +1,13 @@
 //! The page of a site for a path.
-ghost use Rattle.std.specs.Prelude.{◌≡◌, ℕ, List, IfOk};
-ghost use Rattle.command.specs.Effective.{effective};
-ghost use Rattle.content.specs.Standing.{IsSiteOf};
+ghost use Rattle.std.specs.Prelude.{◌≡◌, List, IfOk};
+ghost use Rattle.command.specs.Action.{Order};
+ghost use Rattle.content.specs.Standing.{HasContents};
 ghost use Rattle.command.specs.Site.{redirect_at};
 ghost use Rattle.release.specs.Page.{in_place, moved_to, redirected, page_of};
 ghost use Rattle.release.specs.Standing.{answer_view};
 
 use crate::answer::Answer;
-use content::Site;
+use content::Contents;
 use mustache_parse::Template;
 use render::{Partials, RenderFault, render};
 use std::alloc::{AllocError, Global};
@@ -15,16 +15,16 @@ use std::alloc::{AllocError, Global};
 /// The partials of a site.
 #[derive(Clone, Copy)]
 struct SitePartials<'a> {
-    site: &'a Site,
+    site: &'a Contents,
 }
 
 impl Partials for SitePartials<'_> {
     ghost use Rattle.std.specs.Prelude.{◌≡◌, ℕ, List};
-    ghost use Rattle.command.specs.Effective.{effective};
+    ghost use Rattle.command.specs.Action.{Order};
     ghost use Rattle.command.specs.Site.{partial_at};
-    ghost use Rattle.content.specs.Standing.{IsSiteOf};
+    ghost use Rattle.content.specs.Standing.{HasContents};
 
-    ghost stands = { λ partials texts. (values : List (List ℕ)) × IsSiteOf partials.site.now values × ((name : List ℕ) → texts name ≡ partial_at name (effective values)) };
+    ghost stands = { λ partials texts. (orders : List Order) × HasContents partials.site.now orders × ((name : List ℕ) → texts name ≡ partial_at name orders) };
 
     fn find(&self, name: &str) -> Option<&Template> {
         self.site.partial(name)
@@ -53,8 +53,8 @@ fn moved(alloc: Global, target: &str) -> Result<Answer, AllocError>
 }
 
 /// The page of a path without a route.
-fn unrouted(alloc: Global, site: &Site, path: &str) -> Result<Answer, AllocError>
-    ensures { IfOk result (λ a. (values : List (List ℕ)) → IsSiteOf site.now values → answer_view a ≡ redirected (redirect_at path.now (effective values))) }
+fn unrouted(alloc: Global, site: &Contents, path: &str) -> Result<Answer, AllocError>
+    ensures { IfOk result (λ a. (orders : List Order) → HasContents site.now orders → answer_view a ≡ redirected (redirect_at path.now orders)) }
 {
     match site.redirect(path) {
         Some(target) => moved(alloc, target),
@@ -62,8 +62,8 @@ fn unrouted(alloc: Global, site: &Site, path: &str) -> Result<Answer, AllocError
     }
 }
 
-pub(crate) fn page(alloc: Global, site: &Site, path: &str) -> Result<Answer, AllocError>
-    ensures { IfOk result (λ a. (values : List (List ℕ)) → IsSiteOf site.now values → answer_view a ≡ page_of (effective values) path.now) }
+pub(crate) fn page(alloc: Global, site: &Contents, path: &str) -> Result<Answer, AllocError>
+    ensures { IfOk result (λ a. (orders : List Order) → HasContents site.now orders → answer_view a ≡ page_of orders path.now) }
 {
     let Some((template, of)) = site.route(path) else {
         return unrouted(alloc, site, path);

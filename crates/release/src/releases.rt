@@ -17,7 +17,7 @@ use crate::kept::{Effect, Kept};
 use crate::page::page;
 use crate::step::{Step, step_of};
 use command::{Command, CommandFault, read};
-use content::{Applied, Site};
+use content::{Applied, Contents};
 use site_ids::{Instance, Ticket, Value};
 use std::alloc::{AllocError, Global};
 use std::collections::BTreeMap;
@@ -28,7 +28,7 @@ use std::marker::Model;
 #[derive(Drop)]
 pub struct Releases {
     alloc: Global,
-    kept: Kept<Site>,
+    kept: Kept<Contents>,
 }
 
 impl Model for Releases {
@@ -65,7 +65,7 @@ impl Releases {
             alloc,
             kept: Kept {
                 fed: Vec::new(alloc),
-                live: Site::new(alloc),
+                live: Contents::new(alloc),
                 sites: Vec::new(alloc),
                 receipts: BTreeMap::new(alloc),
             },
@@ -113,12 +113,12 @@ impl Releases {
         ensures ok { IfOk result (λ a. (self.new ≡ self.old ++ (value ∷ [])) × (a ≡ applied self.old value)) }
         ensures err { OnErr result (self.new ≡ self.old) }
     {
-        let ticket = command.ticket;
-        match step_of(&self.kept.live, command)? {
-            Step::Pass(done) => {
-                self.pass(value)?;
-                Ok(done)
-            }
+        let Command { ticket, action } = command;
+        if self.kept.receipts.contains_key(&ticket) {
+            self.pass(value)?;
+            return Ok(Applied::Repeat);
+        }
+        match step_of(&self.kept.live, action)? {
             Step::Change(site) => {
                 self.kept.take(Effect {
                     value,
@@ -159,7 +159,7 @@ impl Releases {
     }
 
     /// The site of release n, if there is such a release.
-    pub fn site(&self, n: u64) -> Option<&Site>
+    pub fn site(&self, n: u64) -> Option<&Contents>
         ensures stands { IfSome result (λ s. IsSiteOfRelease self.now n s.now) }
         ensures none { IsNone result ↔ ((n ≡ 0) ⊎ (release_count (effective self.now) < n)) }
     {

@@ -1,25 +1,26 @@
-use Rattle.std.proofs.Common.{◌≡◌, ◌≢◌, ◌⊎◌, inl, inr, sym, subst, ◌∙◌}
-use Rattle.content.specs.Standing.{IsSiteOf}
-use Rattle.content.specs.declared.applied.Applied.{Applied}
-use Rattle.content.specs.declared.applied.Applied.TheVariants.{Changed, Released, Repeat, NotACommand}
+use Rattle.std.proofs.Common.{◌≡◌, ◌≢◌, refl, sym, subst, ◌∙◌}
+use Rattle.command.specs.Action.{Action, put_template, put_partial, put_data, put_route, put_redirect, remove, release}
+use Rattle.content.specs.Answered.{answered}
+use Rattle.content.specs.Standing.{HasContents}
+use Rattle.content.specs.declared.applied.Applied.TheVariants.{Changed, Released}
 use Rattle.release.proofs.step.step_of.Goals as goal
 
-no_effect : (a : Applied) → (a ≡ Repeat) ⊎ (a ≡ NotACommand) → (a ≢ Changed) × (a ≢ Released)
-no_effect a (inl e) = (λ h. let never : Repeat ≡ Changed = sym e ∙ h in cc, λ h. let never : Repeat ≡ Released = sym e ∙ h in cc)
-no_effect a (inr e) = (λ h. let never : NotACommand ≡ Changed = sym e ∙ h in cc, λ h. let never : NotACommand ≡ Released = sym e ∙ h in cc)
-
-pub returns-in-Changed : goal.returns-in-Changed
-returns-in-Changed c values v order reads stands is =
-    let done = c.in_ok-done.ensures.ok values v order reads stands (subst (λ s. IsSiteOf s values) (sym c.in_ok-site.ensures) is) in
-    (sym c.in-Changed.is ∙ done.1, done.0)
+-- what is no release changes a name
+changes : (a : Action) → answered a ≢ Released → Changed ≡ answered a
+changes (put_template n b) apart = refl
+changes (put_partial n b) apart = refl
+changes (put_data n w) apart = refl
+changes (put_route p s f) apart = refl
+changes (put_redirect p t) apart = refl
+changes (remove k n) apart = refl
+changes release apart = absurd (apart refl)
 
 pub returns-in_ok-copy-in-Released : goal.returns-in_ok-copy-in-Released
-returns-in_ok-copy-in-Released c values v order reads stands is =
-    let done = c.in_ok-done.ensures.ok values v order reads stands (subst (λ s. IsSiteOf s values) (sym c.in_ok-site.ensures) is) in
+returns-in_ok-copy-in-Released c orders order stands has =
+    let done = c.in_ok-act.ensures.ok orders order stands (subst (λ s. HasContents s orders) (sym c.in_ok-site.ensures) has) in
     (sym c.in-Released.is ∙ done.1, done.0, c.in_ok-copy-in-Released.ensures)
 
-pub returns-in-Repeat : goal.returns-in-Repeat
-returns-in-Repeat c values v order reads stands is =
-    let done = c.in_ok-done.ensures.ok values v order reads stands (subst (λ s. IsSiteOf s values) (sym c.in_ok-site.ensures) is) in
-    let none = subst (λ a. (a ≢ Changed) × (a ≢ Released)) done.1 (no_effect c.in_ok-done.done c.in-Repeat.is) in
-    (done.1, none.0, none.1)
+pub returns-in_default : goal.returns-in_default
+returns-in_default c orders order stands has =
+    let done = c.in_ok-act.ensures.ok orders order stands (subst (λ s. HasContents s orders) (sym c.in_ok-site.ensures) has) in
+    (changes order.action (λ e. c.in_default.not-Released (done.1 ∙ e)), done.0)

@@ -1,10 +1,7 @@
-use Rattle.std.proofs.Common.{ℕ, List, Some, option_map, sym, ap, ◌∙◌, subst}
-use Rattle.content.specs.View.{names_of}
+use Rattle.std.proofs.Common.{sym, subst}
+use Rattle.command.specs.Effective.{effective}
 use Rattle.content.specs.Standing.{IsSiteOf}
 use Rattle.content.proofs.site.Site.route.Goals as goal
 
 pub returns : goal.returns
-returns c values is =
-    let site = subst (λ s. IsSiteOf s values) (sym c.self.view_is) is in
-    ap (λ (t : List ℕ). Some (t, c.as_str-2.result.now)) c.as_str.ensures.value ∙ ap (λ (d : List ℕ). Some ((names_of c.in_ok-target.target.now).0, d)) c.as_str-2.ensures.value
-    ∙ ap (option_map names_of) c.in_ok-target.ensures ∙ site.contents.routes c.args.path.now
+returns c values is = let site = subst (λ s. IsSiteOf s values) (sym c.self.view_is) is in c.route.ensures (effective values) site.contents

@@ -1,4 +1,6 @@
+use Rattle.std.proofs.Common.{refl}
 use Rattle.node.proofs.Adding.{on_err}
+use Rattle.node.proofs.Published.{known_published}
 use Rattle.node.proofs.Gaps.{items_begin, fed_items, taken_known, all_taken, not_all}
 use Rattle.node.proofs.running.Node.publish.Goals as goal
 
@@ -8,11 +10,12 @@ returns-in_err-feed-clause-same g c s stands =
     let log = c.args.self.now.known.log in
     let prefix = c.prefix.result.now in
     let old = items_begin c.args.self.now.releases prefix (fed_items log s prefix c.args.self.now.releases parts.known.values c.prefix.ensures.each c.prefix.ensures.gap stands.fed) in
+    let begins = taken_known log s prefix c.feed.new.releases parts.known.values c.prefix.ensures.each c.prefix.ensures.gap (c.feed.ensures.begins old) in
     record {
-      parts = record { on_record = parts.on_record; votes = parts.votes; known = record { values = parts.known.values; tickets = parts.known.tickets }; attempts = parts.attempts; pending = parts.pending; heard = parts.heard; reached = parts.reached };
+      parts = record { on_record = parts.on_record; votes = parts.votes; known = known_published (c.args.self.now).known (record (c.args.self.now).known { unpublished = c.feed.new.unpublished; tickets = c.feed.new.tickets }) s c.args.self.now.releases c.feed.ensures.more.0 c.feed.new.releases refl c.feed.ensures.more.1 c.feed.ensures.tickets begins parts.known; attempts = parts.attempts; pending = parts.pending; heard = parts.heard; reached = parts.reached };
       tidy = stands.tidy;
       ranges = stands.ranges;
-      fed = taken_known log s prefix c.feed.new.releases parts.known.values c.prefix.ensures.each c.prefix.ensures.gap (c.feed.ensures.begins old);
+      fed = begins;
     }
 
 pub returns-clause-same : goal.returns-clause-same
@@ -21,11 +24,12 @@ returns-clause-same g c s stands =
     let log = c.args.self.now.known.log in
     let prefix = c.prefix.result.now in
     let old = items_begin c.args.self.now.releases prefix (fed_items log s prefix c.args.self.now.releases parts.known.values c.prefix.ensures.each c.prefix.ensures.gap stands.fed) in
+    let begins = taken_known log s prefix c.feed.new.releases parts.known.values c.prefix.ensures.each c.prefix.ensures.gap (c.feed.ensures.begins old) in
     record {
-      parts = record { on_record = parts.on_record; votes = parts.votes; known = record { values = parts.known.values; tickets = parts.known.tickets }; attempts = parts.attempts; pending = parts.pending; heard = parts.heard; reached = parts.reached };
+      parts = record { on_record = parts.on_record; votes = parts.votes; known = known_published (c.args.self.now).known (record (c.args.self.now).known { unpublished = c.feed.new.unpublished; tickets = c.feed.new.tickets }) s c.args.self.now.releases c.feed.ensures.more.0 c.feed.new.releases refl c.feed.ensures.more.1 c.feed.ensures.tickets begins parts.known; attempts = parts.attempts; pending = parts.pending; heard = parts.heard; reached = parts.reached };
       tidy = stands.tidy;
       ranges = stands.ranges;
-      fed = taken_known log s prefix c.feed.new.releases parts.known.values c.prefix.ensures.each c.prefix.ensures.gap (c.feed.ensures.begins old);
+      fed = begins;
     }
 
 pub returns-clause-ok : goal.returns-clause-ok

@@ -1,9 +1,9 @@
 use Rattle.std.proofs.Common.{sym, subst}
 use Rattle.command.specs.Standing.{StandsAs}
 use Rattle.content.specs.Standing.{HasContents}
-use Rattle.content.specs.contracts.site.Site.{the_view}
+use Rattle.content.specs.contracts.contents.Contents.{the_view}
 use Rattle.content.proofs.Actions.{template_put, partial_put, data_put, route_put, redirect_put, released}
-use Rattle.content.proofs.site.Site.act.Goals as goal
+use Rattle.content.proofs.contents.Contents.act.Goals as goal
 
 pub returns-in-Release-clause-ok : goal.returns-in-Release-clause-ok
 returns-in-Release-clause-ok c orders order stands h = released c.args.self.now orders order.ticket order.action (subst (λ a. StandsAs a order.action) c.in-Release.is stands) h

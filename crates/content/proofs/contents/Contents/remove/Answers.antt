@@ -2,10 +2,10 @@ use Rattle.std.proofs.Common.{sym, ap, ◌∙◌, subst}
 use Rattle.command.specs.Action.{remove}
 use Rattle.command.specs.View.{kind_view}
 use Rattle.content.specs.Standing.{HasContents}
-use Rattle.content.specs.contracts.site.Site.{the_view}
+use Rattle.content.specs.contracts.contents.Contents.{the_view}
 use Rattle.content.proofs.Actions.{template_removed, partial_removed, data_removed, route_removed, redirect_removed}
 use Rattle.content.proofs.Names.{on_ok}
-use Rattle.content.proofs.site.Site.remove.Goals as goal
+use Rattle.content.proofs.contents.Contents.remove.Goals as goal
 
 pub returns-in-Template-clause-removed : goal.returns-in-Template-clause-removed
 returns-in-Template-clause-removed c =

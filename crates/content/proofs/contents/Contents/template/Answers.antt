@@ -1,0 +1,11 @@
+use Rattle.std.proofs.Common.{sym, subst}
+use Rattle.command.specs.Site.{template_at}
+use Rattle.content.specs.View.{at_name}
+use Rattle.content.specs.Standing.{HasContents}
+use Rattle.content.proofs.LookUps.{lent_text}
+use Rattle.content.proofs.contents.Contents.template.Goals as goal
+
+pub returns : goal.returns
+returns c orders is =
+    let has = subst (λ s. HasContents s orders) (sym c.self.view_is) is in
+    lent_text c.get.result (at_name c.args.name.now c.self.inside.templates) (template_at c.args.name.now orders) c.get.ensures (has.templates c.args.name.now)
