@@ -1,11 +1,14 @@
 # A crate's contracts, from its sources, lib.rt first: what it is, and a line for each function that is handed on.
 function named(text) { sub(/^ *(pub )?(const )?[a-z]+ /, "", text); sub(/[^A-Za-z0-9_].*/, "", text); return text }
 function sentence(text) { return match(text, /\. [A-Z`(0-9]/) ? substr(text, 1, RSTART) : text }
-# the first part alone of a long one; two points say that there is more
-function part(text) {
+# the first part alone of a long one, cut where it goes on by a comma or a word; two points say that there is more
+function part(text,    front, from) {
     text = sentence(text)
-    if (length(text) > 60 && match(text, /[:;] /)) text = substr(text, 1, RSTART - 1) " .."
-    else sub(/\.$/, "", text)
+    sub(/\.$/, "", text)
+    for (from = 24; length(text) > 52 && match(substr(text, from), /[:;,] | (where|which|that|so|as long as) /); from += RSTART) {
+        front = substr(text, 1, from + RSTART - 2)
+        if (front !~ /( exactly| is| of| as|\([^)]*)$/) return front " .."
+    }
     return text
 }
 function joined(list, more) { return list == "" ? more : list ", " more }
@@ -78,11 +81,11 @@ END {
     printf "\n**`%s`**: %s\n\nFunction|Clauses|Says\n---|---|---\n", crate, sentence(head)
     for (k = 1; k <= count; k++) {
         if (!has[k] && !traits[k]) { safe = joined(safe, "`" names[k] "`"); continue }
-        if (docs[k] == "" && clauses[k] == "" && needs[k] == "") { plain = joined(plain, "`" names[k] "`"); continue }
+        if (clauses[k] == "" && needs[k] == "" && (docs[k] == "" || names[k] ~ /::/)) { plain = joined(plain, "`" names[k] "`"); continue }
         if (needs[k] != "") clauses[k] = clauses[k] == "" ? needs[k] : needs[k] "; " clauses[k]
         printf "`%s`|%s|%s\n", names[k], clauses[k], docs[k]
     }
     for (k = 1; k <= kind_count; k++) printf "`%s`||for %s\n", kinds[k], kept[kinds[k]]
-    if (plain != "") printf "%s||exactly that\n", plain
+    if (plain != "") printf "%s||their result\n", plain
     if (safe != "") printf "%s||safe and no more\n", safe
 }
