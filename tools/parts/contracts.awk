@@ -1,16 +1,5 @@
-# A crate's contracts, from its sources, lib.rt first: what it is, and a line for each function that is handed on.
+# A crate's contracts, from its sources, lib.rt first: what it is, and a line for each function that is handed on (with part.awk).
 function named(text) { sub(/^ *(pub )?(const )?[a-z]+ /, "", text); sub(/[^A-Za-z0-9_].*/, "", text); return text }
-function sentence(text) { return match(text, /\. [A-Z`(0-9]/) ? substr(text, 1, RSTART) : text }
-# the first part alone of a long one, cut where it goes on by a comma or a word; two points say that there is more
-function part(text,    front, from) {
-    text = sentence(text)
-    sub(/\.$/, "", text)
-    for (from = 24; length(text) > 52 && match(substr(text, from), /[:;,] | (where|which|that|so|as long as) /); from += RSTART) {
-        front = substr(text, 1, from + RSTART - 2)
-        if (front !~ /( exactly| is| of| as|\([^)]*)$/) return front " .."
-    }
-    return text
-}
 function joined(list, more) { return list == "" ? more : list ", " more }
 function add(which, text) { name = which; count++; names[count] = which; docs[count] = part(text); traits[count] = which !~ /::/ && is_trait }
 
