@@ -87,7 +87,9 @@ END {
         else rows = rows sprintf("`%s`|%s|%s\n", names[k], clauses[k], docs[k])
     }
     if (list) exit
-    printf "\n**`%s`**: %s\n\nFunction, type|Clauses|Says\n---|---|---\n%s", crate, sentence(head), rows
+    head = sentence(head)
+    sub(/\.$/, "", head)
+    printf "**`%s`**||**%s**\n%s", crate, head, rows
     for (k = 1; k <= owner_count; k++) {
         which = owners[k]
         text = of[which]

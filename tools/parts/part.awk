@@ -6,7 +6,7 @@ function part(text,    front, from) {
     sub(/\.$/, "", text)
     for (from = 24; length(text) > 52 && match(substr(text, from), /[:;,] | (where|as long as|so that) /); from += RSTART) {
         front = substr(text, 1, from + RSTART - 2)
-        if (front !~ /( exactly| is| of| as|\([^)]*)$/) return front " .."
+        if (front !~ /( exactly| is| of| as)$/ && gsub(/\(/, "(", front) <= gsub(/\)/, ")", front)) return front " .."
     }
     return text
 }
