@@ -1,14 +1,10 @@
-# A crate's contracts, from its sources, lib.rt first: what it is, and a line for each function that is handed on.
+# A crate's contracts, from its sources, lib.rt first: what it is, a line for each function that is handed on, and one for each type with
+# its methods (with part.awk). With `list` set a line `CRATE|NAME|CLAUSES` for each of them.
 function named(text) { sub(/^ *(pub )?(const )?[a-z]+ /, "", text); sub(/[^A-Za-z0-9_].*/, "", text); return text }
-function sentence(text) { return match(text, /\. [A-Z`(0-9]/) ? substr(text, 1, RSTART) : text }
-# the first part alone of a long one; two points say that there is more
-function part(text) {
-    text = sentence(text)
-    if (length(text) > 60 && match(text, /[:;] /)) text = substr(text, 1, RSTART - 1) " .."
-    else sub(/\.$/, "", text)
-    return text
-}
 function joined(list, more) { return list == "" ? more : list ", " more }
+function plural(list) { return list ~ /,/ ? "results" : "result" }
+# a method stands with its type
+function owned(which) { if (!(which in of)) { of[which] = ""; owners[++owner_count] = which } }
 function add(which, text) { name = which; count++; names[count] = which; docs[count] = part(text); traits[count] = which !~ /::/ && is_trait }
 
 FNR == 1 { owner = ""; doc = ""; name = ""; whole = 0 }
@@ -75,14 +71,35 @@ inside && name != "" && /^ +(requires|ensures)[ {]/ {
 { doc = ""; whole = 0 }
 
 END {
-    printf "\n**`%s`**: %s\n\nFunction|Clauses|Says\n---|---|---\n", crate, sentence(head)
     for (k = 1; k <= count; k++) {
-        if (!has[k] && !traits[k]) { safe = joined(safe, "`" names[k] "`"); continue }
-        if (docs[k] == "" && clauses[k] == "" && needs[k] == "") { plain = joined(plain, "`" names[k] "`"); continue }
         if (needs[k] != "") clauses[k] = clauses[k] == "" ? needs[k] : needs[k] "; " clauses[k]
-        printf "`%s`|%s|%s\n", names[k], clauses[k], docs[k]
+        if (list) { print crate "|" names[k] "|" clauses[k]; continue }
+        if (traits[k]) { owned(names[k]); says[names[k]] = docs[k] }
+        else if (split(names[k], parts, "::") == 2) {
+            owned(parts[1])
+            which = "`" parts[2] "`"
+            if (!has[k]) bare[parts[1]] = joined(bare[parts[1]], which)
+            else if (clauses[k] == "") plain[parts[1]] = joined(plain[parts[1]], which)
+            else of[parts[1]] = joined(of[parts[1]], which " (" clauses[k] ")")
+        }
+        else if (!has[k]) safe = joined(safe, "`" names[k] "`")
+        else if (docs[k] == "" && clauses[k] == "") results = joined(results, "`" names[k] "`")
+        else rows = rows sprintf("`%s`|%s|%s\n", names[k], clauses[k], docs[k])
     }
-    for (k = 1; k <= kind_count; k++) printf "`%s`||for %s\n", kinds[k], kept[kinds[k]]
-    if (plain != "") printf "%s||exactly that\n", plain
+    if (list) exit
+    head = sentence(head)
+    sub(/\.$/, "", head)
+    printf "**`%s`**||**%s**\n%s", crate, head, rows
+    for (k = 1; k <= owner_count; k++) {
+        which = owners[k]
+        text = of[which]
+        if (plain[which] != "") text = (text == "" ? "" : text "; ") plural(plain[which]) ": " plain[which]
+        if (bare[which] != "") text = (text == "" ? "" : text "; ") "safe: " bare[which]
+        if (which in kept) says[which] = (says[which] == "" ? "" : says[which] "; ") "for " kept[which]
+        printf "`%s`|%s|%s\n", which, text, says[which]
+        delete kept[which]
+    }
+    for (k = 1; k <= kind_count; k++) if (kinds[k] in kept) printf "`%s`||for %s\n", kinds[k], kept[kinds[k]]
+    if (results != "") printf "%s||%s\n", results, plural(results)
     if (safe != "") printf "%s||safe and no more\n", safe
 }
