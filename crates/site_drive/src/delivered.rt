@@ -1,5 +1,7 @@
 //! What a drive delivered, by kinds.
 
+ghost use Rattle.std.specs.Prelude.{◌≡◌};
+
 use site_ids::{Instance, NodeId};
 use wire::Message;
 
@@ -43,12 +45,16 @@ impl Delivered {
     }
 
     /// How many were of an attempt: a prepare, a promise or a proposal.
-    pub fn attempts(&self) -> u32 {
+    pub fn attempts(&self) -> u32
+        ensures { result ≡ self.now.attempts }
+    {
         self.attempts
     }
 
     /// How many were no questions: those say that somebody does something.
-    pub fn stirs(&self) -> u32 {
+    pub fn stirs(&self) -> u32
+        ensures { result ≡ self.now.stirs }
+    {
         self.stirs
     }
 }

@@ -57,7 +57,7 @@ impl Pace {
 
     /// Behind a batch: what it delivered.
     pub fn hear(&mut self, cluster: Cluster, delivered: &Delivered)
-        ensures { (attempts : ℕ) × (stirs : ℕ) × (self.new ≡ record (heard self.old attempts stirs) { questions = self.new.questions }) }
+        ensures { self.new ≡ record (heard self.old delivered.now.attempts delivered.now.stirs) { questions = self.new.questions } }
     {
         self.questions.hear(cluster, delivered);
         self.note(delivered.attempts(), delivered.stirs());

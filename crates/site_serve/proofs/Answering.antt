@@ -22,8 +22,8 @@ module _ {S : Type 0} (service : Offered S) where
   turn_of false now after old new answered idle =
       let i = idle refl in
       elim i.1 [
-        inl h ↦ inr (inr (h.0, h.1, i.0))
-      | inr h ↦ inr (inl (h.0, h.1, i.0))
+        | inl h ↦ inr (inr (h.0, h.1, i.0))
+        | inr h ↦ inr (inl (h.0, h.1, i.0))
       ]
 
 module _ {S T : Type 0} (service : Offered S) where
@@ -31,8 +31,7 @@ module _ {S T : Type 0} (service : Offered S) where
   pub turns_stand : (k i : ℕ) (now after : S) (old new : List (Seat T)) (y : Seat T) → k ≤ i → AreTurns service k now after old new → AreTurns service k now after old (set new i y)
   turns_stand zero i now after old new y within turns = turns
   turns_stand (suc k) i now after old new y within turns =
-      let other : k ≢ i = omega (arith, within) in
-      (
+      let other : k ≢ i = omega (arith, within) in (
         turns.0,
         turns_stand k i now turns.0 old new y (omega (arith, within)) turns.1,
         λ none. subst (λ x. IsTurn service turns.0 after (get_or old k none) x) (sym (get_or-set_other new i k y none other)) (turns.2 none),
@@ -42,13 +41,13 @@ module _ {S T : Type 0} (service : Offered S) where
   pub one_turn_more : (i : ℕ) (now mid after : S) (old new : List (Seat T)) (x y : Seat T) → i < length new → AreTurns service i now mid old new
       → ((d : Seat T) → get_or old i d ≡ x) → IsTurn service mid after x y → AreTurns service (i + 1) now after old (set new i y)
   one_turn_more i now mid after old new x y within turns is turn =
-    let at : suc i ≡ i + 1 = omega arith in
-    subst (λ k. AreTurns service k now after old (set new i y)) at (
-    mid,
-    turns_stand i i now mid old new y (omega arith) turns,
-    λ none. subst (λ z. IsTurn service mid after z (get_or (set new i y) i none)) (sym (is none))
-        (subst (λ z. IsTurn service mid after x z) (sym (get_or-set_same new i y none within)) turn),
-  )
+      let at : suc i ≡ i + 1 = omega arith in
+      subst (λ k. AreTurns service k now after old (set new i y)) at (
+        mid,
+        turns_stand i i now mid old new y (omega arith) turns,
+        λ none. subst (λ z. IsTurn service mid after z (get_or (set new i y) i none)) (sym (is none))
+            (subst (λ z. IsTurn service mid after x z) (sym (get_or-set_same new i y none within)) turn),
+      )
 
   pub seat_turn : (did : Bool) (now after : S) (x : Seat T) (line : Line) → (did ≡ true → MayAnswer x.line × IsAnswered service now after x.line line)
       → (did ≡ false → (after ≡ now) × (((¬ (MayAnswer x.line)) × (line ≡ x.line)) ⊎ (MayAnswer x.line × Waits x.line line)))

@@ -6,12 +6,11 @@ use node::To;
 use site_drive::Letter;
 use site_ids::NodeId;
 use std::alloc::{AllocError, Global};
-use std::io;
 use std::io::{ErrorKind, Read};
 use std::net::{Shutdown, SocketAddr, TcpListener, TcpStream, UdpSocket};
 use std::rt::Clock;
-use std::thread;
 use std::time::{Duration, Instant};
+use std::{io, thread};
 use wire::MAX_MESSAGE;
 
 /// How many datagrams, and how many clients, a pass takes at most.
