@@ -1,10 +1,8 @@
 /* Clients of HTTP servers, many in one process, each with one connection and one request at a time:
 
      clients [--kept] pages PATH SECONDS CLIENTS HOST:PORT..       a page, again and again
-     clients [--kept] commits EDITOR SECONDS CLIENTS HOST:PORT..   a command is posted, and then its receipt asked for until it is known: first after
-                                                                   four fifths of the time that the client's last one took, and then each twentieth
-                                                                   of it; it is posted again where the server may have lost it: one that ended, or
-                                                                   took a second
+     clients [--kept] commits EDITOR SECONDS CLIENTS HOST:PORT..   a command is posted, and then its receipt asked for until it is known; it is
+                                                                   posted again where the server may have lost it: one that ended, or took a second
      clients [--kept] puts WORD SECONDS CLIENTS HOST:PORT..        etcd's: a value of as many bytes, by its HTTP gateway, each under a key of its own
      clients [--kept] fill EDITOR COUNT CLIENTS HOST:PORT..        so many commands, each posted until it is taken
      clients [--kept] burst EDITOR COUNT 0 HOST:PORT..             so many commands at each server at once, until each receipt stands at every server
@@ -28,7 +26,7 @@
 enum { CLIENTS = 1024, LOOKERS = 8, BYTES = 81 };
 enum kind { PAGES, COMMITS, PUTS, FILL, LOOK };
 
-static const double ASKS_AGAIN = 0.00005, POSTS_AGAIN = 0.01, LOOKS_AGAIN = 0.02, LOST = 1, LONGEST = 60; /* seconds */
+static const double ASKS_AGAIN = 0.0005, POSTS_AGAIN = 0.01, LOOKS_AGAIN = 0.02, LOST = 1, LONGEST = 60; /* seconds */
 
 struct client {
     const struct sockaddr_in *host;
@@ -36,7 +34,6 @@ struct client {
     bool used, asks;       /* the connection has had an answer; the command is posted, and its receipt asked for */
     long number;           /* of the command, or whatever it is at */
     double began, posted;  /* when that began, and when it was last taken */
-    double took;           /* how long the one before it took */
     double due;            /* when the next request goes out: 0 while one is under way */
     char out[512];
     size_t size, sent;     /* of the request */
@@ -56,7 +53,7 @@ static int active;
 static long next, count, opened, missing;
 static double start, end;
 static double *times;
-static long done, room, asked; /* asked: for a receipt that was not there yet */
+static long done, room;
 
 static double now(void) {
     struct timespec t;
@@ -101,18 +98,12 @@ static double understood(struct client *c) {
     if (c->asks && kind == LOOK && !ok && now() - start > LONGEST) { missing++; return -1; }
     if (c->asks && ok) return -1;
     if (kind == LOOK) return LOOKS_AGAIN;
-    if (c->asks) {
-        asked++;
-        c->asks = now() - c->posted < LOST;
-        return c->took / 20 > ASKS_AGAIN ? c->took / 20 : ASKS_AGAIN;
-    }
+    if (c->asks) { c->asks = now() - c->posted < LOST; return ASKS_AGAIN; }
     if (c->status == 503) return POSTS_AGAIN;
     if (!ok && c->status != 202) fail("a command was not taken", c->status);
     c->asks = true;
     c->posted = now();
-    if (kind == FILL) return -1;
-    const double wait = c->began + c->took * 0.8 - c->posted;
-    return wait > 0 ? wait : 0;
+    return kind == FILL ? -1 : 0;
 }
 
 static void note(double seconds) {
@@ -141,11 +132,7 @@ static void finish(struct client *c) {
     c->used = true;
     if (!kept || c->last) drop(c);
     c->due = t + pause;
-    if (pause < 0) {
-        c->took = t - c->began;
-        note(c->took);
-        go_on(c);
-    }
+    if (pause < 0) { note(t - c->began); go_on(c); }
 }
 
 /* the connection failed, or ended within an answer. One that stayed may have been closed meanwhile: a fresh one is opened at once. */
@@ -246,9 +233,7 @@ static void print_figures(void) {
     const double took = now() - start;
     if (!done) fail("nothing was done", 0);
     qsort(times, done, sizeof *times, less);
-    printf("%.0f a second, p50 %.2f ms, p99 %.2f ms; %ld in %.1f s over %ld connections", done / took, at(0.5), at(0.99), done, took, opened);
-    if (kind == COMMITS) printf(", receipts asked for too early: %.1f a command", (double)asked / done);
-    printf("\n");
+    printf("%.0f a second, p50 %.2f ms, p99 %.2f ms; %ld in %.1f s over %ld connections\n", done / took, at(0.5), at(0.99), done, took, opened);
 }
 
 static void burst(void) {
