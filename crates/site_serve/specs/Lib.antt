@@ -4,5 +4,6 @@ pub mod Placing
 pub mod Mailing
 pub mod Staying
 pub mod Rounds
+pub mod Noted
 pub mod Running
 pub mod Runs
