@@ -217,6 +217,24 @@ static int is_line(const char *prefix, const char *const *ends, size_t count) {
     return 0;
 }
 
+/* a line of a server that is none of a fault (docs/OPERATING.md) */
+static int is_note(const char *line) {
+    static const char *const notes[] = {"opened: ", "caught up to instance ", "no majority heard for ", "a majority is heard again, ", "datagrams that are no message: ",
+        "silent connections closed for ", "all 64 connections wait "};
+    for (size_t i = 0; i < sizeof notes / sizeof *notes; i++) if (!strncmp(line, notes[i], strlen(notes[i]))) return 1;
+    return !strncmp(line, "node ", 5) && line[5] >= '1' && line[5] <= '9';
+}
+
+/* what a server said but those at the front of it: its length */
+static size_t without_notes(char *said, size_t count) {
+    const char *rest = said;
+    said[count] = 0;
+    for (const char *end; is_note(rest) && (end = strchr(rest, '\n')); rest = end + 1) {}
+    count -= (size_t)(rest - said);
+    memmove(said, rest, count + 1);
+    return count;
+}
+
 static const char *judged(int status, const char *prefix, const char *const *ends, size_t count, int prints_with_one) {
     if (status == -1) return "a signal";
     if (status == -2) return "more than 10 seconds";
@@ -273,6 +291,8 @@ static size_t old_length;
 static int http_port, udp_port;
 static pid_t node;
 static int node_ends[3];
+static char said[ROOM]; /* what it said but its notes */
+static size_t said_length;
 static unsigned long ended; /* how many nodes ended by a fault that forged messages account for */
 static unsigned long sent, reopened; /* datagrams; nodes that were started again over their record */
 
@@ -293,6 +313,12 @@ static void end_node(void) {
     node = 0;
 }
 
+/* reads what the node said: it waits where nobody does */
+static void hear_node(void) {
+    drain(node_ends[2], said, &said_length);
+    said_length = without_notes(said, said_length);
+}
+
 /* starts a node over the record that is there, or over a new one: whether it is ready */
 static int opens_node(void) {
     char http[64], own[64], other[64];
@@ -303,6 +329,7 @@ static int opens_node(void) {
     snprintf(other, sizeof other, "127.0.0.1:%d", free_port(SOCK_DGRAM));
     char *const words[] = {(char *)sited, "--id", "1", "--record", record, "--http", http, "--rounds", "4294967295", "--format", own, other, other, 0};
     node = started(words, node_ends);
+    said_length = 0;
     char line[64] = "";
     for (int k = 0; k < 1000 && read(node_ends[1], line, sizeof line - 1) <= 0; k++) usleep(10000);
     return !strncmp(line, "node 1 ready", 12);
@@ -317,14 +344,15 @@ static void start_node(void) {
 static const char *node_stands(int patience) {
     static const char *const lines[] = {"node: 7 RoundsUsedUp\n", "node: 8 Conflict\n"};
     int status;
+    hear_node();
     while (waitpid(node, &status, WNOHANG) == 0) {
         if (patience-- <= 0) return 0;
         usleep(1000);
     }
     ended++;
-    err_length = 0;
-    drain(node_ends[2], err, &err_length);
-    err[err_length] = 0;
+    hear_node();
+    memcpy(err, said, said_length + 1);
+    err_length = said_length;
     for (int i = 0; i < 3; i++) close(node_ends[i]);
     node = 0;
     const char *why = judged(WIFEXITED(status) ? WEXITSTATUS(status) : -1, "-", lines, 2, 0);
@@ -495,7 +523,9 @@ static const char *records(void) {
     spoil(mostly(5) ? 10 : 0, 1 + chance(4));
     FILE *file = fopen(name, "wb");
     if (!file || fwrite(input, 1, length, file) != length || fclose(file)) { perror("fuzz: record"); exit(2); }
-    const char *why = judged(status_of(words, 0), "-", lines, sizeof lines / sizeof *lines, 0);
+    const int status = status_of(words, 0);
+    err_length = without_notes(err, err_length);
+    const char *why = judged(status, "-", lines, sizeof lines / sizeof *lines, 0);
     if (!why && !err_length && strcmp(out, "node 1 ready\nrounds done\n")) return "prints something else";
     return why;
 }

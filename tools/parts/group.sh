@@ -48,6 +48,12 @@ process() { cat "$group/$1.pid"; }
 # is it there still, and not only unreaped: P
 runs() { [ -e "$group/$1.pid" ] && kill -0 "$(process "$1")" 2> /dev/null && ! grep -qs '^State:[[:space:]]*Z' "/proc/$(process "$1")/status"; }
 
+# what it said but its notes (docs/OPERATING.md): P
+faults_of() {
+    grep -vE '^(opened: |caught up to instance |no majority heard |a majority is heard |node [1-9] (not|is) heard |datagrams that are no message: |silent connections closed |all 64 connections wait )' \
+        "$group/$1.err" || true
+}
+
 # it is ready: P
 is_ready() { grep -q "^node $1 ready" "$group/$1.out"; }
 

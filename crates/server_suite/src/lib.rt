@@ -10,6 +10,8 @@ mod client;
 #[cfg(test)]
 mod group;
 #[cfg(test)]
+mod notes;
+#[cfg(test)]
 mod pacing;
 #[cfg(test)]
 mod refusals;

@@ -5,33 +5,39 @@ use Rattle.std.proofs.KnownBytes.{Appends-trans}
 use Rattle.http_read.specs.Bytes.{End, IsWritten, IsGiven}
 use Rattle.http_read.specs.Counted.{RoseByOne}
 use Rattle.site_serve.specs.Halts.{IsSaid}
+use Rattle.site_serve.specs.Noted.{GivesNotes, HasNoted, EndsWith}
 use Rattle.site_serve.specs.Placing.{IsPlaced}
 use Rattle.site_serve.specs.Running.{ready_line, done_line, HaltsAt, HaltsReady, DoneEnds, HaltsWork, WorkEnds, RunEnds, HasServed}
 use Rattle.site_serve.specs.declared.halt.Halt.{Halt}
 use Rattle.site_serve.specs.declared.halt.Halt.TheVariants as halt
 use Rattle.site_serve.specs.declared.serve_options.ServeOptions.{ServeOptions}
+use Rattle.site_serve.proofs.Noting.{ends_with, alone}
 
 -- it was not ready, as memory was wanted or the writer failed
-pub not_ready : (out : End) (p : ℕ) (why : Halt) → HaltsReady out p why → HaltsWork out p why
-not_ready out p why (inl both) = inl both
-not_ready out p why (inr (same, broken)) = inr (inr (
+pub not_ready : (out err : End) (p : ℕ) (why : Halt) → GivesNotes 0 err → HaltsReady out p why → HaltsWork out err p why
+not_ready out err p why none (inl (same, silent)) = inl (same, silent, none)
+not_ready out err p why none (inr (same, broken)) = inr (inr (
   same,
   record {
     part = (broken.part.0, broken.part.1 ++ done_line, ap (λ t. t ++ done_line) broken.part.2 ∙ append_assoc broken.part.0 broken.part.1 done_line, broken.part.3);
     failed = broken.failed;
   },
+  (0, none),
 ))
 
 -- it was ready, and its last line was written or not
-pub ends_done : {T : Type 0} (a b c : Option (List ℕ)) (f g h : ℕ) (p : ℕ) (r : Result T Halt)
+pub ends_done : {T : Type 0} (a b c : Option (List ℕ)) (f g h : ℕ) (err : End) (p : ℕ) (r : Result T Halt) → HasNoted err
     → IsWritten (record { before = a; after = b; failures = f; failures_after = g }) (ready_line p)
     → DoneEnds (record { before = b; after = c; failures = g; failures_after = h }) r
-    → WorkEnds (record { before = a; after = c; failures = f; failures_after = h }) p r
-ends_done a b c f g h p (Ok u) ready done = record {
-  whole = Appends-trans a b c (ready_line p) done_line ready.whole done.whole;
-  sound = done.sound ∙ ready.sound;
-}
-ends_done a b c f g h p (Err why) ready (same, broken) =
+    → WorkEnds (record { before = a; after = c; failures = f; failures_after = h }) err p r
+ends_done a b c f g h err p (Ok u) noted ready done = (
+  record {
+    whole = Appends-trans a b c (ready_line p) done_line ready.whole done.whole;
+    sound = done.sound ∙ ready.sound;
+  },
+  noted,
+)
+ends_done a b c f g h err p (Err why) noted ready (same, broken) =
     let front = broken.part.0 in
     let rest = broken.part.1 in
     inr (inr (
@@ -40,6 +46,7 @@ ends_done a b c f g h p (Err why) ready (same, broken) =
         part = (ready_line p ++ front, rest, ap (λ t. ready_line p ++ t) broken.part.2 ∙ sym (append_assoc (ready_line p) front rest), Appends-trans a b c (ready_line p) front ready.whole broken.part.3);
         failed = subst (λ u. RoseByOne u h) ready.sound broken.failed;
       },
+      noted,
     ))
 
 -- memory or the writer keeps the first line from being written
@@ -53,23 +60,25 @@ done_halts out (Ok u) done = tt
 done_halts out (Err why) (same, broken) = same
 
 -- the halt that a `?` passes on
-pub passed_on : {T : Type 0} (out : End) (p : ℕ) (r : Result T Halt) (why : Halt) → IsErrAnd r (λ y. y ≡ why) → HaltsWork out p why → WorkEnds out p r
-passed_on out p (Ok x) why none ends = absurd none
-passed_on out p (Err y) why same ends = subst (HaltsWork out p) (sym same) ends
+pub passed_on : {T : Type 0} (out err : End) (p : ℕ) (r : Result T Halt) (why : Halt) → IsErrAnd r (λ y. y ≡ why) → HaltsWork out err p why → WorkEnds out err p r
+passed_on out err p (Ok x) why none ends = absurd none
+passed_on out err p (Err y) why same ends = subst (HaltsWork out err p) (sym same) ends
 
 -- a placed server's work is its run
-pub has_worked : {T : Type 0} (out : End) (o : ServeOptions) (r : Result T Halt) → IsPlaced o → WorkEnds out o.id r → RunEnds out o r
-has_worked out o (Ok u) placed written = (placed, written)
-has_worked out o (Err why) placed (inl (same, silent)) = inl (inr (inr same), silent)
-has_worked out o (Err why) placed (inr (inl (ends, written))) = inr (inl (placed, ends, written))
-has_worked out o (Err why) placed (inr (inr (same, broken))) = inr (inr (placed, same, broken))
+pub has_worked : {T : Type 0} (out err : End) (o : ServeOptions) (r : Result T Halt) → IsPlaced o → WorkEnds out err o.id r → RunEnds out err o r
+has_worked out err o (Ok u) placed (written, noted) = (placed, written, noted)
+has_worked out err o (Err why) placed (inl (same, silent, none)) = inl (inr (inr same), silent, none)
+has_worked out err o (Err why) placed (inr (inl (ends, written, noted))) = inr (inl (placed, ends, written, noted))
+has_worked out err o (Err why) placed (inr (inr (same, broken, noted))) = inr (inr (placed, same, broken, noted))
 
 -- what was said is the line of the halt, at its place
-pub has_halted : (out err : End) (o : ServeOptions) (why : Halt) (said : List ℕ) (status : ℕ) → HaltsAt out o why → IsSaid why said → IsGiven err said → status ≡ 1 → HasServed out err o status
-has_halted out err o why said status (inl (before, silent)) is given one =
-    inr (inl (record { why = why; ends = before; silent = silent; said = said; is_said = is; given = given; status_is = one }))
-has_halted out err o why said status (inr (inl (placed, ends, written))) is given one =
-    inr (inr (inl (record { placed = placed; why = why; ends = ends; written = written; said = said; is_said = is; given = given; status_is = one })))
-has_halted out err o why said status (inr (inr (placed, same, broken))) is given one =
+pub has_halted : (out : End) (a b c : Option (List ℕ)) (f g h : ℕ) (o : ServeOptions) (why : Halt) (said : List ℕ) (status : ℕ)
+    → HaltsAt out (record { before = a; after = b; failures = f; failures_after = g }) o why → IsSaid why said → IsGiven (record { before = b; after = c; failures = g; failures_after = h }) said → status ≡ 1
+    → HasServed out (record { before = a; after = c; failures = f; failures_after = h }) o status
+has_halted out a b c f g h o why said status (inl (before, silent, none)) is given one =
+    inr (inl (record { why = why; ends = before; silent = silent; said = said; is_said = is; given = alone a b c f g h said none given; status_is = one }))
+has_halted out a b c f g h o why said status (inr (inl (placed, ends, written, noted))) is given one =
+    inr (inr (inl (record { placed = placed; why = why; ends = ends; written = written; said = said; is_said = is; given = ends_with a b c f g h said noted given; status_is = one })))
+has_halted out a b c f g h o why said status (inr (inr (placed, same, broken, noted))) is given one =
     let line = subst (λ w. IsSaid w said) same is in
-    inr (inr (inr (record { placed = placed; broken = broken; given = subst (IsGiven err) line given; status_is = one })))
+    inr (inr (inr (record { placed = placed; broken = broken; given = subst (EndsWith (record { before = a; after = c; failures = f; failures_after = h })) line (ends_with a b c f g h said noted given); status_is = one })))

@@ -3,6 +3,7 @@ pub mod Placed
 pub mod Answering
 pub mod ManySteps
 pub mod ManyPasses
+pub mod Noting
 pub mod Ending
 pub mod Runs
 pub mod Failing

@@ -5,5 +5,6 @@ pub mod Mailing
 pub mod Staying
 pub mod Answering
 pub mod Rounds
+pub mod Noted
 pub mod Running
 pub mod Runs

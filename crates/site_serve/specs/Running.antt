@@ -2,6 +2,7 @@
 use Rattle.std.specs.Prelude.{ℕ, ◌≡◌, ◌⊎◌, List, ◌++◌, codes, decimal, Result, Ok, Err}
 use Rattle.http_read.specs.Bytes.{End, IsSilent, IsWritten, IsBroken, IsGiven}
 use Rattle.site_serve.specs.Halts.{IsSaid, EndsOpening, EndsBinding, EndsRounds}
+use Rattle.site_serve.specs.Noted.{GivesNotes, HasNoted, EndsWith}
 use Rattle.site_serve.specs.Placing.{IsPlaced}
 use Rattle.site_serve.specs.declared.halt.Halt.{Halt}
 use Rattle.site_serve.specs.declared.halt.Halt.TheVariants as halt
@@ -21,11 +22,11 @@ printed p = ready_line p ++ done_line
 abbrev pub EndsBefore : ServeOptions → Halt → Type 0
 EndsBefore o why = ((why ≡ halt.BadAddress) × ¬ IsPlaced o) ⊎ (IsPlaced o × (EndsOpening why ⊎ EndsBinding why)) ⊎ (why ≡ halt.OutOfMemory)
 
--- it was ready, and did all its rounds
+-- it was ready, and did all its rounds; on standard error lines of notes, and nothing else
 pub record Finished (out err : End) (o : ServeOptions) (status : ℕ) : Type 0 where
   pub placed : IsPlaced o
   pub written : IsWritten out (printed o.id)
-  pub silent : IsSilent err
+  pub noted : HasNoted err
   pub status_is : status ≡ 0
 
 -- one line alone, before it was ready
@@ -38,7 +39,7 @@ pub record Refused (out err : End) (o : ServeOptions) (status : ℕ) : Type 0 wh
   pub given : IsGiven err said
   pub status_is : status ≡ 1
 
--- it was ready, and one line says what ended its rounds
+-- it was ready, and one line behind those of notes says what ended its rounds
 pub record Halted (out err : End) (o : ServeOptions) (status : ℕ) : Type 0 where
   pub placed : IsPlaced o
   pub why : Halt
@@ -46,14 +47,14 @@ pub record Halted (out err : End) (o : ServeOptions) (status : ℕ) : Type 0 whe
   pub written : IsWritten out (ready_line o.id)
   pub said : List ℕ
   pub is_said : IsSaid why said
-  pub given : IsGiven err said
+  pub given : EndsWith err said
   pub status_is : status ≡ 1
 
--- the writer failed, and a beginning of what a whole run prints was written
+-- the writer failed, and a beginning of what a whole run prints was written; one line behind those of notes says so
 pub record Broken (out err : End) (o : ServeOptions) (status : ℕ) : Type 0 where
   pub placed : IsPlaced o
   pub broken : IsBroken out (printed o.id)
-  pub given : IsGiven err (codes "write failed\n")
+  pub given : EndsWith err (codes "write failed\n")
   pub status_is : status ≡ 1
 
 abbrev pub HasServed : End → End → ServeOptions → ℕ → Type 0
@@ -61,12 +62,12 @@ HasServed out err o status = Finished out err o status ⊎ Refused out err o sta
 
 -- ---- the parts of a run
 
--- a halt's place: before it is ready, in its rounds, or where it writes
-abbrev pub HaltsAt : End → ServeOptions → Halt → Type 0
-HaltsAt out o why =
-    (EndsBefore o why × IsSilent out)
-    ⊎ (IsPlaced o × EndsRounds why × IsWritten out (ready_line o.id))
-    ⊎ (IsPlaced o × (why ≡ halt.Write) × IsBroken out (printed o.id))
+-- a halt's place: before it is ready, without a note; in its rounds; or where it writes
+abbrev pub HaltsAt : End → End → ServeOptions → Halt → Type 0
+HaltsAt out err o why =
+    (EndsBefore o why × IsSilent out × GivesNotes 0 err)
+    ⊎ (IsPlaced o × EndsRounds why × IsWritten out (ready_line o.id) × HasNoted err)
+    ⊎ (IsPlaced o × (why ≡ halt.Write) × IsBroken out (printed o.id) × HasNoted err)
 
 -- `node P ready` could not be made, or not be written whole
 abbrev pub HaltsReady : End → ℕ → Halt → Type 0
@@ -81,16 +82,16 @@ DoneEnds out (Ok _) = IsWritten out done_line
 DoneEnds out (Err why) = (why ≡ halt.Write) × IsBroken out done_line
 
 -- the work of a server that is opened: ready, rounds, done
-abbrev pub HaltsWork : End → ℕ → Halt → Type 0
-HaltsWork out p why =
-    ((why ≡ halt.OutOfMemory) × IsSilent out)
-    ⊎ (EndsRounds why × IsWritten out (ready_line p))
-    ⊎ ((why ≡ halt.Write) × IsBroken out (printed p))
+abbrev pub HaltsWork : End → End → ℕ → Halt → Type 0
+HaltsWork out err p why =
+    ((why ≡ halt.OutOfMemory) × IsSilent out × GivesNotes 0 err)
+    ⊎ (EndsRounds why × IsWritten out (ready_line p) × HasNoted err)
+    ⊎ ((why ≡ halt.Write) × IsBroken out (printed p) × HasNoted err)
 
-abbrev pub WorkEnds : {T : Type 0} → End → ℕ → Result T Halt → Type 0
-WorkEnds out p (Ok _) = IsWritten out (printed p)
-WorkEnds out p (Err why) = HaltsWork out p why
+abbrev pub WorkEnds : {T : Type 0} → End → End → ℕ → Result T Halt → Type 0
+WorkEnds out err p (Ok _) = IsWritten out (printed p) × HasNoted err
+WorkEnds out err p (Err why) = HaltsWork out err p why
 
-abbrev pub RunEnds : {T : Type 0} → End → ServeOptions → Result T Halt → Type 0
-RunEnds out o (Ok _) = IsPlaced o × IsWritten out (printed o.id)
-RunEnds out o (Err why) = HaltsAt out o why
+abbrev pub RunEnds : {T : Type 0} → End → End → ServeOptions → Result T Halt → Type 0
+RunEnds out err o (Ok _) = IsPlaced o × IsWritten out (printed o.id) × HasNoted err
+RunEnds out err o (Err why) = HaltsAt out err o why

@@ -10,7 +10,7 @@ ghost use Rattle.site_serve.specs.Running.{EndsBefore, WorkEnds, RunEnds, HasSer
 use crate::ServeOptions;
 use crate::addresses::read_addresses;
 use crate::halt::Halt;
-use crate::openings::open_node;
+use crate::openings::{count_votes, open_node};
 use crate::passes::take_passes;
 use crate::saying::{say, say_done, say_ready};
 use crate::server::Server;
@@ -18,6 +18,7 @@ use crate::shell::Shell;
 use crate::sockets::open_sockets;
 use http_read::Counted;
 use site_disk::{Disk, FileDisk};
+use site_notes::Notes;
 use site_pace::Times;
 use std::alloc::Global;
 use std::fs::File;
@@ -40,7 +41,8 @@ fn open<R: Net<Listener = TcpListener, Stream = TcpStream> + Files<File = File> 
     let served = open_node(rt, alloc, cluster, me, options.record, options.format)?;
     let times = Times::new(options.patience, options.serve_ms);
     let server = Server::new(alloc, me, served, times)?;
-    let shell = open_sockets(rt, alloc, addresses)?;
+    let notes = Notes::new(cluster, me, count_votes(&server.served.node));
+    let shell = open_sockets(rt, alloc, addresses, notes)?;
     Ok((server, shell))
 }
 
@@ -52,55 +54,62 @@ fn count_passes(node: u8, rounds: u32) -> u64
 }
 
 /// Says that the node is ready, takes so many passes, and says that its rounds are done.
-fn work<C: Clock, W: Write>(
+fn work<C: Clock, W: Write, E: Write>(
     clock: &C,
     alloc: Global,
     out: &mut Counted<W>,
+    err: &mut Counted<E>,
     shell: &mut Shell,
     server: &mut Server<FileDisk, TcpStream>,
     id: u8,
     count: u64,
 ) -> Result<(), Halt>
-    ensures said { WorkEnds (end_of W.contents out.old out.new) id result }
+    ensures said { WorkEnds (end_of W.contents out.old out.new) (end_of E.contents err.old err.new) id result }
     ensures passes { OnOk result (Led ⟦<FileDisk as Disk>⟧.stands_for server.old.served.node server.new.served.node (TakesPasses server.old.served.node.cluster server.old.served.node.me count server.new.served.node.releases)) }
     ensures halted { IfErr result (λ why. Led ⟦<FileDisk as Disk>⟧.stands_for server.old.served.node server.new.served.node (BreaksWork server.old.served.node.cluster server.old.served.node.me count why)
         ⊎ LosesPasses ⟦<FileDisk as Disk>⟧.stands_for server.old.served.node server.new.served.node count why) }
 {
     say_ready(alloc, out, id)?;
-    take_passes(clock, shell, server, count)?;
+    take_passes(clock, alloc, err, shell, server, count)?;
     say_done(out)
 }
 
 /// Does a node's work, with the rounds that were asked for.
-fn start<C: Clock, W: Write>(
+fn start<C: Clock, W: Write, E: Write>(
     clock: &C,
     alloc: Global,
     out: &mut Counted<W>,
+    err: &mut Counted<E>,
     shell: &mut Shell,
     server: &mut Server<FileDisk, TcpStream>,
     options: &ServeOptions<'_>,
 ) -> Result<(), Halt>
-    ensures said { WorkEnds (end_of W.contents out.old out.new) options.now.id result }
+    ensures said { WorkEnds (end_of W.contents out.old out.new) (end_of E.contents err.old err.new) options.now.id result }
     ensures rounds { OnOk result (Led ⟦<FileDisk as Disk>⟧.stands_for server.old.served.node server.new.served.node (TakesPasses server.old.served.node.cluster server.old.served.node.me (passes_of options.now.id options.now.rounds) server.new.served.node.releases)) }
     ensures halted { IfErr result (λ why. Led ⟦<FileDisk as Disk>⟧.stands_for server.old.served.node server.new.served.node (BreaksWork server.old.served.node.cluster server.old.served.node.me (passes_of options.now.id options.now.rounds) why)
         ⊎ LosesPasses ⟦<FileDisk as Disk>⟧.stands_for server.old.served.node server.new.served.node (passes_of options.now.id options.now.rounds) why) }
 {
     let count = count_passes(options.id, options.rounds);
-    work(clock, alloc, out, shell, server, options.id, count)
+    work(clock, alloc, out, err, shell, server, options.id, count)
 }
 
 /// Opens a node, and does its work.
-fn run<R: Net<Listener = TcpListener, Stream = TcpStream> + Files<File = File> + Clock, W: Write>(
+fn run<
+    R: Net<Listener = TcpListener, Stream = TcpStream> + Files<File = File> + Clock,
+    W: Write,
+    E: Write,
+>(
     rt: &R,
     alloc: Global,
     out: &mut Counted<W>,
+    err: &mut Counted<E>,
     options: &ServeOptions<'_>,
 ) -> Result<(), Halt>
-    ensures said { RunEnds (end_of W.contents out.old out.new) options.now result }
+    ensures said { RunEnds (end_of W.contents out.old out.new) (end_of E.contents err.old err.new) options.now result }
     ensures rounds { OnOk result (IsRun ⟦<FileDisk as Disk>⟧.stands_for (length options.now.peers.items) options.now.id (TakesPasses (length options.now.peers.items) options.now.id (passes_of options.now.id options.now.rounds))) }
 {
     let (mut server, mut shell) = open(rt, alloc, options)?;
-    start(rt, alloc, out, &mut shell, &mut server, options)
+    start(rt, alloc, out, err, &mut shell, &mut server, options)
 }
 
 /// Runs a node for its rounds. The answer is the exit status.
@@ -118,7 +127,7 @@ pub fn sited<
     ensures said { HasServed (end_of W.contents out.old out.new) (end_of E.contents err.old err.new) options.now result }
     ensures rounds { result ≡ 0 → IsRun ⟦<FileDisk as Disk>⟧.stands_for (length options.now.peers.items) options.now.id (TakesPasses (length options.now.peers.items) options.now.id (passes_of options.now.id options.now.rounds)) }
 {
-    match run(rt, alloc, out, options) {
+    match run(rt, alloc, out, err, options) {
         Ok(()) => 0,
         Err(halt) => say(alloc, err, halt),
     }

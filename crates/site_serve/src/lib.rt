@@ -18,6 +18,7 @@ mod serving_node;
 mod shell;
 mod sockets;
 mod stay;
+mod watch;
 
 pub use engine::sited;
 pub use halt::Halt;

@@ -10,7 +10,7 @@ use crate::served::Served;
 use durable::{Record, RecordFault};
 use node::Node;
 use site_disk::{Disk, FileDisk};
-use site_ids::{Cluster, NodeId};
+use site_ids::{Cluster, Instance, MAX_INSTANCE, NodeId};
 use std::alloc::Global;
 use std::fs::{File, OpenOptions};
 use std::io;
@@ -70,6 +70,20 @@ pub(crate) fn open_node<R: Files<File = File>>(
         Ok(node) => Ok(Served { node }),
         Err((fault, _disk)) => Err(fault.into()),
     }
+}
+
+/// At how many instances a node's record has a vote.
+pub(crate) fn count_votes<D: Disk>(node: &Node<D>) -> u32 {
+    let mut votes: u32 = 0;
+    for number in 1..=MAX_INSTANCE {
+        let Some(instance) = Instance::new(number) else {
+            return votes;
+        };
+        if node.slot(instance).vote.is_some() {
+            votes = votes.saturating_add(1);
+        }
+    }
+    votes
 }
 
 fn is_empty(disk: &mut FileDisk) -> Result<bool, RecordFault> {

@@ -1,14 +1,20 @@
 //! The passes of a server's rounds: what has come is taken in one step, and what goes out is sent.
 
 ghost use Rattle.std.specs.Prelude.{◌⊎◌, IfErr, OnOk};
+ghost use Rattle.http_read.specs.Bytes.{end_of};
 ghost use Rattle.site_drive.specs.Leading.{StaysWhose};
 ghost use Rattle.site_serve.specs.Halts.{CountsNone, EndsRounds};
+ghost use Rattle.site_serve.specs.Noted.{HasNoted};
 ghost use Rattle.site_serve.specs.Rounds.{Led, TakesPass, TakesPasses, BreaksPass, BreaksPasses, LosesPass, LosesPasses};
 
 use crate::halt::Halt;
+use crate::saying::tell_notes;
 use crate::server::Server;
 use crate::shell::Shell;
+use http_read::Counted;
 use site_disk::Disk;
+use std::alloc::Global;
+use std::io::Write;
 use std::net::TcpStream;
 use std::rt::Clock;
 
@@ -32,15 +38,19 @@ fn take_pass<D: Disk + Drop, C: Clock>(
     shell.send(server.mail.letters());
     let told = server.seats.tell(now);
     shell.part(&mut server.seats, now);
+    let known = server.served.node.known();
+    shell.watch.pass(now, known, stepped.malformed);
     if let Some(rest) = server.rest(stepped, heard || told) {
         shell.rest(clock, rest, &mut server.mail);
     }
     Ok(())
 }
 
-/// So many passes.
-pub(crate) fn take_passes<D: Disk + Drop, C: Clock>(
+/// So many passes, and what is to be said behind each.
+pub(crate) fn take_passes<D: Disk + Drop, C: Clock, E: Write>(
     clock: &C,
+    alloc: Global,
+    err: &mut Counted<E>,
     shell: &mut Shell,
     server: &mut Server<D, TcpStream>,
     count: u64,
@@ -50,9 +60,11 @@ pub(crate) fn take_passes<D: Disk + Drop, C: Clock>(
     ensures ends { IfErr result EndsRounds }
     ensures whose { StaysWhose server.old.served.node server.new.served.node }
     ensures counts { CountsNone result (D.failed server.old.served.node.store.disk) (D.failed server.new.served.node.store.disk) }
+    ensures noted { HasNoted (end_of E.contents err.old err.new) }
 {
     for _ in 0..count {
         take_pass(clock, shell, server)?;
+        tell_notes(alloc, err, &mut shell.watch);
     }
     Ok(())
 }

@@ -2,13 +2,17 @@
 
 ghost use Rattle.std.specs.Prelude.{◌≡◌, ℕ, List, ◌++◌, IfOk, string_bytes, codes};
 ghost use Rattle.http_read.specs.Bytes.{end_of, IsGiven};
+ghost use Rattle.site_notes.specs.Lines.{line_of_note};
 ghost use Rattle.durable.specs.Faults.{label};
 ghost use Rattle.site_serve.specs.Halts.{IsSaid};
+ghost use Rattle.site_serve.specs.Noted.{HasNoted};
 ghost use Rattle.site_serve.specs.Running.{ReadyEnds, DoneEnds};
 
 use crate::halt::Halt;
+use crate::watch::Watch;
 use durable::RecordFault;
 use http_read::{Counted, write_all};
+use site_notes::Note;
 use std::alloc::{AllocError, Global};
 use std::io::Write;
 
@@ -20,12 +24,19 @@ fn record_line(alloc: Global, fault: RecordFault) -> Result<String, AllocError>
     format!(in alloc; "record: {label}\n")
 }
 
+/// Writes one line, as far as that can be done.
+fn give<E: Write>(err: &mut Counted<E>, line: &str)
+    ensures { IsGiven (end_of E.contents err.old err.new) line.now }
+{
+    let _ = write_all(err, line.as_bytes());
+}
+
 /// Writes one line, and gives status 1.
 fn tell<E: Write>(err: &mut Counted<E>, line: &str) -> u8
     ensures status { result ≡ 1 }
     ensures said { IsGiven (end_of E.contents err.old err.new) line.now }
 {
-    let _ = write_all(err, line.as_bytes());
+    give(err, line);
     1
 }
 
@@ -46,6 +57,34 @@ pub(crate) fn say<E: Write>(alloc: Global, err: &mut Counted<E>, halt: Halt) -> 
         Halt::RoundsUsedUp => tell(err, "node: 7 RoundsUsedUp\n"),
         Halt::Conflict => tell(err, "node: 8 Conflict\n"),
         Halt::Write => tell(err, "write failed\n"),
+    }
+}
+
+/// The line of a note.
+fn note_line(alloc: Global, note: &Note) -> Result<String, AllocError>
+    ensures { IfOk result (λ text. string_bytes text ≡ line_of_note note.now) }
+{
+    format!(in alloc; "{note}\n")
+}
+
+/// Writes the line of a note. Where that fails, or memory is wanted for it, it is passed over.
+fn tell_note<E: Write>(alloc: Global, err: &mut Counted<E>, note: &Note)
+    ensures { HasNoted (end_of E.contents err.old err.new) }
+{
+    if let Ok(line) = note_line(alloc, note) {
+        give(err, line.as_str());
+    }
+}
+
+/// Writes all that is to be said behind a pass: of each of the nine kinds a line at most.
+pub(crate) fn tell_notes<E: Write>(alloc: Global, err: &mut Counted<E>, watch: &mut Watch)
+    ensures { HasNoted (end_of E.contents err.old err.new) }
+{
+    for _ in 0..9 {
+        match watch.next() {
+            Some(note) => tell_note(alloc, err, &note),
+            None => return,
+        }
     }
 }
 

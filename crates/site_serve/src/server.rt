@@ -42,6 +42,8 @@ pub struct Server<D, S> {
 pub struct Stepped {
     /// Datagrams waited for it.
     pub came: bool,
+    /// So many of them spelled no message.
+    pub malformed: u64,
     /// Requests were answered.
     pub answered: bool,
 }
@@ -67,8 +69,8 @@ impl<D: Disk + Drop, S: Drop> Server<D, S> {
         })
     }
 
-    /// The batch of a step: all that waits, and the call that is due behind it. What that hands out is posted.
-    fn take_batch(&mut self, now: u64) -> Result<(), Halt>
+    /// The batch of a step: all that waits, and the call that is due behind it. What that hands out is posted. The answer is how many datagrams spelled no message.
+    fn take_batch(&mut self, now: u64) -> Result<u64, Halt>
         ensures ok { OnOk result (IsBatched D.stands_for (waiting_of self.old.mail) (posted_of self.new.mail) self.old.served.node self.new.served.node) }
         ensures own { OnOk result (waiting_of self.new.mail ≡ own_of self.old.me (posted_of self.new.mail)) }
         ensures seats { self.new.seats ≡ self.old.seats }
@@ -82,12 +84,12 @@ impl<D: Disk + Drop, S: Drop> Server<D, S> {
         let last = self.pace.due(now, &self.served.node, drained);
         self.mail.letters.clear();
         let came = self.mail.came.as_slice();
-        self.desk.take_batch(&mut self.served.node, came, last)?;
+        let malformed = self.desk.take_batch(&mut self.served.node, came, last)?;
         let delivered = self.desk.delivered();
         self.pace.hear(self.served.node.cluster(), &delivered);
         self.desk.post(&mut self.mail.letters)?;
         self.mail.keep_own(self.me)?;
-        Ok(())
+        Ok(malformed as u64)
     }
 
     /// One step, so many milliseconds after the server began, and never less than before: all that waits is one batch, behind which the node publishes, and what that
@@ -104,9 +106,13 @@ impl<D: Disk + Drop, S: Drop> Server<D, S> {
         ensures counts { CountsNone result (D.failed self.old.served.node.store.disk) (D.failed self.new.served.node.store.disk) }
     {
         let came = !self.mail.is_empty();
-        self.take_batch(now)?;
+        let malformed = self.take_batch(now)?;
         let answered = self.seats.answer_each(&mut self.served)?;
-        Ok(Stepped { came, answered })
+        Ok(Stepped {
+            came,
+            malformed,
+            answered,
+        })
     }
 
     /// The node, without all else.

@@ -2,9 +2,11 @@
 
 use crate::mail::Mail;
 use crate::seats::Seats;
+use crate::watch::Watch;
 use node::To;
 use site_drive::Letter;
 use site_ids::NodeId;
+use site_notes::Notes;
 use std::alloc::{AllocError, Global};
 use std::io::{ErrorKind, Read};
 use std::net::{Shutdown, SocketAddr, TcpListener, TcpStream, UdpSocket};
@@ -36,6 +38,7 @@ pub(crate) struct Shell {
     datagram: Vec<u8>,
     start: Option<Instant>,
     now: u64,
+    pub(crate) watch: Watch,
 }
 
 /// Closes a connection whose client may have sent more than was read: where that is left unread, the system resets the connection, and the client
@@ -62,6 +65,7 @@ impl Shell {
         socket: UdpSocket,
         peers: Vec<SocketAddr>,
         listener: TcpListener,
+        notes: Notes,
     ) -> Result<Shell, AllocError> {
         let mut datagram = Vec::new(alloc);
         datagram.resize(MAX_MESSAGE + 1, 0)?;
@@ -73,6 +77,7 @@ impl Shell {
             datagram,
             start: Instant::now(clock).ok(),
             now: 0,
+            watch: Watch::new(notes),
         })
     }
 
@@ -97,7 +102,10 @@ impl Shell {
                 return Ok(());
             }
             match self.socket.recv_from(self.datagram.as_mut_slice()) {
-                Ok((n, _from)) => mail.push(&self.datagram[..n])?,
+                Ok((n, _from)) => {
+                    self.watch.hear(&self.datagram[..n]);
+                    mail.push(&self.datagram[..n])?;
+                }
                 Err(e) if e.kind() == ErrorKind::WouldBlock => return Ok(()),
                 Err(_) => {}
             }
@@ -106,9 +114,14 @@ impl Shell {
     }
 
     /// Seats the clients that have come, each perhaps for one that was silent for long. One that fails at once is passed over.
-    pub(crate) fn accept(&self, seats: &mut Seats<TcpStream>, now: u64) -> Result<(), AllocError> {
+    pub(crate) fn accept(
+        &mut self,
+        seats: &mut Seats<TcpStream>,
+        now: u64,
+    ) -> Result<(), AllocError> {
         for _ in 0..ACCEPTED {
             if !seats.has_room() {
+                self.watch.fill();
                 return Ok(());
             }
             let Ok((stream, _from)) = self.listener.accept() else {
@@ -120,6 +133,7 @@ impl Shell {
             let _ = stream.set_nodelay(true);
             if let Some(gone) = seats.make_room() {
                 close(gone);
+                self.watch.displace();
             }
             let _ = seats.admit(stream, now)?;
         }
@@ -136,6 +150,7 @@ impl Shell {
         let came = self.socket.recv_from(self.datagram.as_mut_slice());
         let _ = self.socket.set_nonblocking(true);
         if let Ok((n, _from)) = came {
+            self.watch.hear(&self.datagram[..n]);
             let _ = mail.push(&self.datagram[..n]);
         }
     }

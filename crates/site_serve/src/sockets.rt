@@ -7,6 +7,7 @@ ghost use Rattle.site_serve.specs.Halts.{EndsBinding};
 use crate::addresses::Addresses;
 use crate::halt::Halt;
 use crate::shell::Shell;
+use site_notes::Notes;
 use std::alloc::Global;
 use std::io;
 use std::net::{Net, SocketAddr, TcpListener, TcpStream, UdpSocket};
@@ -56,6 +57,7 @@ pub(crate) fn open_sockets<R: Net<Listener = TcpListener, Stream = TcpStream> + 
     rt: &R,
     alloc: Global,
     addresses: Addresses,
+    notes: Notes,
 ) -> Result<Shell, Halt>
     requires { IsNode addresses.cluster addresses.me × (length addresses.peers.items ≡ addresses.cluster) }
     ensures { IfErr result EndsBinding }
@@ -64,7 +66,7 @@ pub(crate) fn open_sockets<R: Net<Listener = TcpListener, Stream = TcpStream> + 
     match open(rt, &mut addresses) {
         Ok((socket, listener)) => {
             let Addresses { me, peers, .. } = addresses;
-            Ok(Shell::new(rt, alloc, me, socket, peers, listener)?)
+            Ok(Shell::new(rt, alloc, me, socket, peers, listener, notes)?)
         }
         Err(e) if e.kind() == io::ErrorKind::OutOfMemory => Err(Halt::OutOfMemory),
         Err(_) => Err(Halt::Socket),

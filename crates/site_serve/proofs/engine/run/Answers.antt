@@ -4,7 +4,7 @@ use Rattle.site_serve.proofs.Runs.{on_ok_gives, run_of}
 use Rattle.site_serve.proofs.engine.run.Goals as goal
 
 pub returns-clause-said : goal.returns-clause-said
-returns-clause-said g c = has_worked _ _ _ c.in_ok-server.ensures.ok c.start.ensures.said
+returns-clause-said g c = has_worked _ _ _ _ c.in_ok-server.ensures.ok c.start.ensures.said
 
 pub returns-clause-rounds : goal.returns-clause-rounds
 returns-clause-rounds g c = on_ok_gives c.start.result c.start.ensures.rounds λ led.

@@ -12,7 +12,7 @@ use Rattle.site_serve.proofs.server.Server.step.Goals as goal
 pub returns-in_err-answered-clause-fault : goal.returns-in_err-answered-clause-fault
 returns-in_err-answered-clause-fault g c = err_gives c.from_residual-in_err-answered.result c.from_residual-in_err-answered.ensures.1 λ e is.
     let taken = c.answer_each.ensures.taken in
-    inl (not_answered g.D.Disk.stands_for c.args.self.now.served.node c.take_batch.new.self.served c.answer_each.new.served _ _ c.take_batch.ensures.whose c.in_ok-take_batch.ensures.ok taken.0 taken.1 taken.2 e is)
+    inl (not_answered g.D.Disk.stands_for c.args.self.now.served.node c.take_batch.new.self.served c.answer_each.new.served _ _ c.take_batch.ensures.whose c.in_ok-malformed.ensures.ok taken.0 taken.1 taken.2 e is)
 
 pub returns-in_err-answered-clause-whose : goal.returns-in_err-answered-clause-whose
 returns-in_err-answered-clause-whose g c =
@@ -22,12 +22,12 @@ returns-in_err-answered-clause-whose g c =
 pub returns-in_err-answered-clause-counts : goal.returns-in_err-answered-clause-counts
 returns-in_err-answered-clause-counts g c = λ _.
     let taken = c.answer_each.ensures.taken in
-    requests_kept g.D.Disk.failed taken.0 c.take_batch.new.self.served c.answer_each.new.served taken.2 ∙ none_failed _ _ _ c.in_ok-take_batch.ensures.counts
+    requests_kept g.D.Disk.failed taken.0 c.take_batch.new.self.served c.answer_each.new.served taken.2 ∙ none_failed _ _ _ c.in_ok-malformed.ensures.counts
 
 pub returns-clause-ok : goal.returns-clause-ok
 returns-clause-ok g c =
     let taken = c.answer_each.ensures.taken in
-    answered g.D.Disk.stands_for c.args.self.now.served.node c.take_batch.new.self.served c.answer_each.new.served _ _ c.take_batch.ensures.whose c.in_ok-take_batch.ensures.ok taken.0 taken.1 taken.2
+    answered g.D.Disk.stands_for c.args.self.now.served.node c.take_batch.new.self.served c.answer_each.new.served _ _ c.take_batch.ensures.whose c.in_ok-malformed.ensures.ok taken.0 taken.1 taken.2
 
 pub returns-clause-whose : goal.returns-clause-whose
 returns-clause-whose g c =
@@ -37,12 +37,12 @@ returns-clause-whose g c =
 pub returns-clause-counts : goal.returns-clause-counts
 returns-clause-counts g c = λ _.
     let taken = c.answer_each.ensures.taken in
-    requests_kept g.D.Disk.failed taken.0 c.take_batch.new.self.served c.answer_each.new.served taken.2 ∙ none_failed _ _ _ c.in_ok-take_batch.ensures.counts
+    requests_kept g.D.Disk.failed taken.0 c.take_batch.new.self.served c.answer_each.new.served taken.2 ∙ none_failed _ _ _ c.in_ok-malformed.ensures.counts
 
 pub returns-clause-clients : goal.returns-clause-clients
 returns-clause-clients g c = (
   c.take_batch.new.self.served,
-  c.in_ok-take_batch.ensures.ok,
+  c.in_ok-malformed.ensures.ok,
   subst (λ seats. AreAnswered offered c.take_batch.new.self.served c.answer_each.new.served seats.seats.items c.answer_each.new.self.seats.items) c.take_batch.ensures.seats
       c.in_ok-answered.ensures.each,
 )

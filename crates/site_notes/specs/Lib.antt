@@ -1,0 +1,4 @@
+pub mod Lines
+pub mod Noting
+pub mod Listening
+pub mod Due

@@ -1,0 +1,14 @@
+//! What a server says to who runs it, and when, by a moment in milliseconds: data and pure functions, without a clock.
+#![tactic(auto)]
+
+mod catching;
+mod listening;
+mod note;
+mod notes;
+mod silence;
+
+pub use catching::Catching;
+pub use listening::Listening;
+pub use note::Note;
+pub use notes::{EACH, Notes};
+pub use silence::{LONG, Silence};
