@@ -5,12 +5,12 @@ passed=0
 failed=0
 
 passes() {
-    echo "ok     $1"
+    printf 'ok     %s\n' "$1"
     passed=$((passed + 1))
 }
 
 fails() {
-    echo "FAILED $1"
+    printf 'FAILED %s\n' "$1"
     failed=$((failed + 1))
 }
 
