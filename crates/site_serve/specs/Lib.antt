@@ -5,5 +5,6 @@ pub mod Mailing
 pub mod Staying
 pub mod Rounds
 pub mod Noted
+pub mod Why
 pub mod Running
 pub mod Runs
