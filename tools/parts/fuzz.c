@@ -205,14 +205,17 @@ static void framed(const char *before) {
     add(body, count);
 }
 
-/* the line that a program says of a fault: PREFIX, digits, and one of these */
+/* nothing, or one line that names a record */
+static int is_why(const char *rest) { return !*rest || (!strncmp(rest, "record ", 7) && strchr(rest, '\n') == rest + strlen(rest) - 1); }
+
+/* the line that a program says of a fault: PREFIX, digits, and one of these; a server may say why behind it */
 static int is_line(const char *prefix, const char *const *ends, size_t count) {
     const char *rest = err;
     const size_t front = strlen(prefix);
     if (!strncmp(err, prefix, front)) { rest = err + front; rest += strspn(rest, "0123456789"); }
     for (size_t i = 0; i < count; i++) {
         const size_t n = strlen(ends[i]);
-        if (ends[i][n - 1] == '\n' ? !strcmp(rest, ends[i]) : !strncmp(rest, ends[i], n)) return 1;
+        if (!strncmp(rest, ends[i], n) && (ends[i][n - 1] != '\n' || is_why(rest + n))) return 1;
     }
     return 0;
 }

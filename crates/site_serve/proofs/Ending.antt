@@ -1,17 +1,18 @@
 -- Whole runs of a server.
-use Rattle.std.proofs.Common.{◌≡◌, ◌⊎◌, ℕ, List, ◌++◌, Option, Result, Ok, Err, sym, ap, subst, ◌∙◌, inl, inr, append_assoc}
+use Rattle.std.proofs.Common.{◌≡◌, ◌⊎◌, ℕ, List, ◌++◌, Option, Result, Ok, Err, sym, ap, subst, ◌∙◌, inl, inr, append_assoc, codes}
 use Rattle.std.specs.Result.{IsErrAnd, IfErr}
 use Rattle.std.proofs.KnownBytes.{Appends-trans}
 use Rattle.http_read.specs.Bytes.{End, IsWritten, IsGiven}
 use Rattle.http_read.specs.Counted.{RoseByOne}
 use Rattle.site_serve.specs.Halts.{IsSaid}
-use Rattle.site_serve.specs.Noted.{GivesNotes, HasNoted, EndsWith}
+use Rattle.site_serve.specs.Noted.{GivesNotes, HasNoted}
 use Rattle.site_serve.specs.Placing.{IsPlaced}
 use Rattle.site_serve.specs.Running.{ready_line, done_line, HaltsAt, HaltsReady, DoneEnds, HaltsWork, WorkEnds, RunEnds, HasServed}
+use Rattle.site_serve.specs.Why.{SaysWhy, GivesFault}
 use Rattle.site_serve.specs.declared.halt.Halt.{Halt}
 use Rattle.site_serve.specs.declared.halt.Halt.TheVariants as halt
 use Rattle.site_serve.specs.declared.serve_options.ServeOptions.{ServeOptions}
-use Rattle.site_serve.proofs.Noting.{ends_with, alone}
+use Rattle.site_serve.proofs.Noting.{ends_by, alone, ended}
 
 -- it was not ready, as memory was wanted or the writer failed
 pub not_ready : (out err : End) (p : ℕ) (why : Halt) → GivesNotes 0 err → HaltsReady out p why → HaltsWork out err p why
@@ -71,14 +72,17 @@ has_worked out err o (Err why) placed (inl (same, silent, none)) = inl (inr (inr
 has_worked out err o (Err why) placed (inr (inl (ends, written, noted))) = inr (inl (placed, ends, written, noted))
 has_worked out err o (Err why) placed (inr (inr (same, broken, noted))) = inr (inr (placed, same, broken, noted))
 
--- what was said is the line of the halt, at its place
-pub has_halted : (out : End) (a b c : Option (List ℕ)) (f g h : ℕ) (o : ServeOptions) (why : Halt) (said : List ℕ) (status : ℕ)
-    → HaltsAt out (record { before = a; after = b; failures = f; failures_after = g }) o why → IsSaid why said → IsGiven (record { before = b; after = c; failures = g; failures_after = h }) said → status ≡ 1
-    → HasServed out (record { before = a; after = c; failures = f; failures_after = h }) o status
-has_halted out a b c f g h o why said status (inl (before, silent, none)) is given one =
-    inr (inl (record { why = why; ends = before; silent = silent; said = said; is_said = is; given = alone a b c f g h said none given; status_is = one }))
-has_halted out a b c f g h o why said status (inr (inl (placed, ends, written, noted))) is given one =
-    inr (inr (inl (record { placed = placed; why = why; ends = ends; written = written; said = said; is_said = is; given = ends_with a b c f g h said noted given; status_is = one })))
-has_halted out a b c f g h o why said status (inr (inr (placed, same, broken, noted))) is given one =
+-- what was said is the line of the halt, at its place, and why
+pub has_halted : (out : End) (a b c d : Option (List ℕ)) (f g h k : ℕ) (o : ServeOptions) (why : Halt) (said : List ℕ) (status : ℕ)
+    → HaltsAt out (record { before = a; after = b; failures = f; failures_after = g }) o why → IsSaid why said → IsGiven (record { before = b; after = c; failures = g; failures_after = h }) said
+    → SaysWhy (record { before = c; after = d; failures = h; failures_after = k }) o why → status ≡ 1
+    → HasServed out (record { before = a; after = d; failures = f; failures_after = k }) o status
+has_halted out a b c d f g h k o why said status (inl (before, silent, none)) is given says one =
+    inr (inl (record { why = why; ends = before; silent = silent; said = said; is_said = is; given = alone a b d f g k (λ e. GivesFault e o why said) none (c, h, given, says); status_is = one }))
+has_halted out a b c d f g h k o why said status (inr (inl (placed, ends, written, noted))) is given says one =
+    inr (inr (inl (record { placed = placed; why = why; ends = ends; written = written; said = said; is_said = is; given = ends_by a b d f g k (λ e. GivesFault e o why said) noted (c, h, given, says); status_is = one })))
+has_halted out a b c d f g h k o why said status (inr (inr (placed, same, broken, noted))) is given says one =
     let line = subst (λ w. IsSaid w said) same is in
-    inr (inr (inr (record { placed = placed; broken = broken; given = subst (EndsWith (record { before = a; after = c; failures = f; failures_after = h })) line (ends_with a b c f g h said noted given); status_is = one })))
+    let whole = ended b c d g h k (λ e. IsGiven e said) given (subst (SaysWhy (record { before = c; after = d; failures = h; failures_after = k }) o) same says) in
+    let last = subst (IsGiven (record { before = b; after = d; failures = g; failures_after = k })) line whole in
+    inr (inr (inr (record { placed = placed; broken = broken; given = ends_by a b d f g k (λ e. IsGiven e (codes "write failed\n")) noted last; status_is = one })))

@@ -3,7 +3,7 @@ use Rattle.std.proofs.Common.{◌≡◌, ℕ, zero, suc, List, Option, sym, subs
 use Rattle.http_read.specs.Bytes.{End, IsGiven}
 use Rattle.site_notes.specs.Lines.{line_of_note}
 use Rattle.site_notes.specs.declared.note.Note.{Note}
-use Rattle.site_serve.specs.Noted.{GivesNotes, HasNoted, EndsWith}
+use Rattle.site_serve.specs.Noted.{GivesNotes, HasNoted, EndsBy}
 
 pub none_noted : (e : End) → e.after ≡ e.before → e.failures_after ≡ e.failures → HasNoted e
 none_noted e same sound = (0, (same, sound))
@@ -22,13 +22,19 @@ pub noted_on : (a b c : Option (List ℕ)) (f g h : ℕ) → HasNoted (record { 
     → HasNoted (record { before = a; after = c; failures = f; failures_after = h })
 noted_on a b c f g h (k, earlier) (n, later) = more a b f g k earlier n c h later
 
--- and then a line
-pub ends_with : (a b c : Option (List ℕ)) (f g h : ℕ) (line : List ℕ) → HasNoted (record { before = a; after = b; failures = f; failures_after = g }) → IsGiven (record { before = b; after = c; failures = g; failures_after = h }) line
-    → EndsWith (record { before = a; after = c; failures = f; failures_after = h }) line
-ends_with a b c f g h line noted given = (b, g, noted, given)
+-- and then what was last
+pub ends_by : (a b c : Option (List ℕ)) (f g h : ℕ) (Last : End → Type 0) → HasNoted (record { before = a; after = b; failures = f; failures_after = g }) → Last (record { before = b; after = c; failures = g; failures_after = h })
+    → EndsBy (record { before = a; after = c; failures = f; failures_after = h }) Last
+ends_by a b c f g h Last noted last = (b, g, noted, last)
 
--- a line behind none
-pub alone : (a b c : Option (List ℕ)) (f g h : ℕ) (line : List ℕ) → GivesNotes 0 (record { before = a; after = b; failures = f; failures_after = g }) → IsGiven (record { before = b; after = c; failures = g; failures_after = h }) line
-    → IsGiven (record { before = a; after = c; failures = f; failures_after = h }) line
-alone a b c f g h line (same, sound) given =
-    subst (λ w. IsGiven (record { before = w; after = c; failures = f; failures_after = h }) line) same (subst (λ w. IsGiven (record { before = b; after = c; failures = w; failures_after = h }) line) sound given)
+-- what was done behind none
+pub alone : (a b c : Option (List ℕ)) (f g h : ℕ) (P : End → Type 0) → GivesNotes 0 (record { before = a; after = b; failures = f; failures_after = g }) → P (record { before = b; after = c; failures = g; failures_after = h })
+    → P (record { before = a; after = c; failures = f; failures_after = h })
+alone a b c f g h P (same, sound) done =
+    subst (λ w. P (record { before = w; after = c; failures = f; failures_after = h })) same (subst (λ w. P (record { before = b; after = c; failures = w; failures_after = h })) sound done)
+
+-- and before none
+pub ended : (a b c : Option (List ℕ)) (f g h : ℕ) (P : End → Type 0) → P (record { before = a; after = b; failures = f; failures_after = g }) → GivesNotes 0 (record { before = b; after = c; failures = g; failures_after = h })
+    → P (record { before = a; after = c; failures = f; failures_after = h })
+ended a b c f g h P done (same, sound) =
+    subst (λ w. P (record { before = a; after = w; failures = f; failures_after = h })) (sym same) (subst (λ w. P (record { before = a; after = b; failures = f; failures_after = w })) (sym sound) done)

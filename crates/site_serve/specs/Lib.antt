@@ -6,5 +6,6 @@ pub mod Staying
 pub mod Answering
 pub mod Rounds
 pub mod Noted
+pub mod Why
 pub mod Running
 pub mod Runs

@@ -20,6 +20,6 @@ GivesNotes (suc k) e = (held : Option (List ℕ)) × (failures : ℕ) × (note :
 abbrev pub HasNoted : End → Type 0
 HasNoted e = (k : ℕ) × GivesNotes k e
 
--- some were, and then this was given
-abbrev pub EndsWith : End → List ℕ → Type 0
-EndsWith e line = (held : Option (List ℕ)) × (failures : ℕ) × HasNoted (up_to e held failures) × IsGiven (behind e held failures) line
+-- some were, and then this was done
+abbrev pub EndsBy : End → (End → Type 0) → Type 0
+EndsBy e Last = (held : Option (List ℕ)) × (failures : ℕ) × HasNoted (up_to e held failures) × Last (behind e held failures)

@@ -2,8 +2,9 @@
 use Rattle.std.specs.Prelude.{ℕ, ◌≡◌, ◌⊎◌, List, ◌++◌, codes, decimal, Result, Ok, Err}
 use Rattle.http_read.specs.Bytes.{End, IsSilent, IsWritten, IsBroken, IsGiven}
 use Rattle.site_serve.specs.Halts.{IsSaid, EndsOpening, EndsBinding, EndsRounds}
-use Rattle.site_serve.specs.Noted.{GivesNotes, HasNoted, EndsWith}
+use Rattle.site_serve.specs.Noted.{GivesNotes, HasNoted, EndsBy}
 use Rattle.site_serve.specs.Placing.{IsPlaced}
+use Rattle.site_serve.specs.Why.{GivesFault}
 use Rattle.site_serve.specs.declared.halt.Halt.{Halt}
 use Rattle.site_serve.specs.declared.halt.Halt.TheVariants as halt
 use Rattle.site_serve.specs.declared.serve_options.ServeOptions.{ServeOptions}
@@ -29,17 +30,17 @@ pub record Finished (out err : End) (o : ServeOptions) (status : ℕ) : Type 0 w
   pub noted : HasNoted err
   pub status_is : status ≡ 0
 
--- one line alone, before it was ready
+-- one line, and perhaps why, before it was ready
 pub record Refused (out err : End) (o : ServeOptions) (status : ℕ) : Type 0 where
   pub why : Halt
   pub ends : EndsBefore o why
   pub silent : IsSilent out
   pub said : List ℕ
   pub is_said : IsSaid why said
-  pub given : IsGiven err said
+  pub given : GivesFault err o why said
   pub status_is : status ≡ 1
 
--- it was ready, and one line behind those of notes says what ended its rounds
+-- it was ready, and one line behind those of notes says what ended its rounds, and perhaps one more why
 pub record Halted (out err : End) (o : ServeOptions) (status : ℕ) : Type 0 where
   pub placed : IsPlaced o
   pub why : Halt
@@ -47,14 +48,14 @@ pub record Halted (out err : End) (o : ServeOptions) (status : ℕ) : Type 0 whe
   pub written : IsWritten out (ready_line o.id)
   pub said : List ℕ
   pub is_said : IsSaid why said
-  pub given : EndsWith err said
+  pub given : EndsBy err (λ e. GivesFault e o why said)
   pub status_is : status ≡ 1
 
 -- the writer failed, and a beginning of what a whole run prints was written; one line behind those of notes says so
 pub record Broken (out err : End) (o : ServeOptions) (status : ℕ) : Type 0 where
   pub placed : IsPlaced o
   pub broken : IsBroken out (printed o.id)
-  pub given : EndsWith err (codes "write failed\n")
+  pub given : EndsBy err (λ e. IsGiven e (codes "write failed\n"))
   pub status_is : status ≡ 1
 
 abbrev pub HasServed : End → End → ServeOptions → ℕ → Type 0

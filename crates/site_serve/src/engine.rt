@@ -9,6 +9,7 @@ ghost use Rattle.site_serve.specs.Running.{EndsBefore, WorkEnds, RunEnds, HasSer
 
 use crate::ServeOptions;
 use crate::addresses::read_addresses;
+use crate::cause::Cause;
 use crate::halt::Halt;
 use crate::openings::{count_votes, open_node};
 use crate::passes::take_passes;
@@ -16,6 +17,7 @@ use crate::saying::{say, say_done, say_ready};
 use crate::server::Server;
 use crate::shell::Shell;
 use crate::sockets::open_sockets;
+use crate::why::say_why;
 use http_read::Counted;
 use site_disk::{Disk, FileDisk};
 use site_notes::Notes;
@@ -31,6 +33,7 @@ fn open<R: Net<Listener = TcpListener, Stream = TcpStream> + Files<File = File> 
     rt: &R,
     alloc: Global,
     options: &ServeOptions<'_>,
+    cause: &mut Cause,
 ) -> Result<(Server<FileDisk, TcpStream>, Shell), Halt>
     ensures ok { OnOk result (IsPlaced options.now) }
     ensures opened { IfOk result (λ parts. IsOpened ⟦<FileDisk as Disk>⟧.stands_for (length options.now.peers.items) options.now.id parts.0.served.node) }
@@ -38,11 +41,19 @@ fn open<R: Net<Listener = TcpListener, Stream = TcpStream> + Files<File = File> 
 {
     let addresses = read_addresses(alloc, options)?;
     let (cluster, me) = (addresses.cluster, addresses.me);
-    let served = open_node(rt, alloc, cluster, me, options.record, options.format)?;
+    let served = open_node(
+        rt,
+        alloc,
+        cluster,
+        me,
+        options.record,
+        options.format,
+        cause,
+    )?;
     let times = Times::new(options.patience, options.serve_ms);
     let server = Server::new(alloc, me, served, times)?;
     let notes = Notes::new(cluster, me, count_votes(&server.served.node));
-    let shell = open_sockets(rt, alloc, addresses, notes)?;
+    let shell = open_sockets(rt, alloc, addresses, notes, cause)?;
     Ok((server, shell))
 }
 
@@ -104,11 +115,12 @@ fn run<
     out: &mut Counted<W>,
     err: &mut Counted<E>,
     options: &ServeOptions<'_>,
+    cause: &mut Cause,
 ) -> Result<(), Halt>
     ensures said { RunEnds (end_of W.contents out.old out.new) (end_of E.contents err.old err.new) options.now result }
     ensures rounds { OnOk result (IsRun ⟦<FileDisk as Disk>⟧.stands_for (length options.now.peers.items) options.now.id (TakesPasses (length options.now.peers.items) options.now.id (passes_of options.now.id options.now.rounds))) }
 {
-    let (mut server, mut shell) = open(rt, alloc, options)?;
+    let (mut server, mut shell) = open(rt, alloc, options, cause)?;
     start(rt, alloc, out, err, &mut shell, &mut server, options)
 }
 
@@ -127,8 +139,13 @@ pub fn sited<
     ensures said { HasServed (end_of W.contents out.old out.new) (end_of E.contents err.old err.new) options.now result }
     ensures rounds { result ≡ 0 → IsRun ⟦<FileDisk as Disk>⟧.stands_for (length options.now.peers.items) options.now.id (TakesPasses (length options.now.peers.items) options.now.id (passes_of options.now.id options.now.rounds)) }
 {
-    match run(rt, alloc, out, err, options) {
+    let mut cause = Cause::none();
+    match run(rt, alloc, out, err, options, &mut cause) {
         Ok(()) => 0,
-        Err(halt) => say(alloc, err, halt),
+        Err(halt) => {
+            let status = say(alloc, err, halt);
+            say_why(alloc, err, options, halt, &cause);
+            status
+        }
     }
 }

@@ -2,6 +2,7 @@
 #![tactic(auto)]
 
 mod addresses;
+mod cause;
 mod engine;
 mod halt;
 mod mail;
@@ -19,6 +20,7 @@ mod shell;
 mod sockets;
 mod stay;
 mod watch;
+mod why;
 
 pub use engine::sited;
 pub use halt::Halt;

@@ -5,6 +5,7 @@ ghost use Rattle.site_ids.specs.Ids.{IsNode};
 ghost use Rattle.site_serve.specs.Halts.{EndsOpening};
 ghost use Rattle.site_serve.specs.Runs.{IsOpened};
 
+use crate::cause::Cause;
 use crate::halt::Halt;
 use crate::served::Served;
 use durable::{Record, RecordFault};
@@ -12,13 +13,35 @@ use node::Node;
 use site_disk::{Disk, FileDisk};
 use site_ids::{Cluster, Instance, MAX_INSTANCE, NodeId};
 use std::alloc::Global;
-use std::fs::{File, OpenOptions};
+use std::fs::{File, OpenOptions, TryLockError};
 use std::io;
 use std::path::Path;
 use std::rt::Files;
 
+/// The file, once it is this process's alone.
+fn lock(file: File, cause: &mut Cause) -> Result<File, Halt>
+    ensures { IfErr result EndsOpening }
+{
+    match file.try_lock() {
+        Ok(()) => Ok(file),
+        Err(TryLockError::WouldBlock) => {
+            cause.locked = true;
+            Err(Halt::Record(RecordFault::Device))
+        }
+        Err(TryLockError::Error(e)) => {
+            cause.error = Some(e);
+            Err(Halt::Record(RecordFault::Device))
+        }
+    }
+}
+
 /// The record's file, made where it is absent and that was asked. It is this process's alone as long as it runs: two that write one record would damage it.
-fn file<R: Files<File = File>>(rt: &R, path: &str, make: bool) -> Result<File, Halt>
+fn file<R: Files<File = File>>(
+    rt: &R,
+    path: &str,
+    make: bool,
+    cause: &mut Cause,
+) -> Result<File, Halt>
     ensures { IfErr result EndsOpening }
 {
     let opened = OpenOptions::new()
@@ -27,10 +50,12 @@ fn file<R: Files<File = File>>(rt: &R, path: &str, make: bool) -> Result<File, H
         .create(make)
         .open(rt, path);
     match opened {
-        Ok(file) if file.try_lock().is_ok() => Ok(file),
-        Ok(_) => Err(Halt::Record(RecordFault::Device)),
+        Ok(file) => lock(file, cause),
         Err(e) if e.kind() == io::ErrorKind::OutOfMemory => Err(Halt::OutOfMemory),
-        Err(_) => Err(Halt::Record(RecordFault::Device)),
+        Err(e) => {
+            cause.error = Some(e);
+            Err(Halt::Record(RecordFault::Device))
+        }
     }
 }
 
@@ -56,12 +81,13 @@ pub(crate) fn open_node<R: Files<File = File>>(
     me: NodeId,
     path: &str,
     format: bool,
+    cause: &mut Cause,
 ) -> Result<Served<FileDisk>, Halt>
     requires { IsNode cluster me }
     ensures opened { IfOk result (λ served. IsOpened ⟦<FileDisk as Disk>⟧.stands_for cluster me served.node) }
     ensures fault { IfErr result EndsOpening }
 {
-    let mut disk = FileDisk::new(file(rt, path, format)?);
+    let mut disk = FileDisk::new(file(rt, path, format, cause)?);
     if format && is_empty(&mut disk)? {
         Record::format(cluster, me, &mut disk)?;
         sync_folder(rt, path)?;

@@ -25,7 +25,7 @@ fn record_line(alloc: Global, fault: RecordFault) -> Result<String, AllocError>
 }
 
 /// Writes one line, as far as that can be done.
-fn give<E: Write>(err: &mut Counted<E>, line: &str)
+pub(crate) fn give<E: Write>(err: &mut Counted<E>, line: &str)
     ensures { IsGiven (end_of E.contents err.old err.new) line.now }
 {
     let _ = write_all(err, line.as_bytes());

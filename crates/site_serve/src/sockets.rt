@@ -5,6 +5,7 @@ ghost use Rattle.site_ids.specs.Ids.{IsNode};
 ghost use Rattle.site_serve.specs.Halts.{EndsBinding};
 
 use crate::addresses::Addresses;
+use crate::cause::Cause;
 use crate::halt::Halt;
 use crate::shell::Shell;
 use site_notes::Notes;
@@ -38,6 +39,7 @@ fn connections<R: Net<Listener = TcpListener, Stream = TcpStream>>(
 fn open<R: Net<Listener = TcpListener, Stream = TcpStream>>(
     rt: &R,
     addresses: &mut Addresses,
+    cause: &mut Cause,
 ) -> io::Result<(UdpSocket, TcpListener)>
     requires { IsNode addresses.old.cluster addresses.old.me × (length addresses.old.peers.items ≡ addresses.old.cluster) }
 {
@@ -45,9 +47,11 @@ fn open<R: Net<Listener = TcpListener, Stream = TcpStream>>(
     let Some(at) = addresses.peers.get_mut(own) else {
         unreachable!()
     };
+    cause.datagrams = true;
     let socket = datagrams(rt, *at)?;
     *at = socket.local_addr()?;
     socket.set_nonblocking(true)?;
+    cause.datagrams = false;
     let listener = connections(rt, addresses.http)?;
     Ok((socket, listener))
 }
@@ -58,17 +62,21 @@ pub(crate) fn open_sockets<R: Net<Listener = TcpListener, Stream = TcpStream> + 
     alloc: Global,
     addresses: Addresses,
     notes: Notes,
+    cause: &mut Cause,
 ) -> Result<Shell, Halt>
     requires { IsNode addresses.cluster addresses.me × (length addresses.peers.items ≡ addresses.cluster) }
     ensures { IfErr result EndsBinding }
 {
     let mut addresses = addresses;
-    match open(rt, &mut addresses) {
+    match open(rt, &mut addresses, cause) {
         Ok((socket, listener)) => {
             let Addresses { me, peers, .. } = addresses;
             Ok(Shell::new(rt, alloc, me, socket, peers, listener, notes)?)
         }
         Err(e) if e.kind() == io::ErrorKind::OutOfMemory => Err(Halt::OutOfMemory),
-        Err(_) => Err(Halt::Socket),
+        Err(e) => {
+            cause.error = Some(e);
+            Err(Halt::Socket)
+        }
     }
 }
