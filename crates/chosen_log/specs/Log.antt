@@ -5,8 +5,8 @@ use Rattle.site_ids.specs.Lists.{put_at}
 use Rattle.chosen_log.specs.Places.{Places, in_either}
 use Rattle.chosen_log.specs.declared.fault.LearnFault.{LearnFault}
 use Rattle.chosen_log.specs.declared.fault.LearnFault.TheVariants.{OutOfMemory, Conflict}
-use Rattle.chosen_log.specs.declared.log.Learned.{Learned}
-use Rattle.chosen_log.specs.declared.log.Learned.TheVariants.{New, Known}
+use Rattle.chosen_log.specs.declared.chosen_log.Learned.{Learned}
+use Rattle.chosen_log.specs.declared.chosen_log.Learned.TheVariants.{New, Known}
 
 -- the value known at an instance
 abbrev pub value_at : Places → ℕ → Option (List ℕ)

@@ -1,8 +1,8 @@
 //! The values chosen: one an instance, and those from the first instance on without a gap.
 #![tactic(auto)]
 
+mod chosen_log;
 mod fault;
-mod log;
 
+pub use chosen_log::{ChosenLog, Learned};
 pub use fault::LearnFault;
-pub use log::{ChosenLog, Learned};

@@ -1,3 +1,5 @@
+//! Content is typed by what is put, so no case asks for a route's text.
+
 use context::Data;
 use mustache_parse::Template;
 use site_ids::Ticket;

@@ -1,12 +1,12 @@
 -- A command made of a list of arguments: a required one of them has a value, and its text passed its parser.
-use Rattle.std.proofs.Common.{◌≡◌, ◌∙◌, ◌++◌, ◌<◌, ◌≤◌, ◌||◌, ◌&&◌, ℕ, zero, suc, Bool, true, false, not, List, [], ◌∷◌, length, Some, None, is_some, refl, sym, ap, subst, inl, inr, arith, codes}
+use Rattle.std.proofs.Common.{◌≡◌, ◌∙◌, ◌++◌, ◌<◌, ◌≤◌, ◌||◌, ◌&&◌, ℕ, zero, suc, Bool, true, false, not, List, [], ◌∷◌, length, Some, None, is_some, refl, sym, ap, ap₂, subst, inl, inr, arith, codes}
 use Rattle.std.specs.Prelude.{⊤}
 use Rattle.std.specs.List.{All, slice_index_or, list_any, list_all}
 use Rattle.std.specs.Str.{bytes_eq}
 use Rattle.std.proofs.lemmas.List.{append-nil, append_assoc}
 use Rattle.std.proofs.lemmas.List.Elements.{All-nil}
 use Rattle.std.proofs.lemmas.Slice.Eq.{bytes_eq-Decides}
-use Rattle.clap.specs.Words.{args_of, found_of, first_value, one_text, read_as, reading_of, IsParsedFrom, IsPlain, IsPlainArg, AddsArg, SameRules, Accepts}
+use Rattle.clap.specs.Words.{App, Rule, app_of, args_of, groups_of, rule_of, with_rule, found_of, first_value, one_text, read_as, reading_of, IsParsedFrom, IsPlain, IsPlainArg, AddsArg, SameRules, Accepts}
 use Rattle.clap.specs.Built.{FitsChain, TakesValue, HasDistinctIds, AddsInTurn, KeepsList, IsAuto}
 use Rattle.clap.specs.declared.builder.arg.Arg.{Arg}
 use Rattle.clap.specs.declared.builder.action.ArgAction.TheVariants.{Set}
@@ -19,7 +19,13 @@ use Rattle.clap.proofs.CallerLemmas.{required_in_chain, added_plain}
 use Rattle.clap.proofs.CallerReads.{required_reads}
 use Rattle.clap.specs.declared.builder.value_parser.Reading.TheVariants.{AsWritten}
 use Rattle.command_lines.proofs.OptionValues.{IsAlone, text_accepted}
-use Rattle.command_lines.proofs.TwoArguments.{IsBare}
+
+-- a command that has nothing yet
+pub record IsBare (c : Command) : Type 0 where
+  pub args : args_of c ≡ []
+  pub groups : groups_of c ≡ []
+  pub globals : (out-Command c).has_globals ≡ false
+  pub negates : (out-Command c).subcommand_negates_reqs ≡ false
 
 -- an argument with that id, which excludes nothing and is of its command alone
 pub record IsNamed (a : Arg) (id : List ℕ) : Type 0 where
@@ -226,3 +232,7 @@ chain_read start command xs ids k d q m chain lt value parser p =
       subst (λ (w : List ℕ). one_text (found_of m) w ≡ Some (read_as (reading_of q) got.0)) same_now got.1,
       subst (λ (c : Bool). Accepts c q got.0) same_case got.2,
     )
+
+-- one argument more, and its rule
+pub adds : (old new : Command) (a : Arg) (app : App) (r : Rule) → AddsArg old a new → a.global ≡ false → app_of old ≡ app → rule_of a ≡ r → app_of new ≡ with_rule app r
+adds old new a app r added local is rule = added.shape local ∙ ap₂ with_rule is rule

@@ -1,5 +1,4 @@
 pub mod OptionValues
-pub mod TwoArguments
 pub mod OptionLemmas
 pub mod SimpleCommands
 pub mod Chains

@@ -5,7 +5,7 @@ use Rattle.clap.specs.Words.{Row, rows_of, first_value, one_text, one_of, first_
 use Rattle.clap.specs.declared.parser.matches.Found.{Found}
 use Rattle.clap.proofs.WalkLemmas.{first_value-rows, one_text-rows}
 use Rattle.command_lines.specs.Options.{Gives, IsNumberOf}
-use Rattle.command_lines.specs.declared.options.RenderOptions.{RenderOptions}
+use Rattle.command_lines.specs.declared.render_line.RenderOptions.{RenderOptions}
 
 number_of : (E : Type 0) (G : List ℕ → Result ℕ E → Type 0) → ((u : List ℕ) (x : Result ℕ E) → G u x → ParsesUnsigned 64 10 u x)
     → (t : List ℕ) (r : Option ℕ) → IsUnsignedIn 0 18446744073709551615 t → ReadsOne G t r → IsNumberOf (Some t) r

@@ -1,3 +1,4 @@
+pub mod Arguments
 pub mod Misuses
 pub mod Options
 pub mod SimOptions

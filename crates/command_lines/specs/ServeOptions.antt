@@ -5,12 +5,9 @@ use Rattle.std.specs.Str.Parse.{IsNumeral, digits_value, without_leading_plus}
 use Rattle.clap.specs.Words.{App, Rule, Row, Text, new_app, new_rule, with_rule, first_of, one_of, all_of}
 use Rattle.clap.specs.declared.builder.value_parser.ValueParser.TheVariants.{Signed, Unsigned}
 use Rattle.clap.specs.declared.builder.action.ArgAction.TheVariants.{Set, SetTrue, Append}
+use Rattle.command_lines.specs.Arguments.{number_rule, required_rule}
 use Rattle.command_lines.specs.Options.{IsNumberOf}
-use Rattle.site_serve.specs.declared.serve_options.ServeOptions.{ServeOptions}
-
--- `--NAME VALUE`, which has to be there
-abbrev pub required_rule : Text → Rule
-required_rule name = record (new_rule name) { long = Some name; value_names = 1; required = true; action = Some Set }
+use Rattle.site_halts.specs.declared.serve_options.ServeOptions.{ServeOptions}
 
 -- `--id P`, P a number below 2^8
 abbrev pub id_rule : Rule
@@ -24,10 +21,6 @@ rounds_rule = record (required_rule (codes "rounds")) { parser = Some (Signed (p
 abbrev pub format_rule : Rule
 format_rule = record (new_rule (codes "format")) { long = Some (codes "format"); action = Some SetTrue }
 
--- `--NAME N`, which may be there, N a number below 2^64
-abbrev pub millis_rule : Text → Rule
-millis_rule name = record (new_rule name) { long = Some name; value_names = 1; parser = Some (Unsigned 0 18446744073709551615); action = Some Set }
-
 -- `ADDRESS...`, any number of them
 abbrev pub address_rule : Rule
 address_rule = record (new_rule (codes "address")) { value_names = 1; action = Some Append }
@@ -36,7 +29,7 @@ address_rule = record (new_rule (codes "address")) { value_names = 1; action = S
 abbrev pub serve_app : App
 serve_app = with_rule (with_rule (with_rule (with_rule (with_rule (with_rule (with_rule (with_rule (new_app (codes "sited"))
     id_rule) (required_rule (codes "record"))) (required_rule (codes "http"))) rounds_rule) format_rule)
-    (millis_rule (codes "patience-ms"))) (millis_rule (codes "serve-ms"))) address_rule
+    (number_rule (codes "patience-ms"))) (number_rule (codes "serve-ms"))) address_rule
 
 -- a flag is set where its text is `true`
 abbrev pub is_set : Option Text → Bool

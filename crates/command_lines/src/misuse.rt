@@ -1,4 +1,7 @@
 //! Command lines that give a program nothing to do.
+//!
+//! Words that are no text get clap's line, which this port can't meet.
+
 ghost use Rattle.std.specs.Prelude.{ℕ, List, ◌≡◌};
 ghost use Rattle.http_read.specs.Bytes.{end_of, IsGiven};
 ghost use Rattle.command_lines.specs.Misuses.{IsTold};

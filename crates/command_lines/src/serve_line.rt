@@ -2,31 +2,17 @@
 ghost use Rattle.std.specs.Prelude.{◌≡◌, ◌^◌, ℕ, List, Some, IfOk, IfErr, true, false, is_some, pos, codes};
 ghost use Rattle.clap.specs.Built.{TakesValue};
 ghost use Rattle.clap.specs.Words.{found_of, first_value, one_text, rows_of, rule_of, matches_of, takes, kind_of, FailsBy, fault_of, IsUnsignedIn, IsPlainArg};
-ghost use Rattle.clap.specs.declared.builder.value_parser.ValueParser.TheVariants.{Signed, Unsigned};
+ghost use Rattle.clap.specs.declared.builder.value_parser.ValueParser.TheVariants.{Signed};
 ghost use Rattle.command_lines.specs.Options.{words_of};
-ghost use Rattle.command_lines.specs.ServeOptions.{serve_app, required_rule, id_rule, rounds_rule, format_rule, millis_rule, address_rule, SpellsBelow, GivesServe};
+ghost use Rattle.command_lines.specs.ServeOptions.{serve_app, id_rule, rounds_rule, format_rule, address_rule, SpellsBelow, GivesServe};
 
+use crate::arguments::{number_option, required_option};
 use crate::commands::described;
 use crate::matched::{addresses_in, byte_in, flag_in, number_in, some_number_in, text_in};
 use clap::error::ErrorKind;
 use clap::{Arg, ArgAction, ArgMatches, Error};
 use site_serve::ServeOptions;
 use std::alloc::Global;
-
-fn required_option<'a>(alloc: Global, name: &'a str, value: &'a str, help: &'a str) -> Arg<'a>
-    ensures rule { rule_of result ≡ required_rule name.entry.now }
-    ensures id { result.id.now ≡ name.entry.now }
-    ensures plain { IsPlainArg result }
-    ensures local { result.global ≡ false }
-    ensures takes { TakesValue result }
-{
-    Arg::new(alloc, name)
-        .long(name)
-        .value_name(value)
-        .help(help)
-        .required(true)
-        .action(ArgAction::Set)
-}
 
 fn id_option<'a>(alloc: Global) -> Arg<'a>
     ensures rule { rule_of result ≡ id_rule }
@@ -53,9 +39,13 @@ fn rounds_option<'a>(alloc: Global) -> Arg<'a>
     ensures takes { TakesValue result }
     ensures parser { result.value_parser ≡ Some (Signed (pos 0) (pos 4294967295)) }
 {
-    required_option(alloc, "rounds", "R", "Stops after R rounds of work").value_parser(
-        clap::value_parser!(u32),
+    required_option(
+        alloc,
+        "rounds",
+        "R",
+        "Stops after R laps of work, each 40 + 10 P looks at what has come",
     )
+    .value_parser(clap::value_parser!(u32))
 }
 
 fn format_flag<'a>(alloc: Global) -> Arg<'a>
@@ -68,21 +58,6 @@ fn format_flag<'a>(alloc: Global) -> Arg<'a>
         .long("format")
         .help("Makes a new record first, where FILE is empty or missing")
         .action(ArgAction::SetTrue)
-}
-
-fn millis_option<'a>(alloc: Global, name: &'a str, help: &'a str) -> Arg<'a>
-    ensures rule { rule_of result ≡ millis_rule name.entry.now }
-    ensures id { result.id.now ≡ name.entry.now }
-    ensures plain { IsPlainArg result }
-    ensures local { result.global ≡ false }
-    ensures parser { result.value_parser ≡ Some (Unsigned 0 18446744073709551615) }
-{
-    Arg::new(alloc, name)
-        .long(name)
-        .value_name("N")
-        .help(help)
-        .value_parser(clap::value_parser!(u64))
-        .action(ArgAction::Set)
 }
 
 fn address_arguments<'a>(alloc: Global) -> Arg<'a>
@@ -125,16 +100,16 @@ fn serve_matches<'a>(alloc: Global, words: &'a [String]) -> Result<ArgMatches<'a
             alloc,
             "http",
             "ADDRESS",
-            "Where this server answers HTTP requests, IP:PORT",
+            "Where this server answers HTTP requests, IP:PORT: 64 connections at once, each closed after 5 seconds between requests, or 1 without progress in one",
         ))?
         .arg(rounds_option(alloc))?
         .arg(format_flag(alloc))?
-        .arg(millis_option(
+        .arg(number_option(
             alloc,
             "patience-ms",
             "Tries again after N milliseconds without progress, 100 where none are named: for use, 100 or three round trips, whichever is more",
         ))?
-        .arg(millis_option(
+        .arg(number_option(
             alloc,
             "serve-ms",
             "Closes a connection whose request takes N milliseconds, from its first byte to the last of its response",

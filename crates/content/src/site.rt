@@ -1,3 +1,5 @@
+//! The set of tickets with the new one is made beside the old.
+
 ghost use Rattle.std.specs.Prelude.{◌≡◌, ◌≢◌, ℕ, List, [], ◌∷◌, ◌++◌, Some, None, Ok, IfOk, OnErr, MatchOption, option_map};
 ghost use Rattle.command.specs.Action.{Order};
 ghost use Rattle.command.specs.Effective.{effective};

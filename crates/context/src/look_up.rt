@@ -1,3 +1,5 @@
+//! `resolve` has no condition on names.
+
 ghost use Rattle.std.specs.Prelude.{◌≡◌, ◌<◌, option_map, Some, MatchOption, IfSome, List, [], ◌∷◌, length};
 ghost use Rattle.context.specs.View.{data_view};
 ghost use Rattle.context.specs.Stack.{stack_of};

@@ -1,6 +1,7 @@
-//! A drive with one growth refused, turn by turn and as one batch, as `tools/refuse-growths` runs this: it ends as ever, or by the fault that memory was
-//! wanted, or by that of the device where the disk in memory found none, and then the node is opened again. Where the link found none it counts a failure.
-//! Either way what was heard may be lost, as a datagram may; so it comes once more, and then the node is where it is without refusals.
+//! A drive with one growth refused, turn by turn and as one batch, as `tools/gate/refuse-growths` runs this: it ends as ever, or by the fault that
+//! memory was wanted, or by that of the device where the disk in memory found none, and then the node is opened again. Where the link found none it
+//! counts a failure. Either way what was heard may be lost, as a datagram may; so it comes once more, and then the node is where it is without
+//! refusals.
 use crate::server::{Server, bytes};
 use node::NodeFault;
 use site_drive::{LastCall, MemLink};

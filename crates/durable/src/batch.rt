@@ -1,4 +1,6 @@
 //! A batch of entries, which stand on the disk together or not at all.
+//!
+//! Memory is found entry by entry; an open batch stays where another begins.
 
 ghost use Rattle.std.specs.Prelude.{◌≡◌, ◌⊎◌, ◌↔◌, ◌+◌, ◌-◌, ◌<◌, ◌≤◌, ◌^◌, ◌∷◌, [], IsOk, IsErrOf, OnOk, OnErr, length, false, true};
 

@@ -1,4 +1,6 @@
 //! Putting one entry more on record.
+//!
+//! `stopped` is set before the first write, so no exit forgets it; Full goes by the gate's place.
 
 ghost use Rattle.std.specs.Prelude.{◌≡◌, ◌⊎◌, ◌↔◌, ℕ, ◌+◌, ◌≤◌, ◌<◌, ◌^◌, IsErrOf, OnOk, OnErr, length, false, true};
 ghost use Rattle.site_ids.specs.declared.TheConstants.{MAX_RECORD, MAX_VALUE};

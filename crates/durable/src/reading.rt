@@ -1,4 +1,6 @@
 //! Reading the entries of a file, from gate to gate.
+//!
+//! Pieces of 1 MB; the buffer comes after the head, so what is no record is refused without memory.
 
 ghost use Rattle.std.specs.Prelude.{◌≡◌, ◌⊎◌, ◌+◌, ◌-◌, ◌≤◌, ◌<◌, ◌^◌, ◌++◌, ℕ, List, length, drop, true, false, IfOk, OnOk, OnErr, IsErrOf};
 ghost use Rattle.site_disk.specs.Model.{DiskState};

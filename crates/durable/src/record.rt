@@ -1,4 +1,6 @@
 //! The record of a node over a disk.
+//!
+//! Callers owe that a ballot's node is of the `cluster`; no test stands at 4,294,967,295 bytes; `Puts.full` says it.
 
 ghost use Rattle.std.specs.Prelude.{◌≡◌, ◌↔◌, ◌⊎◌, ◌+◌, ◌-◌, ◌≤◌, ◌<◌, ◌^◌, ◌∷◌, ◌++◌, [], ℕ, List, Option, IsTrue, IsErrOf, OnOk, OnErr, IfOk, IfErr, length, false, true};
 ghost use Rattle.site_disk.specs.Model.{DiskState, after_sync};
@@ -121,6 +123,13 @@ impl<D: Disk> Record<D> {
             }),
             Err(fault) => Err((fault, disk)),
         }
+    }
+
+    /// The disk under it.
+    pub fn disk(&self) -> &D
+        ensures { result.now ≡ self.now.disk }
+    {
+        &self.disk
     }
 
     /// The cluster whose ballots it takes.

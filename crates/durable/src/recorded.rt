@@ -1,4 +1,6 @@
 //! What the entries of a file record.
+//!
+//! The acceptor's judges say what an entry must advance, on reading too.
 
 ghost use Rattle.std.specs.Prelude.{◌≡◌, ℕ, []};
 ghost use Rattle.durable.specs.Entries.{Round, Promised, PromisedSpan, Voted};

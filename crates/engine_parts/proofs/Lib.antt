@@ -1,4 +1,5 @@
 pub mod CutLemmas
 pub mod LineLemmas
 pub mod Texts
+pub mod Lines
 pub mod Fed

@@ -1,4 +1,5 @@
 pub mod Cuts
+pub mod Bodies
 pub mod Submissions
 pub mod Feeds
 pub mod Faults

@@ -1,4 +1,7 @@
 //! Which pages a publication changes, and whether its release shows them.
+//!
+//! Behind an interrupted run all pages are compared, else those that changed.
+
 use editor_parts::{Halt, say};
 use group_client::{Node, ask};
 use node_client::{Answer, Question};

@@ -290,7 +290,7 @@ fn publish_wanted<
 /// Tells that a folder has no page.
 fn tell_no_page<E: Write>(alloc: Global, err: &mut E, folder: &str) -> Result<(), Halt> {
     let line = format!(in alloc;
-        "{folder}: no page, so nothing was sent: a site has a file routes; a folder of what changed is for tools/frame"
+        "{folder}: no page, so nothing was sent: a site has a file routes; a folder of what changed is for tools/editors/frame"
     )?;
     say(err, line.as_str())
 }

@@ -1,5 +1,5 @@
-//! A folder with one growth refused, as `tools/refuse-growths` runs this: it is read as ever, or memory was refused, and then the next try reads it
-//! as ever.
+//! A folder with one growth refused, as `tools/gate/refuse-growths` runs this: it is read as ever, or memory was refused, and then the next try reads
+//! it as ever.
 use crate::folders::{SITE, files, told};
 use site_folder::{Folder, Page, SiteFile, folder_of, pages_of};
 use std::alloc::{AllocError, Global};

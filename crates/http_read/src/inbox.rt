@@ -1,4 +1,7 @@
 //! The bytes that were read from a connection and not yet used.
+//!
+//! It reads by itself, as no clause could tie bytes lent.
+
 ghost use Rattle.std.specs.Prelude.{◌≡◌, ◌≢◌, ℕ, ◌+◌, ◌-◌, List, [], ◌<◌, ◌≤◌, length, take, drop, slice_range, Ok, IfOk, OnOk, OnErr, IfErr, IsErrOf, IsTrue, ◌↔◌, vec_len};
 ghost use Rattle.std.specs.Io.KnownBytes.{Keeps, IsAtEnd};
 ghost use Rattle.http_read.specs.declared.heads.TheConstants.{HEAD_LIMIT};

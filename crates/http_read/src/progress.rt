@@ -1,4 +1,7 @@
 //! How far a request is read.
+//!
+//! What a request may still take has a bound that falls, by which reading ends.
+
 ghost use Rattle.std.specs.Prelude.{◌≡◌, ◌≢◌, ℕ, List, ◌++◌, Some, IfOk, OnErr, IfSome, IfNone};
 ghost use Rattle.http_read.specs.Incoming.{Shows};
 ghost use Rattle.http_read.specs.Progress.{Resumes, place_of, asks_of, Advances, Waits, ShowsOpened};

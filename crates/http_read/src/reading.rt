@@ -1,4 +1,7 @@
 //! Reads one request.
+//!
+//! After a failed read none is made; it and the input's end differ by the count alone (`StopsAt`).
+
 ghost use Rattle.std.specs.Prelude.{◌≡◌, ◌≢◌, ◌≤◌, ℕ, List, length, IfOk, IfErr, IfSome, IsErrOf, OnOk};
 ghost use Rattle.std.specs.Io.KnownBytes.{IsAtEnd, Keeps};
 ghost use Rattle.http_read.specs.Counted.{inside, failed, RoseByOne};

@@ -1,4 +1,7 @@
 //! A client's connection, without what carries its bytes.
+//!
+//! Where memory was refused it is over, an earlier response whole; a status of 400 closes it whoever shows it.
+
 ghost use Rattle.std.specs.Prelude.{◌≡◌, ◌⊎◌, ◌<◌, ℕ, List, length, true, false, IfOk, OnErr, IsTrue, IsFalse, ◌↔◌};
 ghost use Rattle.http_read.specs.Bytes.{end_of};
 ghost use Rattle.http_serve.specs.declared.messages.TheConstants.{REQUESTS};

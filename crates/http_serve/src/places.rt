@@ -3,7 +3,7 @@ ghost use Rattle.std.specs.Prelude.{◌≡◌, ◌≢◌, ℕ, ◌+◌, ◌<◌,
 ghost use Rattle.http_serve.specs.Paths.{Place as Meant, Names, IsOwn};
 ghost use Rattle.http_serve.specs.Places.{place_shown};
 
-use itoa::Buffer;
+use engine_parts::read_number;
 use site_ids::Ticket;
 
 /// What a path names; the rest of a release's path is lent.
@@ -15,24 +15,6 @@ pub(crate) enum Place<'a> {
     Release { n: u64, rest: &'a str },
     Unknown,
     Page,
-}
-
-/// A number as it is printed: no sign, and no zero in front of another digit.
-fn number_in(word: &[u8]) -> Option<u64>
-    ensures { MatchOption result ((n : ℕ) → n < 2 ^ 64 → word.now ≢ decimal n) (λ n. (n < 2 ^ 64) × (word.now ≡ decimal n)) }
-{
-    let Ok(text) = str::from_utf8(word) else {
-        return None;
-    };
-    let Ok(n) = text.parse::<u64>() else {
-        return None;
-    };
-    let mut buffer = Buffer::new();
-    if buffer.format(n) == text {
-        Some(n)
-    } else {
-        None
-    }
 }
 
 /// Where the first slash stands.
@@ -62,11 +44,11 @@ fn ticket_in(rest: &[u8]) -> Option<Ticket>
         (λ t. (t.editor < 2 ^ 32) × (t.number < 2 ^ 64) × (rest.now ≡ decimal t.editor ++ (codes "/" ++ decimal t.number))) }
 {
     let at = first_slash(rest)?;
-    let editor = number_in(&rest[..at])?;
+    let editor = read_number(&rest[..at])?;
     if editor > u32::MAX as u64 {
         return None;
     }
-    let number = number_in(&rest[at + 1..])?;
+    let number = read_number(&rest[at + 1..])?;
     Some(Ticket {
         editor: editor as u32,
         number,
@@ -79,7 +61,7 @@ fn release_in(rest: &[u8]) -> Option<(u64, usize)>
         (λ r. (r.0 < 2 ^ 64) × (r.1 < length rest.now) × (slice_index rest.now r.1 ≡ 47) × (rest.now ≡ decimal r.0 ++ drop r.1 rest.now)) }
 {
     let at = first_slash(rest)?;
-    let n = number_in(&rest[..at])?;
+    let n = read_number(&rest[..at])?;
     Some((n, at))
 }
 

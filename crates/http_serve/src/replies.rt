@@ -1,4 +1,7 @@
 //! The bytes of a response.
+//!
+//! A page's status is printed as it comes; unknown ones have an empty reason.
+
 ghost use Rattle.std.specs.Prelude.{◌≡◌, ◌≤◌, ◌&&◌, not, length, IfOk, string_bytes};
 ghost use Rattle.http_serve.specs.Shown.{reply_of, written_in, write_as};
 ghost use Rattle.http_serve.specs.Replies.{reply_head, reason, media_type, closes as is_closing, head_end};

@@ -1,4 +1,7 @@
 //! Serves one connection.
+//!
+//! That nothing was written at a fault is said of an exchange, as over a socket no clause tells which request failed.
+
 ghost use Rattle.std.specs.Prelude.{◌≡◌, ◌⊎◌, ◌+◌, ◌<◌, ◌≤◌, ℕ, suc, true, List, None, IfOk, IfSome, IsErrOf};
 ghost use Rattle.std.specs.Io.KnownBytes.{Appends};
 ghost use Rattle.http_read.specs.Counted.{inside, failed, RoseByOne};

@@ -1,9 +1,8 @@
 //! Bodies by length and by chunks.
 use crate::pieces::{Row, check};
-use std::test::Fail;
 
 /// What follows `POST /p HTTP/1.1` and a Host line: a Content-Length line and what stands behind the head.
-const BY_LENGTH: [Row; 5] = [
+const BY_LENGTH: &[Row] = &[
     ("Content-Length: 3\r\n\r\nabc", "POST /p with abc"),
     (
         "Content-Length: 00000000000000000003\r\n\r\nabc",
@@ -15,7 +14,7 @@ const BY_LENGTH: [Row; 5] = [
 ];
 
 /// What follows a head with chunked coding.
-const BY_CHUNKS: [Row; 45] = [
+const BY_CHUNKS: &[Row] = &[
     (
         "4\r\nrele\r\n4\r\nase\n\r\n0\r\n\r\n",
         "POST /p with release\n",
@@ -72,34 +71,27 @@ const BY_CHUNKS: [Row; 45] = [
     ("0\r\nA: b\r\n\r", "ended early"),
 ];
 
+/// What follows a head of HEAD with chunked coding: a refusal says that it is of HEAD also behind the head.
+const BEHIND_HEAD: &[Row] = &[
+    ("3\r\nabc\r\n0\r\n\r\n", "HEAD / with abc"),
+    ("9C41\r\n", "413 to HEAD"),
+    ("0\r\n(\r\n\r\n", "400 to HEAD"),
+];
+
 #[test]
-fn by_length(rt: HostRuntime) -> Result<(), Fail> {
-    let alloc = rt.alloc();
-    check(
-        &rt,
-        alloc,
-        "POST /p HTTP/1.1\r\nHost: a\r\n",
-        &BY_LENGTH,
-        "",
-    )
+fn by_length(rt: HostRuntime) {
+    let before = "POST /p HTTP/1.1\r\nHost: a\r\n";
+    check(&rt, rt.alloc(), before, BY_LENGTH, "");
 }
 
 #[test]
-fn by_chunks(rt: HostRuntime) -> Result<(), Fail> {
-    let alloc = rt.alloc();
+fn by_chunks(rt: HostRuntime) {
     let before = "POST /p HTTP/1.1\r\nHost: a\r\nTransfer-Encoding: , Chunked\t,\r\n\r\n";
-    check(&rt, alloc, before, &BY_CHUNKS, "")
+    check(&rt, rt.alloc(), before, BY_CHUNKS, "");
 }
 
-/// A refusal says whether it is of a HEAD request also behind the head.
 #[test]
-fn behind_a_head_of_head(rt: HostRuntime) -> Result<(), Fail> {
-    let alloc = rt.alloc();
-    let rows: [Row; 3] = [
-        ("3\r\nabc\r\n0\r\n\r\n", "HEAD / with abc"),
-        ("9C41\r\n", "413 to HEAD"),
-        ("0\r\n(\r\n\r\n", "400 to HEAD"),
-    ];
+fn behind_a_head_of_head(rt: HostRuntime) {
     let before = "HEAD / HTTP/1.1\r\nHost: a\r\nTransfer-Encoding: chunked\r\n\r\n";
-    check(&rt, alloc, before, &rows, "")
+    check(&rt, rt.alloc(), before, BEHIND_HEAD, "");
 }

@@ -20,3 +20,5 @@ mod several;
 mod standing;
 #[cfg(test)]
 mod targets;
+#[cfg(test)]
+mod texts;

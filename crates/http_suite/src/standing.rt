@@ -2,74 +2,74 @@
 use http_read::{Counted, Inbox, Incoming, Place, Progress, advance};
 use std::alloc::Global;
 use std::process::Abort;
-use std::test::Fail;
 
 /// A piece, and where the reading stands behind it: `None` within a head, and behind a whole request.
 type Row = (&'static str, Option<Place>);
 
+/// Takes a piece whole.
+fn take(rt: &impl Abort, inbox: &mut Inbox, piece: &[u8]) {
+    assert!(rt; !inbox.is_full());
+    let read = inbox
+        .read_from(&mut Counted::new(piece))
+        .expect(rt, "memory");
+    assert_eq!(rt; read.ok(), Some(piece.len()));
+}
+
+/// The last piece, and no other, makes the request whole, which has this body.
+fn is_due(came: &Option<Incoming>, is_last: bool, body: &[u8]) -> bool {
+    match came {
+        None => !is_last,
+        Some(Incoming::Request(asked)) => is_last && asked.body.as_slice() == body,
+        Some(_) => false,
+    }
+}
+
 /// Gives the pieces one after another. The last one makes the request whole.
-fn check_places(
-    rt: &impl Abort,
-    alloc: Global,
-    rows: &[Row],
-    body: &[u8],
-    left: &[u8],
-) -> Result<(), Fail> {
+fn check_places(rt: &impl Abort, alloc: Global, rows: &[Row], body: &[u8], left: &[u8]) {
     let mut progress = Progress::Head;
     let mut inbox = Inbox::new(alloc);
     let mut spans = Vec::new(alloc);
     for (i, (piece, place)) in rows.iter().enumerate() {
-        if inbox.is_full() {
-            return Err(Fail::from("full"));
-        }
-        let n = inbox.read_from(&mut Counted::new(piece.as_bytes()))??;
-        assert_eq!(rt; n, piece.len());
-        let came = advance(alloc, &mut progress, &mut inbox, &mut spans)?;
+        take(rt, &mut inbox, piece.as_bytes());
+        let came = advance(alloc, &mut progress, &mut inbox, &mut spans).expect(rt, "memory");
         assert_eq!(rt; progress.place(), *place, "behind piece {i}");
-        match came {
-            None => assert!(rt; i + 1 < rows.len(), "no whole request"),
-            Some(Incoming::Request(asked)) => {
-                assert_eq!(rt; i + 1, rows.len(), "whole behind piece {i}");
-                assert_eq!(rt; asked.body.as_slice(), body);
-                assert_eq!(rt; inbox.held(), left);
-            }
-            Some(Incoming::Refused { status: _, head: _ } | Incoming::Ended) => {
-                return Err(Fail::from("refused"));
-            }
-        }
+        let is_last = i + 1 == rows.len();
+        assert!(rt; is_due(&came, is_last, body), "behind piece {i}");
     }
-    Ok(())
+    assert_eq!(rt; inbox.held(), left);
 }
 
-#[test]
-fn a_body_of_a_stated_length(rt: HostRuntime) -> Result<(), Fail> {
-    let rows: [Row; 6] = [
-        ("POST / HTT", None),
-        ("P/1.1\r\nHost: a\r\nContent-Length: 5\r\n\r", None),
-        ("\n", Some(Place::Fixed(5))),
-        ("ab", Some(Place::Fixed(3))),
-        ("cd", Some(Place::Fixed(1))),
-        ("eGET", None),
-    ];
-    check_places(&rt, rt.alloc(), &rows, b"abcde", b"GET")
-}
+const STATED: &[Row] = &[
+    ("POST / HTT", None),
+    ("P/1.1\r\nHost: a\r\nContent-Length: 5\r\n\r", None),
+    ("\n", Some(Place::Fixed(5))),
+    ("ab", Some(Place::Fixed(3))),
+    ("cd", Some(Place::Fixed(1))),
+    ("eGET", None),
+];
 
 #[test]
-fn a_body_by_chunks(rt: HostRuntime) -> Result<(), Fail> {
-    let rows: [Row; 13] = [
-        ("POST / HTTP/1.1\r\nHost: a\r\n", None),
-        ("Transfer-Encoding: chunked\r\n\r\n", Some(Place::Line)),
-        ("4", Some(Place::Line)),
-        (";x\r", Some(Place::Line)),
-        ("\n", Some(Place::Chunk(4))),
-        ("rel", Some(Place::Chunk(1))),
-        ("e", Some(Place::Break)),
-        ("\r", Some(Place::Break)),
-        ("\n4\r\nas", Some(Place::Chunk(2))),
-        ("e\n\r\n0", Some(Place::Line)),
-        ("\r\n", Some(Place::Trailer)),
-        ("A: b\r\n\r", Some(Place::Trailer)),
-        ("\n", None),
-    ];
-    check_places(&rt, rt.alloc(), &rows, b"release\n", b"")
+fn a_body_of_a_stated_length(rt: HostRuntime) {
+    check_places(&rt, rt.alloc(), STATED, b"abcde", b"GET");
+}
+
+const CHUNKED: &[Row] = &[
+    ("POST / HTTP/1.1\r\nHost: a\r\n", None),
+    ("Transfer-Encoding: chunked\r\n\r\n", Some(Place::Line)),
+    ("4", Some(Place::Line)),
+    (";x\r", Some(Place::Line)),
+    ("\n", Some(Place::Chunk(4))),
+    ("rel", Some(Place::Chunk(1))),
+    ("e", Some(Place::Break)),
+    ("\r", Some(Place::Break)),
+    ("\n4\r\nas", Some(Place::Chunk(2))),
+    ("e\n\r\n0", Some(Place::Line)),
+    ("\r\n", Some(Place::Trailer)),
+    ("A: b\r\n\r", Some(Place::Trailer)),
+    ("\n", None),
+];
+
+#[test]
+fn a_body_by_chunks(rt: HostRuntime) {
+    check_places(&rt, rt.alloc(), CHUNKED, b"release\n", b"");
 }

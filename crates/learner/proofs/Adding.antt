@@ -3,9 +3,9 @@ use Rattle.std.proofs.Common.{◌≡◌, ◌≢◌, ◌⊎◌, inl, inr, ℕ, �
 use Rattle.std.specs.Prelude.{◌↔◌, IsTrue, nat_le}
 use Rattle.std.proofs.lemmas.Bool.{cases_eq}
 use Rattle.site_ids.specs.Ids.{BallotOf}
-use Rattle.learner.specs.declared.masks.NodeMask.{NodeMask}
-use Rattle.learner.specs.declared.tallies.Tally.{Tally}
-use Rattle.learner.specs.declared.learning.Learner.{Learner}
+use Rattle.learner.specs.declared.node_mask.NodeMask.{NodeMask}
+use Rattle.learner.specs.declared.tally.Tally.{Tally}
+use Rattle.learner.specs.declared.learner.Learner.{Learner}
 use Rattle.learner.specs.Masks.{HasNode, Counted}
 use Rattle.learner.specs.Tallies.{HasTold, AddsTold}
 use Rattle.learner.specs.ToldVotes.{ToldVote, told_vote, HasMajority}

@@ -6,8 +6,8 @@ use Rattle.std.proofs.lemmas.Option.{get_or_from_slice_get}
 use Rattle.site_ids.specs.Ids.{BallotOf}
 use Rattle.site_ids.specs.Lists.{In}
 use Rattle.site_ids.proofs.MemberLemmas.{in_push}
-use Rattle.learner.specs.declared.masks.NodeMask.{NodeMask}
-use Rattle.learner.specs.declared.tallies.Tally.{Tally}
+use Rattle.learner.specs.declared.node_mask.NodeMask.{NodeMask}
+use Rattle.learner.specs.declared.tally.Tally.{Tally}
 use Rattle.learner.specs.Masks.{HasNode}
 use Rattle.learner.specs.Tallies.{IsOf, HasNoneOf, IsFirstOf, HasTold, AddsTold}
 

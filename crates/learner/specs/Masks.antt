@@ -3,7 +3,7 @@ use Rattle.std.specs.Prelude.{◌≡◌, ℕ, List, length}
 use Rattle.std.specs.Int.{bit_at}
 use Rattle.site_ids.specs.Ids.{IsNode}
 use Rattle.site_ids.specs.Lists.{In, Distinct}
-use Rattle.learner.specs.declared.masks.NodeMask.{NodeMask}
+use Rattle.learner.specs.declared.node_mask.NodeMask.{NodeMask}
 
 -- the bit of node p is 1
 abbrev pub HasNode : NodeMask → ℕ → Type 0

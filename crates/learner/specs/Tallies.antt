@@ -2,7 +2,7 @@
 use Rattle.std.specs.Prelude.{◌≡◌, ◌↔◌, ◌⊎◌, ℕ, Some, List, [], ◌∷◌, slice_get, take}
 use Rattle.site_ids.specs.Ids.{BallotOf}
 use Rattle.site_ids.specs.Lists.{In}
-use Rattle.learner.specs.declared.tallies.Tally.{Tally}
+use Rattle.learner.specs.declared.tally.Tally.{Tally}
 use Rattle.learner.specs.Masks.{HasNode}
 
 -- the tally is of v at ballot b

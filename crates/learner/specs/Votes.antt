@@ -3,8 +3,8 @@ use Rattle.std.specs.Prelude.{◌≡◌, ◌⊎◌, ℕ, List, [], Vec}
 use Rattle.std.specs.BTreeMap.{BTreeMap, get}
 use Rattle.std.specs.Option.{option_map_or}
 use Rattle.std.specs.Ordering.{nat_cmp}
-use Rattle.learner.specs.declared.tallies.Tally.{Tally}
-use Rattle.learner.specs.declared.learning.Learner.{Learner}
+use Rattle.learner.specs.declared.tally.Tally.{Tally}
+use Rattle.learner.specs.declared.learner.Learner.{Learner}
 use Rattle.learner.specs.Tallies.{HasTold}
 use Rattle.learner.specs.ToldVotes.{ToldVote}
 

@@ -1,8 +1,8 @@
 //! The votes that a node was told of, and which values they make known.
 #![tactic(auto)]
 
-mod learning;
-mod masks;
-mod tallies;
+mod learner;
+mod node_mask;
+mod tally;
 
-pub use learning::Learner;
+pub use learner::Learner;

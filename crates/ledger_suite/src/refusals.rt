@@ -1,5 +1,5 @@
-//! A ledger with one growth refused, as `tools/refuse-growths` runs this: a step is taken as ever, or memory was refused, nothing has changed, and the
-//! next try takes it.
+//! A ledger with one growth refused, as `tools/gate/refuse-growths` runs this: a step is taken as ever, or memory was refused, nothing has changed,
+//! and the next try takes it.
 use crate::samples::{commands, told};
 use site_ledger::{Ledger, LedgerFault};
 use std::alloc::{AllocError, Global};

@@ -1,3 +1,8 @@
+//! Laws of indented partials.
+//!
+//! What they cost: some 2,100 of this crate's 3,400 lines of proof. What they give: a partial is read once and printed under a margin, so a page with a
+//! thousand calls of one takes 31 µs in place of 288 (docs/MEASURED.md).
+
 ghost use Rattle.mustache_parse.specs.BlankIndents.{IndentsAreBlank};
 ghost use Rattle.mustache_parse.specs.Indenting.{IndentsPieces, KeepsTrees, NothingToIndent};
 ghost use Rattle.mustache_parse.specs.Margin.{MarginMakesTree};

@@ -7,6 +7,8 @@ use Rattle.mustache_scan.specs.declared.token.TokenKind.TheVariants.{Literal, Va
 use Rattle.mustache_scan.specs.declared.fault.FaultKind.{FaultKind}
 use Rattle.mustache_scan.specs.declared.fault.FaultKind.TheVariants.{UnclosedTag, EmptyName, BadName, BadDelimiters}
 
+-- A fault's place is the length before it, so a rest reads the same anywhere.
+
 -- the kind that a sign stands for: { & # ^ / ! > =
 abbrev pub kind_of_sign : ℕ → Option TokenKind
 kind_of_sign b =

@@ -1,3 +1,5 @@
+//! The end of a raw or delimiter tag is one needle; to look at the byte before goes wrong on `{{{n}}}}`.
+
 ghost use Rattle.std.specs.Prelude.{◌≡◌, ◌==◌, ◌||◌, ◌++◌, ◌∷◌, true, not, IfOk, option_map, string_bytes};
 ghost use Rattle.std.specs.List.{list_any, position_or_len};
 ghost use Rattle.mustache_scan.specs.Cutting.{is_padding};

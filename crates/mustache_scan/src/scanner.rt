@@ -1,3 +1,5 @@
+//! A literal is cut when the next tag is known, so one place is kept.
+
 ghost use Rattle.std.specs.Prelude.{◌≡◌, ◌≢◌, IfOk, IfErr, Ok, Err};
 ghost use Rattle.mustache_scan.specs.Marks.{AreMarked};
 ghost use Rattle.mustache_scan.specs.Reading.{delimiters_after};

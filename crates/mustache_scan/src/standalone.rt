@@ -1,3 +1,5 @@
+//! The scanner tells standalone tags, as blanks before a tag don't.
+
 ghost use Rattle.std.specs.Prelude.{◌≡◌, ◌+◌, ◌≤◌, IfSome, length, take, drop};
 ghost use Rattle.std.specs.List.{prefix_len, suffix_len};
 ghost use Rattle.mustache_scan.specs.Cutting.{is_blank};

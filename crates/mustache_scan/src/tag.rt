@@ -1,3 +1,5 @@
+//! A piece keeps an inside only where it is a name.
+
 ghost use Rattle.std.specs.Prelude.{◌≡◌, ◌≢◌, ◌<◌, length, option_map, IfSome, IfOk, IfErr, Ok, Err};
 ghost use Rattle.std.specs.Str.{IsUtf8};
 ghost use Rattle.mustache_scan.specs.Cutting.{cut};

@@ -9,7 +9,7 @@ use Rattle.node.specs.Endings.{Ending, Refused}
 use Rattle.node.specs.Standing.{ending_by, ending_of, IsEvent}
 use Rattle.node.specs.declared.fault.NodeFault.{NodeFault}
 use Rattle.node.specs.declared.fault.NodeFault.TheVariants as fault
-use Rattle.node.specs.declared.running.Node.{Node as Running}
+use Rattle.node.specs.declared.node.Node.{Node as Running}
 use Rattle.node.proofs.Stepping.{Handed, ending_err, refused, same_store}
 
 -- what holds of a fault holds of the error that was made of it

@@ -7,8 +7,8 @@ use Rattle.site_ids.specs.Ids.{BallotOf}
 use Rattle.site_ids.specs.Lists.{In}
 use Rattle.learner.specs.ToldVotes.{ToldVote, told_vote, HasMajority}
 use Rattle.learner.specs.Votes.{IsTold, IsToldWith}
-use Rattle.learner.specs.declared.learning.Learner.{Learner}
-use Rattle.node.specs.declared.running.Node.{Node as Running}
+use Rattle.learner.specs.declared.learner.Learner.{Learner}
+use Rattle.node.specs.declared.node.Node.{Node as Running}
 use Rattle.node.specs.Nodes.{Value, Node}
 use Rattle.node.specs.Standing.{HasParts}
 use Rattle.node.proofs.LearnedParts.{majority_by, told_or_one}

@@ -6,12 +6,12 @@ use Rattle.site_ids.specs.Ids.{BallotOf}
 use Rattle.site_ids.specs.Lists.{In, put_at}
 use Rattle.learner.specs.ToldVotes.{ToldVote, told_vote, HasMajority}
 use Rattle.learner.specs.Votes.{IsTold, IsToldWith}
-use Rattle.learner.specs.declared.learning.Learner.{Learner}
+use Rattle.learner.specs.declared.learner.Learner.{Learner}
 use Rattle.proposer.specs.Attempts.{Attempt}
 use Rattle.proposer.specs.Standing.{Attempting}
-use Rattle.proposer.specs.declared.proposing.Proposer.{Proposer}
+use Rattle.proposer.specs.declared.proposer.Proposer.{Proposer}
 use Rattle.node.specs.declared.queue.Queue.{Queue}
-use Rattle.node.specs.declared.running.Node.{Node as Running}
+use Rattle.node.specs.declared.node.Node.{Node as Running}
 use Rattle.node.specs.Nodes.{Value, Node}
 use Rattle.node.specs.Tickets.{has_same_ticket}
 use Rattle.node.specs.Effects.{learned}

@@ -11,7 +11,7 @@ use Rattle.durable.proofs.Keeping.{settled_keeps, opening_settles}
 use Rattle.learner.specs.ToldVotes.{ToldVote}
 use Rattle.learner.specs.Votes.{IsTold}
 use Rattle.proposer.specs.Standing.{Attempting}
-use Rattle.node.specs.declared.running.Node.{Node as Running}
+use Rattle.node.specs.declared.node.Node.{Node as Running}
 use Rattle.node.specs.Nodes.{Value, Up, Stopped}
 use Rattle.node.specs.Knowing.{AreKnown}
 use Rattle.node.specs.Standing.{OpensAs}

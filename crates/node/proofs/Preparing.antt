@@ -11,7 +11,7 @@ use Rattle.durable.specs.Entries.{IsSlot, promise_of}
 use Rattle.durable.specs.Slots.{slot_at}
 use Rattle.wire.specs.declared.message.Message.TheVariants.{Prepare, Propose}
 use Rattle.node.specs.declared.prepared.Judgement.{Judgement}
-use Rattle.node.specs.declared.running.Node.{Node as Running}
+use Rattle.node.specs.declared.node.Node.{Node as Running}
 use Rattle.node.specs.Nodes.{Value, Node}
 use Rattle.node.specs.Calls.{deliver, Does}
 use Rattle.node.specs.Deliveries.{span_out}

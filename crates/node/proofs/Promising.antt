@@ -8,15 +8,15 @@ use Rattle.site_ids.specs.declared.value.Vote.{Vote}
 use Rattle.wire.specs.declared.message.Message.TheVariants.{Promise, Propose}
 use Rattle.wire.specs.Messages.{IsMessage}
 use Rattle.learner.specs.Votes.{IsTold}
-use Rattle.learner.specs.declared.learning.Learner.{Learner}
+use Rattle.learner.specs.declared.learner.Learner.{Learner}
 use Rattle.proposer.specs.Attempts.{Attempt, TakesPromise}
 use Rattle.proposer.specs.Standing.{Attempting, Promised}
 use Rattle.proposer.specs.declared.fault.ProposerFault.{ProposerFault}
 use Rattle.proposer.specs.declared.fault.ProposerFault.TheVariants.{OutOfMemory, RoundsUsedUp}
-use Rattle.proposer.specs.declared.proposing.Proposal.{Proposal}
-use Rattle.proposer.specs.declared.proposing.Proposer.{Proposer}
+use Rattle.proposer.specs.declared.proposer.Proposal.{Proposal}
+use Rattle.proposer.specs.declared.proposer.Proposer.{Proposer}
 use Rattle.node.specs.declared.to.To.TheVariants.{All}
-use Rattle.node.specs.declared.running.Node.{Node as Running}
+use Rattle.node.specs.declared.node.Node.{Node as Running}
 use Rattle.node.specs.Nodes.{Value, Node}
 use Rattle.node.specs.Waiting.{AreWaiting}
 use Rattle.node.specs.declared.queue.Queue.{Queue}

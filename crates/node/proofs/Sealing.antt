@@ -13,7 +13,7 @@ use Rattle.durable.specs.declared.record.Record.{Record}
 use Rattle.durable.proofs.Moments.{weaker}
 use Rattle.node.specs.declared.fault.NodeFault.{NodeFault}
 use Rattle.node.specs.declared.fault.NodeFault.TheVariants as fault
-use Rattle.node.specs.declared.running.Node.{Node as Running}
+use Rattle.node.specs.declared.node.Node.{Node as Running}
 use Rattle.node.specs.Nodes.{Node}
 use Rattle.node.specs.Ahead.{IsAheadOf}
 use Rattle.node.specs.Batches.{SealsAt, LosesOneOf}

@@ -10,11 +10,11 @@ use Rattle.wire.specs.declared.message.Message.TheVariants.{Prepare}
 use Rattle.durable.specs.Entries.{Round, last_round}
 use Rattle.durable.specs.Puts.{Puts}
 use Rattle.learner.specs.Votes.{IsTold}
-use Rattle.learner.specs.declared.learning.Learner.{Learner}
+use Rattle.learner.specs.declared.learner.Learner.{Learner}
 use Rattle.proposer.specs.Attempts.{Attempt, opened_span}
 use Rattle.proposer.specs.Standing.{Attempting}
 use Rattle.node.specs.declared.queue.Queue.{Queue}
-use Rattle.node.specs.declared.running.Node.{Node as Running}
+use Rattle.node.specs.declared.node.Node.{Node as Running}
 use Rattle.node.specs.declared.to.To.{To}
 use Rattle.node.specs.declared.to.To.TheVariants.{All}
 use Rattle.node.specs.Nodes.{Value, Node}

@@ -24,13 +24,13 @@ use Rattle.durable.proofs.Keeping.{settled_keeps}
 use Rattle.durable.proofs.Moments.{started, weaker}
 use Rattle.durable.proofs.Push.{history-push}
 use Rattle.learner.specs.Votes.{IsTold}
-use Rattle.learner.specs.declared.learning.Learner.{Learner}
+use Rattle.learner.specs.declared.learner.Learner.{Learner}
 use Rattle.proposer.specs.Attempts.{Attempt}
 use Rattle.proposer.specs.Standing.{Attempting}
 use Rattle.node.specs.declared.fault.NodeFault.{NodeFault}
 use Rattle.node.specs.declared.fault.NodeFault.TheVariants as fault
 use Rattle.node.specs.declared.queue.Queue.{Queue}
-use Rattle.node.specs.declared.running.Node.{Node as Running}
+use Rattle.node.specs.declared.node.Node.{Node as Running}
 use Rattle.node.specs.declared.to.To.{To}
 use Rattle.node.specs.Nodes.{Value, Up, Stopped, Node, BeginsKnown}
 use Rattle.node.specs.Calls.{Call, deliver, Does}

@@ -8,7 +8,7 @@ use Rattle.command.specs.Written.{HasLine}
 use Rattle.site_disk.specs.Model.{DiskState}
 use Rattle.node.specs.declared.fault.NodeFault.{NodeFault}
 use Rattle.node.specs.declared.fault.NodeFault.TheVariants as fault
-use Rattle.node.specs.declared.running.Node.{Node as Running}
+use Rattle.node.specs.declared.node.Node.{Node as Running}
 use Rattle.node.specs.Nodes.{Value, Node}
 use Rattle.node.specs.Calls.{submit}
 use Rattle.node.specs.Faults.{of_command, IsUnread, IsSubmitCause}

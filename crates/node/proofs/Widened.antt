@@ -3,7 +3,7 @@ use Rattle.std.proofs.Common.{◌≡◌, inr, ◌<◌, max, false, Option, Some,
 use Rattle.site_ids.specs.declared.TheConstants.{MAX_ROUND}
 use Rattle.site_disk.specs.Model.{DiskState}
 use Rattle.node.specs.declared.fault.NodeFault.TheVariants.{OutOfMemory, RoundsUsedUp}
-use Rattle.node.specs.declared.running.Node.{Node as Running}
+use Rattle.node.specs.declared.node.Node.{Node as Running}
 use Rattle.node.specs.Nodes.{Value, Node, AllKnown}
 use Rattle.node.specs.Effects.{quiet}
 use Rattle.node.specs.Calls.{widen, MayWiden}

@@ -3,7 +3,7 @@ use Rattle.std.specs.Prelude.{◌≡◌, None, List, ◌++◌}
 use Rattle.site_disk.specs.Model.{DiskState}
 use Rattle.durable.specs.Batches.{IsAhead}
 use Rattle.durable.specs.Entries.{Entry}
-use Rattle.node.specs.declared.running.Node.{Node as Running}
+use Rattle.node.specs.declared.node.Node.{Node as Running}
 use Rattle.node.specs.Nodes.{Node}
 
 -- the code's memory has on record what t has, its disk what s has: those of the batch are the entries in between, and none is in flight

@@ -1,7 +1,7 @@
 -- What a batch of calls leaves on the disk.
 use Rattle.site_disk.specs.Model.{DiskState, LeavesOnly}
 use Rattle.durable.specs.Batches.{KeepsNoneOrAll}
-use Rattle.node.specs.declared.running.Node.{Node as Running}
+use Rattle.node.specs.declared.node.Node.{Node as Running}
 use Rattle.node.specs.Nodes.{Node}
 use Rattle.node.specs.Ahead.{IsAheadOf}
 use Rattle.node.specs.Standing.{IsNodeOf, IsOnDisk, IsEither}

@@ -9,7 +9,7 @@ use Rattle.proposer.specs.Attempts.{opened_span}
 use Rattle.node.specs.declared.beginning.Beginning.{Beginning}
 use Rattle.node.specs.declared.fault.NodeFault.{NodeFault}
 use Rattle.node.specs.declared.fault.NodeFault.TheVariants.{OutOfMemory, Device}
-use Rattle.node.specs.declared.running.Node.{Node as Running}
+use Rattle.node.specs.declared.node.Node.{Node as Running}
 use Rattle.node.specs.declared.to.To.{To}
 use Rattle.node.specs.declared.to.To.TheVariants.{All}
 use Rattle.node.specs.Nodes.{Value, Node}

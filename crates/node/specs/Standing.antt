@@ -17,7 +17,7 @@ use Rattle.proposer.specs.Standing.{Attempting}
 use Rattle.node.specs.declared.fault.NodeFault.{NodeFault}
 use Rattle.node.specs.declared.fault.NodeFault.TheVariants as fault
 use Rattle.node.specs.declared.to.To.{To}
-use Rattle.node.specs.declared.running.Node.{Node as Running}
+use Rattle.node.specs.declared.node.Node.{Node as Running}
 use Rattle.node.specs.Ahead.{StaysAhead}
 use Rattle.node.specs.Nodes.{Mode, Up, Stopped, Node, opened, BeginsKnown}
 use Rattle.node.specs.Calls.{Call}

@@ -8,6 +8,8 @@ use Rattle.node.specs.Effects.{Effect}
 use Rattle.node.specs.Endings.{MayRefuse}
 use Rattle.node.specs.Tidy.{IsTidy}
 
+-- Not stuck is a contradiction, without an excluded middle.
+
 -- nothing can come of the call but want of memory: it has no effect, and no other cause to refuse it stands
 pub record IsStuck (n p : ℕ) (s : Node) (call : Call) : Type 0 where
   pub no_effect : (effect : Effect) → ¬ Does n p s call effect

@@ -1,4 +1,6 @@
 //! A message that is delivered.
+//!
+//! A promise always may want memory (`TakesRoom`), as the majority is known behind the step.
 
 ghost use Rattle.std.specs.Prelude.{◌≡◌, IsErrOf};
 ghost use Rattle.wire.specs.Messages.{IsMessage};

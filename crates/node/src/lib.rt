@@ -15,6 +15,7 @@ mod laws;
 mod learning;
 mod messages;
 mod nacked;
+mod node;
 mod prepared;
 mod promised;
 mod proposed;
@@ -22,7 +23,6 @@ mod publishing;
 mod queries;
 mod queue;
 mod read_value;
-mod running;
 mod submitted;
 mod submitting;
 mod telling;
@@ -32,8 +32,8 @@ mod widening;
 
 pub use fault::NodeFault;
 pub use laws::{calls_forget_nothing, no_call_is_stuck, nodes_stay_in_range, nodes_stay_tidy};
+pub use node::Node;
 use proposer::MAX_ATTEMPTS;
-pub use running::Node;
 pub use submitted::Submitted;
 pub use to::{Outbox, To};
 

@@ -1,4 +1,6 @@
 //! What a node says, and to whom.
+//!
+//! Messages' ranges are a premise of a handler's clause, not a condition.
 
 ghost use Rattle.std.specs.Prelude.{◌≡◌};
 

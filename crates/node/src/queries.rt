@@ -1,4 +1,6 @@
 //! What a node tells of its record and its attempts.
+//!
+//! `next_ballot` stands for the next round, as promises are compared with ballots.
 
 ghost use Rattle.std.specs.Prelude.{◌≡◌, ◌↔◌, ◌<◌, ℕ, max, List, length, IsSome, IsTrue, MatchOption};
 ghost use Rattle.site_ids.specs.declared.TheConstants.{MAX_ROUND};
@@ -24,6 +26,13 @@ impl<D: Disk> Node<D> {
         ensures { (s : AbstractNode) → IsNodeOf self.now s → IsSlot s.entries instance result.now }
     {
         self.store.slot(instance)
+    }
+
+    /// The disk under its record.
+    pub fn disk(&self) -> &D
+        ensures { result.now ≡ self.now.store.disk }
+    {
+        self.store.disk()
     }
 
     /// The greatest round that was recorded or promised, 0 where there is none.

@@ -1,4 +1,6 @@
 //! A tick: a fresh attempt at the first unknown instance, and the other attempts' messages once more.
+//!
+//! A tick asks for a round that is left, so effect and RoundsUsedUp exclude each other; resent prepares are of one instance.
 
 ghost use Rattle.std.specs.Prelude.{◌≡◌, IfOk, IfErr};
 ghost use Rattle.node.specs.Beginning.{IsDue, IsRefusedBy};

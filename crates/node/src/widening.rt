@@ -1,4 +1,6 @@
 //! A widening: fresh attempts at the least free instance and on.
+//!
+//! Whether an attempt has a value is looked up among 64; a set would want memory. Each widening takes a round, which bounds a drive.
 
 ghost use Rattle.std.specs.Prelude.{◌≡◌, ◌↔◌, ◌+◌, ◌<◌, ◌≤◌, ℕ, List, Option, None, Some, IfOk, IfErr, IfSome, OnOk, IsTrue, MatchOption, length, false};
 ghost use Rattle.site_ids.specs.Spans.{IsSpan};

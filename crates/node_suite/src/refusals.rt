@@ -1,4 +1,4 @@
-//! Each call with one growth refused, as `tools/refuse-growths` runs this: it answers as ever, or that memory was refused, and then the next try
+//! Each call with one growth refused, as `tools/gate/refuse-growths` runs this: it answers as ever, or that memory was refused, and then the next try
 //! answers as ever. Where the disk in memory found none its call failed, so the node is opened again; an opening is tried twice.
 use crate::peer::Peer;
 use crate::samples::{

@@ -1,64 +1,13 @@
 //! Readers that end and fail in mid-stream, and writers that fail.
-ghost use Rattle.std.specs.Prelude.{Some};
-
 use crate::runs::{GREETING, run};
+use failing_ends::{Sink, trickle};
 use sitectl::{Counted, siterender};
 use std::alloc::Global;
 use std::io;
-use std::io::{ErrorKind, Read, Write};
+use std::io::Write;
 
-/// Gives its bytes one at a time, and fails once `good` reads were made.
-#[derive(Drop)]
-struct Trickle<'a> {
-    bytes: &'a [u8],
-    good: usize,
-}
-
-impl Read for Trickle<'_> {
-    ghost remaining = { λ t. Some t.bytes.now };
-
-    fn read(&mut self, buf: &mut [u8]) -> io::Result<usize> {
-        if self.good == 0 {
-            return Err(io::Error::from(ErrorKind::TimedOut));
-        }
-        self.good -= 1;
-        let n = buf.len().min(self.bytes.len()).min(1);
-        buf[..n].copy_from_slice(&self.bytes[..n]);
-        self.bytes = &self.bytes[n..];
-        Ok(n)
-    }
-}
-
-/// Takes `room` bytes, and then fails.
-#[derive(Drop)]
-struct Short {
-    taken: Vec<u8>,
-    room: usize,
-}
-
-impl Write for Short {
-    ghost contents = { λ s. Some s.taken.items };
-
-    fn write(&mut self, buf: &[u8]) -> io::Result<usize> {
-        let n = buf.len().min(self.room);
-        if n == 0 && !buf.is_empty() {
-            return Err(io::Error::from(ErrorKind::BrokenPipe));
-        }
-        self.taken.extend_from_slice(&buf[..n])?;
-        self.room -= n;
-        Ok(n)
-    }
-
-    fn flush(&mut self) -> io::Result<()> {
-        Ok(())
-    }
-}
-
-fn with_room(alloc: Global, room: usize) -> Counted<Short> {
-    Counted::new(Short {
-        taken: Vec::new(alloc),
-        room,
-    })
+fn with_room(alloc: Global, room: usize) -> Counted<Sink> {
+    Counted::new(Sink::with_room(alloc, room))
 }
 
 #[test]
@@ -83,7 +32,7 @@ fn a_reader_fails_anywhere(rt: HostRuntime) {
     let alloc = rt.alloc();
     let whole = GREETING.as_bytes();
     for good in 0..whole.len() + 2 {
-        let mut reader = Counted::new(Trickle { bytes: whole, good });
+        let mut reader = Counted::new(trickle(whole, good));
         let mut out = with_room(alloc, 1000);
         let mut err = with_room(alloc, 1000);
         let status = siterender(alloc, &mut reader, &mut out, &mut err, None, "/");

@@ -73,7 +73,7 @@ fn help_is_told_as_a_refusal(rt: HostRuntime) -> Result<(), Fail> {
     let helps = [
         (
             refused_by(render_options(alloc, words)),
-            "\n\nExample:\n  tools/frame examples/status/1 | siterender /status\n\n--version prints the program's version\n",
+            "\n\nExample:\n  tools/editors/frame examples/status/1 | siterender /status\n\n--version prints the program's version\n",
         ),
         (
             refused_by(sim_options(alloc, words)),

@@ -11,7 +11,7 @@ use Rattle.site_ids.specs.Lists.{In, Distinct}
 use Rattle.site_ids.specs.Majorities.{Majority}
 use Rattle.site_ids.specs.declared.value.Vote.{Vote}
 use Rattle.site_ids.proofs.MemberLemmas.{in_push, distinct_push}
-use Rattle.proposer.specs.declared.attempt.OpenAttempt.{OpenAttempt}
+use Rattle.proposer.specs.declared.open_attempt.OpenAttempt.{OpenAttempt}
 use Rattle.proposer.specs.Attempts.{Attempt, Answer, senders, Chooses, Counts, with_answer, waiting, proposing}
 use Rattle.proposer.specs.Best.{IsBest, Exceeds, value_by, replacing}
 use Rattle.proposer.specs.Standing.{StandsFor}

@@ -8,7 +8,7 @@ use Rattle.site_ids.specs.Majorities.{Majority}
 use Rattle.site_ids.specs.Lists.{put_at}
 use Rattle.site_ids.specs.declared.value.Vote.{Vote}
 use Rattle.site_ids.proofs.MapLemmas.{put_here, put_other}
-use Rattle.proposer.specs.declared.attempt.OpenAttempt.{OpenAttempt}
+use Rattle.proposer.specs.declared.open_attempt.OpenAttempt.{OpenAttempt}
 use Rattle.proposer.specs.Attempts.{Attempt, senders, Chooses, Counts, with_answer, waiting, proposing, TakesPromise}
 use Rattle.proposer.specs.Standing.{StandsFor, StandsForAny, attempt_at}
 use Rattle.proposer.specs.Laws.{ProposesOnce}

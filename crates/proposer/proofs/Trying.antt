@@ -7,8 +7,8 @@ use Rattle.std.specs.Ordering.{nat_cmp}
 use Rattle.std.proofs.lemmas.Bool.{cases_eq}
 use Rattle.std.proofs.lemmas.Map.Keys.{sorted_head, sorted_tail}
 use Rattle.site_ids.specs.Lists.{In}
-use Rattle.proposer.specs.declared.attempt.OpenAttempt.{OpenAttempt}
-use Rattle.proposer.specs.declared.proposing.Proposer.{Proposer}
+use Rattle.proposer.specs.declared.open_attempt.OpenAttempt.{OpenAttempt}
+use Rattle.proposer.specs.declared.proposer.Proposer.{Proposer}
 use Rattle.proposer.specs.Attempts.{Attempt}
 use Rattle.proposer.specs.Standing.{StandsForAny, Attempting}
 use Rattle.proposer.proofs.CountingOpen.{at, above, at_here, at_rest, all_found}

@@ -7,11 +7,11 @@ use Rattle.site_ids.specs.Ids.{IsNode, BallotOf}
 use Rattle.site_ids.specs.Lists.{In, Distinct}
 use Rattle.site_ids.specs.Majorities.{Majority}
 use Rattle.site_ids.specs.declared.value.Vote.{Vote}
-use Rattle.proposer.specs.declared.attempt.OpenAttempt.{OpenAttempt}
+use Rattle.proposer.specs.declared.open_attempt.OpenAttempt.{OpenAttempt}
 use Rattle.proposer.specs.declared.fault.ProposerFault.{ProposerFault}
 use Rattle.proposer.specs.declared.fault.ProposerFault.TheVariants.{OutOfMemory, RoundsUsedUp}
-use Rattle.proposer.specs.declared.proposing.Proposal.{Proposal}
-use Rattle.proposer.specs.declared.proposing.Proposer.{Proposer}
+use Rattle.proposer.specs.declared.proposer.Proposal.{Proposal}
+use Rattle.proposer.specs.declared.proposer.Proposer.{Proposer}
 use Rattle.proposer.specs.Attempts.{Attempt, senders, Chooses, Counts, with_answer, waiting, proposing, TakesPromise}
 use Rattle.proposer.specs.Best.{IsBest, value_by}
 

@@ -1,5 +1,5 @@
-//! A publication with one growth refused, as `tools/refuse-growths` runs this: a step is taken as ever, or memory was refused, nothing has changed, and
-//! the next try takes it.
+//! A publication with one growth refused, as `tools/gate/refuse-growths` runs this: a step is taken as ever, or memory was refused, nothing has
+//! changed, and the next try takes it.
 use engine_parts::Feed;
 use http_read::Counted;
 use node_client::{Answer, AnswerFault, Question, read_answer};

@@ -4,8 +4,8 @@ use crate::samples::{
     ballot, disk_of, empty, formatted, instance, one_of_three, opened, put_promise, put_round,
     put_span, put_vote_for,
 };
-use crate::standing::stands_for;
 use durable::{Record, RecordFault};
+use record_meaning::standing::stands_for;
 use site_disk::{Armed, Call, Disk, FailOnce, MemDisk};
 use std::alloc::Global;
 use std::process::Abort;
@@ -36,6 +36,9 @@ const CRASHES: &[(u32, Option<u8>, u64, bool)] = &[
 
 /// How many calls pass before one fails, and whether the batch stands for the next opening, without a crash.
 const SEALS: &[(u32, bool)] = &[(0, false), (1, false), (2, false), (3, true)];
+
+/// What a crash chooses behind an opening.
+const CHOICES: &[u8] = &[0, 1, 7];
 
 /// A step of a record, where a ballot is its round, of node 1.
 #[derive(Clone, Copy, Debug)]
@@ -198,7 +201,7 @@ fn settles(rt: &impl Abort, alloc: Global, calls: u32, choice: u8, all: bool) {
 #[test]
 fn an_opening_settles_the_batch(rt: HostRuntime) {
     for &(calls, all) in SEALS {
-        for choice in [0, 1, 7] {
+        for &choice in CHOICES {
             settles(&rt, rt.alloc(), calls, choice, all);
         }
     }
@@ -238,46 +241,55 @@ fn holds<const N: usize>(rt: &impl Abort, disk: &mut MemDisk, wanted: [u8; N], c
     assert_eq!(rt; disk.len(), Ok(N as u64));
 }
 
+const SPAN_BATCH: &[Step] = &[Step::Begin, Step::Span(5, 3, 1), Step::Seal];
+
+const EMPTY_BATCH: &[Step] = &[Step::Begin, Step::Seal];
+
 /// However a record's entries came there, its bytes are the same.
 #[test]
 fn batches_and_puts_write_the_same_bytes(rt: HostRuntime) {
     for &(steps, calls) in WRITERS {
         holds(&rt, &mut disk_behind(&rt, rt.alloc(), steps), RECORD, calls);
     }
-    let empty_batch = [Step::Begin, Step::Seal];
-    let span = [Step::Begin, Step::Span(5, 3, 1), Step::Seal];
-    holds(&rt, &mut disk_behind(&rt, rt.alloc(), &span), SPANNED, 5);
+    holds(
+        &rt,
+        &mut disk_behind(&rt, rt.alloc(), SPAN_BATCH),
+        SPANNED,
+        5,
+    );
     assert_eq!(rt;
-        writes_and_syncs(&disk_behind(&rt, rt.alloc(), &empty_batch)),
+        writes_and_syncs(&disk_behind(&rt, rt.alloc(), EMPTY_BATCH)),
         1
     );
 }
+
+const IN_ONE_BATCH: &[Step] = &[Step::Begin, ROUND, PROMISE, VOTE, Step::Seal];
 
 /// What a batch wrote is what the definition of a record reads there.
 #[test]
 fn a_batch_stands_for_its_entries(rt: HostRuntime) {
     let (cluster, node) = one_of_three(&rt, 2);
-    let steps = [Step::Begin, ROUND, PROMISE, VOTE, Step::Seal];
-    let mut disk = disk_behind(&rt, rt.alloc(), &steps);
+    let mut disk = disk_behind(&rt, rt.alloc(), IN_ONE_BATCH);
     let mut bytes = [0; 53];
     disk.read_at(0, &mut bytes).expect(&rt, "a read");
-    let entries = entries(&rt, rt.alloc()).expect(&rt, "memory");
+    let entries = entries(&rt, rt.alloc());
     let stands = stands_for(rt.alloc(), cluster, node, &bytes, &entries);
     assert_eq!(rt; stands, Ok(true));
 }
+
+const FURTHER: &[Step] = &[
+    Step::Begin,
+    Step::Round(5),
+    Step::Span(1, 2, 6),
+    Step::Seal,
+    Step::Vote(2, 6, "w"),
+];
 
 /// A record that single puts wrote takes a batch, and one that a batch wrote takes a put.
 #[test]
 fn a_stored_record_goes_on(rt: HostRuntime) {
     let mut record = opened(&rt, rt.alloc(), disk_of(&rt, rt.alloc(), &RECORD));
-    let steps = [
-        Step::Begin,
-        Step::Round(5),
-        Step::Span(1, 2, 6),
-        Step::Seal,
-        Step::Vote(2, 6, "w"),
-    ];
-    take(&rt, rt.alloc(), &mut record, &steps);
+    take(&rt, rt.alloc(), &mut record, FURTHER);
     let record = opened(&rt, rt.alloc(), record.close());
     assert_eq!(rt; record.round(), 5);
     assert_eq!(rt; record.greatest_round(), 6);

@@ -4,9 +4,10 @@
 //! other entry is a vote for a beginning of the value, since nothing stands behind the last one; in the kind, it is the other one of a promise
 //! and a vote for the empty value, or a vote for one byte in place of a span's promise; and else in a number or the value. No record here has a
 //! vote for one byte.
-use crate::entry::Entry;
+use record_meaning::entry::Entry;
 use site_ids::{Ballot, Cluster, Instance, Value, Vote};
-use std::alloc::{AllocError, Global};
+use std::alloc::Global;
+use std::process::Abort;
 
 fn number(number: u32, place: usize, byte: u8) -> u32 {
     let mut bytes = number.to_be_bytes();
@@ -36,26 +37,50 @@ fn ballot(
     }
 }
 
+/// A vote for these bytes.
+fn vote_for(
+    rt: &impl Abort,
+    alloc: Global,
+    instance: Instance,
+    ballot: Ballot,
+    bytes: &[u8],
+) -> Entry {
+    let value = Value::copied_from(alloc, bytes).expect(rt, "memory");
+    Entry::Voted(instance, Vote { ballot, value })
+}
+
+/// A vote for the bytes with one of them changed, if it is there.
+fn vote_with(
+    rt: &impl Abort,
+    alloc: Global,
+    instance: Instance,
+    vote: &Vote,
+    place: usize,
+    byte: u8,
+) -> Entry {
+    let mut bytes = Vec::from_slice(alloc, vote.value.as_bytes()).expect(rt, "memory");
+    if let Some(there) = bytes.get_mut(place) {
+        *there = byte;
+    }
+    vote_for(rt, alloc, instance, vote.ballot, &bytes)
+}
+
+/// Nine bytes are the instance's and the ballot's, and then come the value's.
 fn vote(
+    rt: &impl Abort,
     alloc: Global,
     cluster: Cluster,
     instance: Instance,
     vote: &Vote,
     place: usize,
     byte: u8,
-) -> Result<Option<Entry>, AllocError> {
-    let mut bytes = Vec::from_slice(alloc, vote.value.as_bytes())?;
-    let mut changed = Some((instance, vote.ballot));
-    if place < 9 {
-        changed = ballot(cluster, instance, vote.ballot, place, byte);
-    } else if let Some(there) = bytes.get_mut(place - 9) {
-        *there = byte;
+) -> Option<Entry> {
+    if place >= 9 {
+        return Some(vote_with(rt, alloc, instance, vote, place - 9, byte));
     }
-    let Some((instance, ballot)) = changed else {
-        return Ok(None);
-    };
-    let value = Value::from_bytes(bytes)?;
-    Ok(Some(Entry::Voted(instance, Vote { ballot, value })))
+    let (instance, ballot) = ballot(cluster, instance, vote.ballot, place, byte)?;
+    let bytes = vote.value.as_bytes();
+    Some(vote_for(rt, alloc, instance, ballot, bytes))
 }
 
 /// Four bytes are the first instance's, the next is the count.
@@ -85,80 +110,91 @@ pub fn places(entry: &Entry) -> usize {
     }
 }
 
+fn promise(
+    cluster: Cluster,
+    instance: Instance,
+    promised: Ballot,
+    place: usize,
+    byte: u8,
+) -> Option<Entry> {
+    let (instance, promised) = ballot(cluster, instance, promised, place, byte)?;
+    Some(Entry::Promised(instance, promised))
+}
+
 /// The entry with this byte at a place behind its kind, where that is an entry.
 pub fn changed(
+    rt: &impl Abort,
     alloc: Global,
     cluster: Cluster,
     entry: &Entry,
     place: usize,
     byte: u8,
-) -> Result<Option<Entry>, AllocError> {
+) -> Option<Entry> {
     match entry {
-        Entry::Round(round) => Ok(Some(Entry::Round(number(*round, place, byte)))),
+        Entry::Round(round) => Some(Entry::Round(number(*round, place, byte))),
         Entry::Promised(instance, promised) => {
-            Ok(match ballot(cluster, *instance, *promised, place, byte) {
-                Some((instance, promised)) => Some(Entry::Promised(instance, promised)),
-                None => None,
-            })
+            promise(cluster, *instance, *promised, place, byte)
         }
         Entry::PromisedSpan(first, count, promised) => {
-            Ok(span(cluster, *first, *count, *promised, place, byte))
+            span(cluster, *first, *count, *promised, place, byte)
         }
-        Entry::Voted(instance, voted) => vote(alloc, cluster, *instance, voted, place, byte),
+        Entry::Voted(instance, voted) => vote(rt, alloc, cluster, *instance, voted, place, byte),
     }
-}
-
-fn vote_for(
-    alloc: Global,
-    instance: Instance,
-    ballot: Ballot,
-    value: &[u8],
-) -> Result<Entry, AllocError> {
-    let value = Value::copied_from(alloc, value)?;
-    Ok(Entry::Voted(instance, Vote { ballot, value }))
 }
 
 /// The vote for one byte that is spelled as the promise of a span but for its kind: the count is the first byte of its round, the last byte of
 /// the promised round its node, and the promised node its value.
 fn vote_in_span(
+    rt: &impl Abort,
     alloc: Global,
     cluster: Cluster,
     first: Instance,
     count: u8,
     promised: Ballot,
-) -> Result<Option<Entry>, AllocError> {
+) -> Option<Entry> {
     let [a, b, c, d] = promised.round().to_be_bytes();
-    let Some(node) = cluster.node(d) else {
-        return Ok(None);
-    };
-    let Some(ballot) = Ballot::new(u32::from_be_bytes([count, a, b, c]), node) else {
-        return Ok(None);
-    };
+    let node = cluster.node(d)?;
+    let ballot = Ballot::new(u32::from_be_bytes([count, a, b, c]), node)?;
     let value = [promised.node().number()];
-    Ok(Some(vote_for(alloc, first, ballot, &value)?))
+    Some(vote_for(rt, alloc, first, ballot, &value))
 }
 
-/// Votes for the beginnings of a vote's value, or for the empty one in place of a promise, or for one byte in place of a span's, and a promise in
-/// place of a vote.
-pub fn others(alloc: Global, cluster: Cluster, entry: &Entry) -> Result<Vec<Entry>, AllocError> {
-    let mut others = Vec::new(alloc);
-    match entry {
-        Entry::Round(_) => {}
-        Entry::Promised(instance, ballot) => {
-            others.push(vote_for(alloc, *instance, *ballot, b"")?)?;
-        }
-        Entry::PromisedSpan(first, count, ballot) => {
-            if let Some(vote) = vote_in_span(alloc, cluster, *first, *count, *ballot)? {
-                others.push(vote)?;
-            }
-        }
-        Entry::Voted(instance, vote) => {
-            let value = vote.value.as_bytes();
-            for len in 0..value.len() {
-                others.push(vote_for(alloc, *instance, vote.ballot, &value[..len])?)?;
-            }
-            others.push(Entry::Promised(*instance, vote.ballot))?;
-        }
+/// Votes for the beginnings of a vote's value, shortest first, and then a promise in place of it.
+fn other_of_vote(
+    rt: &impl Abort,
+    alloc: Global,
+    instance: Instance,
+    vote: &Vote,
+    number: usize,
+) -> Option<Entry> {
+    let bytes = vote.value.as_bytes();
+    if number < bytes.len() {
+        let beginning = &bytes[..number];
+        Some(vote_for(rt, alloc, instance, vote.ballot, beginning))
+    } else if number == bytes.len() {
+        Some(Entry::Promised(instance, vote.ballot))
+    } else {
+        None
     }
-    Ok(others)
+}
+
+/// The entries that take an entry's place with another length or kind, by number from 0 on: of a vote those above, of a promise the vote for the
+/// empty value, of a span's a vote for one byte.
+pub fn other(
+    rt: &impl Abort,
+    alloc: Global,
+    cluster: Cluster,
+    entry: &Entry,
+    number: usize,
+) -> Option<Entry> {
+    match entry {
+        Entry::Voted(instance, vote) => other_of_vote(rt, alloc, *instance, vote, number),
+        Entry::Promised(instance, ballot) if number == 0 => {
+            Some(vote_for(rt, alloc, *instance, *ballot, b""))
+        }
+        Entry::PromisedSpan(first, count, ballot) if number == 0 => {
+            vote_in_span(rt, alloc, cluster, *first, *count, *ballot)
+        }
+        _ => None,
+    }
 }

@@ -1,10 +1,10 @@
 //! A record cut at each byte, and with each byte changed. What these bytes come to is computed from the definition of a record.
-use crate::entry::Entry;
 use crate::listed::{Listed, RECORD, SPANNED, entries, spanned, with_byte};
-use crate::recorded::{greatest_round, is_slot, last_round, last_vote};
 use crate::samples::{disk_of, one_of_three};
-use crate::standing::{refusal, stands_for};
 use durable::Record;
+use record_meaning::entry::Entry;
+use record_meaning::recorded::{greatest_round, is_slot, last_round, last_vote};
+use record_meaning::standing::{refusal, stands_for};
 use site_disk::MemDisk;
 use site_ids::Instance;
 use std::alloc::Global;
@@ -108,13 +108,23 @@ fn tells(record: &Record<MemDisk>, history: &[Entry]) -> bool {
 /// Node 2 of three opens the bytes, which stand for this history, or refuses them where there is none.
 fn comes_to(rt: &impl Abort, alloc: Global, bytes: &[u8], history: Option<&[Entry]>) -> bool {
     let (cluster, node) = one_of_three(rt, 2);
-    let opened = Record::open(alloc, cluster, node, disk_of(rt, alloc, bytes));
-    match (opened, history) {
-        (Ok(record), Some(history)) => {
-            is_of(rt, alloc, bytes, history) && tells(&record, history)
-        }
-        (Err((fault, _disk)), None) => fault == refusal(cluster, node, bytes),
-        _ => false,
+    match Record::open(alloc, cluster, node, disk_of(rt, alloc, bytes)) {
+        Ok(record) => is_told(rt, alloc, &record, bytes, history),
+        Err((fault, _disk)) => history.is_none() && fault == refusal(cluster, node, bytes),
+    }
+}
+
+/// The record is of these bytes, and tells that history.
+fn is_told(
+    rt: &impl Abort,
+    alloc: Global,
+    record: &Record<MemDisk>,
+    bytes: &[u8],
+    history: Option<&[Entry]>,
+) -> bool {
+    match history {
+        Some(history) => is_of(rt, alloc, bytes, history) && tells(record, history),
+        None => false,
     }
 }
 
@@ -151,7 +161,7 @@ const GATES: &[(usize, u8)] = &[(35, 0), (20, 0), (10, 0), (35, 1)];
 /// What stands behind a closed gate isn't read, however many entries it is.
 #[test]
 fn a_record_cut_at_each_byte(rt: HostRuntime) {
-    let entries = entries(&rt, rt.alloc()).expect(&rt, "memory");
+    let entries = entries(&rt, rt.alloc());
     for &(place, gate) in GATES {
         let bytes = with_byte(rt.alloc(), &RECORD, place, gate).expect(&rt, "memory");
         cut_at_each_byte(&rt, rt.alloc(), &bytes, &entries);
@@ -171,7 +181,7 @@ fn changes(rt: &impl Abort, alloc: Global, listed: &Listed<'_>, place: usize, by
 }
 
 fn change_each_byte(rt: &impl Abort, alloc: Global, listed: &mut Listed<'_>, entries: &[Entry]) {
-    listed.list_all(entries).expect(rt, "memory");
+    listed.list_all(rt, entries);
     for place in 0..listed.record().len() {
         for byte in 0..=255 {
             changes(rt, alloc, listed, place, byte);
@@ -182,9 +192,9 @@ fn change_each_byte(rt: &impl Abort, alloc: Global, listed: &mut Listed<'_>, ent
 #[test]
 fn a_record_with_each_byte_changed(rt: HostRuntime) {
     let alloc = rt.alloc();
-    let history = entries(&rt, alloc).expect(&rt, "memory");
+    let history = entries(&rt, alloc);
     change_each_byte(&rt, alloc, &mut Listed::new(&rt, alloc, &RECORD), &history);
-    let history = spanned(&rt, alloc).expect(&rt, "memory");
+    let history = spanned(&rt, alloc);
     change_each_byte(&rt, alloc, &mut Listed::new(&rt, alloc, &SPANNED), &history);
 }
 
@@ -221,21 +231,21 @@ fn wrong_row(listed: &Listed<'_>) -> Option<(usize, u8)> {
 }
 
 fn check_list(rt: &impl Abort, listed: &mut Listed<'_>, entries: &[Entry]) {
-    listed.list_all(entries).expect(rt, "memory");
+    listed.list_all(rt, entries);
     assert_eq!(rt; listed.len(), COUNT);
     assert_eq!(rt; wrong_row(listed), None);
 }
 
 fn check_spanned(rt: &impl Abort, listed: &mut Listed<'_>, entries: &[Entry]) {
-    listed.list_all(entries).expect(rt, "memory");
+    listed.list_all(rt, entries);
     assert_eq!(rt; listed.len(), SPANNED_COUNT);
 }
 
 #[test]
 fn the_list_has_what_is_worked_out(rt: HostRuntime) {
     let alloc = rt.alloc();
-    let history = entries(&rt, alloc).expect(&rt, "memory");
+    let history = entries(&rt, alloc);
     check_list(&rt, &mut Listed::new(&rt, alloc, &RECORD), &history);
-    let history = spanned(&rt, alloc).expect(&rt, "memory");
+    let history = spanned(&rt, alloc);
     check_spanned(&rt, &mut Listed::new(&rt, alloc, &SPANNED), &history);
 }

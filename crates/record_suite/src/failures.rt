@@ -11,6 +11,9 @@ use std::process::Abort;
 /// How many calls of a put pass before one fails, and the round of the next opening, without a crash.
 const PUTS: &[(u32, u32)] = &[(0, 0), (1, 0), (2, 0), (3, 1)];
 
+/// What a crash chooses behind an opening.
+const CHOICES: &[u8] = &[0, 1, 7];
+
 /// A put whose call fails so, and one that is Stopped.
 fn fail_put(rt: &impl Abort, record: &mut Record<FailOnce<MemDisk>>, calls: u32) {
     record.arm(calls);
@@ -40,7 +43,7 @@ fn settles(rt: &impl Abort, alloc: Global, calls: u32, choice: u8, round: u32) {
 #[test]
 fn an_opening_settles_the_entry_in_flight(rt: HostRuntime) {
     for &(calls, round) in PUTS {
-        for choice in [0, 1, 7] {
+        for &choice in CHOICES {
             settles(&rt, rt.alloc(), calls, choice, round);
         }
     }

@@ -1,18 +1,21 @@
-//! A record on a real file. `tools/trace-put` shows the system's calls of these tests.
+//! A record on a real file. `tools/audit/trace-put` shows the system's calls of these tests.
 use crate::samples::{ONE_ROUND, ballot, instance, one_of_three, opened, put_round, put_vote_for};
 use durable::Record;
 use site_disk::{Disk, FileDisk};
 use std::alloc::Global;
 use std::fs::{self, File, OpenOptions};
+use std::io::ErrorKind;
 use std::os::unix::fs::FileExt;
 use std::process::Abort;
-use std::test::Fail;
 
 const FOLDER: &str = "record_suite_files";
 
 const FILE: &str = "record_suite_files/record";
 
 const BATCH_FILE: &str = "record_suite_batch";
+
+/// What the system says of a write to a file that is open for reading.
+const EBADF: i32 = 9;
 
 /// How many votes the batch has.
 const VOTES: u32 = 64;
@@ -24,11 +27,25 @@ fn has_bytes(rt: &impl Abort, file: &File, wanted: [u8; 21]) {
     assert_eq!(rt; bytes, wanted);
 }
 
-/// A read past the end fails, and no call did before.
+/// A read past the end fails, and no call did before; what the system said of it stays when calls succeed again.
 fn check_disk(rt: &impl Abort, disk: &mut FileDisk) {
     assert_eq!(rt; disk.failures(), 0);
+    assert!(rt; disk.last_failure().is_none());
     assert!(rt; disk.read_at(0, &mut [0; 22]).is_err());
     assert_eq!(rt; disk.failures(), 1);
+    assert!(rt; disk.sync().is_ok());
+    assert_eq!(rt;
+        disk.last_failure().map(|e| e.kind()),
+        Some(ErrorKind::UnexpectedEof)
+    );
+}
+
+/// A disk whose file is open for reading alone refuses each write, and keeps why.
+fn check_read_only(rt: &impl Abort, file: File) {
+    let mut disk = FileDisk::new(file);
+    assert!(rt; disk.write_at(0, b"x").is_err());
+    let error = disk.last_failure().expect(rt, "an error");
+    assert_eq!(rt; error.raw_os_error(), Some(EBADF));
 }
 
 /// A record on a new file.
@@ -52,23 +69,27 @@ fn find_round(rt: &impl Abort, alloc: Global, file: File) {
     check_disk(rt, &mut record.close());
 }
 
+/// Read and written, and made where it is not there.
+fn made_anew() -> OpenOptions {
+    let mut options = OpenOptions::new();
+    options.read(true).write(true).create(true);
+    options
+}
+
 #[test]
-fn a_real_file_keeps_the_record(rt: HostRuntime) -> Result<(), Fail> {
+fn a_real_file_keeps_the_record(rt: HostRuntime) {
     let _ = fs::remove_dir_all(&rt, FOLDER);
-    fs::create_dir(&rt, FOLDER)?;
-    let file = OpenOptions::new()
-        .read(true)
-        .write(true)
-        .create(true)
-        .open(&rt, FILE)?;
-    let reader = File::open(&rt, FILE)?;
+    fs::create_dir(&rt, FOLDER).expect(&rt, "a folder");
+    let file = made_anew().open(&rt, FILE).expect(&rt, "a file");
+    let reader = File::open(&rt, FILE).expect(&rt, "a file");
     keep_round(&rt, rt.alloc(), file, &reader);
-    File::open(&rt, FOLDER)?.sync_all()?;
-    let file = OpenOptions::new().read(true).write(true).open(&rt, FILE)?;
-    assert_eq!(rt; file.metadata()?.len(), 21);
+    let folder = File::open(&rt, FOLDER).expect(&rt, "a folder");
+    folder.sync_all().expect(&rt, "a sync");
+    let file = made_anew().open(&rt, FILE).expect(&rt, "a file");
+    assert_eq!(rt; file.metadata().expect(&rt, "a length").len(), 21);
     find_round(&rt, rt.alloc(), file);
-    fs::remove_dir_all(&rt, FOLDER)?;
-    Ok(())
+    check_read_only(&rt, reader);
+    fs::remove_dir_all(&rt, FOLDER).expect(&rt, "no folder");
 }
 
 /// A record on a new file takes a vote at each of so many instances, all in one batch.
@@ -93,12 +114,11 @@ fn find_votes(rt: &impl Abort, alloc: Global, file: File) {
 }
 
 #[test]
-fn a_real_file_keeps_a_batch(rt: HostRuntime) -> Result<(), Fail> {
+fn a_real_file_keeps_a_batch(rt: HostRuntime) {
     let _ = fs::remove_file(&rt, BATCH_FILE);
-    let mut anew = OpenOptions::new();
-    anew.read(true).write(true).create(true);
-    keep_votes(&rt, rt.alloc(), anew.open(&rt, BATCH_FILE)?);
-    find_votes(&rt, rt.alloc(), anew.open(&rt, BATCH_FILE)?);
-    fs::remove_file(&rt, BATCH_FILE)?;
-    Ok(())
+    let file = made_anew().open(&rt, BATCH_FILE).expect(&rt, "a file");
+    keep_votes(&rt, rt.alloc(), file);
+    let file = made_anew().open(&rt, BATCH_FILE).expect(&rt, "a file");
+    find_votes(&rt, rt.alloc(), file);
+    fs::remove_file(&rt, BATCH_FILE).expect(&rt, "no file");
 }

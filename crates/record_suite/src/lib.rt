@@ -1,5 +1,5 @@
 //! Records: files byte by byte, cut and damaged; crashes after each call, calls that fail, batches, a real file, each growth of a batch refused. What damaged bytes come to is computed:
-//! the functions that decide it are proved to be the definition of a record.
+//! the functions that decide it (`record_meaning`) are proved to be the definition of a record.
 #![tactic(auto)]
 
 #[cfg(test)]
@@ -10,15 +10,12 @@ mod changes;
 mod crashes;
 #[cfg(test)]
 mod damage;
-pub mod entry;
 #[cfg(test)]
 mod failures;
 #[cfg(test)]
 mod files;
-pub mod history;
 #[cfg(test)]
 mod listed;
-pub mod recorded;
 #[cfg(test)]
 mod records;
 #[cfg(test)]
@@ -27,5 +24,3 @@ mod refusals;
 mod samples;
 #[cfg(test)]
 mod spans;
-pub mod spelling;
-pub mod standing;

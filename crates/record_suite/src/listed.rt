@@ -1,10 +1,10 @@
 //! The histories that a record stands for with one byte changed, computed from its own.
-use crate::changes::{changed, others, places};
-use crate::entry::Entry;
-use crate::history::is_history;
+use crate::changes::{changed, other, places};
 use crate::samples::{ballot, instance, one_of_three};
-use crate::spelling::spelled;
-use crate::standing::stands_for;
+use record_meaning::entry::Entry;
+use record_meaning::history::is_history;
+use record_meaning::spelling::spelled;
+use record_meaning::standing::stands_for;
 use site_ids::{Cluster, NodeId, Value, Vote};
 use std::alloc::{AllocError, Global};
 use std::collections::BTreeMap;
@@ -16,17 +16,19 @@ pub const RECORD: [u8; 53] =
     *b"SITEREC1\x02\x03\x01\x00\x00\x00\x05\x01\x00\x00\x00\x01\x01\x00\x00\x00\x0a\x02\x00\x00\x00\x01\x00\x00\x00\x01\x01\x01\x00\x00\x00\x0c\x03\x00\x00\x00\x01\x00\x00\x00\x02\x01ab\x00";
 
 /// Its history.
-pub fn entries(rt: &impl Abort, alloc: Global) -> Result<Vec<Entry>, AllocError> {
-    let value = Value::copied_from(alloc, b"ab")?;
+pub fn entries(rt: &impl Abort, alloc: Global) -> Vec<Entry> {
+    let value = Value::copied_from(alloc, b"ab").expect(rt, "memory");
     let voted = Vote {
         ballot: ballot(rt, 2),
         value,
     };
     let mut entries = Vec::new(alloc);
-    entries.push(Entry::Round(1))?;
-    entries.push(Entry::Promised(instance(rt, 1), ballot(rt, 1)))?;
-    entries.push(Entry::Voted(instance(rt, 1), voted))?;
-    Ok(entries)
+    entries.push(Entry::Round(1)).expect(rt, "memory");
+    let promised = Entry::Promised(instance(rt, 1), ballot(rt, 1));
+    entries.push(promised).expect(rt, "memory");
+    let voted = Entry::Voted(instance(rt, 1), voted);
+    entries.push(voted).expect(rt, "memory");
+    entries
 }
 
 /// The record of node 2 of 3 whose one entry is the promise of (1, 1) at the three instances from 5 on. At 10 its gate, at 26 the last one.
@@ -34,10 +36,11 @@ pub const SPANNED: [u8; 27] =
     *b"SITEREC1\x02\x03\x01\x00\x00\x00\x0b\x04\x00\x00\x00\x05\x03\x00\x00\x00\x01\x01\x00";
 
 /// Its history.
-pub fn spanned(rt: &impl Abort, alloc: Global) -> Result<Vec<Entry>, AllocError> {
+pub fn spanned(rt: &impl Abort, alloc: Global) -> Vec<Entry> {
+    let promised = Entry::PromisedSpan(instance(rt, 5), 3, ballot(rt, 1));
     let mut entries = Vec::new(alloc);
-    entries.push(Entry::PromisedSpan(instance(rt, 5), 3, ballot(rt, 1)))?;
-    Ok(entries)
+    entries.push(promised).expect(rt, "memory");
+    entries
 }
 
 /// A record with this byte at a place.
@@ -60,6 +63,16 @@ fn copies(alloc: Global, entries: &[Entry]) -> Result<Vec<Entry>, AllocError> {
         copies.push(entry.try_clone()?)?;
     }
     Ok(copies)
+}
+
+/// The first byte that isn't the record's at its place.
+fn first_other(record: &[u8], bytes: &[u8]) -> Option<(usize, u8)> {
+    for (place, byte) in bytes.iter().enumerate() {
+        if record.get(place) != Some(byte) {
+            return Some((place, *byte));
+        }
+    }
+    None
 }
 
 /// Histories by the place and the byte with which a record stands for them.
@@ -100,68 +113,71 @@ impl<'a> Listed<'a> {
         }
     }
 
-    /// Lists these entries where the record with this byte stands for them.
-    fn list_at(&mut self, place: usize, byte: u8, entries: &[Entry]) -> Result<(), AllocError> {
-        let file = with_byte(self.alloc, self.record, place, byte)?;
-        if stands_for(self.alloc, self.cluster, self.node, &file, entries)? {
-            let history = copies(self.alloc, entries)?;
-            self.histories.insert((place, byte), history)?;
-        }
-        Ok(())
+    /// Whether the record with this byte stands for these entries.
+    fn stands_with(&self, rt: &impl Abort, place: usize, byte: u8, entries: &[Entry]) -> bool {
+        let file = with_byte(self.alloc, self.record, place, byte).expect(rt, "memory");
+        stands_for(self.alloc, self.cluster, self.node, &file, entries).expect(rt, "memory")
     }
 
-    /// Lists these entries at the first byte by which their spelling differs from the record, or else at each byte in the place of the gate behind
-    /// it.
-    fn list(&mut self, entries: &[Entry]) -> Result<(), AllocError> {
-        if !is_history(self.cluster, entries) {
-            return Ok(());
+    /// Lists these entries where it does.
+    fn list_at(&mut self, rt: &impl Abort, place: usize, byte: u8, entries: &[Entry]) {
+        if self.stands_with(rt, place, byte, entries) {
+            let history = copies(self.alloc, entries).expect(rt, "memory");
+            let listed: Result<_, _> = self.histories.insert((place, byte), history);
+            assert!(rt; listed.is_ok(), "memory");
         }
-        let bytes = spelled(self.alloc, self.cluster, self.node, entries)?;
-        for (place, byte) in bytes.iter().enumerate() {
-            if self.record.get(place) != Some(byte) {
-                return self.list_at(place, *byte, entries);
-            }
-        }
-        for byte in 0..=255 {
-            self.list_at(bytes.len(), byte, entries)?;
-        }
-        Ok(())
     }
 
-    /// Lists the entries with another one in the place of one of them.
-    fn list_with(&mut self, entries: &[Entry], at: usize, other: Entry) -> Result<(), AllocError> {
-        let mut entries = copies(self.alloc, entries)?;
-        if let Some(there) = entries.get_mut(at) {
-            *there = other;
-        }
-        self.list(&entries)
-    }
-
-    /// Lists the entries with one of them changed.
-    fn list_changes(&mut self, entries: &[Entry], at: usize) -> Result<(), AllocError> {
-        let Some(entry) = entries.get(at) else {
-            return Ok(());
-        };
-        for place in 0..places(entry) {
-            for byte in 0..=255 {
-                if let Some(other) = changed(self.alloc, self.cluster, entry, place, byte)? {
-                    self.list_with(entries, at, other)?;
+    /// Lists these entries, which are spelled so, at the first byte by which that differs from the record, or else at each byte in the place of the
+    /// gate behind it.
+    fn list_spelled(&mut self, rt: &impl Abort, bytes: &[u8], entries: &[Entry]) {
+        match first_other(self.record, bytes) {
+            Some((place, byte)) => self.list_at(rt, place, byte, entries),
+            None => {
+                for byte in 0..=255 {
+                    self.list_at(rt, bytes.len(), byte, entries);
                 }
             }
         }
-        for other in others(self.alloc, self.cluster, entry)? {
-            self.list_with(entries, at, other)?;
+    }
+
+    /// Lists these entries, if they are a history.
+    fn list(&mut self, rt: &impl Abort, entries: &[Entry]) {
+        if is_history(self.cluster, entries) {
+            let bytes = spelled(self.alloc, self.cluster, self.node, entries).expect(rt, "memory");
+            self.list_spelled(rt, &bytes, entries);
         }
-        Ok(())
+    }
+
+    /// Lists the entries with another one, if there is one, in the place of one of them.
+    fn list_with(&mut self, rt: &impl Abort, entries: &[Entry], at: usize, other: Option<Entry>) {
+        if let Some(other) = other {
+            let mut entries = copies(self.alloc, entries).expect(rt, "memory");
+            if let Some(there) = entries.get_mut(at) {
+                *there = other;
+            }
+            self.list(rt, &entries);
+        }
+    }
+
+    /// Lists the entries with one of them changed.
+    fn list_changes(&mut self, rt: &impl Abort, entries: &[Entry], at: usize, entry: &Entry) {
+        for place in 0..places(entry) {
+            for byte in 0..=255 {
+                let other = changed(rt, self.alloc, self.cluster, entry, place, byte);
+                self.list_with(rt, entries, at, other);
+            }
+            let other = other(rt, self.alloc, self.cluster, entry, place);
+            self.list_with(rt, entries, at, other);
+        }
     }
 
     /// Lists the beginnings of the record's entries, and the entries with one of them changed.
-    pub fn list_all(&mut self, entries: &[Entry]) -> Result<(), AllocError> {
-        self.list(entries)?;
-        for at in 0..entries.len() {
-            self.list(&entries[..at])?;
-            self.list_changes(entries, at)?;
+    pub fn list_all(&mut self, rt: &impl Abort, entries: &[Entry]) {
+        self.list(rt, entries);
+        for (at, entry) in entries.iter().enumerate() {
+            self.list(rt, &entries[..at]);
+            self.list_changes(rt, entries, at, entry);
         }
-        Ok(())
     }
 }

@@ -19,23 +19,33 @@ fn letter_of(call: &Call) -> char {
     }
 }
 
+/// The same promise behind a gate that isn't open.
+const SHUT: [u8; 26] =
+    *b"SITEREC1\x02\x03\x07\x00\x00\x00\x0a\x02\x00\x00\x00\x01\x00\x00\x00\x01\x01\x00";
+
+/// So many bytes of the promise's record, the node that opens them, and why it is refused.
+const OPENINGS: &[(usize, u8, Option<RecordFault>)] = &[
+    (26, 2, None),
+    (25, 2, Some(RecordFault::Damaged)),
+    (26, 3, Some(RecordFault::WrongNode)),
+    (10, 3, Some(RecordFault::NotARecord)),
+];
+
+/// The record of these bytes has this promise.
+fn promises(rt: &impl Abort, alloc: Global, bytes: &[u8], promised: Option<Ballot>) {
+    let record = opened(rt, alloc, disk_of(rt, alloc, bytes));
+    assert_eq!(rt; record.slot(instance(rt, 1)).promised, promised);
+}
+
 #[test]
 fn a_promise_record_is_read_or_refused(rt: HostRuntime) {
-    let mut shut = ONE_PROMISE;
-    shut[10] = 7;
-    for (bytes, node, want) in [
-        (&ONE_PROMISE[..], 2, None),
-        (&shut[..], 2, None),
-        (&ONE_PROMISE[..25], 2, Some(RecordFault::Damaged)),
-        (&ONE_PROMISE[..], 3, Some(RecordFault::WrongNode)),
-        (&ONE_PROMISE[..10], 3, Some(RecordFault::NotARecord)),
-    ] {
+    for &(len, node, want) in OPENINGS {
+        let bytes = &ONE_PROMISE[..len.min(26)];
         assert_eq!(rt; refusal(&rt, rt.alloc(), node, bytes), want);
     }
-    for (bytes, want) in [(&ONE_PROMISE, Some(ballot(&rt, 1))), (&shut, None)] {
-        let record = opened(&rt, rt.alloc(), disk_of(&rt, rt.alloc(), bytes));
-        assert_eq!(rt; record.slot(instance(&rt, 1)).promised, want);
-    }
+    assert_eq!(rt; refusal(&rt, rt.alloc(), 2, &SHUT), None);
+    promises(&rt, rt.alloc(), &ONE_PROMISE, Some(ballot(&rt, 1)));
+    promises(&rt, rt.alloc(), &SHUT, None);
 }
 
 fn are_calls(calls: &[Call], letters: &str) -> bool {

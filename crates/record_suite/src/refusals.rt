@@ -1,5 +1,6 @@
-//! A batch with one growth refused, as `tools/refuse-growths` runs this: a step is taken as ever, or memory was refused, the batch is as it was, and the
-//! next try takes it. Where the disk in memory found none its call failed, so the record is opened again, and all of the batch stands or none of it.
+//! A batch with one growth refused, as `tools/gate/refuse-growths` runs this: a step is taken as ever, or memory was refused, the batch is as it was,
+//! and the next try takes it. Where the disk in memory found none its call failed, so the record is opened again, and all of the batch stands or none
+//! of it.
 use crate::samples::{ballot, instance, one_of_three, put_promise, put_round, put_span, put_vote};
 use durable::{Record, RecordFault};
 use site_disk::MemDisk;
@@ -17,7 +18,7 @@ enum Step {
     Vote,
 }
 
-const BATCH: [Step; 5] = [
+const BATCH: &[Step] = &[
     Step::Begin,
     Step::Round,
     Step::Promise,
@@ -71,11 +72,14 @@ fn act(
     }
 }
 
+/// Instances at which the batch promises.
+const RAISED: &[u32] = &[1, 5, 7];
+
 /// The record tells all of the batch, or nothing.
 fn tells(rt: &impl Abort, record: &Record<MemDisk>) -> bool {
     let all = record.round() == 1;
     let promised = if all { Some(ballot(rt, 1)) } else { None };
-    for at in [1, 5, 7] {
+    for &at in RAISED {
         assert_eq!(rt; record.slot(instance(rt, at)).promised, promised);
     }
     assert_eq!(rt; record.slot(instance(rt, 1)).vote.is_some(), all);
@@ -84,7 +88,7 @@ fn tells(rt: &impl Abort, record: &Record<MemDisk>) -> bool {
 
 /// A batch that waits to be sealed.
 fn fill(rt: &impl Abort, alloc: Global, record: &mut Record<MemDisk>) {
-    for one in BATCH {
+    for &one in BATCH {
         if let Err(fault) = act(rt, alloc, record, one) {
             assert_eq!(rt; fault, RecordFault::OutOfMemory);
             assert_eq!(rt; act(rt, alloc, record, one), Ok(()), "{one:?}");

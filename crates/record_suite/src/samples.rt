@@ -4,9 +4,9 @@ ghost use Rattle.site_ids.specs.Spans.{IsInSpan};
 ghost use Rattle.acceptor.specs.Judging.{IsFreeBelow};
 ghost use Rattle.durable.specs.Slots.{slot_at};
 
-use crate::history::is_free_below;
 use acceptor::{PrepareVerdict, ProposeVerdict, judge_prepare, judge_propose};
 use durable::{Record, RecordFault};
+use record_meaning::history::is_free_below;
 use site_disk::{Disk, MemDisk};
 use site_ids::{Ballot, Cluster, Instance, MAX_VALUE, NodeId, Value};
 use std::alloc::Global;

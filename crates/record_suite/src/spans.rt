@@ -135,36 +135,39 @@ fn is_spanned(rt: &impl Abort, disk: &mut MemDisk) {
     assert_eq!(rt; disk.len(), Ok(27));
 }
 
+const ONE_SPAN: &[Step] = &[Step::Span(5, 3, 1), Step::Promised(4, &[0, 1, 1, 1, 0])];
+
 #[test]
 fn a_span_is_one_entry_of_sixteen_bytes(rt: HostRuntime) {
-    let promised = [Step::Span(5, 3, 1), Step::Promised(4, &[0, 1, 1, 1, 0])];
     let mut record = empty(&rt, rt.alloc());
-    act_all(&rt, rt.alloc(), &mut record, &promised);
+    act_all(&rt, rt.alloc(), &mut record, ONE_SPAN);
     let mut disk = record.close();
     is_spanned(&rt, &mut disk);
     let record = opened(&rt, rt.alloc(), disk);
     promises(&rt, &record, 4, &[0, 1, 1, 1, 0]);
 }
 
+const RAISING: &[Step] = &[
+    Step::Promise(6, 3),
+    Step::Promise(7, 1),
+    Step::Vote(7, 1, "v"),
+    Step::Span(5, 3, 2),
+    Step::Promised(4, &[0, 2, 3, 2, 0]),
+    Step::Vote(6, 3, "w"),
+    Step::NoSpan(5, 3, 2),
+    Step::Span(7, 2, 2),
+];
+
+const RAISED: &[Step] = &[
+    Step::Promised(4, &[0, 2, 3, 2, 2, 0]),
+    Step::GreatestRound(3),
+    Step::Voted(6, "w"),
+    Step::Voted(7, "v"),
+];
+
 #[test]
 fn a_span_raises_what_is_lower(rt: HostRuntime) {
-    let before = [
-        Step::Promise(6, 3),
-        Step::Promise(7, 1),
-        Step::Vote(7, 1, "v"),
-        Step::Span(5, 3, 2),
-        Step::Promised(4, &[0, 2, 3, 2, 0]),
-        Step::Vote(6, 3, "w"),
-        Step::NoSpan(5, 3, 2),
-        Step::Span(7, 2, 2),
-    ];
-    let behind = [
-        Step::Promised(4, &[0, 2, 3, 2, 2, 0]),
-        Step::GreatestRound(3),
-        Step::Voted(6, "w"),
-        Step::Voted(7, "v"),
-    ];
-    play(&rt, rt.alloc(), &before, &behind);
+    play(&rt, rt.alloc(), RAISING, RAISED);
 }
 
 /// So many bytes of the file, and a span once more behind them.
@@ -184,18 +187,20 @@ fn a_span_that_raises_nothing_is_damage(rt: HostRuntime) {
     );
 }
 
+const LAST_SPANS: &[Step] = &[
+    Step::Span(MAX_INSTANCE - 63, 64, 1),
+    Step::NoSpan(MAX_INSTANCE - 62, 64, 2),
+    Step::NoSpan(MAX_INSTANCE, 1, 2),
+];
+
+const LAST_PROMISES: &[Step] = &[
+    Step::Promised(MAX_INSTANCE, &[1]),
+    Step::Promised(MAX_INSTANCE - 64, &[0]),
+];
+
 #[test]
 fn spans_of_sixty_four_up_to_the_last_instance(rt: HostRuntime) {
-    let before = [
-        Step::Span(MAX_INSTANCE - 63, 64, 1),
-        Step::NoSpan(MAX_INSTANCE - 62, 64, 2),
-        Step::NoSpan(MAX_INSTANCE, 1, 2),
-    ];
-    let behind = [
-        Step::Promised(MAX_INSTANCE, &[1]),
-        Step::Promised(MAX_INSTANCE - 64, &[0]),
-    ];
-    play(&rt, rt.alloc(), &before, &behind);
+    play(&rt, rt.alloc(), LAST_SPANS, LAST_PROMISES);
 }
 
 /// A put of the span whose disk fails after so many calls, if it makes so many.

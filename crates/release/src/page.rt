@@ -1,4 +1,7 @@
 //! The page of a site for a path.
+//!
+//! A page takes the list of commands, so partials are of that release's site.
+
 ghost use Rattle.std.specs.Prelude.{◌≡◌, List, IfOk};
 ghost use Rattle.command.specs.Action.{Order};
 ghost use Rattle.content.specs.Standing.{HasContents};

@@ -1,3 +1,5 @@
+//! Receipts tell a repeat, so kept sites have no set of tickets: 112 bytes a value.
+
 ghost use Rattle.std.specs.Prelude.{◌≡◌, ◌≢◌, ◌⊎◌, ◌<◌, ◌≤◌, ◌↔◌, ℕ, List, [], ◌∷◌, ◌++◌, length, Some, Ok, IfOk, IfSome, IsNone, OnOk, OnErr, IsErrOf};
 ghost use Rattle.site_ids.specs.declared.TheConstants.{MAX_INSTANCE};
 ghost use Rattle.command.specs.Action.{Order};

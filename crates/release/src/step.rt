@@ -1,4 +1,7 @@
 //! What a command that is no repeat does to the site of those before it.
+//!
+//! A value that is no command is read once more for its fault's line.
+
 ghost use Rattle.std.specs.Prelude.{List, IfOk};
 ghost use Rattle.command.specs.Action.{Order};
 ghost use Rattle.command.specs.Standing.{StandsAs};

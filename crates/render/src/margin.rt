@@ -1,3 +1,5 @@
+//! A margin is a list of borrowed parts, so a call copies nothing.
+
 ghost use Rattle.std.specs.Prelude.{◌≡◌, ◌++◌};
 ghost use Rattle.mustache_parse.specs.View.{own_under};
 ghost use Rattle.render.specs.Margin.{lead, margin_text, margin_of, margin_at};

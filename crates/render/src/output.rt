@@ -1,3 +1,5 @@
+//! A page pays for an escaped text by what it grew, one value past the limit at most.
+
 ghost use Rattle.std.specs.Prelude.{◌≡◌, [], string_bytes};
 ghost use Rattle.render.specs.Printed.{escaped};
 ghost use Rattle.render.specs.Meaning.{Costs, prints, max_cost};

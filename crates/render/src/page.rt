@@ -1,3 +1,5 @@
+//! Sections, items, partials are paid before entered, which ends recursive ones too; depth is judged after the text was read.
+
 ghost use Rattle.std.specs.Prelude.{◌≡◌, [], IfOk, IsErrOf, Some, None, string_bytes};
 ghost use Rattle.context.specs.View.{data_view};
 ghost use Rattle.mustache_parse.specs.Template.{template_tree};

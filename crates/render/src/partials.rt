@@ -1,3 +1,5 @@
+//! Partials are seen by a relation, so a site without sources can state it.
+
 ghost use Rattle.std.specs.Prelude.{◌≡◌, ℕ, List, Option, MatchOption};
 ghost use Rattle.mustache_parse.specs.Template.{IsTemplateOf};
 

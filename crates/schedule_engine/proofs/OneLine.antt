@@ -8,7 +8,8 @@ use Rattle.engine_parts.specs.Submissions.{joined}
 use Rattle.schedule_engine.specs.Laws.{OneLine}
 use Rattle.engine_parts.proofs.CutLemmas.{lacks-decimal}
 use Rattle.engine_parts.proofs.LineLemmas.{one_word, one_number_cut, number_cut, same_submission}
-use Rattle.schedule_engine.proofs.ScheduleLemmas.{one_head, head_cut}
+use Rattle.engine_parts.proofs.Lines as lines
+use Rattle.schedule_engine.proofs.ScheduleLemmas.{lacks-words}
 use Rattle.engine_parts.proofs.Texts.{begins_so}
 use Rattle.engine_parts.proofs.Texts.{one_text}
 
@@ -240,6 +241,6 @@ same_line trace_line trace_line rest others hl hm e more = (refl, more)
 
 pub one_line : OneLine
 one_line l m rest others hl hm is =
-    let cut = head_cut l rest hl in
-    let same = one_head (spelled l ++ rest) (joined (words l)) (body l ++ rest) m others cut hm is in
+    let cut = lines.head_cut Fits (λ line. joined (words line)) body lacks-words l rest hl in
+    let same = lines.one_head Fits (λ line. joined (words line)) body lacks-words (spelled l ++ rest) (joined (words l)) (body l ++ rest) m others cut hm is in
     same_line l m rest others hl hm same.front same.back

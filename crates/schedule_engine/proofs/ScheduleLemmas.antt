@@ -10,6 +10,7 @@ use Rattle.engine_parts.proofs.CutLemmas.{Same, no_cut, one_cut}
 use Rattle.engine_parts.proofs.CutLemmas.{lacks-decimal}
 use Rattle.engine_parts.proofs.LineLemmas.{same_submission, number_cut}
 use Rattle.engine_parts.proofs.CutLemmas.{lacks-decimal}
+use Rattle.engine_parts.proofs.Lines as lines
 use Rattle.engine_parts.proofs.Texts.{lacks-codes, lacks-last, lacks-number, lacks-behind, begins_so, behind_text, cut_more, HasText}
 
 -- ---- no newline stands in the words of a line
@@ -18,7 +19,7 @@ lacks-submission : (p : ℕ) (ticket : Ticket) (len : ℕ) → FitsSubmission p 
 lacks-submission p ticket len ok =
     lacks-behind (codes "submit ") _ refl (lacks-number p _ (omega arith) (lacks-number ticket.editor _ (omega arith) (lacks-number ticket.number _ (omega arith) (lacks-last len (omega arith)))))
 
-lacks-words : (line : Line) → Fits line → Lacks 10 (joined (words line))
+pub lacks-words : (line : Line) → Fits line → Lacks 10 (joined (words line))
 lacks-words (submit_line p ticket text) ok = lacks-submission p ticket (length text) ok
 lacks-words (tick_line p) ok = lacks-behind (codes "tick ") _ refl (lacks-last p (omega arith))
 lacks-words (widen_line p) ok = lacks-behind (codes "widen ") _ refl (lacks-last p (omega arith))
@@ -34,16 +35,10 @@ lacks-words (show_line p) ok = lacks-behind (codes "show ") _ refl (lacks-last p
 lacks-words (get_line p n path) ok = lacks-behind (codes "get ") _ refl (lacks-number p _ (omega arith) (lacks-number n _ (omega arith) ok.2.no_newline))
 lacks-words trace_line ok = lacks-codes 10 (codes "trace") refl
 
--- ---- the words before the first newline are those of any line there
-
-pub head_cut : (line : Line) (rest : List ℕ) → Fits line → IsCut 10 (spelled line ++ rest) (joined (words line)) (body line ++ rest)
-head_cut line rest ok = record { whole = append_assoc (joined (words line)) (10 ∷ body line) rest; first = lacks-words line ok }
-
-pub one_head : (bytes head after : List ℕ) (line : Line) (rest : List ℕ) → IsCut 10 bytes head after → Fits line → bytes ≡ spelled line ++ rest → Same head after (joined (words line)) (body line ++ rest)
-one_head bytes head after line rest cut ok is = one_cut 10 bytes head after (joined (words line)) (body line ++ rest) cut (rw is (head_cut line rest ok))
+-- ---- which line stands at the front
 
 pub no_line_yet : (bytes : List ℕ) → Lacks 10 bytes → HasNoLine bytes
-no_line_yet bytes none line rest ok is = no_cut 10 bytes (joined (words line)) (body line ++ rest) none (rw is (head_cut line rest ok))
+no_line_yet bytes none = lines.no_line_yet Fits (λ line. joined (words line)) body lacks-words bytes none
 
 -- words that are no line's
 abbrev pub IsNoLine : List ℕ → Type 0
@@ -69,8 +64,7 @@ of_neither head (get_line p n path) plain submission ok e = plain (get_line p n 
 of_neither head trace_line plain submission ok e = plain trace_line ok refl e
 
 pub bad_head : (bytes head after : List ℕ) → IsCut 10 bytes head after → IsNoLine head → IsNoSubmission head → GetsNoLine bytes
-bad_head bytes head after cut plain submission more line rest ok is =
-    of_neither head line plain submission ok (one_head (bytes ++ more) head (after ++ more) line rest (cut_more bytes head after more cut) ok is).front
+bad_head bytes head after cut plain submission = lines.bad_head Fits (λ line. joined (words line)) body lacks-words bytes head after cut (λ line. of_neither head line plain submission)
 
 pub plain_whole : (bytes head after : List ℕ) (line : Line) → IsCut 10 bytes head after → body line ≡ [] → head ≡ joined (words line) → bytes ≡ spelled line ++ after
 plain_whole bytes head after line cut bare is =
@@ -99,21 +93,11 @@ text_of p ticket len after (show_line q) rest hp ok is whole = let starts = begi
 text_of p ticket len after (get_line q n path) rest hp ok is whole = let starts = begins_so _ _ is in absurd (omega (arith, starts.0, starts.1))
 text_of p ticket len after trace_line rest hp ok is whole = let starts = begins_so _ _ is in absurd (omega (arith, starts.0, starts.1))
 
-text_there : (p : ℕ) (ticket : Ticket) (len : ℕ) (after : List ℕ) (line : Line) (rest : List ℕ) → FitsSubmission p ticket len → Fits line → joined (submit_words p ticket len) ++ (10 ∷ after) ≡ spelled line ++ rest → HasText after rest len
-text_there p ticket len after line rest hp ok is =
-    let same = one_head (joined (submit_words p ticket len) ++ (10 ∷ after)) (joined (submit_words p ticket len)) after line rest (record { whole = refl; first = lacks-submission p ticket len hp }) ok is in
-    text_of p ticket len after line rest hp ok same.front same.back
-
 pub short_text : (p : ℕ) (ticket : Ticket) (len : ℕ) (after : List ℕ) → FitsSubmission p ticket len → length after ≤ len → HasNoLine (joined (submit_words p ticket len) ++ (10 ∷ after))
-short_text p ticket len after hp short line rest ok is =
-    let t = text_there p ticket len after line rest hp ok is in
-    let total : length after ≡ length t.text + suc (length rest) = ap length t.whole ∙ length-append t.text (10 ∷ rest) in
-    omega (arith, total, t.long, short)
+short_text p ticket len after hp = lines.short_text Fits (λ line. joined (words line)) body lacks-words (joined (submit_words p ticket len)) (lacks-submission p ticket len hp) len (λ after line rest. text_of p ticket len after line rest hp) after
 
 pub bad_end : (p : ℕ) (ticket : Ticket) (len : ℕ) (after text rest : List ℕ) (e : ℕ) → FitsSubmission p ticket len → length text ≡ len → after ≡ text ++ (e ∷ rest) → e ≢ 10 → GetsNoLine (joined (submit_words p ticket len) ++ (10 ∷ after))
-bad_end p ticket len after text rest e hp long whole wrong more line later ok is =
-    let t = text_there p ticket len (after ++ more) line later hp ok (sym (append_assoc (joined (submit_words p ticket len)) (10 ∷ after) more) ∙ is) in
-    wrong (behind_text text t.text (rest ++ more) later e (long ∙ sym t.long) (sym (append_assoc text (e ∷ rest) more) ∙ (ap (λ xs. xs ++ more) (sym whole) ∙ t.whole)))
+bad_end p ticket len after text rest e hp = lines.bad_end Fits (λ line. joined (words line)) body lacks-words (joined (submit_words p ticket len)) (lacks-submission p ticket len hp) len (λ after line rest. text_of p ticket len after line rest hp) after text rest e
 
 -- ---- the first line
 

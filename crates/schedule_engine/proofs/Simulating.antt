@@ -17,7 +17,7 @@ use Rattle.world.specs.Telling.{fed_at}
 use Rattle.world.specs.Worlds.{World}
 use Rattle.http_read.specs.Counted.{RoseByOne}
 use Rattle.site_ids.specs.Ids.{IsNode}
-use Rattle.world.specs.declared.whole.World.{World as Code}
+use Rattle.world.specs.declared.world.World.{World as Code}
 use Rattle.world.specs.Standing.{IsWorldOf, IsPublishedAt}
 use Rattle.world.proofs.Fed.{one_prefix, published_alike, start_published, fed_whole}
 use Rattle.world.proofs.Following.{takes_on}

@@ -10,9 +10,9 @@ use Rattle.release.specs.Page.{Page}
 use Rattle.site_ids.specs.Ids.{IsNode}
 use Rattle.world.specs.declared.event.Event.{Event}
 use Rattle.world.specs.declared.event.Event.TheVariants.{Submit, Tick, Widen, Ask, Tell, Deliver, Arm, Crash, Restart}
-use Rattle.world.specs.declared.state.NodeState.{NodeState}
-use Rattle.world.specs.declared.state.NodeState.TheVariants as told
-use Rattle.world.specs.declared.whole.World.{World as Code}
+use Rattle.world.specs.declared.node_state.NodeState.{NodeState}
+use Rattle.world.specs.declared.node_state.NodeState.TheVariants as told
+use Rattle.world.specs.declared.world.World.{World as Code}
 use Rattle.world.specs.Quiet.{IsQuiet, IsShort}
 use Rattle.world.specs.Quieting.{AreUp, Learns}
 use Rattle.world.specs.Standing.{IsWorldOf, IsPublishedAt}

@@ -1,4 +1,8 @@
 //! The lines of a schedule.
+//!
+//! A bad line is told as soon as nothing mends it; so are an empty file, a last line without its newline and a submission cut short. A fault's number counts
+//! lines; an index has 64 bits.
+
 ghost use Rattle.std.specs.Prelude.{◌≡◌, ◌≢◌, ℕ, List, ◌∷◌, ◌++◌, ◌<◌, ◌≤◌, ◌^◌, MatchOption, codes, decimal, [], Some, None};
 ghost use Rattle.site_ids.specs.Ids.{IsNode, IsInstance};
 ghost use Rattle.engine_parts.specs.Cuts.{Lacks, IsCut};
@@ -9,7 +13,8 @@ ghost use Rattle.schedule_engine.specs.ScheduleView.{line_view, submission_words
 ghost use Rattle.engine_parts.specs.Submissions.{submission_fits};
 
 use engine_parts::{
-    Submission, after, cut, number_at_node, read_node, read_number, submission_after, word_after,
+    Body, Submission, after, body_in, cut, number_at_node, read_node, read_number,
+    submission_after, word_after,
 };
 use site_ids::{Cluster, Instance, NodeId, Ticket};
 
@@ -189,21 +194,16 @@ fn submitted(submission: Submission, after: &[u8]) -> Found<'_>
     requires { submission_fits submission }
     ensures { IsFound (joined (submission_words submission) ++ (10 ∷ after.now)) result }
 {
-    let Some((text, rest)) = after.split_at_checked(submission.text_len) else {
-        return Found::Short;
-    };
-    let Some((end, rest)) = rest.split_first() else {
-        return Found::Short;
-    };
-    if *end != b'\n' {
-        return Found::Bad;
+    let Submission {
+        node,
+        ticket,
+        text_len,
+    } = submission;
+    match body_in(after, text_len) {
+        Body::Text(text, rest) => Found::Line(Line::Submit { node, ticket, text }, rest),
+        Body::Short => Found::Short,
+        Body::Bad => Found::Bad,
     }
-    let line = Line::Submit {
-        node: submission.node,
-        ticket: submission.ticket,
-        text,
-    };
-    Found::Line(line, rest)
 }
 
 /// The line at the front of the bytes.

@@ -11,6 +11,7 @@ use Rattle.script_engine.specs.Script.{Line, post_line, get_line, turns_line, dr
 use Rattle.engine_parts.proofs.CutLemmas.{Same, no_cut, one_cut}
 use Rattle.engine_parts.proofs.CutLemmas.{lacks-decimal}
 use Rattle.engine_parts.proofs.LineLemmas.{same_submission, number_cut, one_word}
+use Rattle.engine_parts.proofs.Lines as lines
 use Rattle.engine_parts.proofs.Texts.{lacks-last, lacks-number, lacks-behind, begins_so, behind_text, cut_more, HasText}
 use Rattle.engine_parts.proofs.Texts.{one_text}
 
@@ -26,16 +27,10 @@ lacks-words (get_line p target) ok = lacks-behind (codes "get ") _ refl (lacks-n
 lacks-words (turns_line k) ok = lacks-behind (codes "turns ") _ refl (lacks-last k (omega arith))
 lacks-words (drive_line p k) ok = lacks-behind (codes "drive ") _ refl (lacks-number p _ (omega arith) (lacks-last k (omega arith)))
 
--- ---- the words before the first newline are those of any line there
-
-pub head_cut : (line : Line) (rest : List ℕ) → Fits line → IsCut 10 (spelled line ++ rest) (joined (words line)) (body line ++ rest)
-head_cut line rest ok = record { whole = append_assoc (joined (words line)) (10 ∷ body line) rest; first = lacks-words line ok }
-
-pub one_head : (bytes head after : List ℕ) (line : Line) (rest : List ℕ) → IsCut 10 bytes head after → Fits line → bytes ≡ spelled line ++ rest → Same head after (joined (words line)) (body line ++ rest)
-one_head bytes head after line rest cut ok is = one_cut 10 bytes head after (joined (words line)) (body line ++ rest) cut (rw is (head_cut line rest ok))
+-- ---- which line stands at the front
 
 pub no_line_yet : (bytes : List ℕ) → Lacks 10 bytes → HasNoLine bytes
-no_line_yet bytes none line rest ok is = no_cut 10 bytes (joined (words line)) (body line ++ rest) none (rw is (head_cut line rest ok))
+no_line_yet bytes none = lines.no_line_yet Fits (λ line. joined (words line)) body lacks-words bytes none
 
 -- words that are no line's
 abbrev pub IsNoLine : List ℕ → Type 0
@@ -51,8 +46,7 @@ of_neither head (turns_line k) plain post ok e = plain (turns_line k) ok refl e
 of_neither head (drive_line p k) plain post ok e = plain (drive_line p k) ok refl e
 
 pub bad_head : (bytes head after : List ℕ) → IsCut 10 bytes head after → IsNoLine head → IsNoPost head → GetsNoLine bytes
-bad_head bytes head after cut plain post more line rest ok is =
-    of_neither head line plain post ok (one_head (bytes ++ more) head (after ++ more) line rest (cut_more bytes head after more cut) ok is).front
+bad_head bytes head after cut plain post = lines.bad_head Fits (λ line. joined (words line)) body lacks-words bytes head after cut (λ line. of_neither head line plain post)
 
 -- ---- posts
 
@@ -82,21 +76,11 @@ text_of p ticket len after (get_line q target) rest hp ok is whole = let starts 
 text_of p ticket len after (turns_line k) rest hp ok is whole = let starts = begins_so _ _ is in absurd (omega (arith, starts.0, starts.1))
 text_of p ticket len after (drive_line q k) rest hp ok is whole = let starts = begins_so _ _ is in absurd (omega (arith, starts.0, starts.1))
 
-text_there : (p : ℕ) (ticket : Ticket) (len : ℕ) (after : List ℕ) (line : Line) (rest : List ℕ) → FitsPost p ticket len → Fits line → joined (post_words p ticket len) ++ (10 ∷ after) ≡ spelled line ++ rest → HasText after rest len
-text_there p ticket len after line rest hp ok is =
-    let same = one_head (joined (post_words p ticket len) ++ (10 ∷ after)) (joined (post_words p ticket len)) after line rest (record { whole = refl; first = lacks-post p ticket len hp }) ok is in
-    text_of p ticket len after line rest hp ok same.front same.back
-
 pub short_text : (p : ℕ) (ticket : Ticket) (len : ℕ) (after : List ℕ) → FitsPost p ticket len → length after ≤ len → HasNoLine (joined (post_words p ticket len) ++ (10 ∷ after))
-short_text p ticket len after hp short line rest ok is =
-    let t = text_there p ticket len after line rest hp ok is in
-    let total : length after ≡ length t.text + suc (length rest) = ap length t.whole ∙ length-append t.text (10 ∷ rest) in
-    omega (arith, total, t.long, short)
+short_text p ticket len after hp = lines.short_text Fits (λ line. joined (words line)) body lacks-words (joined (post_words p ticket len)) (lacks-post p ticket len hp) len (λ after line rest. text_of p ticket len after line rest hp) after
 
 pub bad_end : (p : ℕ) (ticket : Ticket) (len : ℕ) (after text rest : List ℕ) (e : ℕ) → FitsPost p ticket len → length text ≡ len → after ≡ text ++ (e ∷ rest) → e ≢ 10 → GetsNoLine (joined (post_words p ticket len) ++ (10 ∷ after))
-bad_end p ticket len after text rest e hp long whole wrong more line later ok is =
-    let t = text_there p ticket len (after ++ more) line later hp ok (sym (append_assoc (joined (post_words p ticket len)) (10 ∷ after) more) ∙ is) in
-    wrong (behind_text text t.text (rest ++ more) later e (long ∙ sym t.long) (sym (append_assoc text (e ∷ rest) more) ∙ (ap (λ xs. xs ++ more) (sym whole) ∙ t.whole)))
+bad_end p ticket len after text rest e hp = lines.bad_end Fits (λ line. joined (words line)) body lacks-words (joined (post_words p ticket len)) (lacks-post p ticket len hp) len (λ after line rest. text_of p ticket len after line rest hp) after text rest e
 
 -- ---- no two lines spell the same bytes
 
@@ -135,6 +119,6 @@ same_line (drive_line p j) (drive_line q k) rest others hl hm e more =
 
 pub one_script_line : OneScriptLine
 one_script_line l m rest others hl hm is =
-    let cut = head_cut l rest hl in
-    let same = one_head (spelled l ++ rest) (joined (words l)) (body l ++ rest) m others cut hm is in
+    let cut = lines.head_cut Fits (λ line. joined (words line)) body lacks-words l rest hl in
+    let same = lines.one_head Fits (λ line. joined (words line)) body lacks-words (spelled l ++ rest) (joined (words l)) (body l ++ rest) m others cut hm is in
     same_line l m rest others hl hm same.front same.back

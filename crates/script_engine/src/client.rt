@@ -1,4 +1,7 @@
 //! What a client of a server sends, and what it shows of an answer.
+//!
+//! All faults of sockets are one; calls wait a second, as one thread is both ends.
+
 ghost use Rattle.std.specs.Prelude.{◌≡◌, ℕ, List, drop, IfOk, IfErr, MatchOption};
 ghost use Rattle.script_engine.specs.Client.{post_request, get_request, IsResponse, HasNoAnswer, IsShown};
 

@@ -8,7 +8,8 @@ ghost use Rattle.script_engine.specs.Script.{Line as AbstractLine, words, post_w
 ghost use Rattle.script_engine.specs.ScriptView.{line_view, post_fits, posted_words, IsFound};
 
 use engine_parts::{
-    Submission, after, cut, number_at_node, read_node, read_number, submission_after, word_after,
+    Body, Submission, after, body_in, cut, number_at_node, read_node, read_number,
+    submission_after, word_after,
 };
 use site_ids::{NodeId, Ticket};
 
@@ -122,21 +123,16 @@ fn posted(post: Submission, after: &[u8]) -> Found<'_>
     requires { post_fits post }
     ensures { IsFound (joined (posted_words post) ++ (10 ∷ after.now)) result }
 {
-    let Some((text, rest)) = after.split_at_checked(post.text_len) else {
-        return Found::Short;
-    };
-    let Some((end, rest)) = rest.split_first() else {
-        return Found::Short;
-    };
-    if *end != b'\n' {
-        return Found::Bad;
+    let Submission {
+        node,
+        ticket,
+        text_len,
+    } = post;
+    match body_in(after, text_len) {
+        Body::Text(text, rest) => Found::Line(Line::Post { node, ticket, text }, rest),
+        Body::Short => Found::Short,
+        Body::Bad => Found::Bad,
     }
-    let line = Line::Post {
-        node: post.node,
-        ticket: post.ticket,
-        text,
-    };
-    Found::Line(line, rest)
 }
 
 /// The line at the front of the bytes.

@@ -1,6 +1,7 @@
 //! Requests cut in every way, cut off after each byte, and over readers and writers that fail at each place.
 use crate::desk::{Desk, open_desk};
-use crate::ends::{in_pieces, reads, whole, writes};
+use crate::ends::{reads, writes};
+use failing_ends::{in_pieces, whole};
 use http_serve::ServeFault;
 use std::alloc::Global;
 use std::process::Abort;

@@ -1,90 +1,11 @@
-//! A reader and a writer over memory that work in pieces and may fail, and a connection between them.
-ghost use Rattle.std.specs.Prelude.{Some};
+//! A connection between a reader and a writer over memory that work in pieces and may fail.
 
 use crate::desk::Desk;
+use failing_ends::{Pieces, Sink, whole};
 use http_read::Counted;
 use http_serve::{ServeFault, serve};
 use std::alloc::{AllocError, Global};
-use std::io;
-use std::io::{ErrorKind, Read, Write};
 use std::process::Abort;
-
-/// Gives a first piece and then pieces of one size, and fails once `good` calls were made.
-#[derive(Drop)]
-pub(crate) struct Pieces<'a> {
-    pub bytes: &'a [u8],
-    pub first: usize,
-    pub piece: usize,
-    pub good: usize,
-}
-
-impl Read for Pieces<'_> {
-    ghost remaining = { λ p. Some p.bytes.now };
-
-    fn read(&mut self, buf: &mut [u8]) -> io::Result<usize> {
-        if self.good == 0 {
-            return Err(io::Error::from(ErrorKind::TimedOut));
-        }
-        self.good -= 1;
-        let n = self.first.max(1).min(buf.len()).min(self.bytes.len());
-        buf[..n].copy_from_slice(&self.bytes[..n]);
-        self.bytes = &self.bytes[n..];
-        self.first = self.piece;
-        Ok(n)
-    }
-}
-
-/// A first piece and then pieces of one size, up to a call that fails.
-pub(crate) fn in_pieces(bytes: &[u8], first: usize, piece: usize, good: usize) -> Pieces<'_> {
-    Pieces {
-        bytes,
-        first,
-        piece,
-        good,
-    }
-}
-
-/// All at once.
-pub(crate) fn whole(bytes: &[u8]) -> Pieces<'_> {
-    in_pieces(bytes, usize::MAX, usize::MAX, usize::MAX)
-}
-
-/// Takes `room` bytes, at most `piece` at a time, and then fails.
-#[derive(Drop)]
-pub(crate) struct Sink {
-    pub taken: Vec<u8>,
-    pub room: usize,
-    pub piece: usize,
-}
-
-impl Sink {
-    pub(crate) fn into_taken(self) -> Vec<u8> {
-        let Sink {
-            taken,
-            room: _,
-            piece: _,
-        } = self;
-        taken
-    }
-}
-
-impl Write for Sink {
-    ghost contents = { λ s. Some s.taken.items };
-
-    fn write(&mut self, buf: &[u8]) -> io::Result<usize> {
-        let n = buf.len().min(self.room).min(self.piece);
-        if n == 0 && !buf.is_empty() {
-            return Err(io::Error::from(ErrorKind::BrokenPipe));
-        }
-        self.taken.extend_from_slice(&buf[..n])?;
-        self.room -= n;
-        Ok(n)
-    }
-
-    fn flush(&mut self) -> io::Result<()> {
-        Ok(())
-    }
-}
 
 /// What came of a connection.
 #[derive(Drop)]

@@ -1,9 +1,9 @@
 //! Connections whose bytes come and go in many steps: cut in every way, over ends of which calls come too early, up to a fault, and up to the
 //! last response.
 use crate::desk::{Desk, open_desk};
-use crate::ends::{Pieces, in_pieces, whole};
 use crate::several::{BAD, BOTH, BOTH_PAGES, GET, LAST_PAGE, PAGE, pages, repeated};
 use crate::steps::{AMPLE, Room, Run, led};
+use failing_ends::{Pieces, in_pieces, whole};
 use std::alloc::Global;
 use std::process::Abort;
 

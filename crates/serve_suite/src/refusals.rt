@@ -1,8 +1,9 @@
-//! Connections with one growth refused, as `tools/refuse-growths` runs this: a connection is answered as ever, or nothing is written and
+//! Connections with one growth refused, as `tools/gate/refuse-growths` runs this: a connection is answered as ever, or nothing is written and
 //! nothing taken where memory was refused, and then another one with the same request is answered as ever.
 use crate::desk::{Desk, open_desk};
-use crate::ends::{Connection, served, whole};
+use crate::ends::{Connection, served};
 use crate::steps::{AMPLE, Run, led};
+use failing_ends::whole;
 use http_serve::ServeFault;
 use std::alloc::Global;
 use std::process::Abort;

@@ -1,6 +1,7 @@
 //! Several requests on a connection: responses one behind another, when it is closed, and what stands after a fault.
 use crate::desk::{Desk, open_desk};
-use crate::ends::{End, Sink, in_pieces, reads, whole, writes};
+use crate::ends::{End, reads, writes};
+use failing_ends::{Sink, in_pieces, whole};
 use http_read::{Counted, Inbox};
 use http_serve::{Next, ServeFault, exchange};
 use std::alloc::{AllocError, Global};

@@ -1,6 +1,7 @@
 //! Many requests, as `bench/http` times them: the time of many less that of few.
 use crate::desk::{Desk, open_desk};
-use crate::ends::{served, whole};
+use crate::ends::served;
+use failing_ends::whole;
 use std::alloc::{AllocError, Global};
 use std::process::Abort;
 

@@ -2,7 +2,7 @@
 ghost use Rattle.std.specs.Prelude.{◌≡◌};
 
 use crate::desk::Desk;
-use crate::ends::{Pieces, Sink};
+use failing_ends::{Pieces, Sink};
 use http_read::Counted;
 use http_serve::{Line, Told};
 use std::alloc::{AllocError, Global};

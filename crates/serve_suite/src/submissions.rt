@@ -1,6 +1,7 @@
 //! Submissions: each outcome, and what is taken where the response is lost.
 use crate::desk::{Desk, Mood, open_desk};
-use crate::ends::{PLAIN, Row, in_pieces, reads, responds, response, whole, writes};
+use crate::ends::{PLAIN, Row, reads, responds, response, writes};
+use failing_ends::{in_pieces, whole};
 use http_serve::ServeFault;
 use std::alloc::{AllocError, Global};
 use std::process::Abort;

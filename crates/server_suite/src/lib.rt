@@ -21,3 +21,5 @@ mod scripts;
 mod seats;
 #[cfg(test)]
 mod written_clock;
+#[cfg(test)]
+mod yielding;

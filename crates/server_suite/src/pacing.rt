@@ -1,5 +1,5 @@
 //! When a server ticks, whom it tells from where on, and how long it rests: each rule as a table.
-use site_ids::Instance;
+use site_ids::{Cluster, Instance, NodeId};
 use site_pace::{LastQuestion, Pace, Resting, Seen, Ticking, Times, first_told, has_passed};
 use std::process::Abort;
 
@@ -11,6 +11,7 @@ const TIMES: Times = Times {
     quiet_asking: 800,
     quick: 20,
     telling: 400,
+    yielding: 50,
     idle: 200,
     quiet: 2000,
     rest: 50,
@@ -249,9 +250,15 @@ const STEPS: &[(bool, bool, u32, Option<u64>)] = &[
     (false, false, 1, Some(50)),
 ];
 
+/// The node of a group of one.
+fn alone() -> Option<NodeId> {
+    Cluster::new(1)?.node(1)
+}
+
 #[test]
 fn a_server_begins_quiet_and_wakes_with_a_client(rt: HostRuntime) {
-    let mut pace = Pace::new(TIMES, 1);
+    let me = alone().expect(&rt, "a node");
+    let mut pace = Pace::new(TIMES, me);
     for &(came, served, steps, micros) in STEPS {
         for step in 0..steps {
             assert_eq!(rt; pace.rest(came, served), micros, "{came} {served} {step}");

@@ -1,5 +1,5 @@
-//! A server with one growth refused, as `tools/refuse-growths` runs this: it comes to what it comes to without refusals, or ends for want of memory; then
-//! another one opens over its disk, and comes to it.
+//! A server with one growth refused, as `tools/gate/refuse-growths` runs this: it comes to what it comes to without refusals, or ends for want of
+//! memory; then another one opens over its disk, and comes to it.
 use crate::client::Client;
 use crate::group::{Boxed, fresh, reopened};
 use site_ids::Cluster;

@@ -33,6 +33,11 @@ const THIRD_ASKS: &[u8] = &[1, 6, 3, 0, 0, 0, 1];
 /// A prepare of node 2 at the first instance.
 const PREPARE: &[u8] = &[1, 1, 2, 0, 0, 0, 1, 0, 0, 0, 1, 2];
 
+/// One of node 3 there, and a higher one of node 2.
+const THIRD_PREPARE: &[u8] = &[1, 1, 3, 0, 0, 0, 1, 0, 0, 0, 1, 3];
+
+const HIGHER_PREPARE: &[u8] = &[1, 1, 2, 0, 0, 0, 1, 0, 0, 0, 2, 2];
+
 /// The values of the first two instances, as node 3 knows them.
 const FIRST_KNOWN: &[u8] = &[1, 7, 3, 0, 0, 0, 1, 0, 0, 0, 1, 7];
 
@@ -70,7 +75,7 @@ const ASKED: &[Step] = &[
     (4, false, true, Call::Widen, &[SECOND_ASKS]),
     (400, false, true, Call::Widen, &[SECOND_ASKS]),
     (401, false, true, Call::Tell(2, 1), &[PREPARE, THIRD_ASKS]),
-    (403, false, true, Call::Widen, &[THIRD_ASKS]),
+    (403, false, true, Call::Nothing, &[THIRD_ASKS]),
     (900, false, true, Call::Ask, &[]),
 ];
 
@@ -88,6 +93,34 @@ const NEWS: &[Step] = &[
     (400, false, true, Call::Widen, &[]),
     (401, false, true, Call::Tick, &[]),
     (803, false, true, Call::Ask, &[]),
+];
+
+/// A value is submitted while node 2 tries one, of which nothing more is heard; and then it becomes known.
+const YIELDS: &[Step] = &[
+    (0, false, true, Call::Ask, &[PREPARE]),
+    (1, true, true, Call::Nothing, &[]),
+    (50, false, true, Call::Nothing, &[]),
+    (51, false, true, Call::Widen, &[]),
+    // It waited in vain, and does so once more.
+    (52, false, true, Call::Nothing, &[]),
+    // The patience is what it would be.
+    (100, false, true, Call::Nothing, &[]),
+    (101, false, true, Call::Tick, &[FIRST_KNOWN]),
+    // Node 2 tried last: this one comes next.
+    (102, false, true, Call::Widen, &[]),
+];
+
+/// Nodes 2 and 3 tried, and node 3 comes next; a value is submitted meanwhile.
+const TURNS: &[Step] = &[
+    (0, false, true, Call::Ask, &[THIRD_PREPARE]),
+    (1, false, true, Call::Nothing, &[HIGHER_PREPARE]),
+    (2, false, true, Call::Nothing, &[FIRST_KNOWN]),
+    (3, false, true, Call::Nothing, &[]),
+    (4, true, true, Call::Nothing, &[]),
+    // Attempts stood for two milliseconds: so long the next one is waited for.
+    (5, false, true, Call::Nothing, &[]),
+    (6, false, true, Call::Widen, &[]),
+    (7, false, true, Call::Widen, &[]),
 ];
 
 /// A node with its link, a desk and a pace.
@@ -132,7 +165,7 @@ fn begun(rt: &impl Abort, alloc: Global) -> Paced {
         node: fresh(alloc, cluster, me).expect(rt, "memory"),
         link: MemLink::new(alloc),
         desk: Desk::new(alloc).expect(rt, "memory"),
-        pace: Pace::new(Times::new(None, None), 1),
+        pace: Pace::new(Times::new(None, None), me),
     }
 }
 
@@ -190,4 +223,14 @@ fn who_asks_is_told_in_turn(rt: HostRuntime) {
 #[test]
 fn news_is_followed_by_a_question(rt: HostRuntime) {
     run(&rt, rt.alloc(), NEWS);
+}
+
+#[test]
+fn a_server_yields_to_one_that_tries(rt: HostRuntime) {
+    run(&rt, rt.alloc(), YIELDS);
+}
+
+#[test]
+fn the_next_one_is_waited_for(rt: HostRuntime) {
+    run(&rt, rt.alloc(), TURNS);
 }

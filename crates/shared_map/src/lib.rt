@@ -1,9 +1,9 @@
 //! A map whose copies share what they have in common.
 #![tactic(auto)]
 
-mod map;
+mod shared_map;
 mod sought;
 mod tree;
 
-pub use map::SharedMap;
+pub use shared_map::SharedMap;
 pub use sought::Sought;

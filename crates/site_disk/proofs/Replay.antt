@@ -3,9 +3,9 @@ use Rattle.std.proofs.Common.{◌≡◌, ⊎_elim, ℕ, ◌≤◌, List, [], ◌
 use Rattle.std.specs.declared.alloc.Global.{Global}
 use Rattle.site_disk.specs.Model.{DiskState, MayLeave, IsOutside, IsWithin, moment, at_rest, after_write, after_sync, overwritten}
 use Rattle.site_disk.specs.Memory.{MemoryStandsFor, after_call, after_calls}
-use Rattle.site_disk.specs.declared.memory.MemDisk.{MemDisk}
-use Rattle.site_disk.specs.declared.memory.Call.{Call}
-use Rattle.site_disk.specs.declared.memory.Call.TheVariants.{Write}
+use Rattle.site_disk.specs.declared.mem_disk.MemDisk.{MemDisk}
+use Rattle.site_disk.specs.declared.mem_disk.Call.{Call}
+use Rattle.site_disk.specs.declared.mem_disk.Call.TheVariants.{Write}
 use Rattle.site_disk.proofs.Bytes.{length-overwritten, overwritten_before, overwritten_after}
 
 pub after_calls-push : (d : DiskState) (calls : List Call) (call : Call) → after_calls d (calls ++ call ∷ []) ≡ after_call (after_calls d calls) call

@@ -1,9 +1,9 @@
 -- What a disk in memory stands for.
 use Rattle.std.specs.Prelude.{◌≡◌, ℕ, ◌-◌, ◌≤◌, ◌<◌, Option, Some, None, List, [], ◌∷◌, length, slice_index, vec_capacity}
 use Rattle.site_disk.specs.Model.{DiskState, IsOutside, IsWithin, MayLeave, moment, at_rest, after_write, after_sync, overwritten}
-use Rattle.site_disk.specs.declared.memory.MemDisk.{MemDisk}
-use Rattle.site_disk.specs.declared.memory.Call.{Call}
-use Rattle.site_disk.specs.declared.memory.Call.TheVariants.{Len, Read, Write, Sync}
+use Rattle.site_disk.specs.declared.mem_disk.MemDisk.{MemDisk}
+use Rattle.site_disk.specs.declared.mem_disk.Call.{Call}
+use Rattle.site_disk.specs.declared.mem_disk.Call.TheVariants.{Len, Read, Write, Sync}
 
 -- how many calls an armed disk lets pass, after one call more; none: it isn't armed
 abbrev pub after_one : Option ℕ → Option ℕ

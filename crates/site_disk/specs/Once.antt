@@ -1,7 +1,7 @@
 -- What one call does to a disk of which one call fails.
 use Rattle.std.specs.Prelude.{◌≡◌, ◌≢◌, ℕ, zero, suc, Option, Some, None, Result, IsErr}
 use Rattle.site_disk.specs.Model.{CountsFailure}
-use Rattle.site_disk.specs.declared.once.FailOnce.{FailOnce}
+use Rattle.site_disk.specs.declared.fail_once.FailOnce.{FailOnce}
 
 -- how many calls it lets pass before the one that fails, after one call more; none: it isn't armed
 abbrev pub after_next : Option ℕ → Option ℕ

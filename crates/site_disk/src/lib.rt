@@ -5,12 +5,12 @@
 mod count;
 mod crash;
 mod disk;
-mod file;
-mod memory;
-mod once;
+mod fail_once;
+mod file_disk;
+mod mem_disk;
 mod sync;
 
 pub use disk::{Armed, Disk, DiskFailed};
-pub use file::FileDisk;
-pub use memory::{Call, MemDisk};
-pub use once::FailOnce;
+pub use fail_once::FailOnce;
+pub use file_disk::FileDisk;
+pub use mem_disk::{Call, MemDisk};

@@ -6,7 +6,7 @@ use Rattle.wire.specs.declared.message.Message.{Message}
 use Rattle.node.specs.declared.fault.NodeFault.{NodeFault}
 use Rattle.node.specs.declared.fault.NodeFault.TheVariants as fault
 use Rattle.node.specs.declared.to.To.{To}
-use Rattle.node.specs.declared.running.Node.{Node as Running}
+use Rattle.node.specs.declared.node.Node.{Node as Running}
 use Rattle.node.specs.Nodes.{Node}
 use Rattle.node.specs.Standing.{KeepsOthers, ending_by}
 use Rattle.site_drive.specs.declared.last_call.LastCall.{LastCall}

@@ -7,7 +7,7 @@ use Rattle.node.specs.declared.fault.NodeFault.{NodeFault}
 use Rattle.node.specs.declared.fault.NodeFault.TheVariants as fault
 use Rattle.node.specs.declared.to.To.{To}
 use Rattle.node.specs.declared.to.To.TheVariants.{One}
-use Rattle.node.specs.declared.running.Node.{Node as Running}
+use Rattle.node.specs.declared.node.Node.{Node as Running}
 use Rattle.node.proofs.Windows.{begins_may}
 use Rattle.node.specs.Nodes.{Node, WantsTick}
 use Rattle.node.specs.Calls.{Call, tick, widen, ask, tell, Begins, MayWiden}

@@ -6,7 +6,7 @@ use Rattle.node.specs.declared.fault.NodeFault.{NodeFault}
 use Rattle.node.specs.declared.fault.NodeFault.TheVariants.{OutOfMemory, InstancesUsedUp}
 use Rattle.node.specs.declared.to.To.{To}
 use Rattle.node.specs.declared.to.To.TheVariants.{One}
-use Rattle.node.specs.declared.running.Node.{Node as Running}
+use Rattle.node.specs.declared.node.Node.{Node as Running}
 use Rattle.node.specs.Nodes.{Node, IsKnownPrefix}
 use Rattle.node.specs.Calls.{Call, tick, widen, ask, tell, Begins, MayWiden, Does}
 use Rattle.node.specs.Effects.{Effect, quiet}

@@ -8,7 +8,7 @@ use Rattle.wire.specs.declared.message.Message.{Message}
 use Rattle.node.specs.declared.fault.NodeFault.{NodeFault}
 use Rattle.node.specs.declared.fault.NodeFault.TheVariants as fault
 use Rattle.node.specs.declared.to.To.{To}
-use Rattle.node.specs.declared.running.Node.{Node as Running}
+use Rattle.node.specs.declared.node.Node.{Node as Running}
 use Rattle.node.specs.Nodes.{Node}
 use Rattle.site_drive.specs.Drives.{Heard, TakesAll, datagrams, addressed, sent_of, Scene, Exchanges, GivesUp}
 use Rattle.site_drive.specs.Leading.{LeadsTo, StaysWhose}

@@ -9,7 +9,7 @@ use Rattle.node.specs.declared.fault.NodeFault.{NodeFault}
 use Rattle.node.specs.declared.fault.NodeFault.TheVariants as fault
 use Rattle.node.specs.declared.to.To.{To}
 use Rattle.node.specs.declared.to.To.TheVariants.{One}
-use Rattle.node.specs.declared.running.Node.{Node as Running}
+use Rattle.node.specs.declared.node.Node.{Node as Running}
 use Rattle.node.specs.Ahead.{IsAheadOf}
 use Rattle.node.specs.Batches.{BeginsAt, SealsAt, LosesOneOf}
 use Rattle.node.specs.Calls.{Call, tick, widen, ask, tell, deliver}

@@ -11,7 +11,7 @@ use Rattle.wire.proofs.LengthLemmas.{longest_spelling}
 use Rattle.node.specs.declared.fault.NodeFault.{NodeFault}
 use Rattle.node.specs.declared.fault.NodeFault.TheVariants as fault
 use Rattle.node.specs.declared.to.To.{To}
-use Rattle.node.specs.declared.running.Node.{Node as Running}
+use Rattle.node.specs.declared.node.Node.{Node as Running}
 use Rattle.node.specs.Nodes.{Node, IsKnownPrefix}
 use Rattle.node.specs.Calls.{Call, deliver}
 use Rattle.node.specs.Endings.{Whole, Ends}

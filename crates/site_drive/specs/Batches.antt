@@ -6,7 +6,7 @@ use Rattle.durable.specs.Batches.{KeepsNoneOrAll}
 use Rattle.durable.specs.Entries.{Entry}
 use Rattle.node.specs.declared.fault.NodeFault.{NodeFault}
 use Rattle.node.specs.declared.fault.NodeFault.TheVariants as fault
-use Rattle.node.specs.declared.running.Node.{Node as Running}
+use Rattle.node.specs.declared.node.Node.{Node as Running}
 use Rattle.node.specs.declared.to.To.{To}
 use Rattle.node.specs.Nodes.{Node, Stopped, IsKnownPrefix}
 use Rattle.node.specs.Standing.{IsNodeOf, IsOnDisk, IsEither, StaysOnDisk, CountsDevice, ending_by}

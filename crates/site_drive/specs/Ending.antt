@@ -2,7 +2,7 @@
 use Rattle.std.specs.Prelude.{ℕ, ◌≤◌, List, Result, IfOk, IfErr, OnOk, OnErr}
 use Rattle.site_disk.specs.Model.{DiskState}
 use Rattle.node.specs.declared.fault.NodeFault.{NodeFault}
-use Rattle.node.specs.declared.running.Node.{Node as Running}
+use Rattle.node.specs.declared.node.Node.{Node as Running}
 use Rattle.node.specs.Standing.{CountsDevice}
 use Rattle.site_drive.specs.declared.driven.Driven.{Driven}
 use Rattle.site_drive.specs.Drives.{Scene}

@@ -4,7 +4,7 @@ use Rattle.site_ids.specs.Lists.{In}
 use Rattle.site_disk.specs.Model.{DiskState}
 use Rattle.wire.specs.declared.message.Message.{Message}
 use Rattle.wire.specs.Messages.{Fits}
-use Rattle.node.specs.declared.running.Node.{Node as Running}
+use Rattle.node.specs.declared.node.Node.{Node as Running}
 use Rattle.node.specs.declared.to.To.{To}
 use Rattle.node.specs.Ahead.{StaysAhead}
 use Rattle.node.specs.Endings.{Ending}

@@ -1,6 +1,6 @@
 -- What a link in memory holds.
 use Rattle.std.specs.Prelude.{ℕ, List, map, take, drop}
-use Rattle.site_drive.specs.declared.memory.MemLink.{MemLink}
+use Rattle.site_drive.specs.declared.mem_link.MemLink.{MemLink}
 
 -- what was taken from the queue, and what waits there
 abbrev pub received_of : MemLink → List (List ℕ)

@@ -1,4 +1,6 @@
 //! A batch: all that a node does with what came stands on the disk together, before anything that it hands out is given.
+//!
+//! A batch that isn't begun is given up: some bytes are missing, which ends a server anywhere.
 
 ghost use Rattle.std.specs.Prelude.{◌≡◌, ◌≤◌, [], length, IfOk, IfErr};
 ghost use Rattle.node.specs.Standing.{KeepsOthers, CountsDevice};

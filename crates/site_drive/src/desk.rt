@@ -1,4 +1,6 @@
 //! What turns and calls behind them work with.
+//!
+//! Room for turns is made once, a fifth of an idle node's cost; the buffer has a byte more than the longest spelling.
 
 ghost use Rattle.std.specs.Prelude.{◌≡◌, ◌+◌, [], length, IfOk};
 ghost use Rattle.wire.specs.declared.TheConstants.{MAX_MESSAGE};

@@ -1,3 +1,5 @@
+//! What is called behind the turns is an argument: one definition for the five. A batch has it too, so it stands though the loop that it came with went.
+
 use site_ids::{Instance, NodeId};
 
 /// What is called behind the last turn.

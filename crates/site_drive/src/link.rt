@@ -1,4 +1,6 @@
 //! What carries datagrams.
+//!
+//! A failed receive is a turn without a datagram; a failed send is passed over, as is a message that fits no datagram: nodes hand none out.
 
 ghost use Rattle.std.specs.Prelude.{◌≡◌, ◌≤◌, ◌++◌, ◌∷◌, [], ℕ, List, length, take, IfOk, IfSome, IfNone, OnOk, OnErr};
 ghost use Rattle.site_drive.specs.Links.{RoseBy};

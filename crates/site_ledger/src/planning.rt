@@ -1,4 +1,7 @@
 //! What turns the texts that the group has into the wanted ones.
+//!
+//! A plan compares each text with each; a thousand files are a million comparisons beside a thousand posts.
+
 ghost use Rattle.std.specs.Prelude.{◌≡◌, map, option_map, IfOk, string_bytes};
 ghost use Rattle.std.specs.List.{list_any, filter_map};
 ghost use Rattle.std.specs.Str.{bytes_eq};

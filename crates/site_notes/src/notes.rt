@@ -1,4 +1,6 @@
 //! What a server has to say.
+//!
+//! Kinds have an order, and each its second, so that a flood of one keeps no other from being said.
 
 ghost use Rattle.std.specs.Prelude.{◌≡◌, ◌+◌, ◌^◌, ◌-◌, min, Bool, None, if◌then◌else◌, ◌||◌};
 ghost use Rattle.site_notes.specs.Due.{counted, due_if, due_notes, first_notes, following, heard_of, is_free, opened_of, settled, silent_of, Says, SaysOf};

@@ -1,7 +1,8 @@
 -- When a server tries again, asks and tells, and how long it rests. Times are milliseconds since it began, rests microseconds.
-use Rattle.std.specs.Prelude.{◌≡◌, ◌≢◌, ◌⊎◌, ℕ, ◌+◌, ◌-◌, ◌*◌, ◌/◌, ◌^◌, ◌<◌, ◌≤◌, min, List, length, replicate, get_or, Bool, true, false, not, ◌||◌, nat_eq, nat_le, nat_lt, if◌then◌else◌, Option, Some, None, is_none, IsTrue, ◌↔◌}
+use Rattle.std.specs.Prelude.{◌≡◌, ◌≢◌, ◌⊎◌, ℕ, ◌+◌, ◌-◌, ◌*◌, ◌/◌, ◌^◌, ◌<◌, ◌≤◌, min, List, length, replicate, get_or, set, Bool, true, false, not, ◌||◌, nat_eq, nat_le, nat_lt, if◌then◌else◌, Option, Some, None, is_none, unwrap_or, IsTrue, ◌↔◌}
 use Rattle.site_ids.specs.declared.TheConstants.{MAX_INSTANCE}
-use Rattle.durable.specs.Entries.{last_vote}
+use Rattle.site_ids.specs.Ids.{BallotOf, IsInstance}
+use Rattle.durable.specs.Entries.{last_vote, IsPromise}
 use Rattle.node.specs.Nodes.{Node, Value, IsKnownPrefix, WantsTick}
 use Rattle.node.specs.declared.TheConstants.{MAX_TOLD}
 use Rattle.site_pace.specs.declared.asking.Asking.{Asking}
@@ -16,6 +17,7 @@ use Rattle.site_pace.specs.declared.resting.Resting.{Resting}
 use Rattle.site_pace.specs.declared.seen.Seen.{Seen}
 use Rattle.site_pace.specs.declared.ticking.Ticking.{Ticking}
 use Rattle.site_pace.specs.declared.times.Times.{Times}
+use Rattle.site_pace.specs.declared.yielding.Yielding.{Yielding}
 
 -- ---- what is waited for
 
@@ -58,6 +60,55 @@ Ticks t now patience growth = (since : ℕ) × (t.since ≡ Some since) × (pati
 
 abbrev pub ticked : Ticking → ℕ → Ticking
 ticked t now = record { since = Some now; known = t.known; ticks = min (t.ticks + 1) (2 ^ 32 - 1) }
+
+-- ---- yields: nodes take turns at the first unknown instance, by their numbers, with 1 behind 9
+
+-- how many places behind a number another one comes; behind itself 9
+abbrev pub places_behind : ℕ → ℕ → ℕ
+places_behind last number = if nat_lt last number then number - last else number + 9 - last
+
+-- it saw no attempt
+abbrev pub first_yielding : Yielding
+first_yielding = record { tried = replicate 9 false; tries = None; last = None; stands = None; free = None; took = 0; since = None }
+
+-- how long attempts stood, where they do no more
+abbrev pub took_by : Option ℕ → ℕ → ℕ → ℕ
+took_by None now took = took
+took_by (Some stands) now took = now - stands
+
+-- the first unknown instance is promised to a node, or to none
+abbrev pub noted_tries : Yielding → ℕ → Option ℕ → Yielding
+noted_tries y now None = record y { tries = None; stands = None; free = Some (unwrap_or y.free now); took = took_by y.stands now y.took }
+noted_tries y now (Some q) = record y { tried = set y.tried (q - 1) true; tries = Some q; last = Some q; stands = Some (unwrap_or y.stands now); free = None }
+
+-- one that tried comes before this server, behind the one that tried last
+pub record IsBehind (y : Yielding) (me : ℕ) : Type 0 where
+  pub last : ℕ
+  pub node : ℕ
+  pub is_last : y.last ≡ Some last
+  pub range : (1 ≤ node) × (node ≤ 9)
+  pub tried : get_or y.tried (node - 1) false ≡ true
+  pub before : places_behind last node < places_behind last me
+
+-- another one's attempt stands at the first unknown instance, or it is another one's turn
+abbrev pub Waits : Yielding → ℕ → Type 0
+Waits y me = ((q : ℕ) × (y.tries ≡ Some q) × (q ≢ me)) ⊎ IsBehind y me
+
+-- none has stood there for longer than the last ones stood
+abbrev pub IsSoon : Yielding → ℕ → Type 0
+IsSoon y now = (free : ℕ) × (y.free ≡ Some free) × (now - free ≤ y.took)
+
+-- so it waits: so long in a stretch at most, and for an attempt that begins no longer than the last ones stood
+abbrev pub Yields : Yielding → Times → ℕ → ℕ → Type 0
+Yields y times now me =
+    Waits y me
+    × (passed (Some (unwrap_or y.since now)) now times.yielding ≡ false)
+    × ((y.tries ≢ None) ⊎ IsSoon y now)
+
+-- where it waited in vain, nobody's turn is before its own until one tries again
+abbrev pub yielding_after : Yielding → ℕ → Bool → Bool → Yielding
+yielding_after y now waits true = record y { since = Some (unwrap_or y.since now) }
+yielding_after y now waits false = record y { tried = if waits then replicate 9 false else y.tried; since = None }
 
 -- ---- questions and tellings
 
@@ -126,6 +177,11 @@ heard p attempts stirs = record p {
   stirred = p.stirred || nat_lt 0 stirs;
 }
 
+-- the instance is promised to a ballot of that node, or to none
+abbrev pub IsTriedBy : Node → ℕ → Option ℕ → Type 0
+IsTriedBy s i None = IsInstance i → IsPromise s.entries i None
+IsTriedBy s i (Some q) = IsInstance i × ((b : BallotOf) × IsPromise s.entries i (Some b) × (b.node ≡ q))
+
 -- what a node shows: how many values it knows without a gap, and whether it wants a tick
 pub record IsSeen (s : Node) (drained : Bool) (seen : Seen) : Type 0 where
   pub known : (values : List Value) × IsKnownPrefix s values × (seen.known ≡ length values)
@@ -145,6 +201,8 @@ first_pace times node = record {
   questions = no_questions;
   stirred = false;
   empty = times.quiet;
+  me = node;
+  yielding = first_yielding;
 }
 
 -- a tick that was due is one of those behind which more patience is had; one for a value that is fresh is not
@@ -157,17 +215,24 @@ abbrev pub question_after : LastQuestion → ℕ → ℕ → LastCall → LastQu
 question_after q now known Ask = record { at = Some now; known = known; tried = false }
 question_after q now known last = q
 
+-- it yields where the first unknown instance is promised so
+abbrev pub IsYielding : Pace → ℕ → Option ℕ → Type 0
+IsYielding p now tries = Yields (noted_tries p.yielding now tries) p.times now p.me
+
 -- once that is called
-abbrev pub pace_after : Pace → ℕ → Seen → Bool → LastCall → Pace
-pace_after p now seen fresh last = record p {
-  ticking = ticking_after (noted p.ticking now seen.wanted seen.known) now fresh last;
+abbrev pub pace_after : Pace → ℕ → Seen → Option ℕ → Due → LastCall → Pace
+pace_after p now seen tries due last = record p {
+  ticking = ticking_after (noted p.ticking now seen.wanted seen.known) now due.fresh last;
   last = question_after p.last now seen.known last;
   stirred = false;
+  yielding = yielding_after (noted_tries p.yielding now tries) now due.waits due.yields;
 }
 
 -- as a batch begins
-pub record IsDue (p : Pace) (now : ℕ) (seen : Seen) (telling : Option (ℕ × ℕ)) (due : Due) : Type 0 where
-  pub fresh : IsTrue due.fresh ↔ IsFresh p.ticking seen.wanted p.stirred
+pub record IsDue (p : Pace) (now : ℕ) (seen : Seen) (tries : Option ℕ) (telling : Option (ℕ × ℕ)) (due : Due) : Type 0 where
+  pub fresh : IsTrue due.fresh ↔ (IsFresh p.ticking seen.wanted p.stirred × (due.yields ≡ false))
   pub told : due.telling ≡ telling
   pub question : IsTrue due.question ↔ Asks (asking_of p.last p.times now seen p.empty)
   pub tick : IsTrue due.tick ↔ Ticks (noted p.ticking now seen.wanted seen.known) now p.patience p.times.growth
+  pub waits : IsTrue due.waits ↔ Waits (noted_tries p.yielding now tries) p.me
+  pub yields : IsTrue due.yields ↔ IsYielding p now tries

@@ -9,7 +9,7 @@ use site_ids::{Instance, NodeId};
 /// What stands as a batch begins.
 #[derive(Clone, Copy, Debug, PartialEq, Eq, Drop)]
 pub struct Due {
-    /// A value was just submitted, and nobody tries one.
+    /// A value was just submitted, nobody tries one, and it does not yield.
     pub fresh: bool,
     /// Whom to tell, and from which instance on, where a telling is due.
     pub telling: Option<(NodeId, Instance)>,
@@ -17,11 +17,15 @@ pub struct Due {
     pub question: bool,
     /// A tick is due.
     pub tick: bool,
+    /// Another one's attempt stands at the first unknown instance, or it is another one's turn.
+    pub waits: bool,
+    /// So it yields: its time to do so has not passed.
+    pub yields: bool,
 }
 
 impl Due {
-    /// A tick at once for a value that nobody tries; else a telling, a question or a tick that is due; else widenings, so that the values that came since the last
-    /// batch share a prepare.
+    /// A tick at once for a value that nobody tries; else a telling, a question or a tick that is due; else nothing where it yields, and
+    /// else widenings, so that the values that came since the last batch share a prepare.
     pub fn last_call(self) -> LastCall
         ensures { result ≡ call_behind self }
     {
@@ -36,6 +40,9 @@ impl Due {
         }
         if self.tick {
             return LastCall::TickOrAsk;
+        }
+        if self.yields {
+            return LastCall::Nothing;
         }
         LastCall::Widen
     }

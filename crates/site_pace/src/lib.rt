@@ -10,6 +10,7 @@ mod resting;
 mod seen;
 mod ticking;
 mod times;
+mod yielding;
 
 pub use asking::{Asking, Telling};
 pub use due::Due;
@@ -20,3 +21,4 @@ pub use resting::Resting;
 pub use seen::Seen;
 pub use ticking::Ticking;
 pub use times::{Times, has_passed};
+pub use yielding::Yielding;

@@ -1,27 +1,28 @@
 //! When a server tries again, when it asks and tells, and how long it rests: all of it numbers.
 
-ghost use Rattle.std.specs.Prelude.{◌≡◌, ◌↔◌, ◌<◌, ℕ, Option, IsSome, IfSome, Some, None, true, false, if◌then◌else◌};
+ghost use Rattle.std.specs.Prelude.{◌≡◌, ◌↔◌, ◌<◌, ℕ, suc, Option, IsSome, IsTrue, IfSome, Some, None, true, false, if◌then◌else◌};
 ghost use Rattle.node.specs.Nodes.{Node as AbstractNode, WantsTick};
 ghost use Rattle.node.specs.Standing.{IsNodeOf};
 ghost use Rattle.site_pace.specs.declared.due.Due.{Due};
 ghost use Rattle.site_pace.specs.declared.seen.Seen.{Seen};
 ghost use Rattle.site_drive.specs.declared.last_call.LastCall.TheVariants.{Ask, TickOrAsk};
-ghost use Rattle.site_pace.specs.Pacing.{empty_after, first_pace, heard, pace_after, question_after, rest_after, resting_of, ticking_after, IsDue, IsFresh, IsSeen, IsToldOf};
+ghost use Rattle.site_pace.specs.Pacing.{empty_after, first_pace, heard, pace_after, question_after, rest_after, resting_of, ticking_after, IsDue, IsFresh, IsSeen, IsToldOf, IsTriedBy, IsYielding};
 ghost use Rattle.site_pace.specs.Turns.{call_behind};
 
 use crate::due::Due;
 use crate::last_question::LastQuestion;
 use crate::questions::Questions;
 use crate::resting::Resting;
-use crate::seen::Seen;
+use crate::seen::{Seen, first_tried_by};
 use crate::ticking::Ticking;
 use crate::times::Times;
+use crate::yielding::Yielding;
 use node::Node;
 use site_disk::Disk;
 use site_drive::{Delivered, LastCall};
 use site_ids::{Cluster, Instance, NodeId};
 
-/// What was tried, asked, heard and told, and when.
+/// What was tried, asked, heard and told, by whom and when.
 ///
 /// A step calls `due`, then `hear` behind its batch, and then `rest`. Its moments are milliseconds since the server began, none of them less than the one before.
 #[derive(Clone, Copy, Debug, PartialEq, Eq, Drop)]
@@ -37,21 +38,25 @@ pub struct Pace {
     stirred: bool,
     // how many steps went by in which nothing came, questions aside
     empty: u32,
+    me: NodeId,
+    yielding: Yielding,
 }
 
 impl Pace {
     /// That of a server which begins: it is quiet.
-    pub fn new(times: Times, node: u8) -> Pace
-        ensures { result ≡ first_pace times node }
+    pub fn new(times: Times, me: NodeId) -> Pace
+        ensures { result ≡ first_pace times me }
     {
         Pace {
             times,
-            patience: times.patience_of(node),
+            patience: times.patience_of(me.number()),
             ticking: Ticking::new(),
             last: LastQuestion::never(),
             questions: Questions::new(),
             stirred: false,
             empty: times.quiet,
+            me,
+            yielding: Yielding::new(),
         }
     }
 
@@ -74,13 +79,14 @@ impl Pace {
     /// What is called behind the turns of the next batch, which begins now, where all that had come was taken in by the last one, or not. What is called
     /// counts from now on.
     pub fn due<D: Disk>(&mut self, now: u64, node: &Node<D>, drained: bool) -> LastCall
-        ensures fresh { (s : AbstractNode) → IsNodeOf node.now s → WantsTick s → self.old.ticking.since ≡ None → self.old.stirred ≡ false → result ≡ TickOrAsk }
-        ensures due { (s : AbstractNode) → IsNodeOf node.now s → (seen : Seen) × (telling : Option (ℕ × ℕ)) × (due : Due) × IsSeen s drained seen × IfSome telling (λ x. IsToldOf self.old.questions.asked seen.known x.0 x.1) × IsDue self.old now seen telling due × (result ≡ call_behind due)
-            × (self.new ≡ record (pace_after self.old now seen due.fresh result) { questions = self.new.questions }) }
+        ensures fresh { (s : AbstractNode) → IsNodeOf node.now s → WantsTick s → self.old.ticking.since ≡ None → self.old.stirred ≡ false → ((seen : Seen) (tries : Option ℕ) → IsSeen s drained seen → IsTriedBy s (suc seen.known) tries → ¬ IsYielding self.old now tries) → result ≡ TickOrAsk }
+        ensures due { (s : AbstractNode) → IsNodeOf node.now s → (seen : Seen) × (tries : Option ℕ) × (telling : Option (ℕ × ℕ)) × (due : Due) × IsSeen s drained seen × IsTriedBy s (suc seen.known) tries × IfSome telling (λ x. IsToldOf self.old.questions.asked seen.known x.0 x.1) × IsDue self.old now seen tries telling due × (result ≡ call_behind due)
+            × (self.new ≡ record (pace_after self.old now seen tries due result) { questions = self.new.questions }) }
     {
         let seen = Seen::of(node, drained);
         let telling = self.next_telling(now, node, seen);
-        self.call(now, seen, telling)
+        let tries = first_tried_by(node, seen.known);
+        self.call(now, seen, tries, telling)
     }
 
     /// The next telling, unless a value is fresh: then it waits.
@@ -101,13 +107,31 @@ impl Pace {
         self.questions.next(self.times, now, node, seen.known, calm)
     }
 
+    /// Whether a value was just submitted that nobody tries, where it does not yield.
+    fn is_fresh(&self, wanted: bool, yields: bool) -> bool
+        ensures { IsTrue result ↔ (IsFresh self.now.ticking wanted self.now.stirred × (yields ≡ false)) }
+    {
+        !yields && self.ticking.is_fresh(wanted, self.stirred)
+    }
+
     /// What is called behind the turns of the next batch, where so much is seen and this telling is due. What is called counts from now on.
-    fn call(&mut self, now: u64, seen: Seen, telling: Option<(NodeId, Instance)>) -> LastCall
-        ensures due { (due : Due) × IsDue self.old now seen telling due × (result ≡ call_behind due) × (self.new ≡ pace_after self.old now seen due.fresh result) }
-        ensures fresh { IsFresh self.old.ticking seen.wanted self.old.stirred → result ≡ TickOrAsk }
+    fn call(
+        &mut self,
+        now: u64,
+        seen: Seen,
+        tries: Option<NodeId>,
+        telling: Option<(NodeId, Instance)>,
+    ) -> LastCall
+        ensures due { (due : Due) × IsDue self.old now seen tries telling due × (result ≡ call_behind due) × (self.new ≡ pace_after self.old now seen tries due result) }
+        ensures fresh { IsFresh self.old.ticking seen.wanted self.old.stirred → ¬ IsYielding self.old now tries → result ≡ TickOrAsk }
         ensures news { ¬ IsFresh self.old.ticking seen.wanted self.old.stirred → telling ≡ None → self.old.last.known < seen.known → seen.drained ≡ true → self.old.last.tried ≡ false → result ≡ Ask }
     {
-        let fresh = self.ticking.is_fresh(seen.wanted, self.stirred);
+        let (me, times) = (self.me, self.times);
+        self.yielding.note(now, tries);
+        let waits = self.yielding.waits(me);
+        let yields = self.yielding.is_due(times, now, me);
+        self.yielding.pass(now, waits, yields);
+        let fresh = self.is_fresh(seen.wanted, yields);
         let asking = self.last.asking(self.times, now, seen, self.empty);
         self.ticking = self.ticking.noted(now, seen.wanted, seen.known);
         let due = Due {
@@ -115,6 +139,8 @@ impl Pace {
             telling,
             question: asking.is_due(),
             tick: self.ticking.is_due(now, self.patience, self.times.growth),
+            waits,
+            yields,
         };
         let last = due.last_call();
         self.begin(now, seen.known, fresh, &last);

@@ -1,11 +1,13 @@
 //! What a server sees of its node.
 
+ghost use Rattle.std.specs.Prelude.{suc};
 ghost use Rattle.node.specs.Nodes.{Node as AbstractNode};
 ghost use Rattle.node.specs.Standing.{IsNodeOf};
-ghost use Rattle.site_pace.specs.Pacing.{IsSeen};
+ghost use Rattle.site_pace.specs.Pacing.{IsSeen, IsTriedBy};
 
 use node::Node;
 use site_disk::Disk;
+use site_ids::{Instance, NodeId};
 
 /// What stands as a batch begins.
 #[derive(Clone, Copy, Debug, PartialEq, Eq, Drop)]
@@ -16,6 +18,15 @@ pub struct Seen {
     pub wanted: bool,
     /// All that had come was taken in.
     pub drained: bool,
+}
+
+/// The node to whose ballot the first unknown instance is promised, if it is, where so many values are known.
+pub(crate) fn first_tried_by<D: Disk>(node: &Node<D>, known: u32) -> Option<NodeId>
+    ensures { (s : AbstractNode) → IsNodeOf node.now s → IsTriedBy s (suc known) result }
+{
+    let first = Instance::new(known.saturating_add(1))?;
+    let ballot = node.slot(first).promised?;
+    Some(ballot.node())
 }
 
 impl Seen {

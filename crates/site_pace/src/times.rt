@@ -20,6 +20,8 @@ pub struct Times {
     pub quick: u64,
     /// Milliseconds between two tellings to one server of less than 64 instances (`Questions`).
     pub telling: u64,
+    /// Milliseconds in a stretch for which it yields to others that try, at most (`Yielding`).
+    pub yielding: u64,
     /// Behind so many steps in which nothing came it is idle: more than a client takes to come again (`Pace::rest`).
     pub idle: u32,
     /// Behind so many it is quiet: some three seconds (`Pace::rest`).
@@ -47,6 +49,7 @@ const STANDARD: Times = Times {
     quiet_asking: 800,
     quick: 20,
     telling: 400,
+    yielding: 50,
     idle: 200,
     quiet: 2000,
     rest: 50,

@@ -1,4 +1,7 @@
 //! A folder as it is on disk, served to a browser.
+//!
+//! Faults of the folder have status 500.
+
 use crate::previewed::Previewed;
 use editor_parts::{Halt, say};
 use http_read::{Counted, Inbox};

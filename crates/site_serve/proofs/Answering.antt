@@ -1,18 +1,37 @@
 -- Turns one after another.
-use Rattle.std.proofs.Common.{◌≡◌, ◌≢◌, ◌+◌, ◌∙◌, ◌≤◌, ◌<◌, ◌||◌, ℕ, zero, suc, Bool, true, false, true≢false, List, length, get_or, set, inl, inr, arith, refl, sym, subst}
+use Rattle.std.proofs.Common.{◌≡◌, ◌≢◌, ◌+◌, ◌≤◌, ◌<◌, ◌||◌, ℕ, zero, suc, Bool, true, false, List, length, ap, get_or, set, inl, inr, arith, below_more, refl, sym, subst}
 use Rattle.std.specs.Prelude.{◌⊎◌}
 use Rattle.std.proofs.lemmas.List.{get_or-set_other, get_or-set_same}
 use Rattle.http_serve.specs.Lines.{IsAnswered, MayAnswer, Waits}
 use Rattle.http_serve.specs.Services.{Offered}
 use Rattle.http_serve.specs.declared.line.Line.{Line}
-use Rattle.site_serve.specs.Answering.{AreTurns, IsTurn, TakesTurn}
+use Rattle.site_serve.specs.Answering.{AreTurns, IsTurn, TakesTurn, TellsAnswered}
 use Rattle.site_serve.specs.declared.seat.Seat.{Seat}
 
--- nobody was answered: the service is as it was
-pub none_more : {S : Type 0} (before did : Bool) (first now after : S) → (before ≡ false → now ≡ first) → (did ≡ false → after ≡ now) → (before || did) ≡ false → after ≡ first
-none_more false false first now after earlier idle is = idle refl ∙ earlier refl
-none_more false true first now after earlier idle is = absurd (true≢false is)
-none_more true did first now after earlier idle is = absurd (true≢false is)
+-- a response more, or as many
+abbrev Counted : {T : Type 0} → Bool → Seat T → Seat T → Type 0
+Counted true x y = y.line.answered ≡ suc x.line.answered
+Counted false x y = y.line.answered ≡ x.line.answered
+
+module _ {T : Type 0} where
+  -- a write behind them leaves what is told of them
+  tells_on : (told : Bool) (i : ℕ) (old new : List (Seat T)) (y : Seat T) → TellsAnswered told i old new → TellsAnswered told i old (set new i y)
+  tells_on true i old new y (at, below, more) = (at, below, λ none. subst (λ s. s.line.answered ≡ suc (get_or old at none).line.answered) (sym (get_or-set_other new i at y none (omega (arith, below)))) (more none))
+  tells_on false i old new y same = λ at below none. subst (λ s. s.line.answered ≡ (get_or old at none).line.answered) (sym (get_or-set_other new i at y none (omega (arith, below)))) (same at below none)
+
+  -- one turn more
+  pub tells_more : (told did : Bool) (i : ℕ) (old new : List (Seat T)) (x y : Seat T) → i < length new → ((d : Seat T) → get_or old i d ≡ x) → TellsAnswered told i old new → Counted did x y
+      → TellsAnswered (told || did) (i + 1) old (set new i y)
+  tells_more true did i old new x y within is told counted = let on = tells_on true i old new y told in (on.0, omega (arith, on.1), on.2)
+  tells_more false true i old new x y within is told counted = (
+    i,
+    omega arith,
+    λ none. subst (λ s. s.line.answered ≡ suc (get_or old i none).line.answered) (sym (get_or-set_same new i y none within)) (subst (λ s. y.line.answered ≡ suc s.line.answered) (sym (is none)) counted),
+  )
+  tells_more false false i old new x y within is told counted =
+      let same : ℕ → Type 0 = λ k. (none : Seat T) → (get_or (set new i y) k none).line.answered ≡ (get_or old k none).line.answered in
+      below_more same i (tells_on false i old new y told)
+      (λ none. subst (λ s. s.line.answered ≡ (get_or old i none).line.answered) (sym (get_or-set_same new i y none within)) (subst (λ s. y.line.answered ≡ s.line.answered) (sym (is none)) counted))
 
 module _ {S : Type 0} (service : Offered S) where
   -- what a line's answering did is its turn
@@ -48,6 +67,17 @@ module _ {S T : Type 0} (service : Offered S) where
         λ none. subst (λ z. IsTurn service mid after z (get_or (set new i y) i none)) (sym (is none))
             (subst (λ z. IsTurn service mid after x z) (sym (get_or-set_same new i y none within)) turn),
       )
+
+  -- what it told of its turn
+  pub counted_of : (did : Bool) (now after : S) (x : Seat T) (line : Line) → (did ≡ true → MayAnswer x.line × IsAnswered service now after x.line line)
+      → (did ≡ false → (after ≡ now) × (((¬ (MayAnswer x.line)) × (line ≡ x.line)) ⊎ (MayAnswer x.line × Waits x.line line))) → Counted did x (record x { line = line })
+  counted_of true now after x line answered idle = (answered refl).1.counted
+  counted_of false now after x line answered idle =
+      let i = idle refl in
+      elim i.1 [
+        | inl h ↦ ap (λ l. l.answered) h.1
+        | inr h ↦ h.1.answered
+      ]
 
   pub seat_turn : (did : Bool) (now after : S) (x : Seat T) (line : Line) → (did ≡ true → MayAnswer x.line × IsAnswered service now after x.line line)
       → (did ≡ false → (after ≡ now) × (((¬ (MayAnswer x.line)) × (line ≡ x.line)) ⊎ (MayAnswer x.line × Waits x.line line)))

@@ -4,14 +4,14 @@ use Rattle.std.specs.Result.{IsErrAnd, IfErr}
 use Rattle.std.proofs.KnownBytes.{Appends-trans}
 use Rattle.http_read.specs.Bytes.{End, IsWritten, IsGiven}
 use Rattle.http_read.specs.Counted.{RoseByOne}
-use Rattle.site_serve.specs.Halts.{IsSaid}
+use Rattle.site_halts.specs.Halts.{IsSaid}
 use Rattle.site_serve.specs.Noted.{GivesNotes, HasNoted}
 use Rattle.site_serve.specs.Placing.{IsPlaced}
 use Rattle.site_serve.specs.Running.{ready_line, done_line, HaltsAt, HaltsReady, DoneEnds, HaltsWork, WorkEnds, RunEnds, HasServed}
-use Rattle.site_serve.specs.Why.{SaysWhy, GivesFault}
-use Rattle.site_serve.specs.declared.halt.Halt.{Halt}
-use Rattle.site_serve.specs.declared.halt.Halt.TheVariants as halt
-use Rattle.site_serve.specs.declared.serve_options.ServeOptions.{ServeOptions}
+use Rattle.site_halts.specs.Why.{SaysWhy, GivesFault}
+use Rattle.site_halts.specs.declared.halt.Halt.{Halt}
+use Rattle.site_halts.specs.declared.halt.Halt.TheVariants as halt
+use Rattle.site_halts.specs.declared.serve_options.ServeOptions.{ServeOptions}
 use Rattle.site_serve.proofs.Noting.{ends_by, alone, ended}
 
 -- it was not ready, as memory was wanted or the writer failed

@@ -1,4 +1,4 @@
--- Failures of the device, over many rounds.
+-- Failures of the device, over many laps.
 use Rattle.std.proofs.Common.{◌≡◌, ⊎_elim, ℕ, zero, suc, Result, Ok, Err, ap, ◌∙◌}
 use Rattle.std.specs.Result.{IsErrAnd}
 use Rattle.http_serve.specs.Services.{MaySubmit, MaySubmitMany}
@@ -6,10 +6,10 @@ use Rattle.node.specs.declared.fault.NodeFault.{NodeFault}
 use Rattle.node.specs.declared.fault.NodeFault.TheVariants.{Device}
 use Rattle.node.specs.Standing.{CountsDevice}
 use Rattle.site_drive.proofs.Failing.{store_kept}
-use Rattle.site_serve.specs.declared.halt.Halt.{Halt}
-use Rattle.site_serve.specs.declared.halt.Halt.TheVariants.{Stopped, OutOfMemory}
+use Rattle.site_halts.specs.declared.halt.Halt.{Halt}
+use Rattle.site_halts.specs.declared.halt.Halt.TheVariants.{Stopped, OutOfMemory}
 use Rattle.site_serve.specs.declared.served.Served.{Served}
-use Rattle.site_serve.specs.Halts.{of_node, CountsNone}
+use Rattle.site_halts.specs.Halts.{of_node, CountsNone}
 use Rattle.site_serve.specs.Served.{offered}
 
 one_fault : {T : Type 0} (x y : NodeFault) → ◌≡◌ {A = Result T NodeFault} (Err x) (Err y) → x ≡ y
@@ -29,7 +29,7 @@ pub drive_counts : {T U : Type 0} (r : Result T Halt) (fault : NodeFault) (befor
 drive_counts (Ok x) fault before now is c running = absurd is
 drive_counts (Err y) fault before now is c running = c.none (λ e. running (ap Err (is ∙ ap of_node (one_fault fault Device e))))
 
--- the halt that is passed on, behind rounds that counted nothing
+-- the halt that is passed on, behind laps that counted nothing
 pub counts_on : {T U : Type 0} (r : Result T Halt) (why : Halt) (before mid now : ℕ) → IsErrAnd r (λ y. y ≡ why) → mid ≡ before → CountsNone {T = U} (Err why) mid now → CountsNone r before now
 counts_on (Ok x) why before mid now is same c running = absurd is
 counts_on (Err y) why before mid now is same c running = c (λ e. running (ap Err (is ∙ one_halt why Stopped e))) ∙ same

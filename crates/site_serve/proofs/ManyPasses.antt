@@ -6,17 +6,17 @@ use Rattle.wire.specs.declared.message.Message.{Message}
 use Rattle.http_serve.specs.Services.{MaySubmitMany}
 use Rattle.node.specs.Nodes.{Node, IsKnownPrefix}
 use Rattle.node.specs.declared.fault.NodeFault.{NodeFault}
-use Rattle.node.specs.declared.running.Node.{Node as Running}
+use Rattle.node.specs.declared.node.Node.{Node as Running}
 use Rattle.node.specs.declared.to.To.{To}
 use Rattle.site_drive.specs.Batches.{TakesBatch, GivesUpBatch, LosesBatch, LeadsSealed, IsStop}
 use Rattle.site_drive.specs.Leading.{AllFit, StaysWhose}
 use Rattle.site_drive.specs.Posting.{spelled_of}
 use Rattle.site_drive.specs.declared.last_call.LastCall.{LastCall}
-use Rattle.site_serve.specs.Halts.{of_node}
-use Rattle.site_serve.specs.Rounds.{MayTakeMany, TakesStep, BreaksStep, TakesPass, TakesPasses, BreaksPass, BreaksPasses, BreaksWork, Led, IsBatched, LosesStep, LosesPass, LosesPasses}
+use Rattle.site_halts.specs.Halts.{of_node}
+use Rattle.site_serve.specs.Passes.{MayTakeMany, TakesStep, BreaksStep, TakesPass, TakesPasses, BreaksPass, BreaksPasses, BreaksWork, Led, IsBatched, LosesStep, LosesPass, LosesPasses}
 use Rattle.site_serve.specs.Served.{offered}
-use Rattle.site_serve.specs.declared.halt.Halt.{Halt}
-use Rattle.site_serve.specs.declared.halt.Halt.TheVariants as halt
+use Rattle.site_halts.specs.declared.halt.Halt.{Halt}
+use Rattle.site_halts.specs.declared.halt.Halt.TheVariants as halt
 use Rattle.site_serve.specs.declared.served.Served.{Served}
 use Rattle.site_serve.proofs.ManySteps.{still_published, steps_on, last_on, none_led, widened, led_on, of_same, requests_lead, many_others}
 
@@ -47,8 +47,8 @@ module _ {D : Type 0} (stands_for : D → DiskState → Type 0) where
   -- ---- a batch, and its letters
 
   module _ (old new : Running D) (last : LastCall) (came : List (List ℕ)) (malformed : ℕ) (out : List (To × Message)) (batch : LeadsSealed stands_for old new (TakesBatch last old.cluster old.me came malformed out new.releases)) where
-    pub posted : (letters : List (To × List ℕ)) → (AllFit out → letters ≡ spelled_of out) → IsBatched stands_for came letters old new
-    posted letters are = (last, malformed, out, record { leads = λ s stands. let r = batch.leads s stands in (r.0, (r.1, are r.1.works.fits), r.2, r.3) })
+    pub posted : (letters : List (To × List ℕ)) → (AllFit out → letters ≡ spelled_of out) → IsBatched stands_for came malformed letters old new
+    posted letters are = (last, out, record { leads = λ s stands. let r = batch.leads s stands in (r.0, (r.1, are r.1.works.fits), r.2, r.3) })
 
     -- memory was wanted to spell them
     pub not_posted : (told : Halt) → told ≡ halt.OutOfMemory → Led stands_for old new (BreaksStep old.cluster old.me came told)
@@ -73,18 +73,18 @@ module _ {D : Type 0} (stands_for : D → DiskState → Type 0) where
 
   -- ---- then requests are answered
 
-  module _ (old : Running D) (mid new : Served D) (came : List (List ℕ)) (letters : List (To × List ℕ)) (whose : StaysWhose old mid.node) (batched : IsBatched stands_for came letters old mid.node)
+  module _ (old : Running D) (mid new : Served D) (came : List (List ℕ)) (malformed : ℕ) (letters : List (To × List ℕ)) (whose : StaysWhose old mid.node) (batched : IsBatched stands_for came malformed letters old mid.node)
       (k : ℕ) (few : k ≤ 64) (taken : MaySubmitMany offered k mid new)
     where
       pub answered : Led stands_for old new.node (TakesStep old.cluster old.me came letters new.node.releases)
       answered =
           let b = batched in
-          let Batch : Node → Node → Type 0 = λ s next. TakesBatch b.0 old.cluster old.me came b.1 b.2 mid.node.releases s next × (letters ≡ spelled_of b.2) in
+          let Batch : Node → Node → Type 0 = λ s next. TakesBatch b.0 old.cluster old.me came malformed b.1 mid.node.releases s next × (letters ≡ spelled_of b.1) in
           let others = many_others k mid new taken in
           subst (λ vs. Led stands_for old new.node (TakesStep old.cluster old.me came letters vs)) (sym others.releases)
           (led_on stands_for old mid.node new.node Batch (MayTakeMany old.cluster old.me k) (TakesStep old.cluster old.me came letters mid.node.releases)
-          (λ s t u h takes. record { last = b.0; malformed = b.1; out = b.2; mid = t; batch = h.0; letters_are = h.1; requests = k; few = few; takes = takes })
-          (sealed_led old mid.node Batch Batch (λ s t h. h) b.3)
+          (λ s t u h takes. record { last = b.0; malformed = malformed; out = b.1; mid = t; batch = h.0; letters_are = h.1; requests = k; few = few; takes = takes })
+          (sealed_led old mid.node Batch Batch (λ s t h. h) b.2)
           (of_same stands_for old mid.node new.node whose (λ n p. MayTakeMany n p k) (requests_lead stands_for k mid new taken)))
 
       -- memory was wanted for one

@@ -13,9 +13,9 @@ use Rattle.node.specs.Effects.{recorded}
 use Rattle.node.specs.Endings.{EndsWhole}
 use Rattle.node.specs.Nodes.{Node, Value, IsKnownPrefix}
 use Rattle.node.specs.Standing.{IsNodeOf, KeepsOthers}
-use Rattle.node.specs.declared.running.Node.{Node as Running}
+use Rattle.node.specs.declared.node.Node.{Node as Running}
 use Rattle.site_drive.specs.Leading.{KeepsRecord, StaysWhose}
-use Rattle.site_serve.specs.Rounds.{MayTake, MayTakeMany, AreSteps, last_of, Led}
+use Rattle.site_serve.specs.Passes.{MayTake, MayTakeMany, AreSteps, last_of, Led}
 use Rattle.site_serve.specs.Served.{ComesTo, offered}
 use Rattle.site_serve.specs.declared.served.Served.{Served}
 

@@ -2,10 +2,10 @@
 use Rattle.std.proofs.Common.{◌≡◌, ℕ, List, Result, Ok, Err, OnOk, subst}
 use Rattle.site_disk.specs.Model.{DiskState}
 use Rattle.node.specs.Nodes.{Node}
-use Rattle.node.specs.declared.running.Node.{Node as Running}
-use Rattle.site_serve.specs.Rounds.{Led, LosesPasses}
+use Rattle.node.specs.declared.node.Node.{Node as Running}
+use Rattle.site_serve.specs.Passes.{Led, LosesPasses}
 use Rattle.site_serve.specs.Runs.{IsOpened, IsRun}
-use Rattle.site_serve.specs.declared.halt.Halt.{Halt}
+use Rattle.site_halts.specs.declared.halt.Halt.{Halt}
 
 pub on_ok_gives : {T E A B : Type 0} (r : Result T E) → OnOk r A → (A → B) → OnOk r B
 on_ok_gives (Ok x) a f = f a

@@ -14,7 +14,7 @@ use Rattle.node.specs.Nodes.{Node}
 use Rattle.node.specs.Standing.{ending_by, IsNodeOf, IsEvent, KeepsOthers}
 use Rattle.node.specs.declared.fault.NodeFault.{NodeFault}
 use Rattle.node.specs.declared.fault.NodeFault.TheVariants as fault
-use Rattle.node.specs.declared.running.Node.{Node as Running}
+use Rattle.node.specs.declared.node.Node.{Node as Running}
 use Rattle.node.specs.declared.submitted.Submitted.{Submitted}
 use Rattle.node.specs.declared.submitted.Submitted.TheVariants as answered
 use Rattle.node.specs.declared.to.To.{To}

@@ -1,5 +1,5 @@
 -- What a step does for its clients: each has its turn, in order, and in a turn one request is answered at most.
-use Rattle.std.specs.Prelude.{◌≡◌, ◌⊎◌, ℕ, zero, suc, List, length, get_or}
+use Rattle.std.specs.Prelude.{◌≡◌, ◌⊎◌, ◌<◌, Bool, true, false, ℕ, zero, suc, List, length, get_or}
 use Rattle.http_serve.specs.Lines.{IsAnswered, MayAnswer, Waits}
 use Rattle.http_serve.specs.Services.{Offered}
 use Rattle.http_serve.specs.declared.line.Line.{Line}
@@ -26,3 +26,8 @@ AreTurns {S} {T} service (suc k) now after old new =
 pub record AreAnswered {S T : Type 0} (service : Offered S) (now after : S) (old new : List (Seat T)) : Type 0 where
   pub as_many : length new ≡ length old
   pub turns : AreTurns service (length old) now after old new
+
+-- of the first k one has a response more, or none has
+abbrev pub TellsAnswered : {T : Type 0} → Bool → ℕ → List (Seat T) → List (Seat T) → Type 0
+TellsAnswered {T} true k old new = (i : ℕ) × (i < k) × ((none : Seat T) → (get_or new i none).line.answered ≡ suc (get_or old i none).line.answered)
+TellsAnswered {T} false k old new = (i : ℕ) → i < k → (none : Seat T) → (get_or new i none).line.answered ≡ (get_or old i none).line.answered

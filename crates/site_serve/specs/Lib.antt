@@ -1,11 +1,9 @@
 pub mod Served
-pub mod Halts
 pub mod Placing
 pub mod Mailing
 pub mod Staying
 pub mod Answering
-pub mod Rounds
+pub mod Passes
 pub mod Noted
-pub mod Why
 pub mod Running
 pub mod Runs

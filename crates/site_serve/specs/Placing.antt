@@ -4,7 +4,7 @@ use Rattle.std.specs.Net.Grammar.{IsSocketText}
 use Rattle.std.specs.declared.net.socket_addr.SocketAddr.{SocketAddr}
 use Rattle.site_ids.specs.Ids.{IsNode}
 use Rattle.site_ids.specs.Lists.{In}
-use Rattle.site_serve.specs.declared.serve_options.ServeOptions.{ServeOptions}
+use Rattle.site_halts.specs.declared.serve_options.ServeOptions.{ServeOptions}
 
 -- the text is an address and a port, as std reads them
 abbrev pub IsAddress : List ℕ → Type 0

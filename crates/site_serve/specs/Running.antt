@@ -1,13 +1,13 @@
 -- How a run of a server ends.
 use Rattle.std.specs.Prelude.{ℕ, ◌≡◌, ◌⊎◌, List, ◌++◌, codes, decimal, Result, Ok, Err}
 use Rattle.http_read.specs.Bytes.{End, IsSilent, IsWritten, IsBroken, IsGiven}
-use Rattle.site_serve.specs.Halts.{IsSaid, EndsOpening, EndsBinding, EndsRounds}
+use Rattle.site_halts.specs.Halts.{IsSaid, EndsOpening, EndsBinding, EndsLaps}
 use Rattle.site_serve.specs.Noted.{GivesNotes, HasNoted, EndsBy}
 use Rattle.site_serve.specs.Placing.{IsPlaced}
-use Rattle.site_serve.specs.Why.{GivesFault}
-use Rattle.site_serve.specs.declared.halt.Halt.{Halt}
-use Rattle.site_serve.specs.declared.halt.Halt.TheVariants as halt
-use Rattle.site_serve.specs.declared.serve_options.ServeOptions.{ServeOptions}
+use Rattle.site_halts.specs.Why.{GivesFault}
+use Rattle.site_halts.specs.declared.halt.Halt.{Halt}
+use Rattle.site_halts.specs.declared.halt.Halt.TheVariants as halt
+use Rattle.site_halts.specs.declared.serve_options.ServeOptions.{ServeOptions}
 
 abbrev pub ready_line : ℕ → List ℕ
 ready_line p = codes "node " ++ (decimal p ++ codes " ready\n")
@@ -23,7 +23,7 @@ printed p = ready_line p ++ done_line
 abbrev pub EndsBefore : ServeOptions → Halt → Type 0
 EndsBefore o why = ((why ≡ halt.BadAddress) × ¬ IsPlaced o) ⊎ (IsPlaced o × (EndsOpening why ⊎ EndsBinding why)) ⊎ (why ≡ halt.OutOfMemory)
 
--- it was ready, and did all its rounds; on standard error lines of notes, and nothing else
+-- it was ready, and did all its laps; on standard error lines of notes, and nothing else
 pub record Finished (out err : End) (o : ServeOptions) (status : ℕ) : Type 0 where
   pub placed : IsPlaced o
   pub written : IsWritten out (printed o.id)
@@ -40,11 +40,11 @@ pub record Refused (out err : End) (o : ServeOptions) (status : ℕ) : Type 0 wh
   pub given : GivesFault err o why said
   pub status_is : status ≡ 1
 
--- it was ready, and one line behind those of notes says what ended its rounds, and perhaps one more why
+-- it was ready, and one line behind those of notes says what ended its laps, and perhaps one more why
 pub record Halted (out err : End) (o : ServeOptions) (status : ℕ) : Type 0 where
   pub placed : IsPlaced o
   pub why : Halt
-  pub ends : EndsRounds why
+  pub ends : EndsLaps why
   pub written : IsWritten out (ready_line o.id)
   pub said : List ℕ
   pub is_said : IsSaid why said
@@ -63,11 +63,11 @@ HasServed out err o status = Finished out err o status ⊎ Refused out err o sta
 
 -- ---- the parts of a run
 
--- a halt's place: before it is ready, without a note; in its rounds; or where it writes
+-- a halt's place: before it is ready, without a note; in its laps; or where it writes
 abbrev pub HaltsAt : End → End → ServeOptions → Halt → Type 0
 HaltsAt out err o why =
     (EndsBefore o why × IsSilent out × GivesNotes 0 err)
-    ⊎ (IsPlaced o × EndsRounds why × IsWritten out (ready_line o.id) × HasNoted err)
+    ⊎ (IsPlaced o × EndsLaps why × IsWritten out (ready_line o.id) × HasNoted err)
     ⊎ (IsPlaced o × (why ≡ halt.Write) × IsBroken out (printed o.id) × HasNoted err)
 
 -- `node P ready` could not be made, or not be written whole
@@ -82,11 +82,11 @@ abbrev pub DoneEnds : {T : Type 0} → End → Result T Halt → Type 0
 DoneEnds out (Ok _) = IsWritten out done_line
 DoneEnds out (Err why) = (why ≡ halt.Write) × IsBroken out done_line
 
--- the work of a server that is opened: ready, rounds, done
+-- the work of a server that is opened: ready, laps, done
 abbrev pub HaltsWork : End → End → ℕ → Halt → Type 0
 HaltsWork out err p why =
     ((why ≡ halt.OutOfMemory) × IsSilent out × GivesNotes 0 err)
-    ⊎ (EndsRounds why × IsWritten out (ready_line p) × HasNoted err)
+    ⊎ (EndsLaps why × IsWritten out (ready_line p) × HasNoted err)
     ⊎ ((why ≡ halt.Write) × IsBroken out (printed p) × HasNoted err)
 
 abbrev pub WorkEnds : {T : Type 0} → End → End → ℕ → Result T Halt → Type 0

@@ -3,9 +3,9 @@ use Rattle.std.specs.Prelude.{◌≡◌, ℕ, List, []}
 use Rattle.site_disk.specs.Model.{DiskState}
 use Rattle.durable.specs.Entries.{Entry}
 use Rattle.node.specs.Nodes.{Node}
-use Rattle.node.specs.declared.running.Node.{Node as Running}
+use Rattle.node.specs.declared.node.Node.{Node as Running}
 use Rattle.node.specs.Standing.{OpensAs}
-use Rattle.site_serve.specs.Rounds.{Led}
+use Rattle.site_serve.specs.Passes.{Led}
 
 -- node p of n, opened over some disk; it has published nothing
 pub record IsOpened {D : Type 0} (stands_for : D → DiskState → Type 0) (n p : ℕ) (node : Running D) : Type 0 where

@@ -4,8 +4,7 @@ ghost use Rattle.std.specs.Prelude.{◌≡◌, ◌⊎◌, length, IfOk, IfErr, I
 ghost use Rattle.site_ids.specs.Ids.{IsNode};
 ghost use Rattle.site_serve.specs.Placing.{IsAddress, IsPlaced, AreAddresses};
 
-use crate::ServeOptions;
-use crate::halt::Halt;
+use site_halts::{Halt, ServeOptions};
 use site_ids::{Cluster, MAX_NODES, NodeId};
 use std::alloc::Global;
 use std::net::SocketAddr;

@@ -1,25 +1,22 @@
-//! A server: its parts opened in order, and its rounds.
+//! A server: its parts opened in order, and its laps.
 
 ghost use Rattle.std.specs.Prelude.{◌≡◌, ◌⊎◌, IfOk, OnOk, IfErr, length};
 ghost use Rattle.http_read.specs.Bytes.{end_of};
 ghost use Rattle.site_serve.specs.Placing.{IsPlaced};
-ghost use Rattle.site_serve.specs.Rounds.{Led, TakesPasses, BreaksWork, LosesPasses, passes_of};
+ghost use Rattle.site_serve.specs.Passes.{Led, TakesPasses, BreaksWork, LosesPasses, passes_of};
 ghost use Rattle.site_serve.specs.Runs.{IsOpened, IsRun};
 ghost use Rattle.site_serve.specs.Running.{EndsBefore, WorkEnds, RunEnds, HasServed};
 
-use crate::ServeOptions;
 use crate::addresses::read_addresses;
-use crate::cause::Cause;
-use crate::halt::Halt;
 use crate::openings::{count_votes, open_node};
 use crate::passes::take_passes;
-use crate::saying::{say, say_done, say_ready};
+use crate::saying::{say_done, say_ready};
 use crate::server::Server;
 use crate::shell::Shell;
 use crate::sockets::open_sockets;
-use crate::why::say_why;
 use http_read::Counted;
 use site_disk::{Disk, FileDisk};
+use site_halts::{Cause, Halt, ServeOptions, say, say_why};
 use site_notes::Notes;
 use site_pace::Times;
 use std::alloc::Global;
@@ -57,14 +54,14 @@ fn open<R: Net<Listener = TcpListener, Stream = TcpStream> + Files<File = File> 
     Ok((server, shell))
 }
 
-/// How many passes so many rounds of a node are.
+/// How many passes so many laps of a node are.
 fn count_passes(node: u8, rounds: u32) -> u64
     ensures { result ≡ passes_of node rounds }
 {
     u64::from(rounds) * (40 + 10 * u64::from(node))
 }
 
-/// Says that the node is ready, takes so many passes, and says that its rounds are done.
+/// Says that the node is ready, takes so many passes, and says that its laps are done.
 fn work<C: Clock, W: Write, E: Write>(
     clock: &C,
     alloc: Global,
@@ -85,7 +82,7 @@ fn work<C: Clock, W: Write, E: Write>(
     say_done(out)
 }
 
-/// Does a node's work, with the rounds that were asked for.
+/// Does a node's work, with the laps that were asked for.
 fn start<C: Clock, W: Write, E: Write>(
     clock: &C,
     alloc: Global,
@@ -96,7 +93,7 @@ fn start<C: Clock, W: Write, E: Write>(
     options: &ServeOptions<'_>,
 ) -> Result<(), Halt>
     ensures said { WorkEnds (end_of W.contents out.old out.new) (end_of E.contents err.old err.new) options.now.id result }
-    ensures rounds { OnOk result (Led ⟦<FileDisk as Disk>⟧.stands_for server.old.served.node server.new.served.node (TakesPasses server.old.served.node.cluster server.old.served.node.me (passes_of options.now.id options.now.rounds) server.new.served.node.releases)) }
+    ensures laps { OnOk result (Led ⟦<FileDisk as Disk>⟧.stands_for server.old.served.node server.new.served.node (TakesPasses server.old.served.node.cluster server.old.served.node.me (passes_of options.now.id options.now.rounds) server.new.served.node.releases)) }
     ensures halted { IfErr result (λ why. Led ⟦<FileDisk as Disk>⟧.stands_for server.old.served.node server.new.served.node (BreaksWork server.old.served.node.cluster server.old.served.node.me (passes_of options.now.id options.now.rounds) why)
         ⊎ LosesPasses ⟦<FileDisk as Disk>⟧.stands_for server.old.served.node server.new.served.node (passes_of options.now.id options.now.rounds) why) }
 {
@@ -118,13 +115,15 @@ fn run<
     cause: &mut Cause,
 ) -> Result<(), Halt>
     ensures said { RunEnds (end_of W.contents out.old out.new) (end_of E.contents err.old err.new) options.now result }
-    ensures rounds { OnOk result (IsRun ⟦<FileDisk as Disk>⟧.stands_for (length options.now.peers.items) options.now.id (TakesPasses (length options.now.peers.items) options.now.id (passes_of options.now.id options.now.rounds))) }
+    ensures laps { OnOk result (IsRun ⟦<FileDisk as Disk>⟧.stands_for (length options.now.peers.items) options.now.id (TakesPasses (length options.now.peers.items) options.now.id (passes_of options.now.id options.now.rounds))) }
 {
     let (mut server, mut shell) = open(rt, alloc, options, cause)?;
-    start(rt, alloc, out, err, &mut shell, &mut server, options)
+    let done = start(rt, alloc, out, err, &mut shell, &mut server, options);
+    cause.error = server.served.node.disk().last_failure();
+    done
 }
 
-/// Runs a node for its rounds. The answer is the exit status.
+/// Runs a node for its laps. The answer is the exit status.
 pub fn sited<
     R: Net<Listener = TcpListener, Stream = TcpStream> + Files<File = File> + Clock,
     W: Write,
@@ -137,7 +136,7 @@ pub fn sited<
     options: &ServeOptions<'_>,
 ) -> u8
     ensures said { HasServed (end_of W.contents out.old out.new) (end_of E.contents err.old err.new) options.now result }
-    ensures rounds { result ≡ 0 → IsRun ⟦<FileDisk as Disk>⟧.stands_for (length options.now.peers.items) options.now.id (TakesPasses (length options.now.peers.items) options.now.id (passes_of options.now.id options.now.rounds)) }
+    ensures laps { result ≡ 0 → IsRun ⟦<FileDisk as Disk>⟧.stands_for (length options.now.peers.items) options.now.id (TakesPasses (length options.now.peers.items) options.now.id (passes_of options.now.id options.now.rounds)) }
 {
     let mut cause = Cause::none();
     match run(rt, alloc, out, err, options, &mut cause) {

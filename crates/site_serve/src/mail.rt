@@ -89,7 +89,9 @@ impl Mail {
     }
 
     /// Whether nothing waits.
-    pub fn is_empty(&self) -> bool {
+    pub fn is_empty(&self) -> bool
+        ensures { IsTrue result ↔ (waiting_of self.now ≡ []) }
+    {
         self.came.is_empty()
     }
 

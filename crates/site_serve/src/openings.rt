@@ -1,16 +1,17 @@
 //! Opens a node over a record's file.
+//!
+//! Votes are counted once, at the start, over all instances, since a node that was away has gaps: some milliseconds.
 
 ghost use Rattle.std.specs.Prelude.{IfOk, IfErr};
 ghost use Rattle.site_ids.specs.Ids.{IsNode};
-ghost use Rattle.site_serve.specs.Halts.{EndsOpening};
+ghost use Rattle.site_halts.specs.Halts.{EndsOpening};
 ghost use Rattle.site_serve.specs.Runs.{IsOpened};
 
-use crate::cause::Cause;
-use crate::halt::Halt;
 use crate::served::Served;
 use durable::{Record, RecordFault};
 use node::Node;
 use site_disk::{Disk, FileDisk};
+use site_halts::{Cause, Halt};
 use site_ids::{Cluster, Instance, MAX_INSTANCE, NodeId};
 use std::alloc::Global;
 use std::fs::{File, OpenOptions, TryLockError};
@@ -60,17 +61,55 @@ fn file<R: Files<File = File>>(
 }
 
 /// Syncs the folder of a file, so that a crash leaves the file in it.
-fn sync_folder<R: Files<File = File>>(rt: &R, path: &str) -> Result<(), Halt>
+fn sync_folder<R: Files<File = File>>(rt: &R, path: &str, cause: &mut Cause) -> Result<(), Halt>
     ensures { IfErr result EndsOpening }
 {
     let folder = match Path::new(path).parent() {
         Some(folder) if !folder.as_str().is_empty() => folder.as_str(),
         _ => ".",
     };
-    match File::open(rt, folder) {
-        Ok(folder) if folder.sync_all().is_ok() => Ok(()),
-        _ => Err(Halt::Record(RecordFault::Device)),
+    match File::open(rt, folder).and_then(|folder| folder.sync_all()) {
+        Ok(()) => Ok(()),
+        Err(e) => {
+            cause.error = Some(e);
+            Err(Halt::Record(RecordFault::Device))
+        }
     }
+}
+
+/// Makes an empty file an empty record.
+fn format_empty(cluster: Cluster, me: NodeId, disk: &mut FileDisk) -> Result<bool, RecordFault> {
+    let empty = disk.len()? == 0;
+    if empty {
+        Record::format(cluster, me, disk)?;
+    }
+    Ok(empty)
+}
+
+/// The disk of a record at a path. Where that is asked, an empty or absent file becomes an empty record first.
+fn open_disk<R: Files<File = File>>(
+    rt: &R,
+    cluster: Cluster,
+    me: NodeId,
+    path: &str,
+    format: bool,
+    cause: &mut Cause,
+) -> Result<FileDisk, Halt>
+    ensures { IfErr result EndsOpening }
+{
+    let mut disk = FileDisk::new(file(rt, path, format, cause)?);
+    if !format {
+        return Ok(disk);
+    }
+    match format_empty(cluster, me, &mut disk) {
+        Ok(true) => sync_folder(rt, path, cause)?,
+        Ok(false) => {}
+        Err(fault) => {
+            cause.error = disk.last_failure();
+            return Err(fault.into());
+        }
+    }
+    Ok(disk)
 }
 
 /// Opens a node over the record at a path. Where that is asked, an empty or absent file becomes an empty record first.
@@ -87,14 +126,13 @@ pub(crate) fn open_node<R: Files<File = File>>(
     ensures opened { IfOk result (λ served. IsOpened ⟦<FileDisk as Disk>⟧.stands_for cluster me served.node) }
     ensures fault { IfErr result EndsOpening }
 {
-    let mut disk = FileDisk::new(file(rt, path, format, cause)?);
-    if format && is_empty(&mut disk)? {
-        Record::format(cluster, me, &mut disk)?;
-        sync_folder(rt, path)?;
-    }
+    let disk = open_disk(rt, cluster, me, path, format, cause)?;
     match Node::open(alloc, cluster, me, disk) {
         Ok(node) => Ok(Served { node }),
-        Err((fault, _disk)) => Err(fault.into()),
+        Err((fault, disk)) => {
+            cause.error = disk.last_failure();
+            Err(fault.into())
+        }
     }
 }
 
@@ -110,8 +148,4 @@ pub(crate) fn count_votes<D: Disk>(node: &Node<D>) -> u32 {
         }
     }
     votes
-}
-
-fn is_empty(disk: &mut FileDisk) -> Result<bool, RecordFault> {
-    Ok(disk.len()? == 0)
 }

@@ -1,18 +1,20 @@
-//! The passes of a server's rounds: what has come is taken in one step, and what goes out is sent.
+//! The passes of a server's laps: what has come is taken in one step, and what goes out is sent.
+//!
+//! Laps count no failure of the device unless they end as stopped, as a node that was stopped before ends by the same word.
 
 ghost use Rattle.std.specs.Prelude.{◌⊎◌, IfErr, OnOk};
 ghost use Rattle.http_read.specs.Bytes.{end_of};
 ghost use Rattle.site_drive.specs.Leading.{StaysWhose};
-ghost use Rattle.site_serve.specs.Halts.{CountsNone, EndsRounds};
+ghost use Rattle.site_halts.specs.Halts.{CountsNone, EndsLaps};
 ghost use Rattle.site_serve.specs.Noted.{HasNoted};
-ghost use Rattle.site_serve.specs.Rounds.{Led, TakesPass, TakesPasses, BreaksPass, BreaksPasses, LosesPass, LosesPasses};
+ghost use Rattle.site_serve.specs.Passes.{Led, TakesPass, TakesPasses, BreaksPass, BreaksPasses, LosesPass, LosesPasses};
 
-use crate::halt::Halt;
 use crate::saying::tell_notes;
 use crate::server::Server;
 use crate::shell::Shell;
 use http_read::Counted;
 use site_disk::Disk;
+use site_halts::Halt;
 use std::alloc::Global;
 use std::io::Write;
 use std::net::TcpStream;
@@ -26,7 +28,7 @@ fn take_pass<D: Disk + Drop, C: Clock>(
 ) -> Result<(), Halt>
     ensures ok { OnOk result (Led D.stands_for server.old.served.node server.new.served.node (TakesPass server.old.served.node.cluster server.old.served.node.me server.new.served.node.releases)) }
     ensures fault { IfErr result (λ why. Led D.stands_for server.old.served.node server.new.served.node (BreaksPass server.old.served.node.cluster server.old.served.node.me why) ⊎ LosesPass D.stands_for server.old.served.node server.new.served.node why) }
-    ensures ends { IfErr result EndsRounds }
+    ensures ends { IfErr result EndsLaps }
     ensures whose { StaysWhose server.old.served.node server.new.served.node }
     ensures counts { CountsNone result (D.failed server.old.served.node.store.disk) (D.failed server.new.served.node.store.disk) }
 {
@@ -57,7 +59,7 @@ pub(crate) fn take_passes<D: Disk + Drop, C: Clock, E: Write>(
 ) -> Result<(), Halt>
     ensures ok { OnOk result (Led D.stands_for server.old.served.node server.new.served.node (TakesPasses server.old.served.node.cluster server.old.served.node.me count server.new.served.node.releases)) }
     ensures fault { IfErr result (λ why. Led D.stands_for server.old.served.node server.new.served.node (BreaksPasses server.old.served.node.cluster server.old.served.node.me count why) ⊎ LosesPasses D.stands_for server.old.served.node server.new.served.node count why) }
-    ensures ends { IfErr result EndsRounds }
+    ensures ends { IfErr result EndsLaps }
     ensures whose { StaysWhose server.old.served.node server.new.served.node }
     ensures counts { CountsNone result (D.failed server.old.served.node.store.disk) (D.failed server.new.served.node.store.disk) }
     ensures noted { HasNoted (end_of E.contents err.old err.new) }

@@ -1,8 +1,8 @@
 //! The clients of a server.
 
-ghost use Rattle.std.specs.Prelude.{◌≡◌, ◌≤◌, ◌<◌, ℕ, vec_len, false, IfOk, IfSome, OnOk};
+ghost use Rattle.std.specs.Prelude.{◌≤◌, ◌<◌, ℕ, length, vec_len, IfOk, IfSome, OnOk};
 ghost use Rattle.http_serve.specs.Services.{MaySubmitMany};
-ghost use Rattle.site_serve.specs.Answering.{AreAnswered};
+ghost use Rattle.site_serve.specs.Answering.{AreAnswered, TellsAnswered};
 ghost use Rattle.site_serve.specs.Served.{offered};
 
 use crate::seat::Seat;
@@ -101,7 +101,7 @@ impl<S: Drop> Seats<S> {
         served: &mut Served<D>,
     ) -> Result<bool, AllocError>
         ensures each { OnOk result (AreAnswered offered served.old served.new self.old.seats.items self.new.seats.items) }
-        ensures none { IfOk result (λ answered. answered ≡ false → served.new ≡ served.old) }
+        ensures tells { IfOk result (λ answered. TellsAnswered answered (length self.old.seats.items) self.old.seats.items self.new.seats.items) }
         ensures taken { (n : ℕ) × (n ≤ 64) × MaySubmitMany offered n served.old served.new }
     {
         let mut answered = false;

@@ -1,24 +1,24 @@
 //! A server without sockets and clock.
 
-ghost use Rattle.std.specs.Prelude.{◌≡◌, ◌⊎◌, ℕ, IfOk, IfErr, OnOk};
+ghost use Rattle.std.specs.Prelude.{◌≡◌, ◌⊎◌, ◌↔◌, [], ℕ, IfOk, IfErr, IsFalse, OnOk, length};
 ghost use Rattle.node.specs.Standing.{KeepsOthers};
 ghost use Rattle.site_drive.specs.Batches.{TakesBatch, LeadsSealed};
 ghost use Rattle.site_drive.specs.Leading.{StaysWhose};
 ghost use Rattle.site_drive.specs.Posting.{spelled_of};
 ghost use Rattle.site_drive.specs.declared.last_call.LastCall.{LastCall};
-ghost use Rattle.site_serve.specs.Answering.{AreAnswered};
-ghost use Rattle.site_serve.specs.Halts.{CountsNone, EndsRounds};
+ghost use Rattle.site_serve.specs.Answering.{AreAnswered, TellsAnswered};
+ghost use Rattle.site_halts.specs.Halts.{CountsNone, EndsLaps};
 ghost use Rattle.site_serve.specs.Mailing.{waiting_of, posted_of, own_of};
-ghost use Rattle.site_serve.specs.Rounds.{Led, TakesStep, BreaksStep, LosesStep, IsBatched};
+ghost use Rattle.site_serve.specs.Passes.{Led, TakesStep, BreaksStep, LosesStep, IsBatched};
 ghost use Rattle.site_serve.specs.Served.{offered};
 ghost use Rattle.site_serve.specs.declared.served.Served.{Served};
 
-use crate::halt::Halt;
 use crate::mail::Mail;
 use crate::seats::Seats;
 use crate::served::Served;
 use site_disk::Disk;
 use site_drive::Desk;
+use site_halts::Halt;
 use site_ids::NodeId;
 use site_pace::{Pace, Times};
 use std::alloc::{AllocError, Global};
@@ -65,18 +65,18 @@ impl<D: Disk + Drop, S: Drop> Server<D, S> {
             mail: Mail::new(alloc),
             seats: Seats::new(alloc, times),
             desk: Desk::new(alloc)?,
-            pace: Pace::new(times, me.number()),
+            pace: Pace::new(times, me),
         })
     }
 
     /// The batch of a step: all that waits, and the call that is due behind it. What that hands out is posted. The answer is how many datagrams spelled no message.
     fn take_batch(&mut self, now: u64) -> Result<u64, Halt>
-        ensures ok { OnOk result (IsBatched D.stands_for (waiting_of self.old.mail) (posted_of self.new.mail) self.old.served.node self.new.served.node) }
+        ensures ok { IfOk result (λ malformed. IsBatched D.stands_for (waiting_of self.old.mail) malformed (posted_of self.new.mail) self.old.served.node self.new.served.node) }
         ensures own { OnOk result (waiting_of self.new.mail ≡ own_of self.old.me (posted_of self.new.mail)) }
         ensures seats { self.new.seats ≡ self.old.seats }
         ensures fault { IfErr result (λ why. Led D.stands_for self.old.served.node self.new.served.node (BreaksStep self.old.served.node.cluster self.old.served.node.me (waiting_of self.old.mail) why)
             ⊎ LosesStep D.stands_for (waiting_of self.old.mail) self.old.served.node self.new.served.node why) }
-        ensures ends { IfErr result EndsRounds }
+        ensures ends { IfErr result EndsLaps }
         ensures whose { StaysWhose self.old.served.node self.new.served.node }
         ensures counts { CountsNone result (D.failed self.old.served.node.store.disk) (D.failed self.new.served.node.store.disk) }
     {
@@ -95,13 +95,15 @@ impl<D: Disk + Drop, S: Drop> Server<D, S> {
     /// One step, so many milliseconds after the server began, and never less than before: all that waits is one batch, behind which the node publishes, and what that
     /// hands out are the mail's letters; then requests are answered.
     pub fn step(&mut self, now: u64) -> Result<Stepped, Halt>
-        ensures clients { OnOk result ((mid : Served D) × IsBatched D.stands_for (waiting_of self.old.mail) (posted_of self.new.mail) self.old.served.node mid.node
+        ensures clients { IfOk result (λ stepped. (mid : Served D) × IsBatched D.stands_for (waiting_of self.old.mail) stepped.malformed (posted_of self.new.mail) self.old.served.node mid.node
             × AreAnswered offered mid self.new.served self.old.seats.seats.items self.new.seats.seats.items) }
+        ensures came { IfOk result (λ stepped. IsFalse stepped.came ↔ (waiting_of self.old.mail ≡ [])) }
+        ensures answered { IfOk result (λ stepped. TellsAnswered stepped.answered (length self.old.seats.seats.items) self.old.seats.seats.items self.new.seats.seats.items) }
         ensures ok { OnOk result (Led D.stands_for self.old.served.node self.new.served.node (TakesStep self.old.served.node.cluster self.old.served.node.me (waiting_of self.old.mail) (posted_of self.new.mail) self.new.served.node.releases)) }
         ensures own { OnOk result (waiting_of self.new.mail ≡ own_of self.old.me (posted_of self.new.mail)) }
         ensures fault { IfErr result (λ why. Led D.stands_for self.old.served.node self.new.served.node (BreaksStep self.old.served.node.cluster self.old.served.node.me (waiting_of self.old.mail) why)
             ⊎ LosesStep D.stands_for (waiting_of self.old.mail) self.old.served.node self.new.served.node why) }
-        ensures ends { IfErr result EndsRounds }
+        ensures ends { IfErr result EndsLaps }
         ensures whose { StaysWhose self.old.served.node self.new.served.node }
         ensures counts { CountsNone result (D.failed self.old.served.node.store.disk) (D.failed self.new.served.node.store.disk) }
     {

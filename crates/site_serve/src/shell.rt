@@ -1,4 +1,6 @@
 //! What carries a server's bytes: its sockets and its clock. It is read: nothing is proved of it but that it is safe and returns.
+//!
+//! A rest of 10 ms or more waits for a datagram and ends with it; a shorter one sleeps, as the system counts such waits in steps of some milliseconds.
 
 use crate::mail::Mail;
 use crate::seats::Seats;

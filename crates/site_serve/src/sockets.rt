@@ -2,12 +2,11 @@
 
 ghost use Rattle.std.specs.Prelude.{◌≡◌, IfErr, length};
 ghost use Rattle.site_ids.specs.Ids.{IsNode};
-ghost use Rattle.site_serve.specs.Halts.{EndsBinding};
+ghost use Rattle.site_halts.specs.Halts.{EndsBinding};
 
 use crate::addresses::Addresses;
-use crate::cause::Cause;
-use crate::halt::Halt;
 use crate::shell::Shell;
+use site_halts::{Cause, Halt};
 use site_notes::Notes;
 use std::alloc::Global;
 use std::io;

@@ -1,4 +1,6 @@
 //! What a pass saw, for the lines that a server says of itself.
+//!
+//! A datagram counts for the node whose number it has, as the node itself takes it: by its address nobody would be heard behind a translation of addresses.
 
 use site_notes::{Note, Notes};
 

@@ -6,7 +6,6 @@ use mustache_scan::{FaultKind, TemplateFault, Token, TokenKind, scan};
 use site_ids::Ticket;
 use std::alloc::{AllocError, Global};
 use std::process::Abort;
-use std::test::Fail;
 
 fn check_tokens(rt: &impl Abort, tokens: &[Token<'_>]) {
     let [hello, subject, end] = tokens else {
@@ -19,9 +18,9 @@ fn check_tokens(rt: &impl Abort, tokens: &[Token<'_>]) {
 }
 
 #[test]
-fn scanning(rt: HostRuntime) -> Result<(), Fail> {
-    check_tokens(&rt, &scan(rt.alloc(), "Hello, {{ subject }}!\n")?);
-    Ok(())
+fn scanning(rt: HostRuntime) {
+    let tokens = scan(rt.alloc(), "Hello, {{ subject }}!\n").expect(&rt, "tokens");
+    check_tokens(&rt, &tokens);
 }
 
 fn check_nodes(rt: &impl Abort, nodes: &[Node]) {
@@ -35,9 +34,9 @@ fn check_nodes(rt: &impl Abort, nodes: &[Node]) {
 }
 
 #[test]
-fn parsing(rt: HostRuntime) -> Result<(), Fail> {
-    check_nodes(&rt, parse(rt.alloc(), "a{{b}}")?.nodes());
-    Ok(())
+fn parsing(rt: HostRuntime) {
+    let template = parse(rt.alloc(), "a{{b}}").expect(&rt, "a template");
+    check_nodes(&rt, template.nodes());
 }
 
 fn check_names(rt: &impl Abort, data: &Data) {
@@ -49,12 +48,10 @@ fn check_names(rt: &impl Abort, data: &Data) {
 }
 
 #[test]
-fn reading_data(rt: HostRuntime) -> Result<(), Fail> {
-    check_names(
-        &rt,
-        &Data::from_json(rt.alloc(), b"{\"a\":7,\"b\":null,\"a\":8}")?,
-    );
-    Ok(())
+fn reading_data(rt: HostRuntime) {
+    let json = b"{\"a\":7,\"b\":null,\"a\":8}";
+    let data = Data::from_json(rt.alloc(), json).expect(&rt, "data");
+    check_names(&rt, &data);
 }
 
 /// So many lists within one another.
@@ -69,50 +66,58 @@ fn nested(alloc: Global, lists: u32) -> Result<Vec<u8>, AllocError> {
     Ok(json)
 }
 
-/// How many items the outermost of so many lists has.
-fn outermost(alloc: Global, lists: u32) -> Result<usize, DataFault> {
-    let json = nested(alloc, lists)?;
-    match Data::from_json(alloc, &json)? {
-        Data::List(items) => Ok(items.len()),
-        _ => Ok(0),
+fn items_of(data: &Data) -> usize {
+    match data {
+        Data::List(items) => items.len(),
+        _ => 0,
     }
+}
+
+/// How many items the outermost of so many lists has.
+fn outermost(rt: &impl Abort, alloc: Global, lists: u32) -> Result<usize, DataFault> {
+    let json = nested(alloc, lists).expect(rt, "memory");
+    let data = Data::from_json(alloc, &json)?;
+    Ok(items_of(&data))
 }
 
 #[test]
 fn lists_nest_127_deep(rt: HostRuntime) {
-    assert_eq!(rt; outermost(rt.alloc(), 127), Ok(1));
-    assert_eq!(rt; outermost(rt.alloc(), 128), Err(DataFault::NotJson));
+    assert_eq!(rt; outermost(&rt, rt.alloc(), 127), Ok(1));
+    assert_eq!(rt; outermost(&rt, rt.alloc(), 128), Err(DataFault::NotJson));
 }
 
 const RELEASE: &[u8] = b"\x00\x00\x00\x01\x00\x00\x00\x00\x00\x00\x00\x05release\n";
 
-/// Whether the value is a release of that ticket.
-fn is_release(alloc: Global, value: &[u8], ticket: Ticket) -> Result<bool, CommandFault> {
-    let command = read(alloc, value)?;
-    Ok(command.ticket == ticket && matches!(command.action, Action::Release))
-}
+const TICKET: Ticket = Ticket {
+    editor: 1,
+    number: 5,
+};
 
 #[test]
-fn reading_and_writing_values(rt: HostRuntime) -> Result<(), Fail> {
-    let ticket = Ticket {
-        editor: 1,
-        number: 5,
-    };
-    let value = write(rt.alloc(), ticket, b"release\n")?;
+fn writing_values(rt: HostRuntime) {
+    let value = write(rt.alloc(), TICKET, b"release\n").expect(&rt, "memory");
     assert_eq!(rt; value.as_slice(), RELEASE);
-    assert_eq!(rt; is_release(rt.alloc(), value.as_slice(), ticket), Ok(true));
-    Ok(())
 }
 
 #[test]
-fn printing_faults(rt: HostRuntime) -> Result<(), Fail> {
+fn reading_values(rt: HostRuntime) {
+    let command = read(rt.alloc(), RELEASE).expect(&rt, "a command");
+    assert!(rt; command.ticket == TICKET && matches!(command.action, Action::Release));
+}
+
+#[test]
+fn printing_a_fault_of_a_template(rt: HostRuntime) {
     let fault = TemplateFault {
         kind: FaultKind::WrongEnd,
         place: 6,
     };
-    let line = fault_line(rt.alloc(), &CommandFault::Template(fault))?;
+    let line = fault_line(rt.alloc(), &CommandFault::Template(fault)).expect(&rt, "a line");
     assert_eq!(rt; line.as_str(), "5 Template 6 WrongEnd at 6");
-    let line = fault_line(rt.alloc(), &CommandFault::Data(DataFault::NotWhole))?;
+}
+
+#[test]
+fn printing_a_fault_of_data(rt: HostRuntime) {
+    let fault = CommandFault::Data(DataFault::NotWhole);
+    let line = fault_line(rt.alloc(), &fault).expect(&rt, "a line");
     assert_eq!(rt; line.as_str(), "6 Data 2 NotWhole");
-    Ok(())
 }

@@ -1,4 +1,4 @@
-//! Each call with one growth refused, as `tools/refuse-growths` runs this: it answers as ever, or that memory was refused, and then the next try
+//! Each call with one growth refused, as `tools/gate/refuse-growths` runs this: it answers as ever, or that memory was refused, and then the next try
 //! answers as ever. A try tells whether it found what it should, and lets go of that.
 use crate::releases::{COMMANDS, feed, ticket};
 use command::{CommandFault, fault_line, read, write};
@@ -10,7 +10,6 @@ use release::{AnswerFault, Releases};
 use site_ids::Ticket;
 use std::alloc::{AllocError, Global};
 use std::process::Abort;
-use std::test::Fail;
 
 const TEMPLATE: &str =
     "{{#a}}\n- {{b.c}}\n{{/a}}{{^a}}{{{b}}}{{/a}}\n  {{>p}}\n{{=<% %>=}}<%! c %>";
@@ -38,11 +37,13 @@ fn is_found(rt: &impl Abort, tried: Result<bool, TemplateFault>) -> bool {
 }
 
 fn data_read(alloc: Global) -> Result<Data, DataFault> {
-    let json = b"{\"a\":[\"x\",7,{}],\"b\":{\"c\":true},\"d\":null}";
-    match Data::from_json(alloc, json) {
-        Ok(found) => Ok(found),
-        Err(DataFault::OutOfMemory) => Data::from_json(alloc, json),
-        Err(fault) => Err(fault),
+    Data::from_json(alloc, b"{\"a\":[\"x\",7,{}],\"b\":{\"c\":true},\"d\":null}")
+}
+
+fn data(rt: &impl Abort, alloc: Global) -> Data {
+    match data_read(alloc) {
+        Err(DataFault::OutOfMemory) => data_read(alloc).expect(rt, "data"),
+        read => read.expect(rt, "data"),
     }
 }
 
@@ -59,18 +60,17 @@ fn copy(rt: &impl Abort, alloc: Global, data: &Data) {
 }
 
 #[test]
-fn templates_and_data(rt: HostRuntime) -> Result<(), Fail> {
+fn templates_and_data(rt: HostRuntime) {
     let alloc = rt.alloc();
     assert!(rt; is_found(&rt, has_tokens(alloc)) || is_found(&rt, has_tokens(alloc)));
     assert!(rt; is_found(&rt, has_nodes(alloc)) || is_found(&rt, has_nodes(alloc)));
-    copy(&rt, alloc, &data_read(alloc)?);
-    Ok(())
+    copy(&rt, alloc, &data(&rt, alloc));
 }
 
-fn written(alloc: Global, ticket: Ticket, text: &str) -> Result<Vec<u8>, AllocError> {
+fn written(rt: &impl Abort, alloc: Global, ticket: Ticket, text: &str) -> Vec<u8> {
     match write(alloc, ticket, text.as_bytes()) {
-        Ok(value) => Ok(value),
-        Err(_) => write(alloc, ticket, text.as_bytes()),
+        Ok(value) => value,
+        Err(_) => write(alloc, ticket, text.as_bytes()).expect(rt, "a value"),
     }
 }
 
@@ -89,38 +89,36 @@ fn is_of(rt: &impl Abort, alloc: Global, value: &[u8], ticket: Ticket) {
     assert!(rt; found == ticket);
 }
 
-fn values(rt: &impl Abort, alloc: Global) -> Result<(), AllocError> {
-    let ticket = Ticket {
-        editor: 7,
-        number: 9,
-    };
-    for text in [
-        "put template t\n{{a}}",
-        "put data d\n{\"a\":1}",
-        "put route /x t d\n",
-        "put redirect /y /x\n",
-        "remove redirect /y\n",
-        "release\n",
-    ] {
-        let value = written(alloc, ticket, text)?;
-        is_of(rt, alloc, value.as_slice(), ticket);
-    }
-    Ok(())
-}
+const TICKET: Ticket = Ticket {
+    editor: 7,
+    number: 9,
+};
 
-fn line(alloc: Global) -> Result<String, AllocError> {
-    let fault = CommandFault::Data(DataFault::NotJson);
-    match fault_line(alloc, &fault) {
-        Ok(line) => Ok(line),
-        Err(_) => fault_line(alloc, &fault),
+const TEXTS: &[&str] = &[
+    "put template t\n{{a}}",
+    "put data d\n{\"a\":1}",
+    "put route /x t d\n",
+    "put redirect /y /x\n",
+    "remove redirect /y\n",
+    "release\n",
+];
+
+const LINE: CommandFault = CommandFault::Data(DataFault::NotJson);
+
+fn line(rt: &impl Abort, alloc: Global) -> String {
+    match fault_line(alloc, &LINE) {
+        Ok(line) => line,
+        Err(_) => fault_line(alloc, &LINE).expect(rt, "a line"),
     }
 }
 
 #[test]
-fn values_and_lines(rt: HostRuntime) -> Result<(), Fail> {
-    values(&rt, rt.alloc())?;
-    assert_eq!(rt; line(rt.alloc())?.as_str(), "6 Data 1 NotJson");
-    Ok(())
+fn values_and_lines(rt: HostRuntime) {
+    for &text in TEXTS {
+        let value = written(&rt, rt.alloc(), TICKET, text);
+        is_of(&rt, rt.alloc(), value.as_slice(), TICKET);
+    }
+    assert_eq!(rt; line(&rt, rt.alloc()).as_str(), "6 Data 1 NotJson");
 }
 
 fn length_of(site: &Site) -> Option<usize> {
@@ -128,29 +126,15 @@ fn length_of(site: &Site) -> Option<usize> {
 }
 
 /// The site takes the value, and answers so. Where memory was refused it is as before.
-fn take(
-    rt: &impl Abort,
-    site: &mut Site,
-    value: &[u8],
-    applied: Applied,
-) -> Result<(), AllocError> {
+fn take(rt: &impl Abort, site: &mut Site, value: &[u8], applied: Applied) {
     let before = length_of(site);
     match site.apply(value) {
         Ok(answer) => assert_eq!(rt; answer, applied),
         Err(_) => {
             assert_eq!(rt; length_of(site), before);
-            assert_eq!(rt; site.apply(value)?, applied);
+            assert_eq!(rt; site.apply(value), Ok(applied));
         }
     }
-    Ok(())
-}
-
-fn take_each(rt: &impl Abort, alloc: Global, site: &mut Site) -> Result<(), AllocError> {
-    for (number, text, applied) in &COMMANDS {
-        let value = written(alloc, ticket(*number), text)?;
-        take(rt, site, value.as_slice(), *applied)?;
-    }
-    Ok(())
 }
 
 /// Whether a site has what the commands leave.
@@ -164,37 +148,37 @@ fn is_left_in_copy(site: &Site) -> Result<bool, AllocError> {
     Ok(is_left(&site.copy()?))
 }
 
-fn take_and_copy(rt: &impl Abort, alloc: Global, site: &mut Site) -> Result<(), AllocError> {
-    take_each(rt, alloc, site)?;
+fn check_copy(rt: &impl Abort, site: &Site) {
     let is_left = match is_left_in_copy(site) {
         Ok(is_left) => is_left,
-        Err(_) => is_left_in_copy(site)?,
+        Err(_) => is_left_in_copy(site).expect(rt, "a copy"),
     };
     assert!(rt; is_left);
-    Ok(())
+}
+
+fn take_and_copy(rt: &impl Abort, alloc: Global, site: &mut Site) {
+    for &(number, text, applied) in COMMANDS {
+        let value = written(rt, alloc, ticket(number), text);
+        take(rt, site, value.as_slice(), applied);
+    }
+    check_copy(rt, site);
 }
 
 #[test]
-fn sites(rt: HostRuntime) -> Result<(), Fail> {
-    Ok(take_and_copy(&rt, rt.alloc(), &mut Site::new(rt.alloc()))?)
+fn sites(rt: HostRuntime) {
+    take_and_copy(&rt, rt.alloc(), &mut Site::new(rt.alloc()));
 }
 
 /// The releases take the value, and answer so. Where memory was refused they are as before.
-fn fed(
-    rt: &impl Abort,
-    releases: &mut Releases,
-    value: &[u8],
-    applied: Applied,
-) -> Result<(), AllocError> {
+fn fed(rt: &impl Abort, releases: &mut Releases, value: &[u8], applied: Applied) {
     let before = (releases.newest(), releases.len());
     match feed(releases, value) {
         Ok(answer) => assert_eq!(rt; answer, applied),
         Err(_) => {
             assert!(rt; before == (releases.newest(), releases.len()));
-            assert_eq!(rt; feed(releases, value)?, applied);
+            assert_eq!(rt; feed(releases, value), Ok(applied));
         }
     }
-    Ok(())
 }
 
 /// Whether the first release shows the first template.
@@ -214,21 +198,16 @@ fn show(rt: &impl Abort, releases: &Releases) {
     assert!(rt; is_right);
 }
 
-fn feed_and_show(
-    rt: &impl Abort,
-    alloc: Global,
-    releases: &mut Releases,
-) -> Result<(), AllocError> {
-    for (number, text, applied) in &COMMANDS {
-        let value = written(alloc, ticket(*number), text)?;
-        fed(rt, releases, value.as_slice(), *applied)?;
+fn feed_and_show(rt: &impl Abort, alloc: Global, releases: &mut Releases) {
+    for &(number, text, applied) in COMMANDS {
+        let value = written(rt, alloc, ticket(number), text);
+        fed(rt, releases, value.as_slice(), applied);
     }
     assert_eq!(rt; releases.newest(), 2);
     show(rt, releases);
-    Ok(())
 }
 
 #[test]
-fn releases(rt: HostRuntime) -> Result<(), Fail> {
-    Ok(feed_and_show(&rt, rt.alloc(), &mut Releases::new(rt.alloc()))?)
+fn releases(rt: HostRuntime) {
+    feed_and_show(&rt, rt.alloc(), &mut Releases::new(rt.alloc()));
 }

@@ -19,7 +19,7 @@ use Rattle.site_drive.specs.declared.last_call.LastCall.{LastCall}
 use Rattle.site_drive.specs.declared.last_call.LastCall.TheVariants.{TickOrAsk, Widen, Ask, Tell, Nothing}
 use Rattle.site_drive.specs.Drives.{Heard, Takes, TakesAll, datagrams, Begin, Widens, TicksAndWidens, EndsLast, EndsTurns, BreaksOff}
 use Rattle.site_serve.specs.Served.{ComesTo}
-use Rattle.site_serve.specs.Rounds.{MayTake, MayTakeMany}
+use Rattle.site_serve.specs.Passes.{MayTake, MayTakeMany}
 use Rattle.world.specs.Batches.{AllEnd}
 use Rattle.sitectl.specs.Passes.{AreCalls}
 

@@ -5,7 +5,7 @@ use Rattle.std.specs.Prelude.{◌↔◌, IsTrue, MatchOption, length, slice_get}
 use Rattle.site_ids.specs.Ids.{IsNode, IsInstance}
 use Rattle.node.specs.Nodes.{Value, Node, IsFirstUnknown, IsKnownPrefix}
 use Rattle.world.specs.declared.places.Place.{Place}
-use Rattle.world.specs.declared.whole.World.{World as Code}
+use Rattle.world.specs.declared.world.World.{World as Code}
 use Rattle.world.specs.Worlds.{World}
 use Rattle.world.specs.Standing.{IsPlaceOf, IsWorldOf}
 use Rattle.world.specs.Quiet.{IsQuiet, IsQuietAt}

@@ -7,7 +7,7 @@ use Rattle.world.specs.declared.event.Event.{Event}
 use Rattle.world.specs.declared.event.Event.TheVariants.{Restart}
 use Rattle.world.specs.declared.fault.WorldFault.{WorldFault}
 use Rattle.world.specs.declared.fault.WorldFault.TheVariants.{OutOfMemory, BadEvent}
-use Rattle.world.specs.declared.whole.World.{World as Code}
+use Rattle.world.specs.declared.world.World.{World as Code}
 use Rattle.world.specs.Worlds.{Runs}
 use Rattle.world.specs.Agreement.{Later}
 use Rattle.world.specs.Decided.{AreDecided}

@@ -2,17 +2,17 @@
 use Rattle.std.proofs.Common.{◌≡◌, ◌≢◌, ℕ, suc, ◌-◌, ◌≤◌, nat_lt, nat_le, Bool, true, false, Some, List, [], refl, sym, ap, subst, ◌∙◌, arith}
 use Rattle.std.specs.Prelude.{slice_get}
 use Rattle.std.proofs.lemmas.Bool.Decides.{nat_tests}
-use Rattle.site_disk.specs.declared.memory.MemDisk.{MemDisk}
+use Rattle.site_disk.specs.declared.mem_disk.MemDisk.{MemDisk}
 use Rattle.command.specs.Action.{Order}
 use Rattle.command.specs.Effective.{effective}
 use Rattle.command.specs.Releases.{release_count}
 use Rattle.release.specs.Page.{Page, answer, released}
-use Rattle.node.specs.declared.running.Node.{Node as Running}
+use Rattle.node.specs.declared.node.Node.{Node as Running}
 use Rattle.node.specs.Nodes.{Value, Down, Node, BeginsKnown, IsKnownPrefix}
 use Rattle.world.specs.declared.event.Event.{Event}
 use Rattle.world.specs.declared.places.Place.{Place}
 use Rattle.world.specs.declared.places.Place.TheVariants.{Open, Bare}
-use Rattle.world.specs.declared.whole.World.{World as Code}
+use Rattle.world.specs.declared.world.World.{World as Code}
 use Rattle.world.specs.Worlds.{World}
 use Rattle.world.specs.Decided.{Decides, AreDecided}
 use Rattle.world.specs.Standing.{IsOpen, IsBare, IsPlaceOf, IsWorldOf}

@@ -4,7 +4,7 @@ use Rattle.site_disk.specs.Model.{DiskState, MayLeave, LeavesOnly, moment}
 use Rattle.wire.specs.declared.message.Message.{Message}
 use Rattle.durable.specs.Entries.{Entry}
 use Rattle.durable.specs.Standing.{StandsFor}
-use Rattle.node.specs.declared.running.Node.{Node as Running}
+use Rattle.node.specs.declared.node.Node.{Node as Running}
 use Rattle.node.specs.declared.to.To.{To}
 use Rattle.node.specs.Nodes.{Node}
 use Rattle.node.specs.Calls.{Call}

@@ -5,7 +5,7 @@ use Rattle.site_ids.specs.Ids.{IsNode}
 use Rattle.node.specs.Nodes.{Value, Up, Node, opened, IsKnownPrefix}
 use Rattle.world.specs.declared.places.Place.{Place}
 use Rattle.world.specs.declared.places.Place.TheVariants.{Open, Bare}
-use Rattle.world.specs.declared.whole.World.{World as Code}
+use Rattle.world.specs.declared.world.World.{World as Code}
 use Rattle.world.specs.Worlds.{World, start}
 use Rattle.world.specs.Standing.{IsPlaceOf, HasPublished, IsWorldOf, IsPublishedAt}
 use Rattle.world.specs.Telling.{fed_in, fed_at}

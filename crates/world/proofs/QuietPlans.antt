@@ -13,7 +13,7 @@ use Rattle.node.proofs.SendingAgain.{open_past, all_in_window}
 use Rattle.world.specs.declared.event.Event.{Event}
 use Rattle.world.specs.declared.places.Place.{Place}
 use Rattle.world.specs.declared.places.Place.TheVariants.{Open, Bare}
-use Rattle.world.specs.declared.whole.World.{World as Code}
+use Rattle.world.specs.declared.world.World.{World as Code}
 use Rattle.world.specs.Worlds.{World}
 use Rattle.world.specs.Standing.{IsPlaceOf, IsWorldOf}
 use Rattle.world.specs.Quiet.{AllRun, IsQuiet, IsPlan, IsShort, HasNoneAbove, Overbids, one_attempt, overbid_first}

@@ -4,7 +4,7 @@ use Rattle.std.specs.Prelude.{slice_get, IsTrue, is_err}
 use Rattle.std.specs.Result.{OnOk, OnErr}
 use Rattle.site_disk.specs.Model.{DiskState, MayLeave, moment, at_rest, after_sync}
 use Rattle.site_disk.specs.Memory.{MemoryStandsFor}
-use Rattle.site_disk.specs.declared.memory.MemDisk.{MemDisk}
+use Rattle.site_disk.specs.declared.mem_disk.MemDisk.{MemDisk}
 use Rattle.site_ids.specs.Lists.{In}
 use Rattle.wire.specs.declared.message.Message.{Message}
 use Rattle.wire.specs.Messages.{IsMessage}
@@ -14,7 +14,7 @@ use Rattle.durable.specs.Entries.{Entry}
 use Rattle.durable.specs.Keeping.{Keeps, Settles}
 use Rattle.durable.proofs.Keeping.{crash_settles, settled_keeps, sync_keeps}
 use Rattle.node.specs.declared.to.To.{To}
-use Rattle.node.specs.declared.running.Node.{Node as Running}
+use Rattle.node.specs.declared.node.Node.{Node as Running}
 use Rattle.node.specs.declared.fault.NodeFault.TheVariants.{OutOfMemory, Stopped as Stopping}
 use Rattle.node.specs.Nodes.{Mode, Up, Stopped, Down, Node, opened, IsKnownPrefix}
 use Rattle.node.specs.Effects.{messages_of}

@@ -2,7 +2,7 @@
 use Rattle.std.specs.Prelude.{◌≡◌, ℕ, List}
 use Rattle.release.specs.Page.{Page}
 use Rattle.world.specs.declared.event.Event.{Event}
-use Rattle.world.specs.declared.whole.World.{World as Code}
+use Rattle.world.specs.declared.world.World.{World as Code}
 use Rattle.world.specs.Steps.{Follows, Reached, IsAnswer}
 
 -- a value follows itself, and what follows a later one follows the earlier one

@@ -10,7 +10,7 @@ use Rattle.durable.specs.Entries.{Entry, Round, Promised}
 use Rattle.durable.specs.Standing.{StandsFor}
 use Rattle.release.specs.Page.{answer}
 use Rattle.node.specs.declared.to.To.{To}
-use Rattle.node.specs.declared.running.Node.{Node as Running}
+use Rattle.node.specs.declared.node.Node.{Node as Running}
 use Rattle.node.specs.Nodes.{Value, Up, Down, Node, opened}
 use Rattle.node.specs.Effects.{messages_of}
 use Rattle.node.specs.Calls.{Call, submit, tick, widen, ask, tell, deliver}

@@ -7,7 +7,7 @@ use Rattle.node.specs.Calls.{oldest}
 use Rattle.world.specs.declared.event.Event.{Event}
 use Rattle.world.specs.declared.fault.WorldFault.{WorldFault}
 use Rattle.world.specs.declared.fault.WorldFault.TheVariants.{OutOfMemory, BadEvent}
-use Rattle.world.specs.declared.whole.World.{World as Code}
+use Rattle.world.specs.declared.world.World.{World as Code}
 use Rattle.world.specs.Worlds.{World, Runs, start}
 use Rattle.world.specs.Standing.{IsWorldOf}
 use Rattle.world.specs.Steps.{RunEnds, Reached}

@@ -2,18 +2,18 @@
 use Rattle.std.specs.Prelude.{◌≡◌, ◌≢◌, ℕ, suc, Bool, Some, slice_get, ⊤}
 use Rattle.site_disk.specs.Model.{DiskState}
 use Rattle.site_disk.specs.Memory.{MemoryStandsFor}
-use Rattle.site_disk.specs.declared.memory.MemDisk.{MemDisk}
+use Rattle.site_disk.specs.declared.mem_disk.MemDisk.{MemDisk}
 use Rattle.site_ids.specs.Lists.{In}
 use Rattle.wire.specs.declared.message.Message.{Message}
 use Rattle.wire.specs.Messages.{IsMessage}
 use Rattle.durable.specs.Keeping.{Keeps}
-use Rattle.node.specs.declared.running.Node.{Node as Running}
+use Rattle.node.specs.declared.node.Node.{Node as Running}
 use Rattle.node.specs.Nodes.{Down, Node, opened, IsKnownPrefix}
 use Rattle.node.specs.Effects.{messages_of}
 use Rattle.node.specs.Standing.{IsNodeOf, IsOnDisk}
 use Rattle.world.specs.declared.places.Place.{Place}
 use Rattle.world.specs.declared.places.Place.TheVariants.{Open, Bare}
-use Rattle.world.specs.declared.whole.World.{World as Code}
+use Rattle.world.specs.declared.world.World.{World as Code}
 use Rattle.world.specs.Worlds.{World}
 
 -- node p of n, running or stopped, over a disk in memory that is armed or not

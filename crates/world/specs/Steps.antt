@@ -11,11 +11,13 @@ use Rattle.world.specs.declared.fault.WorldFault.{WorldFault}
 use Rattle.world.specs.declared.fault.WorldFault.TheVariants.{OutOfMemory, BadEvent}
 use Rattle.world.specs.declared.halt.Halt.{Halt}
 use Rattle.world.specs.declared.halt.Halt.TheVariants.{Wanted, Unpublished, Bad}
-use Rattle.world.specs.declared.whole.World.{World as Code}
+use Rattle.world.specs.declared.world.World.{World as Code}
 use Rattle.world.specs.Worlds.{World, Runs, start}
 use Rattle.world.specs.Taking.{node_of, Takes, TakesAll, IsBad, IsRefused, IsLast, EndsWanting, WantsMemory, MeetsBadEvent}
 use Rattle.world.specs.Decided.{Decides, AreDecided, IsSubmitted}
 use Rattle.world.specs.Standing.{IsWorldOf, IsPublishedAt, IsUnpublishedAt}
+
+-- Want of memory ends a run at an event or behind one; a bad event is none of a schedule.
 
 -- it goes on to a world that the new value stands for
 pub record Led (old new : Code) (How : World → World → Type 0) (w : World) : Type 0 where

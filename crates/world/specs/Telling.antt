@@ -3,9 +3,9 @@ use Rattle.std.specs.Prelude.{ℕ, ◌-◌, Option, Some, None, List, [], slice_
 use Rattle.node.specs.Nodes.{Value, Mode, Up, Stopped, Down}
 use Rattle.world.specs.declared.places.Place.{Place}
 use Rattle.world.specs.declared.places.Place.TheVariants.{Open, Bare}
-use Rattle.world.specs.declared.state.NodeState.{NodeState}
-use Rattle.world.specs.declared.state.NodeState.TheVariants as told
-use Rattle.world.specs.declared.whole.World.{World as Code}
+use Rattle.world.specs.declared.node_state.NodeState.{NodeState}
+use Rattle.world.specs.declared.node_state.NodeState.TheVariants as told
+use Rattle.world.specs.declared.world.World.{World as Code}
 
 abbrev pub mode_told : NodeState → Mode
 mode_told told.Up = Up

@@ -7,13 +7,13 @@ mod event;
 mod fault;
 mod halt;
 mod laws;
+mod node_state;
 mod passing;
 mod places;
 mod plan;
 mod queries;
 mod quiet;
-mod state;
-mod whole;
+mod world;
 
 pub use batches::batches_are_runs;
 pub use event::Event;
@@ -22,5 +22,5 @@ pub use laws::{
     every_schedule_agrees, quiet_stretches_decide, runs_are_schedules, worked_plans_are_taken,
     worked_schedules_are_taken, worlds_answer_as_one,
 };
-pub use state::NodeState;
-pub use whole::World;
+pub use node_state::NodeState;
+pub use world::World;

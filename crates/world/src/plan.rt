@@ -1,4 +1,6 @@
 //! The events of a plan.
+//!
+//! The highest of the promises is heard first, so one refusal is enough.
 
 ghost use Rattle.std.specs.Prelude.{◌≡◌, ◌++◌, ◌+◌, ◌<◌, ◌^◌, OnOk, length};
 ghost use Rattle.world.specs.Quiet.{each_to, one_attempt, overbid_first, quorum, to_each};

@@ -1,4 +1,6 @@
 //! What a world tells of its nodes and messages.
+//!
+//! A question is about a node of the cluster: all others are as at the start, so "down" would be false.
 
 ghost use Rattle.std.specs.Prelude.{◌≡◌, ◌≢◌, ◌≤◌, ◌<◌, ◌⊎◌, ◌↔◌, ◌-◌, List, Some, length, slice_get, option_copied, IfOk, IsErrOf};
 ghost use Rattle.command.specs.Effective.{effective};

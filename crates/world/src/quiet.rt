@@ -3,7 +3,7 @@
 ghost use Rattle.std.specs.Prelude.{◌≡◌, ◌↔◌, ◌≤◌, ℕ, [], List, Result, IfOk, OnOk, IsTrue, MatchOption};
 ghost use Rattle.world.specs.declared.event.Event.{Event as AbstractEvent};
 ghost use Rattle.world.specs.declared.fault.WorldFault.{WorldFault as AbstractFault};
-ghost use Rattle.world.specs.declared.whole.World.{World as AbstractCode};
+ghost use Rattle.world.specs.declared.world.World.{World as AbstractCode};
 ghost use Rattle.world.specs.Worlds.{World as AbstractWorld};
 
 use crate::bid::Bid;

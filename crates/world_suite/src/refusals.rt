@@ -1,4 +1,4 @@
-//! Runs with one growth refused, as `tools/refuse-growths` runs this: a run goes on from the count that it gave, and every answer is that of the
+//! Runs with one growth refused, as `tools/gate/refuse-growths` runs this: a run goes on from the count that it gave, and every answer is that of the
 //! schedule without refusals. A disk in memory that finds none stops its node, which is opened again; then the schedule comes once more.
 use crate::group::{Group, is_page};
 use crate::step::{Kind, Step};

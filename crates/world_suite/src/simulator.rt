@@ -1,8 +1,7 @@
 //! What the simulator prints over readers and writers that fail at each byte.
+use failing_ends::{Sink, trickle};
 use sitectl::{Counted, sitesim};
 use std::alloc::Global;
-use std::io;
-use std::io::{ErrorKind, Read, Write};
 
 /// What a run printed, and its status.
 #[derive(Drop)]
@@ -16,58 +15,9 @@ const SCHEDULE: &str = "nodes 1\nsubmit 1 1 1 8\nrelease\n\ntick 1\nsettle\nshow
 
 const PRINTED: &str = "node 1: up known 1 newest 1\nnode 1 release 1 /: 404 10\nnot found\n";
 
-/// Gives its bytes one at a time, and fails once `good` reads were made.
-#[derive(Drop)]
-struct Trickle<'a> {
-    bytes: &'a [u8],
-    good: usize,
-}
-
-impl Read for Trickle<'_> {
-    fn read(&mut self, buf: &mut [u8]) -> io::Result<usize> {
-        if self.good == 0 {
-            return Err(io::Error::from(ErrorKind::TimedOut));
-        }
-        self.good -= 1;
-        let n = buf.len().min(self.bytes.len()).min(1);
-        buf[..n].copy_from_slice(&self.bytes[..n]);
-        self.bytes = &self.bytes[n..];
-        Ok(n)
-    }
-}
-
-/// Takes `room` bytes, and then fails.
-#[derive(Drop)]
-struct Short {
-    taken: Vec<u8>,
-    room: usize,
-}
-
-impl Write for Short {
-    fn write(&mut self, buf: &[u8]) -> io::Result<usize> {
-        let n = buf.len().min(self.room);
-        if n == 0 && !buf.is_empty() {
-            return Err(io::Error::from(ErrorKind::BrokenPipe));
-        }
-        self.taken.extend_from_slice(&buf[..n])?;
-        self.room -= n;
-        Ok(n)
-    }
-
-    fn flush(&mut self) -> io::Result<()> {
-        Ok(())
-    }
-}
-
 fn trickled(alloc: Global, good: usize, room: usize) -> Printed {
-    let mut reader = Counted::new(Trickle {
-        bytes: SCHEDULE.as_bytes(),
-        good,
-    });
-    let mut out = Counted::new(Short {
-        taken: Vec::new(alloc),
-        room,
-    });
+    let mut reader = Counted::new(trickle(SCHEDULE.as_bytes(), good));
+    let mut out = Counted::new(Sink::with_room(alloc, room));
     let mut err = Counted::new(Vec::<u8>::new(alloc));
     let status = sitesim(alloc, &mut reader, &mut out, &mut err);
     Printed {

@@ -5,7 +5,7 @@ use Rattle.clap.specs.declared.builder.arg.Arg.{Arg}
 use Rattle.clap.specs.declared.builder.command.Command.{Command}
 use Rattle.clap.proofs.OnLiterals.{clap_on_literals}
 use Rattle.command_lines.specs.ServeOptions.{serve_app, SpellsBelow}
-use Rattle.command_lines.proofs.Chains.{IsChain, chain_given, chain_accepted}
+use Rattle.command_lines.proofs.Chains.{IsChain, adds, chain_given, chain_accepted}
 use Rattle.command_lines.proofs.SimpleCommands.{rows_by, taken_by, refused_by}
 use Rattle.command_lines.proofs.ServeLemmas.{chain_number}
 use Rattle.command_lines.proofs.serve_line.serve_matches.Goals as goal
@@ -23,7 +23,7 @@ ids = codes "id" ∷ codes "record" ∷ codes "http" ∷ codes "rounds" ∷ code
 
 abbrev args : (c : goal.After-try_get_matches_from) → List Arg
 args c =
-    c.id_option.result ∷ c.required_option.result ∷ c.required_option-2.result ∷ c.rounds_option.result ∷ c.format_flag.result ∷ c.millis_option.result ∷ c.millis_option-2.result ∷
+    c.id_option.result ∷ c.required_option.result ∷ c.required_option-2.result ∷ c.rounds_option.result ∷ c.format_flag.result ∷ c.number_option.result ∷ c.number_option-2.result ∷
     c.address_arguments.result ∷ []
 
 made : (c : goal.After-try_get_matches_from) → IsChain c.described.result c.in_ok-command.command (args c) ids
@@ -33,8 +33,8 @@ made c =
     let http = c.required_option-2.ensures in
     let rounds = c.rounds_option.ensures in
     let format = c.format_flag.ensures in
-    let patience = c.millis_option.ensures in
-    let serving = c.millis_option-2.ensures in
+    let patience = c.number_option.ensures in
+    let serving = c.number_option-2.ensures in
     let address = c.address_arguments.ensures in
     record {
       bare = record { args = c.described.ensures.empty.0; groups = c.described.ensures.empty.1; globals = c.described.ensures.local; negates = c.described.ensures.negates };
@@ -85,14 +85,11 @@ made c =
       own = refl;
     }
 
-adds : (old new : Command) (a : Arg) (app : App) (r : Rule) → AddsArg old a new → a.global ≡ false → app_of old ≡ app → rule_of a ≡ r → app_of new ≡ with_rule app r
-adds old new a app r added local is rule = added.shape local ∙ ap₂ with_rule is rule
-
 app_is : (c : goal.After-try_get_matches_from) → app_of c.in_ok-command.command ≡ serve_app
 app_is c =
     adds _ _ _ _ _ c.in_ok-command.ensures c.address_arguments.ensures.local
-    (adds _ _ _ _ _ c.in_ok-arg-7.ensures c.millis_option-2.ensures.local
-    (adds _ _ _ _ _ c.in_ok-arg-6.ensures c.millis_option.ensures.local
+    (adds _ _ _ _ _ c.in_ok-arg-7.ensures c.number_option-2.ensures.local
+    (adds _ _ _ _ _ c.in_ok-arg-6.ensures c.number_option.ensures.local
     (adds _ _ _ _ _ c.in_ok-arg-5.ensures c.format_flag.ensures.local
     (adds _ _ _ _ _ c.in_ok-arg-4.ensures c.rounds_option.ensures.local
     (adds _ _ _ _ _ c.in_ok-arg-3.ensures c.required_option-2.ensures.local
@@ -102,8 +99,8 @@ app_is c =
     c.required_option-2.ensures.rule)
     c.rounds_option.ensures.rule)
     c.format_flag.ensures.rule)
-    c.millis_option.ensures.rule)
-    c.millis_option-2.ensures.rule)
+    c.number_option.ensures.rule)
+    c.number_option-2.ensures.rule)
     c.address_arguments.ensures.rule
 
 pub returns : goal.returns
@@ -121,8 +118,8 @@ returns c =
           (chain_given _ _ (args c) ids 2 c.id_option.result m (made c) (omega arith) c.required_option-2.ensures.takes h)) parse.ensures.parsed;
       rounds = IfOk-weaker parse.result _ _ (λ m h. subst (λ (w : List ℕ). SpellsBelow (2 ^ 32) (one_text (found_of m) w)) c.rounds_option.ensures.id
           (chain_number _ _ (args c) ids 3 c.id_option.result 4294967295 (2 ^ 32) m (made c) (omega arith) c.rounds_option.ensures.takes c.rounds_option.ensures.parser (omega arith) h)) parse.ensures.parsed;
-      patience = IfOk-weaker parse.result _ _ (λ m h t found. chain_accepted _ _ (args c) ids 5 c.id_option.result _ m t (made c) (omega arith) c.millis_option.ensures.parser refl h
-          (subst (λ (w : List ℕ). one_text (found_of m) w ≡ Some t) (sym c.millis_option.ensures.id) found)) parse.ensures.parsed;
-      serving = IfOk-weaker parse.result _ _ (λ m h t found. chain_accepted _ _ (args c) ids 6 c.id_option.result _ m t (made c) (omega arith) c.millis_option-2.ensures.parser refl h
-          (subst (λ (w : List ℕ). one_text (found_of m) w ≡ Some t) (sym c.millis_option-2.ensures.id) found)) parse.ensures.parsed;
+      patience = IfOk-weaker parse.result _ _ (λ m h t found. chain_accepted _ _ (args c) ids 5 c.id_option.result _ m t (made c) (omega arith) c.number_option.ensures.parser refl h
+          (subst (λ (w : List ℕ). one_text (found_of m) w ≡ Some t) (sym c.number_option.ensures.id) found)) parse.ensures.parsed;
+      serving = IfOk-weaker parse.result _ _ (λ m h t found. chain_accepted _ _ (args c) ids 6 c.id_option.result _ m t (made c) (omega arith) c.number_option-2.ensures.parser refl h
+          (subst (λ (w : List ℕ). one_text (found_of m) w ≡ Some t) (sym c.number_option-2.ensures.id) found)) parse.ensures.parsed;
     }

@@ -5,7 +5,7 @@ use Rattle.clap.specs.declared.parser.matches.Found.{Found}
 use Rattle.clap.proofs.WalkLemmas.{first_value-rows, one_text-rows}
 use Rattle.command_lines.specs.Options.{IsNumberOf}
 use Rattle.command_lines.specs.ServeOptions.{is_set, GivesServe}
-use Rattle.site_serve.specs.declared.serve_options.ServeOptions.{ServeOptions}
+use Rattle.site_halts.specs.declared.serve_options.ServeOptions.{ServeOptions}
 use Rattle.command_lines.proofs.serve_line.sited_options.Goals as goal
 
 named : (f : Found) (rows : List Row) (o : ServeOptions) → rows_of f ≡ rows → IsNumberOf (one_text f (codes "id")) (Some o.id)

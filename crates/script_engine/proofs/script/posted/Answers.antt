@@ -1,16 +1,10 @@
-use Rattle.std.proofs.Common.{◌≡◌, ◌++◌, ◌∷◌, ◌∙◌, sym, ap, ap₂, take-append-drop, arith}
 use Rattle.script_engine.proofs.ScriptLemmas.{short_text, bad_end}
 use Rattle.script_engine.proofs.script.posted.Goals as goal
 
-pub returns-in_default : goal.returns-in_default
-returns-in_default c = short_text c.args.post.node c.args.post.ticket c.args.post.text_len c.args.after.now c.requires (omega (arith, c.in_default.ensures.cases))
+pub returns-in-Short : goal.returns-in-Short
+returns-in-Short c = short_text c.args.post.node c.args.post.ticket c.args.post.text_len c.args.after.now c.requires c.in-Short.ensures
 
-pub returns-in_default-split_first : goal.returns-in_default-split_first
-returns-in_default-split_first c =
-    short_text c.args.post.node c.args.post.ticket c.args.post.text_len c.args.after.now c.requires (omega (arith, c.in-Some.ensures.cases, c.in_default-split_first.ensures.cases))
-
-pub returns-then-end-ne10 : goal.returns-then-end-ne10
-returns-then-end-ne10 c =
-    let parts : c.args.after.now ≡ c.in-Some.text.now ++ c.in-Some.rest.now = sym (ap₂ (λ a b. a ++ b) c.in-Some.ensures.cases.1 c.in-Some.ensures.cases.2 ∙ take-append-drop c.args.post.text_len c.args.after.now) in
-    let whole : c.args.after.now ≡ c.in-Some.text.now ++ (c.in-Some-split_first.end.now ∷ c.in-Some-split_first.rest.now) = parts ∙ ap (λ t. c.in-Some.text.now ++ t) c.in-Some-split_first.ensures.cases.0 in
-    bad_end c.args.post.node c.args.post.ticket c.args.post.text_len c.args.after.now c.in-Some.text.now c.in-Some-split_first.rest.now c.in-Some-split_first.end.now c.requires c.in-Some.ensures.cases.3 whole c.if-end-ne10.true
+pub returns-in-Bad : goal.returns-in-Bad
+returns-in-Bad c =
+    let b = c.in-Bad.ensures in
+    bad_end c.args.post.node c.args.post.ticket c.args.post.text_len c.args.after.now b.0 b.2 b.1 c.requires b.3 b.4 b.5

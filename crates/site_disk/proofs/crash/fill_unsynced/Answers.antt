@@ -1,8 +1,8 @@
 use Rattle.std.proofs.Common.{◌≡◌, ◌++◌, ◌∷◌, [], List, length, ◌∙◌, ap, subst, arith, inl, inr, ⊎_elim}
 use Rattle.site_disk.specs.Model.{IsWithin}
 use Rattle.site_disk.specs.Memory.{after_calls}
-use Rattle.site_disk.specs.declared.memory.Call.{Call}
-use Rattle.site_disk.specs.declared.memory.Call.TheVariants.{Len, Read, Write, Sync}
+use Rattle.site_disk.specs.declared.mem_disk.Call.{Call}
+use Rattle.site_disk.specs.declared.mem_disk.Call.TheVariants.{Len, Read, Write, Sync}
 use Rattle.site_disk.proofs.Ranges.{is_outside_or_not, none_within}
 use Rattle.site_disk.proofs.Replay.{outside_before, within_before}
 use Rattle.site_disk.proofs.crash.fill_unsynced.Goals as goal

@@ -2,8 +2,8 @@ use Rattle.std.proofs.Common.{◌≡◌, ◌<◌, ◌++◌, ◌∷◌, [], List,
 use Rattle.std.proofs.lemmas.List.{ext_get_or}
 use Rattle.site_disk.specs.Model.{IsWithin}
 use Rattle.site_disk.specs.Memory.{after_calls}
-use Rattle.site_disk.specs.declared.memory.Call.{Call}
-use Rattle.site_disk.specs.declared.memory.Call.TheVariants.{Len, Read, Write, Sync}
+use Rattle.site_disk.specs.declared.mem_disk.Call.{Call}
+use Rattle.site_disk.specs.declared.mem_disk.Call.TheVariants.{Len, Read, Write, Sync}
 use Rattle.site_disk.proofs.Ranges.{outside_or_within, none_within}
 use Rattle.site_disk.proofs.Replay.{within_before}
 use Rattle.site_disk.proofs.sync.copy_unsynced.Goals as goal

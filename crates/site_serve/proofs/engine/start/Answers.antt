@@ -1,11 +1,11 @@
 use Rattle.std.proofs.Common.{inl, inr, ⊎_elim}
-use Rattle.site_serve.specs.Rounds.{TakesPasses, BreaksWork}
+use Rattle.site_serve.specs.Passes.{TakesPasses, BreaksWork}
 use Rattle.site_serve.proofs.ManySteps.{if_err_gives}
 use Rattle.site_serve.proofs.Runs.{on_ok_gives, as_many, as_lost}
 use Rattle.site_serve.proofs.engine.start.Goals as goal
 
-pub returns-clause-rounds : goal.returns-clause-rounds
-returns-clause-rounds g c = on_ok_gives c.work.result c.work.ensures.passes λ led.
+pub returns-clause-laps : goal.returns-clause-laps
+returns-clause-laps g c = on_ok_gives c.work.result c.work.ensures.passes λ led.
     as_many (λ k. TakesPasses c.args.server.now.served.node.cluster c.args.server.now.served.node.me k c.work.new.server.served.node.releases) c.count_passes-count.ensures led
 
 pub returns-clause-halted : goal.returns-clause-halted

@@ -1,7 +1,7 @@
 use Rattle.std.proofs.Common.{sym, subst}
 use Rattle.site_drive.proofs.Results.{err_gives}
 use Rattle.site_serve.specs.Mailing.{waiting_of, posted_of}
-use Rattle.site_serve.specs.Rounds.{Led, TakesPass}
+use Rattle.site_serve.specs.Passes.{Led, TakesPass}
 use Rattle.site_serve.proofs.ManyPasses.{passed, step_broke}
 use Rattle.site_serve.proofs.passes.take_pass.Goals as goal
 

@@ -2,7 +2,7 @@ use Rattle.std.proofs.Common.{◌≡◌, ◌≤◌}
 use Rattle.http_read.specs.Bytes.{end_of}
 use Rattle.site_drive.specs.Leading.{StaysWhose}
 use Rattle.site_serve.specs.Noted.{HasNoted}
-use Rattle.site_serve.specs.Rounds.{Led, TakesPasses}
+use Rattle.site_serve.specs.Passes.{Led, TakesPasses}
 use Rattle.site_serve.proofs.passes.take_passes.Given as goal
 
 abbrev pub invariant-loop : goal.invariant-loop

@@ -1,18 +1,30 @@
-use Rattle.std.proofs.Common.{rules, subst}
-use Rattle.site_pace.specs.Pacing.{IsDue}
+use Rattle.std.proofs.Common.{rules, subst, sym}
+use Rattle.site_pace.specs.Pacing.{IsDue, IsFresh, IsYielding}
 use Rattle.site_pace.proofs.pace.Pace.due.Goals as goal
 
 -- it is what `call` answered; that the questions moved on before changes nothing else
 pub returns-clause-due : goal.returns-clause-due
 returns-clause-due g c = λ s h.
     let due = c.call.ensures.due in
-    let is = subst (λ p. IsDue p c.args.now c.of-seen.result c.next_telling-telling.result due.0) c.next_telling-telling.ensures.same due.1 in (
+    let is = subst (λ p. IsDue p c.args.now c.of-seen.result c.first_tried_by-tries.result c.next_telling-telling.result due.0) c.next_telling-telling.ensures.same due.1 in (
       c.of-seen.result,
+      c.first_tried_by-tries.result,
       c.next_telling-telling.result,
       due.0,
       c.of-seen.ensures s h,
+      c.first_tried_by-tries.ensures s h,
       c.next_telling-telling.ensures.told,
-      record { fresh = is.fresh; told = is.told; question = is.question; tick = is.tick },
+      record { fresh = is.fresh; told = is.told; question = is.question; tick = is.tick; waits = is.waits; yields = is.yields },
       due.2,
       search rules,
     )
+
+-- a telling waits then, so the pace is the one before
+pub returns-clause-fresh : goal.returns-clause-fresh
+returns-clause-fresh g c = λ s h wants since stirred none.
+    let seen = c.of-seen.ensures s h in
+    let fresh : IsFresh c.args.self.now.ticking c.of-seen.result.wanted c.args.self.now.stirred = (seen.wanted.1 wants, since, stirred) in
+    let same = sym (c.next_telling-telling.ensures.waits fresh).1 in
+    c.call.ensures.fresh
+    (subst (λ p. IsFresh p.ticking c.of-seen.result.wanted p.stirred) same fresh)
+    (subst (λ p. ¬ IsYielding p c.args.now c.first_tried_by-tries.result) same (none c.of-seen.result c.first_tried_by-tries.result seen (c.first_tried_by-tries.ensures s h)))

@@ -1,7 +1,7 @@
 use Rattle.std.proofs.Common.{◌⊎◌, ◌++◌, inl, ap, subst, ◌∙◌}
 use Rattle.site_drive.specs.Posting.{bytes_of, letters_of, spelled_of}
 use Rattle.site_drive.proofs.Results.{err_gives}
-use Rattle.site_serve.specs.Rounds.{Led, BreaksStep, LosesStep, IsBatched}
+use Rattle.site_serve.specs.Passes.{Led, BreaksStep, LosesStep, IsBatched}
 use Rattle.site_serve.proofs.ManyPasses.{posted, not_posted, batch_broke}
 use Rattle.site_serve.proofs.server.Server.take_batch.Goals as goal
 
@@ -32,6 +32,6 @@ returns-clause-ok g c =
     let new = c.take_batch.new.node in
     let out = c.take_batch.new.self.outbox.items in
     let letters = letters_of c.keep_own.new.self.letters.items in
-    subst (λ l. IsBatched g.D.Disk.stands_for (bytes_of l) letters old new) c.as_slice-came.ensures.value
+    subst (λ l. IsBatched g.D.Disk.stands_for (bytes_of l) c.in_ok-malformed.malformed letters old new) c.as_slice-came.ensures.value
     (posted g.D.Disk.stands_for old new c.due-last.result (bytes_of c.as_slice-came.result.now) _ out c.in_ok-malformed.ensures.ends.ok
     letters (λ fits. ap (λ v. letters_of v.items) c.keep_own.ensures.same ∙ c.in_ok-post.ensures.ok fits ∙ ap (λ l. letters_of l ++ spelled_of out) c.clear.ensures.items))

@@ -1,0 +1,8 @@
+//! A reader and a writer in memory that work in pieces and fail when they are told to: for tests.
+#![tactic(auto)]
+
+mod pieces;
+mod sink;
+
+pub use pieces::{Pieces, in_pieces, trickle, whole};
+pub use sink::Sink;

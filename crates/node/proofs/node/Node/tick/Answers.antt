@@ -1,0 +1,18 @@
+use Rattle.node.specs.Calls.{tick as ticking}
+use Rattle.node.proofs.Beginnings.{refused_by}
+use Rattle.node.proofs.node.Node.tick.Goals as goal
+
+pub returns-in_err-due-clause-event : goal.returns-in_err-due-clause-event
+returns-in_err-due-clause-event g c = refused_by g.D.Disk.stands_for c.args.self.now ticking c.in_err-due.field-0.0 c.from_residual.result _ c.from_residual.ensures.1 c.in_err-due.ensures.refused
+
+pub returns-clause-event : goal.returns-clause-event
+returns-clause-event g c = c.begin_attempts.ensures.event ticking c.in_ok-due.ensures.due
+
+pub begin_attempts-requires-clause-running : goal.begin_attempts-requires-clause-running
+begin_attempts-requires-clause-running g c = c.in_ok-due.ensures.due.running
+
+pub begin_attempts-requires-clause-above : goal.begin_attempts-requires-clause-above
+begin_attempts-requires-clause-above g c = c.in_ok-due.ensures.due.above
+
+pub begin_attempts-requires-clause-span : goal.begin_attempts-requires-clause-span
+begin_attempts-requires-clause-span g c = c.in_ok-due.ensures.due.span

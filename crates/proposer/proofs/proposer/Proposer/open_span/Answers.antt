@@ -1,0 +1,36 @@
+use Rattle.std.proofs.Common.{◌≡◌, ◌+◌, suc, ℕ, Some, List, length, refl, sym, ap, ◌∙◌, arith}
+use Rattle.site_ids.specs.Lists.{put_at}
+use Rattle.proposer.specs.Attempts.{opened, opened_span}
+use Rattle.proposer.proofs.proposer.Proposer.open_span.Goals as goal
+
+pub loop-own-init : goal.loop-own-init
+loop-own-init c =
+    let items = c.into_iter-own-iterator.ensures.into_iter_gives.0 in
+    let none : c.args.first + 0 ≡ c.args.first = omega arith in
+    record {
+      same = (refl, refl, refl);
+      counted = let lengths = ap (λ (xs : List (List ℕ)). length xs) items in omega (arith, lengths);
+      room = c.requires.room;
+      opened = λ attempts are. (attempts, are, (λ i. opened_span attempts (none i) c.args.ballot (items i)));
+    }
+
+pub loop-own-preserved : goal.loop-own-preserved
+loop-own-preserved c =
+    let l = c.loop-own in
+    let items = c.in-Some.ensures.steps.0 in
+    let counted = l.invariant.counted in
+    let longer = ap (λ (xs : List (List ℕ)). length xs) items in
+    let next : c.args.first + (l.past + 1) ≡ suc (c.args.first + l.past) = omega arith in
+    let at_is : c.in-Some-new.at ≡ c.args.first + l.past = c.in-Some-new.ensures.0 ∙ ap (λ (n : ℕ). n + l.past) c.number.ensures.is in
+    record {
+      same = (c.open.ensures.same.0 ∙ l.invariant.same.0, c.open.ensures.same.1 ∙ l.invariant.same.1, c.open.ensures.same.2 ∙ l.invariant.same.2);
+      counted = omega (arith, counted, longer);
+      room = λ at within. c.open.ensures.kept at (l.invariant.room at within);
+      opened = λ attempts are.
+          let mid = l.invariant.opened attempts are in (
+            put_at mid.0 c.in-Some-new.at (Some (opened c.args.ballot c.in-Some.own)),
+            c.open.ensures.opened mid.0 mid.1,
+            (λ i. opened_span (put_at mid.0 (at_is i) (Some (opened c.args.ballot c.in-Some.own))) (next i) c.args.ballot c.next.new.self.rest.items)
+                ∙ ap (λ (xs : List (List ℕ)). opened_span mid.0 (c.args.first + l.past) c.args.ballot xs) (sym items) ∙ mid.2,
+          );
+    }

@@ -1,0 +1,157 @@
+//! When a server yields to another one that tries: each rule as a table.
+use site_ids::{Cluster, NodeId};
+use site_pace::{Times, Yielding};
+use std::process::Abort;
+
+/// The moment of each row, and how long the last attempts stood before it.
+const NOW: u64 = 100;
+
+const TOOK: u64 = 4;
+
+/// Who tried, and who last; since when no attempt stands, and since when it yields; its number, and whose attempt stands, 0 for nobody's; and whether it
+/// waits, and yields.
+type Row = (
+    &'static [u8],
+    u8,
+    Option<u64>,
+    Option<u64>,
+    u8,
+    u8,
+    bool,
+    bool,
+);
+
+const YIELDS: &[Row] = &[
+    // Nobody tried, or itself alone.
+    (&[], 0, Some(100), None, 2, 0, false, false),
+    (&[2], 2, None, None, 2, 2, false, false),
+    (&[2], 2, Some(100), None, 2, 0, false, false),
+    // Another one's attempt stands.
+    (&[3], 3, None, None, 2, 3, true, true),
+    (&[3], 3, None, Some(51), 2, 3, true, true),
+    (&[3], 3, None, Some(50), 2, 3, true, false),
+    // Its own attempt stands, and another one tried.
+    (&[1, 2], 2, None, None, 2, 2, true, true),
+    (&[1, 2], 2, None, Some(50), 2, 2, true, false),
+    // None stands, and it is the next one.
+    (&[1, 2, 3], 1, Some(100), None, 2, 0, false, false),
+    (&[1, 3], 1, Some(100), None, 3, 0, false, false),
+    (&[2, 3], 3, Some(100), Some(60), 1, 0, false, false),
+    (&[1, 9], 9, Some(100), None, 1, 0, false, false),
+    // Another one comes before it.
+    (&[1, 2, 3], 1, Some(100), None, 3, 0, true, true),
+    (&[1, 2, 3], 1, Some(96), None, 3, 0, true, true),
+    (&[1, 2, 3], 1, Some(95), None, 3, 0, true, false),
+    (&[1, 2, 3], 1, Some(100), Some(50), 3, 0, true, false),
+    (&[1, 3], 3, Some(100), None, 2, 0, true, true),
+    (&[1, 2], 1, Some(100), None, 1, 0, true, true),
+    (&[1, 9], 9, Some(100), None, 9, 0, true, true),
+];
+
+/// The node of that number, of nine.
+fn node(number: u8) -> Option<NodeId> {
+    Cluster::new(9)?.node(number)
+}
+
+fn among(numbers: &[u8]) -> [bool; 9] {
+    let mut tried = [false; 9];
+    for number in 1..=9 {
+        tried[usize::from(number) - 1] = numbers.contains(&number);
+    }
+    tried
+}
+
+#[test]
+fn nodes_that_try_take_turns(rt: HostRuntime) {
+    let times = Times::new(None, None);
+    for &(tried, last, free, since, me, tries, waits, yields) in YIELDS {
+        let yielding = Yielding {
+            tried: among(tried),
+            tries: node(tries),
+            last: node(last),
+            stands: None,
+            free,
+            took: TOOK,
+            since,
+        };
+        let me = node(me).expect(&rt, "a node");
+        assert_eq!(rt; yielding.waits(me), waits, "{yielding:?} {me:?}");
+        let due = yielding.is_due(times, NOW, me);
+        assert_eq!(rt; due, yields, "{yielding:?} {me:?}");
+    }
+}
+
+/// Since when attempts stood and since when none did, and whose stands now, 0 for nobody's; who tried then, and who last, where node 4 did before; since
+/// when attempts stand and since when none does, and how long the last ones stood.
+type Noted = (
+    Option<u64>,
+    Option<u64>,
+    u8,
+    &'static [u8],
+    u8,
+    Option<u64>,
+    Option<u64>,
+    u64,
+);
+
+const NOTED: &[Noted] = &[
+    (None, None, 0, &[4], 4, None, Some(100), TOOK),
+    (None, Some(7), 0, &[4], 4, None, Some(7), TOOK),
+    (Some(93), None, 0, &[4], 4, None, Some(100), 7),
+    (None, Some(7), 1, &[1, 4], 1, Some(100), None, TOOK),
+    (Some(93), None, 4, &[4], 4, Some(93), None, TOOK),
+    (Some(93), None, 9, &[4, 9], 9, Some(93), None, TOOK),
+];
+
+#[test]
+fn whose_attempt_stands_is_noted(rt: HostRuntime) {
+    for &(stood, free, tries, tried, last, stands, then, took) in NOTED {
+        let mut yielding = Yielding {
+            tried: among(&[4]),
+            tries: None,
+            last: node(4),
+            stands: stood,
+            free,
+            took: TOOK,
+            since: Some(3),
+        };
+        let after = Yielding {
+            tried: among(tried),
+            tries: node(tries),
+            last: node(last),
+            stands,
+            free: then,
+            took,
+            since: Some(3),
+        };
+        yielding.note(NOW, node(tries));
+        assert_eq!(rt; yielding, after, "{stood:?} {free:?} {tries}");
+    }
+}
+
+/// Since when it yields, whether it waits and yields; who tried then, where nodes 2 and 5 did before; and since when it yields then.
+const AFTER: &[(Option<u64>, bool, bool, &[u8], Option<u64>)] = &[
+    (None, true, true, &[2, 5], Some(100)),
+    (Some(60), true, true, &[2, 5], Some(60)),
+    (Some(60), false, false, &[2, 5], None),
+    (Some(60), true, false, &[], None),
+    (None, true, false, &[], None),
+];
+
+#[test]
+fn who_waited_in_vain_goes_on(rt: HostRuntime) {
+    for &(since, waits, yields, tried, then) in AFTER {
+        let mut yielding = Yielding {
+            tried: among(&[2, 5]),
+            since,
+            ..Yielding::new()
+        };
+        let after = Yielding {
+            tried: among(tried),
+            since: then,
+            ..Yielding::new()
+        };
+        yielding.pass(NOW, waits, yields);
+        assert_eq!(rt; yielding, after, "{since:?} {waits} {yields}");
+    }
+}

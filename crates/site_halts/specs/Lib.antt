@@ -1,0 +1,2 @@
+pub mod Halts
+pub mod Why

@@ -1,0 +1,22 @@
+//! What a server is asked to be.
+
+/// What a command line of `sited` names, each text as it was written.
+#[derive(Debug, Drop)]
+pub struct ServeOptions<'a> {
+    /// This server's number.
+    pub id: u8,
+    /// The record's file.
+    pub record: &'a str,
+    /// The address of requests.
+    pub http: &'a str,
+    /// How many laps it takes, by `--rounds`.
+    pub rounds: u32,
+    /// Whether an empty or missing file becomes an empty record first.
+    pub format: bool,
+    /// How many milliseconds it waits, at least, before it tries again; where none are named, 100.
+    pub patience: Option<u64>,
+    /// How many milliseconds a request may take, from its first byte to the last of its response, where that is limited.
+    pub serve_ms: Option<u64>,
+    /// The addresses of servers 1 to n, in order.
+    pub peers: Vec<&'a str>,
+}

@@ -1,0 +1,103 @@
+//! A cluster's nodes, each over a disk in memory, and all messages ever handed out.
+//!
+//! The list of messages is the nodes' outbox, for a copy a delivery. A run gives no cause for a refused opening, as that it follows is no invariant.
+
+ghost use Rattle.std.specs.Prelude.{◌≡◌, length};
+
+use crate::halt::Halt;
+use crate::places::Place;
+use crate::{Event, WorldFault};
+use node::Outbox;
+use site_ids::Cluster;
+use std::alloc::{AllocError, Global};
+
+/// The nodes of a cluster over disks in memory, and all messages that they ever handed out.
+#[derive(Drop)]
+pub struct World {
+    pub(crate) alloc: Global,
+    pub(crate) cluster: Cluster,
+    // that of node 1 first
+    pub(crate) places: Vec<Place>,
+    // the oldest first, to whomever
+    pub(crate) sent: Outbox,
+    ghost all_there: { length places.items ≡ cluster },
+}
+
+impl World {
+    ghost use Rattle.std.specs.Prelude.{List, [], IfOk};
+    ghost use Rattle.node.specs.Standing.{OnlyGrows};
+    ghost use Rattle.world.specs.declared.event.Event.{Event as AbstractEvent};
+    ghost use Rattle.world.specs.Worlds.{start};
+    ghost use Rattle.world.specs.Standing.{IsWorldOf};
+    ghost use Rattle.world.specs.Steps.{StepEnds, RunEnds, Follows, Reached, Reaches};
+
+    /// The nodes of a cluster, each opened over an empty record. No message was handed out. Where a disk or a node finds
+    /// no memory there is no world.
+    pub fn new(alloc: Global, cluster: Cluster) -> Result<World, AllocError>
+        ensures start { IfOk result (λ world. IsWorldOf world start) }
+        ensures whose { IfOk result (λ world. world.cluster ≡ cluster) }
+        ensures reached { IfOk result (λ world. Reached world []) }
+    {
+        let mut places = Vec::new(alloc);
+        while let Some(me) = cluster.node(places.len() as u8 + 1) {
+            let place = Place::fresh(alloc, cluster, me)?;
+            places.push(place)?;
+        }
+        Ok(World {
+            alloc,
+            cluster,
+            places,
+            sent: Vec::new(alloc),
+        })
+    }
+
+    /// Takes the events in order, each at its node, which then publishes all that it knows without a gap. It stops at a
+    /// bad event, or where memory is wanted; the fault tells how many events were taken, and a run over those that are
+    /// left goes on from there. A call at a node that is down or stopped does nothing, and so does one that is refused
+    /// for another cause than memory.
+    pub fn run(&mut self, events: &[Event]) -> Result<(), WorldFault>
+        ensures ends { RunEnds self.old self.new events.now result }
+        ensures follows { Follows self.old self.new }
+        ensures reached { (earlier : List AbstractEvent) → Reached self.old earlier → Reaches self.new earlier events.now result }
+        ensures grows { OnlyGrows self.old.sent.items self.new.sent.items }
+        ensures whose { self.new.cluster ≡ self.old.cluster }
+    {
+        let mut taken = 0;
+        while let Some(event) = events.get(taken) {
+            match self.step(event) {
+                Ok(()) => taken += 1,
+                Err(Halt::Wanted) => return Err(WorldFault::OutOfMemory(taken)),
+                Err(Halt::Unpublished) => return Err(WorldFault::OutOfMemory(taken + 1)),
+                Err(Halt::Bad) => return Err(WorldFault::BadEvent(taken)),
+            }
+        }
+        Ok(())
+    }
+
+    // Takes an event, and has its node publish.
+    fn step(&mut self, event: &Event) -> Result<(), Halt>
+        ensures ends { StepEnds self.old self.new event.now result }
+        ensures grows { OnlyGrows self.old.sent.items self.new.sent.items }
+        ensures whose { self.new.cluster ≡ self.old.cluster }
+    {
+        let me = event.node();
+        if self.cluster.size() < me.number() {
+            return Err(Halt::Bad);
+        }
+        if event.is_unsent(self.sent.len()) {
+            return Err(Halt::Bad);
+        }
+        let at = (me.number() - 1) as usize;
+        let place = &mut self.places[at];
+        if place
+            .happen(self.alloc, self.cluster, event, &mut self.sent)
+            .is_err()
+        {
+            return Err(Halt::Wanted);
+        }
+        if place.publish().is_err() {
+            return Err(Halt::Unpublished);
+        }
+        Ok(())
+    }
+}
