@@ -1,24 +1,13 @@
-# A crate's contracts, from its sources, lib.rt first: what it is, a line for each function that is handed on, and one for each type with
-# its methods (with part.awk). With `list` set a line `CRATE|NAME|CLAUSES` for each of them.
+# A crate's contracts, from its sources, lib.rt first: a line for each function that is handed on and has clauses with a name, one for each type with such
+# methods, and one for the functions that have none. With `list` set a line `CRATE|NAME|CLAUSES` for each of them.
 function named(text) { sub(/^ *(pub )?(const )?[a-z]+ /, "", text); sub(/[^A-Za-z0-9_].*/, "", text); return text }
-function joined(list, more) { return list == "" ? more : list ", " more }
-function plural(list) { return list ~ /,/ ? "results" : "result" }
+function joined(list, more) { return list == "" ? more : more == "" ? list : list ", " more }
 # a method stands with its type
 function owned(which) { if (!(which in of)) { of[which] = ""; owners[++owner_count] = which } }
-function add(which, text) { name = which; count++; names[count] = which; docs[count] = part(text); traits[count] = which !~ /::/ && is_trait }
+function add(which) { name = which; count++; names[count] = which; traits[count] = which !~ /::/ && is_trait }
 
-FNR == 1 { owner = ""; doc = ""; name = ""; whole = 0 }
+FNR == 1 { owner = ""; name = "" }
 
-# the comment above a thing, its first paragraph
-/^ *\/\/\// {
-    line = $0
-    sub(/^ *\/\/\/ ?/, "", line)
-    if (line == "") whole = 1
-    if (!whole) doc = doc == "" ? line : doc " " line
-    next
-}
-/^\/\/! / && FNR == NR && !told { line = $0; sub(/^\/\/! /, "", line); head = head == "" ? line : head " " line; next }
-FNR == NR && /^(\/\/!$|[^\/])/ { told = 1 }
 /^ *#\[/ { next }
 
 # what lib.rt hands on
@@ -48,11 +37,11 @@ handing {
         kept[kind] = joined(kept[kind], "`" owner "`")
     }
 }
-/^pub trait / { owner = named($0); is_trait = 1; if (owner in handed) add(owner, doc) }
+/^pub trait / { owner = named($0); is_trait = 1; if (owner in handed) add(owner) }
 /^(    )?(pub(\(crate\))? )?(const )?fn / {
     is_open = /^pub (const )?fn / ? (named($0) in handed) : (/^    pub (const )?fn / || (is_trait && /^    fn /)) && (owner in handed)
     name = ""
-    if (is_open) add((/^ / ? owner "::" : "") named($0), doc)
+    if (is_open) add((/^ / ? owner "::" : "") named($0))
     inside = 1
 }
 /^(    )?\{/ { inside = 0 }
@@ -68,38 +57,30 @@ inside && name != "" && /^ +(requires|ensures)[ {]/ {
         if (clause != "") needs[count] = needs[count] == "requires" ? "requires " clause : needs[count] ", " clause
     }
 }
-{ doc = ""; whole = 0 }
-
 END {
     for (k = 1; k <= count; k++) {
         if (needs[k] != "") clauses[k] = clauses[k] == "" ? needs[k] : needs[k] "; " clauses[k]
         if (list) { print crate "|" names[k] "|" clauses[k]; continue }
-        if (traits[k]) { owned(names[k]); says[names[k]] = docs[k] }
+        if (traits[k]) owned(names[k])
         else if (split(names[k], parts, "::") == 2) {
             owned(parts[1])
             which = "`" parts[2] "`"
             if (!has[k]) bare[parts[1]] = joined(bare[parts[1]], which)
-            else if (clauses[k] == "") plain[parts[1]] = joined(plain[parts[1]], which)
-            else of[parts[1]] = joined(of[parts[1]], which " (" clauses[k] ")")
+            else if (clauses[k] != "") of[parts[1]] = joined(of[parts[1]], which " (" clauses[k] ")")
         }
         else if (!has[k]) safe = joined(safe, "`" names[k] "`")
-        else if (docs[k] == "" && clauses[k] == "") results = joined(results, "`" names[k] "`")
-        else rows = rows sprintf("`%s`|%s|%s\n", names[k], clauses[k], docs[k])
+        else if (clauses[k] != "") rows = rows sprintf("`%s`|%s\n", names[k], clauses[k] ~ /^requires[^;]*$/ ? joined(clauses[k], "result") : clauses[k])
     }
     if (list) exit
-    head = sentence(head)
-    sub(/\.$/, "", head)
-    printf "**`%s`**||**%s**\n%s", crate, head, rows
     for (k = 1; k <= owner_count; k++) {
         which = owners[k]
         text = of[which]
-        if (plain[which] != "") text = (text == "" ? "" : text "; ") plural(plain[which]) ": " plain[which]
         if (bare[which] != "") text = (text == "" ? "" : text "; ") "safe: " bare[which]
-        if (which in kept) says[which] = (says[which] == "" ? "" : says[which] "; ") "for " kept[which]
-        printf "`%s`|%s|%s\n", which, text, says[which]
+        if (which in kept) text = (text == "" ? "" : text "; ") "for " kept[which]
+        if (text != "") rows = rows sprintf("`%s`|%s\n", which, text)
         delete kept[which]
     }
-    for (k = 1; k <= kind_count; k++) if (kinds[k] in kept) printf "`%s`||for %s\n", kinds[k], kept[kinds[k]]
-    if (results != "") printf "%s||%s\n", results, plural(results)
-    if (safe != "") printf "%s||safe and no more\n", safe
+    for (k = 1; k <= kind_count; k++) if (kinds[k] in kept) rows = rows sprintf("`%s`|for %s\n", kinds[k], kept[kinds[k]])
+    if (safe != "") rows = rows safe "|safe and no more\n"
+    if (rows != "") printf "**`%s`**|\n%s", crate, rows
 }

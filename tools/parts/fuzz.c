@@ -1,4 +1,4 @@
-/* Hostile input for the built programs: `fuzz SEED SECONDS SITERENDER SITESIM SITED FOLDER`; tools/fuzz starts it.
+/* Hostile input for the built programs: `fuzz SEED SECONDS SITERENDER SITESIM SITED FOLDER`; tools/storms/fuzz starts it.
    Case k of a seed is the same whenever it is run. Each kind of input has its turn: commands (templates and data among them), schedules, record files,
    requests, datagrams. A case fails where a program ends by a signal, takes longer than 10 seconds, wants more memory than its bound, or answers
    something that it has no name for, or where a node refuses the record that it wrote itself; its input is then kept in FOLDER. The bound is 256 MB of

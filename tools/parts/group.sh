@@ -10,9 +10,16 @@ alone() {
     fi
 }
 
-# a port that the system picks, that nobody has now, a connection of TCP either, and that was not picked before
+# a port that nobody has now, and that was not picked before: in a network of its own below those that the system gives to clients, of which one might
+# have it while its node is down; and else one that the system picks
 free_port() {
     local inode port
+    while [ -n "${ALONE:-}" ]; do
+        port=$((10000 + RANDOM % 20000))
+        if grep -qi ":$(printf %04X "$port") " /proc/net/tcp /proc/net/udp || grep -qsx "$port" "$group/ports"; then continue; fi
+        echo "$port" | tee -a "$group/ports"
+        return
+    done
     while :; do
         exec 9<> /dev/udp/127.0.0.1/9
         inode=$(readlink "/proc/$BASHPID/fd/9")
