@@ -5,7 +5,7 @@ ghost use Rattle.std.specs.BTreeMap.{get, btree_map_len};
 ghost use Rattle.std.specs.Ordering.{nat_cmp};
 ghost use Rattle.site_ids.specs.declared.TheConstants.{MAX_INSTANCE};
 ghost use Rattle.site_ids.specs.Ids.{IsInstance};
-ghost use Rattle.chosen_log.specs.Places.{in_either, IsCut};
+ghost use Rattle.chosen_log.specs.LogValues.{in_either, IsCut};
 
 use crate::LearnFault;
 use site_ids::{Instance, Value};
@@ -31,9 +31,9 @@ pub struct ChosenLog {
 }
 
 impl Model for ChosenLog {
-    ghost use Rattle.chosen_log.specs.Places.{Places, IsCut};
+    ghost use Rattle.chosen_log.specs.LogValues.{LogValues, IsCut};
 
-    ghost Value = { Places };
+    ghost Value = { LogValues };
 
     ghost view = { λ log. record { prefix = log.prefix.items; beyond = log.beyond.entries } };
 

@@ -6,7 +6,7 @@ use Rattle.std.proofs.lemmas.List.Elements.{All-push}
 use Rattle.std.specs.List.{flat_map}
 use Rattle.http_read.specs.declared.heads.TheConstants.{HEAD_LIMIT}
 use Rattle.http_read.specs.declared.lengths.TheConstants.{BODY_LIMIT}
-use Rattle.http_read.specs.declared.place.Place.TheVariants as at
+use Rattle.http_read.specs.declared.awaited.Awaited.TheVariants as at
 use Rattle.http_read.specs.declared.body.Body.{Body}
 use Rattle.http_read.specs.declared.body.BodyRead.{BodyRead}
 use Rattle.http_read.specs.declared.body.BodyRead.TheVariants as came
@@ -31,23 +31,23 @@ use Rattle.http_read.proofs.Longer.{chunks_longer}
 by_chunks : (framing : Framing) (input : List ℕ) (r : Reading (List ℕ)) → framing ≡ chunked → ReadsChunks input r → ReadsBody framing input r
 by_chunks framing input r is reads = subst (λ f. ReadsBody f input r) (sym is) reads
 
--- what is used is that of the place
-used_at : (framing : Framing) (body : Body) (used : List ℕ) (place : _) → body.place ≡ place → IsUsed framing body used
-    → IsUsedUpTo framing place body.bytes.items used
-used_at framing body used place is holds = subst (λ p. IsUsedUpTo framing p body.bytes.items used) is holds
+-- what is used is that before what comes next
+used_at : (framing : Framing) (body : Body) (used : List ℕ) (next : _) → body.awaits ≡ next → IsUsed framing body used
+    → IsUsedUpTo framing next body.bytes.items used
+used_at framing body used next is holds = subst (λ p. IsUsedUpTo framing p body.bytes.items used) is holds
 
 -- where nothing is used all stays
-pub stays : (old new : Body) (held left : List ℕ) → new.place ≡ old.place → new.bytes.items ≡ old.bytes.items → left ≡ held → GoesOn old new held left
-stays old new held left place bytes same = λ framing used is. (
+pub stays : (old new : Body) (held left : List ℕ) → new.awaits ≡ old.awaits → new.bytes.items ≡ old.bytes.items → left ≡ held → GoesOn old new held left
+stays old new held left next bytes same = λ framing used is. (
   [],
   sym same,
   subst (λ t. IsUsed framing new t) (sym (append-nil used))
-      (subst (λ b. IsUsedUpTo framing new.place b used) (sym bytes) (subst (λ p. IsUsedUpTo framing p old.bytes.items used) (sym place) is)),
+      (subst (λ b. IsUsedUpTo framing new.awaits b used) (sym bytes) (subst (λ p. IsUsedUpTo framing p old.bytes.items used) (sym next) is)),
 )
 
 -- ---- a stated length
 
-fixed_on : (old new : Body) (n missing : ℕ) (held left : List ℕ) → old.place ≡ at.Fixed n → new.place ≡ at.Fixed missing
+fixed_on : (old new : Body) (n missing : ℕ) (held left : List ℕ) → old.awaits ≡ at.Fixed n → new.awaits ≡ at.Fixed missing
     → TakesHeld n held left old.bytes.items new.bytes.items missing → GoesOn old new held left
 fixed_on old new n missing held left from to t = λ framing used is.
     let u = used_at framing old used (at.Fixed n) from is in (
@@ -59,7 +59,7 @@ fixed_on old new n missing held left from to t = λ framing used is.
       ),
     )
 
-pub fixed_open : (old new : Body) (n missing : ℕ) (held left : List ℕ) → old.place ≡ at.Fixed n → new.place ≡ at.Fixed missing
+pub fixed_open : (old new : Body) (n missing : ℕ) (held left : List ℕ) → old.awaits ≡ at.Fixed n → new.awaits ≡ at.Fixed missing
     → TakesHeld n held left old.bytes.items new.bytes.items missing → 0 < missing → left ≡ [] → ShowsStep (Some came.Open) old new held left
 fixed_open old new n missing held left from to t some none = record {
   goes_on = fixed_on old new n missing held left from to t;
@@ -72,7 +72,7 @@ fixed_open old new n missing held left from to t some none = record {
   wanted = rw to (omega (arith, ap length none, some));
 }
 
-pub fixed_whole : (old new : Body) (n missing : ℕ) (held left : List ℕ) → old.place ≡ at.Fixed n
+pub fixed_whole : (old new : Body) (n missing : ℕ) (held left : List ℕ) → old.awaits ≡ at.Fixed n
     → TakesHeld n held left old.bytes.items new.bytes.items missing → missing ≡ 0 → ShowsStep (Some came.Whole) old new held left
 fixed_whole old new n missing held left from t none = λ framing used is.
     let u = used_at framing old used (at.Fixed n) from is in
@@ -84,7 +84,7 @@ fixed_whole old new n missing held left from t none = λ framing used is.
 
 -- ---- the line of a chunk
 
-pub line_open : (old : Body) (held left : List ℕ) → old.place ≡ at.Line → ShowsLine line.Open held left → ShowsStep (Some came.Open) old old held left
+pub line_open : (old : Body) (held left : List ℕ) → old.awaits ≡ at.Line → ShowsLine line.Open held left → ShowsStep (Some came.Open) old old held left
 line_open old held left from (cut, same) = record {
   goes_on = stays old old held left refl refl same;
   short = λ framing used is.
@@ -95,14 +95,14 @@ line_open old held left from (cut, same) = record {
   wanted = rw from (omega (arith, ap length same, cut.short));
 }
 
-pub line_wrong : (old : Body) (held left : List ℕ) → old.place ≡ at.Line → ShowsLine line.Wrong held left
+pub line_wrong : (old : Body) (held left : List ℕ) → old.awaits ≡ at.Line → ShowsLine line.Wrong held left
     → ShowsStep (Some (came.Refused 400)) old old held left
 line_wrong old held left from none = λ framing used is.
     let u = used_at framing old used at.Line from is in
     by_chunks framing (used ++ held) (refused 400) u.0
     (u.1.chunks, held, chunks_longer used u.1.chunks [] held u.1.begins, inl (refl, none))
 
-pub line_large : (old : Body) (size : ℕ) (held left : List ℕ) → old.place ≡ at.Line → ShowsLine (line.Size size) held left
+pub line_large : (old : Body) (size : ℕ) (held left : List ℕ) → old.awaits ≡ at.Line → ShowsLine (line.Size size) held left
     → BODY_LIMIT < length old.bytes.items + size → ShowsStep (Some (came.Refused 413)) old old held left
 line_large old size held left from (l, begins, says) large = λ framing used is.
     let u = used_at framing old used at.Line from is in
@@ -113,7 +113,7 @@ line_large old size held left from (l, begins, says) large = λ framing used is.
       inr (l, left, begins, inl (refl, omega (arith, large, says, ap length u.1.joined))),
     )
 
-pub line_last : (old new : Body) (size : ℕ) (held left : List ℕ) → old.place ≡ at.Line → new.place ≡ at.Trailer → new.bytes.items ≡ old.bytes.items
+pub line_last : (old new : Body) (size : ℕ) (held left : List ℕ) → old.awaits ≡ at.Line → new.awaits ≡ at.Trailer → new.bytes.items ≡ old.bytes.items
     → ShowsLine (line.Size size) held left → size ≡ 0 → ShowsStep None old new held left
 line_last old new size held left from to bytes (l, begins, says) none = record {
   goes_on = λ framing used is.
@@ -136,7 +136,7 @@ line_last old new size held left from to bytes (l, begins, says) none = record {
   falls = rw (from, to) (omega (arith, (line_feed_last l []).0, ap length begins.whole, length-append (print_chunk_line l) left));
 }
 
-pub line_size : (old new : Body) (size : ℕ) (held left : List ℕ) → old.place ≡ at.Line → new.place ≡ at.Chunk size → new.bytes.items ≡ old.bytes.items
+pub line_size : (old new : Body) (size : ℕ) (held left : List ℕ) → old.awaits ≡ at.Line → new.awaits ≡ at.Chunk size → new.bytes.items ≡ old.bytes.items
     → ShowsLine (line.Size size) held left → 0 < size → length old.bytes.items + size ≤ BODY_LIMIT → ShowsStep None old new held left
 line_size old new size held left from to bytes (l, begins, says) some small = record {
   goes_on = λ framing used is.
@@ -202,7 +202,7 @@ cut_chunk n bytes used held w short =
       ),
     )
 
-pub chunk_open : (old new : Body) (n missing : ℕ) (held left : List ℕ) → old.place ≡ at.Chunk n → new.place ≡ at.Chunk missing
+pub chunk_open : (old new : Body) (n missing : ℕ) (held left : List ℕ) → old.awaits ≡ at.Chunk n → new.awaits ≡ at.Chunk missing
     → TakesHeld n held left old.bytes.items new.bytes.items missing → 0 < missing → left ≡ [] → ShowsStep (Some came.Open) old new held left
 chunk_open old new n missing held left from to t some none = record {
   goes_on = λ framing used is.
@@ -221,7 +221,7 @@ chunk_open old new n missing held left from to t some none = record {
   wanted = rw to (omega (arith, ap length none, some));
 }
 
-pub chunk_whole : (old new : Body) (n missing : ℕ) (held left : List ℕ) → old.place ≡ at.Chunk n → new.place ≡ at.Break
+pub chunk_whole : (old new : Body) (n missing : ℕ) (held left : List ℕ) → old.awaits ≡ at.Chunk n → new.awaits ≡ at.Break
     → TakesHeld n held left old.bytes.items new.bytes.items missing → missing ≡ 0 → ShowsStep None old new held left
 chunk_whole old new n missing held left from to t none = record {
   goes_on = λ framing used is.
@@ -240,7 +240,7 @@ chunk_whole old new n missing held left from to t none = record {
 
 -- ---- behind a chunk
 
-pub break_open : (old : Body) (held left : List ℕ) → old.place ≡ at.Break → ShowsBreak break.Open held left → ShowsStep (Some came.Open) old old held left
+pub break_open : (old : Body) (held left : List ℕ) → old.awaits ≡ at.Break → ShowsBreak break.Open held left → ShowsStep (Some came.Open) old old held left
 break_open old held left from (few, same) = record {
   goes_on = stays old old held left refl refl same;
   short = λ framing used is.
@@ -251,7 +251,7 @@ break_open old held left from (few, same) = record {
   wanted = rw from (omega (arith, few, ap length same));
 }
 
-pub break_wrong : (old : Body) (held left : List ℕ) → old.place ≡ at.Break → ShowsBreak break.Wrong held left
+pub break_wrong : (old : Body) (held left : List ℕ) → old.awaits ≡ at.Break → ShowsBreak break.Wrong held left
     → ShowsStep (Some (came.Refused 400)) old old held left
 break_wrong old held left from (two, wrong) = λ framing used is.
     let u = used_at framing old used at.Break from is in
@@ -298,7 +298,7 @@ whole_chunk bytes used w =
       joined = w.joined ∙ sym joined;
     }
 
-pub break_passed : (old new : Body) (held left : List ℕ) → old.place ≡ at.Break → new.place ≡ at.Line → new.bytes.items ≡ old.bytes.items
+pub break_passed : (old new : Body) (held left : List ℕ) → old.awaits ≡ at.Break → new.awaits ≡ at.Line → new.bytes.items ≡ old.bytes.items
     → ShowsBreak break.Passed held left → ShowsStep None old new held left
 break_passed old new held left from to bytes is_break = record {
   goes_on = λ framing used is.
@@ -314,7 +314,7 @@ break_passed old new held left from to bytes is_break = record {
 
 -- ---- behind the last chunk
 
-pub trailer_open : (old : Body) (held left : List ℕ) → old.place ≡ at.Trailer → ShowsTrailer trailer.Open held left → ShowsStep (Some came.Open) old old held left
+pub trailer_open : (old : Body) (held left : List ℕ) → old.awaits ≡ at.Trailer → ShowsTrailer trailer.Open held left → ShowsStep (Some came.Open) old old held left
 trailer_open old held left from (cut, same) = record {
   goes_on = stays old old held left refl refl same;
   short = λ framing used is.
@@ -330,7 +330,7 @@ trailer_open old held left from (cut, same) = record {
   wanted = rw from (omega (arith, cut.2, ap length same));
 }
 
-pub trailer_refused : (old : Body) (status : ℕ) (held left : List ℕ) → old.place ≡ at.Trailer → ShowsTrailer (trailer.Refused status) held left
+pub trailer_refused : (old : Body) (status : ℕ) (held left : List ℕ) → old.awaits ≡ at.Trailer → ShowsTrailer (trailer.Refused status) held left
     → ShowsStep (Some (came.Refused status)) old old held left
 trailer_refused old status held left from reads = λ framing used is.
     let u = used_at framing old used at.Trailer from is in
@@ -341,7 +341,7 @@ trailer_refused old status held left from reads = λ framing used is.
       inr (u.1.line, held, record { is_line = u.1.is_line; whole = refl }, inr (inr (u.1.last, reads))),
     )
 
-pub trailer_whole : (old : Body) (held left : List ℕ) → old.place ≡ at.Trailer → ShowsTrailer trailer.Whole held left
+pub trailer_whole : (old : Body) (held left : List ℕ) → old.awaits ≡ at.Trailer → ShowsTrailer trailer.Whole held left
     → ShowsStep (Some came.Whole) old old held left
 trailer_whole old held left from (fields, reads) = λ framing used is.
     let u = used_at framing old used at.Trailer from is in

@@ -4,8 +4,8 @@ use Rattle.httparse.specs.Grammar.{ChunkLine, print_chunk_line, chunk_size}
 use Rattle.http_read.specs.declared.heads.TheConstants.{HEAD_LIMIT}
 use Rattle.http_read.specs.declared.lines.TheConstants.{LINE_LIMIT}
 use Rattle.http_read.specs.declared.lengths.TheConstants.{BODY_LIMIT}
-use Rattle.http_read.specs.declared.place.Place.{Place}
-use Rattle.http_read.specs.declared.place.Place.TheVariants.{Fixed, Line, Chunk, Break, Trailer}
+use Rattle.http_read.specs.declared.awaited.Awaited.{Awaited}
+use Rattle.http_read.specs.declared.awaited.Awaited.TheVariants.{Fixed, Line, Chunk, Break, Trailer}
 use Rattle.http_read.specs.declared.body.Body.{Body}
 use Rattle.http_read.specs.declared.body.BodyRead.{BodyRead}
 use Rattle.http_read.specs.declared.body.BodyRead.TheVariants.{Open, Whole, Refused}
@@ -41,8 +41,8 @@ pub record IsAfterLastLine (bytes used : List ℕ) : Type 0 where
   pub last : chunk_size line ≡ 0
   pub joined : bytes ≡ chunks_joined chunks
 
--- of a body that is framed so these bytes are used up to the place, and those of them that count are bytes
-abbrev pub IsUsedUpTo : Framing → Place → List ℕ → List ℕ → Type 0
+-- of a body that is framed so these bytes are used before what comes next, and those of them that count are bytes
+abbrev pub IsUsedUpTo : Framing → Awaited → List ℕ → List ℕ → Type 0
 IsUsedUpTo framing (Fixed missing) bytes used = (framing ≡ fixed (length bytes + missing)) × (used ≡ bytes)
 IsUsedUpTo framing Line bytes used = (framing ≡ chunked) × IsAfterChunks bytes used
 IsUsedUpTo framing (Chunk missing) bytes used = (framing ≡ chunked) × IsWithinChunk missing bytes used
@@ -50,14 +50,14 @@ IsUsedUpTo framing Break bytes used = (framing ≡ chunked) × IsWithinChunk 0 b
 IsUsedUpTo framing Trailer bytes used = (framing ≡ chunked) × IsAfterLastLine bytes used
 
 abbrev pub IsUsed : Framing → Body → List ℕ → Type 0
-IsUsed framing body used = IsUsedUpTo framing body.place body.bytes.items used
+IsUsed framing body used = IsUsedUpTo framing body.awaits body.bytes.items used
 
 -- chunks take at most so many bytes behind so many of the body: a chunk of one byte has a line and a break
 abbrev pub chunks_left : ℕ → ℕ
 chunks_left n = (LINE_LIMIT + 3) * (BODY_LIMIT - n) + LINE_LIMIT + HEAD_LIMIT + 1
 
 -- so many bytes of the input are used at most until it is known what comes of the body
-abbrev pub bytes_left : Place → ℕ → ℕ
+abbrev pub bytes_left : Awaited → ℕ → ℕ
 bytes_left (Fixed missing) n = missing
 bytes_left Line n = chunks_left n
 bytes_left (Chunk missing) n = missing + 2 + chunks_left (n + missing)
@@ -65,7 +65,7 @@ bytes_left Break n = 2 + chunks_left n
 bytes_left Trailer n = HEAD_LIMIT + 1
 
 abbrev pub left_of : Body → ℕ
-left_of body = bytes_left body.place (length body.bytes.items)
+left_of body = bytes_left body.awaits (length body.bytes.items)
 
 -- a front of what was held is used, and left is what is held now
 abbrev pub GoesOn : Body → Body → List ℕ → List ℕ → Type 0
@@ -94,18 +94,18 @@ ShowsRead (Refused status) old new held left =
     (framing : Framing) (used : List ℕ) → IsUsed framing old used → ReadsBody framing (used ++ held) (refused status)
 
 -- falls with each step: a step uses two bytes or more, but for the one to a line break
-abbrev pub steps_left : Place → List ℕ → ℕ
+abbrev pub steps_left : Awaited → List ℕ → ℕ
 steps_left Break held = length held
 steps_left (Fixed missing) held = length held + 1
 steps_left Line held = length held + 1
 steps_left (Chunk missing) held = length held + 1
 steps_left Trailer held = length held + 1
 
--- a step to another place
+-- a step to what comes next
 pub record Steps (old new : Body) (held left : List ℕ) : Type 0 where
   pub goes_on : GoesOn old new held left
   pub bound : KeepsBound old new held left
-  pub falls : steps_left new.place left < steps_left old.place held
+  pub falls : steps_left new.awaits left < steps_left old.awaits held
 
 -- a step, or what comes of reading
 abbrev pub ShowsStep : Option BodyRead → Body → Body → List ℕ → List ℕ → Type 0

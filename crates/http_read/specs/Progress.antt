@@ -9,7 +9,7 @@ use Rattle.http_read.specs.declared.opening.Opened.{Opened}
 use Rattle.http_read.specs.declared.opening.Opened.TheVariants as opened
 use Rattle.http_read.specs.declared.progress.Begun.{Begun}
 use Rattle.http_read.specs.declared.progress.Progress.{Progress}
-use Rattle.http_read.specs.declared.place.Place.{Place}
+use Rattle.http_read.specs.declared.awaited.Awaited.{Awaited}
 use Rattle.http_read.specs.declared.progress.Progress.TheVariants.{Head, Body}
 use Rattle.http_read.specs.Heads.{got, ended, ReadsHead}
 use Rattle.http_read.specs.Framings.{framing_meant, Judges}
@@ -17,9 +17,9 @@ use Rattle.http_read.specs.BodyProgress.{IsUsed, left_of, chunks_left}
 use Rattle.http_read.specs.Requests.{Answers, refuses, IsCutShort, is_head}
 
 -- where the reading of the body stands, if the head is used
-abbrev pub place_of : Progress → Option Place
-place_of Head = None
-place_of (Body b) = Some b.body.place
+abbrev pub awaited_of : Progress → Option Awaited
+awaited_of Head = None
+awaited_of (Body b) = Some b.body.awaits
 
 -- the request of a begun one whose body is whole
 abbrev pub asks_of : Begun → Request

@@ -4,12 +4,12 @@ ghost use Rattle.http_read.specs.declared.lengths.TheConstants.{BODY_LIMIT};
 ghost use Rattle.http_read.specs.Framings.{framing_meant, stated};
 ghost use Rattle.http_read.specs.BodyProgress.{IsUsed, left_of, chunks_left, GoesOn, ShowsStep, ShowsRead};
 
+use crate::awaited::Awaited;
 use crate::breaks::{BreakRead, pass_break};
 use crate::checks::Cut;
 use crate::chunk_lines::{LineRead, chunk_line};
 use crate::inbox::Inbox;
 use crate::lengths::BODY_LIMIT;
-use crate::place::Place;
 use crate::taking::take_held;
 use crate::trailers::{TrailerRead, pass_trailer};
 use httparse::spans::HeaderSpan;
@@ -20,7 +20,7 @@ use std::alloc::{AllocError, Global};
 pub(crate) struct Body {
     /// Its bytes so far, without what stands around chunks.
     pub bytes: Vec<u8>,
-    pub place: Place,
+    pub awaits: Awaited,
 }
 
 /// What came of reading on.
@@ -42,23 +42,23 @@ impl Body {
         match cut {
             Cut::Length(n) => Ok(Body {
                 bytes: Vec::with_capacity(alloc, n)?,
-                place: Place::Fixed(n),
+                awaits: Awaited::Fixed(n),
             }),
             Cut::Chunks => Ok(Body {
                 bytes: Vec::with_capacity(alloc, BODY_LIMIT)?,
-                place: Place::Line,
+                awaits: Awaited::Line,
             }),
         }
     }
 
     /// Reads on in a body of a stated length.
     fn read_fixed(&mut self, inbox: &mut Inbox, n: usize) -> Result<Option<BodyRead>, AllocError>
-        requires { self.old.place ≡ Place.Fixed n }
+        requires { self.old.awaits ≡ Awaited.Fixed n }
         ensures shows { IfOk result (λ step. ShowsStep step self.old self.new inbox.old inbox.new) }
         ensures kept { OnErr result (GoesOn self.old self.new inbox.old inbox.new) }
     {
         let missing = take_held(inbox, n, &mut self.bytes)?;
-        self.place = Place::Fixed(missing);
+        self.awaits = Awaited::Fixed(missing);
         if missing == 0 {
             Ok(Some(BodyRead::Whole))
         } else {
@@ -68,7 +68,7 @@ impl Body {
 
     /// Reads the line of a chunk.
     fn read_line(&mut self, inbox: &mut Inbox) -> Option<BodyRead>
-        requires { self.old.place ≡ Place.Line }
+        requires { self.old.awaits ≡ Awaited.Line }
         ensures { ShowsStep result self.old self.new inbox.old inbox.new }
     {
         match chunk_line(inbox) {
@@ -76,12 +76,12 @@ impl Body {
             LineRead::Wrong => Some(BodyRead::Refused(400)),
             LineRead::Size(size) => {
                 if size == 0 {
-                    self.place = Place::Trailer;
+                    self.awaits = Awaited::Trailer;
                     None
                 } else if size > BODY_LIMIT.saturating_sub(self.bytes.len()) as u64 {
                     Some(BodyRead::Refused(413))
                 } else {
-                    self.place = Place::Chunk(size as usize);
+                    self.awaits = Awaited::Chunk(size as usize);
                     None
                 }
             }
@@ -90,36 +90,36 @@ impl Body {
 
     /// Reads on in a chunk.
     fn read_chunk(&mut self, inbox: &mut Inbox, n: usize) -> Result<Option<BodyRead>, AllocError>
-        requires { self.old.place ≡ Place.Chunk n }
+        requires { self.old.awaits ≡ Awaited.Chunk n }
         ensures shows { IfOk result (λ step. ShowsStep step self.old self.new inbox.old inbox.new) }
         ensures kept { OnErr result (GoesOn self.old self.new inbox.old inbox.new) }
     {
         let missing = take_held(inbox, n, &mut self.bytes)?;
         if missing == 0 {
-            self.place = Place::Break;
+            self.awaits = Awaited::Break;
             Ok(None)
         } else {
-            self.place = Place::Chunk(missing);
+            self.awaits = Awaited::Chunk(missing);
             Ok(Some(BodyRead::Open))
         }
     }
 
     /// Reads the line break behind a chunk.
     fn read_break(&mut self, inbox: &mut Inbox) -> Option<BodyRead>
-        requires { self.old.place ≡ Place.Break }
+        requires { self.old.awaits ≡ Awaited.Break }
         ensures { ShowsStep result self.old self.new inbox.old inbox.new }
     {
         match pass_break(inbox) {
             BreakRead::Open => Some(BodyRead::Open),
             BreakRead::Wrong => Some(BodyRead::Refused(400)),
             BreakRead::Passed => {
-                self.place = Place::Line;
+                self.awaits = Awaited::Line;
                 None
             }
         }
     }
 
-    /// Reads on up to the next place, if there is one and it is held.
+    /// Reads what comes next, if that is held.
     fn step(
         &mut self,
         inbox: &mut Inbox,
@@ -128,12 +128,12 @@ impl Body {
         ensures shows { IfOk result (λ step. ShowsStep step self.old self.new inbox.old inbox.new) }
         ensures kept { OnErr result (GoesOn self.old self.new inbox.old inbox.new) }
     {
-        match self.place {
-            Place::Fixed(missing) => self.read_fixed(inbox, missing),
-            Place::Line => Ok(self.read_line(inbox)),
-            Place::Chunk(missing) => self.read_chunk(inbox, missing),
-            Place::Break => Ok(self.read_break(inbox)),
-            Place::Trailer => match pass_trailer(inbox, spans)? {
+        match self.awaits {
+            Awaited::Fixed(missing) => self.read_fixed(inbox, missing),
+            Awaited::Line => Ok(self.read_line(inbox)),
+            Awaited::Chunk(missing) => self.read_chunk(inbox, missing),
+            Awaited::Break => Ok(self.read_break(inbox)),
+            Awaited::Trailer => match pass_trailer(inbox, spans)? {
                 TrailerRead::Open => Ok(Some(BodyRead::Open)),
                 TrailerRead::Whole => Ok(Some(BodyRead::Whole)),
                 TrailerRead::Refused(status) => Ok(Some(BodyRead::Refused(status))),

@@ -4,6 +4,7 @@
 //! more. What the client sent is read as one list of bytes, however it was cut. Readers and writers are counted ends: `Counted` says how many of their calls failed.
 #![tactic(auto)]
 
+mod awaited;
 mod body;
 mod breaks;
 mod checks;
@@ -21,7 +22,6 @@ mod laws;
 mod lengths;
 mod lines;
 mod opening;
-mod place;
 mod progress;
 mod reading;
 mod taking;
@@ -29,12 +29,12 @@ mod targets;
 mod trailers;
 mod writing;
 
+pub use awaited::Awaited;
 pub use counted::Counted;
 pub use fault::ReadFault;
 pub use inbox::Inbox;
 pub use incoming::{Incoming, Method, Request};
 pub use laws::{answer_is_one, answer_stands, candidates_agree, head_is_one};
-pub use place::Place;
 pub use progress::{Progress, advance};
 pub use reading::request;
 pub use writing::write_all;

@@ -4,14 +4,14 @@
 
 ghost use Rattle.std.specs.Prelude.{◌≡◌, ◌≢◌, ℕ, List, ◌++◌, Some, IfOk, OnErr, IfSome, IfNone};
 ghost use Rattle.http_read.specs.Incoming.{Shows};
-ghost use Rattle.http_read.specs.Progress.{Resumes, place_of, asks_of, Advances, Waits, ShowsOpened};
+ghost use Rattle.http_read.specs.Progress.{Resumes, awaited_of, asks_of, Advances, Waits, ShowsOpened};
 
+use crate::awaited::Awaited;
 use crate::body::{Body, BodyRead};
 use crate::checks::Passed;
 use crate::inbox::Inbox;
 use crate::incoming::{Incoming, Request};
 use crate::opening::{Opened, open_head};
-use crate::place::Place;
 use httparse::spans::HeaderSpan;
 use std::alloc::{AllocError, Global};
 use std::mem;
@@ -51,13 +51,13 @@ impl Begun {
 }
 
 impl Progress {
-    /// Where the reading of the body stands, if the head is used.
-    pub fn place(&self) -> Option<Place>
-        ensures { result ≡ place_of self.now }
+    /// What of the body comes next, if the head is used.
+    pub fn awaits(&self) -> Option<Awaited>
+        ensures { result ≡ awaited_of self.now }
     {
         match self {
             Progress::Head => None,
-            Progress::Body(begun) => Some(begun.body.place),
+            Progress::Body(begun) => Some(begun.body.awaits),
         }
     }
 }

@@ -9,7 +9,7 @@ use Rattle.http_read.specs.declared.incoming.Request.{Request}
 use Rattle.http_read.specs.Incoming.{Shows, request_of}
 use Rattle.http_read.specs.Methods.{method_name}
 use Rattle.http_read.specs.Requests.{Asked, Answers, asks}
-use Rattle.http_serve.specs.Paths.{Place, Names}
+use Rattle.http_serve.specs.Paths.{Resource, Names}
 use Rattle.http_serve.specs.Replies.{Reply, closes, stays_behind, print_reply}
 use Rattle.http_serve.specs.Responses.{asked_reply, refusal, RepliesToPost}
 use Rattle.http_serve.specs.Services.{Offered}
@@ -38,35 +38,35 @@ pub bytes_of : (m : Message) (manner : Manner) (r : Reply) → written_in m ≡ 
 bytes_of m manner r same =
     ap (λ (w : Written). w.bytes) same ∙ ap (λ b. print_reply b manner.to_head r) (sym (stays_of m manner r same))
 
-pub asked_responds : {S : Type 0} (service : Offered S) (now : S) (request : Asked) (to_head keep : Bool) (place : Place) (path : List ℕ) (m : Message)
-    → Asks request.method to_head → path ≡ request.path → Names path place
-    → written_in m ≡ write_as (record { to_head = to_head; keep = keep }) (asked_reply service now path place)
+pub asked_responds : {S : Type 0} (service : Offered S) (now : S) (request : Asked) (to_head keep : Bool) (resource : Resource) (path : List ℕ) (m : Message)
+    → Asks request.method to_head → path ≡ request.path → Names path resource
+    → written_in m ≡ write_as (record { to_head = to_head; keep = keep }) (asked_reply service now path resource)
     → (reply : Reply) × (m.stays ≡ stays_behind keep reply) × IsResponse service now request now reply m.stays m.bytes.items
-asked_responds service now request to_head keep place path m asking same named written = (
-  asked_reply service now path place,
-  stays_of m (record { to_head = to_head; keep = keep }) (asked_reply service now path place) written,
+asked_responds service now request to_head keep resource path m asking same named written = (
+  asked_reply service now path resource,
+  stays_of m (record { to_head = to_head; keep = keep }) (asked_reply service now path resource) written,
   record {
-    place = place;
-    names = subst (λ p. Names p place) same named;
-    replies = inr (asking.posts_not, refl, ap (λ p. asked_reply service now p place) same);
+    resource = resource;
+    names = subst (λ p. Names p resource) same named;
+    replies = inr (asking.posts_not, refl, ap (λ p. asked_reply service now p resource) same);
     spelled =
-        bytes_of m (record { to_head = to_head; keep = keep }) (asked_reply service now path place) written
-        ∙ ap (λ b. print_reply m.stays b (asked_reply service now path place)) (sym asking.head);
+        bytes_of m (record { to_head = to_head; keep = keep }) (asked_reply service now path resource) written
+        ∙ ap (λ b. print_reply m.stays b (asked_reply service now path resource)) (sym asking.head);
   },
 )
 
-pub posted_responds : {S : Type 0} (service : Offered S) (now after : S) (path body said lent : List ℕ) (method : Method) (kept keep : Bool) (place : Place) (reply : Reply) (m : Message)
-    → method ≡ Post → said ≡ path → lent ≡ body → Names said place → RepliesToPost service now lent place after reply
+pub posted_responds : {S : Type 0} (service : Offered S) (now after : S) (path body said lent : List ℕ) (method : Method) (kept keep : Bool) (resource : Resource) (reply : Reply) (m : Message)
+    → method ≡ Post → said ≡ path → lent ≡ body → Names said resource → RepliesToPost service now lent resource after reply
     → written_in m ≡ write_as (record { to_head = false; keep = keep }) reply
     → (r : Reply) × (m.stays ≡ stays_behind keep r)
     × IsResponse service now (record { method = method_name method; path = path; keep = kept; body = body }) after r m.stays m.bytes.items
-posted_responds service now after path body said lent method kept keep place reply m is same whole named replied written = (
+posted_responds service now after path body said lent method kept keep resource reply m is same whole named replied written = (
   reply,
   stays_of m (record { to_head = false; keep = keep }) reply written,
   rw is (record {
-    place = place;
-    names = subst (λ p. Names p place) same named;
-    replies = inl (refl, subst (λ b. RepliesToPost service now b place after reply) whole replied);
+    resource = resource;
+    names = subst (λ p. Names p resource) same named;
+    replies = inl (refl, subst (λ b. RepliesToPost service now b resource after reply) whole replied);
     spelled = bytes_of m (record { to_head = false; keep = keep }) reply written;
   }),
 )

@@ -1,5 +1,5 @@
 pub mod Slashes
-pub mod OnePlace
+pub mod OneResource
 pub mod Elsewhere
 pub mod Answering
 pub mod Connecting

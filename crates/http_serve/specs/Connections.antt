@@ -4,7 +4,7 @@ use Rattle.http_read.specs.Input.{StopsAt}
 use Rattle.http_read.specs.Requests.{Asked, asks, refuses, stops, ends, Answers, IsCutShort}
 use Rattle.http_serve.specs.declared.fault.ServeFault.{ServeFault}
 use Rattle.http_serve.specs.declared.fault.ServeFault.TheVariants.{Read, Write, OutOfMemory, EndedEarly}
-use Rattle.http_serve.specs.Paths.{Place, Names}
+use Rattle.http_serve.specs.Paths.{Resource, Names}
 use Rattle.http_serve.specs.Replies.{Reply, stays_behind, print_reply}
 use Rattle.http_serve.specs.Responses.{RepliesTo, refusal, Refuses}
 use Rattle.http_serve.specs.Services.{Offered}
@@ -19,9 +19,9 @@ may_stay n request reply = stays_behind (may_keep n request.keep) reply
 
 -- the response to a request: what its path names, its reply, and the service as it leaves it
 pub record IsResponse {S : Type 0} (service : Offered S) (now : S) (request : Asked) (after : S) (reply : Reply) (stays : Bool) (text : List ℕ) : Type 0 where
-  pub place : Place
-  pub names : Names request.path place
-  pub replies : RepliesTo service now request place after reply
+  pub resource : Resource
+  pub names : Names request.path resource
+  pub replies : RepliesTo service now request resource after reply
   pub spelled : text ≡ print_reply stays (bytes_eq request.method (codes "HEAD")) reply
 
 -- the n-th request stands at the front of the input, left is what follows it, and this is its response

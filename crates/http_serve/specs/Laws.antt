@@ -5,12 +5,12 @@ use Rattle.http_serve.specs.declared.next.Next.{Next}
 use Rattle.http_serve.specs.declared.next.Next.TheVariants.{Stays}
 use Rattle.http_serve.specs.Connections.{HasServed, Serves}
 use Rattle.http_serve.specs.Exchanges.{Exchanges, ends_with}
-use Rattle.http_serve.specs.Paths.{Place, Names}
+use Rattle.http_serve.specs.Paths.{Resource, Names}
 use Rattle.http_serve.specs.Services.{Offered}
 
--- a path names one place
+-- a path names one resource
 abbrev pub NamesOne : Type 0
-NamesOne = (path : List ℕ) (a b : Place) → Names path a → Names path b → a ≡ b
+NamesOne = (path : List ℕ) (a b : Resource) → Names path a → Names path b → a ≡ b
 
 -- Exchanges one after another are a connection.
 pub record AreConnection {S : Type 0} (service : Offered S) : Type 0 where

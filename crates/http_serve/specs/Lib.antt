@@ -1,5 +1,5 @@
 pub mod Paths
-pub mod Places
+pub mod Resources
 pub mod Replies
 pub mod Shown
 pub mod Services

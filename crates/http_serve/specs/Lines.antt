@@ -57,7 +57,7 @@ pub record MayAnswer (line : Line) : Type 0 where
 
 -- nothing of a request is used or held
 pub record IsIdle (line : Line) : Type 0 where
-  pub unused : reading.place_of line.progress ≡ None
+  pub unused : reading.awaited_of line.progress ≡ None
   pub empty : length line.inbox ≡ 0
 
 -- a call failed; or the last response was made, and is written whole

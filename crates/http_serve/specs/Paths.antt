@@ -4,13 +4,13 @@ use Rattle.std.specs.Fmt.{decimal}
 use Rattle.site_ids.specs.declared.Ticket.{Ticket}
 
 -- a submission by its ticket, a ticket's receipt, the newest release's number, a page of a release, nothing, or a page of the newest release
-pub data Place : Type 0 where
-  submission : Ticket → Place
-  receipt : Ticket → Place
-  newest : Place
-  release : ℕ → List ℕ → Place
-  unknown : Place
-  page : Place
+pub data Resource : Type 0 where
+  submission : Ticket → Resource
+  receipt : Ticket → Resource
+  newest : Resource
+  release : ℕ → List ℕ → Resource
+  unknown : Resource
+  page : Resource
 
 -- the path of a ticket below a word: both numbers in decimal, without leading zeros, in the range of their types
 abbrev pub IsTicketPath : List ℕ → List ℕ → Ticket → Type 0
@@ -22,8 +22,8 @@ IsTicketPath word path ticket =
 abbrev pub IsReserved : List ℕ → Type 0
 IsReserved path = ((rest : List ℕ) × (path ≡ codes "/_" ++ rest)) ⊎ ((rest : List ℕ) × (path ≡ codes "/@" ++ rest))
 
--- the path names this place of the server's own
-abbrev pub IsOwn : List ℕ → Place → Type 0
+-- the path names this resource of the server's own
+abbrev pub IsOwn : List ℕ → Resource → Type 0
 IsOwn path (submission ticket) = IsTicketPath (codes "/_submit/") path ticket
 IsOwn path (receipt ticket) = IsTicketPath (codes "/_ticket/") path ticket
 IsOwn path newest = path ≡ codes "/_newest"
@@ -32,11 +32,11 @@ IsOwn path (release n rest) =
 IsOwn path unknown = ⊥
 IsOwn path page = ⊥
 
--- the path names this place
-abbrev pub Names : List ℕ → Place → Type 0
+-- the path names this resource
+abbrev pub Names : List ℕ → Resource → Type 0
 Names path (submission ticket) = IsOwn path (submission ticket)
 Names path (receipt ticket) = IsOwn path (receipt ticket)
 Names path newest = IsOwn path newest
 Names path (release n rest) = IsOwn path (release n rest)
-Names path unknown = IsReserved path × ((place : Place) → ¬ (IsOwn path place))
+Names path unknown = IsReserved path × ((resource : Resource) → ¬ (IsOwn path resource))
 Names path page = ¬ (IsReserved path)

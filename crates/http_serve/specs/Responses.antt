@@ -8,7 +8,7 @@ use Rattle.http_serve.specs.declared.submission.Submission.TheVariants.{Queued, 
 use Rattle.http_serve.specs.declared.submission.SubmitFault.{SubmitFault}
 use Rattle.http_serve.specs.declared.submission.SubmitFault.TheVariants.{Command, Busy, Stopped, OutOfMemory}
 use Rattle.http_serve.specs.Replies.{OwnLine, no_line, location, allow, Reply}
-use Rattle.http_serve.specs.Paths.{Place, Names, submission, receipt, newest, release, unknown, page}
+use Rattle.http_serve.specs.Paths.{Resource, Names, submission, receipt, newest, release, unknown, page}
 use Rattle.http_serve.specs.Services.{Outcome, Offered, Submits}
 
 -- a text, and a line feed behind it
@@ -28,7 +28,7 @@ refusal status = plain status (
     else (if status == 501 then codes "not implemented"
     else codes "bad request"))))
 
--- the method isn't one of the place's
+-- the method isn't one of the resource's
 abbrev pub wrong_method : List ℕ → Reply
 wrong_method methods =
     record { status = 405; is_page = false; own = allow methods; body = line (codes "method not allowed") }
@@ -48,8 +48,8 @@ abbrev pub page_reply : Option Page → Reply
 page_reply None = plain 404 (codes "no release")
 page_reply (Some p) = record { status = p.status; is_page = p.status == 200; own = moved_line p.location; body = p.body }
 
--- what GET and HEAD are answered at a place
-abbrev pub asked_reply : {S : Type 0} → Offered S → S → List ℕ → Place → Reply
+-- what GET and HEAD are answered at a resource
+abbrev pub asked_reply : {S : Type 0} → Offered S → S → List ℕ → Resource → Reply
 asked_reply service now path (submission ticket) = wrong_method (codes "POST")
 asked_reply service now path (receipt ticket) = receipt_reply (service.receipt_is now ticket)
 asked_reply service now path newest = plain 200 (decimal (service.newest_is now))
@@ -67,12 +67,12 @@ outcome_reply (Err Busy) = Some (plain 503 (codes "busy"))
 outcome_reply (Err Stopped) = Some (plain 503 (codes "stopped"))
 outcome_reply (Err OutOfMemory) = None
 
--- what POST is answered at a place, and the service as it leaves it: only a submission changes it
-abbrev pub RepliesToPost : {S : Type 0} → Offered S → S → List ℕ → Place → S → Reply → Type 0
+-- what POST is answered at a resource, and the service as it leaves it: only a submission changes it
+abbrev pub RepliesToPost : {S : Type 0} → Offered S → S → List ℕ → Resource → S → Reply → Type 0
 RepliesToPost service now body (submission ticket) after reply =
     (done : Outcome) × Submits service now ticket body done after × (outcome_reply done ≡ Some reply)
 RepliesToPost service now body unknown after reply = (after ≡ now) × (reply ≡ plain 404 (codes "not found"))
-RepliesToPost service now body place after reply = (after ≡ now) × (reply ≡ wrong_method (codes "GET, HEAD"))
+RepliesToPost service now body resource after reply = (after ≡ now) × (reply ≡ wrong_method (codes "GET, HEAD"))
 
 -- where memory is wanted behind a submission, this came of it: the words for the others were made before
 abbrev pub MayGoUntold : SubmitFault → Type 0
@@ -80,21 +80,21 @@ MayGoUntold (Command fault) = ⊤
 MayGoUntold OutOfMemory = ⊤
 MayGoUntold _ = ⊥
 
--- the submission of this text at a place was refused, and nothing is answered
-abbrev pub RefusesPost : {S : Type 0} → Offered S → S → List ℕ → Place → S → Type 0
+-- the submission of this text at a resource was refused, and nothing is answered
+abbrev pub RefusesPost : {S : Type 0} → Offered S → S → List ℕ → Resource → S → Type 0
 RefusesPost service now body (submission ticket) after =
     (fault : SubmitFault) × MayGoUntold fault × Submits service now ticket body (Err fault) after
-RefusesPost service now body place after = ⊥
+RefusesPost service now body resource after = ⊥
 
 -- the request is a submission, and was refused so
 pub record Refuses {S : Type 0} (service : Offered S) (now : S) (request : Asked) (after : S) : Type 0 where
   pub posts : request.method ≡ codes "POST"
-  pub place : Place
-  pub names : Names request.path place
-  pub refused : RefusesPost service now request.body place after
+  pub resource : Resource
+  pub names : Names request.path resource
+  pub refused : RefusesPost service now request.body resource after
 
--- the reply to a request at a place, and the service as it leaves it
-abbrev pub RepliesTo : {S : Type 0} → Offered S → S → Asked → Place → S → Reply → Type 0
-RepliesTo service now request place after reply =
-    ((request.method ≡ codes "POST") × RepliesToPost service now request.body place after reply)
-    ⊎ (¬ (request.method ≡ codes "POST") × (after ≡ now) × (reply ≡ asked_reply service now request.path place))
+-- the reply to a request at a resource, and the service as it leaves it
+abbrev pub RepliesTo : {S : Type 0} → Offered S → S → Asked → Resource → S → Reply → Type 0
+RepliesTo service now request resource after reply =
+    ((request.method ≡ codes "POST") × RepliesToPost service now request.body resource after reply)
+    ⊎ (¬ (request.method ≡ codes "POST") × (after ≡ now) × (reply ≡ asked_reply service now request.path resource))

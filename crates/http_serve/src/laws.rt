@@ -5,8 +5,8 @@ ghost use Rattle.http_serve.specs.Talks.{TalksStand, OneMore, AloneIsServed, Far
 
 use crate::service::Service;
 
-/// A path names one place.
-pub fn paths_name_one_place()
+/// A path names one resource.
+pub fn paths_name_one_resource()
     ensures { NamesOne }
 {}
 

@@ -12,8 +12,8 @@ mod line;
 mod messages;
 mod next;
 mod outbox;
-mod places;
 mod replies;
+mod resource;
 mod responding;
 mod service;
 mod serving;
@@ -23,7 +23,7 @@ pub use fault::ServeFault;
 pub use heard::{Heard, Told};
 pub use laws::{
     a_talk_alone_is_served, exchanges_are_a_connection, farewells_stand, lines_are_talks,
-    one_exchange_more, paths_name_one_place, talks_stand,
+    one_exchange_more, paths_name_one_resource, talks_stand,
 };
 pub use line::Line;
 pub use next::Next;

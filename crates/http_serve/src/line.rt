@@ -226,7 +226,7 @@ impl Line {
     pub fn has_begun(&self) -> bool
         ensures { IsFalse result ↔ IsIdle self.now }
     {
-        self.progress.place().is_some() || !self.inbox.held().is_empty()
+        self.progress.awaits().is_some() || !self.inbox.held().is_empty()
     }
 
     /// How many requests were answered, 100 at most.

@@ -3,15 +3,15 @@ ghost use Rattle.std.specs.Prelude.{◌≡◌, ◌⊎◌, IfOk, OnErr, Some, dec
 ghost use Rattle.http_read.specs.Incoming.{request_of};
 ghost use Rattle.http_serve.specs.Connections.{IsResponse};
 ghost use Rattle.http_serve.specs.Paths.{submission};
-ghost use Rattle.http_serve.specs.Places.{place_shown};
+ghost use Rattle.http_serve.specs.Resources.{resource_shown};
 ghost use Rattle.http_serve.specs.Shown.{line_of as line_shown, written_in, write_as, closing, whole};
 ghost use Rattle.http_serve.specs.Replies.{Reply, stays_behind};
 ghost use Rattle.http_serve.specs.Responses.{plain as plain_reply, refusal, wrong_method as wrong_reply, receipt_reply, moved_line as moved_reply, page_reply, asked_reply, outcome_reply, line, RepliesToPost, RefusesPost, Refuses};
 ghost use Rattle.http_serve.specs.Services.{Outcome, Submits};
 
 use crate::fixed::{FixedReply, Room};
-use crate::places::{Place, place_of};
 use crate::replies::{Manner, Message, OwnLine, Response, message_of};
+use crate::resource::{Resource, resource_of};
 use crate::service::Service;
 use crate::submission::{Submission, SubmitFault};
 use command::fault_line;
@@ -155,17 +155,17 @@ fn shown<S: Service>(
     manner: Manner,
     service: &S,
     path: &str,
-    place: Place<'_>,
+    resource: Resource<'_>,
 ) -> Result<Message, AllocError>
-    ensures { IfOk result (λ message. written_in message ≡ write_as manner (asked_reply S.offered service.now path.now (place_shown place.entry))) }
+    ensures { IfOk result (λ message. written_in message ≡ write_as manner (asked_reply S.offered service.now path.now (resource_shown resource.entry))) }
 {
-    match place {
-        Place::Submission(_) => wrong_method(alloc, manner, "POST"),
-        Place::Receipt(ticket) => receipt(alloc, manner, service, ticket),
-        Place::Newest => number(alloc, manner, service.newest()),
-        Place::Release { n, rest } => page(alloc, manner, service, n, rest),
-        Place::Unknown => plain(alloc, manner, 404, "not found"),
-        Place::Page => match service.newest() {
+    match resource {
+        Resource::Submission(_) => wrong_method(alloc, manner, "POST"),
+        Resource::Receipt(ticket) => receipt(alloc, manner, service, ticket),
+        Resource::Newest => number(alloc, manner, service.newest()),
+        Resource::Release { n, rest } => page(alloc, manner, service, n, rest),
+        Resource::Unknown => plain(alloc, manner, 404, "not found"),
+        Resource::Page => match service.newest() {
             0 => plain(alloc, manner, 404, "no release"),
             newest => page(alloc, manner, service, newest, path),
         },
@@ -209,23 +209,24 @@ fn posted<S: Service>(
     keep: bool,
     service: &mut S,
     body: &[u8],
-    place: Place<'_>,
+    resource: Resource<'_>,
 ) -> Result<Message, AllocError>
     ensures answered { IfOk result (λ message. (reply : Reply)
-        × RepliesToPost S.offered service.old body.now (place_shown place.entry) service.new reply
+        × RepliesToPost S.offered service.old body.now (resource_shown resource.entry) service.new reply
         × (written_in message ≡ write_as (whole keep) reply)) }
-    ensures refused { OnErr result ((service.new ≡ service.old) ⊎ RefusesPost S.offered service.old body.now (place_shown place.entry) service.new) }
+    ensures refused { OnErr result ((service.new ≡ service.old) ⊎ RefusesPost S.offered service.old body.now (resource_shown resource.entry) service.new) }
 {
     let manner = Manner {
         to_head: false,
         keep,
     };
-    match place {
-        Place::Submission(ticket) => submitted(alloc, keep, service, ticket, body),
-        Place::Unknown => plain(alloc, manner, 404, "not found"),
-        Place::Receipt(_) | Place::Newest | Place::Release { n: _, rest: _ } | Place::Page => {
-            wrong_method(alloc, manner, "GET, HEAD")
-        }
+    match resource {
+        Resource::Submission(ticket) => submitted(alloc, keep, service, ticket, body),
+        Resource::Unknown => plain(alloc, manner, 404, "not found"),
+        Resource::Receipt(_)
+        | Resource::Newest
+        | Resource::Release { n: _, rest: _ }
+        | Resource::Page => { wrong_method(alloc, manner, "GET, HEAD") }
     }
 }
 
@@ -241,7 +242,7 @@ pub(crate) fn respond<S: Service>(
     ensures refused { OnErr result ((service.new ≡ service.old) ⊎ Refuses S.offered service.old (request_of request.now) service.new) }
 {
     let path = request.path.as_str();
-    let place = place_of(path);
+    let resource = resource_of(path);
     match request.method {
         Method::Get => shown(
             alloc,
@@ -251,7 +252,7 @@ pub(crate) fn respond<S: Service>(
             },
             service,
             path,
-            place,
+            resource,
         ),
         Method::Head => shown(
             alloc,
@@ -261,8 +262,8 @@ pub(crate) fn respond<S: Service>(
             },
             service,
             path,
-            place,
+            resource,
         ),
-        Method::Post => posted(alloc, keep, service, request.body.as_slice(), place),
+        Method::Post => posted(alloc, keep, service, request.body.as_slice(), resource),
     }
 }

@@ -1,10 +1,10 @@
 //! Where the reading of a request stands after each of its pieces.
-use http_read::{Counted, Inbox, Incoming, Place, Progress, advance};
+use http_read::{Awaited, Counted, Inbox, Incoming, Progress, advance};
 use std::alloc::Global;
 use std::process::Abort;
 
 /// A piece, and where the reading stands behind it: `None` within a head, and behind a whole request.
-type Row = (&'static str, Option<Place>);
+type Row = (&'static str, Option<Awaited>);
 
 /// Takes a piece whole.
 fn take(rt: &impl Abort, inbox: &mut Inbox, piece: &[u8]) {
@@ -25,14 +25,14 @@ fn is_due(came: &Option<Incoming>, is_last: bool, body: &[u8]) -> bool {
 }
 
 /// Gives the pieces one after another. The last one makes the request whole.
-fn check_places(rt: &impl Abort, alloc: Global, rows: &[Row], body: &[u8], left: &[u8]) {
+fn check_awaited(rt: &impl Abort, alloc: Global, rows: &[Row], body: &[u8], left: &[u8]) {
     let mut progress = Progress::Head;
     let mut inbox = Inbox::new(alloc);
     let mut spans = Vec::new(alloc);
-    for (i, (piece, place)) in rows.iter().enumerate() {
+    for (i, (piece, awaited)) in rows.iter().enumerate() {
         take(rt, &mut inbox, piece.as_bytes());
         let came = advance(alloc, &mut progress, &mut inbox, &mut spans).expect(rt, "memory");
-        assert_eq!(rt; progress.place(), *place, "behind piece {i}");
+        assert_eq!(rt; progress.awaits(), *awaited, "behind piece {i}");
         let is_last = i + 1 == rows.len();
         assert!(rt; is_due(&came, is_last, body), "behind piece {i}");
     }
@@ -42,34 +42,34 @@ fn check_places(rt: &impl Abort, alloc: Global, rows: &[Row], body: &[u8], left:
 const STATED: &[Row] = &[
     ("POST / HTT", None),
     ("P/1.1\r\nHost: a\r\nContent-Length: 5\r\n\r", None),
-    ("\n", Some(Place::Fixed(5))),
-    ("ab", Some(Place::Fixed(3))),
-    ("cd", Some(Place::Fixed(1))),
+    ("\n", Some(Awaited::Fixed(5))),
+    ("ab", Some(Awaited::Fixed(3))),
+    ("cd", Some(Awaited::Fixed(1))),
     ("eGET", None),
 ];
 
 #[test]
 fn a_body_of_a_stated_length(rt: HostRuntime) {
-    check_places(&rt, rt.alloc(), STATED, b"abcde", b"GET");
+    check_awaited(&rt, rt.alloc(), STATED, b"abcde", b"GET");
 }
 
 const CHUNKED: &[Row] = &[
     ("POST / HTTP/1.1\r\nHost: a\r\n", None),
-    ("Transfer-Encoding: chunked\r\n\r\n", Some(Place::Line)),
-    ("4", Some(Place::Line)),
-    (";x\r", Some(Place::Line)),
-    ("\n", Some(Place::Chunk(4))),
-    ("rel", Some(Place::Chunk(1))),
-    ("e", Some(Place::Break)),
-    ("\r", Some(Place::Break)),
-    ("\n4\r\nas", Some(Place::Chunk(2))),
-    ("e\n\r\n0", Some(Place::Line)),
-    ("\r\n", Some(Place::Trailer)),
-    ("A: b\r\n\r", Some(Place::Trailer)),
+    ("Transfer-Encoding: chunked\r\n\r\n", Some(Awaited::Line)),
+    ("4", Some(Awaited::Line)),
+    (";x\r", Some(Awaited::Line)),
+    ("\n", Some(Awaited::Chunk(4))),
+    ("rel", Some(Awaited::Chunk(1))),
+    ("e", Some(Awaited::Break)),
+    ("\r", Some(Awaited::Break)),
+    ("\n4\r\nas", Some(Awaited::Chunk(2))),
+    ("e\n\r\n0", Some(Awaited::Line)),
+    ("\r\n", Some(Awaited::Trailer)),
+    ("A: b\r\n\r", Some(Awaited::Trailer)),
     ("\n", None),
 ];
 
 #[test]
 fn a_body_by_chunks(rt: HostRuntime) {
-    check_places(&rt, rt.alloc(), CHUNKED, b"release\n", b"");
+    check_awaited(&rt, rt.alloc(), CHUNKED, b"release\n", b"");
 }

@@ -12,7 +12,7 @@ use Rattle.content.specs.Standing.{is_held}
 use Rattle.content.proofs.Tickets.{ticket_cmp, same_by_order, is_same_ticket-is, same_itself}
 use Rattle.release.specs.Receipts.{receipt_of}
 use Rattle.release.proofs.Receipts.{receipt_is_first, receipt_stays}
-use Rattle.release.proofs.Places.{named_by}
+use Rattle.release.proofs.Positions.{named_by}
 use Rattle.node.specs.Knowing.{AreKnown}
 use Rattle.node.specs.Nodes.{Value, Node, BeginsKnown}
 use Rattle.node.specs.Published.{AreHeldWith}

@@ -1,5 +1,5 @@
 mod MoreValues
-pub mod Places
+pub mod Positions
 pub mod Receipts
 pub mod Answering
 mod Keeping

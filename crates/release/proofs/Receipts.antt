@@ -14,7 +14,7 @@ use Rattle.content.specs.declared.applied.Applied.TheVariants.{Repeat}
 use Rattle.release.specs.Receipts.{is_named, receipt_of, IsNamedAt, IsReceipt}
 use Rattle.release.specs.Laws.{ReceiptIsFirst, ReceiptIsNone, ReceiptStays, RepeatHasReceipt}
 use Rattle.content.proofs.Tickets.{is_same_ticket-is}
-use Rattle.release.proofs.Places.{not_named, named_by, position_more, has_position, position_first, position_none}
+use Rattle.release.proofs.Positions.{not_named, named_by, position_more, has_position, position_first, position_none}
 
 pub has_receipt : (ticket : Ticket) (values : List (List ℕ)) → has_ticket ticket (commands_of values) ≡ is_some (receipt_of ticket values)
 has_receipt ticket values = has_position ticket 1 values

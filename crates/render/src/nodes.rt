@@ -23,7 +23,7 @@ use mustache_parse::Node;
 
 /// Where nodes are printed: under which margin, over which frame, with which partials, and how many more of these may nest.
 #[derive(Drop)]
-pub(crate) struct Place<'a, P: Partials> {
+pub(crate) struct Scope<'a, P: Partials> {
     pub margin: Option<&'a Margin<'a>>,
     pub frame: &'a Frame<'a>,
     pub partials: &'a P,
@@ -56,19 +56,19 @@ fn items_named<'a>(name: &str, frame: &Frame<'a>) -> &'a [Data]
     }
 }
 
-/// Prints nodes at a place. Each part is entered only once it was paid for, so this ends.
+/// Prints nodes at a scope. Each part is entered only once it was paid for, so this ends.
 #[cycle(nodes)]
 pub(crate) fn render_nodes<P: Partials>(
     nodes: &[Node],
-    place: &Place<'_, P>,
+    scope: &Scope<'_, P>,
     out: &mut Output,
 ) -> Result<(), RenderFault>
-    ensures adds { (texts : Texts) → P.stands place.now.partials.now texts → AreBlank (margin_at place.now.margin) → HasBlankIndents (tree_view [] nodes.now)
-        → Adds out.old out.new (meaning_to place.now.depth texts (tree_view (margin_at place.now.margin) nodes.now) (stack_of place.now.frame.now)) result }
+    ensures adds { (texts : Texts) → P.stands scope.now.partials.now texts → AreBlank (margin_at scope.now.margin) → HasBlankIndents (tree_view [] nodes.now)
+        → Adds out.old out.new (meaning_to scope.now.depth texts (tree_view (margin_at scope.now.margin) nodes.now) (stack_of scope.now.frame.now)) result }
     ensures spent { OnOk result (out.new.left ≤ out.old.left) }
 {
     for node in nodes {
-        render_node(node, place, out)?;
+        render_node(node, scope, out)?;
     }
     Ok(())
 }
@@ -76,11 +76,11 @@ pub(crate) fn render_nodes<P: Partials>(
 #[cycle(nodes)]
 fn render_node<P: Partials>(
     node: &Node,
-    place: &Place<'_, P>,
+    scope: &Scope<'_, P>,
     out: &mut Output,
 ) -> Result<(), RenderFault>
-    ensures adds { (texts : Texts) → P.stands place.now.partials.now texts → AreBlank (margin_at place.now.margin) → HasBlankIndents (node_onto [] node.now nothing)
-        → Adds out.old out.new (meaning_to place.now.depth texts (node_onto (margin_at place.now.margin) node.now nothing) (stack_of place.now.frame.now)) result }
+    ensures adds { (texts : Texts) → P.stands scope.now.partials.now texts → AreBlank (margin_at scope.now.margin) → HasBlankIndents (node_onto [] node.now nothing)
+        → Adds out.old out.new (meaning_to scope.now.depth texts (node_onto (margin_at scope.now.margin) node.now nothing) (stack_of scope.now.frame.now)) result }
     ensures spent { OnOk result (out.new.left ≤ out.old.left) }
 {
     match node {
@@ -88,22 +88,22 @@ fn render_node<P: Partials>(
             text,
             leads,
             trails,
-        } => print_text(text.as_str(), *leads, *trails, place.margin, out),
-        Node::Variable(name) => render_variable(name.as_str(), place.frame, out),
-        Node::Raw(name) => render_raw(name.as_str(), place.frame, out),
+        } => print_text(text.as_str(), *leads, *trails, scope.margin, out),
+        Node::Variable(name) => render_variable(name.as_str(), scope.frame, out),
+        Node::Raw(name) => render_raw(name.as_str(), scope.frame, out),
         Node::Section { name, block } => {
             out.charge(1)?;
-            let pushed = items_named(name.as_str(), place.frame);
-            render_items(block, pushed, place, out)
+            let pushed = items_named(name.as_str(), scope.frame);
+            render_items(block, pushed, scope, out)
         }
         Node::Inverted { name, block } => {
             out.charge(1)?;
-            let found = items_named(name.as_str(), place.frame);
-            render_where_none(block, found, place, out)
+            let found = items_named(name.as_str(), scope.frame);
+            render_where_none(block, found, scope, out)
         }
         Node::Partial { name, own } => {
             out.charge(1)?;
-            render_partial(name.as_str(), own, place, out)
+            render_partial(name.as_str(), own, scope, out)
         }
     }
 }
@@ -113,22 +113,22 @@ fn render_node<P: Partials>(
 fn render_items<P: Partials>(
     block: &[Node],
     pushed: &[Data],
-    place: &Place<'_, P>,
+    scope: &Scope<'_, P>,
     out: &mut Output,
 ) -> Result<(), RenderFault>
-    ensures adds { (texts : Texts) → P.stands place.now.partials.now texts → AreBlank (margin_at place.now.margin) → HasBlankIndents (tree_view [] block.now)
-        → Adds out.old out.new (for_each (λ v. meaning_to place.now.depth texts (tree_view (margin_at place.now.margin) block.now) (v ∷ stack_of place.now.frame.now)) (map data_view pushed.now)) result }
+    ensures adds { (texts : Texts) → P.stands scope.now.partials.now texts → AreBlank (margin_at scope.now.margin) → HasBlankIndents (tree_view [] block.now)
+        → Adds out.old out.new (for_each (λ v. meaning_to scope.now.depth texts (tree_view (margin_at scope.now.margin) block.now) (v ∷ stack_of scope.now.frame.now)) (map data_view pushed.now)) result }
     ensures spent { OnOk result (out.new.left ≤ out.old.left) }
 {
     for item in pushed {
         out.charge(1)?;
         let top = Frame {
             data: item,
-            below: Some(place.frame),
+            below: Some(scope.frame),
         };
-        let above = Place {
+        let above = Scope {
             frame: &top,
-            ..*place
+            ..*scope
         };
         render_nodes(block, &above, out)?;
     }
@@ -140,15 +140,15 @@ fn render_items<P: Partials>(
 fn render_where_none<P: Partials>(
     block: &[Node],
     found: &[Data],
-    place: &Place<'_, P>,
+    scope: &Scope<'_, P>,
     out: &mut Output,
 ) -> Result<(), RenderFault>
-    ensures adds { (texts : Texts) → P.stands place.now.partials.now texts → AreBlank (margin_at place.now.margin) → HasBlankIndents (tree_view [] block.now)
-        → Adds out.old out.new (where_none (meaning_to place.now.depth texts (tree_view (margin_at place.now.margin) block.now) (stack_of place.now.frame.now)) (map data_view found.now)) result }
+    ensures adds { (texts : Texts) → P.stands scope.now.partials.now texts → AreBlank (margin_at scope.now.margin) → HasBlankIndents (tree_view [] block.now)
+        → Adds out.old out.new (where_none (meaning_to scope.now.depth texts (tree_view (margin_at scope.now.margin) block.now) (stack_of scope.now.frame.now)) (map data_view found.now)) result }
     ensures spent { OnOk result (out.new.left ≤ out.old.left) }
 {
     if found.is_empty() {
-        render_nodes(block, place, out)
+        render_nodes(block, scope, out)
     } else {
         Ok(())
     }
@@ -159,24 +159,24 @@ fn render_where_none<P: Partials>(
 fn render_partial<P: Partials>(
     name: &str,
     own: &Option<String>,
-    place: &Place<'_, P>,
+    scope: &Scope<'_, P>,
     out: &mut Output,
 ) -> Result<(), RenderFault>
-    ensures adds { (texts : Texts) → P.stands place.now.partials.now texts → AreBlank (margin_at place.now.margin) → AreBlank (own_under (margin_at place.now.margin) own.now)
-        → Adds out.old out.new (called_at place.now.depth texts name.now (own_under (margin_at place.now.margin) own.now) (stack_of place.now.frame.now)) result }
+    ensures adds { (texts : Texts) → P.stands scope.now.partials.now texts → AreBlank (margin_at scope.now.margin) → AreBlank (own_under (margin_at scope.now.margin) own.now)
+        → Adds out.old out.new (called_at scope.now.depth texts name.now (own_under (margin_at scope.now.margin) own.now) (stack_of scope.now.frame.now)) result }
     ensures spent { OnOk result (out.new.left ≤ out.old.left) }
 {
-    let Some(found) = place.partials.find(name) else {
+    let Some(found) = scope.partials.find(name) else {
         return Ok(());
     };
-    let Some(depth) = place.depth.checked_sub(1) else {
+    let Some(depth) = scope.depth.checked_sub(1) else {
         return Err(RenderFault::OverLimit);
     };
-    let margin = margin_within(&*own, place.margin);
-    let within = Place {
+    let margin = margin_within(&*own, scope.margin);
+    let within = Scope {
         depth,
         margin: margin.as_ref(),
-        ..*place
+        ..*scope
     };
     render_nodes(found.nodes(), &within, out)
 }

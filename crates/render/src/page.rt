@@ -6,7 +6,7 @@ ghost use Rattle.mustache_parse.specs.Template.{template_tree};
 ghost use Rattle.render.specs.Meaning.{Partials as Texts, rendering};
 
 use crate::fault::RenderFault;
-use crate::nodes::{Place, render_nodes};
+use crate::nodes::{Scope, render_nodes};
 use crate::output::Output;
 use crate::partials::Partials;
 use context::{Data, Frame};
@@ -33,13 +33,13 @@ pub fn render<P: Partials>(
         data: page_data,
         below: None,
     };
-    let place = Place {
+    let scope = Scope {
         margin: None,
         frame: &frame,
         partials,
         depth: MAX_NESTED,
     };
-    match render_nodes(template.nodes(), &place, &mut out) {
+    match render_nodes(template.nodes(), &scope, &mut out) {
         Ok(()) => Ok(out.text),
         Err(fault) => Err(fault),
     }

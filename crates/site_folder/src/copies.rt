@@ -16,7 +16,7 @@ pub enum NoCopy {
 
 /// What stands at a path of a static copy.
 #[derive(Clone, Copy, PartialEq, Eq)]
-enum Place {
+enum Taken {
     File,
     Folder,
 }
@@ -25,7 +25,7 @@ enum Place {
 #[derive(Drop)]
 pub struct Copies {
     alloc: Global,
-    taken: BTreeMap<String, Place>,
+    taken: BTreeMap<String, Taken>,
 }
 
 /// Whether each part of a path can name a file.
@@ -83,14 +83,14 @@ impl Copies {
         }
         let folders = folders_of(self.alloc, file.as_str())?;
         for folder in folders.iter() {
-            if self.taken.get(folder.as_str()) == Some(&Place::File) {
+            if self.taken.get(folder.as_str()) == Some(&Taken::File) {
                 return Ok(Err(NoCopy::Taken));
             }
         }
         for folder in folders {
-            drop(self.taken.insert(folder, Place::Folder)?);
+            drop(self.taken.insert(folder, Taken::Folder)?);
         }
-        drop(self.taken.insert(file.clone()?, Place::File)?);
+        drop(self.taken.insert(file.clone()?, Taken::File)?);
         Ok(Ok(file))
     }
 }

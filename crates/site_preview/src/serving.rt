@@ -22,7 +22,7 @@ const WAITING: u64 = 300;
 
 /// A folder that is previewed, and whether files that are no part of a site are passed over in it.
 #[derive(Clone, Copy)]
-struct Place<'a> {
+struct Source<'a> {
     folder: &'a str,
     ignore: bool,
 }
@@ -31,9 +31,9 @@ struct Place<'a> {
 fn read_release<R: Files + AllocGlobal + Clone + Drop>(
     rt: &R,
     told: &mut Vec<u8>,
-    place: Place<'_>,
+    source: Source<'_>,
 ) -> Result<Option<Previewed>, Halt> {
-    match read_clean(rt, told, place.folder, place.ignore)? {
+    match read_clean(rt, told, source.folder, source.ignore)? {
         Some(clean) => Ok(Some(Previewed::Pages(release_of(rt.alloc(), &clean.folder)?))),
         None => Ok(None),
     }
@@ -42,11 +42,11 @@ fn read_release<R: Files + AllocGlobal + Clone + Drop>(
 /// The folder as it is now.
 fn read_preview<R: Files + AllocGlobal + Clone + Drop>(
     rt: &R,
-    place: Place<'_>,
+    source: Source<'_>,
 ) -> Result<Previewed, Halt> {
     let alloc = rt.alloc();
     let mut told: Vec<u8> = Vec::new(alloc);
-    match read_release(rt, &mut told, place) {
+    match read_release(rt, &mut told, source) {
         Ok(Some(shown)) => Ok(shown),
         Ok(None) => Ok(Previewed::Faults(String::from_utf8_lossy(alloc, &told)?)),
         Err(Halt::OutOfMemory) => Err(Halt::OutOfMemory),
@@ -74,12 +74,12 @@ fn set_waiting(stream: &TcpStream) -> io::Result<()> {
 fn answer<R: Files + AllocGlobal + Clone + Drop>(
     rt: &R,
     stream: &TcpStream,
-    place: Place<'_>,
+    source: Source<'_>,
 ) -> Result<(), Halt> {
     if set_waiting(stream).is_err() {
         return Ok(());
     }
-    let mut preview = read_preview(rt, place)?;
+    let mut preview = read_preview(rt, source)?;
     answer_by(rt.alloc(), stream, &mut preview)?;
     let _ = stream.shutdown(Shutdown::Write);
     Ok(())
@@ -127,10 +127,10 @@ pub fn preview<
 >(rt: &R, out: &mut W, folder: &str, http: &str, ignore: bool) -> Result<u8, Halt> {
     let listener = listen(rt, rt.alloc(), http)?;
     tell(rt.alloc(), out, &listener, folder)?;
-    let place = Place { folder, ignore };
+    let source = Source { folder, ignore };
     for stream in listener.incoming() {
         if let Ok(stream) = stream {
-            answer(rt, &stream, place)?;
+            answer(rt, &stream, source)?;
         }
     }
     Ok(0)

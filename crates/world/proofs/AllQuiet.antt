@@ -1,13 +1,13 @@
--- Whether all nodes are quiet, one place after another.
+-- Whether all nodes are quiet, one machine after another.
 use Rattle.std.proofs.Common.{◌≡◌, ◌⊎◌, ⊎_elim, ℕ, suc, ◌+◌, ◌<◌, ◌≤◌, min, Bool, true, false, Option, Some, None, is_some, List, refl, sym, subst, ◌∙◌, arith}
 use Rattle.std.proofs.lemmas.Bool.{false≢true}
 use Rattle.std.specs.Prelude.{◌↔◌, IsTrue, MatchOption, length, slice_get}
 use Rattle.site_ids.specs.Ids.{IsNode, IsInstance}
 use Rattle.node.specs.Nodes.{Value, Node, IsFirstUnknown, IsKnownPrefix}
-use Rattle.world.specs.declared.places.Place.{Place}
+use Rattle.world.specs.declared.machine.Machine.{Machine}
 use Rattle.world.specs.declared.world.World.{World as Code}
 use Rattle.world.specs.Worlds.{World}
-use Rattle.world.specs.Standing.{IsPlaceOf, IsWorldOf}
+use Rattle.world.specs.Standing.{IsMachineOf, IsWorldOf}
 use Rattle.world.specs.Quiet.{IsQuiet, IsQuietAt}
 use Rattle.world.proofs.Firsts.{first_after, none_after}
 
@@ -15,9 +15,9 @@ use Rattle.world.proofs.Firsts.{first_after, none_after}
 abbrev pub AreQuietTo : Code → ℕ → Type 0
 AreQuietTo code k = (w : World) → IsWorldOf code w → (q : ℕ) → 1 ≤ q → q ≤ k → IsQuietAt (w.node q)
 
--- what a place tells of its node
-abbrev pub Tells : Place → Bool → Type 0
-Tells place told = (n p : ℕ) (s : Node) → IsPlaceOf n p place s → IsTrue told ↔ IsQuietAt s
+-- what a machine tells of its node
+abbrev pub Tells : Machine → Bool → Type 0
+Tells machine told = (n p : ℕ) (s : Node) → IsMachineOf n p machine s → IsTrue told ↔ IsQuietAt s
 
 abbrev pub AllQuiet : ℕ → World → Type 0
 AllQuiet n w = (q : ℕ) → IsNode n q → IsQuietAt (w.node q)
@@ -25,17 +25,17 @@ AllQuiet n w = (q : ℕ) → IsNode n q → IsQuietAt (w.node q)
 pub none_seen : (code : Code) → AreQuietTo code 0
 none_seen code w stands q one none = absurd (omega (arith, one, none))
 
-module _ (code : Code) (k : ℕ) (place : Place) (told : Bool) (got : slice_get code.places.items k ≡ Some place) (tells : Tells place told) where
+module _ (code : Code) (k : ℕ) (machine : Machine) (told : Bool) (got : slice_get code.machines.items k ≡ Some machine) (tells : Tells machine told) where
   pub one_more : AreQuietTo code k → told ≡ true → AreQuietTo code (k + 1)
-  one_more so told_so w stands q one few = ⊎_elim (λ less. so w stands q one less) (λ (e : q ≡ suc k). subst (λ (r : ℕ). IsQuietAt (w.node r)) (sym e) ((tells code.cluster (suc k) (w.node (suc k)) (stands.places k place got)).0 told_so)) (before_or_last q k few)
+  one_more so told_so w stands q one few = ⊎_elim (λ less. so w stands q one less) (λ (e : q ≡ suc k). subst (λ (r : ℕ). IsQuietAt (w.node r)) (sym e) ((tells code.cluster (suc k) (w.node (suc k)) (stands.machines k machine got)).0 told_so)) (before_or_last q k few)
     where
       before_or_last : (q k : ℕ) → q ≤ k + 1 → (q ≤ k) ⊎ (q ≡ suc k)
       before_or_last q k h = grind arith
 
-  pub one_is_not : told ≡ false → k < length code.places.items → (w : World) → IsWorldOf code w → IsTrue false ↔ AllQuiet code.cluster w
+  pub one_is_not : told ≡ false → k < length code.machines.items → (w : World) → IsWorldOf code w → IsTrue false ↔ AllQuiet code.cluster w
   one_is_not told_not below w stands = (
     λ is. absurd (false≢true is),
-    λ all. absurd (false≢true (sym told_not ∙ (tells code.cluster (suc k) (w.node (suc k)) (stands.places k place got)).1 (all (suc k) (here k, there)))),
+    λ all. absurd (false≢true (sym told_not ∙ (tells code.cluster (suc k) (w.node (suc k)) (stands.machines k machine got)).1 (all (suc k) (here k, there)))),
   )
     where
       here : (k : ℕ) → 1 ≤ suc k
@@ -44,7 +44,7 @@ module _ (code : Code) (k : ℕ) (place : Place) (told : Bool) (got : slice_get 
       there : suc k ≤ code.cluster
       there = let all = code.all_there in omega (arith, below, all)
 
-pub all_seen : (code : Code) (k : ℕ) → length code.places.items ≤ k → AreQuietTo code k → (w : World) → IsWorldOf code w → IsTrue true ↔ AllQuiet code.cluster w
+pub all_seen : (code : Code) (k : ℕ) → length code.machines.items ≤ k → AreQuietTo code k → (w : World) → IsWorldOf code w → IsTrue true ↔ AllQuiet code.cluster w
 all_seen code k past so w stands = (λ is q node. so w stands q node.0 (let high = node.1 in let all = code.all_there in omega (arith, high, past, all)), λ all. refl)
 
 -- ---- with an unknown instance

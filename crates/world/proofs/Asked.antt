@@ -10,12 +10,12 @@ use Rattle.release.specs.Page.{Page, answer, released}
 use Rattle.node.specs.declared.node.Node.{Node as Running}
 use Rattle.node.specs.Nodes.{Value, Down, Node, BeginsKnown, IsKnownPrefix}
 use Rattle.world.specs.declared.event.Event.{Event}
-use Rattle.world.specs.declared.places.Place.{Place}
-use Rattle.world.specs.declared.places.Place.TheVariants.{Open, Bare}
+use Rattle.world.specs.declared.machine.Machine.{Machine}
+use Rattle.world.specs.declared.machine.Machine.TheVariants.{Open, Bare}
 use Rattle.world.specs.declared.world.World.{World as Code}
 use Rattle.world.specs.Worlds.{World}
 use Rattle.world.specs.Decided.{Decides, AreDecided}
-use Rattle.world.specs.Standing.{IsOpen, IsBare, IsPlaceOf, IsWorldOf}
+use Rattle.world.specs.Standing.{IsOpen, IsBare, IsMachineOf, IsWorldOf}
 use Rattle.world.specs.Steps.{Reached, IsAnswer, AreOfRun}
 use Rattle.world.specs.Telling.{fed_in, fed_at}
 use Rattle.world.proofs.Turning.{not_down}
@@ -31,15 +31,15 @@ has_release orders n path page is = by_tests orders n path page (nat_lt 0 n) (na
     by_tests orders n path page true false x y is = cc
     by_tests orders n path page false b x y is = cc
 
-module _ (code : Code) (p : ℕ) (here : Place) (one : 1 ≤ p) (got : slice_get code.places.items (p - 1) ≡ Some here) where
-  pub place_at : (w : World) → IsWorldOf code w → IsPlaceOf code.cluster p here (w.node p)
-  place_at w stands = subst (λ (q : ℕ). IsPlaceOf code.cluster q here (w.node q)) (omega (arith, one)) (stands.places (p - 1) here got)
+module _ (code : Code) (p : ℕ) (here : Machine) (one : 1 ≤ p) (got : slice_get code.machines.items (p - 1) ≡ Some here) where
+  pub machine_at : (w : World) → IsWorldOf code w → IsMachineOf code.cluster p here (w.node p)
+  machine_at w stands = subst (λ (q : ℕ). IsMachineOf code.cluster q here (w.node q)) (omega (arith, one)) (stands.machines (p - 1) here got)
 
   pub open_at : (node : Running MemDisk) (armed : Bool) → here ≡ Open node armed → (w : World) → IsWorldOf code w → IsOpen code.cluster p node armed (w.node p)
-  open_at node armed is w stands = subst (λ (x : Place). IsPlaceOf code.cluster p x (w.node p)) is (place_at w stands)
+  open_at node armed is w stands = subst (λ (x : Machine). IsMachineOf code.cluster p x (w.node p)) is (machine_at w stands)
 
   bare_at : (disk : MemDisk) → here ≡ Bare disk → (w : World) → IsWorldOf code w → IsBare code.cluster p disk (w.node p)
-  bare_at disk is w stands = subst (λ (x : Place). IsPlaceOf code.cluster p x (w.node p)) is (place_at w stands)
+  bare_at disk is w stands = subst (λ (x : Machine). IsMachineOf code.cluster p x (w.node p)) is (machine_at w stands)
 
   pub down_at : (disk : MemDisk) → here ≡ Bare disk → (w : World) → IsWorldOf code w → (w.node p).mode ≡ Down
   down_at disk is w stands = ap (λ (s : Node). s.mode) (bare_at disk is w stands).down

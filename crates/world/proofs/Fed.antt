@@ -3,11 +3,11 @@ use Rattle.std.proofs.Common.{◌≡◌, ℕ, zero, suc, ◌-◌, ◌<◌, Optio
 use Rattle.std.specs.Prelude.{slice_get}
 use Rattle.site_ids.specs.Ids.{IsNode}
 use Rattle.node.specs.Nodes.{Value, Up, Node, opened, IsKnownPrefix}
-use Rattle.world.specs.declared.places.Place.{Place}
-use Rattle.world.specs.declared.places.Place.TheVariants.{Open, Bare}
+use Rattle.world.specs.declared.machine.Machine.{Machine}
+use Rattle.world.specs.declared.machine.Machine.TheVariants.{Open, Bare}
 use Rattle.world.specs.declared.world.World.{World as Code}
 use Rattle.world.specs.Worlds.{World, start}
-use Rattle.world.specs.Standing.{IsPlaceOf, HasPublished, IsWorldOf, IsPublishedAt}
+use Rattle.world.specs.Standing.{IsMachineOf, HasPublished, IsWorldOf, IsPublishedAt}
 use Rattle.world.specs.Telling.{fed_in, fed_at}
 
 -- ---- a known prefix
@@ -50,8 +50,8 @@ one_prefix s us vs u v =
 
 -- ---- what was published
 
--- of two nodes that a place stands for both have published all, or neither
-both_published : (n p : ℕ) (place : Place) (s t : Node) → IsPlaceOf n p place s → IsPlaceOf n p place t → HasPublished place s → HasPublished place t
+-- of two nodes that a machine stands for both have published all, or neither
+both_published : (n p : ℕ) (machine : Machine) (s t : Node) → IsMachineOf n p machine s → IsMachineOf n p machine t → HasPublished machine s → HasPublished machine t
 both_published n p (Open code armed) s t at bt published =
     let i = suc (length code.releases) in
     record { begins = bt.stands.fed; gap = sym (bt.stands.parts.known.values i) ∙ at.stands.parts.known.values i ∙ published.gap }
@@ -59,19 +59,19 @@ both_published n p (Bare disk) s t at bt published = tt
 
 -- and so in two worlds that a value stands for
 pub published_alike : (code : Code) (a b : World) → IsWorldOf code a → IsWorldOf code b → (p : ℕ) → IsPublishedAt code a p → IsPublishedAt code b p
-published_alike code a b is js p published k place here got =
-    let first : HasPublished place (a.node (suc k)) = subst (λ (q : ℕ). HasPublished place (a.node q)) here (published k place here got) in
-    subst (λ (q : ℕ). HasPublished place (b.node q)) (sym here) (both_published code.cluster (suc k) place (a.node (suc k)) (b.node (suc k)) (is.places k place got) (js.places k place got) first)
+published_alike code a b is js p published k machine here got =
+    let first : HasPublished machine (a.node (suc k)) = subst (λ (q : ℕ). HasPublished machine (a.node q)) here (published k machine here got) in
+    subst (λ (q : ℕ). HasPublished machine (b.node q)) (sym here) (both_published code.cluster (suc k) machine (a.node (suc k)) (b.node (suc k)) (is.machines k machine got) (js.machines k machine got) first)
 
-nothing_known : (n p : ℕ) (place : Place) → IsPlaceOf n p place (opened Up [] None) → HasPublished place (opened Up [] None)
+nothing_known : (n p : ℕ) (machine : Machine) → IsMachineOf n p machine (opened Up [] None) → HasPublished machine (opened Up [] None)
 nothing_known n p (Open code armed) at = record { begins = at.stands.fed; gap = refl }
 nothing_known n p (Bare disk) at = tt
 
 -- as a world begins there is nothing to publish
 pub start_published : (code : Code) → IsWorldOf code start → (p : ℕ) → IsPublishedAt code start p
-start_published code stands p k place here got = nothing_known code.cluster (suc k) place (stands.places k place got)
+start_published code stands p k machine here got = nothing_known code.cluster (suc k) machine (stands.machines k machine got)
 
-fed_of : (n p : ℕ) (place : Place) (s : Node) → IsPlaceOf n p place s → HasPublished place s → IsKnownPrefix s (fed_in (Some place))
+fed_of : (n p : ℕ) (machine : Machine) (s : Node) → IsMachineOf n p machine s → HasPublished machine s → IsKnownPrefix s (fed_in (Some machine))
 fed_of n p (Open code armed) s at published = published
 fed_of n p (Bare disk) s at published = record { begins = λ k v lost. cc; gap = ap (λ (t : Node). t.known 1) at.down }
 
@@ -80,7 +80,7 @@ pub fed_whole : (code : Code) (w : World) (p : ℕ) → IsNode code.cluster p �
 fed_whole code w p node stands published =
     let k = p - 1 in
     let here : p ≡ suc k = omega (arith, node.0) in
-    let below : k < length code.places.items = omega (arith, node.0, node.1, code.all_there) in
-    let place = there_at code.places.items k below in
-    let mine : IsPlaceOf code.cluster p place.0 (w.node p) = subst (λ (q : ℕ). IsPlaceOf code.cluster q place.0 (w.node q)) (sym here) (stands.places k place.0 place.1) in
-    subst (λ (x : Option Place). IsKnownPrefix (w.node p) (fed_in x)) (sym place.1) (fed_of code.cluster p place.0 (w.node p) mine (published k place.0 here place.1))
+    let below : k < length code.machines.items = omega (arith, node.0, node.1, code.all_there) in
+    let machine = there_at code.machines.items k below in
+    let mine : IsMachineOf code.cluster p machine.0 (w.node p) = subst (λ (q : ℕ). IsMachineOf code.cluster q machine.0 (w.node q)) (sym here) (stands.machines k machine.0 machine.1) in
+    subst (λ (x : Option Machine). IsKnownPrefix (w.node p) (fed_in x)) (sym machine.1) (fed_of code.cluster p machine.0 (w.node p) mine (published k machine.0 here machine.1))

@@ -13,7 +13,7 @@ use Rattle.world.specs.declared.world.World.{World as Code}
 use Rattle.world.specs.Worlds.{World, Runs, start}
 use Rattle.world.specs.Taking.{node_of, Takes, TakesAll, IsBad, IsRefused, WantsMemory, MeetsBadEvent}
 use Rattle.world.specs.Standing.{IsWorldOf, IsPublishedAt, IsUnpublishedAt}
-use Rattle.world.specs.Places.{Handed}
+use Rattle.world.specs.Machines.{Handed}
 use Rattle.world.specs.Steps.{LeadsTo, StayPublished, KeepsPublished, ArePublished, PublishedAsFar, RunEnds, Reached, Reaches}
 use Rattle.world.proofs.Moving.{either}
 use Rattle.world.proofs.Growing.{runs_on}

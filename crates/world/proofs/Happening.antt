@@ -1,4 +1,4 @@
--- An event at the place of its node.
+-- An event at the machine of its node.
 use Rattle.std.proofs.Common.{◌≡◌, ℕ, zero, suc, ◌<◌, ◌≤◌, Result, Some, List, [], ◌∷◌, ◌++◌, length, refl, sym, ap, subst, ◌∙◌, append-nil, arith}
 use Rattle.std.specs.Prelude.{slice_get}
 use Rattle.std.specs.Result.{OnOk, OnErr}
@@ -11,23 +11,23 @@ use Rattle.node.specs.Effects.{messages_of}
 use Rattle.node.specs.Calls.{submit, tick, widen, ask, tell, deliver}
 use Rattle.world.specs.declared.event.Event.{Event}
 use Rattle.world.specs.declared.event.Event.TheVariants.{Submit, Tick, Widen, Ask, Tell, Deliver, Arm, Crash, Restart}
-use Rattle.world.specs.declared.places.Place.{Place}
+use Rattle.world.specs.declared.machine.Machine.{Machine}
 use Rattle.world.specs.Taking.{node_of, IsUnsent}
-use Rattle.world.specs.Places.{Handed, NodeTakes, Settled, Turns, Wants, IsUp, CallTurns, CallWants, EventTurns, EventWants}
+use Rattle.world.specs.Machines.{Handed, NodeTakes, Settled, Turns, Wants, IsUp, CallTurns, CallWants, EventTurns, EventWants}
 use Rattle.world.proofs.Turning.{on_ok, on_err}
 
 -- what hands out nothing, beside a longer list
-beside : (n p : ℕ) (Does : Node → Handed → Node → Type 0) (old new : Place) (before : Handed) → Turns n p Does old new [] [] → Turns n p Does old new before before
+beside : (n p : ℕ) (Does : Node → Handed → Node → Type 0) (old new : Machine) (before : Handed) → Turns n p Does old new [] [] → Turns n p Does old new before before
 beside n p Does old new before turns = record {
   leads = λ s at.
       let t = turns.leads s at in
       record { next = t.next; out = t.out; does = t.does; stands = t.stands; outbox = sym (append-nil before) ∙ ap (λ (l : Handed). before ++ l) t.outbox; messages = t.messages };
 }
 
-turns_for : (n : ℕ) (event made : Event) (old new : Place) (before after : Handed) → event ≡ made → EventTurns n made old new before after → EventTurns n event old new before after
+turns_for : (n : ℕ) (event made : Event) (old new : Machine) (before after : Handed) → event ≡ made → EventTurns n made old new before after → EventTurns n event old new before after
 turns_for n event made old new before after is turns = subst (λ (e : Event). EventTurns n e old new before after) (sym is) turns
 
-wants_for : (n : ℕ) (event made : Event) (old new : Place) (before after : Handed) → event ≡ made → EventWants n (node_of made) made old new before after → EventWants n (node_of event) event old new before after
+wants_for : (n : ℕ) (event made : Event) (old new : Machine) (before after : Handed) → event ≡ made → EventWants n (node_of made) made old new before after → EventWants n (node_of event) event old new before after
 wants_for n event made old new before after is wants = subst (λ (e : Event). EventWants n (node_of e) e old new before after) (sym is) wants
 
 found_at : (sent : Handed) (k : ℕ) → k < length sent → (m : Message) × (slice_get (messages_of sent) k ≡ Some m)
@@ -45,16 +45,16 @@ is_sent event q index sent is told =
     let same = same_length sent in
     omega (arith, known, same)
 
-pub arms : (n : ℕ) (event : Event) (old new : Place) (before : Handed) (q calls : ℕ) → event ≡ Arm q calls → ((k p x : ℕ) → Turns k p (λ s out next. NodeTakes k p [] s (Arm x calls) out next) old new [] []) → EventTurns n event old new before before
+pub arms : (n : ℕ) (event : Event) (old new : Machine) (before : Handed) (q calls : ℕ) → event ≡ Arm q calls → ((k p x : ℕ) → Turns k p (λ s out next. NodeTakes k p [] s (Arm x calls) out next) old new [] []) → EventTurns n event old new before before
 arms n event old new before q calls is turns = turns_for n event (Arm q calls) old new before before is (λ messages. beside n q (λ s out next. NodeTakes n q (messages_of before) s (Arm q calls) out next) old new before (turns n q q))
 
-pub crashes : (n : ℕ) (event : Event) (old new : Place) (before : Handed) (q choice : ℕ) → event ≡ Crash q choice → ((k p : ℕ) → Turns k p (λ s out next. Settled Down s out next) old new [] []) → EventTurns n event old new before before
+pub crashes : (n : ℕ) (event : Event) (old new : Machine) (before : Handed) (q choice : ℕ) → event ≡ Crash q choice → ((k p : ℕ) → Turns k p (λ s out next. Settled Down s out next) old new [] []) → EventTurns n event old new before before
 crashes n event old new before q choice is turns = turns_for n event (Crash q choice) old new before before is (λ messages. beside n q (λ s out next. NodeTakes n q (messages_of before) s (Crash q choice) out next) old new before (turns n q))
 
-pub restarts : (n : ℕ) (event : Event) (old new : Place) (before : Handed) (q : ℕ) → event ≡ Restart q → Turns n q (λ s out next. Settled Up s out next) old new [] [] → EventTurns n event old new before before
+pub restarts : (n : ℕ) (event : Event) (old new : Machine) (before : Handed) (q : ℕ) → event ≡ Restart q → Turns n q (λ s out next. Settled Up s out next) old new [] [] → EventTurns n event old new before before
 restarts n event old new before q is turns = turns_for n event (Restart q) old new before before is (λ messages. beside n q (λ s out next. NodeTakes n q (messages_of before) s (Restart q) out next) old new before turns)
 
-module _ {T E : Type 0} (r : Result T E) (n : ℕ) (event : Event) (old new : Place) (before after : Handed) where
+module _ {T E : Type 0} (r : Result T E) (n : ℕ) (event : Event) (old new : Machine) (before after : Handed) where
   pub submits : (q : ℕ) (v w : List ℕ) → event ≡ Submit q v → w ≡ v → OnOk r ((k p : ℕ) → CallTurns k p (submit w) old new [] []) → OnOk r (EventTurns n event old new before before)
   submits q v w is same told =
       on_ok r

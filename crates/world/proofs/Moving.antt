@@ -1,4 +1,4 @@
--- What an event at a place makes of the world.
+-- What an event at a machine makes of the world.
 use Rattle.std.proofs.Common.{◌≡◌, ◌≢◌, ◌⊎◌, inl, inr, ⊎_elim, ℕ, zero, suc, ◌<◌, nat_eq, Bool, true, false, get_or, Some, None, List, [], ◌∷◌, ◌++◌, length, refl, sym, ap, subst, ◌∙◌, append-nil, arith}
 use Rattle.std.specs.Prelude.{slice_get, slice_set}
 use Rattle.std.proofs.lemmas.Bool.Decides.{nat_tests}
@@ -16,13 +16,13 @@ use Rattle.node.specs.declared.fault.NodeFault.TheVariants.{OutOfMemory}
 use Rattle.node.specs.Endings.{Refuses}
 use Rattle.world.specs.declared.event.Event.{Event}
 use Rattle.world.specs.declared.event.Event.TheVariants.{Submit, Tick, Widen, Ask, Tell, Deliver, Arm, Crash, Restart}
-use Rattle.world.specs.declared.places.Place.{Place}
-use Rattle.world.specs.declared.places.Place.TheVariants.{Open, Bare}
+use Rattle.world.specs.declared.machine.Machine.{Machine}
+use Rattle.world.specs.declared.machine.Machine.TheVariants.{Open, Bare}
 use Rattle.world.specs.declared.world.World.{World as Code}
 use Rattle.world.specs.Worlds.{World, Moves, Becomes, Calls}
 use Rattle.world.specs.Taking.{node_of, IsTaken, Takes, IsUnsent, IsBad, IsRefused}
-use Rattle.world.specs.Standing.{IsPlaceOf, HasPublished, IsWorldOf, IsPublishedAt, IsUnpublishedAt}
-use Rattle.world.specs.Places.{Handed, AtNode, NodeTakes, Wants, IsUp, RefusesOpening, EventTurns, EventWants, AreMessages}
+use Rattle.world.specs.Standing.{IsMachineOf, HasPublished, IsWorldOf, IsPublishedAt, IsUnpublishedAt}
+use Rattle.world.specs.Machines.{Handed, AtNode, NodeTakes, Wants, IsUp, RefusesOpening, EventTurns, EventWants, AreMessages}
 use Rattle.world.specs.Steps.{LeadsTo, KeepsPublished}
 use Rattle.world.proofs.Turning.{not_down}
 
@@ -87,32 +87,32 @@ takes_of n w (Arm p calls) next out here how = armed n w p next out here how.1 h
 takes_of n w (Crash p choice) next out here how = record { entries = how.0; settles = how.1; becomes = moves_as n w p next out here (opened Down how.0 None) how.2 how.3 }
 takes_of n w (Restart p) next out here how = record { entries = how.0; settles = how.1; becomes = moves_as n w p next out here (opened Up how.0 None) how.2 how.3 }
 
--- ---- the value with one place changed
+-- ---- the value with one machine changed
 
-module _ (old new : Code) (k p : ℕ) (x : Place) (here : p ≡ suc k) (below : k < length old.places.items) (places : new.places.items ≡ slice_set old.places.items k x) (same : new.cluster ≡ old.cluster) where
-  new_same : slice_get new.places.items k ≡ Some x
-  new_same = ap (λ (l : List Place). slice_get l k) places ∙ set_same old.places.items k x below
+module _ (old new : Code) (k p : ℕ) (x : Machine) (here : p ≡ suc k) (below : k < length old.machines.items) (machines : new.machines.items ≡ slice_set old.machines.items k x) (same : new.cluster ≡ old.cluster) where
+  new_same : slice_get new.machines.items k ≡ Some x
+  new_same = ap (λ (l : List Machine). slice_get l k) machines ∙ set_same old.machines.items k x below
 
-  new_other : (j : ℕ) → j ≢ k → slice_get new.places.items j ≡ slice_get old.places.items j
-  new_other j apart = ap (λ (l : List Place). slice_get l j) places ∙ set_other old.places.items k j x apart
+  new_other : (j : ℕ) → j ≢ k → slice_get new.machines.items j ≡ slice_get old.machines.items j
+  new_other j apart = ap (λ (l : List Machine). slice_get l j) machines ∙ set_other old.machines.items k j x apart
 
-  is_new : (j : ℕ) (place : Place) → j ≡ k → slice_get new.places.items j ≡ Some place → x ≡ place
-  is_new j place e got = let at = new_same in cc
+  is_new : (j : ℕ) (machine : Machine) → j ≡ k → slice_get new.machines.items j ≡ Some machine → x ≡ machine
+  is_new j machine e got = let at = new_same in cc
 
-  pub world_after : (w after : World) (next : Node) (out : Handed) → Moves old.cluster w p (messages_of out) next after → IsWorldOf old w → IsPlaceOf old.cluster p x next → AreMessages old.cluster out
+  pub world_after : (w after : World) (next : Node) (out : Handed) → Moves old.cluster w p (messages_of out) next after → IsWorldOf old w → IsMachineOf old.cluster p x next → AreMessages old.cluster out
       → new.sent.items ≡ old.sent.items ++ out → IsWorldOf new after
   world_after w after next out moved stands at messages sent = record {
-    places = λ j place got.
+    machines = λ j machine got.
         ⊎_elim
         (λ (e : j ≡ k).
-        let P : ℕ → ℕ → Place → Node → Type 0 = λ n q y s. IsPlaceOf n q y s in
-        let mine : IsPlaceOf new.cluster p place (after.node p) =
-        subst (λ (n : ℕ). IsPlaceOf n p place (after.node p)) (sym same) (subst (λ (y : Place). IsPlaceOf old.cluster p y (after.node p)) (is_new j place e got) (subst (λ (s : Node). IsPlaceOf old.cluster p x s) (sym moved.at) at)) in
-        subst (λ (q : ℕ). IsPlaceOf new.cluster q place (after.node q)) (here ∙ ap suc (sym e)) mine)
+        let P : ℕ → ℕ → Machine → Node → Type 0 = λ n q y s. IsMachineOf n q y s in
+        let mine : IsMachineOf new.cluster p machine (after.node p) =
+        subst (λ (n : ℕ). IsMachineOf n p machine (after.node p)) (sym same) (subst (λ (y : Machine). IsMachineOf old.cluster p y (after.node p)) (is_new j machine e got) (subst (λ (s : Node). IsMachineOf old.cluster p x s) (sym moved.at) at)) in
+        subst (λ (q : ℕ). IsMachineOf new.cluster q machine (after.node q)) (here ∙ ap suc (sym e)) mine)
         (λ (apart : j ≢ k).
-        let theirs = stands.places j place (sym (new_other j apart) ∙ got) in
+        let theirs = stands.machines j machine (sym (new_other j apart) ∙ got) in
         let other : suc j ≢ p = λ e. apart (omega (arith, e, here)) in
-        subst (λ (n : ℕ). IsPlaceOf n (suc j) place (after.node (suc j))) (sym same) (subst (λ (s : Node). IsPlaceOf old.cluster (suc j) place s) (sym (moved.others (suc j) other)) theirs))
+        subst (λ (n : ℕ). IsMachineOf n (suc j) machine (after.node (suc j))) (sym same) (subst (λ (s : Node). IsMachineOf old.cluster (suc j) machine s) (sym (moved.others (suc j) other)) theirs))
         (either j k);
     sent = moved.sent ∙ ap (λ l. l ++ messages_of out) stands.sent ∙ sym (sent_so old.sent.items out) ∙ ap (λ (l : Handed). messages_of l) (sym sent);
     messages = λ m told.
@@ -122,35 +122,35 @@ module _ (old new : Code) (k p : ℕ) (x : Place) (here : p ≡ suc k) (below : 
 
   -- a node elsewhere has published all, if it had
   pub keeps_others : (w after : World) (out : List Message) (next : Node) → Moves old.cluster w p out next after → (q : ℕ) → q ≢ p → IsPublishedAt old w q → IsPublishedAt new after q
-  keeps_others w after out next moved q apart published j place is got =
+  keeps_others w after out next moved q apart published j machine is got =
       let other : j ≢ k = λ e. apart (is ∙ ap suc e ∙ sym here) in
-      subst (λ (s : Node). HasPublished place s) (sym (moved.others q apart)) (published j place is (sym (new_other j other) ∙ got))
+      subst (λ (s : Node). HasPublished machine s) (sym (moved.others q apart)) (published j machine is (sym (new_other j other) ∙ got))
 
   pub published_here : (w after : World) (out : List Message) (next : Node) → Moves old.cluster w p out next after → HasPublished x next → IsPublishedAt new after p
-  published_here w after out next moved published j place is got =
+  published_here w after out next moved published j machine is got =
       let e : j ≡ k = omega (arith, is, here) in
-      subst (λ (y : Place). HasPublished y (after.node p)) (is_new j place e got) (subst (λ (s : Node). HasPublished x s) (sym moved.at) published)
+      subst (λ (y : Machine). HasPublished y (after.node p)) (is_new j machine e got) (subst (λ (s : Node). HasPublished x s) (sym moved.at) published)
 
   pub unpublished_here : (w after : World) (out : List Message) (next : Node) → Moves old.cluster w p out next after → ¬ HasPublished x next → ¬ IsPublishedAt new after p
   unpublished_here w after out next moved lacks published = lacks (subst (λ (s : Node). HasPublished x s) moved.at (published k x here new_same))
 
-published_down : (n p : ℕ) (x : Place) (s : Node) → IsPlaceOf n p x s → s.mode ≡ Down → HasPublished x s
+published_down : (n p : ℕ) (x : Machine) (s : Node) → IsMachineOf n p x s → s.mode ≡ Down → HasPublished x s
 published_down n p (Open code armed) s at down = absurd (not_down code.store.stopped s.mode at.stands.parts.on_record.mode_is down)
 published_down n p (Bare disk) s at down = tt
 
-module _ (old new : Code) (event : Event) (k : ℕ) (place mid x : Place) (here : node_of event ≡ suc k) (below : k < length old.places.items) (places : new.places.items ≡ slice_set old.places.items k x) (same : new.cluster ≡ old.cluster)
-    (at : IsNode old.cluster (node_of event)) (got : slice_get old.places.items k ≡ Some place) where
+module _ (old new : Code) (event : Event) (k : ℕ) (machine mid x : Machine) (here : node_of event ≡ suc k) (below : k < length old.machines.items) (machines : new.machines.items ≡ slice_set old.machines.items k x) (same : new.cluster ≡ old.cluster)
+    (at : IsNode old.cluster (node_of event)) (got : slice_get old.machines.items k ≡ Some machine) where
   abbrev How : (World → Type 0) → World → World → Type 0
   How Published w after = Takes old.cluster w event after × KeepsPublished old new event w after × Published after
 
-  -- the event is taken, and then the place may publish
-  pub stepped : (Published : World → Type 0) → EventTurns old.cluster event place mid old.sent.items new.sent.items → ((n p : ℕ) (s : Node) → IsPlaceOf n p mid s → IsPlaceOf n p x s)
-      → ((w after : World) (out : List Message) (next : Node) → Moves old.cluster w (node_of event) out next after → IsPlaceOf old.cluster (node_of event) mid next → Published after) → LeadsTo old new (How Published)
+  -- the event is taken, and then the machine may publish
+  pub stepped : (Published : World → Type 0) → EventTurns old.cluster event machine mid old.sent.items new.sent.items → ((n p : ℕ) (s : Node) → IsMachineOf n p mid s → IsMachineOf n p x s)
+      → ((w after : World) (out : List Message) (next : Node) → Moves old.cluster w (node_of event) out next after → IsMachineOf old.cluster (node_of event) mid next → Published after) → LeadsTo old new (How Published)
   stepped Published turns publishes published = record {
     leads = λ w stands.
         let n = old.cluster in
         let p = node_of event in
-        let mine : IsPlaceOf n p place (w.node p) = subst (λ (q : ℕ). IsPlaceOf n q place (w.node q)) (sym here) (stands.places k place got) in
+        let mine : IsMachineOf n p machine (w.node p) = subst (λ (q : ℕ). IsMachineOf n q machine (w.node q)) (sym here) (stands.machines k machine got) in
         let t = (turns (λ m told. stands.messages m (subst (λ l. In l m) (sym stands.sent) told))).leads (w.node p) mine in
         let mv = moves n w p t.next t.out at in
         let after = moved w p t.next t.out in
@@ -158,28 +158,28 @@ module _ (old new : Code) (event : Event) (k : ℕ) (place mid x : Place) (here 
           after = after;
           how = (
             takes_of n w event t.next t.out at (subst (λ l. NodeTakes n p l (w.node p) event t.out t.next) (sym stands.sent) t.does),
-            keeps_others old new k p x here below places same w after (messages_of t.out) t.next mv,
+            keeps_others old new k p x here below machines same w after (messages_of t.out) t.next mv,
             published w after (messages_of t.out) t.next mv t.stands,
           );
-          stands = world_after old new k p x here below places same w after t.next t.out mv stands (publishes n p t.next t.stands) t.messages t.outbox;
+          stands = world_after old new k p x here below machines same w after t.next t.out mv stands (publishes n p t.next t.stands) t.messages t.outbox;
         };
   }
 
-  pub step_taken : EventTurns old.cluster event place mid old.sent.items new.sent.items → ((n p : ℕ) (s : Node) → IsPlaceOf n p mid s → IsPlaceOf n p x s) → ((n p : ℕ) (s : Node) → IsPlaceOf n p mid s → HasPublished x s)
+  pub step_taken : EventTurns old.cluster event machine mid old.sent.items new.sent.items → ((n p : ℕ) (s : Node) → IsMachineOf n p mid s → IsMachineOf n p x s) → ((n p : ℕ) (s : Node) → IsMachineOf n p mid s → HasPublished x s)
       → LeadsTo old new (How (λ after. IsPublishedAt new after (node_of event)))
   step_taken turns publishes published =
       stepped (λ after. IsPublishedAt new after (node_of event)) turns publishes
-      (λ w after out next mv mine. published_here old new k (node_of event) x here below places same w after out next mv (published old.cluster (node_of event) next mine))
+      (λ w after out next mv mine. published_here old new k (node_of event) x here below machines same w after out next mv (published old.cluster (node_of event) next mine))
 
-  pub step_unpublished : EventTurns old.cluster event place mid old.sent.items new.sent.items → ((n p : ℕ) (s : Node) → IsPlaceOf n p mid s → IsPlaceOf n p x s)
-      → ((n p : ℕ) (s : Node) → IsPlaceOf n p mid s → (s.mode ≢ Down) × ¬ HasPublished x s) → LeadsTo old new (How (λ after. IsUnpublishedAt new after (node_of event)))
+  pub step_unpublished : EventTurns old.cluster event machine mid old.sent.items new.sent.items → ((n p : ℕ) (s : Node) → IsMachineOf n p mid s → IsMachineOf n p x s)
+      → ((n p : ℕ) (s : Node) → IsMachineOf n p mid s → (s.mode ≢ Down) × ¬ HasPublished x s) → LeadsTo old new (How (λ after. IsUnpublishedAt new after (node_of event)))
   step_unpublished turns publishes lacks =
       stepped (λ after. IsUnpublishedAt new after (node_of event)) turns publishes
       (λ w after out next mv mine.
       let told = lacks old.cluster (node_of event) next mine in
       record {
         up = subst (λ (s : Node). s.mode ≢ Down) (sym mv.at) told.0;
-        lacks = unpublished_here old new k (node_of event) x here below places same w after out next mv told.1;
+        lacks = unpublished_here old new k (node_of event) x here below machines same w after out next mv told.1;
       })
 
 -- ---- an event that isn't taken
@@ -187,12 +187,12 @@ module _ (old new : Code) (event : Event) (k : ℕ) (place mid x : Place) (here 
 abbrev Kept : Code → Code → World → World → Type 0
 Kept old new w after = (q : ℕ) → IsPublishedAt old w q → IsPublishedAt new after q
 
-module _ (old new : Code) (p k : ℕ) (place x : Place) (here : p ≡ suc k) (below : k < length old.places.items) (places : new.places.items ≡ slice_set old.places.items k x) (same : new.cluster ≡ old.cluster)
-    (at : IsNode old.cluster p) (got : slice_get old.places.items k ≡ Some place) where
-  mine_of : (w : World) → IsWorldOf old w → IsPlaceOf old.cluster p place (w.node p)
-  mine_of w stands = subst (λ (q : ℕ). IsPlaceOf old.cluster q place (w.node q)) (sym here) (stands.places k place got)
+module _ (old new : Code) (p k : ℕ) (machine x : Machine) (here : p ≡ suc k) (below : k < length old.machines.items) (machines : new.machines.items ≡ slice_set old.machines.items k x) (same : new.cluster ≡ old.cluster)
+    (at : IsNode old.cluster p) (got : slice_get old.machines.items k ≡ Some machine) where
+  mine_of : (w : World) → IsWorldOf old w → IsMachineOf old.cluster p machine (w.node p)
+  mine_of w stands = subst (λ (q : ℕ). IsMachineOf old.cluster q machine (w.node q)) (sym here) (stands.machines k machine got)
 
-  pub step_wanted : (May : Node → Type 0) → Wants old.cluster p May place x old.sent.items new.sent.items → LeadsTo old new (λ w after. (May (w.node p) × (after ≡ w)) × Kept old new w after)
+  pub step_wanted : (May : Node → Type 0) → Wants old.cluster p May machine x old.sent.items new.sent.items → LeadsTo old new (λ w after. (May (w.node p) × (after ≡ w)) × Kept old new w after)
   step_wanted May wants = record {
     leads = λ w stands.
         let led = wants.leads (w.node p) (mine_of w stands) in
@@ -206,20 +206,20 @@ module _ (old new : Code) (p k : ℕ) (place x : Place) (here : p ≡ suc k) (be
                 ⊎_elim
                 (λ (e : q ≡ p).
                 let was : IsPublishedAt old w p = subst (λ (y : ℕ). IsPublishedAt old w y) e published in
-                subst (λ (y : ℕ). IsPublishedAt new w y) (sym e) (published_here old new k p x here below places same w w [] (w.node p) mv (led.3 (was k place here got))))
-                (λ (apart : q ≢ p). keeps_others old new k p x here below places same w w [] (w.node p) mv q apart published)
+                subst (λ (y : ℕ). IsPublishedAt new w y) (sym e) (published_here old new k p x here below machines same w w [] (w.node p) mv (led.3 (was k machine here got))))
+                (λ (apart : q ≢ p). keeps_others old new k p x here below machines same w w [] (w.node p) mv q apart published)
                 (either q p),
           );
-          stands = world_after old new k p x here below places same w w (w.node p) [] mv stands led.1 (λ m told. absurd told) sent;
+          stands = world_after old new k p x here below machines same w w (w.node p) [] mv stands led.1 (λ m told. absurd told) sent;
         };
   }
 
-  pub step_refused : RefusesOpening old.cluster p place x → new.sent.items ≡ old.sent.items
+  pub step_refused : RefusesOpening old.cluster p machine x → new.sent.items ≡ old.sent.items
       → LeadsTo old new (λ w after. Becomes old.cluster w p (opened Down (w.node p).entries (w.node p).in_flight) after × Kept old new w after)
   step_refused refuses quiet = record {
     leads = λ w stands.
         let next = opened Down (w.node p).entries (w.node p).in_flight in
-        let led : IsPlaceOf old.cluster p x next = refuses.leads (w.node p) (mine_of w stands) in
+        let led : IsMachineOf old.cluster p x next = refuses.leads (w.node p) (mine_of w stands) in
         let after = moved w p next [] in
         let mv = moves old.cluster w p next [] at in
         let sent : new.sent.items ≡ old.sent.items ++ [] = quiet ∙ sym (append-nil old.sent.items) in
@@ -229,36 +229,36 @@ module _ (old new : Code) (p k : ℕ) (place x : Place) (here : p ≡ suc k) (be
             mv,
             λ q published.
                 ⊎_elim
-                (λ (e : q ≡ p). subst (λ (y : ℕ). IsPublishedAt new after y) (sym e) (published_here old new k p x here below places same w after [] next mv (published_down old.cluster p x next led refl)))
-                (λ (apart : q ≢ p). keeps_others old new k p x here below places same w after [] next mv q apart published)
+                (λ (e : q ≡ p). subst (λ (y : ℕ). IsPublishedAt new after y) (sym e) (published_here old new k p x here below machines same w after [] next mv (published_down old.cluster p x next led refl)))
+                (λ (apart : q ≢ p). keeps_others old new k p x here below machines same w after [] next mv q apart published)
                 (either q p),
           );
-          stands = world_after old new k p x here below places same w after next [] mv stands led (λ m told. absurd told) sent;
+          stands = world_after old new k p x here below machines same w after next [] mv stands led (λ m told. absurd told) sent;
         };
   }
 
-pub step_not_taken : (old new : Code) (event : Event) (k : ℕ) (place x : Place) → node_of event ≡ suc k → k < length old.places.items → new.places.items ≡ slice_set old.places.items k x → new.cluster ≡ old.cluster
-    → IsNode old.cluster (node_of event) → slice_get old.places.items k ≡ Some place → EventWants old.cluster (node_of event) event place x old.sent.items new.sent.items → LeadsTo old new (λ w after. IsRefused old.cluster w event after × Kept old new w after)
-step_not_taken old new (Submit p v) k place x here below places same at got wants = step_wanted old new p k place x here below places same at got (λ s. Refuses s (submit v) OutOfMemory) wants
-step_not_taken old new (Tick p) k place x here below places same at got wants = step_wanted old new p k place x here below places same at got (λ s. Refuses s tick OutOfMemory) wants
-step_not_taken old new (Widen p) k place x here below places same at got wants = step_wanted old new p k place x here below places same at got (λ s. Refuses s widen OutOfMemory) wants
-step_not_taken old new (Ask p) k place x here below places same at got wants = step_wanted old new p k place x here below places same at got (λ s. Refuses s ask OutOfMemory) wants
-step_not_taken old new (Tell p i) k place x here below places same at got wants = step_wanted old new p k place x here below places same at got (λ s. Refuses s (tell All i) OutOfMemory) wants
-step_not_taken old new (Deliver p index) k place x here below places same at got wants = step_wanted old new p k place x here below places same at got IsUp wants
-step_not_taken old new (Arm p calls) k place x here below places same at got wants = absurd wants
-step_not_taken old new (Crash p choice) k place x here below places same at got wants = absurd wants
-step_not_taken old new (Restart p) k place x here below places same at got wants = step_refused old new p k place x here below places same at got wants.0 wants.1
+pub step_not_taken : (old new : Code) (event : Event) (k : ℕ) (machine x : Machine) → node_of event ≡ suc k → k < length old.machines.items → new.machines.items ≡ slice_set old.machines.items k x → new.cluster ≡ old.cluster
+    → IsNode old.cluster (node_of event) → slice_get old.machines.items k ≡ Some machine → EventWants old.cluster (node_of event) event machine x old.sent.items new.sent.items → LeadsTo old new (λ w after. IsRefused old.cluster w event after × Kept old new w after)
+step_not_taken old new (Submit p v) k machine x here below machines same at got wants = step_wanted old new p k machine x here below machines same at got (λ s. Refuses s (submit v) OutOfMemory) wants
+step_not_taken old new (Tick p) k machine x here below machines same at got wants = step_wanted old new p k machine x here below machines same at got (λ s. Refuses s tick OutOfMemory) wants
+step_not_taken old new (Widen p) k machine x here below machines same at got wants = step_wanted old new p k machine x here below machines same at got (λ s. Refuses s widen OutOfMemory) wants
+step_not_taken old new (Ask p) k machine x here below machines same at got wants = step_wanted old new p k machine x here below machines same at got (λ s. Refuses s ask OutOfMemory) wants
+step_not_taken old new (Tell p i) k machine x here below machines same at got wants = step_wanted old new p k machine x here below machines same at got (λ s. Refuses s (tell All i) OutOfMemory) wants
+step_not_taken old new (Deliver p index) k machine x here below machines same at got wants = step_wanted old new p k machine x here below machines same at got IsUp wants
+step_not_taken old new (Arm p calls) k machine x here below machines same at got wants = absurd wants
+step_not_taken old new (Crash p choice) k machine x here below machines same at got wants = absurd wants
+step_not_taken old new (Restart p) k machine x here below machines same at got wants = step_refused old new p k machine x here below machines same at got wants.0 wants.1
 
 -- nothing happens at a bad event
-pub step_bad : (old new : Code) (event : Event) → new.places.items ≡ old.places.items → new.sent.items ≡ old.sent.items → new.cluster ≡ old.cluster
+pub step_bad : (old new : Code) (event : Event) → new.machines.items ≡ old.machines.items → new.sent.items ≡ old.sent.items → new.cluster ≡ old.cluster
     → (¬ IsNode old.cluster (node_of event)) ⊎ IsUnsent (messages_of old.sent.items) event → LeadsTo old new (λ w after. (IsBad old.cluster w.sent event × (after ≡ w)) × Kept old new w after)
-step_bad old new event places sent same bad = record {
+step_bad old new event machines sent same bad = record {
   leads = λ w stands. record {
     after = w;
-    how = ((subst (λ l. IsBad old.cluster l event) (sym stands.sent) bad, refl), λ q published j place is got. published j place is (ap (λ (l : List Place). slice_get l j) (sym places) ∙ got));
+    how = ((subst (λ l. IsBad old.cluster l event) (sym stands.sent) bad, refl), λ q published j machine is got. published j machine is (ap (λ (l : List Machine). slice_get l j) (sym machines) ∙ got));
     stands = record {
-      places = λ j place got.
-          subst (λ (n : ℕ). IsPlaceOf n (suc j) place (w.node (suc j))) (sym same) (stands.places j place (ap (λ (l : List Place). slice_get l j) (sym places) ∙ got));
+      machines = λ j machine got.
+          subst (λ (n : ℕ). IsMachineOf n (suc j) machine (w.node (suc j))) (sym same) (stands.machines j machine (ap (λ (l : List Machine). slice_get l j) (sym machines) ∙ got));
       sent = stands.sent ∙ ap (λ (l : Handed). messages_of l) (sym sent);
       messages = λ m told. subst (λ (n : ℕ). IsMessage n m) (sym same) (stands.messages m told);
     };

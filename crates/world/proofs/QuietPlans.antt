@@ -11,11 +11,11 @@ use Rattle.node.specs.Calls.{fresh_ballot, HasRound, AreOpenElsewhere}
 use Rattle.node.specs.Tidy.{IsTidy}
 use Rattle.node.proofs.SendingAgain.{open_past, all_in_window}
 use Rattle.world.specs.declared.event.Event.{Event}
-use Rattle.world.specs.declared.places.Place.{Place}
-use Rattle.world.specs.declared.places.Place.TheVariants.{Open, Bare}
+use Rattle.world.specs.declared.machine.Machine.{Machine}
+use Rattle.world.specs.declared.machine.Machine.TheVariants.{Open, Bare}
 use Rattle.world.specs.declared.world.World.{World as Code}
 use Rattle.world.specs.Worlds.{World}
-use Rattle.world.specs.Standing.{IsPlaceOf, IsWorldOf}
+use Rattle.world.specs.Standing.{IsMachineOf, IsWorldOf}
 use Rattle.world.specs.Quiet.{AllRun, IsQuiet, IsPlan, IsShort, HasNoneAbove, Overbids, one_attempt, overbid_first}
 use Rattle.world.specs.Quieting.{PushesPlan}
 use Rattle.world.proofs.Fed.{there_at}
@@ -44,7 +44,7 @@ refusal n p i w b found is told = subst (λ (c : BallotOf). MatchOption found (H
 no_mode : Down ≡ Up → ⊥
 no_mode e = cc
 
-tidy_in : (n p : ℕ) (place : Place) (s : Node) → IsPlaceOf n p place s → s.mode ≡ Up → IsTidy s
+tidy_in : (n p : ℕ) (machine : Machine) (s : Node) → IsMachineOf n p machine s → s.mode ≡ Up → IsTidy s
 tidy_in n p (Open code armed) s is up = is.stands.tidy
 tidy_in n p (Bare disk) s is up = absurd (no_mode (sym (ap (λ (x : Node). x.mode) is.down) ∙ up))
 
@@ -52,8 +52,8 @@ tidy_at : (code : Code) (w : World) (p : ℕ) → IsNode code.cluster p → IsWo
 tidy_at code w zero node stands up = absurd (let low = node.0 in omega (arith, low))
 tidy_at code w (suc k) node stands up =
     let high = node.1 in
-    let place = there_at code.places.items k (omega (arith, high, code.all_there)) in
-    tidy_in code.cluster (suc k) place.0 (w.node (suc k)) (stands.places k place.0 place.1) up
+    let machine = there_at code.machines.items k (omega (arith, high, code.all_there)) in
+    tidy_in code.cluster (suc k) machine.0 (w.node (suc k)) (stands.machines k machine.0 machine.1) up
 
 -- ---- plans
 

@@ -5,11 +5,11 @@ use Rattle.node.specs.Nodes.{Node}
 use Rattle.world.specs.declared.event.Event.{Event}
 use Rattle.world.specs.declared.fault.WorldFault.{WorldFault}
 use Rattle.world.specs.declared.fault.WorldFault.TheVariants.{OutOfMemory, BadEvent}
-use Rattle.world.specs.declared.places.Place.{Place}
-use Rattle.world.specs.declared.places.Place.TheVariants.{Open, Bare}
+use Rattle.world.specs.declared.machine.Machine.{Machine}
+use Rattle.world.specs.declared.machine.Machine.TheVariants.{Open, Bare}
 use Rattle.world.specs.declared.world.World.{World as Code}
 use Rattle.world.specs.Worlds.{World}
-use Rattle.world.specs.Standing.{IsPlaceOf, IsWorldOf}
+use Rattle.world.specs.Standing.{IsMachineOf, IsWorldOf}
 use Rattle.world.specs.Steps.{RunEnds, Reached}
 use Rattle.world.proofs.Fed.{there_at}
 use Rattle.world.specs.Quiet.{IsQuiet, IsPlan}
@@ -18,7 +18,7 @@ use Rattle.world.proofs.Quieting.{quiet_decides, plans_are_good}
 
 -- ---- what a value knows
 
-known_at : (n p : ℕ) (place : Place) (s t : Node) (i : ℕ) → IsPlaceOf n p place s → IsPlaceOf n p place t → s.known i ≡ t.known i
+known_at : (n p : ℕ) (machine : Machine) (s t : Node) (i : ℕ) → IsMachineOf n p machine s → IsMachineOf n p machine t → s.known i ≡ t.known i
 known_at n p (Open code armed) s t i a b = sym (a.stands.parts.known.values i) ∙ b.stands.parts.known.values i
 known_at n p (Bare disk) s t i a b = ap (λ (x : Node). x.known i) a.down ∙ ap (λ (x : Node). x.known i) (sym b.down)
 
@@ -26,8 +26,8 @@ pub same_known : (code : Code) (w u : World) (p i : ℕ) → IsNode code.cluster
 same_known code w u zero i node a b = absurd (let low = node.0 in omega (arith, low))
 same_known code w u (suc k) i node a b =
     let high = node.1 in
-    let place = there_at code.places.items k (omega (arith, high, code.all_there)) in
-    known_at code.cluster (suc k) place.0 (w.node (suc k)) (u.node (suc k)) i (a.places k place.0 place.1) (b.places k place.0 place.1)
+    let machine = there_at code.machines.items k (omega (arith, high, code.all_there)) in
+    known_at code.cluster (suc k) machine.0 (w.node (suc k)) (u.node (suc k)) i (a.machines k machine.0 machine.1) (b.machines k machine.0 machine.1)
 
 -- ---- a run
 

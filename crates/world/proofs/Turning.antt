@@ -1,4 +1,4 @@
--- What a call of one node does at its place.
+-- What a call of one node does at its machine.
 use Rattle.std.proofs.Common.{◌≡◌, ◌≢◌, ◌⊎◌, inl, inr, ℕ, zero, suc, get_or, Bool, true, false, if◌then◌else◌, Result, Ok, Err, Some, None, List, [], ◌∷◌, ◌++◌, refl, sym, ap, subst, ◌∙◌, ⊎_elim, append-nil}
 use Rattle.std.specs.Prelude.{slice_get, IsTrue, is_err}
 use Rattle.std.specs.Result.{OnOk, OnErr}
@@ -23,11 +23,11 @@ use Rattle.node.specs.Endings.{Ending, Refused, Ends}
 use Rattle.node.specs.Standing.{IsNodeOf, IsOnDisk, IsEvent, KeepsOthers, OpensAs}
 use Rattle.node.proofs.Knowing.{mark_stays}
 use Rattle.world.specs.declared.event.Event.TheVariants.{Arm}
-use Rattle.world.specs.declared.places.Place.{Place}
-use Rattle.world.specs.declared.places.Place.TheVariants.{Open, Bare}
+use Rattle.world.specs.declared.machine.Machine.{Machine}
+use Rattle.world.specs.declared.machine.Machine.TheVariants.{Open, Bare}
 use Rattle.world.specs.Taking.{IsTaken}
-use Rattle.world.specs.Standing.{IsOpen, IsPlaceOf}
-use Rattle.world.specs.Places.{Handed, AtNode, Turns, Wants, IsUp, RefusesOpening, CallTurns, CallWants, NodeTakes, Settled}
+use Rattle.world.specs.Standing.{IsOpen, IsMachineOf}
+use Rattle.world.specs.Machines.{Handed, AtNode, Turns, Wants, IsUp, RefusesOpening, CallTurns, CallWants, NodeTakes, Settled}
 
 abbrev pub Stands : MemDisk → DiskState → Type 0
 Stands m d = MemoryStandsFor m d
@@ -108,15 +108,15 @@ pub on_err : {T E A B : Type 0} (r : Result T E) → (A → B) → OnErr r A →
 on_err (Ok x) f a = a
 on_err (Err y) f a = f a
 
-pub taken_at : {T E : Type 0} (r : Result T E) (call : Call) (here : Place) (old new : Running MemDisk) (armed : Bool) (ending : Ending) (before after : Handed) → here ≡ Open old armed → IsEvent Stands old new call ending before after → KeepsOthers old new
+pub taken_at : {T E : Type 0} (r : Result T E) (call : Call) (here : Machine) (old new : Running MemDisk) (armed : Bool) (ending : Ending) (before after : Handed) → here ≡ Open old armed → IsEvent Stands old new call ending before after → KeepsOthers old new
     → OnOk r (IsTaken ending) → OnOk r ((n p : ℕ) → CallTurns n p call here (Open new armed) before after)
 taken_at r call here old new armed ending before after is event others told =
-    on_ok r (λ taken n p. subst (λ (x : Place). CallTurns n p call x (Open new armed) before after) (sym is) (turned n p call old new armed ending before after event others taken)) told
+    on_ok r (λ taken n p. subst (λ (x : Machine). CallTurns n p call x (Open new armed) before after) (sym is) (turned n p call old new armed ending before after event others taken)) told
 
-pub wanted_at : {T E : Type 0} (r : Result T E) (call : Call) (here : Place) (old new : Running MemDisk) (armed : Bool) (ending : Ending) (before after : Handed) → here ≡ Open old armed → IsEvent Stands old new call ending before after → KeepsOthers old new
+pub wanted_at : {T E : Type 0} (r : Result T E) (call : Call) (here : Machine) (old new : Running MemDisk) (armed : Bool) (ending : Ending) (before after : Handed) → here ≡ Open old armed → IsEvent Stands old new call ending before after → KeepsOthers old new
     → OnErr r (ending ≡ Refused OutOfMemory) → OnErr r ((n p : ℕ) → CallWants n p call here (Open new armed) before after)
 wanted_at r call here old new armed ending before after is event others told =
-    on_err r (λ refused n p. subst (λ (x : Place). CallWants n p call x (Open new armed) before after) (sym is) (wanted n p call old new armed ending before after event others refused)) told
+    on_err r (λ refused n p. subst (λ (x : Machine). CallWants n p call x (Open new armed) before after) (sym is) (wanted n p call old new armed ending before after event others refused)) told
 
 -- ---- an arming
 
@@ -128,10 +128,10 @@ pub not_down : (stopped : Bool) (mode : Mode) → mode ≡ (if stopped then Stop
 not_down false mode is down = cc
 not_down true mode is down = cc
 
-pub armed_at : (n p q calls : ℕ) (here : Place) (old new : Running MemDisk) (armed : Bool) → here ≡ Open old armed → ((s : Node) → IsNodeOf old s → IsNodeOf new (record s { armed = true }))
+pub armed_at : (n p q calls : ℕ) (here : Machine) (old new : Running MemDisk) (armed : Bool) → here ≡ Open old armed → ((s : Node) → IsNodeOf old s → IsNodeOf new (record s { armed = true }))
     → ((s : Node) (d : DiskState) → IsOnDisk Stands old s d → IsOnDisk Stands new (record s { armed = true }) d) → KeepsOthers old new
     → Turns n p (λ s out next. NodeTakes n p [] s (Arm q calls) out next) here (Open new true) [] []
-armed_at n p q calls here old new armed is same on_disk others = subst (λ (x : Place). Turns n p (λ s out next. NodeTakes n p [] s (Arm q calls) out next) x (Open new true) [] []) (sym is) (record {
+armed_at n p q calls here old new armed is same on_disk others = subst (λ (x : Machine). Turns n p (λ s out next. NodeTakes n p [] s (Arm q calls) out next) x (Open new true) [] []) (sym is) (record {
   leads = λ s at. record {
     next = record s { armed = true };
     out = [];
@@ -149,8 +149,8 @@ armed_at n p q calls here old new armed is same on_disk others = subst (λ (x : 
   };
 })
 
-pub unarmed_at : (n p q calls : ℕ) (here : Place) (disk : MemDisk) → here ≡ Bare disk → Turns n p (λ s out next. NodeTakes n p [] s (Arm q calls) out next) here here [] []
-unarmed_at n p q calls here disk is = subst (λ (x : Place). Turns n p (λ s out next. NodeTakes n p [] s (Arm q calls) out next) x x [] []) (sym is) (record {
+pub unarmed_at : (n p q calls : ℕ) (here : Machine) (disk : MemDisk) → here ≡ Bare disk → Turns n p (λ s out next. NodeTakes n p [] s (Arm q calls) out next) here here [] []
+unarmed_at n p q calls here disk is = subst (λ (x : Machine). Turns n p (λ s out next. NodeTakes n p [] s (Arm q calls) out next) x x [] []) (sym is) (record {
   leads = λ s bare. record {
     next = s;
     out = [];
@@ -164,24 +164,24 @@ unarmed_at n p q calls here disk is = subst (λ (x : Place). Turns n p (λ s out
 -- ---- a crash, and an opening
 
 -- the disk that is taken away keeps the node's record
-abbrev pub Taken : ℕ → ℕ → Place → MemDisk → Type 0
-Taken n p here disk = (s : Node) → IsPlaceOf n p here s → (d : DiskState) × MemoryStandsFor disk d × Keeps p n s.entries s.in_flight d
+abbrev pub Taken : ℕ → ℕ → Machine → MemDisk → Type 0
+Taken n p here disk = (s : Node) → IsMachineOf n p here s → (d : DiskState) × MemoryStandsFor disk d × Keeps p n s.entries s.in_flight d
 
-pub closed_at : (n p : ℕ) (here : Place) (node : Running MemDisk) (armed : Bool) (disk : MemDisk) → here ≡ Open node armed
+pub closed_at : (n p : ℕ) (here : Machine) (node : Running MemDisk) (armed : Bool) (disk : MemDisk) → here ≡ Open node armed
     → ((s : Node) (d : DiskState) → IsOnDisk Stands node s d → MemoryStandsFor disk d × Keeps node.me node.cluster s.entries s.in_flight d) → Taken n p here disk
 closed_at n p here node armed disk is keeps s at =
-    let mine : IsOpen n p node armed s = subst (λ (x : Place). IsPlaceOf n p x s) is at in
+    let mine : IsOpen n p node armed s = subst (λ (x : Machine). IsMachineOf n p x s) is at in
     let kept = keeps s mine.state mine.on_disk in
     (mine.state, kept.0, subst (λ (k : ℕ). Keeps p k s.entries s.in_flight mine.state) mine.cluster (subst (λ (q : ℕ). Keeps q node.cluster s.entries s.in_flight mine.state) mine.me kept.1))
 
-pub bare_at : (n p : ℕ) (here : Place) (disk : MemDisk) → here ≡ Bare disk → Taken n p here disk
-bare_at n p here disk is s at = let mine = subst (λ (x : Place). IsPlaceOf n p x s) is at in (mine.state, mine.stands, mine.keeps)
+pub bare_at : (n p : ℕ) (here : Machine) (disk : MemDisk) → here ≡ Bare disk → Taken n p here disk
+bare_at n p here disk is s at = let mine = subst (λ (x : Machine). IsMachineOf n p x s) is at in (mine.state, mine.stands, mine.keeps)
 
 -- so it does once it is disarmed
-pub reopened : (n p : ℕ) (here : Place) (disk disarmed : MemDisk) → Taken n p here disk → ((d : DiskState) → MemoryStandsFor disk d → MemoryStandsFor disarmed d) → Taken n p here disarmed
+pub reopened : (n p : ℕ) (here : Machine) (disk disarmed : MemDisk) → Taken n p here disk → ((d : DiskState) → MemoryStandsFor disk d → MemoryStandsFor disarmed d) → Taken n p here disarmed
 reopened n p here disk disarmed taken same s at = let kept = taken s at in (kept.0, same kept.0 kept.1, kept.2)
 
-pub crashed : (n p : ℕ) (here : Place) (disk after : MemDisk) → Taken n p here disk
+pub crashed : (n p : ℕ) (here : Machine) (disk after : MemDisk) → Taken n p here disk
     → ((d : DiskState) → MemoryStandsFor disk d → (left : List ℕ) × MayLeave (moment d) left × MemoryStandsFor after (at_rest left []))
     → Turns n p (λ s out next. Settled Down s out next) here (Bare after) [] []
 crashed n p here disk after taken leaves = record {
@@ -199,7 +199,7 @@ crashed n p here disk after taken leaves = record {
       };
 }
 
-pub opened_again : (n p : ℕ) (here : Place) (disk : MemDisk) (new : Running MemDisk) → Taken n p here disk → (entries : List Entry) × OpensAs Stands disk new entries → new.me ≡ p → new.cluster ≡ n
+pub opened_again : (n p : ℕ) (here : Machine) (disk : MemDisk) (new : Running MemDisk) → Taken n p here disk → (entries : List Entry) × OpensAs Stands disk new entries → new.me ≡ p → new.cluster ≡ n
     → Turns n p (λ s out next. Settled Up s out next) here (Open new false) [] []
 opened_again n p here disk new taken opens me cluster = record {
   leads = λ s at.
@@ -217,7 +217,7 @@ opened_again n p here disk new taken opens me cluster = record {
       };
 }
 
-pub refused_opening : {A : Type 0} (n p : ℕ) (here : Place) (disk after : MemDisk) → Taken n p here disk
+pub refused_opening : {A : Type 0} (n p : ℕ) (here : Machine) (disk after : MemDisk) → Taken n p here disk
     → ((d : DiskState) → MemoryStandsFor disk d → MemoryStandsFor after (after_sync d) ⊎ (MemoryStandsFor after d × A)) → RefusesOpening n p here (Bare after)
 refused_opening {A} n p here disk after taken refuses = record {
   leads = λ s at.
@@ -231,8 +231,8 @@ refused_opening {A} n p here disk after taken refuses = record {
 -- ---- a delivery
 
 -- a stopped node refuses it
-pub stopped_at : (message : Message) (here : Place) (node : Running MemDisk) (armed : Bool) (before : Handed) → here ≡ Open node armed → ((s : Node) → IsNodeOf node s → s.mode ≡ Stopped) → (n p : ℕ) → CallTurns n p (deliver message) here (Open node armed) before before
-stopped_at message here node armed before is stops n p = subst (λ (x : Place). Turns n p (λ s out next. AtNode n p s (deliver message) out next) x (Open node armed) before before) (sym is) (record {
+pub stopped_at : (message : Message) (here : Machine) (node : Running MemDisk) (armed : Bool) (before : Handed) → here ≡ Open node armed → ((s : Node) → IsNodeOf node s → s.mode ≡ Stopped) → (n p : ℕ) → CallTurns n p (deliver message) here (Open node armed) before before
+stopped_at message here node armed before is stops n p = subst (λ (x : Machine). Turns n p (λ s out next. AtNode n p s (deliver message) out next) x (Open node armed) before before) (sym is) (record {
   leads = λ s stands. record {
     next = s;
     out = [];
@@ -244,18 +244,18 @@ stopped_at message here node armed before is stops n p = subst (λ (x : Place). 
 })
 
 -- what may want memory runs
-pub up_wanting : (n p : ℕ) (call : Call) (old new : Place) (before after : Handed) → CallWants n p call old new before after → Wants n p IsUp old new before after
+pub up_wanting : (n p : ℕ) (call : Call) (old new : Machine) (before after : Handed) → CallWants n p call old new before after → Wants n p IsUp old new before after
 up_wanting n p call old new before after wants = record { leads = λ s at. let w = wants.leads s at in (w.0.0, w.1, w.2, w.3) }
 
 -- memory for the copy is wanted where the node runs
-pub copy_wanted : (here : Place) (node : Running MemDisk) (armed : Bool) (before : Handed) → here ≡ Open node armed → ((s : Node) → IsNodeOf node s → ¬ (s.mode ≡ Stopped)) → (n p : ℕ) → Wants n p IsUp here (Open node armed) before before
-copy_wanted here node armed before is runs n p = subst (λ (x : Place). Wants n p IsUp x (Open node armed) before before) (sym is) (record {
+pub copy_wanted : (here : Machine) (node : Running MemDisk) (armed : Bool) (before : Handed) → here ≡ Open node armed → ((s : Node) → IsNodeOf node s → ¬ (s.mode ≡ Stopped)) → (n p : ℕ) → Wants n p IsUp here (Open node armed) before before
+copy_wanted here node armed before is runs n p = subst (λ (x : Machine). Wants n p IsUp x (Open node armed) before before) (sym is) (record {
   leads = λ s stands. (is_running node.store.stopped s.mode stands.stands.parts.on_record.mode_is (runs s stands.stands), stands, refl, (λ published. published));
 })
 
 -- no message of the cluster is passed over
-pub not_passed : (message : Message) (here new : Place) (node : Running MemDisk) (armed : Bool) (before : Handed) → here ≡ Open node armed → ¬ IsMessage node.cluster message → (n p : ℕ) → IsMessage n message → CallTurns n p (deliver message) here new before before
-not_passed message here new node armed before is alien n p mine = subst (λ (x : Place). Turns n p (λ s out next. AtNode n p s (deliver message) out next) x new before before) (sym is) (record {
+pub not_passed : (message : Message) (here new : Machine) (node : Running MemDisk) (armed : Bool) (before : Handed) → here ≡ Open node armed → ¬ IsMessage node.cluster message → (n p : ℕ) → IsMessage n message → CallTurns n p (deliver message) here new before before
+not_passed message here new node armed before is alien n p mine = subst (λ (x : Machine). Turns n p (λ s out next. AtNode n p s (deliver message) out next) x new before before) (sym is) (record {
   leads = λ s stands. absurd (alien (subst (λ (k : ℕ). IsMessage k message) (sym stands.cluster) mine));
 })
 
@@ -269,7 +269,7 @@ at_index (y ∷ ys) (suc k) x message is got = at_index ys k x message is got
 pub copy_at : (sent : Handed) (k : ℕ) (x : To × Message) (copy message : Message) → copy ≡ x.1 → x ≡ get_or sent k x → slice_get (messages_of sent) k ≡ Some message → copy ≡ message
 copy_at sent k x copy message same is got = same ∙ at_index sent k x message is got
 
-pub turns_of : (copy message : Message) (here new : Place) (before after : Handed) → copy ≡ message → ((n p : ℕ) → IsMessage n copy → CallTurns n p (deliver copy) here new before after)
+pub turns_of : (copy message : Message) (here new : Machine) (before after : Handed) → copy ≡ message → ((n p : ℕ) → IsMessage n copy → CallTurns n p (deliver copy) here new before after)
     → (n p : ℕ) → IsMessage n message → CallTurns n p (deliver message) here new before after
 turns_of copy message here new before after same turns n p mine = subst (λ (m : Message). CallTurns n p (deliver m) here new before after) same (turns n p (subst (λ (m : Message). IsMessage n m) (sym same) mine))
 
@@ -287,8 +287,8 @@ err_given (Err y) a = a
 pub alien : (told : Bool) (message : Message) (n k : ℕ) → n ≡ k → told ≡ false → (IsMessage n message → IsTrue told) → ¬ IsMessage k message
 alien told message n k same is tells mine = not_both told is (tells (subst (λ (x : ℕ). IsMessage x message) (sym same) mine))
 
-pub passed_at : (n p : ℕ) (call : Call) (here : Place) (disk : MemDisk) (before : Handed) → here ≡ Bare disk → CallTurns n p call here here before before
-passed_at n p call here disk before is = subst (λ (x : Place). CallTurns n p call x x before before) (sym is) (passed_over n p call disk before)
+pub passed_at : (n p : ℕ) (call : Call) (here : Machine) (disk : MemDisk) (before : Handed) → here ≡ Bare disk → CallTurns n p call here here before before
+passed_at n p call here disk before is = subst (λ (x : Machine). CallTurns n p call x x before before) (sym is) (passed_over n p call disk before)
 
 -- ---- a fresh node
 

@@ -4,7 +4,7 @@ pub mod Decided
 pub mod Agreement
 pub mod Worked
 pub mod Standing
-pub mod Places
+pub mod Machines
 pub mod Steps
 pub mod Telling
 pub mod Answering

@@ -11,8 +11,8 @@ use Rattle.node.specs.declared.node.Node.{Node as Running}
 use Rattle.node.specs.Nodes.{Down, Node, opened, IsKnownPrefix}
 use Rattle.node.specs.Effects.{messages_of}
 use Rattle.node.specs.Standing.{IsNodeOf, IsOnDisk}
-use Rattle.world.specs.declared.places.Place.{Place}
-use Rattle.world.specs.declared.places.Place.TheVariants.{Open, Bare}
+use Rattle.world.specs.declared.machine.Machine.{Machine}
+use Rattle.world.specs.declared.machine.Machine.TheVariants.{Open, Bare}
 use Rattle.world.specs.declared.world.World.{World as Code}
 use Rattle.world.specs.Worlds.{World}
 
@@ -32,25 +32,25 @@ pub record IsBare (n p : ℕ) (disk : MemDisk) (s : Node) : Type 0 where
   pub stands : MemoryStandsFor disk state
   pub keeps : Keeps p n s.entries s.in_flight state
 
--- the place is that of node p of n
-abbrev pub IsPlaceOf : ℕ → ℕ → Place → Node → Type 0
-IsPlaceOf n p (Open code armed) s = IsOpen n p code armed s
-IsPlaceOf n p (Bare disk) s = IsBare n p disk s
+-- the machine is that of node p of n
+abbrev pub IsMachineOf : ℕ → ℕ → Machine → Node → Type 0
+IsMachineOf n p (Open code armed) s = IsOpen n p code armed s
+IsMachineOf n p (Bare disk) s = IsBare n p disk s
 
 -- what was published is all of the known prefix
-abbrev pub HasPublished : Place → Node → Type 0
+abbrev pub HasPublished : Machine → Node → Type 0
 HasPublished (Open code armed) s = IsKnownPrefix s code.releases
 HasPublished (Bare disk) s = ⊤
 
--- Each place is that of its node, the first one of node 1. The messages are those handed out, and they are of the cluster's nodes
+-- Each machine is that of its node, the first one of node 1. The messages are those handed out, and they are of the cluster's nodes
 pub record IsWorldOf (code : Code) (w : World) : Type 0 where
-  pub places : (k : ℕ) (place : Place) → slice_get code.places.items k ≡ Some place → IsPlaceOf code.cluster (suc k) place (w.node (suc k))
+  pub machines : (k : ℕ) (machine : Machine) → slice_get code.machines.items k ≡ Some machine → IsMachineOf code.cluster (suc k) machine (w.node (suc k))
   pub sent : w.sent ≡ messages_of code.sent.items
   pub messages : (m : Message) → In w.sent m → IsMessage code.cluster m
 
 -- the node has published all that it knows without a gap, unless it is down
 abbrev pub IsPublishedAt : Code → World → ℕ → Type 0
-IsPublishedAt code w p = (k : ℕ) (place : Place) → p ≡ suc k → slice_get code.places.items k ≡ Some place → HasPublished place (w.node p)
+IsPublishedAt code w p = (k : ℕ) (machine : Machine) → p ≡ suc k → slice_get code.machines.items k ≡ Some machine → HasPublished machine (w.node p)
 
 -- the node isn't down, and has not
 pub record IsUnpublishedAt (code : Code) (w : World) (p : ℕ) : Type 0 where

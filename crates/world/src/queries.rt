@@ -11,7 +11,7 @@ ghost use Rattle.node.specs.Effects.{messages_of};
 ghost use Rattle.world.specs.declared.event.Event.{Event as AbstractEvent};
 ghost use Rattle.world.specs.Worlds.{World as AbstractWorld};
 
-use crate::places::Place;
+use crate::machine::Machine;
 use crate::{AskFault, NodeState, World};
 use release::{Answer, AnswerFault};
 use site_ids::{Cluster, NodeId};
@@ -47,11 +47,11 @@ impl World {
         self.sent.len()
     }
 
-    pub(crate) fn place(&self, node: NodeId) -> &Place
+    pub(crate) fn machine(&self, node: NodeId) -> &Machine
         requires { node ≤ self.now.cluster }
-        ensures { slice_get self.now.places.items (node - 1) ≡ Some result.now }
+        ensures { slice_get self.now.machines.items (node - 1) ≡ Some result.now }
     {
-        &self.places[(node.number() - 1) as usize]
+        &self.machines[(node.number() - 1) as usize]
     }
 
     /// Whether a node of the cluster runs, was stopped by its device, or is down.
@@ -59,9 +59,9 @@ impl World {
         requires { node ≤ self.now.cluster }
         ensures { (w : AbstractWorld) → IsWorldOf self.now w → (w.node node).mode ≡ mode_told result }
     {
-        match self.place(node) {
-            Place::Bare(_) => NodeState::Down,
-            Place::Open { node, .. } => {
+        match self.machine(node) {
+            Machine::Bare(_) => NodeState::Down,
+            Machine::Open { node, .. } => {
                 if node.is_stopped() {
                     return NodeState::Stopped;
                 }
@@ -76,9 +76,9 @@ impl World {
         ensures is { (w : AbstractWorld) → IsWorldOf self.now w → (values : List Bytes) × IsKnownPrefix (w.node node) values × (result ≡ length values) }
         ensures decided { (events : List AbstractEvent) (reached : Reached self.now events) → (values : List Bytes) × IsKnownPrefix (reached.world.node node) values × (result ≡ length values) × AreOfRun self.now events values }
     {
-        match self.place(node) {
-            Place::Bare(_) => 0,
-            Place::Open { node, .. } => node.known(),
+        match self.machine(node) {
+            Machine::Bare(_) => 0,
+            Machine::Open { node, .. } => node.known(),
         }
     }
 
@@ -89,9 +89,9 @@ impl World {
         ensures begins { (w : AbstractWorld) → IsWorldOf self.now w → BeginsKnown (fed_at self.now node) (w.node node) }
         ensures decided { (events : List AbstractEvent) → Reached self.now events → AreOfRun self.now events (fed_at self.now node) }
     {
-        match self.place(node) {
-            Place::Bare(_) => 0,
-            Place::Open { node, .. } => node.newest(),
+        match self.machine(node) {
+            Machine::Bare(_) => 0,
+            Machine::Open { node, .. } => node.newest(),
         }
     }
 
@@ -103,9 +103,9 @@ impl World {
         ensures down { (w : AbstractWorld) → IsWorldOf self.now w → IsErrOf result AskFault.NotUp ↔ ((w.node node).mode ≡ Down) }
         ensures none { (w : AbstractWorld) → IsWorldOf self.now w → IsErrOf result AskFault.NoSuchRelease ↔ (((w.node node).mode ≢ Down) × ((n ≡ 0) ⊎ (release_count (effective (fed_at self.now node)) < n))) }
     {
-        match self.place(node) {
-            Place::Bare(_) => Err(AskFault::NotUp),
-            Place::Open { node, .. } => match node.answer(n, path) {
+        match self.machine(node) {
+            Machine::Bare(_) => Err(AskFault::NotUp),
+            Machine::Open { node, .. } => match node.answer(n, path) {
                 Ok(answer) => Ok(answer),
                 Err(AnswerFault::NoSuchRelease) => Err(AskFault::NoSuchRelease),
                 Err(AnswerFault::OutOfMemory) => Err(AskFault::OutOfMemory),

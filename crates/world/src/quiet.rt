@@ -63,8 +63,8 @@ impl World {
         ensures { (w : AbstractWorld) → IsWorldOf self.now w → IsTrue result ↔ ((q : ℕ) → IsNode self.now.cluster q → IsQuietAt (w.node q)) }
     {
         let mut seen = 0;
-        while let Some(place) = self.places.get(seen) {
-            if !place.is_quiet() {
+        while let Some(machine) = self.machines.get(seen) {
+            if !machine.is_quiet() {
                 return false;
             }
             seen += 1;
@@ -80,7 +80,7 @@ impl World {
         let Some(instance) = self.first_unknown(node) else {
             return Ok(());
         };
-        let again = self.place(node).tried_elsewhere(instance);
+        let again = self.machine(node).tried_elsewhere(instance);
         match self.refuser(node, instance) {
             None => push_attempt(plan, self.cluster, node, &self.sent, again),
             Some(highest) => push_overbid(plan, self.cluster, node, highest, &self.sent, again),
@@ -93,7 +93,7 @@ impl World {
         ensures { (w : AbstractWorld) → IsWorldOf self.now w → IsQuiet self.now.cluster w node
             → MatchOption result (HasNoneAbove self.now.cluster w instance (fresh_ballot node (w.node node))) (λ q. Overbids self.now.cluster w instance (fresh_ballot node (w.node node)) q) }
     {
-        let ballot = self.place(node).next_ballot()?;
+        let ballot = self.machine(node).next_ballot()?;
         self.overbidder(instance, ballot)
     }
 
@@ -108,7 +108,7 @@ impl World {
             let Some(node) = cluster.node(seen + 1) else {
                 return highest.node;
             };
-            highest = highest.or_promised(node, self.place(node).promised(instance));
+            highest = highest.or_promised(node, self.machine(node).promised(instance));
             seen += 1;
         }
         highest.node

@@ -5,7 +5,7 @@
 ghost use Rattle.std.specs.Prelude.{◌≡◌, length};
 
 use crate::halt::Halt;
-use crate::places::Place;
+use crate::machine::Machine;
 use crate::{Event, WorldFault};
 use node::Outbox;
 use site_ids::Cluster;
@@ -17,10 +17,10 @@ pub struct World {
     pub(crate) alloc: Global,
     pub(crate) cluster: Cluster,
     // that of node 1 first
-    pub(crate) places: Vec<Place>,
+    pub(crate) machines: Vec<Machine>,
     // the oldest first, to whomever
     pub(crate) sent: Outbox,
-    ghost all_there: { length places.items ≡ cluster },
+    ghost all_there: { length machines.items ≡ cluster },
 }
 
 impl World {
@@ -38,15 +38,15 @@ impl World {
         ensures whose { IfOk result (λ world. world.cluster ≡ cluster) }
         ensures reached { IfOk result (λ world. Reached world []) }
     {
-        let mut places = Vec::new(alloc);
-        while let Some(me) = cluster.node(places.len() as u8 + 1) {
-            let place = Place::fresh(alloc, cluster, me)?;
-            places.push(place)?;
+        let mut machines = Vec::new(alloc);
+        while let Some(me) = cluster.node(machines.len() as u8 + 1) {
+            let machine = Machine::fresh(alloc, cluster, me)?;
+            machines.push(machine)?;
         }
         Ok(World {
             alloc,
             cluster,
-            places,
+            machines,
             sent: Vec::new(alloc),
         })
     }
@@ -88,14 +88,14 @@ impl World {
             return Err(Halt::Bad);
         }
         let at = (me.number() - 1) as usize;
-        let place = &mut self.places[at];
-        if place
+        let machine = &mut self.machines[at];
+        if machine
             .happen(self.alloc, self.cluster, event, &mut self.sent)
             .is_err()
         {
             return Err(Halt::Wanted);
         }
-        if place.publish().is_err() {
+        if machine.publish().is_err() {
             return Err(Halt::Unpublished);
         }
         Ok(())

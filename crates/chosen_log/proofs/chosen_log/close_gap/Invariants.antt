@@ -2,7 +2,7 @@ use Rattle.std.proofs.Common.{◌≡◌, ℕ, ◌+◌, ◌<◌, ◌≤◌, None,
 use Rattle.std.specs.BTreeMap.{get, btree_map_len}
 use Rattle.std.specs.Ordering.{nat_cmp}
 use Rattle.site_ids.specs.declared.TheConstants.{MAX_INSTANCE}
-use Rattle.chosen_log.specs.Places.{in_either}
+use Rattle.chosen_log.specs.LogValues.{in_either}
 use Rattle.chosen_log.proofs.chosen_log.close_gap.Given as goal
 
 abbrev pub invariant-loop-value : goal.invariant-loop-value

@@ -30,17 +30,17 @@ decreases-render_partial g l = 3 * l.out.now.left + 3
 -- what the nodes left add makes up what all nodes add
 abbrev pub invariant-render_nodes-loop-node : goal.invariant-render_nodes-loop-node
 invariant-render_nodes-loop-node g l = record {
-  adds : (texts : Partials) → g.P.Partials.stands l.place.partials.now texts → AreBlank (margin_at l.place.margin) → HasBlankIndents (tree_view [] l.nodes) → (new : Output) (r : Result (Unit {0}) RenderFault)
-      → Adds l.out new (meaning_to l.place.depth texts (tree_view (margin_at l.place.margin) (drop l.node-index l.nodes)) (stack_of l.place.frame.now)) r
-      → Adds l.initial.out new (meaning_to l.place.depth texts (tree_view (margin_at l.place.margin) l.nodes) (stack_of l.place.frame.now)) r;
+  adds : (texts : Partials) → g.P.Partials.stands l.scope.partials.now texts → AreBlank (margin_at l.scope.margin) → HasBlankIndents (tree_view [] l.nodes) → (new : Output) (r : Result (Unit {0}) RenderFault)
+      → Adds l.out new (meaning_to l.scope.depth texts (tree_view (margin_at l.scope.margin) (drop l.node-index l.nodes)) (stack_of l.scope.frame.now)) r
+      → Adds l.initial.out new (meaning_to l.scope.depth texts (tree_view (margin_at l.scope.margin) l.nodes) (stack_of l.scope.frame.now)) r;
   spent : l.out.left ≤ l.fn.out.left;
 }
 
 -- what the items left add makes up what all items add
 abbrev pub invariant-render_items-loop-item : goal.invariant-render_items-loop-item
 invariant-render_items-loop-item g l = record {
-  adds : (texts : Partials) → g.P.Partials.stands l.place.partials.now texts → AreBlank (margin_at l.place.margin) → HasBlankIndents (tree_view [] l.block) → (new : Output) (r : Result (Unit {0}) RenderFault)
-      → Adds l.out new (for_each (λ v. meaning_to l.place.depth texts (tree_view (margin_at l.place.margin) l.block) (v ∷ stack_of l.place.frame.now)) (map data_view (drop l.item-index l.pushed))) r
-      → Adds l.initial.out new (for_each (λ v. meaning_to l.place.depth texts (tree_view (margin_at l.place.margin) l.block) (v ∷ stack_of l.place.frame.now)) (map data_view l.pushed)) r;
+  adds : (texts : Partials) → g.P.Partials.stands l.scope.partials.now texts → AreBlank (margin_at l.scope.margin) → HasBlankIndents (tree_view [] l.block) → (new : Output) (r : Result (Unit {0}) RenderFault)
+      → Adds l.out new (for_each (λ v. meaning_to l.scope.depth texts (tree_view (margin_at l.scope.margin) l.block) (v ∷ stack_of l.scope.frame.now)) (map data_view (drop l.item-index l.pushed))) r
+      → Adds l.initial.out new (for_each (λ v. meaning_to l.scope.depth texts (tree_view (margin_at l.scope.margin) l.block) (v ∷ stack_of l.scope.frame.now)) (map data_view l.pushed)) r;
   spent : l.out.left ≤ l.fn.out.left;
 }

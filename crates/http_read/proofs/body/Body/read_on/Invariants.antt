@@ -9,4 +9,4 @@ invariant-loop-read l = record {
 }
 
 abbrev pub decreases-loop-read : goal.decreases-loop-read
-decreases-loop-read l = steps_left l.self.place l.inbox
+decreases-loop-read l = steps_left l.self.awaits l.inbox

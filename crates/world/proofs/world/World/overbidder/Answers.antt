@@ -1,7 +1,7 @@
 use Rattle.std.proofs.Common.{◌≡◌, ◌+◌, ◌≤◌, ℕ, sym, subst, arith}
 use Rattle.site_ids.specs.Ids.{IsNode}
 use Rattle.durable.specs.Entries.{IsPromise}
-use Rattle.world.proofs.Asked.{place_at}
+use Rattle.world.proofs.Asked.{machine_at}
 use Rattle.world.proofs.Overbidders.{none_looked, one_looked, all_looked}
 use Rattle.world.proofs.world.World.overbidder.Goals as goal
 
@@ -19,7 +19,7 @@ loop-seen-preserved c =
       most = omega (arith, c.quorum.ensures, c.loop-seen-test.true);
       looked = λ w stands run.
           let inside : IsNode code.cluster q = subst (λ (n : ℕ). IsNode n q) c.cluster-cluster.ensures (subst (λ (r : ℕ). IsNode c.cluster-cluster.result r) (sym at) c.in-Some.ensures.1) in
-          let slot = c.promised.ensures code.cluster q (w.node q) (place_at code q c.place.result.now one c.place.ensures w stands) (run q inside) in
+          let slot = c.promised.ensures code.cluster q (w.node q) (machine_at code q c.machine.result.now one c.machine.ensures w stands) (run q inside) in
           one_looked code.cluster w c.args.instance c.args.ballot k q c.loop-seen.highest c.or_promised-highest.result c.promised.result at (c.loop-seen.invariant.looked w stands run)
           (subst (λ o. IsPromise (w.node q).entries c.args.instance o) (sym slot.2) slot.1.promise) (omega arith, omega (arith, c.quorum.ensures, c.loop-seen-test.true)) c.or_promised-highest.ensures;
     }

@@ -28,8 +28,8 @@ returns-clause-ends g =
     let inside : g.number.result ≤ g.size.result = g.if-size-number.false in
     let at : IsNode old.cluster (node_of event) = (omega (arith, one, me), omega (arith, inside, also, g.size.ensures.is)) in
     let here : node_of event ≡ suc k = omega (arith, one, me) in
-    let below : k < length old.places.items = omega (arith, here, at.1, old.all_there) in
-    step_taken old _ event k g.index_mut-place.result.now _ _ here below refl refl at (got_at old.places.items k g.index_mut-place.result.now below g.index_mut-place.ensures.value)
+    let below : k < length old.machines.items = omega (arith, here, at.1, old.all_there) in
+    step_taken old _ event k g.index_mut-machine.result.now _ _ here below refl refl at (got_at old.machines.items k g.index_mut-machine.result.now below g.index_mut-machine.ensures.value)
     (ok_of g.happen.result g.if-is_err.ensures.value g.happen.ensures.ok) g.publish.ensures.same (ok_of g.publish.result g.if-is_err-2.ensures.value g.publish.ensures.ok)
 
 pub returns-then-is_err-2-clause-ends : goal.returns-then-is_err-2-clause-ends
@@ -43,8 +43,8 @@ returns-then-is_err-2-clause-ends g =
     let inside : g.number.result ≤ g.size.result = g.if-size-number.false in
     let at : IsNode old.cluster (node_of event) = (omega (arith, one, me), omega (arith, inside, also, g.size.ensures.is)) in
     let here : node_of event ≡ suc k = omega (arith, one, me) in
-    let below : k < length old.places.items = omega (arith, here, at.1, old.all_there) in
-    step_unpublished old _ event k g.index_mut-place.result.now _ _ here below refl refl at (got_at old.places.items k g.index_mut-place.result.now below g.index_mut-place.ensures.value)
+    let below : k < length old.machines.items = omega (arith, here, at.1, old.all_there) in
+    step_unpublished old _ event k g.index_mut-machine.result.now _ _ here below refl refl at (got_at old.machines.items k g.index_mut-machine.result.now below g.index_mut-machine.ensures.value)
     (ok_of g.happen.result g.if-is_err.ensures.value g.happen.ensures.ok) g.publish.ensures.same (err_of g.publish.result g.if-is_err-2.ensures.value g.publish.ensures.err)
 
 pub returns-then-is_err-clause-ends : goal.returns-then-is_err-clause-ends
@@ -58,8 +58,8 @@ returns-then-is_err-clause-ends g =
     let inside : g.number.result ≤ g.size.result = g.if-size-number.false in
     let at : IsNode old.cluster (node_of event) = (omega (arith, one, me), omega (arith, inside, also, g.size.ensures.is)) in
     let here : node_of event ≡ suc k = omega (arith, one, me) in
-    let below : k < length old.places.items = omega (arith, here, at.1, old.all_there) in
-    step_not_taken old _ event k g.index_mut-place.result.now _ here below refl refl at (got_at old.places.items k g.index_mut-place.result.now below g.index_mut-place.ensures.value)
+    let below : k < length old.machines.items = omega (arith, here, at.1, old.all_there) in
+    step_not_taken old _ event k g.index_mut-machine.result.now _ here below refl refl at (got_at old.machines.items k g.index_mut-machine.result.now below g.index_mut-machine.ensures.value)
     (err_of g.happen.result g.if-is_err.ensures.value g.happen.ensures.err)
 
 pub returns-then-size-number-clause-ends : goal.returns-then-size-number-clause-ends

@@ -1,0 +1,13 @@
+use Rattle.world.proofs.Turning.{opened_again, refused_opening, reopened}
+use Rattle.world.proofs.machine.Machine.restart.Goals as goal
+
+pub returns-in-Ok-clause-ok : goal.returns-in-Ok-clause-ok
+returns-in-Ok-clause-ok g = opened_again _ _ _ _ _ (reopened _ _ _ _ _ (g.take-disk.ensures _ _) g.disarm.ensures.state) g.in-Ok.ensures.opened g.in-Ok.ensures.whose.0 g.in-Ok.ensures.whose.1
+
+pub returns-in-Err-clause-err : goal.returns-in-Err-clause-err
+returns-in-Err-clause-err g = refused_opening _ _ _ _ _ (reopened _ _ _ _ _ (g.take-disk.ensures _ _) g.disarm.ensures.state) (λ d stands. (g.in-Err.ensures.refused d stands).0)
+
+pub returns-in-Err-clause-never : goal.returns-in-Err-clause-never
+returns-in-Err-clause-never g s at =
+    let kept = reopened _ _ _ _ _ (g.take-disk.ensures _ _) g.disarm.ensures.state s at in
+    g.in-Err.ensures.never kept.0 s.entries s.in_flight kept.1 kept.2
