@@ -110,17 +110,25 @@ const YIELDS: &[Step] = &[
     (102, false, true, Call::Widen, &[]),
 ];
 
-/// Nodes 2 and 3 tried, and node 3 comes next; a value is submitted meanwhile.
+/// Nodes 2 and 3 tried, and node 3 comes next.
 const TURNS: &[Step] = &[
     (0, false, true, Call::Ask, &[THIRD_PREPARE]),
     (1, false, true, Call::Nothing, &[HIGHER_PREPARE]),
     (2, false, true, Call::Nothing, &[FIRST_KNOWN]),
     (3, false, true, Call::Nothing, &[]),
-    (4, true, true, Call::Nothing, &[]),
-    // Attempts stood for two milliseconds: so long the next one is waited for.
-    (5, false, true, Call::Nothing, &[]),
+    // Node 2's attempt stood for a millisecond: so long the next one is waited for.
+    (4, false, true, Call::Nothing, &[]),
+    (5, false, true, Call::Widen, &[]),
     (6, false, true, Call::Widen, &[]),
-    (7, false, true, Call::Widen, &[]),
+];
+
+/// So does it here, as a value is submitted that nobody tries.
+const NO_TURN: &[Step] = &[
+    (0, false, true, Call::Ask, &[THIRD_PREPARE]),
+    (1, false, true, Call::Nothing, &[HIGHER_PREPARE]),
+    (2, false, true, Call::Nothing, &[FIRST_KNOWN]),
+    (3, false, true, Call::Nothing, &[]),
+    (4, true, true, Call::Tick, &[]),
 ];
 
 /// A node with its link, a desk and a pace.
@@ -233,4 +241,9 @@ fn a_server_yields_to_one_that_tries(rt: HostRuntime) {
 #[test]
 fn the_next_one_is_waited_for(rt: HostRuntime) {
     run(&rt, rt.alloc(), TURNS);
+}
+
+#[test]
+fn a_value_that_nobody_tries_waits_for_no_turn(rt: HostRuntime) {
+    run(&rt, rt.alloc(), NO_TURN);
 }

@@ -81,9 +81,10 @@ fn nodes_that_try_take_turns(rt: HostRuntime) {
     }
 }
 
-/// Since when attempts stood and since when none did, and whose stands now, 0 for nobody's; who tried then, and who last, where node 4 did before; since
-/// when attempts stand and since when none does, and how long the last ones stood.
+/// Whose attempts stood, 0 for nobody's, since when, and since when none did, and whose stands now; who tried then, and who last, where node 4 did before;
+/// since when attempts stand and since when none does, and how long those of the node before stood.
 type Noted = (
+    u8,
     Option<u64>,
     Option<u64>,
     u8,
@@ -95,20 +96,20 @@ type Noted = (
 );
 
 const NOTED: &[Noted] = &[
-    (None, None, 0, &[4], 4, None, Some(100), TOOK),
-    (None, Some(7), 0, &[4], 4, None, Some(7), TOOK),
-    (Some(93), None, 0, &[4], 4, None, Some(100), 7),
-    (None, Some(7), 1, &[1, 4], 1, Some(100), None, TOOK),
-    (Some(93), None, 4, &[4], 4, Some(93), None, TOOK),
-    (Some(93), None, 9, &[4, 9], 9, Some(93), None, TOOK),
+    (0, None, None, 0, &[4], 4, None, Some(100), TOOK),
+    (0, None, Some(7), 0, &[4], 4, None, Some(7), TOOK),
+    (4, Some(93), None, 0, &[4], 4, None, Some(100), 7),
+    (0, None, Some(7), 1, &[1, 4], 1, Some(100), None, TOOK),
+    (4, Some(93), None, 4, &[4], 4, Some(93), None, TOOK),
+    (4, Some(93), None, 9, &[4, 9], 9, Some(100), None, 7),
 ];
 
 #[test]
 fn whose_attempt_stands_is_noted(rt: HostRuntime) {
-    for &(stood, free, tries, tried, last, stands, then, took) in NOTED {
+    for &(by, stood, free, tries, tried, last, stands, then, took) in NOTED {
         let mut yielding = Yielding {
             tried: among(&[4]),
-            tries: None,
+            tries: node(by),
             last: node(4),
             stands: stood,
             free,
@@ -125,7 +126,7 @@ fn whose_attempt_stands_is_noted(rt: HostRuntime) {
             since: Some(3),
         };
         yielding.note(NOW, node(tries));
-        assert_eq!(rt; yielding, after, "{stood:?} {free:?} {tries}");
+        assert_eq!(rt; yielding, after, "{by} {stood:?} {free:?} {tries}");
     }
 }
 

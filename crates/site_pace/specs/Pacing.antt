@@ -1,5 +1,5 @@
 -- When a server tries again, asks and tells, and how long it rests. Times are milliseconds since it began, rests microseconds.
-use Rattle.std.specs.Prelude.{◌≡◌, ◌≢◌, ◌⊎◌, ℕ, ◌+◌, ◌-◌, ◌*◌, ◌/◌, ◌^◌, ◌<◌, ◌≤◌, min, List, length, replicate, get_or, set, Bool, true, false, not, ◌||◌, nat_eq, nat_le, nat_lt, if◌then◌else◌, Option, Some, None, is_none, unwrap_or, IsTrue, ◌↔◌}
+use Rattle.std.specs.Prelude.{◌≡◌, ◌≢◌, ◌⊎◌, ℕ, suc, ◌+◌, ◌-◌, ◌*◌, ◌/◌, ◌^◌, ◌<◌, ◌≤◌, min, List, length, replicate, get_or, set, Bool, true, false, not, ◌||◌, nat_eq, nat_le, nat_lt, if◌then◌else◌, Option, Some, None, is_none, unwrap_or, IsTrue, ◌↔◌}
 use Rattle.site_ids.specs.declared.TheConstants.{MAX_INSTANCE}
 use Rattle.site_ids.specs.Ids.{BallotOf, IsInstance}
 use Rattle.durable.specs.Entries.{last_vote, IsPromise}
@@ -76,10 +76,19 @@ abbrev pub took_by : Option ℕ → ℕ → ℕ → ℕ
 took_by None now took = took
 took_by (Some stands) now took = now - stands
 
--- the first unknown instance is promised to a node, or to none
+abbrev pub ended : Yielding → ℕ → Yielding
+ended y now = record y { stands = None; took = took_by y.stands now y.took }
+
+abbrev pub stood_by : Option ℕ → ℕ → Bool
+stood_by None q = false
+stood_by (Some p) q = nat_eq p q
+
+-- the first unknown instance is promised to a node, or to none: those of another one stand no more
 abbrev pub noted_tries : Yielding → ℕ → Option ℕ → Yielding
-noted_tries y now None = record y { tries = None; stands = None; free = Some (unwrap_or y.free now); took = took_by y.stands now y.took }
-noted_tries y now (Some q) = record y { tried = set y.tried (q - 1) true; tries = Some q; last = Some q; stands = Some (unwrap_or y.stands now); free = None }
+noted_tries y now None = record (ended y now) { tries = None; free = Some (unwrap_or y.free now) }
+noted_tries y now (Some q) =
+    let stood = if stood_by y.tries q then y else ended y now in
+    record stood { tried = set y.tried (q - 1) true; tries = Some q; last = Some q; stands = Some (unwrap_or stood.stands now); free = None }
 
 -- one that tried comes before this server, behind the one that tried last
 pub record IsBehind (y : Yielding) (me : ℕ) : Type 0 where
@@ -94,7 +103,7 @@ pub record IsBehind (y : Yielding) (me : ℕ) : Type 0 where
 abbrev pub Waits : Yielding → ℕ → Type 0
 Waits y me = ((q : ℕ) × (y.tries ≡ Some q) × (q ≢ me)) ⊎ IsBehind y me
 
--- none has stood there for longer than the last ones stood
+-- none has stood there for longer than those of the last node did
 abbrev pub IsSoon : Yielding → ℕ → Type 0
 IsSoon y now = (free : ℕ) × (y.free ≡ Some free) × (now - free ≤ y.took)
 
@@ -182,6 +191,10 @@ abbrev pub IsTriedBy : Node → ℕ → Option ℕ → Type 0
 IsTriedBy s i None = IsInstance i → IsPromise s.entries i None
 IsTriedBy s i (Some q) = IsInstance i × ((b : BallotOf) × IsPromise s.entries i (Some b) × (b.node ≡ q))
 
+-- nobody tries a value: the first unknown instance is promised to none
+abbrev pub IsUntried : Node → Type 0
+IsUntried s = (values : List Value) → IsKnownPrefix s values → IsPromise s.entries (suc (length values)) None
+
 -- what a node shows: how many values it knows without a gap, and whether it wants a tick
 pub record IsSeen (s : Node) (drained : Bool) (seen : Seen) : Type 0 where
   pub known : (values : List Value) × IsKnownPrefix s values × (seen.known ≡ length values)
@@ -230,7 +243,7 @@ pace_after p now seen tries due last = record p {
 
 -- as a batch begins
 pub record IsDue (p : Pace) (now : ℕ) (seen : Seen) (tries : Option ℕ) (telling : Option (ℕ × ℕ)) (due : Due) : Type 0 where
-  pub fresh : IsTrue due.fresh ↔ (IsFresh p.ticking seen.wanted p.stirred × (due.yields ≡ false))
+  pub fresh : IsTrue due.fresh ↔ (IsFresh p.ticking seen.wanted p.stirred × ((tries ≡ None) ⊎ (due.yields ≡ false)))
   pub told : due.telling ≡ telling
   pub question : IsTrue due.question ↔ Asks (asking_of p.last p.times now seen p.empty)
   pub tick : IsTrue due.tick ↔ Ticks (noted p.ticking now seen.wanted seen.known) now p.patience p.times.growth

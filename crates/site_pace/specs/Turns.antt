@@ -9,7 +9,7 @@ abbrev pub telling_or : Option (ℕ × ℕ) → LastCall → LastCall
 telling_or None last = last
 telling_or (Some x) last = Tell x.0 x.1
 
--- the first that applies: a tick for a value that nobody tries, a telling, a question, a tick, nothing where it yields; else widenings
+-- the first that applies: a tick for a value that is fresh, a telling, a question, a tick, nothing where it yields; else widenings
 abbrev pub call_behind : Due → LastCall
 call_behind due =
     if due.fresh then TickOrAsk

@@ -9,7 +9,7 @@ use site_ids::{Instance, NodeId};
 /// What stands as a batch begins.
 #[derive(Clone, Copy, Debug, PartialEq, Eq, Drop)]
 pub struct Due {
-    /// A value was just submitted, nobody tries one, and it does not yield.
+    /// A value was just submitted, and nobody tries one, or it does not yield.
     pub fresh: bool,
     /// Whom to tell, and from which instance on, where a telling is due.
     pub telling: Option<(NodeId, Instance)>,
@@ -24,7 +24,7 @@ pub struct Due {
 }
 
 impl Due {
-    /// A tick at once for a value that nobody tries; else a telling, a question or a tick that is due; else nothing where it yields, and
+    /// A tick at once for a value that is fresh; else a telling, a question or a tick that is due; else nothing where it yields, and
     /// else widenings, so that the values that came since the last batch share a prepare.
     pub fn last_call(self) -> LastCall
         ensures { result ≡ call_behind self }

@@ -1,7 +1,7 @@
 //! When a server yields to another one that tries.
 
 ghost use Rattle.std.specs.Prelude.{◌≡◌, ◌↔◌, ◌<◌, ◌≤◌, ◌-◌, IsTrue, unwrap_or};
-ghost use Rattle.site_pace.specs.Pacing.{first_yielding, noted_tries, places_behind, yielding_after, IsBehind, IsSoon, Waits, Yields};
+ghost use Rattle.site_pace.specs.Pacing.{ended, first_yielding, noted_tries, places_behind, stood_by, yielding_after, IsBehind, IsSoon, Waits, Yields};
 
 use crate::times::{Times, has_passed};
 use site_ids::NodeId;
@@ -15,11 +15,11 @@ pub struct Yielding {
     pub tries: Option<NodeId>,
     /// Whose attempt stood there last.
     pub last: Option<NodeId>,
-    /// Since when attempts stand there, in milliseconds since the server began; never where none does.
+    /// Since when that node's attempts stand there, in milliseconds since the server began; never where none does.
     pub stands: Option<u64>,
     /// Since when none does.
     pub free: Option<u64>,
-    /// For how many milliseconds the last ones stood there.
+    /// For how many milliseconds those of the node before stood there.
     pub took: u64,
     /// Since when it yields.
     pub since: Option<u64>,
@@ -53,19 +53,40 @@ impl Yielding {
         }
     }
 
+    /// Whether that node's attempt stood there last.
+    fn is_of(&self, node: NodeId) -> bool
+        ensures { result ≡ stood_by self.now.tries node }
+    {
+        match self.tries {
+            Some(tries) => tries.number() == node.number(),
+            None => false,
+        }
+    }
+
+    /// The attempts that stood there do no more.
+    fn end(&mut self, now: u64)
+        ensures { self.new ≡ ended self.old now }
+    {
+        if let Some(stands) = self.stands {
+            self.took = now.saturating_sub(stands);
+        }
+        self.stands = None;
+    }
+
     /// The first unknown instance is promised to a node now, or to none.
     pub fn note(&mut self, now: u64, tries: Option<NodeId>)
         ensures { self.new ≡ noted_tries self.old now tries }
     {
-        self.tries = tries;
-        let Some(node) = self.tries else {
-            if let Some(stands) = self.stands {
-                self.took = now.saturating_sub(stands);
-            }
-            self.stands = None;
+        let Some(node) = tries else {
+            self.end(now);
+            self.tries = None;
             self.free = Some(self.free.unwrap_or(now));
             return;
         };
+        if !self.is_of(node) {
+            self.end(now);
+        }
+        self.tries = Some(node);
         self.tried[usize::from(node.number()) - 1] = true;
         self.last = Some(node);
         self.stands = Some(self.stands.unwrap_or(now));
@@ -99,7 +120,7 @@ impl Yielding {
         }
     }
 
-    /// Whether no attempt has stood there for longer than the last ones stood.
+    /// Whether no attempt has stood there for longer than those of the last node did.
     fn is_soon(&self, now: u64) -> bool
         ensures { IsTrue result ↔ IsSoon self.now now }
     {
