@@ -11,7 +11,7 @@ use crate::commands::described;
 use crate::matched::{addresses_in, byte_in, flag_in, number_in, some_number_in, text_in};
 use clap::error::ErrorKind;
 use clap::{Arg, ArgAction, ArgMatches, Error};
-use site_serve::ServeOptions;
+use site_halts::ServeOptions;
 use std::alloc::Global;
 
 fn id_option<'a>(alloc: Global) -> Arg<'a>

@@ -1,15 +1,22 @@
-//! The one line that a program says in place of its work.
+//! A line that a program says.
 ghost use Rattle.std.specs.Prelude.{◌≡◌};
 ghost use Rattle.http_read.specs.Bytes.{end_of, IsGiven};
 
 use http_read::{Counted, write_all};
 use std::io::Write;
 
-/// Writes a line on the other writer, and gives status 1.
+/// Writes one line, as far as that can be done.
+pub fn give<E: Write>(err: &mut Counted<E>, line: &str)
+    ensures { IsGiven (end_of E.contents err.old err.new) line.now }
+{
+    let _ = write_all(err, line.as_bytes());
+}
+
+/// Writes the one line that a program says in place of its work, and gives status 1.
 pub fn say<E: Write>(err: &mut Counted<E>, line: &str) -> u8
     ensures status { result ≡ 1 }
     ensures said { IsGiven (end_of E.contents err.old err.new) line.now }
 {
-    let _ = write_all(err, line.as_bytes());
+    give(err, line);
     1
 }

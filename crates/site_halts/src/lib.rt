@@ -9,6 +9,6 @@ mod why;
 
 pub use cause::Cause;
 pub use halt::Halt;
-pub use saying::{give, say};
+pub use saying::say;
 pub use serve_options::ServeOptions;
 pub use why::say_why;

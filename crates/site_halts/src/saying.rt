@@ -8,7 +8,7 @@ ghost use Rattle.site_halts.specs.Halts.{IsSaid};
 use crate::Halt;
 use durable::RecordFault;
 use engine_parts::say as say_line;
-use http_read::{Counted, write_all};
+use http_read::Counted;
 use std::alloc::{AllocError, Global};
 use std::io::Write;
 
@@ -18,13 +18,6 @@ fn record_line(alloc: Global, fault: RecordFault) -> Result<String, AllocError>
 {
     let label = fault.label();
     format!(in alloc; "record: {label}\n")
-}
-
-/// Writes one line, as far as that can be done.
-pub fn give<E: Write>(err: &mut Counted<E>, line: &str)
-    ensures { IsGiven (end_of E.contents err.old err.new) line.now }
-{
-    let _ = write_all(err, line.as_bytes());
 }
 
 /// Writes the line of a halt, or that memory was wanted for it, and gives status 1.

@@ -6,8 +6,9 @@ ghost use Rattle.std.specs.Prelude.{◌≡◌, ℕ, List, IfOk, string_bytes};
 ghost use Rattle.http_read.specs.Bytes.{end_of};
 ghost use Rattle.site_halts.specs.Why.{why_line, GivesWhy, SaysWhy};
 
-use crate::{Cause, Halt, ServeOptions, give};
+use crate::{Cause, Halt, ServeOptions};
 use durable::RecordFault;
+use engine_parts::give;
 use http_read::Counted;
 use site_ids::MAX_NODES;
 use std::alloc::{AllocError, Global};

@@ -7,8 +7,9 @@ ghost use Rattle.site_serve.specs.Noted.{HasNoted};
 ghost use Rattle.site_serve.specs.Running.{ReadyEnds, DoneEnds};
 
 use crate::watch::Watch;
+use engine_parts::give;
 use http_read::{Counted, write_all};
-use site_halts::{Halt, give};
+use site_halts::Halt;
 use site_notes::Note;
 use std::alloc::{AllocError, Global};
 use std::io::Write;
