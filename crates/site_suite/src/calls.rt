@@ -7,44 +7,69 @@ use site_ids::Ticket;
 use std::alloc::{AllocError, Global};
 use std::process::Abort;
 
-fn check_tokens(rt: &impl Abort, tokens: &[Token<'_>]) {
-    let [hello, subject, end] = tokens else {
-        panic!(rt; "{} tokens", tokens.len());
-    };
-    assert!(rt; hello.kind == TokenKind::Literal && hello.text == "Hello, " && hello.place == 0);
-    assert!(rt; subject.kind == TokenKind::Variable && subject.inside == "subject");
-    assert!(rt; subject.text == "{{ subject }}" && subject.place == 7);
-    assert!(rt; end.text == "!\n" && end.place == 20 && end.indent.is_empty());
-}
+const TOKENS: &[Token<'static>] = &[
+    Token {
+        kind: TokenKind::Literal,
+        inside: "",
+        place: 0,
+        text: "Hello, ",
+        indent: "",
+        is_alone: false,
+    },
+    Token {
+        kind: TokenKind::Variable,
+        inside: "subject",
+        place: 7,
+        text: "{{ subject }}",
+        indent: "",
+        is_alone: false,
+    },
+    Token {
+        kind: TokenKind::Literal,
+        inside: "",
+        place: 20,
+        text: "!\n",
+        indent: "",
+        is_alone: false,
+    },
+];
 
 #[test]
 fn scanning(rt: HostRuntime) {
     let tokens = scan(rt.alloc(), "Hello, {{ subject }}!\n").expect(&rt, "tokens");
-    check_tokens(&rt, &tokens);
+    assert!(rt; tokens.as_slice() == TOKENS);
 }
 
-fn check_nodes(rt: &impl Abort, nodes: &[Node]) {
-    let [text, variable] = nodes else {
-        panic!(rt; "{} nodes", nodes.len());
-    };
-    assert!(rt;
-        matches!(text, Node::Text { text, leads: true, trails: true } if text.as_str() == "a")
-    );
-    assert!(rt; matches!(variable, Node::Variable(name) if name.as_str() == "b"));
+fn printed(alloc: Global, nodes: &[Node]) -> Result<String, AllocError> {
+    format!(in alloc; "{nodes:?}")
 }
+
+const NODES: &str = "[Text { text: \"a\", leads: true, trails: true }, Variable(\"b\")]";
 
 #[test]
 fn parsing(rt: HostRuntime) {
     let template = parse(rt.alloc(), "a{{b}}").expect(&rt, "a template");
-    check_nodes(&rt, template.nodes());
+    let nodes = printed(rt.alloc(), template.nodes()).expect(&rt, "memory");
+    assert_eq!(rt; nodes.as_str(), NODES);
 }
 
+/// What a name is found to be.
+fn found(data: &Data, name: &str) -> &'static str {
+    match resolve(&Frame { data, below: None }, name) {
+        Some(Data::Int(8)) => "8",
+        Some(Data::Null) => "null",
+        Some(Data::Hash(_)) => "a hash",
+        Some(_) => "another one",
+        None => "none",
+    }
+}
+
+const NAMES: &[(&str, &str)] = &[("a", "8"), ("b", "null"), ("c", "none"), (".", "a hash")];
+
 fn check_names(rt: &impl Abort, data: &Data) {
-    let frame = Frame { data, below: None };
-    assert!(rt; matches!(resolve(&frame, "a"), Some(Data::Int(8))));
-    assert!(rt; matches!(resolve(&frame, "b"), Some(Data::Null)));
-    assert!(rt; resolve(&frame, "c").is_none());
-    assert!(rt; matches!(resolve(&frame, "."), Some(Data::Hash(_))));
+    for &(name, value) in NAMES {
+        assert!(rt; found(data, name) == value, "{name}");
+    }
 }
 
 #[test]
@@ -82,8 +107,8 @@ fn outermost(rt: &impl Abort, alloc: Global, lists: u32) -> Result<usize, DataFa
 
 #[test]
 fn lists_nest_127_deep(rt: HostRuntime) {
-    assert_eq!(rt; outermost(&rt, rt.alloc(), 127), Ok(1));
-    assert_eq!(rt; outermost(&rt, rt.alloc(), 128), Err(DataFault::NotJson));
+    assert!(rt; outermost(&rt, rt.alloc(), 127) == Ok(1));
+    assert!(rt; outermost(&rt, rt.alloc(), 128) == Err(DataFault::NotJson));
 }
 
 const RELEASE: &[u8] = b"\x00\x00\x00\x01\x00\x00\x00\x00\x00\x00\x00\x05release\n";
@@ -96,13 +121,19 @@ const TICKET: Ticket = Ticket {
 #[test]
 fn writing_values(rt: HostRuntime) {
     let value = write(rt.alloc(), TICKET, b"release\n").expect(&rt, "memory");
-    assert_eq!(rt; value.as_slice(), RELEASE);
+    assert!(rt; value.as_slice() == RELEASE);
+}
+
+/// The ticket of a value, and whether it is a release.
+pub(crate) fn read_as(alloc: Global, value: &[u8]) -> Result<(Ticket, bool), CommandFault> {
+    let command = read(alloc, value)?;
+    let is_release = matches!(&command.action, Action::Release);
+    Ok((command.ticket, is_release))
 }
 
 #[test]
 fn reading_values(rt: HostRuntime) {
-    let command = read(rt.alloc(), RELEASE).expect(&rt, "a command");
-    assert!(rt; command.ticket == TICKET && matches!(command.action, Action::Release));
+    assert!(rt; read_as(rt.alloc(), RELEASE) == Ok((TICKET, true)));
 }
 
 #[test]
@@ -112,12 +143,12 @@ fn printing_a_fault_of_a_template(rt: HostRuntime) {
         place: 6,
     };
     let line = fault_line(rt.alloc(), &CommandFault::Template(fault)).expect(&rt, "a line");
-    assert_eq!(rt; line.as_str(), "5 Template 6 WrongEnd at 6");
+    assert!(rt; line.as_str() == "5 Template 6 WrongEnd at 6");
 }
 
 #[test]
 fn printing_a_fault_of_data(rt: HostRuntime) {
     let fault = CommandFault::Data(DataFault::NotWhole);
     let line = fault_line(rt.alloc(), &fault).expect(&rt, "a line");
-    assert_eq!(rt; line.as_str(), "6 Data 2 NotWhole");
+    assert!(rt; line.as_str() == "6 Data 2 NotWhole");
 }

@@ -11,4 +11,6 @@ mod refusals;
 #[cfg(test)]
 mod releases;
 #[cfg(test)]
+mod rows;
+#[cfg(test)]
 mod sites;

@@ -1,7 +1,10 @@
 //! Each call with one growth refused, as `tools/gate/refuse-growths` runs this: it answers as ever, or that memory was refused, and then the next try
 //! answers as ever. A try tells whether it found what it should, and lets go of that.
-use crate::releases::{COMMANDS, feed, ticket};
-use command::{CommandFault, fault_line, read, write};
+use crate::calls::read_as;
+use crate::releases::{V1, feed, new_releases, shows};
+use crate::rows::{COMMANDS, is_answered, ticket};
+use crate::sites::{copied, new_site};
+use command::{CommandFault, fault_line, write};
 use content::{Applied, Site};
 use context::{Data, DataFault};
 use mustache_parse::parse;
@@ -59,12 +62,15 @@ fn copy(rt: &impl Abort, alloc: Global, data: &Data) {
     assert!(rt; is_whole);
 }
 
+fn check_templates(rt: &impl Abort, alloc: Global) {
+    assert!(rt; is_found(rt, has_tokens(alloc)) || is_found(rt, has_tokens(alloc)));
+    assert!(rt; is_found(rt, has_nodes(alloc)) || is_found(rt, has_nodes(alloc)));
+}
+
 #[test]
 fn templates_and_data(rt: HostRuntime) {
-    let alloc = rt.alloc();
-    assert!(rt; is_found(&rt, has_tokens(alloc)) || is_found(&rt, has_tokens(alloc)));
-    assert!(rt; is_found(&rt, has_nodes(alloc)) || is_found(&rt, has_nodes(alloc)));
-    copy(&rt, alloc, &data(&rt, alloc));
+    check_templates(&rt, rt.alloc());
+    copy(&rt, rt.alloc(), &data(&rt, rt.alloc()));
 }
 
 fn written(rt: &impl Abort, alloc: Global, ticket: Ticket, text: &str) -> Vec<u8> {
@@ -74,17 +80,10 @@ fn written(rt: &impl Abort, alloc: Global, ticket: Ticket, text: &str) -> Vec<u8
     }
 }
 
-fn ticket_of(alloc: Global, value: &[u8]) -> Result<Ticket, CommandFault> {
-    Ok(read(alloc, value)?.ticket)
-}
-
 fn is_of(rt: &impl Abort, alloc: Global, value: &[u8], ticket: Ticket) {
-    let found = match ticket_of(alloc, value) {
-        Ok(found) => found,
-        Err(fault) => {
-            assert_eq!(rt; fault, CommandFault::OutOfMemory);
-            ticket_of(alloc, value).expect(rt, "a command")
-        }
+    let (found, _) = match read_as(alloc, value) {
+        Err(CommandFault::OutOfMemory) => read_as(alloc, value).expect(rt, "a command"),
+        other => other.expect(rt, "a command"),
     };
     assert!(rt; found == ticket);
 }
@@ -112,13 +111,21 @@ fn line(rt: &impl Abort, alloc: Global) -> String {
     }
 }
 
+fn check_value(rt: &impl Abort, alloc: Global, text: &str) {
+    let value = written(rt, alloc, TICKET, text);
+    is_of(rt, alloc, value.as_slice(), TICKET);
+}
+
+fn check_line(rt: &impl Abort, alloc: Global) {
+    assert!(rt; line(rt, alloc).as_str() == "6 Data 1 NotJson");
+}
+
 #[test]
 fn values_and_lines(rt: HostRuntime) {
     for &text in TEXTS {
-        let value = written(&rt, rt.alloc(), TICKET, text);
-        is_of(&rt, rt.alloc(), value.as_slice(), TICKET);
+        check_value(&rt, rt.alloc(), text);
     }
-    assert_eq!(rt; line(&rt, rt.alloc()).as_str(), "6 Data 1 NotJson");
+    check_line(&rt, rt.alloc());
 }
 
 fn length_of(site: &Site) -> Option<usize> {
@@ -126,15 +133,14 @@ fn length_of(site: &Site) -> Option<usize> {
 }
 
 /// The site takes the value, and answers so. Where memory was refused it is as before.
-fn take(rt: &impl Abort, site: &mut Site, value: &[u8], applied: Applied) {
+fn take(rt: &impl Abort, site: &mut Site, value: &[u8], text: &str, applied: Applied) {
     let before = length_of(site);
-    match site.apply(value) {
-        Ok(answer) => assert_eq!(rt; answer, applied),
-        Err(_) => {
-            assert_eq!(rt; length_of(site), before);
-            assert_eq!(rt; site.apply(value), Ok(applied));
-        }
+    let mut answer = site.apply(value);
+    if answer.is_err() {
+        assert!(rt; length_of(site) == before);
+        answer = site.apply(value);
     }
+    is_answered(rt, text, answer, applied);
 }
 
 /// Whether a site has what the commands leave.
@@ -144,70 +150,82 @@ fn is_left(site: &Site) -> bool {
         && matches!(site.route("/"), Some(("t", "d")))
 }
 
-fn is_left_in_copy(site: &Site) -> Result<bool, AllocError> {
-    Ok(is_left(&site.copy()?))
+fn is_left_in_copy(alloc: Global, site: &Site) -> Option<bool> {
+    let copy = copied(alloc, site)?;
+    Some(is_left(&copy))
 }
 
-fn check_copy(rt: &impl Abort, site: &Site) {
-    let is_left = match is_left_in_copy(site) {
-        Ok(is_left) => is_left,
-        Err(_) => is_left_in_copy(site).expect(rt, "a copy"),
+fn check_copy(rt: &impl Abort, alloc: Global, site: &Site) {
+    let is_left = match is_left_in_copy(alloc, site) {
+        Some(is_left) => is_left,
+        None => is_left_in_copy(alloc, site).expect(rt, "a copy"),
     };
     assert!(rt; is_left);
 }
 
-fn take_and_copy(rt: &impl Abort, alloc: Global, site: &mut Site) {
+fn take_each(rt: &impl Abort, alloc: Global, site: &mut Site) {
     for &(number, text, applied) in COMMANDS {
         let value = written(rt, alloc, ticket(number), text);
-        take(rt, site, value.as_slice(), applied);
+        take(rt, site, value.as_slice(), text, applied);
     }
-    check_copy(rt, site);
+}
+
+fn fresh_site(rt: &impl Abort, alloc: Global) -> Box<Site> {
+    match new_site(alloc) {
+        Some(site) => site,
+        None => new_site(alloc).expect(rt, "a site"),
+    }
 }
 
 #[test]
 fn sites(rt: HostRuntime) {
-    take_and_copy(&rt, rt.alloc(), &mut Site::new(rt.alloc()));
+    let mut site = fresh_site(&rt, rt.alloc());
+    take_each(&rt, rt.alloc(), &mut site);
+    check_copy(&rt, rt.alloc(), &site);
+}
+
+fn lengths(releases: &Releases) -> (u64, usize) {
+    (releases.newest(), releases.len())
 }
 
 /// The releases take the value, and answer so. Where memory was refused they are as before.
-fn fed(rt: &impl Abort, releases: &mut Releases, value: &[u8], applied: Applied) {
-    let before = (releases.newest(), releases.len());
-    match feed(releases, value) {
-        Ok(answer) => assert_eq!(rt; answer, applied),
-        Err(_) => {
-            assert!(rt; before == (releases.newest(), releases.len()));
-            assert_eq!(rt; feed(releases, value), Ok(applied));
-        }
+fn fed(rt: &impl Abort, releases: &mut Releases, value: &[u8], text: &str, applied: Applied) {
+    let before = lengths(releases);
+    let mut answer = feed(releases, value);
+    if answer.is_err() {
+        assert!(rt; lengths(releases) == before);
+        answer = feed(releases, value);
     }
+    is_answered(rt, text, answer, applied);
 }
 
 /// Whether the first release shows the first template.
-fn is_shown(releases: &Releases) -> Result<bool, AnswerFault> {
-    let answer = releases.answer(1, "/")?;
-    Ok(answer.status == 200 && answer.body.as_str() == "v1\n")
-}
-
 fn show(rt: &impl Abort, releases: &Releases) {
-    let is_right = match is_shown(releases) {
-        Ok(is_right) => is_right,
-        Err(fault) => {
-            assert_eq!(rt; fault, AnswerFault::OutOfMemory);
-            is_shown(releases).expect(rt, "a page")
-        }
+    let is_right = match shows(releases, 1, "/", V1) {
+        Err(AnswerFault::OutOfMemory) => shows(releases, 1, "/", V1).expect(rt, "a page"),
+        other => other.expect(rt, "a page"),
     };
     assert!(rt; is_right);
 }
 
-fn feed_and_show(rt: &impl Abort, alloc: Global, releases: &mut Releases) {
+fn feed_each(rt: &impl Abort, alloc: Global, releases: &mut Releases) {
     for &(number, text, applied) in COMMANDS {
         let value = written(rt, alloc, ticket(number), text);
-        fed(rt, releases, value.as_slice(), applied);
+        fed(rt, releases, value.as_slice(), text, applied);
     }
-    assert_eq!(rt; releases.newest(), 2);
-    show(rt, releases);
+}
+
+fn fresh_releases(rt: &impl Abort, alloc: Global) -> Box<Releases> {
+    match new_releases(alloc) {
+        Some(releases) => releases,
+        None => new_releases(alloc).expect(rt, "releases"),
+    }
 }
 
 #[test]
 fn releases(rt: HostRuntime) {
-    feed_and_show(&rt, rt.alloc(), &mut Releases::new(rt.alloc()));
+    let mut releases = fresh_releases(&rt, rt.alloc());
+    feed_each(&rt, rt.alloc(), &mut releases);
+    assert!(rt; releases.newest() == 2);
+    show(&rt, &releases);
 }

@@ -1,23 +1,90 @@
-//! A site, by the values that it takes, and a copy of it. A site is lent to what is told of it: what owns one is proved to let it go at each of its ends.
-use crate::releases::{Row, ticket};
-use command::write;
+//! A site, by the values that it takes, and a copy of it. A site is boxed, since a box is let go of in one step, and lent to what is told of it.
+use crate::rows::{Row, is_answered, value_of};
 use content::{Applied, Site};
 use context::Data;
 use mustache_parse::{Node, Template};
 use std::alloc::Global;
 use std::process::Abort;
 
-/// Takes a command text with that number.
-fn take(rt: &impl Abort, alloc: Global, site: &mut Site, number: u64, text: &str) -> Applied {
-    let value = write(alloc, ticket(number), text.as_bytes()).expect(rt, "memory");
-    site.apply(&value).expect(rt, "memory")
+/// Of no values. None where memory was refused.
+pub(crate) fn new_site(alloc: Global) -> Option<Box<Site>> {
+    Box::new(alloc, Site::new(alloc)).ok()
+}
+
+/// None where memory was refused.
+pub(crate) fn copied(alloc: Global, site: &Site) -> Option<Box<Site>> {
+    Box::new(alloc, site.copy().ok()?).ok()
 }
 
 /// These commands are answered so.
 fn take_all(rt: &impl Abort, alloc: Global, site: &mut Site, rows: &[Row]) {
     for &(number, text, applied) in rows {
-        assert_eq!(rt; take(rt, alloc, site, number, text), applied, "{text}");
+        let value = value_of(rt, alloc, number, text);
+        is_answered(rt, text, site.apply(&value), applied);
     }
+}
+
+#[derive(Clone, Copy)]
+enum Kind {
+    Template,
+    Partial,
+    Data,
+    Route,
+    Redirect,
+}
+
+fn has(site: &Site, kind: Kind, name: &str) -> bool {
+    match kind {
+        Kind::Template => site.template(name).is_some(),
+        Kind::Partial => site.partial(name).is_some(),
+        Kind::Data => site.data(name).is_some(),
+        Kind::Route => site.route(name).is_some(),
+        Kind::Redirect => site.redirect(name).is_some(),
+    }
+}
+
+/// Whether something of a kind has a name.
+type Has = (Kind, &'static str, bool);
+
+fn check_has(rt: &impl Abort, site: &Site, rows: &[Has]) {
+    for &(kind, name, is_there) in rows {
+        assert!(rt; has(site, kind, name) == is_there, "{name}");
+    }
+}
+
+/// These commands are answered so, and leave that.
+fn check_step(rt: &impl Abort, alloc: Global, site: &mut Site, rows: &[Row], left: &[Has]) {
+    take_all(rt, alloc, site, rows);
+    check_has(rt, site, left);
+}
+
+/// The template begins with that text.
+fn prints(template: &Template, first: &str) -> bool {
+    matches!(template.nodes().first(), Some(Node::Text { text, .. }) if text.as_str() == first)
+}
+
+fn has_text(site: &Site, first: &str) -> bool {
+    matches!(site.template("t"), Some(t) if prints(t, first))
+}
+
+const ANSWERS: &[Row] = &[
+    (1, "put template t\na", Applied::Changed),
+    (1, "put template t\nb", Applied::Repeat),
+    (2, "remove data absent\n", Applied::Changed),
+    (3, "put template t\n{{#a}}", Applied::NotACommand),
+    (3, "release\n", Applied::Released),
+];
+
+fn check_answers(rt: &impl Abort, alloc: Global, site: &mut Site) {
+    take_all(rt, alloc, site, ANSWERS);
+    is_answered(rt, "nothing", site.apply(b""), Applied::NotACommand);
+    assert!(rt; has_text(site, "a"));
+}
+
+#[test]
+fn answers_of_values(rt: HostRuntime) {
+    let mut site = new_site(rt.alloc()).expect(&rt, "memory");
+    check_answers(&rt, rt.alloc(), &mut site);
 }
 
 /// Puts what greets.
@@ -33,94 +100,99 @@ const GREETING: &[Row] = &[
     (10, "put redirect /old /new\n", Applied::Changed),
 ];
 
-/// The template begins with that text.
-fn prints(template: &Template, first: &str) -> bool {
-    matches!(template.nodes().first(), Some(Node::Text { text, .. }) if text.as_str() == first)
-}
-
 /// The template ends with that variable.
 fn names(template: &Template, last: &str) -> bool {
     matches!(template.nodes().last(), Some(Node::Variable(name)) if name.as_str() == last)
 }
 
-const ANSWERS: &[Row] = &[
-    (1, "put template t\na", Applied::Changed),
-    (1, "put template t\nb", Applied::Repeat),
-    (2, "remove data absent\n", Applied::Changed),
-    (3, "put template t\n{{#a}}", Applied::NotACommand),
-    (3, "release\n", Applied::Released),
-];
-
-fn check_answers(rt: &impl Abort, alloc: Global, site: &mut Site) {
-    take_all(rt, alloc, site, ANSWERS);
-    assert_eq!(rt; site.apply(b""), Ok(Applied::NotACommand));
-    assert!(rt; matches!(site.template("t"), Some(t) if prints(t, "a")));
+fn has_name(site: &Site, last: &str) -> bool {
+    matches!(site.partial("t"), Some(t) if names(t, last))
 }
 
-#[test]
-fn answers_of_values(rt: HostRuntime) {
-    check_answers(&rt, rt.alloc(), &mut Site::new(rt.alloc()));
+fn has_two(data: Option<&Data>) -> bool {
+    matches!(data, Some(Data::Hash(members)) if members.len() == 2)
 }
 
 /// Three data, the last of them with two members.
-fn check_data(rt: &impl Abort, data: Option<&Data>) {
-    let Some(Data::List(items)) = data else {
-        panic!(rt; "no list");
-    };
-    assert_eq!(rt; items.len(), 3);
-    assert!(rt; matches!(items.last(), Some(Data::Hash(members)) if members.len() == 2));
+fn has_three(data: Option<&Data>) -> bool {
+    matches!(data, Some(Data::List(items)) if items.len() == 3 && has_two(items.last()))
+}
+
+fn is_routed(site: &Site) -> bool {
+    matches!(site.route("/"), Some(("t", "d")))
+}
+
+fn leads(site: &Site, to: &str) -> bool {
+    site.redirect("/old") == Some(to)
 }
 
 fn check_greeting(rt: &impl Abort, site: &Site) {
-    assert!(rt; matches!(site.template("t"), Some(t) if prints(t, "Hello, ")));
-    assert!(rt; matches!(site.partial("t"), Some(t) if names(t, "x")));
-    assert!(rt; matches!(site.route("/"), Some((t, d)) if t == "t" && d == "d"));
-    assert_eq!(rt; site.redirect("/old"), Some("/new"));
-    check_data(rt, site.data("d"));
+    assert!(rt; has_text(site, "Hello, "));
+    assert!(rt; has_name(site, "x"));
+    assert!(rt; is_routed(site));
+    assert!(rt; leads(site, "/new"));
+    assert!(rt; has_three(site.data("d")));
 }
 
 /// Names of one kind are none of another.
-fn check_kinds(rt: &impl Abort, site: &Site) {
-    assert!(rt; site.template("d").is_none() && site.data("t").is_none());
-    assert!(rt; site.route("t").is_none());
-}
+const OTHER_KINDS: &[Has] = &[
+    (Kind::Template, "d", false),
+    (Kind::Data, "t", false),
+    (Kind::Route, "t", false),
+];
 
-fn remove_template(rt: &impl Abort, alloc: Global, site: &mut Site) {
-    let _ = take(rt, alloc, site, 5, "remove template t\n");
-    assert!(rt; site.template("t").is_none() && site.partial("t").is_some());
-}
+/// Commands one behind another, and what each leaves.
+const REMOVALS: &[(Row, &[Has])] = &[
+    (
+        (5, "remove template t\n", Applied::Changed),
+        &[(Kind::Template, "t", false), (Kind::Partial, "t", true)],
+    ),
+    (
+        (6, "remove route /\n", Applied::Changed),
+        &[
+            (Kind::Route, "/", false),
+            (Kind::Redirect, "/", false),
+            (Kind::Route, "/old", false),
+        ],
+    ),
+    (
+        (7, "remove route /old\n", Applied::Changed),
+        &[(Kind::Redirect, "/old", true)],
+    ),
+];
 
-fn remove_route(rt: &impl Abort, alloc: Global, site: &mut Site) {
-    let _ = take(rt, alloc, site, 6, "remove route /\n");
-    assert!(rt; site.route("/").is_none());
-    assert!(rt; site.redirect("/").is_none() && site.route("/old").is_none());
-}
+const REDIRECTED: &[Row] = &[(8, "put redirect /old /\u{e9}?x\n", Applied::Changed)];
 
-fn put_redirect(rt: &impl Abort, alloc: Global, site: &mut Site) {
-    let _ = take(rt, alloc, site, 7, "remove route /old\n");
-    let _ = take(rt, alloc, site, 8, "put redirect /old /\u{e9}?x\n");
-    assert_eq!(rt; site.redirect("/old"), Some("/\u{e9}?x"));
-}
+const UNREDIRECTED: &[Row] = &[(9, "remove redirect /old\n", Applied::Changed)];
 
-fn remove_redirect(rt: &impl Abort, alloc: Global, site: &mut Site) {
-    let _ = take(rt, alloc, site, 9, "remove redirect /old\n");
-    assert!(rt; site.redirect("/old").is_none());
+fn check_removals(rt: &impl Abort, alloc: Global, site: &mut Site) {
+    for &(row, left) in REMOVALS {
+        check_step(rt, alloc, site, &[row], left);
+    }
 }
 
 fn check_contents(rt: &impl Abort, alloc: Global, site: &mut Site) {
-    take_all(rt, alloc, site, GREETING);
+    check_step(rt, alloc, site, GREETING, OTHER_KINDS);
     check_greeting(rt, site);
-    check_kinds(rt, site);
-    remove_template(rt, alloc, site);
-    remove_route(rt, alloc, site);
-    put_redirect(rt, alloc, site);
-    remove_redirect(rt, alloc, site);
+    check_removals(rt, alloc, site);
+    take_all(rt, alloc, site, REDIRECTED);
+    assert!(rt; leads(site, "/\u{e9}?x"));
+    check_step(
+        rt,
+        alloc,
+        site,
+        UNREDIRECTED,
+        &[(Kind::Redirect, "/old", false)],
+    );
 }
 
 #[test]
 fn contents_by_name(rt: HostRuntime) {
-    check_contents(&rt, rt.alloc(), &mut Site::new(rt.alloc()));
+    let mut site = new_site(rt.alloc()).expect(&rt, "memory");
+    check_contents(&rt, rt.alloc(), &mut site);
 }
+
+const OF_SITE: &[Row] = &[(5, "remove template t\n", Applied::Changed)];
 
 /// A copy takes its own commands.
 const OF_COPY: &[Row] = &[
@@ -129,23 +201,26 @@ const OF_COPY: &[Row] = &[
     (6, "remove redirect /old\n", Applied::Changed),
 ];
 
-fn change_copy(rt: &impl Abort, alloc: Global, copy: &mut Site) {
-    check_greeting(rt, copy);
-    take_all(rt, alloc, copy, OF_COPY);
-    assert!(rt; copy.data("d").is_none() && copy.redirect("/old").is_none());
-}
+const LEFT_IN_SITE: &[Has] = &[
+    (Kind::Data, "d", true),
+    (Kind::Redirect, "/old", true),
+    (Kind::Template, "t", false),
+];
+
+const LEFT_IN_COPY: &[Has] = &[(Kind::Data, "d", false), (Kind::Redirect, "/old", false)];
 
 /// Either of two takes its own commands.
-fn check_copy(rt: &impl Abort, alloc: Global, site: &mut Site) {
-    take_all(rt, alloc, site, GREETING);
-    let mut copy = site.copy().expect(rt, "memory");
-    let _ = take(rt, alloc, site, 5, "remove template t\n");
-    change_copy(rt, alloc, &mut copy);
-    assert!(rt; site.data("d").is_some() && site.redirect("/old").is_some());
-    assert!(rt; site.template("t").is_none());
+fn check_copy(rt: &impl Abort, alloc: Global, site: &mut Site, copy: &mut Site) {
+    take_all(rt, alloc, site, OF_SITE);
+    check_greeting(rt, copy);
+    check_step(rt, alloc, copy, OF_COPY, LEFT_IN_COPY);
+    check_has(rt, site, LEFT_IN_SITE);
 }
 
 #[test]
 fn a_copy_is_its_own(rt: HostRuntime) {
-    check_copy(&rt, rt.alloc(), &mut Site::new(rt.alloc()));
+    let mut site = new_site(rt.alloc()).expect(&rt, "memory");
+    take_all(&rt, rt.alloc(), &mut site, GREETING);
+    let mut copy = copied(rt.alloc(), &site).expect(&rt, "memory");
+    check_copy(&rt, rt.alloc(), &mut site, &mut copy);
 }
