@@ -518,7 +518,8 @@ static const char *datagrams(void) {
 /* ---- record files */
 
 static const char *records(void) {
-    static const char *const lines[] = {"record: 1 Device\n", "record: 3 NotARecord\n", "record: 4 WrongNode\n", "record: 6 Damaged\n"};
+    /* the last where a spoiled round is the greatest, and the lap lasts for longer than the patience */
+    static const char *const lines[] = {"record: 1 Device\n", "record: 3 NotARecord\n", "record: 4 WrongNode\n", "record: 6 Damaged\n", "node: 7 RoundsUsedUp\n"};
     char name[4096];
     snprintf(name, sizeof name, "%s/record.spoiled", folder);
     char *const words[] = {(char *)sited, "--id", "1", "--record", name, "--http", "127.0.0.1:0", "--rounds", "1", "127.0.0.1:0", "127.0.0.1:9", "127.0.0.1:9", 0};
