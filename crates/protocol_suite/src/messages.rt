@@ -81,11 +81,15 @@ fn bytes_of(rt: &impl Abort, alloc: Global, text: &str) -> Vec<u8> {
     hex::decode(alloc, text).expect(rt, "bytes")
 }
 
+/// Whether a message fits and was written.
+pub(crate) fn is_written(message: &Message, out: &mut Vec<u8>) -> bool {
+    message.fits() && encode(message, out).is_ok()
+}
+
 /// A message is written as these bytes, behind those that stand before it.
 fn spells(rt: &impl Abort, alloc: Global, message: &Message, bytes: &[u8], text: &str) {
-    assert!(rt; message.fits());
     let mut out = b"before".to_vec(alloc).expect(rt, "memory");
-    encode(message, &mut out).expect(rt, "memory");
+    assert!(rt; is_written(message, &mut out));
     assert_eq!(rt; out.strip_prefix(b"before"), Some(bytes), "{text}");
 }
 
@@ -155,9 +159,8 @@ fn a_prepare_by_its_fields(rt: HostRuntime) {
 }
 
 fn check_longest(rt: &impl Abort, alloc: Global, message: &Message) {
-    assert!(rt; message.fits());
     let mut out = Vec::new(alloc);
-    encode(message, &mut out).expect(rt, "memory");
+    assert!(rt; is_written(message, &mut out));
     assert_eq!(rt; out.len(), MAX_MESSAGE);
     assert!(rt; decoded(rt, alloc, &out).is_ok());
 }
@@ -199,38 +202,35 @@ fn slot(rt: &impl Abort, alloc: Global, promised: Ballot, voted: Ballot) -> Slot
     }
 }
 
+fn prepare(rt: &impl Abort, slot: &Slot, at: Ballot, verdict: PrepareVerdict) {
+    assert_eq!(rt; judge_prepare(slot, at), verdict);
+}
+
+fn propose(rt: &impl Abort, slot: &Slot, at: Ballot, value: &[u8], verdict: ProposeVerdict) {
+    assert_eq!(rt; judge_propose(slot, at, value), verdict);
+}
+
 fn check_prepares(rt: &impl Abort, slot: &Slot) {
     let own = ballot(rt, 2, 1);
-    for (round, number, verdict) in [
-        (2, 2, PrepareVerdict::Promise),
-        (2, 1, PrepareVerdict::Again),
-        (1, 9, PrepareVerdict::Nack(own)),
-    ] {
-        assert_eq!(rt; judge_prepare(slot, ballot(rt, round, number)), verdict);
-    }
+    prepare(rt, slot, ballot(rt, 2, 2), PrepareVerdict::Promise);
+    prepare(rt, slot, own, PrepareVerdict::Again);
+    prepare(rt, slot, ballot(rt, 1, 9), PrepareVerdict::Nack(own));
 }
 
 /// Of a slot that voted at the ballot that it promised.
 fn check_voted(rt: &impl Abort, slot: &Slot) {
     let own = ballot(rt, 2, 1);
-    assert_eq!(rt; judge_prepare(slot, own), PrepareVerdict::Silent);
-    for (round, number, value, verdict) in [
-        (2, 1, b"v", ProposeVerdict::Again),
-        (2, 1, b"w", ProposeVerdict::Silent),
-        (2, 3, b"w", ProposeVerdict::Vote),
-        (1, 9, b"v", ProposeVerdict::Nack(own)),
-    ] {
-        assert_eq!(rt;
-            judge_propose(slot, ballot(rt, round, number), value),
-            verdict
-        );
-    }
+    prepare(rt, slot, own, PrepareVerdict::Silent);
+    propose(rt, slot, own, b"v", ProposeVerdict::Again);
+    propose(rt, slot, own, b"w", ProposeVerdict::Silent);
+    propose(rt, slot, ballot(rt, 2, 3), b"w", ProposeVerdict::Vote);
+    propose(rt, slot, ballot(rt, 1, 9), b"v", ProposeVerdict::Nack(own));
 }
 
 fn check_empty(rt: &impl Abort, slot: &Slot) {
     let first = ballot(rt, 1, 1);
-    assert_eq!(rt; judge_prepare(slot, first), PrepareVerdict::Promise);
-    assert_eq!(rt; judge_propose(slot, first, b""), ProposeVerdict::Vote);
+    prepare(rt, slot, first, PrepareVerdict::Promise);
+    propose(rt, slot, first, b"", ProposeVerdict::Vote);
 }
 
 #[test]
@@ -253,10 +253,12 @@ fn check_cluster(rt: &impl Abort, size: u8, quorum: u8) {
     assert!(rt; cluster.node(10).is_none());
 }
 
+/// Of one node, of two, and so on.
+const QUORUMS: &[u8] = &[1, 2, 2, 3, 3, 4, 4, 5, 5];
+
 #[test]
 fn clusters_and_their_majorities(rt: HostRuntime) {
-    let quorums: [u8; 9] = [1, 2, 2, 3, 3, 4, 4, 5, 5];
-    for (size, quorum) in (1..=9).zip(quorums) {
+    for (size, &quorum) in (1..=9).zip(QUORUMS) {
         check_cluster(&rt, size, quorum);
     }
     assert!(rt; Cluster::new(0).is_none() && Cluster::new(10).is_none());

@@ -1,12 +1,14 @@
 //! Batches: all of one stands or none of it, whichever call of its seal fails and whatever a crash chooses; their bytes are those of single puts.
+use crate::disks::{is_long, reads};
 use crate::listed::{RECORD, SPANNED, entries};
 use crate::samples::{
-    ballot, disk_of, empty, formatted, instance, one_of_three, opened, put_promise, put_round,
-    put_span, put_vote_for,
+    arm, ballot, disk_of, empty, formatted, instance, is_promised, one_of_three, opened,
+    put_promise, put_round, put_span, put_vote_for,
 };
 use durable::{Record, RecordFault};
 use record_meaning::standing::stands_for;
 use site_disk::{Armed, Call, Disk, FailOnce, MemDisk};
+use site_ids::Ballot;
 use std::alloc::Global;
 use std::process::Abort;
 
@@ -111,19 +113,45 @@ fn act<D: Disk>(
     }
 }
 
+/// A step comes to that.
+fn comes_to<D: Disk>(
+    rt: &impl Abort,
+    alloc: Global,
+    record: &mut Record<D>,
+    step: Step,
+    wanted: Result<(), RecordFault>,
+) {
+    assert_eq!(rt; act(rt, alloc, record, step), wanted, "{step:?}");
+}
+
 fn take<D: Disk>(rt: &impl Abort, alloc: Global, record: &mut Record<D>, steps: &[Step]) {
     for &one in steps {
-        assert_eq!(rt; act(rt, alloc, record, one), Ok(()), "{one:?}");
+        comes_to(rt, alloc, record, one, Ok(()));
     }
+}
+
+/// The record tells these rounds, and this of instance 1.
+fn tells_so<D: Disk>(
+    rt: &impl Abort,
+    record: &Record<D>,
+    round: u32,
+    greatest: u32,
+    promised: Option<Ballot>,
+    voted: bool,
+) {
+    assert_eq!(rt; record.round(), round);
+    assert_eq!(rt; record.greatest_round(), greatest);
+    assert_eq!(rt; record.slot(instance(rt, 1)).vote.is_some(), voted);
+    is_promised(rt, record, promised);
 }
 
 /// The record tells the three entries, or none of them.
 fn tells<D: Disk>(rt: &impl Abort, record: &Record<D>, all: bool) {
-    let promised = if all { Some(ballot(rt, 2)) } else { None };
-    assert_eq!(rt; record.round(), u32::from(all));
-    assert_eq!(rt; record.greatest_round(), if all { 2 } else { 0 });
-    assert_eq!(rt; record.slot(instance(rt, 1)).promised, promised);
-    assert_eq!(rt; record.slot(instance(rt, 1)).vote.is_some(), all);
+    if all {
+        tells_so(rt, record, 1, 2, Some(ballot(rt, 2)), true);
+    } else {
+        tells_so(rt, record, 0, 0, None, false);
+    }
 }
 
 /// A batch of three, whose seal ends so.
@@ -135,7 +163,7 @@ fn seal_three<D: Disk>(
 ) {
     take(rt, alloc, record, THREE);
     tells(rt, record, true);
-    assert_eq!(rt; record.seal(), sealed);
+    comes_to(rt, alloc, record, Step::Seal, sealed);
     tells(rt, record, true);
 }
 
@@ -143,15 +171,14 @@ fn seal_three<D: Disk>(
 fn is_over<D: Disk>(rt: &impl Abort, alloc: Global, record: &mut Record<D>) {
     assert!(rt; record.is_stopped());
     for &one in REFUSED {
-        let taken = act(rt, alloc, record, one);
-        assert_eq!(rt; taken, Err(RecordFault::Stopped), "{one:?}");
+        comes_to(rt, alloc, record, one, Err(RecordFault::Stopped));
     }
 }
 
 /// A batch of three, of which so many calls of the disk pass.
 fn seal_armed<D: Armed>(rt: &impl Abort, alloc: Global, record: &mut Record<D>, calls: u32) {
     take(rt, alloc, record, &[Step::Begin]);
-    record.arm(calls);
+    arm(record, calls);
     if calls < 4 {
         seal_three(rt, alloc, record, Err(RecordFault::Device));
         is_over(rt, alloc, record);
@@ -169,7 +196,7 @@ fn crash(rt: &impl Abort, alloc: Global, row: (u32, Option<u8>, u64, bool)) {
         Some(choice) => disk.crash(choice),
         None => disk.disarm(),
     }
-    assert_eq!(rt; disk.len(), Ok(length), "{row:?}");
+    assert!(rt; is_long(&mut disk, length), "{row:?}");
     tells(rt, &opened(rt, alloc, disk), all);
 }
 
@@ -214,15 +241,18 @@ fn a_batch_that_is_not_sealed_is_lost(rt: HostRuntime) {
     take(&rt, rt.alloc(), &mut record, &[Step::Begin]);
     take(&rt, rt.alloc(), &mut record, THREE);
     let mut disk = record.close();
-    assert_eq!(rt; disk.len(), Ok(11));
+    assert!(rt; is_long(&mut disk, 11));
     tells(&rt, &opened(&rt, rt.alloc(), disk), false);
 }
 
-fn writes_and_syncs(disk: &MemDisk) -> usize {
-    disk.calls()
-        .iter()
-        .filter(|call| matches!(call, Call::Write { .. } | Call::Sync))
-        .count()
+fn writes_and_syncs(calls: &[Call]) -> usize {
+    let mut count: usize = 0;
+    for call in calls {
+        if matches!(call, Call::Write { .. } | Call::Sync) {
+            count = count.saturating_add(1);
+        }
+    }
+    count
 }
 
 /// The disk of an empty record behind these steps.
@@ -234,11 +264,11 @@ fn disk_behind(rt: &impl Abort, alloc: Global, steps: &[Step]) -> MemDisk {
 
 /// The disk holds these bytes, behind so many writes and syncs, an opening's among them.
 fn holds<const N: usize>(rt: &impl Abort, disk: &mut MemDisk, wanted: [u8; N], calls: usize) {
-    assert_eq!(rt; writes_and_syncs(disk), calls);
+    assert_eq!(rt; writes_and_syncs(disk.calls()), calls);
     let mut bytes = [0; N];
-    disk.read_at(0, &mut bytes).expect(rt, "a read");
+    assert!(rt; reads(disk, 0, &mut bytes));
     assert_eq!(rt; bytes, wanted);
-    assert_eq!(rt; disk.len(), Ok(N as u64));
+    assert!(rt; is_long(disk, N as u64));
 }
 
 const SPAN_BATCH: &[Step] = &[Step::Begin, Step::Span(5, 3, 1), Step::Seal];
@@ -258,7 +288,7 @@ fn batches_and_puts_write_the_same_bytes(rt: HostRuntime) {
         5,
     );
     assert_eq!(rt;
-        writes_and_syncs(&disk_behind(&rt, rt.alloc(), EMPTY_BATCH)),
+        writes_and_syncs(disk_behind(&rt, rt.alloc(), EMPTY_BATCH).calls()),
         1
     );
 }
@@ -271,7 +301,7 @@ fn a_batch_stands_for_its_entries(rt: HostRuntime) {
     let (cluster, node) = one_of_three(&rt, 2);
     let mut disk = disk_behind(&rt, rt.alloc(), IN_ONE_BATCH);
     let mut bytes = [0; 53];
-    disk.read_at(0, &mut bytes).expect(&rt, "a read");
+    assert!(rt; reads(&mut disk, 0, &mut bytes));
     let entries = entries(&rt, rt.alloc());
     let stands = stands_for(rt.alloc(), cluster, node, &bytes, &entries);
     assert_eq!(rt; stands, Ok(true));
@@ -293,9 +323,6 @@ fn a_stored_record_goes_on(rt: HostRuntime) {
     let record = opened(&rt, rt.alloc(), record.close());
     assert_eq!(rt; record.round(), 5);
     assert_eq!(rt; record.greatest_round(), 6);
-    assert_eq!(rt;
-        record.slot(instance(&rt, 1)).promised,
-        Some(ballot(&rt, 6))
-    );
+    is_promised(&rt, &record, Some(ballot(&rt, 6)));
     assert!(rt; record.slot(instance(&rt, 2)).vote.is_some());
 }

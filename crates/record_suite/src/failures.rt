@@ -1,7 +1,9 @@
 //! One call of a disk fails, and those behind it pass.
 use crate::crashes::holds;
+use crate::disks::{is_long, reads, syncs, writes};
 use crate::samples::{
-    ONE_PROMISE, ballot, disk_of, formatted, instance, one_of_three, opened, put_round,
+    ONE_PROMISE, arm, ballot, disk_of, ends, formatted, is_promised, one_of_three, opened,
+    put_round,
 };
 use durable::{Record, RecordFault};
 use site_disk::{Armed, Disk, FailOnce, MemDisk};
@@ -16,10 +18,10 @@ const CHOICES: &[u8] = &[0, 1, 7];
 
 /// A put whose call fails so, and one that is Stopped.
 fn fail_put(rt: &impl Abort, record: &mut Record<FailOnce<MemDisk>>, calls: u32) {
-    record.arm(calls);
-    assert_eq!(rt; put_round(record, 1), Err(RecordFault::Device));
+    arm(record, calls);
+    ends(rt, put_round(record, 1), Err(RecordFault::Device));
     assert!(rt; record.is_stopped());
-    assert_eq!(rt; put_round(record, 1), Err(RecordFault::Stopped));
+    ends(rt, put_round(record, 1), Err(RecordFault::Stopped));
 }
 
 /// The disk behind such a put.
@@ -52,20 +54,20 @@ fn an_opening_settles_the_entry_in_flight(rt: HostRuntime) {
 /// A call that failed did nothing, and the one behind it is as ever. A call that the disk under it fails counts too.
 fn check_calls(rt: &impl Abort, disk: &mut FailOnce<MemDisk>) {
     disk.arm(1);
-    assert_eq!(rt; disk.len(), Ok(3));
-    assert!(rt; disk.write_at(0, b"xy").is_err());
+    assert!(rt; is_long(disk, 3));
+    assert!(rt; !writes(disk, 0, b"xy"));
     let mut bytes = [0; 3];
     disk.arm(0);
-    assert!(rt; disk.read_at(0, &mut bytes).is_err());
+    assert!(rt; !reads(disk, 0, &mut bytes));
     assert_eq!(rt; bytes, [0; 3]);
     holds(rt, disk, *b"abc");
 }
 
 fn check_further_calls(rt: &impl Abort, disk: &mut FailOnce<MemDisk>) {
-    disk.write_at(1, b"z").expect(rt, "a write");
+    assert!(rt; writes(disk, 1, b"z"));
     disk.arm(0);
-    assert!(rt; disk.sync().is_err());
-    assert!(rt; disk.read_at(9, &mut [0; 3]).is_err());
+    assert!(rt; !syncs(disk));
+    assert!(rt; !reads(disk, 9, &mut [0; 3]));
     assert_eq!(rt; disk.failures(), 4);
 }
 
@@ -96,7 +98,7 @@ fn failed_opening(rt: &impl Abort, alloc: Global, calls: u32) -> FailOnce<MemDis
 
 fn opens(rt: &impl Abort, alloc: Global, disk: FailOnce<MemDisk>) {
     let record = opened(rt, alloc, disk);
-    assert_eq!(rt; record.slot(instance(rt, 1)).promised, Some(ballot(rt, 1)));
+    is_promised(rt, &record, Some(ballot(rt, 1)));
 }
 
 /// Each call of an opening fails in turn, and gives the disk back: it opens then.

@@ -1,10 +1,13 @@
 //! A record on a real file. `tools/audit/trace-put` shows the system's calls of these tests.
-use crate::samples::{ONE_ROUND, ballot, instance, one_of_three, opened, put_round, put_vote_for};
+use crate::disks::{reads, syncs, writes};
+use crate::samples::{
+    ONE_ROUND, ballot, ends, instance, one_of_three, opened, put_round, put_vote_for,
+};
 use durable::Record;
 use site_disk::{Disk, FileDisk};
 use std::alloc::Global;
 use std::fs::{self, File, OpenOptions};
-use std::io::ErrorKind;
+use std::io::{Error, ErrorKind};
 use std::os::unix::fs::FileExt;
 use std::process::Abort;
 
@@ -20,30 +23,39 @@ const EBADF: i32 = 9;
 /// How many votes the batch has.
 const VOTES: u32 = 64;
 
+fn fills(file: &File, bytes: &mut [u8]) -> bool {
+    file.read_exact_at(bytes, 0).is_ok()
+}
+
 /// The bytes of the file are these, as this handle reads them.
 fn has_bytes(rt: &impl Abort, file: &File, wanted: [u8; 21]) {
     let mut bytes = [0; 21];
-    file.read_exact_at(&mut bytes, 0).expect(rt, "21 bytes");
+    assert!(rt; fills(file, &mut bytes));
     assert_eq!(rt; bytes, wanted);
+}
+
+fn kind_of(failure: Option<Error>) -> Option<ErrorKind> {
+    match failure {
+        Some(error) => Some(error.kind()),
+        None => None,
+    }
 }
 
 /// A read past the end fails, and no call did before; what the system said of it stays when calls succeed again.
 fn check_disk(rt: &impl Abort, disk: &mut FileDisk) {
     assert_eq!(rt; disk.failures(), 0);
     assert!(rt; disk.last_failure().is_none());
-    assert!(rt; disk.read_at(0, &mut [0; 22]).is_err());
+    assert!(rt; !reads(disk, 0, &mut [0; 22]));
     assert_eq!(rt; disk.failures(), 1);
-    assert!(rt; disk.sync().is_ok());
-    assert_eq!(rt;
-        disk.last_failure().map(|e| e.kind()),
-        Some(ErrorKind::UnexpectedEof)
-    );
+    assert!(rt; syncs(disk));
+    let kind = kind_of(disk.last_failure());
+    assert_eq!(rt; kind, Some(ErrorKind::UnexpectedEof));
 }
 
 /// A disk whose file is open for reading alone refuses each write, and keeps why.
 fn check_read_only(rt: &impl Abort, file: File) {
     let mut disk = FileDisk::new(file);
-    assert!(rt; disk.write_at(0, b"x").is_err());
+    assert!(rt; !writes(&mut disk, 0, b"x"));
     let error = disk.last_failure().expect(rt, "an error");
     assert_eq!(rt; error.raw_os_error(), Some(EBADF));
 }
@@ -59,7 +71,7 @@ fn made(rt: &impl Abort, alloc: Global, file: File) -> Record<FileDisk> {
 /// A record on a new file takes a round, and the reader finds it while the record is open.
 fn keep_round(rt: &impl Abort, alloc: Global, file: File, reader: &File) {
     let mut record = made(rt, alloc, file);
-    assert_eq!(rt; put_round(&mut record, 1), Ok(()));
+    ends(rt, put_round(&mut record, 1), Ok(()));
     has_bytes(rt, reader, ONE_ROUND);
 }
 
@@ -95,15 +107,16 @@ fn a_real_file_keeps_the_record(rt: HostRuntime) {
 /// A record on a new file takes a vote at each of so many instances, all in one batch.
 fn keep_votes(rt: &impl Abort, alloc: Global, file: File) {
     let mut record = made(rt, alloc, file);
-    assert_eq!(rt; record.begin(), Ok(()));
+    ends(rt, record.begin(), Ok(()));
     for at in 1..=VOTES {
         let vote = (instance(rt, at), ballot(rt, 1));
-        assert_eq!(rt;
+        ends(
+            rt,
             put_vote_for(rt, alloc, &mut record, vote, b"value"),
-            Ok(())
+            Ok(()),
         );
     }
-    assert_eq!(rt; record.seal(), Ok(()));
+    ends(rt, record.seal(), Ok(()));
 }
 
 fn find_votes(rt: &impl Abort, alloc: Global, file: File) {

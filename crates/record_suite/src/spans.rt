@@ -1,11 +1,12 @@
 //! The promise of a span on record.
+use crate::disks::{is_long, reads};
 use crate::listed::SPANNED;
 use crate::samples::{
-    ballot, empty, instance, opened, put_promise, put_span, put_vote_for, refusal,
+    arm, ballot, empty, ends, instance, opened, put_promise, put_span, put_vote_for, refusal,
 };
 use acceptor::Slot;
 use durable::{Record, RecordFault};
-use site_disk::{Armed, Disk, MemDisk};
+use site_disk::MemDisk;
 use site_ids::MAX_INSTANCE;
 use std::alloc::{AllocError, Global};
 use std::process::Abort;
@@ -130,9 +131,9 @@ fn play(rt: &impl Abort, alloc: Global, before: &[Step], behind: &[Step]) {
 fn is_spanned(rt: &impl Abort, disk: &mut MemDisk) {
     assert_eq!(rt; disk.calls().len(), 8);
     let mut bytes = [0; 27];
-    disk.read_at(0, &mut bytes).expect(rt, "a read");
+    assert!(rt; reads(disk, 0, &mut bytes));
     assert_eq!(rt; bytes, SPANNED);
-    assert_eq!(rt; disk.len(), Ok(27));
+    assert!(rt; is_long(disk, 27));
 }
 
 const ONE_SPAN: &[Step] = &[Step::Span(5, 3, 1), Step::Promised(4, &[0, 1, 1, 1, 0])];
@@ -205,13 +206,13 @@ fn spans_of_sixty_four_up_to_the_last_instance(rt: HostRuntime) {
 
 /// A put of the span whose disk fails after so many calls, if it makes so many.
 fn put_armed(rt: &impl Abort, record: &mut Record<MemDisk>, calls: u32) {
-    record.arm(calls);
+    arm(record, calls);
     let put = put_span(record, instance(rt, 5), 3, ballot(rt, 1));
     if calls < 4 {
-        assert_eq!(rt; put, Err(RecordFault::Device));
+        ends(rt, put, Err(RecordFault::Device));
         promises(rt, record, 4, &[0, 0, 0, 0, 0]);
     } else {
-        assert_eq!(rt; put, Ok(()));
+        ends(rt, put, Ok(()));
     }
 }
 
@@ -221,7 +222,7 @@ fn crash(rt: &impl Abort, alloc: Global, row: (u32, u8, u64, bool)) {
     put_armed(rt, &mut record, calls);
     let mut disk = record.close();
     disk.crash(choice);
-    assert_eq!(rt; disk.len(), Ok(length), "{calls} {choice}");
+    assert!(rt; is_long(&mut disk, length), "{calls} {choice}");
     let round = u32::from(kept);
     let record = opened(rt, alloc, disk);
     promises(rt, &record, 4, &[0, round, round, round, 0]);
