@@ -1,5 +1,6 @@
 pub mod Slashes
 pub mod OneResource
+pub mod Fronts
 pub mod Elsewhere
 pub mod Answering
 pub mod Connecting

@@ -15,7 +15,7 @@ one_front a b s t small fits e =
     let right = number_before (decimal a ++ 47 ∷ s) s a (length (decimal a)) small refl (slash_there (decimal a) s) first in
     (decimal_injective a b small fits (sym right.0 ∙ left.0), sym right.1 ∙ left.1)
 
-one_ticket : (word path : List ℕ) (t u : Ticket) → IsTicketPath word path t → IsTicketPath word path u → t ≡ u
+pub one_ticket : (word path : List ℕ) (t u : Ticket) → IsTicketPath word path t → IsTicketPath word path u → t ≡ u
 one_ticket word path t u (small, fits, is) (small_too, fits_too, it) =
     let parts = one_front t.editor u.editor (decimal t.number) (decimal u.number) (omega (arith, small)) (omega (arith, small_too))
     (append_cancel_left word (decimal t.editor ++ 47 ∷ decimal t.number) (decimal u.editor ++ 47 ∷ decimal u.number) (sym is ∙ it)) in

@@ -11,4 +11,5 @@ pub mod Laws
 pub mod Fixed
 pub mod Talks
 pub mod Lines
+pub mod Fronts
 pub mod LineTalks

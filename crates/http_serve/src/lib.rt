@@ -6,6 +6,7 @@
 
 mod fault;
 mod fixed;
+mod front;
 mod heard;
 mod laws;
 mod line;

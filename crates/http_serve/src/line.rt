@@ -2,12 +2,14 @@
 //!
 //! Where memory was refused it is over, an earlier response whole; a status of 400 closes it whoever shows it.
 
-ghost use Rattle.std.specs.Prelude.{◌≡◌, ◌⊎◌, ◌<◌, ℕ, List, length, true, false, IfOk, OnErr, IsTrue, IsFalse, ◌↔◌};
+ghost use Rattle.std.specs.Prelude.{◌≡◌, ◌⊎◌, ◌<◌, ℕ, List, length, true, false, IfOk, OnErr, IsTrue, IsFalse, ◌↔◌, MatchOption};
 ghost use Rattle.http_read.specs.Bytes.{end_of};
+ghost use Rattle.http_serve.specs.Fronts.{AsksReceipt};
 ghost use Rattle.http_serve.specs.declared.messages.TheConstants.{REQUESTS};
 ghost use Rattle.http_serve.specs.Lines.{owed, is_going, IsNew, MayHear, MayAnswer, IsIdle, IsOver, failed_line, with_response, waiting, Hears, Tells, IsAnswered, Waits, GivesUp, answered as answered_of};
 ghost use Rattle.http_serve.specs.Services.{MaySubmit};
 
+use crate::front::receipt_asked;
 use crate::heard::{Heard, Told};
 use crate::messages::{REQUESTS, next_response};
 use crate::outbox::Outbox;
@@ -15,6 +17,7 @@ use crate::replies::Message;
 use crate::service::Service;
 use http_read::{Counted, Inbox, Progress};
 use httparse::spans::HeaderSpan;
+use site_ids::Ticket;
 use std::alloc::{AllocError, Global};
 use std::io;
 use std::io::{ErrorKind, Read, Write};
@@ -109,6 +112,17 @@ impl Line {
         ensures { IsTrue result ↔ MayAnswer self.now }
     {
         self.state.is_going() && self.outbox.is_empty() && self.answered < REQUESTS
+    }
+
+    /// The ticket whose receipt the next request asks for, where that may be answered now. Its first bytes tell, and none of them is used: so a server can
+    /// leave the request until the receipt is there. A path that is percent-encoded is not seen.
+    pub fn asks_receipt(&self) -> Option<Ticket>
+        ensures { MatchOption result ((ticket : Ticket) → ¬ (AsksReceipt self.now ticket)) (AsksReceipt self.now) }
+    {
+        if !self.may_answer() || self.progress.awaits().is_some() {
+            return None;
+        }
+        receipt_asked(self.inbox.held())
     }
 
     /// Answers the next request, if a whole one is there and the response before it is written whole: whether it did.

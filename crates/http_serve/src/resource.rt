@@ -17,13 +17,13 @@ pub(crate) enum Resource<'a> {
     Page,
 }
 
-/// Where the first slash stands.
-fn first_slash(bytes: &[u8]) -> Option<usize>
-    ensures { MatchOption result ((k : ℕ) → k < length bytes.now → slice_index bytes.now k ≢ 47)
-        (λ at. (at < length bytes.now) × (slice_index bytes.now at ≡ 47) × ((k : ℕ) → k < at → slice_index bytes.now k ≢ 47)) }
+/// Where the byte stands first.
+pub(crate) fn first_of(byte: u8, bytes: &[u8]) -> Option<usize>
+    ensures { MatchOption result ((k : ℕ) → k < length bytes.now → slice_index bytes.now k ≢ byte)
+        (λ at. (at < length bytes.now) × (slice_index bytes.now at ≡ byte) × ((k : ℕ) → k < at → slice_index bytes.now k ≢ byte)) }
 {
     for i in 0..bytes.len() {
-        if bytes[i] == b'/' {
+        if bytes[i] == byte {
             return Some(i);
         }
     }
@@ -31,19 +31,19 @@ fn first_slash(bytes: &[u8]) -> Option<usize>
 }
 
 /// What follows the prefix.
-fn after<'a>(bytes: &'a [u8], prefix: &[u8]) -> Option<&'a [u8]>
+pub(crate) fn after<'a>(bytes: &'a [u8], prefix: &[u8]) -> Option<&'a [u8]>
     ensures { MatchOption result ((rest : List ℕ) → bytes.now ≢ prefix.now ++ rest) (λ rest. bytes.now ≡ prefix.now ++ rest.now) }
 {
     bytes.strip_prefix(prefix)
 }
 
 /// The ticket whose numbers these are, parted by a slash.
-fn ticket_in(rest: &[u8]) -> Option<Ticket>
+pub(crate) fn ticket_in(rest: &[u8]) -> Option<Ticket>
     ensures { MatchOption result
         ((editor number : ℕ) → editor < 2 ^ 32 → number < 2 ^ 64 → rest.now ≢ decimal editor ++ (codes "/" ++ decimal number))
         (λ t. (t.editor < 2 ^ 32) × (t.number < 2 ^ 64) × (rest.now ≡ decimal t.editor ++ (codes "/" ++ decimal t.number))) }
 {
-    let at = first_slash(rest)?;
+    let at = first_of(b'/', rest)?;
     let editor = read_number(&rest[..at])?;
     if editor > u32::MAX as u64 {
         return None;
@@ -60,7 +60,7 @@ fn release_in(rest: &[u8]) -> Option<(u64, usize)>
     ensures { MatchOption result ((n : ℕ) (tail : List ℕ) → n < 2 ^ 64 → rest.now ≢ decimal n ++ (codes "/" ++ tail))
         (λ r. (r.0 < 2 ^ 64) × (r.1 < length rest.now) × (slice_index rest.now r.1 ≡ 47) × (rest.now ≡ decimal r.0 ++ drop r.1 rest.now)) }
 {
-    let at = first_slash(rest)?;
+    let at = first_of(b'/', rest)?;
     let n = read_number(&rest[..at])?;
     Some((n, at))
 }

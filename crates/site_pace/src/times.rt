@@ -37,6 +37,9 @@ pub struct Times {
     pub between_requests: u64,
     /// Milliseconds that a request which has begun, or a response which its client does not read, is given without a byte that moves.
     pub without_progress: u64,
+    /// Milliseconds for which a request for a receipt that is not there yet is left, behind the last bytes that its client sent: most values are known by
+    /// then, and a client asks once.
+    pub receipts: u64,
     /// Milliseconds that a request is given, from its first byte to the last of its response, where that is limited. An option of the command line.
     pub serve_ms: Option<u64>,
 }
@@ -57,6 +60,7 @@ const STANDARD: Times = Times {
     quiet_rest: 20_000,
     between_requests: 5000,
     without_progress: 1000,
+    receipts: 100,
     serve_ms: None,
 };
 

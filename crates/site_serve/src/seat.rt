@@ -1,9 +1,17 @@
 //! A client's connection, with what carries its bytes.
 
+ghost use Rattle.std.specs.Prelude.{◌↔◌, IfOk, OnOk, IsTrue};
+ghost use Rattle.http_serve.specs.Services.{MaySubmit};
+ghost use Rattle.site_serve.specs.Answering.{CountsAnswered, IsLeft, IsTurn};
+ghost use Rattle.site_serve.specs.Served.{offered};
+
+use crate::served::Served;
 use crate::stay::Stay;
 use http_read::Counted;
-use http_serve::{Heard, Line, Told};
-use site_pace::Times;
+use http_serve::{Heard, Line, Service, Told};
+use httparse::spans::HeaderSpan;
+use site_disk::Disk;
+use site_pace::{Times, has_passed};
 use std::alloc::{AllocError, Global};
 use std::io::{Read, Write};
 
@@ -11,9 +19,11 @@ use std::io::{Read, Write};
 #[derive(Drop)]
 pub struct Seat<S> {
     stream: Counted<S>,
-    pub(crate) line: Line,
+    line: Line,
     // when bytes last came or went
     moved: u64,
+    // when bytes last came
+    came: u64,
     // when the request began that is being read or answered, if one is
     begun: Option<u64>,
 }
@@ -25,6 +35,7 @@ impl<S> Seat<S> {
             stream: Counted::new(stream),
             line: Line::new(alloc),
             moved: now,
+            came: now,
             begun: None,
         }
     }
@@ -54,6 +65,38 @@ impl<S> Seat<S> {
         }
     }
 
+    /// Whether its next request is left, as it asks for a receipt that is not there yet.
+    fn is_left<D: Disk>(&self, served: &Served<D>, times: Times, now: u64) -> bool
+        ensures { IsTrue result ↔ IsLeft offered times now served.now self.now }
+    {
+        match self.line.asks_receipt() {
+            Some(ticket) => {
+                !has_passed(Some(self.came), now, times.receipts)
+                    && served.receipt(ticket).is_none()
+            }
+            None => false,
+        }
+    }
+
+    /// Its turn: one request is answered at most, and none that is left.
+    pub(crate) fn answer<D: Disk>(
+        &mut self,
+        alloc: Global,
+        served: &mut Served<D>,
+        spans: &mut Vec<HeaderSpan>,
+        times: Times,
+        now: u64,
+    ) -> Result<bool, AllocError>
+        ensures turn { OnOk result (IsTurn offered times now served.old served.new self.old self.new) }
+        ensures counts { IfOk result (λ did. CountsAnswered did self.old self.new) }
+        ensures taken { MaySubmit offered served.old served.new }
+    {
+        if self.is_left(served, times, now) {
+            return Ok(false);
+        }
+        self.line.answer(alloc, served, spans)
+    }
+
     /// The stream, which is to be closed.
     pub(crate) fn into_stream(self) -> S {
         let Seat { stream, .. } = self;
@@ -71,6 +114,7 @@ impl<S: Read> Seat<S> {
             Heard::Nothing => Ok(false),
             Heard::Came => {
                 self.moved = now;
+                self.came = now;
                 if self.begun.is_none() {
                     self.begun = Some(now);
                 }

@@ -95,21 +95,22 @@ impl<S: Drop> Seats<S> {
         None
     }
 
-    /// Answers one request of each client that sent a whole one and read the response before it: whether there was one.
+    /// Answers one request of each client that sent a whole one and read the response before it, but for one that is left: whether there was one.
     pub(crate) fn answer_each<D: Disk>(
         &mut self,
         served: &mut Served<D>,
+        now: u64,
     ) -> Result<bool, AllocError>
-        ensures each { OnOk result (AreAnswered offered served.old served.new self.old.seats.items self.new.seats.items) }
+        ensures each { OnOk result (AreAnswered offered self.old.times now served.old served.new self.old.seats.items self.new.seats.items) }
         ensures tells { IfOk result (λ answered. TellsAnswered answered (length self.old.seats.items) self.old.seats.items self.new.seats.items) }
         ensures taken { (n : ℕ) × (n ≤ 64) × MaySubmitMany offered n served.old served.new }
     {
+        let times = self.times;
         let mut answered = false;
         let mut i = 0;
         while i < self.seats.len() {
-            answered |= self.seats[i]
-                .line
-                .answer(self.alloc, served, &mut self.spans)?;
+            let seat = &mut self.seats[i];
+            answered |= seat.answer(self.alloc, served, &mut self.spans, times, now)?;
             i += 1;
         }
         Ok(answered)

@@ -93,10 +93,10 @@ impl<D: Disk + Drop, S: Drop> Server<D, S> {
     }
 
     /// One step, so many milliseconds after the server began, and never less than before: all that waits is one batch, behind which the node publishes, and what that
-    /// hands out are the mail's letters; then requests are answered.
+    /// hands out are the mail's letters; then requests are answered, but for those that are left.
     pub fn step(&mut self, now: u64) -> Result<Stepped, Halt>
         ensures clients { IfOk result (λ stepped. (mid : Served D) × IsBatched D.stands_for (waiting_of self.old.mail) stepped.malformed (posted_of self.new.mail) self.old.served.node mid.node
-            × AreAnswered offered mid self.new.served self.old.seats.seats.items self.new.seats.seats.items) }
+            × AreAnswered offered self.old.seats.times now mid self.new.served self.old.seats.seats.items self.new.seats.seats.items) }
         ensures came { IfOk result (λ stepped. IsFalse stepped.came ↔ (waiting_of self.old.mail ≡ [])) }
         ensures answered { IfOk result (λ stepped. TellsAnswered stepped.answered (length self.old.seats.seats.items) self.old.seats.seats.items self.new.seats.seats.items) }
         ensures ok { OnOk result (Led D.stands_for self.old.served.node self.new.served.node (TakesStep self.old.served.node.cluster self.old.served.node.me (waiting_of self.old.mail) (posted_of self.new.mail) self.new.served.node.releases)) }
@@ -109,7 +109,7 @@ impl<D: Disk + Drop, S: Drop> Server<D, S> {
     {
         let came = !self.mail.is_empty();
         let malformed = self.take_batch(now)?;
-        let answered = self.seats.answer_each(&mut self.served)?;
+        let answered = self.seats.answer_each(&mut self.served, now)?;
         Ok(Stepped {
             came,
             malformed,

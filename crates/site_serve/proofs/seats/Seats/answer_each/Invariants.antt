@@ -12,7 +12,7 @@ invariant-loop-i g l = record {
   taken : MaySubmitMany offered l.i l.fn.served l.served;
   as_many : length l.self.seats.items ≡ length l.initial.self.seats.items;
   tells : TellsAnswered l.answered l.i l.initial.self.seats.items l.self.seats.items;
-  turns : AreTurns offered l.i l.fn.served l.served l.initial.self.seats.items l.self.seats.items;
+  turns : AreTurns offered l.initial.self.times l.now l.i l.fn.served l.served l.initial.self.seats.items l.self.seats.items;
   rest : (k : ℕ) (d : Seat _) → l.i ≤ k → get_or l.self.seats.items k d ≡ get_or l.initial.self.seats.items k d;
 }
 

@@ -43,6 +43,6 @@ pub returns-clause-clients : goal.returns-clause-clients
 returns-clause-clients g c = (
   c.take_batch.new.self.served,
   c.in_ok-malformed.ensures.ok,
-  subst (λ seats. AreAnswered offered c.take_batch.new.self.served c.answer_each.new.served seats.seats.items c.answer_each.new.self.seats.items) c.take_batch.ensures.seats
+  subst (λ seats. AreAnswered offered seats.times c.args.now c.take_batch.new.self.served c.answer_each.new.served seats.seats.items c.answer_each.new.self.seats.items) c.take_batch.ensures.seats
       c.in_ok-answered.ensures.each,
 )

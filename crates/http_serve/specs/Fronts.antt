@@ -1,0 +1,25 @@
+-- What a request asks for, as its first bytes tell.
+use Rattle.std.specs.Prelude.{◌≡◌, ◌≢◌, ℕ, ◌<◌, List, ◌++◌, length, slice_index, codes, None}
+use Rattle.site_ids.specs.declared.Ticket.{Ticket}
+use Rattle.http_read.specs.Progress as reading
+use Rattle.http_serve.specs.Lines.{MayAnswer}
+use Rattle.http_serve.specs.Paths.{IsTicketPath}
+use Rattle.http_serve.specs.declared.line.Line.{Line}
+
+-- between its method, GET, and the next space stands this target
+pub record Gets (bytes target : List ℕ) : Type 0 where
+  pub rest : List ℕ
+  pub spelled : bytes ≡ codes "GET " ++ (target ++ (codes " " ++ rest))
+  pub plain : (k : ℕ) → k < length target → slice_index target k ≢ 32
+
+-- the target is the path of this ticket's receipt, nothing of it encoded
+pub record GetsReceipt (bytes : List ℕ) (ticket : Ticket) : Type 0 where
+  pub target : List ℕ
+  pub gets : Gets bytes target
+  pub path : IsTicketPath (codes "/_ticket/") target ticket
+
+-- the next request may be answered, is held as it came, and asks for this receipt
+pub record AsksReceipt (line : Line) (ticket : Ticket) : Type 0 where
+  pub may : MayAnswer line
+  pub unused : reading.awaited_of line.progress ≡ None
+  pub gets : GetsReceipt line.inbox ticket
