@@ -77,7 +77,7 @@ impl<K: Ord + Drop, V: Drop> SharedMap<K, V> {
         ensures err { OnErr result (self.new ≡ self.old) }
     {
         let entry = Rc::new(self.alloc, (key, value))?;
-        self.tree = self.tree.with(self.alloc, entry)?;
+        self.tree = self.tree.with(self.alloc, &entry)?;
         Ok(())
     }
 

@@ -1,4 +1,4 @@
-ghost use Rattle.std.specs.Prelude.{◌≡◌, [], ◌∷◌, ◌++◌, IfOk};
+ghost use Rattle.std.specs.Prelude.{◌≡◌, [], ◌∷◌, ◌++◌, IfOk, IfNone, IfSome};
 ghost use Rattle.std.specs.Option.{option_copied};
 ghost use Rattle.shared_map.specs.Entries.{IsRising, put, find, remove};
 
@@ -77,6 +77,18 @@ impl<K: Ord + Drop, V: Drop> Tree<K, V> {
         }
     }
 
+    /// The fork at the top, if there are entries.
+    fn fork(&self) -> Option<&Fork<K, V>>
+        ensures none { IfNone result (self.now ≡ []) }
+        ensures some { IfSome result (λ fork. self.now ≡ fork.now.left ++ fork.now.entry.value ∷ fork.now.right) }
+        ensures rising { IfSome result (λ fork. IsRising K.cmp (fork.now.left ++ fork.now.entry.value ∷ fork.now.right)) }
+    {
+        match &self.top {
+            None => None,
+            Some(node) => Some(node.as_ref()),
+        }
+    }
+
     /// How high the tree is, which no clause names.
     pub(crate) fn height(&self) -> u8 {
         match &self.top {
@@ -89,21 +101,21 @@ impl<K: Ord + Drop, V: Drop> Tree<K, V> {
 /// A fork over two trees.
 fn forked<K: Ord + Drop, V: Drop>(
     alloc: Global,
-    left: Tree<K, V>,
-    entry: Rc<(K, V)>,
-    right: Tree<K, V>,
+    left: &Tree<K, V>,
+    entry: &Rc<(K, V)>,
+    right: &Tree<K, V>,
 ) -> Result<Tree<K, V>, AllocError>
-    requires { IsRising K.cmp (left ++ entry.value ∷ right) }
-    ensures { IfOk result (λ m. m ≡ left ++ entry.value ∷ right) }
+    requires { IsRising K.cmp (left.now ++ entry.now.value ∷ right.now) }
+    ensures { IfOk result (λ m. m ≡ left.now ++ entry.now.value ∷ right.now) }
 {
     let height = left.height().max(right.height()).saturating_add(1);
     let node = Rc::new(
         alloc,
         Fork {
-            left,
-            entry,
+            left: left.copy()?,
+            entry: entry.clone()?,
             height,
-            right,
+            right: right.copy()?,
         },
     )?;
     Ok(Tree { top: Some(node) })
@@ -112,28 +124,23 @@ fn forked<K: Ord + Drop, V: Drop>(
 /// A fork whose left side is too high, turned so that it is lower.
 fn lean_left<K: Ord + Drop, V: Drop>(
     alloc: Global,
-    left: Tree<K, V>,
-    entry: Rc<(K, V)>,
-    right: Tree<K, V>,
+    left: &Tree<K, V>,
+    entry: &Rc<(K, V)>,
+    right: &Tree<K, V>,
 ) -> Result<Tree<K, V>, AllocError>
-    requires { IsRising K.cmp (left ++ entry.value ∷ right) }
-    ensures { IfOk result (λ m. m ≡ left ++ entry.value ∷ right) }
+    requires { IsRising K.cmp (left.now ++ entry.now.value ∷ right.now) }
+    ensures { IfOk result (λ m. m ≡ left.now ++ entry.now.value ∷ right.now) }
 {
-    if let Some(node) = &left.top {
+    if let Some(node) = left.fork() {
         let (outer, inner) = (&node.left, &node.right);
         if outer.height() >= inner.height() {
-            let lower = forked(alloc, inner.copy()?, entry, right)?;
-            return forked(alloc, outer.copy()?, node.entry.clone()?, lower);
+            let lower = forked(alloc, inner, entry, right)?;
+            return forked(alloc, outer, &node.entry, &lower);
         }
-        if let Some(middle) = &inner.top {
-            let first = forked(
-                alloc,
-                outer.copy()?,
-                node.entry.clone()?,
-                middle.left.copy()?,
-            )?;
-            let last = forked(alloc, middle.right.copy()?, entry, right)?;
-            return forked(alloc, first, middle.entry.clone()?, last);
+        if let Some(middle) = inner.fork() {
+            let first = forked(alloc, outer, &node.entry, &middle.left)?;
+            let last = forked(alloc, &middle.right, entry, right)?;
+            return forked(alloc, &first, &middle.entry, &last);
         }
     }
     forked(alloc, left, entry, right)
@@ -142,28 +149,23 @@ fn lean_left<K: Ord + Drop, V: Drop>(
 /// A fork whose right side is too high, turned so that it is lower.
 fn lean_right<K: Ord + Drop, V: Drop>(
     alloc: Global,
-    left: Tree<K, V>,
-    entry: Rc<(K, V)>,
-    right: Tree<K, V>,
+    left: &Tree<K, V>,
+    entry: &Rc<(K, V)>,
+    right: &Tree<K, V>,
 ) -> Result<Tree<K, V>, AllocError>
-    requires { IsRising K.cmp (left ++ entry.value ∷ right) }
-    ensures { IfOk result (λ m. m ≡ left ++ entry.value ∷ right) }
+    requires { IsRising K.cmp (left.now ++ entry.now.value ∷ right.now) }
+    ensures { IfOk result (λ m. m ≡ left.now ++ entry.now.value ∷ right.now) }
 {
-    if let Some(node) = &right.top {
+    if let Some(node) = right.fork() {
         let (inner, outer) = (&node.left, &node.right);
         if outer.height() >= inner.height() {
-            let lower = forked(alloc, left, entry, inner.copy()?)?;
-            return forked(alloc, lower, node.entry.clone()?, outer.copy()?);
+            let lower = forked(alloc, left, entry, inner)?;
+            return forked(alloc, &lower, &node.entry, outer);
         }
-        if let Some(middle) = &inner.top {
-            let first = forked(alloc, left, entry, middle.left.copy()?)?;
-            let last = forked(
-                alloc,
-                middle.right.copy()?,
-                node.entry.clone()?,
-                outer.copy()?,
-            )?;
-            return forked(alloc, first, middle.entry.clone()?, last);
+        if let Some(middle) = inner.fork() {
+            let first = forked(alloc, left, entry, &middle.left)?;
+            let last = forked(alloc, &middle.right, &node.entry, outer)?;
+            return forked(alloc, &first, &middle.entry, &last);
         }
     }
     forked(alloc, left, entry, right)
@@ -172,12 +174,12 @@ fn lean_right<K: Ord + Drop, V: Drop>(
 /// A fork over two trees, of which one may have changed by an entry.
 fn balanced<K: Ord + Drop, V: Drop>(
     alloc: Global,
-    left: Tree<K, V>,
-    entry: Rc<(K, V)>,
-    right: Tree<K, V>,
+    left: &Tree<K, V>,
+    entry: &Rc<(K, V)>,
+    right: &Tree<K, V>,
 ) -> Result<Tree<K, V>, AllocError>
-    requires { IsRising K.cmp (left ++ entry.value ∷ right) }
-    ensures { IfOk result (λ m. m ≡ left ++ entry.value ∷ right) }
+    requires { IsRising K.cmp (left.now ++ entry.now.value ∷ right.now) }
+    ensures { IfOk result (λ m. m ≡ left.now ++ entry.now.value ∷ right.now) }
 {
     let (l, r) = (left.height(), right.height());
     if l > r.saturating_add(1) {
@@ -202,7 +204,7 @@ fn split_first<K: Ord + Drop, V: Drop>(
         None => Ok((node.entry.clone()?, node.right.copy()?)),
         Some(below) => {
             let (first, rest) = split_first(alloc, below)?;
-            let others = balanced(alloc, rest, node.entry.clone()?, node.right.copy()?)?;
+            let others = balanced(alloc, &rest, &node.entry, &node.right)?;
             Ok((first, others))
         }
     }
@@ -211,38 +213,39 @@ fn split_first<K: Ord + Drop, V: Drop>(
 /// Two trees, all of whose keys rise, as one.
 fn joined<K: Ord + Drop, V: Drop>(
     alloc: Global,
-    left: Tree<K, V>,
+    left: &Tree<K, V>,
     right: &Tree<K, V>,
 ) -> Result<Tree<K, V>, AllocError>
-    requires { IsRising K.cmp (left ++ right.now) }
-    ensures { IfOk result (λ m. m ≡ left ++ right.now) }
+    requires { IsRising K.cmp (left.now ++ right.now) }
+    ensures { IfOk result (λ m. m ≡ left.now ++ right.now) }
 {
-    match &right.top {
-        None => Ok(left),
+    match right.fork() {
+        None => left.copy(),
         Some(node) => {
             let (first, rest) = split_first(alloc, node)?;
-            balanced(alloc, left, first, rest)
+            balanced(alloc, left, &first, &rest)
         }
     }
 }
 
 impl<K: Ord + Drop, V: Drop> Tree<K, V> {
     /// The tree with one more entry, in place of that of an equal key.
-    pub(crate) fn with(&self, alloc: Global, entry: Rc<(K, V)>) -> Result<Self, AllocError>
-        ensures { IfOk result (λ m. m ≡ put K.cmp entry.value self.now) }
+    pub(crate) fn with(&self, alloc: Global, entry: &Rc<(K, V)>) -> Result<Self, AllocError>
+        ensures { IfOk result (λ m. m ≡ put K.cmp entry.now.value self.now) }
     {
-        let Some(node) = &self.top else {
-            return forked(alloc, Tree::new(), entry, Tree::new());
+        let Some(node) = self.fork() else {
+            let none = Tree::new();
+            return forked(alloc, &none, entry, &none);
         };
         match entry.0.cmp(&node.entry.0) {
             Ordering::Less => {
                 let left = node.left.with(alloc, entry)?;
-                balanced(alloc, left, node.entry.clone()?, node.right.copy()?)
+                balanced(alloc, &left, &node.entry, &node.right)
             }
-            Ordering::Equal => forked(alloc, node.left.copy()?, entry, node.right.copy()?),
+            Ordering::Equal => forked(alloc, &node.left, entry, &node.right),
             Ordering::Greater => {
                 let right = node.right.with(alloc, entry)?;
-                balanced(alloc, node.left.copy()?, node.entry.clone()?, right)
+                balanced(alloc, &node.left, &node.entry, &right)
             }
         }
     }
@@ -251,18 +254,18 @@ impl<K: Ord + Drop, V: Drop> Tree<K, V> {
     pub(crate) fn without<Q: Sought<K>>(&self, alloc: Global, key: Q) -> Result<Self, AllocError>
         ensures { IfOk result (λ m. m ≡ remove (Q.compare key) self.now) }
     {
-        let Some(node) = &self.top else {
+        let Some(node) = self.fork() else {
             return Ok(Tree::new());
         };
         match key.compare(&node.entry.0) {
             Ordering::Less => {
                 let left = node.left.without(alloc, key)?;
-                balanced(alloc, left, node.entry.clone()?, node.right.copy()?)
+                balanced(alloc, &left, &node.entry, &node.right)
             }
-            Ordering::Equal => joined(alloc, node.left.copy()?, &node.right),
+            Ordering::Equal => joined(alloc, &node.left, &node.right),
             Ordering::Greater => {
                 let right = node.right.without(alloc, key)?;
-                balanced(alloc, node.left.copy()?, node.entry.clone()?, right)
+                balanced(alloc, &node.left, &node.entry, &right)
             }
         }
     }

@@ -1,26 +1,59 @@
-use Rattle.std.proofs.Common.{ap, sym, subst, refl, ◌∙◌}
+use Rattle.std.proofs.Common.{ap, sym, subst, refl, ◌∙◌, ◌∷◌, ◌++◌, append_assoc}
+use Rattle.std.proofs.lemmas.Result.{IfOk-weaker}
 use Rattle.shared_map.specs.Entries.{IsRising}
-use Rattle.shared_map.proofs.Forks.{at_fork}
-use Rattle.shared_map.proofs.Sides.{right_part, left_part}
+use Rattle.shared_map.proofs.Sides.{right_part, left_part, turned_right}
 use Rattle.shared_map.proofs.tree.lean_left.Goals as goal
+
+-- ---- a single turn
 
 pub forked-requires : goal.forked-requires
 forked-requires g c =
-    right_part g.K.Ord.cmp _ _ _ _ _ _ _ (at_fork c.left.view_is c.in-Some.is) (c.in_ok-copy.ensures ∙ ap (λ n. n.right) c.deref-in-Some.ensures) c.requires
+    right_part g.K.Ord.cmp _ _ _ _ _ _ _ c.in-Some.ensures.some refl c.requires
 
-pub forked-requires-in-Some-top : goal.forked-requires-in-Some-top
-forked-requires-in-Some-top g c =
-    let n = c.in-Some.node.value in
-    let m = c.in-Some-top.middle.value in
-    let up = subst (IsRising g.K.Ord.cmp) (c.left.view_is ∙ at_fork c.left.view_is c.in-Some.is) c.left.invariant in
-    let inner = sym (ap (λ f. f.right) c.deref-in-Some.ensures) ∙ at_fork c.inner.view_is c.in-Some-top.is in
-    rw (c.in_ok-copy-3.ensures, c.deref.ensures, c.in_ok-clone-2.ensures.cases, c.deref-in-Some-top.ensures)
-    (left_part g.K.Ord.cmp n.left m.left n.right _ m.right m.entry.value n.entry.value inner (c.in_ok-copy-4.ensures ∙ ap (λ f. f.left) c.deref-in-Some-top-2.ensures) up)
+pub forked-requires-then-height : goal.forked-requires-then-height
+forked-requires-then-height g c =
+    let n = c.in-Some.node.now in
+    let last = c.args.entry.now.value ∷ c.args.right.now in
+    let whole = ap (λ l. l ++ last) c.in-Some.ensures.some ∙ append_assoc n.left (n.entry.value ∷ n.right) last in
+    rw c.in_ok-lower.ensures (subst (IsRising g.K.Ord.cmp) whole c.requires)
 
-pub forked-requires-in-Some-top-2 : goal.forked-requires-in-Some-top-2
-forked-requires-in-Some-top-2 g c =
-    let n = c.in-Some.node.value in
-    let m = c.in-Some-top.middle.value in
-    let inner = sym (ap (λ f. f.right) c.deref-in-Some.ensures) ∙ at_fork c.inner.view_is c.in-Some-top.is in
-    right_part g.K.Ord.cmp m.left m.right n.right _ _ m.entry.value _ inner (c.in_ok-copy-5.ensures ∙ ap (λ f. f.right) c.deref-in-Some-top-3.ensures)
-    (right_part g.K.Ord.cmp n.left n.right _ n.right _ n.entry.value _ (at_fork c.left.view_is c.in-Some.is) refl c.requires)
+pub returns-then-height : goal.returns-then-height
+returns-then-height g c =
+    let n = c.in-Some.node.now in
+    let last = c.args.entry.now.value ∷ c.args.right.now in
+    let whole = ap (λ l. l ++ last) c.in-Some.ensures.some ∙ append_assoc n.left (n.entry.value ∷ n.right) last in
+    IfOk-weaker c.forked-then-height.result _ _ (λ m is. is ∙ rw c.in_ok-lower.ensures (sym whole)) c.forked-then-height.ensures
+
+-- ---- a double turn
+
+pub forked-requires-in-Some-fork : goal.forked-requires-in-Some-fork
+forked-requires-in-Some-fork g c =
+    left_part g.K.Ord.cmp _ _ _ _ _ _ _ c.in-Some-fork.ensures.some refl c.in-Some.ensures.rising
+
+pub forked-requires-in-Some-fork-2 : goal.forked-requires-in-Some-fork-2
+forked-requires-in-Some-fork-2 g c =
+    let n = c.in-Some.node.now in
+    right_part g.K.Ord.cmp _ _ _ _ _ _ _ c.in-Some-fork.ensures.some refl
+    (right_part g.K.Ord.cmp n.left n.right _ n.right _ n.entry.value _ c.in-Some.ensures.some refl c.requires)
+
+pub forked-requires-in-Some-fork-3 : goal.forked-requires-in-Some-fork-3
+forked-requires-in-Some-fork-3 g c =
+    let n = c.in-Some.node.now in
+    let m = c.in-Some-fork.middle.now in
+    let e = c.args.entry.now.value in
+    let r = c.args.right.now in
+    let whole = ap (λ l. l ++ e ∷ r) (c.in-Some.ensures.some ∙ ap (λ k. n.left ++ n.entry.value ∷ k) c.in-Some-fork.ensures.some) in
+    rw (c.in_ok-first.ensures, c.in_ok-last.ensures)
+    (subst (IsRising g.K.Ord.cmp) (whole ∙ sym (turned_right n.left m.left m.right r n.entry.value m.entry.value e)) c.requires)
+
+pub returns-in-Some-fork : goal.returns-in-Some-fork
+returns-in-Some-fork g c =
+    let n = c.in-Some.node.now in
+    let m = c.in-Some-fork.middle.now in
+    let e = c.args.entry.now.value in
+    let r = c.args.right.now in
+    let whole = ap (λ l. l ++ e ∷ r) (c.in-Some.ensures.some ∙ ap (λ k. n.left ++ n.entry.value ∷ k) c.in-Some-fork.ensures.some) in
+    IfOk-weaker c.forked-in-Some-fork-3.result _ _
+    (λ t is. is
+    ∙ rw (c.in_ok-first.ensures, c.in_ok-last.ensures)
+    (turned_right n.left m.left m.right r n.entry.value m.entry.value e ∙ sym whole)) c.forked-in-Some-fork-3.ensures
