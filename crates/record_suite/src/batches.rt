@@ -1,12 +1,14 @@
 //! Batches: all of one stands or none of it, whichever call of its seal fails and whatever a crash chooses; their bytes are those of single puts.
+use crate::damage::is_of;
+use crate::disks::{crashed_within, holds, is_long, is_long_behind, reads};
 use crate::listed::{RECORD, SPANNED, entries};
 use crate::samples::{
-    ballot, disk_of, empty, formatted, instance, one_of_three, opened, put_promise, put_round,
+    arm, ballot, disk_of, empty, formatted, instance, is_promised, opened, put_promise, put_round,
     put_span, put_vote_for,
 };
 use durable::{Record, RecordFault};
-use record_meaning::standing::stands_for;
 use site_disk::{Armed, Call, Disk, FailOnce, MemDisk};
+use site_ids::Instance;
 use std::alloc::Global;
 use std::process::Abort;
 
@@ -63,10 +65,14 @@ const VOTE: Step = Step::Vote(1, 2, "ab");
 /// What `RECORD` holds.
 const THREE: &[Step] = &[ROUND, PROMISE, VOTE];
 
+const NOT_SEALED: &[Step] = &[Step::Begin, ROUND, PROMISE, VOTE];
+
+const IN_ONE_BATCH: &[Step] = &[Step::Begin, ROUND, PROMISE, VOTE, Step::Seal];
+
 /// Steps that write `RECORD`, and how many writes and syncs there are then, an opening's among them.
 const WRITERS: &[(&[Step], usize)] = &[
     (THREE, 13),
-    (&[Step::Begin, ROUND, PROMISE, VOTE, Step::Seal], 5),
+    (IN_ONE_BATCH, 5),
     (&[ROUND, Step::Begin, PROMISE, VOTE, Step::Seal], 9),
     (
         &[Step::Begin, ROUND, Step::Begin, PROMISE, Step::Seal, VOTE],
@@ -111,19 +117,44 @@ fn act<D: Disk>(
     }
 }
 
+/// A step comes to that.
+fn comes_to<D: Disk>(
+    rt: &impl Abort,
+    alloc: Global,
+    record: &mut Record<D>,
+    step: Step,
+    wanted: Result<(), RecordFault>,
+) {
+    assert_eq!(rt; act(rt, alloc, record, step), wanted, "{step:?}");
+}
+
 fn take<D: Disk>(rt: &impl Abort, alloc: Global, record: &mut Record<D>, steps: &[Step]) {
     for &one in steps {
-        assert_eq!(rt; act(rt, alloc, record, one), Ok(()), "{one:?}");
+        comes_to(rt, alloc, record, one, Ok(()));
     }
+}
+
+/// The record tells these rounds.
+fn tells_rounds<D: Disk>(rt: &impl Abort, record: &Record<D>, round: u32, greatest: u32) {
+    assert!(rt; record.round() == round);
+    assert!(rt; record.greatest_round() == greatest);
+}
+
+/// Whether a vote at that instance is on record, or none is.
+fn is_voted<D: Disk>(record: &Record<D>, at: Instance, voted: bool) -> bool {
+    record.slot(at).vote.is_some() == voted
 }
 
 /// The record tells the three entries, or none of them.
 fn tells<D: Disk>(rt: &impl Abort, record: &Record<D>, all: bool) {
-    let promised = if all { Some(ballot(rt, 2)) } else { None };
-    assert_eq!(rt; record.round(), u32::from(all));
-    assert_eq!(rt; record.greatest_round(), if all { 2 } else { 0 });
-    assert_eq!(rt; record.slot(instance(rt, 1)).promised, promised);
-    assert_eq!(rt; record.slot(instance(rt, 1)).vote.is_some(), all);
+    assert!(rt; is_voted(record, instance(rt, 1), all));
+    if all {
+        tells_rounds(rt, record, 1, 2);
+        is_promised(rt, record, Some(ballot(rt, 2)));
+    } else {
+        tells_rounds(rt, record, 0, 0);
+        is_promised(rt, record, None);
+    }
 }
 
 /// A batch of three, whose seal ends so.
@@ -135,7 +166,7 @@ fn seal_three<D: Disk>(
 ) {
     take(rt, alloc, record, THREE);
     tells(rt, record, true);
-    assert_eq!(rt; record.seal(), sealed);
+    comes_to(rt, alloc, record, Step::Seal, sealed);
     tells(rt, record, true);
 }
 
@@ -143,15 +174,14 @@ fn seal_three<D: Disk>(
 fn is_over<D: Disk>(rt: &impl Abort, alloc: Global, record: &mut Record<D>) {
     assert!(rt; record.is_stopped());
     for &one in REFUSED {
-        let taken = act(rt, alloc, record, one);
-        assert_eq!(rt; taken, Err(RecordFault::Stopped), "{one:?}");
+        comes_to(rt, alloc, record, one, Err(RecordFault::Stopped));
     }
 }
 
 /// A batch of three, of which so many calls of the disk pass.
 fn seal_armed<D: Armed>(rt: &impl Abort, alloc: Global, record: &mut Record<D>, calls: u32) {
-    take(rt, alloc, record, &[Step::Begin]);
-    record.arm(calls);
+    comes_to(rt, alloc, record, Step::Begin, Ok(()));
+    arm(record, calls);
     if calls < 4 {
         seal_three(rt, alloc, record, Err(RecordFault::Device));
         is_over(rt, alloc, record);
@@ -160,23 +190,21 @@ fn seal_armed<D: Armed>(rt: &impl Abort, alloc: Global, record: &mut Record<D>, 
     }
 }
 
-fn crash(rt: &impl Abort, alloc: Global, row: (u32, Option<u8>, u64, bool)) {
+/// Whether the file is so long behind the crash. The next opening tells what stands.
+fn crash(rt: &impl Abort, alloc: Global, row: (u32, Option<u8>, u64, bool)) -> bool {
     let (calls, choice, length, all) = row;
     let mut record = empty(rt, alloc);
     seal_armed(rt, alloc, &mut record, calls);
     let mut disk = record.close();
-    match choice {
-        Some(choice) => disk.crash(choice),
-        None => disk.disarm(),
-    }
-    assert_eq!(rt; disk.len(), Ok(length), "{row:?}");
+    let is_long = is_long_behind(&mut disk, choice, length);
     tells(rt, &opened(rt, alloc, disk), all);
+    is_long
 }
 
 #[test]
 fn a_crash_after_each_call_of_a_seal_keeps_all_or_none(rt: HostRuntime) {
     for &row in CRASHES {
-        crash(&rt, rt.alloc(), row);
+        assert!(rt; crash(&rt, rt.alloc(), row), "{row:?}");
     }
 }
 
@@ -185,15 +213,14 @@ fn failed_seal(rt: &impl Abort, alloc: Global, calls: u32) -> FailOnce<MemDisk> 
     let mut record = opened(rt, alloc, FailOnce::new(formatted(rt, alloc)));
     seal_armed(rt, alloc, &mut record, calls);
     let disk = record.close();
-    assert_eq!(rt; disk.failures(), 1);
+    assert!(rt; disk.failures() == 1);
     disk
 }
 
 fn settles(rt: &impl Abort, alloc: Global, calls: u32, choice: u8, all: bool) {
     let record = opened(rt, alloc, failed_seal(rt, alloc, calls));
     tells(rt, &record, all);
-    let mut disk = record.close().into_inner();
-    disk.crash(choice);
+    let disk = crashed_within(record.close(), choice);
     tells(rt, &opened(rt, alloc, disk), all);
 }
 
@@ -210,19 +237,19 @@ fn an_opening_settles_the_batch(rt: HostRuntime) {
 /// Nothing of a batch that isn't sealed is on the disk.
 #[test]
 fn a_batch_that_is_not_sealed_is_lost(rt: HostRuntime) {
-    let mut record = empty(&rt, rt.alloc());
-    take(&rt, rt.alloc(), &mut record, &[Step::Begin]);
-    take(&rt, rt.alloc(), &mut record, THREE);
-    let mut disk = record.close();
-    assert_eq!(rt; disk.len(), Ok(11));
+    let mut disk = disk_behind(&rt, rt.alloc(), NOT_SEALED);
+    assert!(rt; is_long(&mut disk, 11));
     tells(&rt, &opened(&rt, rt.alloc(), disk), false);
 }
 
-fn writes_and_syncs(disk: &MemDisk) -> usize {
-    disk.calls()
-        .iter()
-        .filter(|call| matches!(call, Call::Write { .. } | Call::Sync))
-        .count()
+fn writes_and_syncs(calls: &[Call]) -> usize {
+    let mut count: usize = 0;
+    for call in calls {
+        if matches!(call, Call::Write { .. } | Call::Sync) {
+            count = count.saturating_add(1);
+        }
+    }
+    count
 }
 
 /// The disk of an empty record behind these steps.
@@ -232,13 +259,22 @@ fn disk_behind(rt: &impl Abort, alloc: Global, steps: &[Step]) -> MemDisk {
     record.close()
 }
 
-/// The disk holds these bytes, behind so many writes and syncs, an opening's among them.
-fn holds<const N: usize>(rt: &impl Abort, disk: &mut MemDisk, wanted: [u8; N], calls: usize) {
-    assert_eq!(rt; writes_and_syncs(disk), calls);
-    let mut bytes = [0; N];
-    disk.read_at(0, &mut bytes).expect(rt, "a read");
-    assert_eq!(rt; bytes, wanted);
-    assert_eq!(rt; disk.len(), Ok(N as u64));
+/// How many writes and syncs these steps make, an opening's among them.
+fn calls_of(rt: &impl Abort, alloc: Global, steps: &[Step]) -> usize {
+    writes_and_syncs(disk_behind(rt, alloc, steps).calls())
+}
+
+/// These steps write these bytes, with so many writes and syncs, an opening's among them.
+fn write<const N: usize>(
+    rt: &impl Abort,
+    alloc: Global,
+    steps: &[Step],
+    wanted: &[u8; N],
+    calls: usize,
+) {
+    let mut disk = disk_behind(rt, alloc, steps);
+    assert!(rt; writes_and_syncs(disk.calls()) == calls);
+    assert!(rt; holds(&mut disk, wanted));
 }
 
 const SPAN_BATCH: &[Step] = &[Step::Begin, Step::Span(5, 3, 1), Step::Seal];
@@ -249,32 +285,26 @@ const EMPTY_BATCH: &[Step] = &[Step::Begin, Step::Seal];
 #[test]
 fn batches_and_puts_write_the_same_bytes(rt: HostRuntime) {
     for &(steps, calls) in WRITERS {
-        holds(&rt, &mut disk_behind(&rt, rt.alloc(), steps), RECORD, calls);
+        write(&rt, rt.alloc(), steps, &RECORD, calls);
     }
-    holds(
-        &rt,
-        &mut disk_behind(&rt, rt.alloc(), SPAN_BATCH),
-        SPANNED,
-        5,
-    );
-    assert_eq!(rt;
-        writes_and_syncs(&disk_behind(&rt, rt.alloc(), EMPTY_BATCH)),
-        1
-    );
+    write(&rt, rt.alloc(), SPAN_BATCH, &SPANNED, 5);
+    assert!(rt; calls_of(&rt, rt.alloc(), EMPTY_BATCH) == 1);
 }
 
-const IN_ONE_BATCH: &[Step] = &[Step::Begin, ROUND, PROMISE, VOTE, Step::Seal];
+/// The record that these steps write.
+fn record_behind(rt: &impl Abort, alloc: Global, steps: &[Step]) -> [u8; 53] {
+    let mut disk = disk_behind(rt, alloc, steps);
+    let mut bytes = [0; 53];
+    assert!(rt; reads(&mut disk, 0, &mut bytes));
+    bytes
+}
 
 /// What a batch wrote is what the definition of a record reads there.
 #[test]
 fn a_batch_stands_for_its_entries(rt: HostRuntime) {
-    let (cluster, node) = one_of_three(&rt, 2);
-    let mut disk = disk_behind(&rt, rt.alloc(), IN_ONE_BATCH);
-    let mut bytes = [0; 53];
-    disk.read_at(0, &mut bytes).expect(&rt, "a read");
+    let bytes = record_behind(&rt, rt.alloc(), IN_ONE_BATCH);
     let entries = entries(&rt, rt.alloc());
-    let stands = stands_for(rt.alloc(), cluster, node, &bytes, &entries);
-    assert_eq!(rt; stands, Ok(true));
+    assert!(rt; is_of(&rt, rt.alloc(), &bytes, &entries));
 }
 
 const FURTHER: &[Step] = &[
@@ -285,17 +315,17 @@ const FURTHER: &[Step] = &[
     Step::Vote(2, 6, "w"),
 ];
 
+/// The record tells what stood before, and these.
+fn tells_further(rt: &impl Abort, record: &Record<MemDisk>) {
+    tells_rounds(rt, record, 5, 6);
+    is_promised(rt, record, Some(ballot(rt, 6)));
+    assert!(rt; is_voted(record, instance(rt, 2), true));
+}
+
 /// A record that single puts wrote takes a batch, and one that a batch wrote takes a put.
 #[test]
 fn a_stored_record_goes_on(rt: HostRuntime) {
     let mut record = opened(&rt, rt.alloc(), disk_of(&rt, rt.alloc(), &RECORD));
     take(&rt, rt.alloc(), &mut record, FURTHER);
-    let record = opened(&rt, rt.alloc(), record.close());
-    assert_eq!(rt; record.round(), 5);
-    assert_eq!(rt; record.greatest_round(), 6);
-    assert_eq!(rt;
-        record.slot(instance(&rt, 1)).promised,
-        Some(ballot(&rt, 6))
-    );
-    assert!(rt; record.slot(instance(&rt, 2)).vote.is_some());
+    tells_further(&rt, &opened(&rt, rt.alloc(), record.close()));
 }

@@ -9,11 +9,16 @@ use site_ids::{Ballot, Cluster, Instance, Value, Vote};
 use std::alloc::Global;
 use std::process::Abort;
 
+/// Puts a byte at a place, if there is one.
+pub fn put_byte(bytes: &mut [u8], place: usize, byte: u8) {
+    if place < bytes.len() {
+        bytes[place] = byte;
+    }
+}
+
 fn number(number: u32, place: usize, byte: u8) -> u32 {
     let mut bytes = number.to_be_bytes();
-    if let Some(there) = bytes.get_mut(place) {
-        *there = byte;
-    }
+    put_byte(&mut bytes, place, byte);
     u32::from_be_bytes(bytes)
 }
 
@@ -59,9 +64,7 @@ fn vote_with(
     byte: u8,
 ) -> Entry {
     let mut bytes = Vec::from_slice(alloc, vote.value.as_bytes()).expect(rt, "memory");
-    if let Some(there) = bytes.get_mut(place) {
-        *there = byte;
-    }
+    put_byte(&mut bytes, place, byte);
     vote_for(rt, alloc, instance, vote.ballot, &bytes)
 }
 

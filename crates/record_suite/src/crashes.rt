@@ -1,5 +1,6 @@
 //! Crashes after each call of a put.
-use crate::samples::{disk_of, empty, opened, put_round};
+use crate::disks::{begins, is_long, is_long_behind, reads, syncs, writes};
+use crate::samples::{arm, disk_of, empty, ends, opened, put_round};
 use durable::{Record, RecordFault};
 use site_disk::{Armed, Disk, MemDisk};
 use std::alloc::Global;
@@ -26,47 +27,38 @@ const CRASHES: &[(u32, u8, u64, u32)] = &[
 
 /// A put whose disk fails after so many calls, if it makes so many, and another one.
 fn put(rt: &impl Abort, record: &mut Record<MemDisk>, calls: u32) {
-    record.arm(calls);
+    arm(record, calls);
     let put = put_round(record, 1);
     if calls < 4 {
-        assert_eq!(rt; put, Err(RecordFault::Device));
-        assert_eq!(rt; put_round(record, 2), Err(RecordFault::Stopped));
+        ends(rt, put, Err(RecordFault::Device));
+        ends(rt, put_round(record, 2), Err(RecordFault::Stopped));
     } else {
-        assert_eq!(rt; put, Ok(()));
+        ends(rt, put, Ok(()));
     }
 }
 
-fn crash(rt: &impl Abort, alloc: Global, row: (u32, u8, u64, u32)) {
+/// Whether the file is so long behind the crash, and the next opening finds the round.
+fn crash(rt: &impl Abort, alloc: Global, row: (u32, u8, u64, u32)) -> bool {
     let (calls, choice, length, round) = row;
     let mut record = empty(rt, alloc);
     put(rt, &mut record, calls);
     let mut disk = record.close();
-    disk.crash(choice);
-    assert_eq!(rt; disk.len(), Ok(length));
-    assert_eq!(rt; opened(rt, alloc, disk).round(), round);
+    let is_long = is_long_behind(&mut disk, Some(choice), length);
+    opened(rt, alloc, disk).round() == round && is_long
 }
 
 #[test]
 fn a_crash_after_each_call_keeps_the_round_or_not(rt: HostRuntime) {
     for &row in CRASHES {
-        crash(&rt, rt.alloc(), row);
+        assert!(rt; crash(&rt, rt.alloc(), row));
     }
 }
 
 fn fail_each(rt: &impl Abort, disk: &mut MemDisk) {
     disk.arm(1);
-    assert_eq!(rt; disk.len(), Ok(3));
-    assert!(rt; disk.sync().is_err());
-    assert!(rt; disk.write_at(0, b"d").is_err());
-    assert!(rt; disk.read_at(0, &mut [0]).is_err());
-    assert_eq!(rt; disk.failures(), 3);
-}
-
-/// The disk holds these three bytes.
-pub fn holds(rt: &impl Abort, disk: &mut impl Disk, three: [u8; 3]) {
-    let mut bytes = [0; 3];
-    disk.read_at(0, &mut bytes).expect(rt, "a read");
-    assert_eq!(rt; bytes, three);
+    assert!(rt; is_long(disk, 3));
+    assert!(rt; !syncs(disk) && !writes(disk, 0, b"d") && !reads(disk, 0, &mut [0]));
+    assert!(rt; disk.failures() == 3);
 }
 
 #[test]
@@ -74,5 +66,5 @@ fn an_armed_disk_fails_each_further_call(rt: HostRuntime) {
     let mut disk = disk_of(&rt, rt.alloc(), b"abc");
     fail_each(&rt, &mut disk);
     disk.disarm();
-    holds(&rt, &mut disk, *b"abc");
+    assert!(rt; begins(&mut disk, b"abc"));
 }

@@ -1,7 +1,8 @@
 //! One call of a disk fails, and those behind it pass.
-use crate::crashes::holds;
+use crate::disks::{begins, crashed_within, is_long, reads, syncs, writes};
 use crate::samples::{
-    ONE_PROMISE, ballot, disk_of, formatted, instance, one_of_three, opened, put_round,
+    ONE_PROMISE, arm, ballot, disk_of, ends, formatted, is_promised, one_of_three, opened,
+    put_round,
 };
 use durable::{Record, RecordFault};
 use site_disk::{Armed, Disk, FailOnce, MemDisk};
@@ -16,10 +17,10 @@ const CHOICES: &[u8] = &[0, 1, 7];
 
 /// A put whose call fails so, and one that is Stopped.
 fn fail_put(rt: &impl Abort, record: &mut Record<FailOnce<MemDisk>>, calls: u32) {
-    record.arm(calls);
-    assert_eq!(rt; put_round(record, 1), Err(RecordFault::Device));
+    arm(record, calls);
+    ends(rt, put_round(record, 1), Err(RecordFault::Device));
     assert!(rt; record.is_stopped());
-    assert_eq!(rt; put_round(record, 1), Err(RecordFault::Stopped));
+    ends(rt, put_round(record, 1), Err(RecordFault::Stopped));
 }
 
 /// The disk behind such a put.
@@ -27,16 +28,16 @@ fn failed_put(rt: &impl Abort, alloc: Global, calls: u32) -> FailOnce<MemDisk> {
     let mut record = opened(rt, alloc, FailOnce::new(formatted(rt, alloc)));
     fail_put(rt, &mut record, calls);
     let disk = record.close();
-    assert_eq!(rt; disk.failures(), 1);
+    assert!(rt; disk.failures() == 1);
     disk
 }
 
-fn settles(rt: &impl Abort, alloc: Global, calls: u32, choice: u8, round: u32) {
+/// The rounds of the opening behind such a put, and of the next one, behind a crash.
+fn rounds(rt: &impl Abort, alloc: Global, calls: u32, choice: u8) -> (u32, u32) {
     let record = opened(rt, alloc, failed_put(rt, alloc, calls));
-    assert_eq!(rt; record.round(), round, "after {calls} calls");
-    let mut disk = record.close().into_inner();
-    disk.crash(choice);
-    assert_eq!(rt; opened(rt, alloc, disk).round(), round, "{calls} {choice}");
+    let round = record.round();
+    let disk = crashed_within(record.close(), choice);
+    (round, opened(rt, alloc, disk).round())
 }
 
 /// Whatever a crash chooses behind an opening, it keeps what that found.
@@ -44,7 +45,8 @@ fn settles(rt: &impl Abort, alloc: Global, calls: u32, choice: u8, round: u32) {
 fn an_opening_settles_the_entry_in_flight(rt: HostRuntime) {
     for &(calls, round) in PUTS {
         for &choice in CHOICES {
-            settles(&rt, rt.alloc(), calls, choice, round);
+            let rounds = rounds(&rt, rt.alloc(), calls, choice);
+            assert!(rt; rounds == (round, round), "{calls} {choice}");
         }
     }
 }
@@ -52,21 +54,21 @@ fn an_opening_settles_the_entry_in_flight(rt: HostRuntime) {
 /// A call that failed did nothing, and the one behind it is as ever. A call that the disk under it fails counts too.
 fn check_calls(rt: &impl Abort, disk: &mut FailOnce<MemDisk>) {
     disk.arm(1);
-    assert_eq!(rt; disk.len(), Ok(3));
-    assert!(rt; disk.write_at(0, b"xy").is_err());
+    assert!(rt; is_long(disk, 3));
+    assert!(rt; !writes(disk, 0, b"xy"));
     let mut bytes = [0; 3];
     disk.arm(0);
-    assert!(rt; disk.read_at(0, &mut bytes).is_err());
-    assert_eq!(rt; bytes, [0; 3]);
-    holds(rt, disk, *b"abc");
+    assert!(rt; !reads(disk, 0, &mut bytes));
+    assert!(rt; bytes == [0; 3]);
+    assert!(rt; begins(disk, b"abc"));
 }
 
 fn check_further_calls(rt: &impl Abort, disk: &mut FailOnce<MemDisk>) {
-    disk.write_at(1, b"z").expect(rt, "a write");
+    assert!(rt; writes(disk, 1, b"z"));
     disk.arm(0);
-    assert!(rt; disk.sync().is_err());
-    assert!(rt; disk.read_at(9, &mut [0; 3]).is_err());
-    assert_eq!(rt; disk.failures(), 4);
+    assert!(rt; !syncs(disk));
+    assert!(rt; !reads(disk, 9, &mut [0; 3]));
+    assert!(rt; disk.failures() == 4);
 }
 
 #[test]
@@ -75,9 +77,9 @@ fn one_armed_call_fails(rt: HostRuntime) {
     check_calls(&rt, &mut disk);
     check_further_calls(&rt, &mut disk);
     let mut disk = disk.into_inner();
-    assert_eq!(rt; disk.failures(), 1);
+    assert!(rt; disk.failures() == 1);
     disk.crash(0);
-    holds(&rt, &mut disk, *b"abc");
+    assert!(rt; begins(&mut disk, b"abc"));
 }
 
 /// The disk of an opening of which one call failed.
@@ -88,7 +90,7 @@ fn failed_opening(rt: &impl Abort, alloc: Global, calls: u32) -> FailOnce<MemDis
     match Record::open(alloc, cluster, node, disk) {
         Ok(_record) => panic!(rt; "an opening without one of its calls"),
         Err((fault, disk)) => {
-            assert_eq!(rt; fault, RecordFault::Device);
+            assert!(rt; fault == RecordFault::Device);
             disk
         }
     }
@@ -96,7 +98,7 @@ fn failed_opening(rt: &impl Abort, alloc: Global, calls: u32) -> FailOnce<MemDis
 
 fn opens(rt: &impl Abort, alloc: Global, disk: FailOnce<MemDisk>) {
     let record = opened(rt, alloc, disk);
-    assert_eq!(rt; record.slot(instance(rt, 1)).promised, Some(ballot(rt, 1)));
+    is_promised(rt, &record, Some(ballot(rt, 1)));
 }
 
 /// Each call of an opening fails in turn, and gives the disk back: it opens then.
@@ -105,7 +107,7 @@ fn an_opening_that_fails_gives_the_disk_back(rt: HostRuntime) {
     let alloc = rt.alloc();
     for calls in 0..4 {
         let disk = failed_opening(&rt, alloc, calls);
-        assert_eq!(rt; disk.failures(), 1);
+        assert!(rt; disk.failures() == 1);
         opens(&rt, alloc, disk);
     }
     let mut disk = FailOnce::new(disk_of(&rt, alloc, &ONE_PROMISE));

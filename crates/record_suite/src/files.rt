@@ -1,9 +1,12 @@
 //! A record on a real file. `tools/audit/trace-put` shows the system's calls of these tests.
-use crate::samples::{ONE_ROUND, ballot, instance, one_of_three, opened, put_round, put_vote_for};
+use crate::disks::{reads, syncs, writes};
+use crate::samples::{
+    ONE_ROUND, ballot, ends, instance, one_of_three, opened, put_round, put_vote_for,
+};
 use durable::Record;
 use site_disk::{Disk, FileDisk};
 use std::alloc::Global;
-use std::fs::{self, File, OpenOptions};
+use std::fs::{self, File, Files, OpenOptions};
 use std::io::ErrorKind;
 use std::os::unix::fs::FileExt;
 use std::process::Abort;
@@ -20,32 +23,41 @@ const EBADF: i32 = 9;
 /// How many votes the batch has.
 const VOTES: u32 = 64;
 
+fn fills(file: &File, bytes: &mut [u8]) -> bool {
+    file.read_exact_at(bytes, 0).is_ok()
+}
+
 /// The bytes of the file are these, as this handle reads them.
 fn has_bytes(rt: &impl Abort, file: &File, wanted: [u8; 21]) {
     let mut bytes = [0; 21];
-    file.read_exact_at(&mut bytes, 0).expect(rt, "21 bytes");
-    assert_eq!(rt; bytes, wanted);
+    assert!(rt; fills(file, &mut bytes));
+    assert!(rt; bytes == wanted);
+}
+
+/// What the last call that failed came to, if one did.
+fn last_kind(disk: &FileDisk) -> Option<ErrorKind> {
+    match disk.last_failure() {
+        Some(error) => Some(error.kind()),
+        None => None,
+    }
 }
 
 /// A read past the end fails, and no call did before; what the system said of it stays when calls succeed again.
 fn check_disk(rt: &impl Abort, disk: &mut FileDisk) {
-    assert_eq!(rt; disk.failures(), 0);
-    assert!(rt; disk.last_failure().is_none());
-    assert!(rt; disk.read_at(0, &mut [0; 22]).is_err());
-    assert_eq!(rt; disk.failures(), 1);
-    assert!(rt; disk.sync().is_ok());
-    assert_eq!(rt;
-        disk.last_failure().map(|e| e.kind()),
-        Some(ErrorKind::UnexpectedEof)
-    );
+    assert!(rt; disk.failures() == 0);
+    assert!(rt; last_kind(disk).is_none());
+    assert!(rt; !reads(disk, 0, &mut [0; 22]));
+    assert!(rt; disk.failures() == 1);
+    assert!(rt; syncs(disk));
+    assert!(rt; last_kind(disk) == Some(ErrorKind::UnexpectedEof));
 }
 
 /// A disk whose file is open for reading alone refuses each write, and keeps why.
 fn check_read_only(rt: &impl Abort, file: File) {
     let mut disk = FileDisk::new(file);
-    assert!(rt; disk.write_at(0, b"x").is_err());
+    assert!(rt; !writes(&mut disk, 0, b"x"));
     let error = disk.last_failure().expect(rt, "an error");
-    assert_eq!(rt; error.raw_os_error(), Some(EBADF));
+    assert!(rt; error.raw_os_error() == Some(EBADF));
 }
 
 /// A record on a new file.
@@ -59,66 +71,76 @@ fn made(rt: &impl Abort, alloc: Global, file: File) -> Record<FileDisk> {
 /// A record on a new file takes a round, and the reader finds it while the record is open.
 fn keep_round(rt: &impl Abort, alloc: Global, file: File, reader: &File) {
     let mut record = made(rt, alloc, file);
-    assert_eq!(rt; put_round(&mut record, 1), Ok(()));
+    ends(rt, put_round(&mut record, 1), Ok(()));
     has_bytes(rt, reader, ONE_ROUND);
 }
 
 fn find_round(rt: &impl Abort, alloc: Global, file: File) {
     let record = opened(rt, alloc, FileDisk::new(file));
-    assert_eq!(rt; record.round(), 1);
+    assert!(rt; record.round() == 1);
     check_disk(rt, &mut record.close());
 }
 
 /// Read and written, and made where it is not there.
-fn made_anew() -> OpenOptions {
+fn made_anew(rt: &(impl Files<File = File> + Abort), path: &str) -> File {
     let mut options = OpenOptions::new();
     options.read(true).write(true).create(true);
-    options
+    options.open(rt, path).expect(rt, "a file")
+}
+
+fn length_of(rt: &impl Abort, file: &File) -> u64 {
+    file.metadata().expect(rt, "a length").len()
+}
+
+fn sync_folder(rt: &(impl Files<File = File> + Abort)) {
+    let folder = File::open(rt, FOLDER).expect(rt, "a folder");
+    folder.sync_all().expect(rt, "a sync");
 }
 
 #[test]
 fn a_real_file_keeps_the_record(rt: HostRuntime) {
     let _ = fs::remove_dir_all(&rt, FOLDER);
     fs::create_dir(&rt, FOLDER).expect(&rt, "a folder");
-    let file = made_anew().open(&rt, FILE).expect(&rt, "a file");
+    let file = made_anew(&rt, FILE);
     let reader = File::open(&rt, FILE).expect(&rt, "a file");
     keep_round(&rt, rt.alloc(), file, &reader);
-    let folder = File::open(&rt, FOLDER).expect(&rt, "a folder");
-    folder.sync_all().expect(&rt, "a sync");
-    let file = made_anew().open(&rt, FILE).expect(&rt, "a file");
-    assert_eq!(rt; file.metadata().expect(&rt, "a length").len(), 21);
+    sync_folder(&rt);
+    let file = made_anew(&rt, FILE);
+    assert!(rt; length_of(&rt, &file) == 21);
     find_round(&rt, rt.alloc(), file);
     check_read_only(&rt, reader);
     fs::remove_dir_all(&rt, FOLDER).expect(&rt, "no folder");
 }
 
-/// A record on a new file takes a vote at each of so many instances, all in one batch.
-fn keep_votes(rt: &impl Abort, alloc: Global, file: File) {
-    let mut record = made(rt, alloc, file);
-    assert_eq!(rt; record.begin(), Ok(()));
+/// The record takes a vote at each of so many instances, all in one batch.
+fn put_votes(rt: &impl Abort, alloc: Global, record: &mut Record<FileDisk>) {
+    ends(rt, record.begin(), Ok(()));
     for at in 1..=VOTES {
         let vote = (instance(rt, at), ballot(rt, 1));
-        assert_eq!(rt;
-            put_vote_for(rt, alloc, &mut record, vote, b"value"),
-            Ok(())
-        );
+        let put = put_vote_for(rt, alloc, record, vote, b"value");
+        ends(rt, put, Ok(()));
     }
-    assert_eq!(rt; record.seal(), Ok(()));
+    ends(rt, record.seal(), Ok(()));
 }
 
-fn find_votes(rt: &impl Abort, alloc: Global, file: File) {
-    let record = opened(rt, alloc, FileDisk::new(file));
+fn keep_votes(rt: &impl Abort, alloc: Global, file: File) {
+    put_votes(rt, alloc, &mut made(rt, alloc, file));
+}
+
+fn has_votes(rt: &impl Abort, record: &Record<FileDisk>) {
     for at in 1..=VOTES {
         assert!(rt; record.slot(instance(rt, at)).vote.is_some(), "{at}");
     }
 }
 
+fn find_votes(rt: &impl Abort, alloc: Global, file: File) {
+    has_votes(rt, &opened(rt, alloc, FileDisk::new(file)));
+}
+
 #[test]
 fn a_real_file_keeps_a_batch(rt: HostRuntime) {
     let _ = fs::remove_file(&rt, BATCH_FILE);
-    let file = made_anew().open(&rt, BATCH_FILE).expect(&rt, "a file");
-    keep_votes(&rt, rt.alloc(), file);
-    let file = made_anew().open(&rt, BATCH_FILE).expect(&rt, "a file");
-    find_votes(&rt, rt.alloc(), file);
+    keep_votes(&rt, rt.alloc(), made_anew(&rt, BATCH_FILE));
+    find_votes(&rt, rt.alloc(), made_anew(&rt, BATCH_FILE));
     fs::remove_file(&rt, BATCH_FILE).expect(&rt, "no file");
 }

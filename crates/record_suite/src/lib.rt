@@ -11,6 +11,8 @@ mod crashes;
 #[cfg(test)]
 mod damage;
 #[cfg(test)]
+mod disks;
+#[cfg(test)]
 mod failures;
 #[cfg(test)]
 mod files;

@@ -1,5 +1,5 @@
 //! The histories that a record stands for with one byte changed, computed from its own.
-use crate::changes::{changed, other, places};
+use crate::changes::{changed, other, places, put_byte};
 use crate::samples::{ballot, instance, one_of_three};
 use record_meaning::entry::Entry;
 use record_meaning::history::is_history;
@@ -51,9 +51,7 @@ pub fn with_byte(
     byte: u8,
 ) -> Result<Vec<u8>, AllocError> {
     let mut bytes = Vec::from_slice(alloc, record)?;
-    if let Some(there) = bytes.get_mut(place) {
-        *there = byte;
-    }
+    put_byte(&mut bytes, place, byte);
     Ok(bytes)
 }
 
@@ -67,9 +65,9 @@ fn copies(alloc: Global, entries: &[Entry]) -> Result<Vec<Entry>, AllocError> {
 
 /// The first byte that isn't the record's at its place.
 fn first_other(record: &[u8], bytes: &[u8]) -> Option<(usize, u8)> {
-    for (place, byte) in bytes.iter().enumerate() {
-        if record.get(place) != Some(byte) {
-            return Some((place, *byte));
+    for (place, &byte) in bytes.iter().enumerate() {
+        if place >= record.len() || record[place] != byte {
+            return Some((place, byte));
         }
     }
     None

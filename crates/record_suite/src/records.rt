@@ -1,21 +1,22 @@
 //! Record files byte by byte.
+use crate::disks::holds;
 use crate::samples::{
-    ONE_PROMISE, ONE_ROUND, ballot, disk_of, empty, instance, one_of_three, opened, put_promise,
-    put_round, put_vote_for, refusal,
+    ONE_PROMISE, ONE_ROUND, ballot, disk_of, empty, ends, instance, is_promised, is_refused,
+    one_of_three, opened, put_promise, put_round, put_vote_for,
 };
 use acceptor::Slot;
 use durable::{Record, RecordFault};
-use site_disk::{Call, Disk, MemDisk};
+use site_disk::{Call, MemDisk};
 use site_ids::Ballot;
 use std::alloc::Global;
 use std::process::Abort;
 
-fn letter_of(call: &Call) -> char {
+fn letter_of(call: &Call) -> u8 {
     match call {
-        Call::Len => 'L',
-        Call::Read => 'R',
-        Call::Write { .. } => 'W',
-        Call::Sync => 'S',
+        Call::Len => b'L',
+        Call::Read => b'R',
+        Call::Write { .. } => b'W',
+        Call::Sync => b'S',
     }
 }
 
@@ -34,22 +35,22 @@ const OPENINGS: &[(usize, u8, Option<RecordFault>)] = &[
 /// The record of these bytes has this promise.
 fn promises(rt: &impl Abort, alloc: Global, bytes: &[u8], promised: Option<Ballot>) {
     let record = opened(rt, alloc, disk_of(rt, alloc, bytes));
-    assert_eq!(rt; record.slot(instance(rt, 1)).promised, promised);
+    is_promised(rt, &record, promised);
 }
 
 #[test]
 fn a_promise_record_is_read_or_refused(rt: HostRuntime) {
     for &(len, node, want) in OPENINGS {
         let bytes = &ONE_PROMISE[..len.min(26)];
-        assert_eq!(rt; refusal(&rt, rt.alloc(), node, bytes), want);
+        is_refused(&rt, rt.alloc(), node, bytes, want);
     }
-    assert_eq!(rt; refusal(&rt, rt.alloc(), 2, &SHUT), None);
+    is_refused(&rt, rt.alloc(), 2, &SHUT, None);
     promises(&rt, rt.alloc(), &ONE_PROMISE, Some(ballot(&rt, 1)));
     promises(&rt, rt.alloc(), &SHUT, None);
 }
 
-fn are_calls(calls: &[Call], letters: &str) -> bool {
-    for (call, letter) in calls.iter().zip(letters.chars()) {
+fn are_calls(calls: &[Call], letters: &[u8]) -> bool {
+    for (call, &letter) in calls.iter().zip(letters) {
         if letter_of(call) != letter {
             return false;
         }
@@ -59,32 +60,33 @@ fn are_calls(calls: &[Call], letters: &str) -> bool {
 
 fn check_round(rt: &impl Abort, disk: &mut MemDisk) {
     let (cluster, node) = one_of_three(rt, 2);
-    assert!(rt; are_calls(disk.calls(), "SLRRWSWS"));
-    let mut bytes = [0; 21];
-    disk.read_at(0, &mut bytes).expect(rt, "a read");
-    assert_eq!(rt; bytes, ONE_ROUND);
-    assert_eq!(rt; disk.len(), Ok(21));
+    assert!(rt; are_calls(disk.calls(), b"SLRRWSWS"));
+    assert!(rt; holds(disk, &ONE_ROUND));
     let again = Record::format(cluster, node, disk);
-    assert_eq!(rt; again, Err(RecordFault::NotARecord));
+    ends(rt, again, Err(RecordFault::NotARecord));
+}
+
+fn put_one(rt: &impl Abort, record: &mut Record<MemDisk>) {
+    assert!(rt; record.has_room(5));
+    ends(rt, put_round(record, 1), Ok(()));
 }
 
 #[test]
 fn a_round_is_four_calls_and_eleven_bytes(rt: HostRuntime) {
     let mut record = empty(&rt, rt.alloc());
-    assert!(rt; record.has_room(5));
-    assert_eq!(rt; put_round(&mut record, 1), Ok(()));
+    put_one(&rt, &mut record);
     let mut disk = record.close();
     check_round(&rt, &mut disk);
-    assert_eq!(rt; opened(&rt, rt.alloc(), disk).round(), 1);
+    assert!(rt; opened(&rt, rt.alloc(), disk).round() == 1);
 }
 
 fn put_seventy(rt: &impl Abort, alloc: Global, record: &mut Record<MemDisk>) {
     let ballot = ballot(rt, 1);
     for number in 1..71u8 {
         let at = instance(rt, u32::from(number));
-        assert_eq!(rt; put_promise(record, at, ballot), Ok(()));
+        ends(rt, put_promise(record, at, ballot), Ok(()));
         let put = put_vote_for(rt, alloc, record, (at, ballot), &[number; 1000]);
-        assert_eq!(rt; put, Ok(()));
+        ends(rt, put, Ok(()));
     }
 }
 
@@ -99,7 +101,7 @@ fn read_seventy(rt: &impl Abort, record: &Record<MemDisk>) {
     let ballot = ballot(rt, 1);
     for number in 1..71u8 {
         let slot = record.slot(instance(rt, u32::from(number)));
-        assert_eq!(rt; slot.promised, Some(ballot));
+        assert!(rt; slot.promised == Some(ballot));
         assert!(rt; is_voted(slot, ballot, &[number; 1000]));
     }
 }

@@ -1,10 +1,12 @@
 //! A batch with one growth refused, as `tools/gate/refuse-growths` runs this: a step is taken as ever, or memory was refused, the batch is as it was,
 //! and the next try takes it. Where the disk in memory found none its call failed, so the record is opened again, and all of the batch stands or none
 //! of it.
-use crate::samples::{ballot, instance, one_of_three, put_promise, put_round, put_span, put_vote};
+use crate::samples::{
+    ballot, ends, instance, one_of_three, put_promise, put_round, put_span, put_vote,
+};
 use durable::{Record, RecordFault};
 use site_disk::MemDisk;
-use site_ids::Value;
+use site_ids::{Ballot, Cluster, NodeId, Value};
 use std::alloc::Global;
 use std::process::Abort;
 
@@ -26,15 +28,21 @@ const BATCH: &[Step] = &[
     Step::Vote,
 ];
 
+fn format(alloc: Global, cluster: Cluster, node: NodeId) -> Option<MemDisk> {
+    let mut disk = MemDisk::new(alloc);
+    match Record::format(cluster, node, &mut disk) {
+        Ok(()) => Some(disk),
+        Err(_) => None,
+    }
+}
+
 /// An empty record's disk. A growth that was refused leaves a beginning of it behind, so it is made on another disk then.
 fn formatted(rt: &impl Abort, alloc: Global) -> MemDisk {
     let (cluster, node) = one_of_three(rt, 2);
-    let mut disk = MemDisk::new(alloc);
-    if Record::format(cluster, node, &mut disk).is_err() {
-        disk = MemDisk::new(alloc);
-        Record::format(cluster, node, &mut disk).expect(rt, "a record");
+    match format(alloc, cluster, node) {
+        Some(disk) => disk,
+        None => format(alloc, cluster, node).expect(rt, "a record"),
     }
-    disk
 }
 
 /// The record on a disk, whose opening is tried twice.
@@ -75,33 +83,57 @@ fn act(
 /// Instances at which the batch promises.
 const RAISED: &[u32] = &[1, 5, 7];
 
+/// This is promised there.
+fn promises(rt: &impl Abort, record: &Record<MemDisk>, promised: Option<Ballot>) {
+    for &at in RAISED {
+        assert!(rt; record.slot(instance(rt, at)).promised == promised);
+    }
+}
+
 /// The record tells all of the batch, or nothing.
 fn tells(rt: &impl Abort, record: &Record<MemDisk>) -> bool {
     let all = record.round() == 1;
-    let promised = if all { Some(ballot(rt, 1)) } else { None };
-    for &at in RAISED {
-        assert_eq!(rt; record.slot(instance(rt, at)).promised, promised);
+    if all {
+        promises(rt, record, Some(ballot(rt, 1)));
+    } else {
+        promises(rt, record, None);
     }
-    assert_eq!(rt; record.slot(instance(rt, 1)).vote.is_some(), all);
+    assert!(rt; record.slot(instance(rt, 1)).vote.is_some() == all);
     all
+}
+
+/// Memory was refused, or the step was taken.
+fn is_refused(rt: &impl Abort, alloc: Global, record: &mut Record<MemDisk>, step: Step) -> bool {
+    match act(rt, alloc, record, step) {
+        Ok(()) => false,
+        Err(fault) => {
+            assert!(rt; fault == RecordFault::OutOfMemory, "{step:?}");
+            true
+        }
+    }
 }
 
 /// A batch that waits to be sealed.
 fn fill(rt: &impl Abort, alloc: Global, record: &mut Record<MemDisk>) {
     for &one in BATCH {
-        if let Err(fault) = act(rt, alloc, record, one) {
-            assert_eq!(rt; fault, RecordFault::OutOfMemory);
-            assert_eq!(rt; act(rt, alloc, record, one), Ok(()), "{one:?}");
+        if is_refused(rt, alloc, record, one) {
+            ends(rt, act(rt, alloc, record, one), Ok(()));
         }
     }
     assert!(rt; tells(rt, record));
+}
+
+fn seal(rt: &impl Abort, record: &mut Record<MemDisk>) {
+    if let Err(fault) = record.seal() {
+        assert!(rt; fault == RecordFault::Device);
+    }
 }
 
 /// The same on a record that a failed seal left.
 fn fill_again(rt: &impl Abort, alloc: Global, record: &mut Record<MemDisk>) {
     if !tells(rt, record) {
         fill(rt, alloc, record);
-        assert_eq!(rt; record.seal(), Ok(()));
+        ends(rt, record.seal(), Ok(()));
     }
 }
 
@@ -110,9 +142,7 @@ fn batches(rt: HostRuntime) {
     let alloc = rt.alloc();
     let mut record = opened(&rt, alloc, formatted(&rt, alloc));
     fill(&rt, alloc, &mut record);
-    if let Err(fault) = record.seal() {
-        assert_eq!(rt; fault, RecordFault::Device);
-    }
+    seal(&rt, &mut record);
     let mut record = opened(&rt, alloc, record.close());
     fill_again(&rt, alloc, &mut record);
     assert!(rt; tells(&rt, &opened(&rt, alloc, record.close())));

@@ -4,10 +4,11 @@ ghost use Rattle.site_ids.specs.Spans.{IsInSpan};
 ghost use Rattle.acceptor.specs.Judging.{IsFreeBelow};
 ghost use Rattle.durable.specs.Slots.{slot_at};
 
+use crate::disks::{syncs, writes};
 use acceptor::{PrepareVerdict, ProposeVerdict, judge_prepare, judge_propose};
 use durable::{Record, RecordFault};
 use record_meaning::history::is_free_below;
-use site_disk::{Disk, MemDisk};
+use site_disk::{Armed, Disk, MemDisk};
 use site_ids::{Ballot, Cluster, Instance, MAX_VALUE, NodeId, Value};
 use std::alloc::Global;
 use std::process::Abort;
@@ -38,8 +39,8 @@ pub fn ballot(rt: &impl Abort, round: u32) -> Ballot {
 /// A disk that holds these bytes, all of them synced.
 pub fn disk_of(rt: &impl Abort, alloc: Global, bytes: &[u8]) -> MemDisk {
     let mut disk = MemDisk::new(alloc);
-    disk.write_at(0, bytes).expect(rt, "a write");
-    disk.sync().expect(rt, "a sync");
+    assert!(rt; writes(&mut disk, 0, bytes));
+    assert!(rt; syncs(&mut disk));
     disk
 }
 
@@ -66,13 +67,39 @@ pub fn empty(rt: &impl Abort, alloc: Global) -> Record<MemDisk> {
     opened(rt, alloc, formatted(rt, alloc))
 }
 
+/// Lets so many further calls of the record's disk pass.
+pub fn arm<D: Armed>(record: &mut Record<D>, calls: u32) {
+    record.arm(calls);
+}
+
+/// A call of a record came to that.
+pub fn ends(rt: &impl Abort, came: Result<(), RecordFault>, wanted: Result<(), RecordFault>) {
+    assert_eq!(rt; came, wanted);
+}
+
+/// That is what the record promised at instance 1.
+pub fn is_promised<D: Disk>(rt: &impl Abort, record: &Record<D>, promised: Option<Ballot>) {
+    assert_eq!(rt; record.slot(instance(rt, 1)).promised, promised);
+}
+
 /// Why these bytes are refused to a node of three, if they are.
-pub fn refusal(rt: &impl Abort, alloc: Global, number: u8, bytes: &[u8]) -> Option<RecordFault> {
+fn refusal(rt: &impl Abort, alloc: Global, number: u8, bytes: &[u8]) -> Option<RecordFault> {
     let (cluster, node) = one_of_three(rt, number);
     match Record::open(alloc, cluster, node, disk_of(rt, alloc, bytes)) {
         Ok(_record) => None,
         Err((fault, _disk)) => Some(fault),
     }
+}
+
+/// These bytes are refused to a node of three so, or not at all.
+pub fn is_refused(
+    rt: &impl Abort,
+    alloc: Global,
+    number: u8,
+    bytes: &[u8],
+    wanted: Option<RecordFault>,
+) {
+    assert_eq!(rt; refusal(rt, alloc, number, bytes), wanted);
 }
 
 /// Puts a round. `NotARecord` where it is no higher one.

@@ -1,11 +1,12 @@
 //! The promise of a span on record.
+use crate::disks::{holds, is_long_behind};
 use crate::listed::SPANNED;
 use crate::samples::{
-    ballot, empty, instance, opened, put_promise, put_span, put_vote_for, refusal,
+    arm, ballot, empty, ends, instance, is_refused, opened, put_promise, put_span, put_vote_for,
 };
 use acceptor::Slot;
 use durable::{Record, RecordFault};
-use site_disk::{Armed, Disk, MemDisk};
+use site_disk::MemDisk;
 use site_ids::MAX_INSTANCE;
 use std::alloc::{AllocError, Global};
 use std::process::Abort;
@@ -61,11 +62,15 @@ fn is_voted_for(slot: &Slot, text: &str) -> bool {
     }
 }
 
+fn is_round(rt: &impl Abort, at: u32, promised: u32, round: u32) {
+    assert_eq!(rt; promised, round, "at instance {at}");
+}
+
 /// The rounds promised from an instance on are these.
 fn promises(rt: &impl Abort, record: &Record<MemDisk>, first: u32, rounds: &[u32]) {
-    for (at, round) in (first..=MAX_INSTANCE).zip(rounds) {
+    for (at, &round) in (first..=MAX_INSTANCE).zip(rounds) {
         let promised = promised_round(record.slot(instance(rt, at)));
-        assert_eq!(rt; promised, *round, "at instance {at}");
+        is_round(rt, at, promised, round);
     }
 }
 
@@ -98,7 +103,7 @@ fn look(rt: &impl Abort, record: &Record<MemDisk>, step: Step) {
                 "{step:?}"
             );
         }
-        Step::GreatestRound(round) => assert_eq!(rt; record.greatest_round(), round),
+        Step::GreatestRound(round) => assert!(rt; record.greatest_round() == round),
         _ => {}
     }
 }
@@ -128,11 +133,8 @@ fn play(rt: &impl Abort, alloc: Global, before: &[Step], behind: &[Step]) {
 
 /// The disk has these bytes, behind so many calls.
 fn is_spanned(rt: &impl Abort, disk: &mut MemDisk) {
-    assert_eq!(rt; disk.calls().len(), 8);
-    let mut bytes = [0; 27];
-    disk.read_at(0, &mut bytes).expect(rt, "a read");
-    assert_eq!(rt; bytes, SPANNED);
-    assert_eq!(rt; disk.len(), Ok(27));
+    assert!(rt; disk.calls().len() == 8);
+    assert!(rt; holds(disk, &SPANNED));
 }
 
 const ONE_SPAN: &[Step] = &[Step::Span(5, 3, 1), Step::Promised(4, &[0, 1, 1, 1, 0])];
@@ -179,12 +181,9 @@ fn twice(alloc: Global) -> Result<Vec<u8>, AllocError> {
 
 #[test]
 fn a_span_that_raises_nothing_is_damage(rt: HostRuntime) {
-    assert_eq!(rt; refusal(&rt, rt.alloc(), 2, &SPANNED), None);
+    is_refused(&rt, rt.alloc(), 2, &SPANNED, None);
     let bytes = twice(rt.alloc()).expect(&rt, "memory");
-    assert_eq!(rt;
-        refusal(&rt, rt.alloc(), 2, &bytes),
-        Some(RecordFault::Damaged)
-    );
+    is_refused(&rt, rt.alloc(), 2, &bytes, Some(RecordFault::Damaged));
 }
 
 const LAST_SPANS: &[Step] = &[
@@ -205,31 +204,32 @@ fn spans_of_sixty_four_up_to_the_last_instance(rt: HostRuntime) {
 
 /// A put of the span whose disk fails after so many calls, if it makes so many.
 fn put_armed(rt: &impl Abort, record: &mut Record<MemDisk>, calls: u32) {
-    record.arm(calls);
+    arm(record, calls);
     let put = put_span(record, instance(rt, 5), 3, ballot(rt, 1));
     if calls < 4 {
-        assert_eq!(rt; put, Err(RecordFault::Device));
+        ends(rt, put, Err(RecordFault::Device));
         promises(rt, record, 4, &[0, 0, 0, 0, 0]);
     } else {
-        assert_eq!(rt; put, Ok(()));
+        ends(rt, put, Ok(()));
     }
 }
 
-fn crash(rt: &impl Abort, alloc: Global, row: (u32, u8, u64, bool)) {
+/// Whether the file is so long behind the crash. The next opening keeps the promise or not.
+fn crash(rt: &impl Abort, alloc: Global, row: (u32, u8, u64, bool)) -> bool {
     let (calls, choice, length, kept) = row;
     let mut record = empty(rt, alloc);
     put_armed(rt, &mut record, calls);
     let mut disk = record.close();
-    disk.crash(choice);
-    assert_eq!(rt; disk.len(), Ok(length), "{calls} {choice}");
+    let is_long = is_long_behind(&mut disk, Some(choice), length);
     let round = u32::from(kept);
-    let record = opened(rt, alloc, disk);
-    promises(rt, &record, 4, &[0, round, round, round, 0]);
+    let rounds = [0, round, round, round, 0];
+    promises(rt, &opened(rt, alloc, disk), 4, &rounds);
+    is_long
 }
 
 #[test]
 fn a_crash_after_each_call_keeps_the_span_or_not(rt: HostRuntime) {
     for &row in CRASHES {
-        crash(&rt, rt.alloc(), row);
+        assert!(rt; crash(&rt, rt.alloc(), row), "{row:?}");
     }
 }
