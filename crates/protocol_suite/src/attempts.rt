@@ -4,112 +4,121 @@ use crate::samples::{ballot, cluster, copied, instance, node};
 use chosen_log::{ChosenLog, LearnFault, Learned};
 use learner::Learner;
 use proposer::ProposerFault;
-use site_ids::{Ballot, NodeId, Value};
+use site_ids::{Ballot, Instance, NodeId, Value};
 use std::alloc::Global;
 use std::process::Abort;
 
+const HIGHEST: &[Step] = &[
+    Step::Start(7, 3, 1, "X"),
+    Step::Tells(2, 3, 1, (1, 2, "P"), None),
+    Step::Tells(4, 3, 1, (2, 3, "Q"), None),
+    Step::Tells(2, 3, 1, (2, 5, "R"), None),
+    Step::Promise(1, 3, 1, Some("Q")),
+    Step::Promise(5, 3, 1, None),
+    Step::Sends(7, Sent::Propose(3, 1, "Q")),
+];
+
 #[test]
 fn the_highest_prior_is_proposed_once(rt: HostRuntime) {
-    let steps = [
-        Step::Start(7, 3, 1, "X"),
-        Step::Tells(2, 3, 1, (1, 2, "P"), None),
-        Step::Tells(4, 3, 1, (2, 3, "Q"), None),
-        Step::Tells(2, 3, 1, (2, 5, "R"), None),
-        Step::Promise(1, 3, 1, Some("Q")),
-        Step::Promise(5, 3, 1, None),
-        Step::Sends(7, Sent::Propose(3, 1, "Q")),
-    ];
-    play(&rt, rt.alloc(), 5, 1, &steps);
+    play(&rt, rt.alloc(), 5, 1, HIGHEST);
 }
+
+const ANOTHER_BALLOT: &[Step] = &[
+    Step::Sends(7, Sent::Nothing),
+    Step::Start(7, 3, 1, "X"),
+    Step::Promise(1, 3, 1, None),
+    Step::Promise(2, 2, 1, None),
+    Step::Sends(7, Sent::Prepare(3, 1)),
+    Step::Own(7, Some("X")),
+    Step::Abandon(7),
+    Step::Own(7, None),
+    Step::Sends(7, Sent::Nothing),
+];
 
 #[test]
 fn promises_of_another_ballot_count_for_nothing(rt: HostRuntime) {
-    let steps = [
-        Step::Sends(7, Sent::Nothing),
-        Step::Start(7, 3, 1, "X"),
-        Step::Promise(1, 3, 1, None),
-        Step::Promise(2, 2, 1, None),
-        Step::Sends(7, Sent::Prepare(3, 1)),
-        Step::Own(7, Some("X")),
-        Step::Abandon(7),
-        Step::Own(7, None),
-        Step::Sends(7, Sent::Nothing),
-    ];
-    play(&rt, rt.alloc(), 3, 1, &steps);
+    play(&rt, rt.alloc(), 3, 1, ANOTHER_BALLOT);
 }
+
+const OWN: &[Step] = &[
+    Step::Start(7, 10, 2, "before"),
+    Step::Promise(1, 10, 2, None),
+    Step::Start(7, 11, 2, "own"),
+    Step::Promise(2, 11, 2, None),
+    Step::Promise(1, 11, 2, Some("own")),
+];
 
 /// A later attempt stands in the place of an earlier one, and begins anew.
 #[test]
 fn the_own_value_where_no_prior_is_told(rt: HostRuntime) {
-    let steps = [
-        Step::Start(7, 10, 2, "before"),
-        Step::Promise(1, 10, 2, None),
-        Step::Start(7, 11, 2, "own"),
-        Step::Promise(2, 11, 2, None),
-        Step::Promise(1, 11, 2, Some("own")),
-    ];
-    play(&rt, rt.alloc(), 3, 2, &steps);
+    play(&rt, rt.alloc(), 3, 2, OWN);
 }
+
+const COUNTED: &[Step] = &[
+    Step::Open(0),
+    Step::Start(9, 3, 1, "own"),
+    Step::Open(1),
+    Step::Start(7, 4, 1, "own"),
+    Step::Open(2),
+    Step::Start(8, 5, 1, "own"),
+    Step::Open(3),
+    Step::Start(9, 6, 1, "own"),
+    Step::Open(3),
+    Step::Room(10),
+    Step::Abandon(8),
+    Step::Open(2),
+];
 
 /// The last one begun stands in the place of another. Room without an attempt counts for none.
 #[test]
 fn open_attempts_are_counted(rt: HostRuntime) {
-    let steps = [
-        Step::Open(0),
-        Step::Start(9, 3, 1, "own"),
-        Step::Open(1),
-        Step::Start(7, 4, 1, "own"),
-        Step::Open(2),
-        Step::Start(8, 5, 1, "own"),
-        Step::Open(3),
-        Step::Start(9, 6, 1, "own"),
-        Step::Open(3),
-        Step::Room(10),
-        Step::Abandon(8),
-        Step::Open(2),
-    ];
-    play(&rt, rt.alloc(), 3, 1, &steps);
+    play(&rt, rt.alloc(), 3, 1, COUNTED);
 }
+
+const APART: &[Step] = &[
+    Step::Start(7, 4, 1, "X"),
+    Step::Start(8, 5, 1, "Y"),
+    Step::Promise(1, 4, 1, None),
+    Step::Promise(2, 5, 1, None),
+    Step::Promise(2, 4, 1, Some("X")),
+    Step::Sends(7, Sent::Propose(4, 1, "X")),
+    Step::Sends(8, Sent::Prepare(5, 1)),
+];
 
 #[test]
 fn attempts_at_two_instances_are_apart(rt: HostRuntime) {
-    let steps = [
-        Step::Start(7, 4, 1, "X"),
-        Step::Start(8, 5, 1, "Y"),
-        Step::Promise(1, 4, 1, None),
-        Step::Promise(2, 5, 1, None),
-        Step::Promise(2, 4, 1, Some("X")),
-        Step::Sends(7, Sent::Propose(4, 1, "X")),
-        Step::Sends(8, Sent::Prepare(5, 1)),
-    ];
-    play(&rt, rt.alloc(), 3, 1, &steps);
+    play(&rt, rt.alloc(), 3, 1, APART);
 }
+
+const SPAN: &[Step] = &[
+    Step::Span(6, 3, 1, b"ABC"),
+    Step::Open(3),
+    Step::Promise(3, 2, 1, None),
+    Step::Promise(1, 3, 1, None),
+    Step::Promise(2, 3, 1, Some("B")),
+    Step::Sends(6, Sent::Prepare(3, 1)),
+    Step::Sends(7, Sent::Propose(3, 1, "B")),
+    Step::Sends(8, Sent::Prepare(3, 1)),
+    Step::Span(7, 4, 1, b"DEF"),
+    Step::Open(4),
+    Step::Sends(6, Sent::Prepare(3, 1)),
+    Step::Sends(7, Sent::Prepare(4, 1)),
+    Step::Sends(8, Sent::Prepare(4, 1)),
+    Step::Sends(9, Sent::Prepare(4, 1)),
+];
 
 /// A span that begins within another one stands in the place of what that has there.
 #[test]
 fn attempts_of_a_span_share_a_ballot(rt: HostRuntime) {
-    let steps = [
-        Step::Span(6, 3, 1, b"ABC"),
-        Step::Open(3),
-        Step::Promise(3, 2, 1, None),
-        Step::Promise(1, 3, 1, None),
-        Step::Promise(2, 3, 1, Some("B")),
-        Step::Sends(6, Sent::Prepare(3, 1)),
-        Step::Sends(7, Sent::Propose(3, 1, "B")),
-        Step::Sends(8, Sent::Prepare(3, 1)),
-        Step::Span(7, 4, 1, b"DEF"),
-        Step::Open(4),
-        Step::Sends(6, Sent::Prepare(3, 1)),
-        Step::Sends(7, Sent::Prepare(4, 1)),
-        Step::Sends(8, Sent::Prepare(4, 1)),
-        Step::Sends(9, Sent::Prepare(4, 1)),
-    ];
-    play(&rt, rt.alloc(), 3, 1, &steps);
+    play(&rt, rt.alloc(), 3, 1, SPAN);
+}
+
+fn next(member: &Member, recorded: u32) -> Result<Ballot, ProposerFault> {
+    member.proposer().next_ballot(recorded)
 }
 
 fn rounds(rt: &impl Abort, member: &Member, recorded: u32, round: u32) {
-    let next = member.proposer().next_ballot(recorded);
-    assert_eq!(rt; next, Ok(ballot(rt, round, 2)));
+    assert!(rt; next(member, recorded) == Ok(ballot(rt, round, 2)));
 }
 
 #[test]
@@ -120,8 +129,7 @@ fn ballots_above_all_rounds_heard(rt: HostRuntime) {
     member.heard(ballot(&rt, 4, 3));
     rounds(&rt, &member, 3, 10);
     rounds(&rt, &member, 12, 13);
-    let last = member.proposer().next_ballot(4_294_967_295);
-    assert_eq!(rt; last, Err(ProposerFault::RoundsUsedUp));
+    assert!(rt; next(&member, 4_294_967_295) == Err(ProposerFault::RoundsUsedUp));
 }
 
 /// The voter, the round and the node of its ballot, its value, and whether that value becomes known.
@@ -134,6 +142,21 @@ const VOTES: &[(u8, u32, u8, &str, bool)] = &[
     (5, 1, 1, "v", true),
 ];
 
+fn known_by(
+    rt: &impl Abort,
+    learner: &mut Learner,
+    voter: NodeId,
+    at: Ballot,
+    value: &Value,
+) -> Option<Value> {
+    let chosen = learner.on_accepted(voter, instance(rt, 1), at, value);
+    chosen.expect(rt, "memory")
+}
+
+fn completes(rt: &impl Abort, learner: &Learner, voter: NodeId, at: Ballot, value: &Value) -> bool {
+    learner.completes(voter, instance(rt, 1), at, value)
+}
+
 /// What a learner makes known is the value that it is told.
 fn is_told(
     rt: &impl Abort,
@@ -142,8 +165,7 @@ fn is_told(
     at: Ballot,
     value: &Value,
 ) -> bool {
-    let chosen = learner.on_accepted(voter, instance(rt, 1), at, value);
-    match chosen.expect(rt, "memory") {
+    match known_by(rt, learner, voter, at, value) {
         Some(known) => {
             assert!(rt; known.as_bytes() == value.as_bytes());
             true
@@ -156,9 +178,8 @@ fn tell(rt: &impl Abort, alloc: Global, learner: &mut Learner, row: (u8, u32, u8
     let (voter, round, number, text, known) = row;
     let (voter, at) = (node(rt, voter), ballot(rt, round, number));
     let value = copied(alloc, text.as_bytes()).expect(rt, "a value");
-    let completes = learner.completes(voter, instance(rt, 1), at, &value);
-    assert_eq!(rt; completes, known);
-    assert_eq!(rt; is_told(rt, learner, voter, at, &value), known);
+    assert!(rt; completes(rt, learner, voter, at, &value) == known);
+    assert!(rt; is_told(rt, learner, voter, at, &value) == known);
 }
 
 fn votes(rt: &impl Abort, alloc: Global, learner: &mut Learner) {
@@ -167,7 +188,7 @@ fn votes(rt: &impl Abort, alloc: Global, learner: &mut Learner) {
     }
     learner.forget(instance(rt, 1));
     let value = copied(alloc, b"v").expect(rt, "a value");
-    assert!(rt; !learner.completes(node(rt, 5), instance(rt, 1), ballot(rt, 1, 1), &value));
+    assert!(rt; !completes(rt, learner, node(rt, 5), ballot(rt, 1, 1), &value));
 }
 
 #[test]
@@ -212,13 +233,32 @@ fn is_known(rt: &impl Abort, log: &ChosenLog, number: u32, text: &str) -> bool {
     known.as_bytes() == text.as_bytes()
 }
 
+fn gap_of(log: &ChosenLog) -> Option<Instance> {
+    log.next_gap()
+}
+
+/// Three values are known up to the first gap, and the second of them is this one.
+fn has_second(log: &ChosenLog, text: &str) -> bool {
+    matches!(log.prefix(), [_, value, _] if value.as_bytes() == text.as_bytes())
+}
+
+fn learn_row(
+    rt: &impl Abort,
+    alloc: Global,
+    log: &mut ChosenLog,
+    row: (u32, &str, Option<Learned>, u32),
+) {
+    let (number, text, expected, gap) = row;
+    assert!(rt; learn(rt, alloc, log, number, text) == expected);
+    assert!(rt; gap_of(log) == Some(instance(rt, gap)));
+    assert!(rt; is_known(rt, log, number, text) == expected.is_some());
+}
+
 fn learn_each(rt: &impl Abort, alloc: Global, log: &mut ChosenLog) {
-    for &(number, text, expected, gap) in LEARNED {
-        assert_eq!(rt; learn(rt, alloc, log, number, text), expected);
-        assert_eq!(rt; log.next_gap(), Some(instance(rt, gap)));
-        assert_eq!(rt; is_known(rt, log, number, text), expected.is_some());
+    for &row in LEARNED {
+        learn_row(rt, alloc, log, row);
     }
-    assert!(rt; matches!(log.prefix(), [_, value, _] if value.as_bytes() == b"b".as_slice()));
+    assert!(rt; has_second(log, "b"));
 }
 
 #[test]

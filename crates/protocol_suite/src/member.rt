@@ -17,7 +17,7 @@ pub(crate) struct Member {
 }
 
 /// A message about an instance: the round and the node of its ballot, and its value.
-#[derive(Clone, Copy, Debug)]
+#[derive(Clone, Copy)]
 pub(crate) enum Sent {
     Nothing,
     Prepare(u32, u8),
@@ -28,7 +28,7 @@ pub(crate) enum Sent {
 type Told = (u32, u8, &'static str);
 
 /// What is done with a proposer, and what it answers. A ballot is a round and a node.
-#[derive(Clone, Copy, Debug)]
+#[derive(Clone, Copy)]
 pub(crate) enum Step {
     /// Begins an attempt at an instance, at a ballot, for a value.
     Start(u32, u32, u8, &'static str),
@@ -168,6 +168,19 @@ fn span(rt: &impl Abort, member: &mut Member, first: u32, ballot: Ballot, bytes:
     assert!(rt; member.start_span(instance(rt, first), ballot, values));
 }
 
+/// Whether a promise of that node makes this proposal.
+fn makes(
+    rt: &impl Abort,
+    member: &mut Member,
+    from: u8,
+    at: Ballot,
+    prior: Option<&Vote>,
+    made: Option<&str>,
+) -> bool {
+    let proposal = member.promise(rt, from, instance(rt, 7), at, prior);
+    is_made(&proposal.expect(rt, "memory"), at, made)
+}
+
 fn promise(
     rt: &impl Abort,
     member: &mut Member,
@@ -176,12 +189,9 @@ fn promise(
     prior: Option<&Vote>,
     made: Option<&str>,
 ) {
-    let proposal = member
-        .promise(rt, from, instance(rt, 7), at, prior)
-        .expect(rt, "memory");
     assert!(rt;
-        is_made(&proposal, at, made),
-        "a promise of {from} for {made:?}"
+        makes(rt, member, from, at, prior, made),
+        "a promise of {from}"
     );
 }
 
@@ -198,14 +208,31 @@ fn tell(
     promise(rt, member, from, at, Some(&prior), made);
 }
 
-fn sends(rt: &impl Abort, member: &Member, at: u32, sent: Sent) {
+/// Whether that is sent again of an instance.
+pub(crate) fn is_resent(rt: &impl Abort, member: &Member, at: u32, sent: Sent) -> bool {
     let message = member.resend(instance(rt, at)).expect(rt, "memory");
-    assert!(rt; is_sent(&message, sent), "{sent:?} at {at}");
+    is_sent(&message, sent)
+}
+
+fn sends(rt: &impl Abort, member: &Member, at: u32, sent: Sent) {
+    assert!(rt; is_resent(rt, member, at, sent), "at {at}");
 }
 
 fn start(rt: &impl Abort, member: &mut Member, at: u32, ballot: Ballot, text: &str) {
     let own = copied(member.alloc, text.as_bytes()).expect(rt, "a value");
     assert!(rt; member.start(instance(rt, at), ballot, &own).is_ok());
+}
+
+fn owns(rt: &impl Abort, member: &Member, at: u32, text: Option<&str>) {
+    assert!(rt; member.is_own(instance(rt, at), text));
+}
+
+fn make_room(rt: &impl Abort, member: &mut Member, at: u32) {
+    assert!(rt; member.proposer.make_room(instance(rt, at)).is_ok());
+}
+
+fn has_open(rt: &impl Abort, member: &Member, count: usize) {
+    assert!(rt; member.proposer.attempts() == count);
 }
 
 fn act(rt: &impl Abort, member: &mut Member, step: Step) {
@@ -223,10 +250,10 @@ fn act(rt: &impl Abort, member: &mut Member, step: Step) {
             tell(rt, member, from, ballot(rt, round, node), told, made);
         }
         Step::Sends(at, sent) => sends(rt, member, at, sent),
-        Step::Own(at, text) => assert!(rt; member.is_own(instance(rt, at), text)),
+        Step::Own(at, text) => owns(rt, member, at, text),
         Step::Abandon(at) => member.proposer.abandon(instance(rt, at)),
-        Step::Room(at) => assert!(rt; member.proposer.make_room(instance(rt, at)).is_ok()),
-        Step::Open(count) => assert_eq!(rt; member.proposer.attempts(), count),
+        Step::Room(at) => make_room(rt, member, at),
+        Step::Open(count) => has_open(rt, member, count),
     }
 }
 

@@ -1,7 +1,7 @@
 //! Messages as datagrams, by rows in hexadecimal; verdicts of an acceptor; names of nodes, instances and ballots.
 use crate::samples::{ballot, cluster, instance, node, vote};
 use acceptor::{PrepareVerdict, ProposeVerdict, Slot, judge_prepare, judge_propose};
-use site_ids::{Ballot, Cluster, Instance, MAX_VALUE, Value, Vote};
+use site_ids::{Ballot, Cluster, Instance, MAX_VALUE, NodeId, Value, Vote};
 use std::alloc::Global;
 use std::process::Abort;
 use wire::{MAX_MESSAGE, Message, WireFault, decode, encode};
@@ -81,20 +81,28 @@ fn bytes_of(rt: &impl Abort, alloc: Global, text: &str) -> Vec<u8> {
     hex::decode(alloc, text).expect(rt, "bytes")
 }
 
-/// A message is written as these bytes, behind those that stand before it.
-fn spells(rt: &impl Abort, alloc: Global, message: &Message, bytes: &[u8], text: &str) {
-    assert!(rt; message.fits());
+/// Whether a message fits and was written.
+pub(crate) fn is_written(message: &Message, out: &mut Vec<u8>) -> bool {
+    message.fits() && encode(message, out).is_ok()
+}
+
+/// Whether a message is written as these bytes, behind those that stand before it.
+fn is_spelled(rt: &impl Abort, alloc: Global, message: &Message, bytes: &[u8]) -> bool {
     let mut out = b"before".to_vec(alloc).expect(rt, "memory");
-    encode(message, &mut out).expect(rt, "memory");
-    assert_eq!(rt; out.strip_prefix(b"before"), Some(bytes), "{text}");
+    is_written(message, &mut out) && out.strip_prefix(b"before") == Some(bytes)
+}
+
+/// Whether the message that these bytes spell, in hexadecimal, is written as they are.
+fn is_written_again(rt: &impl Abort, alloc: Global, text: &str) -> bool {
+    let bytes = bytes_of(rt, alloc, text);
+    let message = decoded(rt, alloc, &bytes).expect(rt, text);
+    is_spelled(rt, alloc, &message, &bytes)
 }
 
 #[test]
 fn spellings_are_read_and_written_again(rt: HostRuntime) {
     for &text in SPELLINGS {
-        let bytes = bytes_of(&rt, rt.alloc(), text);
-        let message = decoded(&rt, rt.alloc(), &bytes).expect(&rt, text);
-        spells(&rt, rt.alloc(), &message, &bytes, text);
+        assert!(rt; is_written_again(&rt, rt.alloc(), text), "{text}");
     }
 }
 
@@ -132,19 +140,15 @@ fn other_bytes_are_malformed(rt: HostRuntime) {
     }
 }
 
+/// A prepare of one instance at this ballot.
+fn is_prepare(message: &Message, own: Ballot) -> bool {
+    matches!(message, Message::Prepare { ballot, count, .. } if *ballot == own && *count == 1)
+}
+
 fn check_prepare(rt: &impl Abort, message: &Message) {
-    assert_eq!(rt; message.from(), node(rt, 2));
-    assert_eq!(rt; message.instance().number(), 1);
-    let Message::Prepare {
-        ballot: found,
-        count,
-        ..
-    } = message
-    else {
-        panic!(rt; "another kind");
-    };
-    assert_eq!(rt; *found, ballot(rt, 1, 2));
-    assert_eq!(rt; *count, 1);
+    assert!(rt; message.from() == node(rt, 2));
+    assert!(rt; message.instance().number() == 1);
+    assert!(rt; is_prepare(message, ballot(rt, 1, 2)));
 }
 
 #[test]
@@ -154,12 +158,10 @@ fn a_prepare_by_its_fields(rt: HostRuntime) {
     check_prepare(&rt, &message);
 }
 
-fn check_longest(rt: &impl Abort, alloc: Global, message: &Message) {
-    assert!(rt; message.fits());
+/// Whether a message is as long as one can be, and is read again.
+fn is_longest(rt: &impl Abort, alloc: Global, message: &Message) -> bool {
     let mut out = Vec::new(alloc);
-    encode(message, &mut out).expect(rt, "memory");
-    assert_eq!(rt; out.len(), MAX_MESSAGE);
-    assert!(rt; decoded(rt, alloc, &out).is_ok());
+    is_written(message, &mut out) && out.len() == MAX_MESSAGE && decoded(rt, alloc, &out).is_ok()
 }
 
 fn longest(rt: &impl Abort, value: Value) -> Message {
@@ -179,7 +181,7 @@ fn the_longest_value(rt: HostRuntime) {
     let mut bytes = Vec::new(rt.alloc());
     bytes.resize(MAX_VALUE, 65).expect(&rt, "memory");
     let value = Value::from_bytes(bytes).expect(&rt, "a value");
-    check_longest(&rt, rt.alloc(), &longest(&rt, value));
+    assert!(rt; is_longest(&rt, rt.alloc(), &longest(&rt, value)));
 }
 
 #[test]
@@ -199,38 +201,35 @@ fn slot(rt: &impl Abort, alloc: Global, promised: Ballot, voted: Ballot) -> Slot
     }
 }
 
+fn prepare(rt: &impl Abort, slot: &Slot, at: Ballot, verdict: PrepareVerdict) {
+    assert!(rt; judge_prepare(slot, at) == verdict);
+}
+
+fn propose(rt: &impl Abort, slot: &Slot, at: Ballot, value: &[u8], verdict: ProposeVerdict) {
+    assert!(rt; judge_propose(slot, at, value) == verdict);
+}
+
 fn check_prepares(rt: &impl Abort, slot: &Slot) {
     let own = ballot(rt, 2, 1);
-    for (round, number, verdict) in [
-        (2, 2, PrepareVerdict::Promise),
-        (2, 1, PrepareVerdict::Again),
-        (1, 9, PrepareVerdict::Nack(own)),
-    ] {
-        assert_eq!(rt; judge_prepare(slot, ballot(rt, round, number)), verdict);
-    }
+    prepare(rt, slot, ballot(rt, 2, 2), PrepareVerdict::Promise);
+    prepare(rt, slot, own, PrepareVerdict::Again);
+    prepare(rt, slot, ballot(rt, 1, 9), PrepareVerdict::Nack(own));
 }
 
 /// Of a slot that voted at the ballot that it promised.
 fn check_voted(rt: &impl Abort, slot: &Slot) {
     let own = ballot(rt, 2, 1);
-    assert_eq!(rt; judge_prepare(slot, own), PrepareVerdict::Silent);
-    for (round, number, value, verdict) in [
-        (2, 1, b"v", ProposeVerdict::Again),
-        (2, 1, b"w", ProposeVerdict::Silent),
-        (2, 3, b"w", ProposeVerdict::Vote),
-        (1, 9, b"v", ProposeVerdict::Nack(own)),
-    ] {
-        assert_eq!(rt;
-            judge_propose(slot, ballot(rt, round, number), value),
-            verdict
-        );
-    }
+    prepare(rt, slot, own, PrepareVerdict::Silent);
+    propose(rt, slot, own, b"v", ProposeVerdict::Again);
+    propose(rt, slot, own, b"w", ProposeVerdict::Silent);
+    propose(rt, slot, ballot(rt, 2, 3), b"w", ProposeVerdict::Vote);
+    propose(rt, slot, ballot(rt, 1, 9), b"v", ProposeVerdict::Nack(own));
 }
 
 fn check_empty(rt: &impl Abort, slot: &Slot) {
     let first = ballot(rt, 1, 1);
-    assert_eq!(rt; judge_prepare(slot, first), PrepareVerdict::Promise);
-    assert_eq!(rt; judge_propose(slot, first, b""), ProposeVerdict::Vote);
+    prepare(rt, slot, first, PrepareVerdict::Promise);
+    propose(rt, slot, first, b"", ProposeVerdict::Vote);
 }
 
 #[test]
@@ -245,36 +244,49 @@ fn verdicts_of_an_acceptor(rt: HostRuntime) {
     check_empty(&rt, &empty);
 }
 
-fn check_cluster(rt: &impl Abort, size: u8, quorum: u8) {
-    let cluster = cluster(rt, size);
-    assert_eq!(rt; cluster.size(), size);
-    assert_eq!(rt; cluster.quorum(), quorum);
-    assert!(rt; cluster.node(0).is_none() && cluster.node(size).is_some());
-    assert!(rt; cluster.node(10).is_none());
+/// The cluster has so many nodes, numbered from one on, and that majority.
+fn has_nodes(cluster: Cluster, size: u8, quorum: u8) -> bool {
+    cluster.size() == size
+        && cluster.quorum() == quorum
+        && cluster.node(0).is_none()
+        && cluster.node(size).is_some()
+        && cluster.node(10).is_none()
 }
+
+/// There is no cluster, instance or ballot of that node beyond the bounds.
+fn is_bounded(node: NodeId) -> bool {
+    Cluster::new(0).is_none()
+        && Cluster::new(10).is_none()
+        && Instance::new(0).is_none()
+        && Instance::new(1_000_001).is_none()
+        && Ballot::new(0, node).is_none()
+}
+
+/// Of one node, of two, and so on.
+const QUORUMS: &[u8] = &[1, 2, 2, 3, 3, 4, 4, 5, 5];
 
 #[test]
 fn clusters_and_their_majorities(rt: HostRuntime) {
-    let quorums: [u8; 9] = [1, 2, 2, 3, 3, 4, 4, 5, 5];
-    for (size, quorum) in (1..=9).zip(quorums) {
-        check_cluster(&rt, size, quorum);
+    for (size, &quorum) in (1..=9).zip(QUORUMS) {
+        assert!(rt; has_nodes(cluster(&rt, size), size, quorum));
     }
-    assert!(rt; Cluster::new(0).is_none() && Cluster::new(10).is_none());
-    assert!(rt; Instance::new(0).is_none() && Instance::new(1_000_001).is_none());
-    assert!(rt; Ballot::new(0, node(&rt, 1)).is_none());
+    assert!(rt; is_bounded(node(&rt, 1)));
     assert!(rt; ballot(&rt, 1, 9) < ballot(&rt, 2, 1));
     assert!(rt; ballot(&rt, 2, 1) < ballot(&rt, 2, 2));
 }
 
+fn is_abc(vote: &Vote) -> bool {
+    vote.value.as_bytes() == b"abc".as_slice()
+}
+
 fn check_copy(rt: &impl Abort, vote: &Vote) {
     let copy = vote.try_clone().expect(rt, "memory");
-    assert_eq!(rt; copy.ballot, vote.ballot);
-    assert_eq!(rt; copy.value.as_bytes(), b"abc".as_slice());
+    assert!(rt; copy.ballot == vote.ballot && is_abc(&copy));
 }
 
 #[test]
 fn values_and_votes_are_copied(rt: HostRuntime) {
     let vote = vote(&rt, rt.alloc(), ballot(&rt, 3, 2), "abc");
     check_copy(&rt, &vote);
-    assert_eq!(rt; vote.value.as_bytes(), b"abc".as_slice());
+    assert!(rt; is_abc(&vote));
 }

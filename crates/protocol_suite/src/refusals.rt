@@ -1,6 +1,7 @@
 //! Each call with one growth refused, as `tools/gate/refuse-growths` runs this: it answers as ever, or that memory was refused, and then the next try
 //! answers as ever.
-use crate::member::{Member, Sent, is_made, is_sent, three_values};
+use crate::member::{Member, Sent, is_made, is_resent, is_sent, three_values};
+use crate::messages::is_written;
 use crate::samples::{ballot, cluster, copied, instance, node, vote};
 use chosen_log::{ChosenLog, LearnFault, Learned};
 use learner::Learner;
@@ -8,7 +9,7 @@ use proposer::{Proposal, ProposerFault};
 use site_ids::{Ballot, Value, Vote};
 use std::alloc::{AllocError, Global};
 use std::process::Abort;
-use wire::{Message, WireFault, decode, encode};
+use wire::{Message, WireFault, decode};
 
 /// A promise with a prior vote for the value of one byte.
 const PROMISE: [u8; 23] = [
@@ -20,7 +21,7 @@ fn decoded(rt: &impl Abort, alloc: Global) -> Message {
     match decode(alloc, &PROMISE, cluster) {
         Ok(message) => message,
         Err(fault) => {
-            assert_eq!(rt; fault, WireFault::OutOfMemory);
+            assert!(rt; fault == WireFault::OutOfMemory);
             decode(alloc, &PROMISE, cluster).expect(rt, "a message")
         }
     }
@@ -28,19 +29,21 @@ fn decoded(rt: &impl Abort, alloc: Global) -> Message {
 
 /// A message is spelled so.
 fn encodes(rt: &impl Abort, alloc: Global, message: &Message) {
-    assert!(rt; message.fits());
     let mut out = Vec::new(alloc);
-    if encode(message, &mut out).is_err() {
+    if !is_written(message, &mut out) {
         assert!(rt; out.is_empty());
-        encode(message, &mut out).expect(rt, "memory");
+        assert!(rt; is_written(message, &mut out));
     }
-    assert_eq!(rt; out.as_slice(), PROMISE.as_slice());
+    assert!(rt; out.as_slice() == PROMISE.as_slice());
+}
+
+fn copy_of(rt: &impl Abort, message: &Message) -> Message {
+    message.try_clone().expect(rt, "a copy")
 }
 
 #[test]
 fn messages(rt: HostRuntime) {
-    let message = decoded(&rt, rt.alloc());
-    let copy = message.try_clone().expect(&rt, "a copy");
+    let copy = copy_of(&rt, &decoded(&rt, rt.alloc()));
     encodes(&rt, rt.alloc(), &copy);
 }
 
@@ -56,7 +59,7 @@ fn promised(
     match member.promise(rt, from, at, own, Some(prior)) {
         Ok(proposal) => proposal,
         Err(fault) => {
-            assert_eq!(rt; fault, ProposerFault::OutOfMemory);
+            assert!(rt; fault == ProposerFault::OutOfMemory);
             member
                 .promise(rt, from, at, own, Some(prior))
                 .expect(rt, "memory")
@@ -67,7 +70,7 @@ fn promised(
 fn start(rt: &impl Abort, member: &mut Member, own: Ballot, value: &Value) {
     let at = instance(rt, 7);
     if member.start(at, own, value).is_err() {
-        assert!(rt; matches!(member.resend(at), Ok(None)));
+        assert!(rt; is_resent(rt, member, 7, Sent::Nothing));
         assert!(rt; member.start(at, own, value).is_ok());
     }
 }
@@ -101,15 +104,19 @@ fn proposals(rt: HostRuntime) {
     propose(&rt, &mut member, ballot(&rt, 2, 1), &value, &prior);
 }
 
+fn values_of(rt: &impl Abort, alloc: Global, bytes: &[u8; 3]) -> Vec<Value> {
+    match three_values(alloc, bytes) {
+        Ok(values) => values,
+        Err(_) => three_values(alloc, bytes).expect(rt, "values"),
+    }
+}
+
 #[test]
 fn spans(rt: HostRuntime) {
-    let values = match three_values(rt.alloc(), b"ABC") {
-        Ok(values) => values,
-        Err(_) => three_values(rt.alloc(), b"ABC").expect(&rt, "values"),
-    };
+    let values = values_of(&rt, rt.alloc(), b"ABC");
     let mut member = Member::new(&rt, rt.alloc(), 3, 1);
     assert!(rt; member.start_span(instance(&rt, 6), ballot(&rt, 2, 1), values));
-    assert_eq!(rt; member.proposer().attempts(), 3);
+    assert!(rt; member.proposer().attempts() == 3);
 }
 
 /// Whether a vote for the value makes that known.
@@ -130,11 +137,11 @@ fn tell(rt: &impl Abort, learner: &mut Learner, voter: u8, value: &Value, comple
         Ok(known) => known,
         Err(_) => {
             let would = learner.completes(node(rt, voter), first, ballot(rt, 1, 1), value);
-            assert_eq!(rt; would, completes);
+            assert!(rt; would == completes);
             told(rt, learner, voter, value).expect(rt, "memory")
         }
     };
-    assert_eq!(rt; known, completes);
+    assert!(rt; known == completes);
 }
 
 fn tell_two(rt: &impl Abort, learner: &mut Learner, value: &Value) {
@@ -161,12 +168,14 @@ fn learn(rt: &impl Abort, log: &mut ChosenLog, number: u32, value: Value) {
     assert!(rt; learned == Learned::New);
 }
 
+const LEARNED: &[u32] = &[3, 1, 2];
+
 fn learn_three(rt: &impl Abort, alloc: Global, log: &mut ChosenLog) {
-    for number in [3, 1, 2] {
+    for &number in LEARNED {
         let value = copied(alloc, b"v").expect(rt, "a value");
         learn(rt, log, number, value);
     }
-    assert_eq!(rt; log.prefix().len(), 3);
+    assert!(rt; log.prefix().len() == 3);
 }
 
 #[test]
