@@ -1,7 +1,7 @@
 -- An outbox that only grows.
 use Rattle.std.proofs.Common.{◌≡◌, Result, Ok, Err, is_ok, List, [], ◌∷◌, ◌++◌, sym, ap, ◌∙◌, append-nil, append_assoc}
 use Rattle.std.specs.Prelude.{IsOk, if◌then◌else◌}
-use Rattle.std.specs.Result.{OnErr}
+use Rattle.std.specs.Result.{IsErrAnd, OnErr, OnOk}
 use Rattle.wire.specs.declared.message.Message.{Message}
 use Rattle.node.specs.declared.to.To.{To}
 use Rattle.node.specs.Standing.{OnlyGrows}
@@ -24,3 +24,7 @@ when_ok (Err e) x y after ok is = absurd (cc)
 pub on_err : {T E A : Type 0} (r : Result T E) → A → OnErr r A
 on_err (Ok x) a = tt
 on_err (Err y) a = a
+
+pub not_ok : {T E : Type 0} (A : Type 0) (r : Result T E) (e : E) → IsErrAnd r (λ y. y ≡ e) → OnOk r A
+not_ok A (Ok x) e is = absurd is
+not_ok A (Err y) e is = tt

@@ -14,6 +14,7 @@ pub mod Moving
 pub mod Examples
 pub mod Stepping
 pub mod Sealing
+pub mod DeviceCounts
 pub mod Opening
 pub mod Preparing
 pub mod Judging

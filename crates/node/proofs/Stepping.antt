@@ -39,7 +39,7 @@ use Rattle.node.specs.Endings.{Ending, Whole, Refused, Failed, Ends, EndsWhole, 
 use Rattle.node.specs.Faults.{of_record}
 use Rattle.node.specs.Ahead.{StaysAhead}
 use Rattle.node.specs.Ranges.{HasRanges, IsCallInRange}
-use Rattle.node.specs.Standing.{ending_by, ending_of, IsOnRecord, HasParts, IsNodeOf, IsOnDisk, IsEither, StaysOnDisk, Leads, IsEvent, KeepsOthers, CountsDevice}
+use Rattle.node.specs.Standing.{ending_by, ending_of, IsOnRecord, HasParts, IsNodeOf, IsOnDisk, IsEither, StaysOnDisk, Leads, IsEvent, KeepsOthers}
 use Rattle.node.specs.Waiting.{AreWaiting}
 use Rattle.node.proofs.Knowing.{beginning_stays}
 use Rattle.node.proofs.Ranging.{stays_in_range, says_messages}
@@ -283,6 +283,11 @@ module _ {D : Type 0} where
           leads old new call (Refused cause) before after [] s s others in_range stands ends (same s stands.parts) (stays_there old new s s others store refl refl) (told ∙ sym (append-nil before));
     }
 
+    -- a node that is stopped is left as it is
+    pub refused_stopped : (old : Running D) (call : Call) (before : Handed) → IsCallInRange old.cluster call → old.store.stopped ≡ true → IsEvent stands_for old old call (Refused fault.Stopped) before before
+    refused_stopped old call before in_range stops =
+        refused old old call fault.Stopped before before (record { me = refl; cluster = refl; releases = refl }) in_range refl (λ s stands. is_down old s stands.parts stops) (same_store old.store old.store refl) (λ s parts. parts)
+
     -- want of memory, by the fault that was made of another
     pub wants_memory : {T : Type 0} (old new : Running D) (call : Call) (r : Result T NodeFault) (before after : Handed) → KeepsOthers old new → IsCallInRange old.cluster call → after ≡ before
         → IsErrAnd r (λ y. y ≡ fault.OutOfMemory) → ((s : Node) → IsNodeOf old s → Refuses s call fault.OutOfMemory) → SeemsSame old.store new.store → ((s : Node) → HasParts old s → HasParts new s)
@@ -451,8 +456,3 @@ module _ {D : Type 0} where
           parts = rest_with old new s t others stands.parts rest (same_record old new s t others seems refl refl refl stands.parts.on_record) (λ k. record t { reached = (sym (reached ∙ ap (λ r. max r i) stands.parts.reached)) k });
           stays = stays_there old new s t others seems refl refl;
         })
-
--- ---- counts
-
-pub counts_none : {T : Type 0} (r : Result T NodeFault) (before now : ℕ) → ¬ IsErrOf r fault.Device → now ≡ before → CountsDevice r before now
-counts_none r before now none same = record { counted = λ device. absurd (none device); none = λ other. same }

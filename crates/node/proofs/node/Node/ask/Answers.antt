@@ -5,8 +5,9 @@ use Rattle.node.specs.declared.to.To.TheVariants.{All}
 use Rattle.node.specs.Calls.{ask as asking}
 use Rattle.node.specs.Effects.{says}
 use Rattle.node.proofs.Gaps.{first_unknown, all_known, not_all_known}
-use Rattle.node.proofs.Stepping.{Handed, is_up, same_store, stays_there, whole, refused, wants_memory}
-use Rattle.node.proofs.Adding.{one_more}
+use Rattle.node.proofs.Stepping.{Handed, is_up, same_store, stays_there, whole, refused, refused_stopped, wants_memory}
+use Rattle.node.proofs.Adding.{none_more, one_more}
+use Rattle.node.proofs.DeviceCounts.{no_device, no_fault}
 use Rattle.node.proofs.node.Node.ask.Goals as goal
 
 pub returns-in_default-clause-event : goal.returns-in_default-clause-event
@@ -40,3 +41,27 @@ returns-clause-event g c =
 
 pub returns-clause-grows : goal.returns-clause-grows
 returns-clause-grows g c = one_more _ _ _ _ c.reserve.ensures.items c.push_reserved.ensures.items
+
+pub returns-then-is_stopped-clause-event : goal.returns-then-is_stopped-clause-event
+returns-then-is_stopped-clause-event g c = refused_stopped g.D.Disk.stands_for c.args.self.now asking _ tt (sym c.is_stopped.ensures ∙ c.if-is_stopped.true)
+
+pub returns-then-is_stopped-clause-no_put : goal.returns-then-is_stopped-clause-no_put
+returns-then-is_stopped-clause-no_put g c = (λ device. absurd (cc), refl)
+
+pub returns-in_default-clause-no_put : goal.returns-in_default-clause-no_put
+returns-in_default-clause-no_put g c = (λ device. absurd (cc), refl)
+
+pub returns-in_err-reserve-clause-no_put : goal.returns-in_err-reserve-clause-no_put
+returns-in_err-reserve-clause-no_put g c = (no_device c.from_residual.result c.from_residual.ensures.1, refl)
+
+pub returns-clause-no_put : goal.returns-clause-no_put
+returns-clause-no_put g c = (no_fault tt, refl)
+
+pub returns-then-is_stopped-clause-grows : goal.returns-then-is_stopped-clause-grows
+returns-then-is_stopped-clause-grows g c = none_more _ _ refl
+
+pub returns-in_default-clause-grows : goal.returns-in_default-clause-grows
+returns-in_default-clause-grows g c = none_more _ _ refl
+
+pub returns-in_err-reserve-clause-grows : goal.returns-in_err-reserve-clause-grows
+returns-in_err-reserve-clause-grows g c = none_more _ _ c.reserve.ensures.items

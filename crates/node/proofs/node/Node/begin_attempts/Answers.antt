@@ -7,7 +7,8 @@ use Rattle.node.specs.declared.to.To.TheVariants.{All}
 use Rattle.node.specs.Beginning.{begun}
 use Rattle.node.proofs.Starting.{started}
 use Rattle.node.proofs.Stepping.{Handed, same_store, unmoved, whole, wants_memory, put_fails}
-use Rattle.node.proofs.Adding.{many_more, when_ok}
+use Rattle.node.proofs.Adding.{none_more, many_more, not_ok, when_ok}
+use Rattle.node.proofs.DeviceCounts.{counts_memory, counts_ok, counts_put}
 use Rattle.node.proofs.node.Node.begin_attempts.Goals as goal
 
 pub make_room_for_span-requires : goal.make_room_for_span-requires
@@ -62,3 +63,33 @@ returns-clause-event g c call by =
 
 pub returns-clause-grows : goal.returns-clause-grows
 returns-clause-grows g c = (_, many_more c.args.outbox.now.items _ _ _ _ _ c.reserve.ensures.items c.push_reserved.ensures.items (when_ok c.append.result _ _ _ (c.append.ensures.succeeds (omega (arith, c.in_ok-reserve.ensures.ok, c.push_reserved.ensures.len, c.push_reserved.ensures.capacity, c.len.ensures))) c.append.ensures.items))
+
+pub returns-in_err-reserve-clause-counts : goal.returns-in_err-reserve-clause-counts
+returns-in_err-reserve-clause-counts g c = counts_memory c.from_residual.result _ c.from_residual.ensures.1
+
+pub returns-in_err-make_room_for_span-clause-counts : goal.returns-in_err-make_room_for_span-clause-counts
+returns-in_err-make_room_for_span-clause-counts g c = counts_memory c.from_residual-in_err-make_room_for_span.result _ c.from_residual-in_err-make_room_for_span.ensures.1
+
+pub returns-in_err-put_round-clause-counts : goal.returns-in_err-put_round-clause-counts
+returns-in_err-put_round-clause-counts g c = counts_put g.D.Disk.stands_for g.D.Disk.failed c.args.self.now.store _ _ _ c.from_residual-in_err-put_round.result c.in_err-put_round.ensures.put c.from_residual-in_err-put_round.ensures.1
+
+pub returns-clause-counts : goal.returns-clause-counts
+returns-clause-counts g c = counts_ok tt _ _ c.in_ok-put_round.ensures.put.put.none_failed
+
+pub returns-in_err-reserve-clause-grows : goal.returns-in_err-reserve-clause-grows
+returns-in_err-reserve-clause-grows g c = none_more _ _ c.reserve.ensures.items
+
+pub returns-in_err-make_room_for_span-clause-grows : goal.returns-in_err-make_room_for_span-clause-grows
+returns-in_err-make_room_for_span-clause-grows g c = none_more _ _ c.reserve.ensures.items
+
+pub returns-in_err-put_round-clause-grows : goal.returns-in_err-put_round-clause-grows
+returns-in_err-put_round-clause-grows g c = none_more _ _ c.reserve.ensures.items
+
+pub returns-in_err-reserve-clause-rises : goal.returns-in_err-reserve-clause-rises
+returns-in_err-reserve-clause-rises g c = not_ok _ c.from_residual.result _ c.from_residual.ensures.1
+
+pub returns-in_err-make_room_for_span-clause-rises : goal.returns-in_err-make_room_for_span-clause-rises
+returns-in_err-make_room_for_span-clause-rises g c = not_ok _ c.from_residual-in_err-make_room_for_span.result _ c.from_residual-in_err-make_room_for_span.ensures.1
+
+pub returns-in_err-put_round-clause-rises : goal.returns-in_err-put_round-clause-rises
+returns-in_err-put_round-clause-rises g c = not_ok _ c.from_residual-in_err-put_round.result _ c.from_residual-in_err-put_round.ensures.1

@@ -10,6 +10,7 @@ use Rattle.node.proofs.Counting.{found, missing, more_votes, same_votes, complet
 use Rattle.node.proofs.LearnedParts.{told_elsewhere_with, counted_parts}
 use Rattle.node.proofs.Queueing.{is_true, true_is}
 use Rattle.node.proofs.Stepping.{is_up, same_store, stays_there, touched, whole, quiet_whole, wants_memory}
+use Rattle.node.proofs.DeviceCounts.{no_device, no_fault}
 use Rattle.node.proofs.node.Node.on_accepted.Goals as goal
 
 pub returns-then-is_some-clause-event : goal.returns-then-is_some-clause-event
@@ -99,3 +100,18 @@ returns-clause-event g c before in_range =
   where
     off : true ≡ false → ⊥
     off e = cc
+
+pub returns-then-is_some-clause-no_put : goal.returns-then-is_some-clause-no_put
+returns-then-is_some-clause-no_put g c = (no_fault tt, refl)
+
+pub returns-in_err-learn-clause-no_put : goal.returns-in_err-learn-clause-no_put
+returns-in_err-learn-clause-no_put g c = (no_device c.from_residual.result c.from_residual.ensures.1, c.learn.ensures.same.1)
+
+pub returns-then-completes-clause-no_put : goal.returns-then-completes-clause-no_put
+returns-then-completes-clause-no_put g c = (no_fault tt, c.learn.ensures.same.1)
+
+pub returns-in_err-on_accepted-clause-no_put : goal.returns-in_err-on_accepted-clause-no_put
+returns-in_err-on_accepted-clause-no_put g c = (no_device c.from_residual-in_err-on_accepted.result c.from_residual-in_err-on_accepted.ensures.1, refl)
+
+pub returns-clause-no_put : goal.returns-clause-no_put
+returns-clause-no_put g c = (no_fault tt, refl)

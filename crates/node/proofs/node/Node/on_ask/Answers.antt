@@ -5,7 +5,8 @@ use Rattle.node.specs.Nodes.{Value}
 use Rattle.node.specs.Calls.{deliver}
 use Rattle.node.specs.Effects.{quiet, says}
 use Rattle.node.proofs.Stepping.{delivery_wants, Handed, same_store, stays_there, whole}
-use Rattle.node.proofs.Adding.{one_more}
+use Rattle.node.proofs.Adding.{none_more, one_more}
+use Rattle.node.proofs.DeviceCounts.{no_device, no_fault}
 use Rattle.node.proofs.node.Node.on_ask.Goals as goal
 
 pub returns-in_default-clause-event : goal.returns-in_default-clause-event
@@ -41,3 +42,24 @@ returns-in_err-value-clause-event g c in_range =
 
 pub returns-clause-grows : goal.returns-clause-grows
 returns-clause-grows g c = one_more _ _ _ _ c.reserve.ensures.items c.push_reserved.ensures.items
+
+pub returns-in_default-clause-no_put : goal.returns-in_default-clause-no_put
+returns-in_default-clause-no_put g c = (no_fault tt, refl)
+
+pub returns-in_err-reserve-clause-no_put : goal.returns-in_err-reserve-clause-no_put
+returns-in_err-reserve-clause-no_put g c = (no_device c.from_residual.result c.from_residual.ensures.1, refl)
+
+pub returns-in_err-value-clause-no_put : goal.returns-in_err-value-clause-no_put
+returns-in_err-value-clause-no_put g c = (no_device c.from_residual-in_err-value.result c.from_residual-in_err-value.ensures.1, refl)
+
+pub returns-clause-no_put : goal.returns-clause-no_put
+returns-clause-no_put g c = (no_fault tt, refl)
+
+pub returns-in_default-clause-grows : goal.returns-in_default-clause-grows
+returns-in_default-clause-grows g c = none_more _ _ refl
+
+pub returns-in_err-reserve-clause-grows : goal.returns-in_err-reserve-clause-grows
+returns-in_err-reserve-clause-grows g c = none_more _ _ c.reserve.ensures.items
+
+pub returns-in_err-value-clause-grows : goal.returns-in_err-value-clause-grows
+returns-in_err-value-clause-grows g c = none_more _ _ c.reserve.ensures.items

@@ -9,6 +9,7 @@ use Rattle.node.specs.Nodes.{Value}
 use Rattle.node.specs.Calls.{deliver}
 use Rattle.node.specs.Effects.{quiet, learned}
 use Rattle.node.proofs.Stepping.{is_up, same_store, stays_there, touched, whole, quiet_whole, wants_memory}
+use Rattle.node.proofs.DeviceCounts.{no_device, no_fault}
 use Rattle.node.proofs.node.Node.on_chosen.Goals as goal
 
 pub returns-in_err-learn-clause-event : goal.returns-in_err-learn-clause-event
@@ -66,3 +67,12 @@ returns-clause-event g c from before in_range =
     quiet_whole g.D.Disk.stands_for old _ (deliver (Chosen from i v)) i before before [] [] (record { me = refl; cluster = refl; releases = refl }) c.requires.running in_range refl
     (record { learner = refl; known = refl; queue = refl; attempts = λ a are. are; heard = refl }) (c.max-reached.ensures ∙ ap (max old.reached) c.number.ensures.is) (sym (append-nil before)) refl
     (λ s stands. inr (sym (stands.parts.known.values i) ∙ sym c.in-Some.ensures ∙ ap (λ (x : Value). Some x) same, refl))
+
+pub returns-in_err-learn-clause-no_put : goal.returns-in_err-learn-clause-no_put
+returns-in_err-learn-clause-no_put g c = (no_device c.from_residual.result c.from_residual.ensures.1, c.learn.ensures.same.1)
+
+pub returns-in_default-clause-no_put : goal.returns-in_default-clause-no_put
+returns-in_default-clause-no_put g c = (no_fault tt, c.learn.ensures.same.1)
+
+pub returns-clause-no_put : goal.returns-clause-no_put
+returns-clause-no_put g c = (no_fault tt, refl)

@@ -6,7 +6,8 @@ use Rattle.node.specs.Calls.{deliver}
 use Rattle.node.specs.Deliveries.{span_out}
 use Rattle.node.proofs.Preparing.{prepare_takes, answers_take, rises_where, rises_takes, prepare_rises, prepare_stays}
 use Rattle.node.proofs.Stepping.{delivery_wants, Handed, is_up, put_fails, put_whole, quiet_whole}
-use Rattle.node.proofs.Adding.{when_ok}
+use Rattle.node.proofs.Adding.{none_more, when_ok}
+use Rattle.node.proofs.DeviceCounts.{counts_memory, counts_ok, counts_put}
 use Rattle.node.proofs.node.Node.on_prepare.Goals as goal
 
 -- a span of which an instance rises is put
@@ -93,3 +94,27 @@ returns-clause-grows g c = (
   when_ok c.append-2.result _ _ _ (c.append-2.ensures.succeeds (omega (arith, c.in_ok-reserve.ensures.ok, c.len.ensures))) c.append-2.ensures.items
       ∙ ap (λ (l : Handed). l ++ c.in_ok-judgement.judgement.answers.items) c.reserve.ensures.items,
 )
+
+pub returns-in_err-judgement-clause-counts : goal.returns-in_err-judgement-clause-counts
+returns-in_err-judgement-clause-counts g c = counts_memory c.from_residual.result _ c.from_residual.ensures.1
+
+pub returns-in_err-reserve-clause-counts : goal.returns-in_err-reserve-clause-counts
+returns-in_err-reserve-clause-counts g c = counts_memory c.from_residual-in_err-reserve.result _ c.from_residual-in_err-reserve.ensures.1
+
+pub returns-then-not-judgement-clause-counts : goal.returns-then-not-judgement-clause-counts
+returns-then-not-judgement-clause-counts g c = counts_ok tt _ _ refl
+
+pub returns-in_err-put_promises-clause-counts : goal.returns-in_err-put_promises-clause-counts
+returns-in_err-put_promises-clause-counts g c = counts_put g.D.Disk.stands_for g.D.Disk.failed c.args.self.now.store _ _ _ c.from_residual-in_err-put_promises.result c.in_err-put_promises.ensures c.from_residual-in_err-put_promises.ensures.1
+
+pub returns-clause-counts : goal.returns-clause-counts
+returns-clause-counts g c = counts_ok tt _ _ c.in_ok-put_promises.ensures.put.none_failed
+
+pub returns-in_err-judgement-clause-grows : goal.returns-in_err-judgement-clause-grows
+returns-in_err-judgement-clause-grows g c = none_more _ _ refl
+
+pub returns-in_err-reserve-clause-grows : goal.returns-in_err-reserve-clause-grows
+returns-in_err-reserve-clause-grows g c = none_more _ _ c.reserve.ensures.items
+
+pub returns-in_err-put_promises-clause-grows : goal.returns-in_err-put_promises-clause-grows
+returns-in_err-put_promises-clause-grows g c = none_more _ _ c.reserve.ensures.items

@@ -10,7 +10,8 @@ use Rattle.node.specs.declared.to.To.TheVariants.{All}
 use Rattle.node.specs.Calls.{deliver}
 use Rattle.node.proofs.Promising.{attempts_stay, proposes_none, proposes_some, proposal_out, promise_whole}
 use Rattle.node.proofs.Stepping.{delivery_wants, Handed, is_up, same_store, refused}
-use Rattle.node.proofs.Adding.{one_more}
+use Rattle.node.proofs.Adding.{none_more, one_more}
+use Rattle.node.proofs.DeviceCounts.{no_device, no_fault}
 use Rattle.node.proofs.node.Node.on_promise.Goals as goal
 
 pub returns-in-Ok-Some-clause-event : goal.returns-in-Ok-Some-clause-event
@@ -73,3 +74,24 @@ returns-in_err-reserve-clause-event g c in_range =
 
 pub returns-in-Ok-Some-clause-grows : goal.returns-in-Ok-Some-clause-grows
 returns-in-Ok-Some-clause-grows g c = one_more _ _ _ _ c.reserve.ensures.items c.push_reserved.ensures.items
+
+pub returns-in-Ok-Some-clause-no_put : goal.returns-in-Ok-Some-clause-no_put
+returns-in-Ok-Some-clause-no_put g c = (no_fault tt, refl)
+
+pub returns-in-Ok-None-clause-no_put : goal.returns-in-Ok-None-clause-no_put
+returns-in-Ok-None-clause-no_put g c = (no_fault tt, refl)
+
+pub returns-in-Err-clause-no_put : goal.returns-in-Err-clause-no_put
+returns-in-Err-clause-no_put g c = (λ device. absurd (cc), refl)
+
+pub returns-in_err-reserve-clause-no_put : goal.returns-in_err-reserve-clause-no_put
+returns-in_err-reserve-clause-no_put g c = (no_device c.from_residual.result c.from_residual.ensures.1, refl)
+
+pub returns-in-Ok-None-clause-grows : goal.returns-in-Ok-None-clause-grows
+returns-in-Ok-None-clause-grows g c = none_more _ _ c.reserve.ensures.items
+
+pub returns-in-Err-clause-grows : goal.returns-in-Err-clause-grows
+returns-in-Err-clause-grows g c = none_more _ _ c.reserve.ensures.items
+
+pub returns-in_err-reserve-clause-grows : goal.returns-in_err-reserve-clause-grows
+returns-in_err-reserve-clause-grows g c = none_more _ _ c.reserve.ensures.items

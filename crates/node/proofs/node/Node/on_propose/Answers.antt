@@ -11,7 +11,8 @@ use Rattle.node.specs.Calls.{deliver}
 use Rattle.node.proofs.Preparing.{propose_does, proposal_takes}
 use Rattle.node.proofs.Verdicts.{proposal_effect}
 use Rattle.node.proofs.Stepping.{delivery_wants, Handed, is_up, touched, put_fails, put_whole, quiet_whole}
-use Rattle.node.proofs.Adding.{one_more}
+use Rattle.node.proofs.Adding.{none_more, one_more}
+use Rattle.node.proofs.DeviceCounts.{counts_memory, counts_ok, counts_put}
 use Rattle.node.proofs.node.Node.on_propose.Goals as goal
 
 pub returns-in_err-put_vote-in-Vote-clause-event : goal.returns-in_err-put_vote-in-Vote-clause-event
@@ -114,3 +115,54 @@ returns-in_ok-copy-in-Again-clause-grows g c = one_more _ _ _ _ c.reserve-in-Aga
 
 pub returns-in_ok-reserve-in-Nack-clause-grows : goal.returns-in_ok-reserve-in-Nack-clause-grows
 returns-in_ok-reserve-in-Nack-clause-grows g c = one_more _ _ _ _ c.reserve-in-Nack.ensures.items c.push_reserved-in-Nack.ensures.items
+
+pub returns-in_err-reserve-in-Vote-clause-counts : goal.returns-in_err-reserve-in-Vote-clause-counts
+returns-in_err-reserve-in-Vote-clause-counts g c = counts_memory c.from_residual.result _ c.from_residual.ensures.1
+
+pub returns-in_err-copy-in-Vote-clause-counts : goal.returns-in_err-copy-in-Vote-clause-counts
+returns-in_err-copy-in-Vote-clause-counts g c = counts_memory c.from_residual-in_err-copy-in-Vote.result _ c.from_residual-in_err-copy-in-Vote.ensures.1
+
+pub returns-in_err-reserve-in-Again-clause-counts : goal.returns-in_err-reserve-in-Again-clause-counts
+returns-in_err-reserve-in-Again-clause-counts g c = counts_memory c.from_residual-in_err-reserve-in-Again.result _ c.from_residual-in_err-reserve-in-Again.ensures.1
+
+pub returns-in_err-copy-in-Again-clause-counts : goal.returns-in_err-copy-in-Again-clause-counts
+returns-in_err-copy-in-Again-clause-counts g c = counts_memory c.from_residual-in_err-copy-in-Again.result _ c.from_residual-in_err-copy-in-Again.ensures.1
+
+pub returns-in_err-reserve-in-Nack-clause-counts : goal.returns-in_err-reserve-in-Nack-clause-counts
+returns-in_err-reserve-in-Nack-clause-counts g c = counts_memory c.from_residual-in_err-reserve-in-Nack.result _ c.from_residual-in_err-reserve-in-Nack.ensures.1
+
+pub returns-in_err-put_vote-in-Vote-clause-counts : goal.returns-in_err-put_vote-in-Vote-clause-counts
+returns-in_err-put_vote-in-Vote-clause-counts g c = counts_put g.D.Disk.stands_for g.D.Disk.failed c.args.self.now.store _ _ _ c.from_residual-in_err-put_vote-in-Vote.result c.in_err-put_vote-in-Vote.ensures c.from_residual-in_err-put_vote-in-Vote.ensures.1
+
+pub returns-in_ok-put_vote-in-Vote-clause-counts : goal.returns-in_ok-put_vote-in-Vote-clause-counts
+returns-in_ok-put_vote-in-Vote-clause-counts g c = counts_ok tt _ _ c.in_ok-put_vote-in-Vote.ensures.put.none_failed
+
+pub returns-in_ok-copy-in-Again-clause-counts : goal.returns-in_ok-copy-in-Again-clause-counts
+returns-in_ok-copy-in-Again-clause-counts g c = counts_ok tt _ _ refl
+
+pub returns-in_ok-reserve-in-Nack-clause-counts : goal.returns-in_ok-reserve-in-Nack-clause-counts
+returns-in_ok-reserve-in-Nack-clause-counts g c = counts_ok tt _ _ refl
+
+pub returns-in-Silent-clause-counts : goal.returns-in-Silent-clause-counts
+returns-in-Silent-clause-counts g c = counts_ok tt _ _ refl
+
+pub returns-in_err-reserve-in-Vote-clause-grows : goal.returns-in_err-reserve-in-Vote-clause-grows
+returns-in_err-reserve-in-Vote-clause-grows g c = none_more _ _ c.reserve.ensures.items
+
+pub returns-in_err-copy-in-Vote-clause-grows : goal.returns-in_err-copy-in-Vote-clause-grows
+returns-in_err-copy-in-Vote-clause-grows g c = none_more _ _ c.reserve.ensures.items
+
+pub returns-in_err-put_vote-in-Vote-clause-grows : goal.returns-in_err-put_vote-in-Vote-clause-grows
+returns-in_err-put_vote-in-Vote-clause-grows g c = none_more _ _ c.reserve.ensures.items
+
+pub returns-in_err-reserve-in-Again-clause-grows : goal.returns-in_err-reserve-in-Again-clause-grows
+returns-in_err-reserve-in-Again-clause-grows g c = none_more _ _ c.reserve-in-Again.ensures.items
+
+pub returns-in_err-copy-in-Again-clause-grows : goal.returns-in_err-copy-in-Again-clause-grows
+returns-in_err-copy-in-Again-clause-grows g c = none_more _ _ c.reserve-in-Again.ensures.items
+
+pub returns-in_err-reserve-in-Nack-clause-grows : goal.returns-in_err-reserve-in-Nack-clause-grows
+returns-in_err-reserve-in-Nack-clause-grows g c = none_more _ _ c.reserve-in-Nack.ensures.items
+
+pub returns-in-Silent-clause-grows : goal.returns-in-Silent-clause-grows
+returns-in-Silent-clause-grows g c = none_more _ _ refl

@@ -46,3 +46,15 @@ returns-clause-ok g c = (
 pub returns-in_err-feed-clause-short : goal.returns-in_err-feed-clause-short
 returns-in_err-feed-clause-short g c =
     on_err c.from_residual.result (λ s stands. not_all c.args.self.now.known.log s c.prefix.result.now c.feed.new.releases stands.parts.known.values c.prefix.ensures.each c.in_err-feed.ensures.short)
+
+pub returns-in_err-feed-clause-on_disk : goal.returns-in_err-feed-clause-on_disk
+returns-in_err-feed-clause-on_disk g c s d on = record { stands = on.stands; keeps = on.keeps; stored = on.stored }
+
+pub returns-clause-on_disk : goal.returns-clause-on_disk
+returns-clause-on_disk g c s d on = record { stands = on.stands; keeps = on.keeps; stored = on.stored }
+
+pub returns-in_err-feed-clause-more : goal.returns-in_err-feed-clause-more
+returns-in_err-feed-clause-more g c = c.feed.ensures.more
+
+pub returns-clause-more : goal.returns-clause-more
+returns-clause-more g c = c.feed.ensures.more

@@ -8,8 +8,9 @@ use Rattle.node.specs.Effects.{quiet}
 use Rattle.node.specs.Tickets.{IsHeld, HoldsTicket}
 use Rattle.node.specs.Waiting.{AreWaiting}
 use Rattle.node.proofs.Queueing.{is_true, true_is, held_by}
-use Rattle.node.proofs.Stepping.{is_up, same_store, stays_there, whole, refused, wants_memory}
+use Rattle.node.proofs.Stepping.{is_up, same_store, stays_there, whole, refused, refused_stopped, wants_memory}
 use Rattle.node.proofs.Unread.{not_submitted, is_cause}
+use Rattle.node.proofs.DeviceCounts.{no_device, no_fault}
 use Rattle.node.proofs.node.Node.submit.Goals as goal
 
 off : true ≡ false → ⊥
@@ -126,3 +127,21 @@ returns-clause-event g c =
 
 pub returns-in_err-ticket-clause-cause : goal.returns-in_err-ticket-clause-cause
 returns-in_err-ticket-clause-cause g c = is_cause c.args.value.now c.in_err-ticket.field-0.0 c.from_residual.result c.from_residual.ensures.1 c.in_err-ticket.ensures
+
+pub returns-then-is_stopped-clause-event : goal.returns-then-is_stopped-clause-event
+returns-then-is_stopped-clause-event g c = refused_stopped g.D.Disk.stands_for c.args.self.now (submission c.args.value.now) _ tt (sym c.is_stopped.ensures ∙ c.if-is_stopped.true)
+
+pub returns-then-is_stopped-clause-no_put : goal.returns-then-is_stopped-clause-no_put
+returns-then-is_stopped-clause-no_put g c = (λ device. absurd (cc), refl)
+
+pub returns-then-holds-clause-no_put : goal.returns-then-holds-clause-no_put
+returns-then-holds-clause-no_put g c = (no_fault _, refl)
+
+pub returns-then-is_full-clause-no_put : goal.returns-then-is_full-clause-no_put
+returns-then-is_full-clause-no_put g c = (λ device. absurd (cc), refl)
+
+pub returns-in_err-push-clause-no_put : goal.returns-in_err-push-clause-no_put
+returns-in_err-push-clause-no_put g c = (no_device c.from_residual-in_err-push.result c.from_residual-in_err-push.ensures.1, refl)
+
+pub returns-clause-no_put : goal.returns-clause-no_put
+returns-clause-no_put g c = (no_fault _, refl)

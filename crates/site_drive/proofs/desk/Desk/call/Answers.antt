@@ -3,7 +3,7 @@ use Rattle.node.specs.Endings.{Whole}
 use Rattle.node.specs.Standing.{ending_of}
 use Rattle.site_drive.proofs.Calling.{asked, told, none_called}
 use Rattle.site_drive.proofs.Closing.{Ended}
-use Rattle.node.proofs.Stepping.{counts_none}
+use Rattle.node.proofs.DeviceCounts.{counts_none}
 use Rattle.site_drive.proofs.Failing.{store_kept}
 use Rattle.site_drive.proofs.desk.Desk.call.Goals as goal
 

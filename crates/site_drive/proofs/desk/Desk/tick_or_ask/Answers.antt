@@ -3,7 +3,8 @@ use Rattle.node.specs.Standing.{ending_of, ending_by}
 use Rattle.site_drive.specs.declared.last_call.LastCall.TheVariants.{TickOrAsk}
 use Rattle.site_drive.proofs.Calling.{asked_instead, tick_short, not_whole, ticked}
 use Rattle.site_drive.proofs.Closing.{Ended}
-use Rattle.node.proofs.Stepping.{ending_err, counts_none}
+use Rattle.node.proofs.DeviceCounts.{counts_none}
+use Rattle.node.proofs.Stepping.{ending_err}
 use Rattle.site_drive.proofs.Failing.{store_kept, none_failed, counts_on, counts_behind}
 use Rattle.site_drive.proofs.desk.Desk.tick_or_ask.Goals as goal
 
