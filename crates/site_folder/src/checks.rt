@@ -3,21 +3,49 @@
 ghost use Rattle.site_folder.specs.Texts.{AreCommands};
 
 use crate::finding::Finding;
-use crate::folder::{Reading, key_of};
+use crate::folder::{PartialCall, Reading, Redirect, Route, key_of};
 use crate::place::Place;
 use crate::reasons::{fault_in, warning_in};
 use command::Kind;
 use std::alloc::{AllocError, Global};
 
-/// A fault of a line of `routes`: something isn't there.
-fn missing(alloc: Global, line: usize, what: &str) -> Result<Finding, AllocError> {
-    let reason = format!(in alloc; "there is no {what}")?;
-    fault_in(
-        alloc,
-        "routes",
-        Some(Place { line, column: 1 }),
-        reason.as_str(),
-    )
+/// A fault of a line of `routes`.
+fn route_fault(alloc: Global, line: usize, reason: &str) -> Result<Finding, AllocError> {
+    fault_in(alloc, "routes", Some(Place { line, column: 1 }), reason)
+}
+
+/// A route's template isn't there.
+fn missing_template(alloc: Global, route: &Route) -> Result<Finding, AllocError> {
+    let name = route.template.as_str();
+    let reason = format!(in alloc; "there is no templates/{name}.mustache")?;
+    route_fault(alloc, route.line, reason.as_str())
+}
+
+/// A route's data aren't there.
+fn missing_data(alloc: Global, route: &Route) -> Result<Finding, AllocError> {
+    let name = route.page_data.as_str();
+    let reason = format!(in alloc; "there is no data/{name}.json")?;
+    route_fault(alloc, route.line, reason.as_str())
+}
+
+/// A path has a route, and so has the bare one, without its slash at the end.
+fn two_paths(alloc: Global, route: &Route, bare: &str) -> Result<Finding, AllocError> {
+    let path = route.path.as_str();
+    let reason = format!(in alloc; "{path} and {bare} are two paths, which readers take for one")?;
+    let place = Place {
+        line: route.line,
+        column: 1,
+    };
+    warning_in(alloc, "routes", place, reason)
+}
+
+/// A partial that is called isn't there.
+fn missing_partial(alloc: Global, call: &PartialCall) -> Result<Finding, AllocError> {
+    let name = call.name.as_str();
+    let reason = format!(in alloc;
+        "there is no partials/{name}.mustache, so nothing is printed here"
+    )?;
+    warning_in(alloc, call.file.as_str(), call.place, reason)
 }
 
 impl Reading {
@@ -30,10 +58,7 @@ impl Reading {
         self.check_redirects(&mut findings)?;
         self.check_slashes(&mut findings)?;
         self.check_calls(&mut findings)?;
-        for finding in findings {
-            self.find(finding)?;
-        }
-        Ok(())
+        self.folder.findings.append(&mut findings)
     }
 
     /// The line that puts a name of a kind, 0 where a file does.
@@ -45,39 +70,49 @@ impl Reading {
     /// Finds the routes that name what isn't there.
     fn check_routes(&self, findings: &mut Vec<Finding>) -> Result<(), AllocError> {
         for route in self.folder.routes.iter() {
-            let template = route.template.as_str();
-            let page_data = route.page_data.as_str();
-            if self.line_of(Kind::Template, template)?.is_none() {
-                let what = format!(in self.alloc; "templates/{template}.mustache")?;
-                findings.push(missing(self.alloc, route.line, what.as_str())?)?;
+            if self
+                .line_of(Kind::Template, route.template.as_str())?
+                .is_none()
+            {
+                findings.push(missing_template(self.alloc, route)?)?;
             }
-            if self.line_of(Kind::Data, page_data)?.is_none() {
-                let what = format!(in self.alloc; "data/{page_data}.json")?;
-                findings.push(missing(self.alloc, route.line, what.as_str())?)?;
+            if self
+                .line_of(Kind::Data, route.page_data.as_str())?
+                .is_none()
+            {
+                findings.push(missing_data(self.alloc, route)?)?;
             }
         }
         Ok(())
     }
 
-    /// Warns of redirects that nobody follows, as their path has a route, and of those that lead to no page of the folder.
+    /// Why nobody follows a redirect, as its path has a route, or why it leads to no page of the folder.
+    fn astray(&self, redirect: &Redirect) -> Result<Option<String>, AllocError> {
+        let path = redirect.path.as_str();
+        let target = redirect.target.as_str();
+        if let Some(line) = self.line_of(Kind::Route, path)? {
+            return Ok(Some(format!(in self.alloc;
+                "{path} has a route too, in line {line} of routes: its page is shown, and nobody is led on"
+            )?));
+        }
+        if self.line_of(Kind::Route, target)?.is_none() {
+            return Ok(Some(format!(in self.alloc;
+                "no route of this folder has the path {target}"
+            )?));
+        }
+        Ok(None)
+    }
+
+    /// Warns of redirects that nobody follows, and of those that lead to no page of the folder.
     fn check_redirects(&self, findings: &mut Vec<Finding>) -> Result<(), AllocError> {
         for redirect in self.folder.redirects.iter() {
-            let path = redirect.path.as_str();
-            let target = redirect.target.as_str();
-            let reason = if let Some(line) = self.line_of(Kind::Route, path)? {
-                format!(in self.alloc;
-                    "{path} has a route too, in line {line} of routes: its page is shown, and nobody is led on"
-                )?
-            } else if self.line_of(Kind::Route, target)?.is_none() {
-                format!(in self.alloc; "no route of this folder has the path {target}")?
-            } else {
-                continue;
-            };
-            let place = Place {
-                line: redirect.line,
-                column: 1,
-            };
-            findings.push(warning_in(self.alloc, "redirects", place, reason)?)?;
+            if let Some(reason) = self.astray(redirect)? {
+                let place = Place {
+                    line: redirect.line,
+                    column: 1,
+                };
+                findings.push(warning_in(self.alloc, "redirects", place, reason)?)?;
+            }
         }
         Ok(())
     }
@@ -85,19 +120,11 @@ impl Reading {
     /// Warns of paths that differ by a slash at their end alone.
     fn check_slashes(&self, findings: &mut Vec<Finding>) -> Result<(), AllocError> {
         for route in self.folder.routes.iter() {
-            let path = route.path.as_str();
-            let Some(bare) = path.strip_suffix('/') else {
+            let Some(bare) = route.path.as_str().strip_suffix('/') else {
                 continue;
             };
             if self.line_of(Kind::Route, bare)?.is_some() {
-                let reason = format!(in self.alloc;
-                    "{path} and {bare} are two paths, which readers take for one"
-                )?;
-                let place = Place {
-                    line: route.line,
-                    column: 1,
-                };
-                findings.push(warning_in(self.alloc, "routes", place, reason)?)?;
+                findings.push(two_paths(self.alloc, route, bare)?)?;
             }
         }
         Ok(())
@@ -106,12 +133,8 @@ impl Reading {
     /// Warns of partials that are called and aren't there.
     fn check_calls(&self, findings: &mut Vec<Finding>) -> Result<(), AllocError> {
         for call in self.calls.iter() {
-            let name = call.name.as_str();
-            if self.line_of(Kind::Partial, name)?.is_none() {
-                let reason = format!(in self.alloc;
-                    "there is no partials/{name}.mustache, so nothing is printed here"
-                )?;
-                findings.push(warning_in(self.alloc, call.file.as_str(), call.place, reason)?)?;
+            if self.line_of(Kind::Partial, call.name.as_str())?.is_none() {
+                findings.push(missing_partial(self.alloc, call)?)?;
             }
         }
         Ok(())

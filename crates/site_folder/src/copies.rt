@@ -73,24 +73,39 @@ impl Copies {
         }
     }
 
+    /// Whether a file is taken, or a file stands where one of its folders would.
+    fn is_taken(&self, file: &str, folders: &[String]) -> bool {
+        if self.taken.contains_key(file) {
+            return true;
+        }
+        for folder in folders.iter() {
+            if self.taken.get(folder.as_str()) == Some(&Taken::File) {
+                return true;
+            }
+        }
+        false
+    }
+
+    /// Notes a file and its folders.
+    fn note(&mut self, file: &str, folders: Vec<String>) -> Result<(), AllocError> {
+        for folder in folders {
+            drop(self.taken.insert(folder, Taken::Folder)?);
+        }
+        let file = String::from_str(self.alloc, file)?;
+        drop(self.taken.insert(file, Taken::File)?);
+        Ok(())
+    }
+
     /// Takes the file of a page, as a path below the copy's folder.
     pub fn take(&mut self, path: &str) -> Result<Result<String, NoCopy>, AllocError> {
         let Some(file) = file_of(self.alloc, path)? else {
             return Ok(Err(NoCopy::NoPath));
         };
-        if self.taken.contains_key(file.as_str()) {
+        let folders = folders_of(self.alloc, file.as_str())?;
+        if self.is_taken(file.as_str(), &folders) {
             return Ok(Err(NoCopy::Taken));
         }
-        let folders = folders_of(self.alloc, file.as_str())?;
-        for folder in folders.iter() {
-            if self.taken.get(folder.as_str()) == Some(&Taken::File) {
-                return Ok(Err(NoCopy::Taken));
-            }
-        }
-        for folder in folders {
-            drop(self.taken.insert(folder, Taken::Folder)?);
-        }
-        drop(self.taken.insert(file.clone()?, Taken::File)?);
+        self.note(file.as_str(), folders)?;
         Ok(Ok(file))
     }
 }

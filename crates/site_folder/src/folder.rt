@@ -5,7 +5,9 @@ ghost use Rattle.site_folder.specs.Texts.{IsCommandText, AreCommands};
 use crate::file::SiteFile;
 use crate::finding::Finding;
 use crate::judging::{Refusal, refused};
-use crate::lines::{Line, kind_word, lines_in, redirect_in, removal_in, route_in};
+use crate::lines::{
+    Line, RedirectLine, RouteLine, kind_word, lines_in, redirect_in, removal_in, route_in,
+};
 use crate::place::{Place, place_of};
 use crate::reasons::{fault_in, file_fault, no_text};
 use crate::roles::{Role, role_of};
@@ -119,6 +121,15 @@ impl Reading {
         }
     }
 
+    /// Takes the command of a file, by its head and the file's text, unless it is none.
+    fn judge_file(&mut self, head: &str, body: &str) -> Result<Option<Refusal>, AllocError>
+        ensures { AreCommands self.old.folder.commands.items → AreCommands self.new.folder.commands.items }
+    {
+        let mut text = Vec::from_slice(self.alloc, head.as_bytes())?;
+        text.extend_from_slice(body.as_bytes())?;
+        self.judge(text)
+    }
+
     /// Takes a file that is the text of a template, a partial or data.
     fn text(&mut self, kind: Kind, name: &str, file: &SiteFile) -> Result<(), AllocError>
         ensures { AreCommands self.old.folder.commands.items → AreCommands self.new.folder.commands.items }
@@ -134,9 +145,7 @@ impl Reading {
         };
         let word = kind_word(kind);
         let head = format!(in self.alloc; "put {word} {name}\n")?;
-        let mut text = Vec::from_slice(self.alloc, head.as_bytes())?;
-        text.extend_from_slice(body.as_bytes())?;
-        if let Some(refusal) = self.judge(text)? {
+        if let Some(refusal) = self.judge_file(head.as_str(), body)? {
             let finding = file_fault(self.alloc, path, head.len(), body, refusal)?;
             return self.find(finding);
         }
@@ -170,6 +179,28 @@ impl Reading {
         self.find(finding)
     }
 
+    /// Takes the command of a line of `routes`, unless it is none.
+    fn judge_route(&mut self, route: &RouteLine<'_>) -> Result<Option<Refusal>, AllocError>
+        ensures { AreCommands self.old.folder.commands.items → AreCommands self.new.folder.commands.items }
+    {
+        let (path, template, page_data) = (route.path, route.template, route.page_data);
+        let text = format!(in self.alloc; "put route {path} {template} {page_data}\n")?;
+        self.judge(Vec::from_slice(self.alloc, text.as_bytes())?)
+    }
+
+    /// Notes what a line of `routes` says.
+    fn add_route(&mut self, route: &RouteLine<'_>, line: usize) -> Result<(), AllocError>
+        ensures { AreCommands self.old.folder.commands.items → AreCommands self.new.folder.commands.items }
+    {
+        self.folder.routes.push(Route {
+            path: String::from_str(self.alloc, route.path)?,
+            template: String::from_str(self.alloc, route.template)?,
+            page_data: String::from_str(self.alloc, route.page_data)?,
+            line,
+        })?;
+        Ok(())
+    }
+
     /// Takes a line of `routes`.
     fn route(&mut self, line: &Line<'_>) -> Result<(), AllocError>
         ensures { AreCommands self.old.folder.commands.items → AreCommands self.new.folder.commands.items }
@@ -181,18 +212,32 @@ impl Reading {
                 "a line is PATH TEMPLATE DATA, three words",
             );
         };
-        let (path, template, page_data) = (route.path, route.template, route.page_data);
-        let text = format!(in self.alloc; "put route {path} {template} {page_data}\n")?;
-        if let Some(refusal) = self.judge(Vec::from_slice(self.alloc, text.as_bytes())?)? {
+        if let Some(refusal) = self.judge_route(&route)? {
             return self.line_fault("routes", line.number, line_reason(&refusal.fault));
         }
-        self.folder.routes.push(Route {
-            path: String::from_str(self.alloc, path)?,
-            template: String::from_str(self.alloc, template)?,
-            page_data: String::from_str(self.alloc, page_data)?,
-            line: line.number,
+        self.add_route(&route, line.number)?;
+        self.twice("routes", Kind::Route, route.path, line.number)
+    }
+
+    /// Takes the command of a line of `redirects`, unless it is none.
+    fn judge_redirect(&mut self, redirect: &RedirectLine<'_>) -> Result<Option<Refusal>, AllocError>
+        ensures { AreCommands self.old.folder.commands.items → AreCommands self.new.folder.commands.items }
+    {
+        let (path, target) = (redirect.path, redirect.target);
+        let text = format!(in self.alloc; "put redirect {path} {target}\n")?;
+        self.judge(Vec::from_slice(self.alloc, text.as_bytes())?)
+    }
+
+    /// Notes what a line of `redirects` says.
+    fn add_redirect(&mut self, redirect: &RedirectLine<'_>, line: usize) -> Result<(), AllocError>
+        ensures { AreCommands self.old.folder.commands.items → AreCommands self.new.folder.commands.items }
+    {
+        self.folder.redirects.push(Redirect {
+            path: String::from_str(self.alloc, redirect.path)?,
+            target: String::from_str(self.alloc, redirect.target)?,
+            line,
         })?;
-        self.twice("routes", Kind::Route, path, line.number)
+        Ok(())
     }
 
     /// Takes a line of `redirects`.
@@ -202,20 +247,11 @@ impl Reading {
         let Some(redirect) = redirect_in(line) else {
             return self.line_fault("redirects", line.number, "a line is PATH TARGET, two words");
         };
-        let (path, target) = (redirect.path, redirect.target);
-        let text = format!(in self.alloc; "put redirect {path} {target}\n")?;
-        if self
-            .judge(Vec::from_slice(self.alloc, text.as_bytes())?)?
-            .is_some()
-        {
+        if self.judge_redirect(&redirect)?.is_some() {
             return self.line_fault("redirects", line.number, REDIRECT_REASON);
         }
-        self.folder.redirects.push(Redirect {
-            path: String::from_str(self.alloc, path)?,
-            target: String::from_str(self.alloc, target)?,
-            line: line.number,
-        })?;
-        self.twice("redirects", Kind::Redirect, path, line.number)
+        self.add_redirect(&redirect, line.number)?;
+        self.twice("redirects", Kind::Redirect, redirect.path, line.number)
     }
 
     /// Notes the line of a path, and finds one that had it before.
@@ -233,6 +269,15 @@ impl Reading {
         Ok(())
     }
 
+    /// Takes the command of a line of `removes`, unless it is none.
+    fn judge_removal(&mut self, kind: Kind, name: &str) -> Result<Option<Refusal>, AllocError>
+        ensures { AreCommands self.old.folder.commands.items → AreCommands self.new.folder.commands.items }
+    {
+        let word = kind_word(kind);
+        let text = format!(in self.alloc; "remove {word} {name}\n")?;
+        self.judge(Vec::from_slice(self.alloc, text.as_bytes())?)
+    }
+
     /// Takes a line of `removes`.
     fn removal(&mut self, line: &Line<'_>) -> Result<(), AllocError>
         ensures { AreCommands self.old.folder.commands.items → AreCommands self.new.folder.commands.items }
@@ -244,27 +289,33 @@ impl Reading {
                 "a line is KIND NAME, two words, KIND one of template, partial, data, route and redirect",
             );
         };
-        let word = kind_word(kind);
-        let text = format!(in self.alloc; "remove {word} {name}\n")?;
-        if let Some(refusal) = self.judge(Vec::from_slice(self.alloc, text.as_bytes())?)? {
+        if let Some(refusal) = self.judge_removal(kind, name)? {
             return self.line_fault("removes", line.number, line_reason(&refusal.fault));
         }
         self.removed_once(kind, name, line.number)
+    }
+
+    /// A fault of a removal: the folder puts the same.
+    fn put_too(&mut self, kind: Kind, name: &str, line: usize) -> Result<(), AllocError>
+        ensures { AreCommands self.old.folder.commands.items → AreCommands self.new.folder.commands.items }
+    {
+        let word = kind_word(kind);
+        let reason = format!(in self.alloc;
+            "the {word} {name} is put by this folder too: take one of both away"
+        )?;
+        self.line_fault("removes", line, reason.as_str())
     }
 
     /// Notes a removal, and finds that the folder puts the same or removes it twice.
     fn removed_once(&mut self, kind: Kind, name: &str, line: usize) -> Result<(), AllocError>
         ensures { AreCommands self.old.folder.commands.items → AreCommands self.new.folder.commands.items }
     {
-        let word = kind_word(kind);
         let key = key_of(self.alloc, kind, name)?;
         if self.found.contains_key(key.as_str()) {
-            let reason = format!(in self.alloc;
-                "the {word} {name} is put by this folder too: take one of both away"
-            )?;
-            return self.line_fault("removes", line, reason.as_str());
+            return self.put_too(kind, name, line);
         }
         if let Some(before) = self.removed.insert(key, line)? {
+            let word = kind_word(kind);
             let reason = format!(in self.alloc;
                 "the {word} {name} is removed in line {before} already"
             )?;

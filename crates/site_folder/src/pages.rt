@@ -1,6 +1,6 @@
 //! The pages of a folder, as a node shows them; those that moved as files that lead on.
 use crate::finding::{Finding, Weight};
-use crate::folder::Folder;
+use crate::folder::{Folder, Redirect};
 use crate::moved::moved_page;
 use crate::place::Place;
 use command::write;
@@ -37,13 +37,18 @@ pub(crate) fn page_at(releases: &Releases, path: &str) -> Result<Option<Answer>,
     }
 }
 
+/// Feeds a folder's commands, and a release behind them.
+fn feed_folder(alloc: Global, releases: &mut Releases, folder: &Folder) -> Result<(), AllocError> {
+    for command in folder.commands.iter() {
+        feed(alloc, releases, &command.text)?;
+    }
+    feed(alloc, releases, b"release\n")
+}
+
 /// The release of a folder's commands alone.
 pub fn release_of(alloc: Global, folder: &Folder) -> Result<Releases, AllocError> {
     let mut releases = Releases::new(alloc);
-    for command in folder.commands.iter() {
-        feed(alloc, &mut releases, &command.text)?;
-    }
-    feed(alloc, &mut releases, b"release\n")?;
+    feed_folder(alloc, &mut releases, folder)?;
     Ok(releases)
 }
 
@@ -67,7 +72,26 @@ fn push_routes(
     Ok(())
 }
 
-/// Adds the pages of a folder's redirects, in order: of a path that leads on a file that does so. A path with a route has a page already.
+/// Adds the page of a redirect, by what is shown at its path: where that leads on, a file that does so.
+fn push_redirect(
+    alloc: Global,
+    redirect: &Redirect,
+    answer: &Answer,
+    pages: &mut Vec<Page>,
+) -> Result<(), AllocError> {
+    if let Some(target) = &answer.location {
+        pages.push(Page {
+            path: redirect.path.clone()?,
+            file: "redirects",
+            line: redirect.line,
+            status: answer.status,
+            body: moved_page(alloc, target.as_str())?,
+        })?;
+    }
+    Ok(())
+}
+
+/// Adds the pages of a folder's redirects, in order. A path with a route has a page already.
 fn push_redirects(
     alloc: Global,
     folder: &Folder,
@@ -75,29 +99,25 @@ fn push_redirects(
     pages: &mut Vec<Page>,
 ) -> Result<(), AllocError> {
     for redirect in folder.redirects.iter() {
-        let Some(answer) = page_at(releases, redirect.path.as_str())? else {
-            continue;
-        };
-        if let Some(target) = &answer.location {
-            pages.push(Page {
-                path: redirect.path.clone()?,
-                file: "redirects",
-                line: redirect.line,
-                status: answer.status,
-                body: moved_page(alloc, target.as_str())?,
-            })?;
+        if let Some(answer) = page_at(releases, redirect.path.as_str())? {
+            push_redirect(alloc, redirect, &answer, pages)?;
         }
     }
     Ok(())
 }
 
+/// The pages of a folder in its release.
+fn pages_in(alloc: Global, folder: &Folder, releases: &Releases) -> Result<Vec<Page>, AllocError> {
+    let mut pages = Vec::new(alloc);
+    push_routes(folder, releases, &mut pages)?;
+    push_redirects(alloc, folder, releases, &mut pages)?;
+    Ok(pages)
+}
+
 /// The pages of a folder in a release of its commands alone: of its routes, then of its redirects whose paths have no route, each in order.
 pub fn pages_of(alloc: Global, folder: &Folder) -> Result<Vec<Page>, AllocError> {
     let releases = release_of(alloc, folder)?;
-    let mut pages = Vec::new(alloc);
-    push_routes(folder, &releases, &mut pages)?;
-    push_redirects(alloc, folder, &releases, &mut pages)?;
-    Ok(pages)
+    pages_in(alloc, folder, &releases)
 }
 
 impl Page {

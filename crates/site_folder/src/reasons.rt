@@ -61,15 +61,14 @@ fn room(head: usize) -> usize {
     MAX_VALUE.saturating_sub(TICKET_BYTES).saturating_sub(head)
 }
 
-/// What is wrong with a file, whose command begins with so many bytes and then has the file's text.
-pub(crate) fn file_fault(
+/// Where and why a file's text is no command, which begins with so many bytes and then has that text.
+fn place_and_reason(
     alloc: Global,
-    file: &str,
     head: usize,
     text: &str,
-    refusal: Refusal,
-) -> Result<Finding, AllocError> {
-    let (place, reason) = match &refusal.fault {
+    fault: &CommandFault,
+) -> Result<(Option<Place>, String), AllocError> {
+    let told = match fault {
         CommandFault::TooLong => {
             let has = text.len();
             let most = room(head);
@@ -100,6 +99,18 @@ pub(crate) fn file_fault(
         }
         CommandFault::OutOfMemory => return Err(AllocError),
     };
+    Ok(told)
+}
+
+/// What is wrong with a file, whose command begins with so many bytes and then has the file's text.
+pub(crate) fn file_fault(
+    alloc: Global,
+    file: &str,
+    head: usize,
+    text: &str,
+    refusal: Refusal,
+) -> Result<Finding, AllocError> {
+    let (place, reason) = place_and_reason(alloc, head, text, &refusal.fault)?;
     Ok(Finding {
         weight: Weight::Fault,
         file: String::from_str(alloc, file)?,

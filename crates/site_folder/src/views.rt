@@ -11,16 +11,22 @@ pub struct View {
     pub body: String,
 }
 
-/// What a node shows at paths, in a release of these command texts alone: one view a path, in order.
-pub fn views_of(alloc: Global, texts: &[&str], paths: &[String]) -> Result<Vec<View>, AllocError> {
-    let mut releases = Releases::new(alloc);
+/// Feeds command texts, and a release behind them.
+fn feed_texts(alloc: Global, releases: &mut Releases, texts: &[&str]) -> Result<(), AllocError> {
     for text in texts {
-        feed(alloc, &mut releases, text.as_bytes())?;
+        feed(alloc, releases, text.as_bytes())?;
     }
-    feed(alloc, &mut releases, b"release\n")?;
-    let mut views = Vec::new(alloc);
+    feed(alloc, releases, b"release\n")
+}
+
+/// Adds what is shown at paths, in order.
+fn push_views(
+    releases: &Releases,
+    paths: &[String],
+    views: &mut Vec<View>,
+) -> Result<(), AllocError> {
     for path in paths {
-        if let Some(answer) = page_at(&releases, path.as_str())? {
+        if let Some(answer) = page_at(releases, path.as_str())? {
             views.push(View {
                 path: path.clone()?,
                 status: answer.status,
@@ -28,7 +34,21 @@ pub fn views_of(alloc: Global, texts: &[&str], paths: &[String]) -> Result<Vec<V
             })?;
         }
     }
+    Ok(())
+}
+
+/// What is shown at paths, one view a path, in order.
+fn views_in(alloc: Global, releases: &Releases, paths: &[String]) -> Result<Vec<View>, AllocError> {
+    let mut views = Vec::new(alloc);
+    push_views(releases, paths, &mut views)?;
     Ok(views)
+}
+
+/// What a node shows at paths, in a release of these command texts alone: one view a path, in order.
+pub fn views_of(alloc: Global, texts: &[&str], paths: &[String]) -> Result<Vec<View>, AllocError> {
+    let mut releases = Releases::new(alloc);
+    feed_texts(alloc, &mut releases, texts)?;
+    views_in(alloc, &releases, paths)
 }
 
 /// The path that a command text is about, where it is about a route or a redirect.
