@@ -180,21 +180,28 @@ fn status_word<'a>(alloc: Global) -> Result<Command<'a>, Error> {
     )
 }
 
+/// A command that has one word more, where that could be made.
+fn with_word<'a>(
+    command: Command<'a>,
+    word: Result<Command<'a>, Error>,
+) -> Result<Command<'a>, Error> {
+    Ok(command.subcommand(word?)?)
+}
+
 fn matches_of<'a>(alloc: Global, words: &'a [String]) -> Result<ArgMatches<'a>, Error> {
-    Command::new(alloc, "sitepub")
+    let command = Command::new(alloc, "sitepub")
         .about("What an editor does with a folder of a site")
         .after_help(
             "Examples:\n  sitepub new site\n  sitepub preview site\n  sitepub publish site http://127.0.0.1:8001\n\n--version prints the program's version",
         )
-        .subcommand_required(true)
-        .subcommand(new_word(alloc)?)?
-        .subcommand(check_word(alloc)?)?
-        .subcommand(export_word(alloc)?)?
-        .subcommand(preview_word(alloc)?)?
-        .subcommand(publish_word(alloc)?)?
-        .subcommand(log_word(alloc)?)?
-        .subcommand(status_word(alloc)?)?
-        .try_get_matches_from(words)
+        .subcommand_required(true);
+    let command = with_word(command, new_word(alloc))?;
+    let command = with_word(command, check_word(alloc))?;
+    let command = with_word(command, export_word(alloc))?;
+    let command = with_word(command, preview_word(alloc))?;
+    let command = with_word(command, publish_word(alloc))?;
+    let command = with_word(command, log_word(alloc))?;
+    with_word(command, status_word(alloc))?.try_get_matches_from(words)
 }
 
 /// A text that the word has; the empty one where it has none.

@@ -64,6 +64,11 @@ fn answer_by(alloc: Global, stream: &TcpStream, preview: &mut Previewed) -> Resu
     }
 }
 
+/// The same by what was read, which is let go of once.
+fn answer_from(alloc: Global, stream: &TcpStream, mut preview: Previewed) -> Result<(), Halt> {
+    answer_by(alloc, stream, &mut preview)
+}
+
 fn set_waiting(stream: &TcpStream) -> io::Result<()> {
     let wait = Some(Duration::from_millis(WAITING));
     stream.set_read_timeout(wait)?;
@@ -79,8 +84,7 @@ fn answer<R: Files + AllocGlobal + Clone + Drop>(
     if set_waiting(stream).is_err() {
         return Ok(());
     }
-    let mut preview = read_preview(rt, source)?;
-    answer_by(rt.alloc(), stream, &mut preview)?;
+    answer_from(rt.alloc(), stream, read_preview(rt, source)?)?;
     let _ = stream.shutdown(Shutdown::Write);
     Ok(())
 }
