@@ -1,5 +1,5 @@
 # A crate's contracts, from its sources, lib.rt first: a line for each function that is handed on and has clauses with a name, one for each type with such
-# methods, and one for the functions that have none. With `list` set a line `CRATE|NAME|CLAUSES` for each of them.
+# methods, and one for the functions that have none; the crate's own line comes first. With `list` set a line `CRATE|NAME|CLAUSES` for each of them.
 function named(text) { sub(/^ *(pub )?(const )?[a-z]+ /, "", text); sub(/[^A-Za-z0-9_].*/, "", text); return text }
 function joined(list, more) { return list == "" ? more : more == "" ? list : list ", " more }
 # a method stands with its type
@@ -81,6 +81,6 @@ END {
         delete kept[which]
     }
     for (k = 1; k <= kind_count; k++) if (kinds[k] in kept) rows = rows sprintf("`%s`|for %s\n", kinds[k], kept[kinds[k]])
-    if (safe != "") rows = rows safe "|safe and no more\n"
-    if (rows != "") printf "**`%s`**|\n%s", crate, rows
+    if (safe != "") rows = rows safe "|safe\n"
+    printf "**`%s`**|\n%s", crate, rows
 }
