@@ -1,5 +1,5 @@
 # A crate's contracts, from its sources, lib.rt first: a line for each function that is handed on and has clauses with a name, one for each type with such
-# methods, and one for the functions that have none; the crate's own line comes first. With `list` set a line `CRATE|NAME|CLAUSES` for each of them.
+# methods, and one for the functions that have none; the crate's own line comes first, alone where none has any. With `list` set a line `CRATE|NAME|CLAUSES` for each of them.
 function named(text) { sub(/^ *(pub )?(const )?[a-z]+ /, "", text); sub(/[^A-Za-z0-9_].*/, "", text); return text }
 function joined(list, more) { return list == "" ? more : more == "" ? list : list ", " more }
 # a method stands with its type
@@ -58,7 +58,9 @@ inside && name != "" && /^ +(requires|ensures)[ {]/ {
     }
 }
 END {
+    none = !kind_count
     for (k = 1; k <= count; k++) {
+        if (has[k]) none = 0
         if (needs[k] != "") clauses[k] = clauses[k] == "" ? needs[k] : needs[k] "; " clauses[k]
         if (list) { print crate "|" names[k] "|" clauses[k]; continue }
         if (traits[k]) owned(names[k])
@@ -82,5 +84,6 @@ END {
     }
     for (k = 1; k <= kind_count; k++) if (kinds[k] in kept) rows = rows sprintf("`%s`|for %s\n", kinds[k], kept[kinds[k]])
     if (safe != "") rows = rows safe "|safe\n"
+    if (rows != "" && none) { printf "**`%s`**|safe\n", crate; exit }
     printf "**`%s`**|\n%s", crate, rows
 }
