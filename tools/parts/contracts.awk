@@ -1,5 +1,6 @@
 # A crate's contracts, from its sources, lib.rt first: a line for each function that is handed on and has clauses with a name, one for each type with such
-# methods, and one for the functions that have none; the crate's own line comes first, alone where none has any. With `list` set a line `CRATE|NAME|CLAUSES` for each of them.
+# methods, and one for the functions that have none; the crate's own line comes first. Where none of a
+# crate or type has any its line is all. With `list` set a line `CRATE|NAME|CLAUSES` for each of them.
 function named(text) { sub(/^ *(pub )?(const )?[a-z]+ /, "", text); sub(/[^A-Za-z0-9_].*/, "", text); return text }
 function joined(list, more) { return list == "" ? more : more == "" ? list : list ", " more }
 # a method stands with its type
@@ -67,6 +68,7 @@ END {
         else if (split(names[k], parts, "::") == 2) {
             owned(parts[1])
             which = "`" parts[2] "`"
+            if (has[k]) told[parts[1]] = 1
             if (!has[k]) bare[parts[1]] = joined(bare[parts[1]], which)
             else if (clauses[k] != "") of[parts[1]] = joined(of[parts[1]], which " (" clauses[k] ")")
         }
@@ -77,7 +79,7 @@ END {
     for (k = 1; k <= owner_count; k++) {
         which = owners[k]
         text = of[which]
-        if (bare[which] != "") text = (text == "" ? "" : text "; ") "safe: " bare[which]
+        if (bare[which] != "") text = (text == "" ? "" : text "; ") (which in told ? "safe: " bare[which] : "safe")
         if (which in kept) text = (text == "" ? "" : text "; ") "for " kept[which]
         if (text != "") rows = rows sprintf("`%s`|%s\n", which, text)
         delete kept[which]
