@@ -1,6 +1,6 @@
 # A crate's contracts, from its sources, lib.rt first: a line for each function that is handed on and has clauses with a name, one for each type with such
-# methods, and one for the functions that have none; the crate's own line comes first. Where none of a
-# crate or type has any its line is all. With `list` set a line `CRATE|NAME|CLAUSES` for each of them.
+# methods, and one for the functions that have none; the crate's own line comes first. Where nothing of a crate, or of a type, has any its line says so. With
+# `list` set a line `CRATE|NAME|CLAUSES` for each of them.
 function named(text) { sub(/^ *(pub )?(const )?[a-z]+ /, "", text); sub(/[^A-Za-z0-9_].*/, "", text); return text }
 function joined(list, more) { return list == "" ? more : more == "" ? list : list ", " more }
 # a method stands with its type
