@@ -491,13 +491,25 @@ static void datagram(void) {
     if (mostly(alike ? 0 : 2)) spoil(0, 1 + chance(3));
 }
 
+/* a packet of some of them, each behind its length, and now and then a wrong one */
+static void packet(void) {
+    number_of(mostly(9) ? 3 : chance(256), 1);
+    for (uint64_t many = chance(9); many; many--) {
+        const size_t front = length;
+        number_of(0, 4);
+        datagram();
+        const size_t size = (length > front + 4 ? length - front - 4 : 0) + !mostly(9);
+        for (int k = 0; k < 4 && front + k < length; k++) input[front + k] = (char)(size >> 8 * (3 - k));
+    }
+}
+
 static const char *datagrams(void) {
     const struct sockaddr_in to = {.sin_family = AF_INET, .sin_port = htons(udp_port), .sin_addr = {htonl(INADDR_LOOPBACK)}};
     const int s = socket(AF_INET, SOCK_DGRAM | SOCK_CLOEXEC, 0);
     alike = mostly(7);
     for (int k = 0; k < 50; k++) {
         length = 0;
-        datagram();
+        if (mostly(6)) datagram(); else packet();
         if (sendto(s, input, length < 65000 ? length : 65000, 0, (const struct sockaddr *)&to, sizeof to) >= 0) sent++;
     }
     close(s);

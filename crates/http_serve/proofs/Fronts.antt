@@ -1,5 +1,5 @@
 -- What stands before a space.
-use Rattle.std.proofs.Common.{◌≡◌, ◌≢◌, ℕ, ◌+◌, ◌<◌, List, ◌∷◌, ◌++◌, length, take, drop, slice_index, codes, arith, sym, ap, refl, subst, ◌∙◌, length-append}
+use Rattle.std.proofs.Common.{◌≡◌, ◌≢◌, ℕ, ◌+◌, ◌<◌, List, ◌∷◌, ◌++◌, length, take, drop, slice_index, codes, arith, sym, ap, subst, ◌∙◌, length-append}
 use Rattle.std.proofs.lemmas.List.{get_or_append_left, get_or-take, append_cancel_left, drop_more, length-take-le, take-append-drop}
 use Rattle.std.specs.Prelude.{Option, Some, None, MatchOption}
 use Rattle.std.proofs.Math.Seq.{take-append_seam}

@@ -1,5 +1,6 @@
 -- What a request asks for, as its first bytes tell.
-use Rattle.std.specs.Prelude.{◌≡◌, ◌≢◌, ℕ, ◌<◌, List, ◌++◌, length, slice_index, codes, None}
+use Rattle.std.specs.Prelude.{◌≡◌, ◌≢◌, ℕ, ◌<◌, List, ◌++◌, length, slice_index, codes, nat_eq, None, IsTrue}
+use Rattle.std.specs.List.{ends_with}
 use Rattle.site_ids.specs.declared.Ticket.{Ticket}
 use Rattle.http_read.specs.Progress as reading
 use Rattle.http_serve.specs.Lines.{MayAnswer}
@@ -23,3 +24,7 @@ pub record AsksReceipt (line : Line) (ticket : Ticket) : Type 0 where
   pub may : MayAnswer line
   pub unused : reading.awaited_of line.progress ≡ None
   pub gets : GetsReceipt line.inbox ticket
+
+-- and all of it seems to be there: a blank line ends what came
+abbrev pub HasAsked : Line → Type 0
+HasAsked line = IsTrue (ends_with nat_eq line.inbox (codes "\r\n\r\n")) × ((ticket : Ticket) × AsksReceipt line ticket)

@@ -4,7 +4,7 @@
 
 ghost use Rattle.std.specs.Prelude.{◌≡◌, ◌⊎◌, ◌<◌, ℕ, List, length, true, false, IfOk, OnErr, IsTrue, IsFalse, ◌↔◌, MatchOption};
 ghost use Rattle.http_read.specs.Bytes.{end_of};
-ghost use Rattle.http_serve.specs.Fronts.{AsksReceipt};
+ghost use Rattle.http_serve.specs.Fronts.{AsksReceipt, HasAsked};
 ghost use Rattle.http_serve.specs.declared.messages.TheConstants.{REQUESTS};
 ghost use Rattle.http_serve.specs.Lines.{owed, is_going, IsNew, MayHear, MayAnswer, IsIdle, IsOver, failed_line, with_response, waiting, Hears, Tells, IsAnswered, Waits, GivesUp, answered as answered_of};
 ghost use Rattle.http_serve.specs.Services.{MaySubmit};
@@ -123,6 +123,19 @@ impl Line {
             return None;
         }
         receipt_asked(self.inbox.held())
+    }
+
+    /// Whether the next request asks for a receipt, and all of it seems to be there: a blank line ends what came.
+    pub fn has_asked(&self) -> bool
+        ensures { IsTrue result ↔ HasAsked self.now }
+    {
+        if !self.inbox.held().ends_with(b"\r\n\r\n") {
+            return false;
+        }
+        match self.asks_receipt() {
+            Some(_) => true,
+            None => false,
+        }
     }
 
     /// Answers the next request, if a whole one is there and the response before it is written whole: whether it did.

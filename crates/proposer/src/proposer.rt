@@ -13,17 +13,24 @@ ghost use Rattle.proposer.specs.Best.{vote_told};
 
 use crate::ProposerFault;
 use crate::open_attempt::{OpenAttempt, proposed_value};
-use site_ids::{Ballot, Cluster, Instance, MAX_ROUND, NodeId, Value, Vote};
+use site_ids::{Ballot, Cluster, Instance, MAX_ROUND, NodeId, TICKET_BYTES, Value, Vote};
 use std::alloc::{AllocError, Global};
 use std::collections::BTreeMap;
 use wire::Message;
+
+// Whether both are the same. Values that wait differ in their tickets, most in the last byte of its number: that is looked at first.
+fn is_same(own: &[u8], value: &[u8]) -> bool
+    ensures { IsTrue result ↔ (own.now ≡ value.now) }
+{
+    own.get(TICKET_BYTES - 1) == value.get(TICKET_BYTES - 1) && own == value
+}
 
 // An attempt is there, and has the value as its own.
 fn has_own(attempt: &Option<OpenAttempt>, value: &[u8]) -> bool
     ensures { IsTrue result ↔ ((a : OpenAttempt) × (attempt.now ≡ Some a) × (a.own ≡ value.now)) }
 {
     match attempt {
-        Some(attempt) => attempt.own.as_bytes() == value,
+        Some(attempt) => is_same(attempt.own.as_bytes(), value),
         None => false,
     }
 }

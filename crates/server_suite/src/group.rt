@@ -3,11 +3,13 @@ ghost use Rattle.site_ids.specs.Ids.{IsNode};
 
 use crate::client::Client;
 use durable::Record;
-use node::{Node, To};
+use node::Node;
 use site_disk::MemDisk;
+use site_drive::Letter;
 use site_ids::{Cluster, NodeId};
 use site_pace::Times;
-use site_serve::{Served, Server};
+use site_packets::Packet;
+use site_serve::{Served, Server, pack};
 use std::alloc::Global;
 use std::process::Abort;
 
@@ -62,12 +64,22 @@ pub(crate) fn reopened(
     served(alloc, cluster, me, disk)
 }
 
-/// Whether a letter is for the node of that number.
-fn reaches(to: To, number: u8) -> bool {
-    match to {
-        To::All => true,
-        To::One(node) => node.number() == number,
+/// The pieces in which these letters go to a node.
+fn packed(rt: &impl Abort, alloc: Global, letters: &[Letter], to: NodeId) -> Vec<Vec<u8>> {
+    let mut packet = Packet::new(alloc).expect(rt, "memory");
+    let mut pieces = Vec::new(alloc);
+    let mut rest = letters;
+    for _ in 0..letters.len() {
+        let n = pack(rest, to, &mut packet).expect(rt, "memory");
+        if !packet.is_empty() {
+            let piece = Vec::from_slice(alloc, packet.bytes());
+            pieces.push(piece.expect(rt, "memory")).expect(rt, "memory");
+        }
+        let (_, behind) = rest.split_at(n);
+        rest = behind;
     }
+    assert!(rt; rest.is_empty());
+    pieces
 }
 
 impl Group {
@@ -109,16 +121,12 @@ impl Group {
     /// What the letters of one server have for another one.
     fn carry(&mut self, rt: &impl Abort, from: u8, to: u8) {
         let alloc = self.alloc;
-        let mut came = Vec::new(alloc);
-        for letter in self.server(rt, from).mail.letters() {
-            if reaches(letter.to, to) {
-                let bytes = Vec::from_slice(alloc, letter.bytes.as_slice());
-                came.push(bytes.expect(rt, "memory")).expect(rt, "memory");
-            }
-        }
+        let cluster = Cluster::new(self.size()).expect(rt, "a cluster");
+        let node = cluster.node(to).expect(rt, "a node");
+        let pieces = packed(rt, alloc, self.server(rt, from).mail.letters(), node);
         let mail = &mut self.server(rt, to).mail;
-        for datagram in &came {
-            mail.push(datagram.as_slice()).expect(rt, "memory");
+        for piece in &pieces {
+            mail.take_in(piece.as_slice()).expect(rt, "memory");
         }
     }
 

@@ -14,6 +14,8 @@ mod notes;
 #[cfg(test)]
 mod pacing;
 #[cfg(test)]
+mod packets;
+#[cfg(test)]
 mod receipts;
 #[cfg(test)]
 mod refusals;

@@ -9,10 +9,10 @@ use std::process::Abort;
 
 const POST: &[u8] = b"POST /_submit/1/1 HTTP/1.1\r\nHost: a\r\nContent-Length: 8\r\n\r\nrelease\n";
 
-/// A question of node 1 itself, and no message.
-const CAME: &[&[u8]] = &[&[1, 6, 1, 0, 0, 0, 1], &[255]];
+/// A packet with a question of node 1 itself, and with no message.
+const CAME: &[u8] = &[3, 0, 0, 0, 7, 1, 6, 1, 0, 0, 0, 1, 0, 0, 0, 1, 255];
 
-/// A server takes a client and two datagrams, and goes on for so many milliseconds.
+/// A server takes a client and a packet, and goes on for so many milliseconds.
 fn goes_on(
     rt: &impl Abort,
     alloc: Global,
@@ -21,9 +21,7 @@ fn goes_on(
 ) -> Result<(), AllocError> {
     let client = Client::new(alloc, POST, usize::MAX)?;
     let _ = server.seats.admit(client, 0)?;
-    for &datagram in CAME {
-        server.mail.push(datagram)?;
-    }
+    server.mail.take_in(CAME)?;
     for now in 0..millis {
         let _ = server.seats.hear(now)?;
         if let Err(halt) = server.step(now) {

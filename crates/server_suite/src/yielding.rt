@@ -28,11 +28,11 @@ const YIELDS: &[Row] = &[
     (&[2], 2, Some(100), None, 2, 0, false, false),
     // Another one's attempt stands.
     (&[3], 3, None, None, 2, 3, true, true),
-    (&[3], 3, None, Some(51), 2, 3, true, true),
-    (&[3], 3, None, Some(50), 2, 3, true, false),
+    (&[3], 3, None, Some(71), 2, 3, true, true),
+    (&[3], 3, None, Some(70), 2, 3, true, false),
     // Its own attempt stands, and another one tried.
     (&[1, 2], 2, None, None, 2, 2, true, true),
-    (&[1, 2], 2, None, Some(50), 2, 2, true, false),
+    (&[1, 2], 2, None, Some(70), 2, 2, true, false),
     // None stands, and it is the next one.
     (&[1, 2, 3], 1, Some(100), None, 2, 0, false, false),
     (&[1, 3], 1, Some(100), None, 3, 0, false, false),
@@ -40,9 +40,9 @@ const YIELDS: &[Row] = &[
     (&[1, 9], 9, Some(100), None, 1, 0, false, false),
     // Another one comes before it.
     (&[1, 2, 3], 1, Some(100), None, 3, 0, true, true),
-    (&[1, 2, 3], 1, Some(96), None, 3, 0, true, true),
-    (&[1, 2, 3], 1, Some(95), None, 3, 0, true, false),
-    (&[1, 2, 3], 1, Some(100), Some(50), 3, 0, true, false),
+    (&[1, 2, 3], 1, Some(95), None, 3, 0, true, true),
+    (&[1, 2, 3], 1, Some(94), None, 3, 0, true, false),
+    (&[1, 2, 3], 1, Some(100), Some(70), 3, 0, true, false),
     (&[1, 3], 3, Some(100), None, 2, 0, true, true),
     (&[1, 2], 1, Some(100), None, 1, 0, true, true),
     (&[1, 9], 9, Some(100), None, 9, 0, true, true),
@@ -78,6 +78,35 @@ fn nodes_that_try_take_turns(rt: HostRuntime) {
         assert_eq!(rt; yielding.waits(me), waits, "{yielding:?} {me:?}");
         let due = yielding.is_due(times, NOW, me);
         assert_eq!(rt; due, yields, "{yielding:?} {me:?}");
+    }
+}
+
+/// How long the last attempts stood, since when it yields to another one's, and whether it yields on.
+const STRETCHES: &[(u64, u64, bool)] = &[
+    (0, 95, true),
+    (0, 94, false),
+    (4, 71, true),
+    (4, 70, false),
+    (20, 51, true),
+    (20, 50, false),
+];
+
+#[test]
+fn a_stretch_of_yielding_ends(rt: HostRuntime) {
+    let times = Times::new(None, None);
+    let me = node(2).expect(&rt, "a node");
+    for &(took, since, yields) in STRETCHES {
+        let yielding = Yielding {
+            tried: among(&[3]),
+            tries: node(3),
+            last: node(3),
+            stands: None,
+            free: None,
+            took,
+            since: Some(since),
+        };
+        let due = yielding.is_due(times, NOW, me);
+        assert_eq!(rt; due, yields, "{yielding:?}");
     }
 }
 

@@ -103,15 +103,19 @@ pub record IsBehind (y : Yielding) (me : ℕ) : Type 0 where
 abbrev pub Waits : Yielding → ℕ → Type 0
 Waits y me = ((q : ℕ) × (y.tries ≡ Some q) × (q ≢ me)) ⊎ IsBehind y me
 
--- none has stood there for longer than those of the last node did
+-- none has stood there for longer than those of the last node did, and a millisecond more
 abbrev pub IsSoon : Yielding → ℕ → Type 0
-IsSoon y now = (free : ℕ) × (y.free ≡ Some free) × (now - free ≤ y.took)
+IsSoon y now = (free : ℕ) × (y.free ≡ Some free) × (now - free ≤ y.took + 1)
 
--- so it waits: so long in a stretch at most, and for an attempt that begins no longer than the last ones stood
+-- a stretch of so many milliseconds may go on: the bound on it has not passed, nor six times as long as the last attempts stood, and a millisecond more
+abbrev pub MayGoOn : Yielding → Times → ℕ → Type 0
+MayGoOn y times millis = (millis < times.yielding) × (millis < 6 * (y.took + 1))
+
+-- so it waits: as long in a stretch as that may go on, and for an attempt that begins hardly longer than the last ones stood
 abbrev pub Yields : Yielding → Times → ℕ → ℕ → Type 0
 Yields y times now me =
     Waits y me
-    × (passed (Some (unwrap_or y.since now)) now times.yielding ≡ false)
+    × MayGoOn y times (now - unwrap_or y.since now)
     × ((y.tries ≢ None) ⊎ IsSoon y now)
 
 -- where it waited in vain, nobody's turn is before its own until one tries again
@@ -243,7 +247,7 @@ pace_after p now seen tries due last = record p {
 
 -- as a batch begins
 pub record IsDue (p : Pace) (now : ℕ) (seen : Seen) (tries : Option ℕ) (telling : Option (ℕ × ℕ)) (due : Due) : Type 0 where
-  pub fresh : IsTrue due.fresh ↔ (IsFresh p.ticking seen.wanted p.stirred × ((tries ≡ None) ⊎ (due.yields ≡ false)))
+  pub fresh : IsTrue due.fresh ↔ (IsFresh p.ticking seen.wanted p.stirred × (due.yields ≡ false))
   pub told : due.telling ≡ telling
   pub question : IsTrue due.question ↔ Asks (asking_of p.last p.times now seen p.empty)
   pub tick : IsTrue due.tick ↔ Ticks (noted p.ticking now seen.wanted seen.known) now p.patience p.times.growth

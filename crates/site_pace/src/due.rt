@@ -9,7 +9,7 @@ use site_ids::{Instance, NodeId};
 /// What stands as a batch begins.
 #[derive(Clone, Copy, Debug, PartialEq, Eq, Drop)]
 pub struct Due {
-    /// A value was just submitted, and nobody tries one, or it does not yield.
+    /// A value was just submitted, and it does not yield.
     pub fresh: bool,
     /// Whom to tell, and from which instance on, where a telling is due.
     pub telling: Option<(NodeId, Instance)>,

@@ -6,7 +6,7 @@ ghost use Rattle.node.specs.Standing.{IsNodeOf};
 ghost use Rattle.site_pace.specs.declared.due.Due.{Due};
 ghost use Rattle.site_pace.specs.declared.seen.Seen.{Seen};
 ghost use Rattle.site_drive.specs.declared.last_call.LastCall.TheVariants.{Ask, TickOrAsk};
-ghost use Rattle.site_pace.specs.Pacing.{empty_after, first_pace, heard, pace_after, question_after, rest_after, resting_of, ticking_after, IsDue, IsFresh, IsSeen, IsToldOf, IsTriedBy, IsUntried};
+ghost use Rattle.site_pace.specs.Pacing.{empty_after, first_pace, heard, pace_after, question_after, rest_after, resting_of, ticking_after, IsDue, IsFresh, IsSeen, IsToldOf, IsTriedBy, IsUntried, IsYielding};
 ghost use Rattle.site_pace.specs.Turns.{call_behind};
 
 use crate::due::Due;
@@ -77,9 +77,9 @@ impl Pace {
     }
 
     /// What is called behind the turns of the next batch, which begins now, where all that had come was taken in by the last one, or not. What is called
-    /// counts from now on.
+    /// counts from now on. A value that was just submitted is tried at once where nobody tries one and it is no other server's turn.
     pub fn due<D: Disk>(&mut self, now: u64, node: &Node<D>, drained: bool) -> LastCall
-        ensures fresh { (s : AbstractNode) → IsNodeOf node.now s → WantsTick s → IsUntried s → self.old.ticking.since ≡ None → self.old.stirred ≡ false → result ≡ TickOrAsk }
+        ensures fresh { (s : AbstractNode) → IsNodeOf node.now s → WantsTick s → IsUntried s → ¬ IsYielding self.old now None → self.old.ticking.since ≡ None → self.old.stirred ≡ false → result ≡ TickOrAsk }
         ensures due { (s : AbstractNode) → IsNodeOf node.now s → (seen : Seen) × (tries : Option ℕ) × (telling : Option (ℕ × ℕ)) × (due : Due) × IsSeen s drained seen × IsTriedBy s (suc seen.known) tries × IfSome telling (λ x. IsToldOf self.old.questions.asked seen.known x.0 x.1) × IsDue self.old now seen tries telling due × (result ≡ call_behind due)
             × (self.new ≡ record (pace_after self.old now seen tries due result) { questions = self.new.questions }) }
     {
@@ -107,11 +107,11 @@ impl Pace {
         self.questions.next(self.times, now, node, seen.known, calm)
     }
 
-    /// Whether a value was just submitted that is tried at once: nobody's attempt stands, or it does not yield to that.
+    /// Whether a value was just submitted that is tried at once: it does not yield to another server.
     fn is_fresh(&self, wanted: bool, yields: bool) -> bool
-        ensures { IsTrue result ↔ (IsFresh self.now.ticking wanted self.now.stirred × ((self.now.yielding.tries ≡ None) ⊎ (yields ≡ false))) }
+        ensures { IsTrue result ↔ (IsFresh self.now.ticking wanted self.now.stirred × (yields ≡ false)) }
     {
-        (self.yielding.tries.is_none() || !yields) && self.ticking.is_fresh(wanted, self.stirred)
+        !yields && self.ticking.is_fresh(wanted, self.stirred)
     }
 
     /// What is called behind the turns of the next batch, where so much is seen and this telling is due. What is called counts from now on.
@@ -123,7 +123,7 @@ impl Pace {
         telling: Option<(NodeId, Instance)>,
     ) -> LastCall
         ensures due { (due : Due) × IsDue self.old now seen tries telling due × (result ≡ call_behind due) × (self.new ≡ pace_after self.old now seen tries due result) }
-        ensures fresh { IsFresh self.old.ticking seen.wanted self.old.stirred → tries ≡ None → result ≡ TickOrAsk }
+        ensures fresh { IsFresh self.old.ticking seen.wanted self.old.stirred → ¬ IsYielding self.old now tries → result ≡ TickOrAsk }
         ensures news { ¬ IsFresh self.old.ticking seen.wanted self.old.stirred → telling ≡ None → self.old.last.known < seen.known → seen.drained ≡ true → self.old.last.tried ≡ false → result ≡ Ask }
     {
         let (me, times) = (self.me, self.times);

@@ -1,10 +1,13 @@
 //! When a server yields to another one that tries.
 
 ghost use Rattle.std.specs.Prelude.{◌≡◌, ◌↔◌, ◌<◌, ◌≤◌, ◌-◌, IsTrue, unwrap_or};
-ghost use Rattle.site_pace.specs.Pacing.{ended, first_yielding, noted_tries, places_behind, stood_by, yielding_after, IsBehind, IsSoon, Waits, Yields};
+ghost use Rattle.site_pace.specs.Pacing.{ended, first_yielding, noted_tries, places_behind, stood_by, yielding_after, IsBehind, IsSoon, MayGoOn, Waits, Yields};
 
-use crate::times::{Times, has_passed};
+use crate::times::Times;
 use site_ids::NodeId;
+
+/// In a stretch it yields for less than so many times as long as the last attempts stood, and a millisecond more: turns of six others.
+const TURNS: u64 = 6;
 
 /// Whose attempts this server saw at its first unknown instance, and since when it yields.
 #[derive(Clone, Copy, Debug, PartialEq, Eq, Drop)]
@@ -120,14 +123,22 @@ impl Yielding {
         }
     }
 
-    /// Whether no attempt has stood there for longer than those of the last node did.
+    /// Whether no attempt has stood there for longer than those of the last node did, and a millisecond more: a clock that counts milliseconds may have taken
+    /// one for none.
     fn is_soon(&self, now: u64) -> bool
         ensures { IsTrue result ↔ IsSoon self.now now }
     {
         match self.free {
-            Some(free) => now.saturating_sub(free) <= self.took,
+            Some(free) => now.saturating_sub(free).saturating_sub(1) <= self.took,
             None => false,
         }
+    }
+
+    /// Whether it may have yielded for so many milliseconds in a stretch, and yield on.
+    fn may_go_on(&self, times: Times, millis: u64) -> bool
+        ensures { IsTrue result ↔ MayGoOn self.now times millis }
+    {
+        millis < times.yielding && millis / TURNS <= self.took
     }
 
     /// Whether it begins no attempt of its own: it waits, for a time that has not passed.
@@ -135,9 +146,9 @@ impl Yielding {
         ensures due { IsTrue result ↔ Yields self.now times now me }
         ensures bound { IsTrue result → now - unwrap_or self.now.since now < times.yielding }
     {
-        let since = self.since.unwrap_or(now);
+        let stretch = now.saturating_sub(self.since.unwrap_or(now));
         let soon = self.tries.is_some() || self.is_soon(now);
-        !has_passed(Some(since), now, times.yielding) && soon && self.waits(me)
+        self.may_go_on(times, stretch) && soon && self.waits(me)
     }
 
     /// It yields now, or does not. Where it waited in vain, nobody's turn is before its own until one tries again.

@@ -23,3 +23,10 @@ own_more p letters i x below got =
     ∙ ap (own_of p) (sym (map-append (λ l. (l.to, l.bytes.items)) (take i letters) (x ∷ [])))
     ∙ ap (λ l. own_of p (letters_of l)) (sym (take_more letters i x below got))
     ∙ ap (λ k. own_of p (letters_of (take k letters))) next
+
+-- one letter: it is for the node, or not
+pub own_of_one : (p : ℕ) (x : Letter) → is_for p x.to ≡ true → own_of p (letters_of (x ∷ [])) ≡ x.bytes.items ∷ []
+own_of_one p x is = ap (λ b. if b then x.bytes.items ∷ [] else []) is
+
+pub own_of_none : (p : ℕ) (x : Letter) → is_for p x.to ≡ false → own_of p (letters_of (x ∷ [])) ≡ []
+own_of_none p x is = ap (λ b. if b then x.bytes.items ∷ [] else []) is

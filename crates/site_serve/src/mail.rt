@@ -1,12 +1,15 @@
 //! Datagrams between a node and who carries them, in memory.
 
-ghost use Rattle.std.specs.Prelude.{◌≡◌, ◌++◌, ◌∷◌, [], ◌↔◌, ◌<◌, length, IsTrue, OnOk, OnErr, vec_len};
+ghost use Rattle.std.specs.Prelude.{◌≡◌, ◌++◌, ◌∷◌, [], ◌↔◌, ◌<◌, ◌≤◌, ℕ, List, length, IsTrue, OnOk, OnErr, vec_len};
 ghost use Rattle.site_drive.specs.Posting.{bytes_of, letters_of};
+ghost use Rattle.site_packets.specs.Packets.{Holds, framed_all};
+ghost use Rattle.site_packets.specs.declared.TheConstants.{MAX_PACKET};
 ghost use Rattle.site_serve.specs.Mailing.{waiting_of, posted_of, own_of, is_for};
 
 use node::To;
 use site_drive::Letter;
 use site_ids::NodeId;
+use site_packets::{first_frame, frames_in};
 use std::alloc::{AllocError, Global};
 
 /// How many datagrams wait at most.
@@ -17,7 +20,7 @@ const BYTES: usize = 1_000_000;
 
 /// Datagrams that came and wait for the next step, and letters that the last one handed out.
 ///
-/// Who carries them pushes what came, and sends each letter to whom it is for, one for all to each other node. What is for this node itself never leaves it: it
+/// Who carries them has it take in what came, and sends each letter to whom it is for, one for all to each other node (`pack`). What is for this node itself never leaves it: it
 /// waits for the next step, before all that comes until then.
 #[derive(Drop)]
 pub struct Mail {
@@ -29,7 +32,7 @@ pub struct Mail {
 }
 
 /// Whether a letter is for a node.
-fn reaches(to: To, node: NodeId) -> bool
+pub(crate) fn reaches(to: To, node: NodeId) -> bool
     ensures { result ≡ is_for node to }
 {
     match to {
@@ -105,6 +108,41 @@ impl Mail {
         self.bytes = self.bytes.saturating_add(datagram.len());
         self.came.push(datagram)?;
         Ok(())
+    }
+
+    /// What came in one piece: each datagram that it holds waits behind the others. Where memory is refused the first of them may.
+    pub fn take_in(&mut self, piece: &[u8]) -> Result<(), AllocError>
+        ensures came { OnOk result ((ds : List (List ℕ)) × Holds piece.now ds × (waiting_of self.new ≡ waiting_of self.old ++ ds)) }
+        ensures refused { OnErr result ((done left : List (List ℕ)) × Holds piece.now (done ++ left) × (waiting_of self.new ≡ waiting_of self.old ++ done)) }
+        ensures same { self.new.letters ≡ self.old.letters }
+    {
+        match frames_in(piece) {
+            Some(frames) => self.take_frames(frames),
+            None => self.push(piece),
+        }
+    }
+
+    /// What stands behind the mark of a packet.
+    fn take_frames(&mut self, frames: &[u8]) -> Result<(), AllocError>
+        requires { length frames.now ≤ MAX_PACKET }
+        ensures came { OnOk result ((ds : List (List ℕ)) → frames.now ≡ framed_all ds → waiting_of self.new ≡ waiting_of self.old ++ ds) }
+        ensures refused { OnErr result ((ds : List (List ℕ)) → frames.now ≡ framed_all ds → (done left : List (List ℕ)) × (ds ≡ done ++ left) × (waiting_of self.new ≡ waiting_of self.old ++ done)) }
+        ensures same { self.new.letters ≡ self.old.letters }
+    {
+        let mut rest = frames;
+        while let Some((datagram, behind)) = first_frame(rest) {
+            self.push(datagram)?;
+            rest = behind;
+        }
+        Ok(())
+    }
+
+    /// The datagram that waits behind all others; no bytes where none waits.
+    pub(crate) fn newest(&self) -> &[u8] {
+        match self.came.last() {
+            Some(datagram) => datagram.as_slice(),
+            None => &[],
+        }
     }
 
     /// What is to be sent.

@@ -105,9 +105,9 @@ impl<S> Seat<S> {
 }
 
 impl<S: Read> Seat<S> {
-    /// Reads once, if it may: whether anything came.
+    /// Reads once, if it may, and its client may have more to say than the request that is left: whether anything came.
     pub(crate) fn hear(&mut self, now: u64) -> Result<bool, AllocError> {
-        if !self.line.may_hear() {
+        if !self.line.may_hear() || self.line.has_asked() {
             return Ok(false);
         }
         match self.line.hear(&mut self.stream)? {

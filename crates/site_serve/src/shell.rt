@@ -1,14 +1,18 @@
 //! What carries a server's bytes: its sockets and its clock. It is read: nothing is proved of it but that it is safe and returns.
 //!
+//! What it sends a node in a pass goes as packets (`site_packets`): each call that sends costs some microseconds, as much as a message.
+//!
 //! A rest of 10 ms or more waits for a datagram and ends with it; a shorter one sleeps, as the system counts such waits in steps of some milliseconds.
 
+use crate::addresses::Addresses;
 use crate::mail::Mail;
+use crate::packing::pack;
 use crate::seats::Seats;
 use crate::watch::Watch;
-use node::To;
 use site_drive::Letter;
-use site_ids::NodeId;
+use site_ids::{MAX_NODES, NodeId};
 use site_notes::Notes;
+use site_packets::Packet;
 use std::alloc::{AllocError, Global};
 use std::io::{ErrorKind, Read};
 use std::net::{Shutdown, SocketAddr, TcpListener, TcpStream, UdpSocket};
@@ -31,13 +35,13 @@ const LINGER: u32 = 16;
 /// The sockets, none of which waits, and the time.
 #[derive(Drop)]
 pub(crate) struct Shell {
-    me: NodeId,
     socket: UdpSocket,
-    // those of nodes 1 to n, in order
-    peers: Vec<SocketAddr>,
+    // the other nodes
+    others: Vec<(NodeId, SocketAddr)>,
     listener: TcpListener,
     // room for the longest datagram and a byte more, so that one that was cut spells nothing
     datagram: Vec<u8>,
+    packet: Packet,
     start: Option<Instant>,
     now: u64,
     pub(crate) watch: Watch,
@@ -58,25 +62,63 @@ pub fn close(stream: TcpStream) {
     }
 }
 
+/// Where the other nodes are: node p has the p-th address.
+fn others_of(
+    alloc: Global,
+    addresses: &Addresses,
+) -> Result<Vec<(NodeId, SocketAddr)>, AllocError> {
+    let mut others = Vec::new(alloc);
+    for (number, at) in (1..=MAX_NODES).zip(addresses.peers.iter()) {
+        match addresses.cluster.node(number) {
+            Some(node) if node != addresses.me => others.push((node, *at))?,
+            _ => {}
+        }
+    }
+    Ok(others)
+}
+
+/// Sends a node what these letters have for it. A failure is a loss, and so is want of memory.
+fn send_to(
+    socket: &UdpSocket,
+    packet: &mut Packet,
+    letters: &[Letter],
+    to: NodeId,
+    at: SocketAddr,
+) {
+    let mut rest = letters;
+    for _ in 0..letters.len() {
+        let Ok(n) = pack(rest, to, packet) else {
+            return;
+        };
+        if !packet.is_empty() {
+            let _ = socket.send_to(packet.bytes(), at);
+        }
+        let (_, behind) = rest.split_at(n);
+        rest = behind;
+        if rest.is_empty() {
+            return;
+        }
+    }
+}
+
 impl Shell {
-    /// Node p has the p-th address. Both sockets are there, and do not wait.
+    /// Both sockets are there, and do not wait.
     pub(crate) fn new<C: Clock>(
         clock: &C,
         alloc: Global,
-        me: NodeId,
+        addresses: &Addresses,
         socket: UdpSocket,
-        peers: Vec<SocketAddr>,
         listener: TcpListener,
         notes: Notes,
     ) -> Result<Shell, AllocError> {
         let mut datagram = Vec::new(alloc);
         datagram.resize(MAX_MESSAGE + 1, 0)?;
         Ok(Shell {
-            me,
             socket,
-            peers,
+            others: others_of(alloc, addresses)?,
             listener,
             datagram,
+            packet: Packet::new(alloc)?,
             start: Instant::now(clock).ok(),
             now: 0,
             watch: Watch::new(notes),
@@ -105,8 +147,8 @@ impl Shell {
             }
             match self.socket.recv_from(self.datagram.as_mut_slice()) {
                 Ok((n, _from)) => {
-                    self.watch.hear(&self.datagram[..n]);
-                    mail.push(&self.datagram[..n])?;
+                    mail.take_in(&self.datagram[..n])?;
+                    self.watch.hear(mail.newest());
                 }
                 Err(e) if e.kind() == ErrorKind::WouldBlock => return Ok(()),
                 Err(_) => {}
@@ -152,8 +194,8 @@ impl Shell {
         let came = self.socket.recv_from(self.datagram.as_mut_slice());
         let _ = self.socket.set_nonblocking(true);
         if let Ok((n, _from)) = came {
-            self.watch.hear(&self.datagram[..n]);
-            let _ = mail.push(&self.datagram[..n]);
+            let _ = mail.take_in(&self.datagram[..n]);
+            self.watch.hear(mail.newest());
         }
     }
 
@@ -163,23 +205,10 @@ impl Shell {
         self.socket.set_nonblocking(false)
     }
 
-    fn send_to(&self, to: &SocketAddr, datagram: &[u8]) {
-        let _ = self.socket.send_to(datagram, *to);
-    }
-
-    /// Sends each letter to the node that it is for, or to each of the others. A failure is a loss.
-    pub(crate) fn send(&self, letters: &[Letter]) {
-        for letter in letters {
-            for (i, peer) in self.peers.iter().enumerate() {
-                let other = i + 1 != usize::from(self.me.number());
-                let wanted = match letter.to {
-                    To::All => other,
-                    To::One(to) => other && i + 1 == usize::from(to.number()),
-                };
-                if wanted {
-                    self.send_to(peer, letter.bytes.as_slice());
-                }
-            }
+    /// Sends each other node what these letters have for it.
+    pub(crate) fn send(&mut self, letters: &[Letter]) {
+        for (node, at) in &self.others {
+            send_to(&self.socket, &mut self.packet, letters, *node, *at);
         }
     }
 

@@ -69,8 +69,7 @@ pub(crate) fn open_sockets<R: Net<Listener = TcpListener, Stream = TcpStream> + 
     let mut addresses = addresses;
     match open(rt, &mut addresses, cause) {
         Ok((socket, listener)) => {
-            let Addresses { me, peers, .. } = addresses;
-            Ok(Shell::new(rt, alloc, me, socket, peers, listener, notes)?)
+            Ok(Shell::new(rt, alloc, &addresses, socket, listener, notes)?)
         }
         Err(e) if e.kind() == io::ErrorKind::OutOfMemory => Err(Halt::OutOfMemory),
         Err(e) => {
