@@ -76,7 +76,7 @@ fn submit_all(rt: &impl Abort, server: &mut Server<Looped>) {
     }
 }
 
-fn member(rt: &impl Abort, alloc: Global, number: u8) -> Server<Looped> {
+fn member(rt: &impl Abort, alloc: Global, number: u8) -> Box<Server<Looped>> {
     Server::new(rt, alloc, 3, number, Looped::new(alloc, number))
 }
 

@@ -1,7 +1,7 @@
 //! Nodes over disks in memory, boxed: what owns one is proved to let it go, and a box is let go of in one step.
 ghost use Rattle.site_ids.specs.Ids.{IsNode};
 
-use crate::server::Server;
+use crate::server::{Server, boxed};
 use durable::Record;
 use node::Node;
 use site_disk::MemDisk;
@@ -42,31 +42,37 @@ pub(crate) fn fresh(rt: &impl Abort, alloc: Global, size: u8, number: u8) -> Box
     }
 }
 
-/// Node 1 of three, closed and opened again.
-pub(crate) fn again(
-    rt: &impl Abort,
-    alloc: Global,
-    node: Box<Node<MemDisk>>,
-) -> Box<Node<MemDisk>> {
+/// Node 1 of three over that disk.
+fn opened(rt: &impl Abort, alloc: Global, disk: MemDisk) -> Box<Node<MemDisk>> {
     let cluster = Cluster::new(3).expect(rt, "a cluster");
     let me = cluster.node(1).expect(rt, "a node");
-    open(alloc, cluster, me, Box::into_inner(node).close()).expect(rt, "memory")
+    open(alloc, cluster, me, disk).expect(rt, "memory")
 }
 
-/// Node 1 of three, closed and opened again, behind a crash by that choice, or without one.
-pub(crate) fn reopened(
-    rt: &impl Abort,
-    server: Server<MemLink>,
-    crash: Option<u8>,
-) -> Server<MemLink> {
-    let Server { alloc, node, link } = server;
-    let cluster = Cluster::new(3).expect(rt, "a cluster");
-    let me = cluster.node(1).expect(rt, "a node");
+/// Node 1 of three, closed and opened again.
+pub(crate) fn again(rt: &impl Abort, server: Box<Server<MemLink>>) -> Box<Server<MemLink>> {
+    let Server { alloc, node, link } = Box::into_inner(server);
+    let node = opened(rt, alloc, Box::into_inner(node).close());
+    boxed(rt, alloc, Server { alloc, node, link })
+}
+
+/// The disk of a node, behind a crash by that choice, or without one.
+fn disk_of(node: Box<Node<MemDisk>>, crash: Option<u8>) -> MemDisk {
     let mut disk = Box::into_inner(node).close();
     match crash {
         Some(choice) => disk.crash(choice),
         None => disk.disarm(),
     }
-    let node = open(alloc, cluster, me, disk).expect(rt, "memory");
-    Server { alloc, node, link }
+    disk
+}
+
+/// The same, behind a crash by that choice, or without one.
+pub(crate) fn reopened(
+    rt: &impl Abort,
+    server: Box<Server<MemLink>>,
+    crash: Option<u8>,
+) -> Box<Server<MemLink>> {
+    let Server { alloc, node, link } = Box::into_inner(server);
+    let node = opened(rt, alloc, disk_of(node, crash));
+    boxed(rt, alloc, Server { alloc, node, link })
 }

@@ -2,6 +2,7 @@
 //! memory was wanted, or by that of the device where the disk in memory found none, and then the node is opened again. Where the link found none it
 //! counts a failure. Either way what was heard may be lost, as a datagram may; so it comes once more, and then the node is where it is without
 //! refusals.
+use crate::opening::again;
 use crate::server::{Server, bytes};
 use node::NodeFault;
 use site_drive::{LastCall, MemLink};
@@ -20,19 +21,26 @@ const HEARD: &[&str] = &[
 /// What the question is answered with.
 const ANSWER: &str = "010701000000010000001400000001000000000000000172656c656173650a";
 
-/// What a drive, or a batch, that hears all of it came to: whether it ended as without a refusal. Turns are left for what an earlier drive did not take.
-fn turn(rt: &impl Abort, server: &mut Server<MemLink>, at_once: bool) -> Result<bool, NodeFault> {
-    if at_once {
-        let mut came = Vec::new(server.alloc);
-        for &text in HEARD {
-            if came.push(bytes(rt, server.alloc, text)).is_err() {
-                return Err(NodeFault::OutOfMemory);
-            }
-        }
-        let (malformed, letters) = server.batch(came.as_slice(), LastCall::TickOrAsk)?;
-        assert!(rt; malformed == 1 && letters.len() > 1);
-        return Ok(true);
+fn heard(rt: &impl Abort, alloc: Global) -> Option<Vec<Vec<u8>>> {
+    let mut came = Vec::new(alloc);
+    for &text in HEARD {
+        came.push(bytes(rt, alloc, text)).ok()?;
     }
+    Some(came)
+}
+
+/// What a batch that hears all of it came to: it ended as without a refusal.
+fn batch(rt: &impl Abort, server: &mut Server<MemLink>) -> Result<bool, NodeFault> {
+    let Some(came) = heard(rt, server.alloc) else {
+        return Err(NodeFault::OutOfMemory);
+    };
+    let (malformed, letters) = server.batch(came.as_slice(), LastCall::TickOrAsk)?;
+    assert!(rt; malformed == 1 && letters.len() > 1);
+    Ok(true)
+}
+
+/// What a drive that hears all of it came to: whether it ended as without a refusal. Turns are left for what an earlier drive did not take.
+fn turns(rt: &impl Abort, server: &mut Server<MemLink>) -> Result<bool, NodeFault> {
     for &text in HEARD {
         server.queue(rt, text);
     }
@@ -41,27 +49,49 @@ fn turn(rt: &impl Abort, server: &mut Server<MemLink>, at_once: bool) -> Result<
     Ok(driven.failed == 0)
 }
 
+fn turn(rt: &impl Abort, server: &mut Server<MemLink>, at_once: bool) -> Result<bool, NodeFault> {
+    if at_once {
+        batch(rt, server)
+    } else {
+        turns(rt, server)
+    }
+}
+
+/// Why a call is refused where memory was.
+fn cause(server: &Server<MemLink>) -> NodeFault {
+    if server.node.is_stopped() {
+        NodeFault::Device
+    } else {
+        NodeFault::OutOfMemory
+    }
+}
+
 fn drives(rt: &impl Abort, server: &mut Server<MemLink>, at_once: bool) -> bool {
     match turn(rt, server, at_once) {
         Ok(whole) => whole,
         Err(fault) => {
-            let cause = if server.node.is_stopped() {
-                NodeFault::Device
-            } else {
-                NodeFault::OutOfMemory
-            };
-            assert_eq!(rt; fault, cause);
+            assert!(rt; fault == cause(server));
             false
         }
     }
 }
 
 /// One that is stopped is opened again.
-fn going(rt: &impl Abort, server: Server<MemLink>) -> Server<MemLink> {
+fn going(rt: &impl Abort, server: Box<Server<MemLink>>) -> Box<Server<MemLink>> {
     if server.node.is_stopped() {
-        server.again(rt)
+        again(rt, server)
     } else {
         server
+    }
+}
+
+/// It is where it is without refusals.
+fn check_end(rt: &impl Abort, server: &Server<MemLink>, at_once: bool) {
+    assert!(rt; server.node.known() == 1 && server.node.newest() == 1);
+    if !at_once {
+        // The last are the answer, and a tick to all.
+        let at = server.link.sent().len().saturating_sub(4);
+        server.sent(rt, at, 3, ANSWER);
     }
 }
 
@@ -71,12 +101,7 @@ fn driven(rt: &impl Abort, alloc: Global, at_once: bool) {
     let whole = drives(rt, &mut server, at_once);
     let mut server = going(rt, server);
     assert!(rt; whole || drives(rt, &mut server, at_once));
-    assert!(rt; server.node.known() == 1 && server.node.newest() == 1);
-    if !at_once {
-        // The last are the answer, and a tick to all.
-        let at = server.link.sent().len().saturating_sub(4);
-        server.sent(rt, at, 3, ANSWER);
-    }
+    check_end(rt, &server, at_once);
 }
 
 #[test]

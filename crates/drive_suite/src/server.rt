@@ -1,5 +1,5 @@
-//! A node with its link.
-use crate::opening::{again, fresh};
+//! A node with its link, boxed: a box is let go of in one step.
+use crate::opening::fresh;
 use command::write;
 use node::{Node, NodeFault, Submitted};
 use site_disk::MemDisk;
@@ -34,11 +34,31 @@ pub(crate) fn bytes(rt: &impl Abort, alloc: Global, text: &str) -> Vec<u8> {
     }
 }
 
+fn value_of(rt: &impl Abort, alloc: Global, number: u64, text: &str) -> Value {
+    let ticket = Ticket { editor: 1, number };
+    let bytes = write(alloc, ticket, text.as_bytes()).expect(rt, "a command");
+    Value::from_bytes(bytes).expect(rt, "a value")
+}
+
+/// Where memory was refused it is boxed once more.
+pub(crate) fn boxed<L: Drop>(rt: &impl Abort, alloc: Global, server: Server<L>) -> Box<Server<L>> {
+    match Box::new(alloc, server) {
+        Ok(server) => server,
+        Err(failed) => Box::new(alloc, failed.value).ok().expect(rt, "memory"),
+    }
+}
+
 impl<L: Link + Drop> Server<L> {
     /// The node of that number among so many, over a record that was just made.
-    pub(crate) fn new(rt: &impl Abort, alloc: Global, size: u8, number: u8, link: L) -> Server<L> {
+    pub(crate) fn new(
+        rt: &impl Abort,
+        alloc: Global,
+        size: u8,
+        number: u8,
+        link: L,
+    ) -> Box<Server<L>> {
         let node = fresh(rt, alloc, size, number);
-        Server { alloc, node, link }
+        boxed(rt, alloc, Server { alloc, node, link })
     }
 
     pub(crate) fn drive(&mut self, turns: u32) -> Result<Driven, NodeFault> {
@@ -61,6 +81,15 @@ impl<L: Link + Drop> Server<L> {
         last: LastCall,
     ) -> Result<(usize, Vec<Letter>), NodeFault> {
         let mut desk = Desk::new(self.alloc)?;
+        self.batch_on(&mut desk, came, last)
+    }
+
+    fn batch_on(
+        &mut self,
+        desk: &mut Desk,
+        came: &[Vec<u8>],
+        last: LastCall,
+    ) -> Result<(usize, Vec<Letter>), NodeFault> {
         let malformed = desk.take_batch(&mut self.node, came, last)?;
         let mut letters = Vec::new(self.alloc);
         desk.post(&mut letters)?;
@@ -73,13 +102,14 @@ impl<L: Link + Drop> Server<L> {
         self.drive_with(&mut desk, turns, LastCall::Nothing)
     }
 
+    fn takes(&mut self, value: &Value) -> bool {
+        self.node.submit(value) == Ok(Submitted::Queued)
+    }
+
     /// A command of editor 1, by the number of its ticket.
     pub(crate) fn submit(&mut self, rt: &impl Abort, number: u64, text: &str) {
-        let ticket = Ticket { editor: 1, number };
-        let bytes = write(self.alloc, ticket, text.as_bytes()).expect(rt, "a command");
-        let value = Value::from_bytes(bytes).expect(rt, "a value");
-        let submitted = self.node.submit(&value);
-        assert_eq!(rt; submitted, Ok(Submitted::Queued));
+        let value = value_of(rt, self.alloc, number, text);
+        assert!(rt; self.takes(&value));
     }
 
     /// Whether the page of the newest release is this one.
@@ -92,13 +122,6 @@ impl<L: Link + Drop> Server<L> {
 }
 
 impl Server<MemLink> {
-    /// Node 1 of three, closed and opened again.
-    pub(crate) fn again(self, rt: &impl Abort) -> Server<MemLink> {
-        let Server { alloc, node, link } = self;
-        let node = again(rt, alloc, node);
-        Server { alloc, node, link }
-    }
-
     /// Queues a datagram that is given in hexadecimal. Where memory was refused it is queued once more.
     pub(crate) fn queue(&mut self, rt: &impl Abort, text: &str) {
         let datagram = bytes(rt, self.alloc, text);

@@ -32,7 +32,7 @@ fn server(
     number: u8,
     socket: UdpSocket,
     addresses: &[SocketAddr],
-) -> Server<UdpLink> {
+) -> Box<Server<UdpLink>> {
     let peers = Vec::from_slice(alloc, addresses).expect(rt, "addresses");
     let size = u8::try_from(addresses.len()).expect(rt, "a size");
     Server::new(rt, alloc, size, number, UdpLink::new(socket, peers))

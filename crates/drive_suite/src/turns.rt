@@ -1,11 +1,12 @@
 //! What node 1 of three sends for what it hears, datagram by datagram; turns alone beside `drive`, and the other calls behind turns.
 use crate::server::{Server, passes};
-use site_drive::{Desk, LastCall, MemLink};
+use site_drive::{Delivered, Desk, LastCall, MemLink};
+use site_ids::{Instance, NodeId};
 use std::alloc::Global;
 use std::process::Abort;
 
 /// What is heard, and what is sent for it, to whom.
-const TURNS: [(&str, &[(u8, &str)]); 9] = [
+const TURNS: &[(&str, &[(u8, &str)])] = &[
     // A prepare of node 2, and a promise to it.
     (
         "010102000000010000000102",
@@ -40,9 +41,11 @@ const TURNS: [(&str, &[(u8, &str)]); 9] = [
     ("ff", &[]),
 ];
 
-/// After so many of these turns, how many datagrams were malformed, and the last call: a tick where the instance was reached and isn't known, and else a
-/// question about the next one.
-const LAST_CALLS: &[(u8, u32, &str)] = &[
+/// After so many of these turns, how many datagrams were malformed, and the last call.
+type LastCallRow = (u8, u32, &'static str);
+
+/// The last call is a tick where the instance was reached and isn't known, and else a question about the next one.
+const LAST_CALLS: &[LastCallRow] = &[
     (0, 0, "01060100000001"),
     (6, 0, "010101000000010000000101"),
     (9, 1, "01060100000002"),
@@ -80,39 +83,56 @@ fn last_to_all(rt: &impl Abort, server: &Server<MemLink>, first: usize, size: u8
         server.sent(rt, at, to, text);
         at = at.saturating_add(1);
     }
-    assert_eq!(rt; server.link.sent().len(), at);
+    assert!(rt; server.link.sent().len() == at);
 }
 
-fn server(rt: &impl Abort, alloc: Global, size: u8) -> Server<MemLink> {
+fn server(rt: &impl Abort, alloc: Global, size: u8) -> Box<Server<MemLink>> {
     Server::new(rt, alloc, size, 1, MemLink::new(alloc))
 }
 
 /// The turns alone, and then a drive of none.
-fn exchange(rt: &impl Abort, alloc: Global, turns: u8, malformed: u32, last: &str) {
-    let mut server = server(rt, alloc, 3);
-    hear(rt, &mut server, usize::from(turns));
+fn exchange(rt: &impl Abort, server: &mut Server<MemLink>, row: LastCallRow) {
+    let (turns, malformed, last) = row;
+    hear(rt, server, usize::from(turns));
     passes(rt, last, server.exchange(u32::from(turns)), malformed, 0);
-    let sent = sent_in_turns(rt, &server, usize::from(turns));
-    assert_eq!(rt; server.link.sent().len(), sent);
+    let sent = sent_in_turns(rt, server, usize::from(turns));
+    assert!(rt; server.link.sent().len() == sent);
     passes(rt, last, server.drive(0), 0, 0);
-    last_to_all(rt, &server, sent, 3, last);
+    last_to_all(rt, server, sent, 3, last);
 }
 
-fn drive(rt: &impl Abort, alloc: Global, turns: u8, malformed: u32, last: &str) {
-    let mut server = server(rt, alloc, 3);
-    hear(rt, &mut server, usize::from(turns));
+fn drive(rt: &impl Abort, server: &mut Server<MemLink>, row: LastCallRow) {
+    let (turns, malformed, last) = row;
+    hear(rt, server, usize::from(turns));
     passes(rt, last, server.drive(u32::from(turns)), malformed, 0);
-    let sent = sent_in_turns(rt, &server, usize::from(turns));
-    last_to_all(rt, &server, sent, 3, last);
+    let sent = sent_in_turns(rt, server, usize::from(turns));
+    last_to_all(rt, server, sent, 3, last);
 }
 
 #[test]
 fn a_drive_is_an_exchange_and_a_last_call(rt: HostRuntime) {
-    for &(turns, malformed, last) in LAST_CALLS {
-        exchange(&rt, rt.alloc(), turns, malformed, last);
-        drive(&rt, rt.alloc(), turns, malformed, last);
+    for &row in LAST_CALLS {
+        exchange(&rt, &mut server(&rt, rt.alloc(), 3), row);
+        drive(&rt, &mut server(&rt, rt.alloc(), 3), row);
     }
 }
+
+/// A last call alone, behind which the last datagrams, from that place on, are these.
+fn calls(
+    rt: &impl Abort,
+    desk: &mut Desk,
+    server: &mut Server<MemLink>,
+    last: LastCall,
+    first: usize,
+    text: &str,
+) {
+    passes(rt, text, server.drive_with(desk, 0, last), 0, 0);
+    last_to_all(rt, server, first, 3, text);
+}
+
+const QUESTION: &str = "01060100000001";
+
+const WIDENING: &str = "010101000000010000000101";
 
 /// Behind turns by which a tick is wanted: a question, then no widening, and one where a value waits; all on one desk.
 fn without_a_tick(rt: &impl Abort, desk: &mut Desk, server: &mut Server<MemLink>) {
@@ -120,18 +140,18 @@ fn without_a_tick(rt: &impl Abort, desk: &mut Desk, server: &mut Server<MemLink>
     let asked = server.drive_with(desk, 6, LastCall::Ask);
     passes(rt, "a question", asked, 0, 0);
     let sent = sent_in_turns(rt, server, 6);
-    last_to_all(rt, server, sent, 3, "01060100000001");
-    let none = server.drive_with(desk, 0, LastCall::Widen);
-    passes(rt, "none", none, 0, 0);
-    last_to_all(rt, server, sent, 3, "01060100000001");
+    last_to_all(rt, server, sent, 3, QUESTION);
+    calls(rt, desk, server, LastCall::Widen, sent, QUESTION);
     server.submit(rt, 1, "release\n");
-    let nothing = server.drive_with(desk, 0, LastCall::Nothing);
-    passes(rt, "nothing", nothing, 0, 0);
-    last_to_all(rt, server, sent, 3, "01060100000001");
-    let one = server.drive_with(desk, 0, LastCall::Widen);
-    passes(rt, "one", one, 0, 0);
-    let widened = sent.saturating_add(3);
-    last_to_all(rt, server, widened, 3, "010101000000010000000101");
+    calls(rt, desk, server, LastCall::Nothing, sent, QUESTION);
+    calls(
+        rt,
+        desk,
+        server,
+        LastCall::Widen,
+        sent.saturating_add(3),
+        WIDENING,
+    );
 }
 
 #[test]
@@ -141,46 +161,64 @@ fn questions_and_widenings_need_no_tick(rt: HostRuntime) {
     without_a_tick(&rt, &mut desk, &mut server);
 }
 
+/// Of each turn: how many datagrams were malformed, how many messages were of attempts, how many say that somebody does something, and what node 3 is told
+/// behind its question; nothing where it didn't ask.
+const TOLD: &[(u32, u32, u32, &str)] = &[
+    (0, 1, 1, ""),
+    (0, 1, 1, ""),
+    (0, 1, 1, ""),
+    (0, 1, 1, ""),
+    (0, 0, 0, "0104010000000100000001020000000107"),
+    (0, 0, 1, ""),
+    (0, 0, 1, ""),
+    (0, 0, 0, "010701000000010000000107"),
+    (1, 0, 0, ""),
+];
+
+/// The node of that number.
+fn node(rt: &impl Abort, server: &Server<MemLink>, number: u8) -> NodeId {
+    server.node.cluster().node(number).expect(rt, "a node")
+}
+
+/// Node 3 is told that behind its question about the first instance.
+fn tells(
+    rt: &impl Abort,
+    desk: &mut Desk,
+    server: &mut Server<MemLink>,
+    first: Instance,
+    told: &str,
+) {
+    assert!(rt; first.number() == 1, "{told}");
+    let sent = server.link.sent().len();
+    let to = node(rt, server, 3);
+    let last = LastCall::Tell { to, first };
+    passes(rt, told, server.drive_with(desk, 0, last), 0, 0);
+    server.sent(rt, sent, 3, told);
+    assert!(rt; server.link.sent().len() == sent.saturating_add(1));
+}
+
+fn check_told(rt: &impl Abort, desk: &mut Desk, server: &mut Server<MemLink>, told: &str) {
+    match desk.delivered().question_of(node(rt, server, 3)) {
+        Some(first) => tells(rt, desk, server, first, told),
+        None => assert!(rt; told.is_empty(), "no question: {told}"),
+    }
+}
+
+/// What a turn delivered. No question is of node 1.
+fn check_turn(rt: &impl Abort, delivered: Delivered, me: NodeId, attempts: u32, stirs: u32) {
+    assert!(rt; delivered.question_of(me).is_none());
+    assert!(rt; delivered.attempts() == attempts);
+    assert!(rt; delivered.stirs() == stirs);
+}
+
 /// Node 3 asks for what it is told behind the answer; whatever else comes is no question: four messages of attempts, and two votes.
 fn told_behind_a_question(rt: &impl Abort, desk: &mut Desk, server: &mut Server<MemLink>) {
     hear(rt, server, 9);
-    let cluster = server.node.cluster();
-    let (me, to) = (
-        cluster.node(1).expect(rt, "a node"),
-        cluster.node(3).expect(rt, "a node"),
-    );
-    for turn in 0..9 {
-        passes(
-            rt,
-            "a turn",
-            server.drive_with(desk, 1, LastCall::Nothing),
-            u32::from(turn == 8),
-            0,
-        );
-        let delivered = desk.delivered();
-        let asked = delivered.question_of(to);
-        assert_eq!(rt; asked.is_some(), turn == 4 || turn == 7, "turn {turn}");
-        assert!(rt; delivered.question_of(me).is_none());
-        assert_eq!(rt; delivered.attempts(), u32::from(turn < 4), "turn {turn}");
-        assert_eq!(rt;
-            delivered.stirs(),
-            u32::from(turn < 7 && turn != 4),
-            "turn {turn}"
-        );
-        let Some(first) = asked else {
-            continue;
-        };
-        assert_eq!(rt; first.number(), 1);
-        let sent = server.link.sent().len();
-        let last = LastCall::Tell { to, first };
-        passes(rt, "a telling", server.drive_with(desk, 0, last), 0, 0);
-        let told = if turn == 4 {
-            "0104010000000100000001020000000107"
-        } else {
-            "010701000000010000000107"
-        };
-        server.sent(rt, sent, 3, told);
-        assert_eq!(rt; server.link.sent().len(), sent.saturating_add(1));
+    for &(malformed, attempts, stirs, told) in TOLD {
+        let driven = server.drive_with(desk, 1, LastCall::Nothing);
+        passes(rt, "a turn", driven, malformed, 0);
+        check_turn(rt, desk.delivered(), node(rt, server, 1), attempts, stirs);
+        check_told(rt, desk, server, told);
     }
 }
 

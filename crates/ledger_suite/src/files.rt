@@ -1,15 +1,15 @@
 //! Files of ledgers: what is written, what is read back, and the faults of others.
-use crate::samples::commands;
+use crate::samples::{is_spelled, plan, plan_release, read, receive};
 use site_ledger::{Ledger, ReadFault, Released};
+use std::alloc::Global;
 use std::process::Abort;
-use std::test::Fail;
 
 /// The file of a ledger with a release, a text that the group has, and two on their way.
 const FILE: &str =
     "published 2\neditor 4294967295\nnext 5\nlast_release 2\nreleased 31 1764057600 1\nhas 16\nput template t\nx\nsent 3 13\nput data a\n1\n\nsent 4 18\nremove template t\n\n";
 
 /// Other files, and what is told of each.
-const FAULTS: [(&str, ReadFault); 17] = [
+const FAULTS: &[(&str, ReadFault)] = &[
     ("", ReadFault::Line(1)),
     ("published 2", ReadFault::Line(1)),
     (
@@ -71,40 +71,49 @@ const FAULTS: [(&str, ReadFault); 17] = [
     ),
 ];
 
-#[test]
-fn written_and_read_back(rt: HostRuntime) -> Result<(), Fail> {
-    let alloc = rt.alloc();
-    let mut ledger = Ledger::new(alloc, 4_294_967_295);
-    let first = commands(alloc, "T")?;
-    assert!(rt; ledger.is_idle());
-    ledger.plan(alloc, &first)?;
-    ledger.receive(1)?;
-    assert!(rt; ledger.is_idle());
-    ledger.plan_release(alloc)?;
-    ledger.receive(2)?;
-    ledger.note(Released {
-        release: 31,
-        time: 1_764_057_600,
-        commands: 1,
-    })?;
-    let second = commands(alloc, "A")?;
-    assert!(rt; ledger.is_idle());
-    ledger.plan(alloc, &second)?;
-    assert_eq!(rt; ledger.spelled(alloc)?.as_str(), FILE);
-    let again = Ledger::read(alloc, FILE)?;
-    assert_eq!(rt; again.spelled(alloc)?.as_str(), FILE);
-    assert_eq!(rt; again.log(), ledger.log());
-    Ok(())
+/// The release of that file.
+const RELEASED: Released = Released {
+    release: 31,
+    time: 1_764_057_600,
+    commands: 1,
+};
+
+/// A folder of one text and its release.
+fn publish(rt: &impl Abort, alloc: Global, ledger: &mut Ledger) {
+    plan(rt, alloc, ledger, "T");
+    receive(rt, ledger, 1);
+    plan_release(rt, alloc, ledger);
+    receive(rt, ledger, 2);
+    assert!(rt; ledger.note(RELEASED).is_ok());
+}
+
+fn is_read_back(rt: &impl Abort, alloc: Global, ledger: &Ledger) {
+    let again = read(rt, alloc, FILE);
+    is_spelled(rt, alloc, &again, FILE);
+    assert!(rt; again.log() == ledger.log());
+}
+
+fn written(rt: &impl Abort, alloc: Global, ledger: &mut Ledger) {
+    publish(rt, alloc, ledger);
+    plan(rt, alloc, ledger, "A");
+    is_spelled(rt, alloc, ledger, FILE);
+    is_read_back(rt, alloc, ledger);
 }
 
 #[test]
-fn faults(rt: HostRuntime) -> Result<(), Fail> {
-    let alloc = rt.alloc();
-    for (text, wanted) in FAULTS {
-        match Ledger::read(alloc, text) {
-            Ok(_) => assert!(rt; false, "read {text:?}"),
-            Err(fault) => assert_eq!(rt; fault, wanted, "in {text:?}"),
-        }
+fn written_and_read_back(rt: HostRuntime) {
+    let mut ledger = Ledger::new(rt.alloc(), 4_294_967_295);
+    written(&rt, rt.alloc(), &mut ledger);
+}
+
+/// The fault of a file, if it is no ledger's.
+fn fault_of(alloc: Global, text: &str) -> Option<ReadFault> {
+    Ledger::read(alloc, text).err()
+}
+
+#[test]
+fn faults(rt: HostRuntime) {
+    for &(text, wanted) in FAULTS {
+        assert!(rt; fault_of(rt.alloc(), text) == Some(wanted), "in {text:?}");
     }
-    Ok(())
 }

@@ -1,10 +1,9 @@
 //! A publication that is interrupted after each of its commands, and goes on from the file with another folder.
-use crate::samples::{commands, kept};
+use crate::samples::{kept, plan, plan_release, read, receive, spelled};
 use site_ledger::Ledger;
 use std::alloc::Global;
 use std::collections::BTreeMap;
 use std::process::Abort;
-use std::test::Fail;
 
 /// A group as an editor sees it: the text of each ticket that was given, and how many commands it takes before the editor is interrupted.
 #[derive(Drop)]
@@ -14,80 +13,108 @@ struct Town {
 }
 
 impl Town {
-    /// Takes a command, if nobody is interrupted before. No ticket has two texts.
-    fn post(
-        &mut self,
-        rt: &impl Abort,
-        alloc: Global,
-        number: u64,
-        text: &str,
-    ) -> Result<bool, Fail> {
+    /// Whether the ticket was given. No ticket has two texts.
+    fn has(&self, rt: &impl Abort, number: u64, text: &str) -> bool {
+        match self.given.get(&number) {
+            Some(known) => {
+                assert!(rt; known.as_str() == text, "ticket {number}");
+                true
+            }
+            None => false,
+        }
+    }
+
+    fn keep(&mut self, rt: &impl Abort, alloc: Global, number: u64, text: &str) {
+        let text = String::from_str(alloc, text).expect(rt, "memory");
+        assert!(rt; self.given.insert(number, text).is_ok());
+    }
+
+    /// Takes a command, if nobody is interrupted before.
+    fn post(&mut self, rt: &impl Abort, alloc: Global, number: u64, text: &str) -> bool {
         if self.left == 0 {
-            return Ok(false);
+            return false;
         }
         self.left -= 1;
-        if let Some(known) = self.given.get(&number) {
-            assert_eq!(rt; known.as_str(), text, "ticket {number}");
-            return Ok(true);
+        if !self.has(rt, number, text) {
+            self.keep(rt, alloc, number, text);
         }
-        let _ = self.given.insert(number, String::from_str(alloc, text)?)?;
-        Ok(true)
+        true
     }
 }
 
-/// Sends what is on its way, and keeps the ledger once each has its receipt.
-fn deliver(
+/// Sends the first command that is on its way: its number, if nobody is interrupted before.
+fn post_first(rt: &impl Abort, alloc: Global, town: &mut Town, ledger: &Ledger) -> Option<u64> {
+    let sent = ledger.sent().first()?;
+    if town.post(rt, alloc, sent.number, sent.text.as_str()) {
+        Some(sent.number)
+    } else {
+        None
+    }
+}
+
+/// Sends what is on its way, and notes each receipt.
+fn deliver(rt: &impl Abort, alloc: Global, town: &mut Town, ledger: &mut Ledger) -> bool {
+    for _ in 0..ledger.sent().len() {
+        match post_first(rt, alloc, town, ledger) {
+            Some(number) => receive(rt, ledger, number),
+            None => return false,
+        }
+    }
+    true
+}
+
+/// The same, and keeps the ledger once each has its receipt.
+fn send(
     rt: &impl Abort,
     alloc: Global,
     town: &mut Town,
     ledger: &mut Ledger,
     file: &mut String,
-) -> Result<bool, Fail> {
-    let numbers: Vec<u64> = ledger.sent().iter().map(|sent| sent.number).collect(alloc)?;
-    for number in numbers {
-        let mut taken = false;
-        for sent in ledger.sent() {
-            if sent.number == number {
-                taken = town.post(rt, alloc, number, sent.text.as_str())?;
-            }
-        }
-        if !taken {
-            return Ok(false);
-        }
-        ledger.receive(number)?;
+) -> bool {
+    let sent = deliver(rt, alloc, town, ledger);
+    if sent {
+        *file = spelled(rt, alloc, ledger);
     }
-    *file = ledger.spelled(alloc)?;
-    Ok(true)
+    sent
 }
 
-/// Publishes a folder from what the file keeps; whether it came to its end.
+/// Goes on with what is on its way, and plans and sends a folder, and then its release; whether it came to its end.
+fn go_on(
+    rt: &impl Abort,
+    alloc: Global,
+    town: &mut Town,
+    ledger: &mut Ledger,
+    file: &mut String,
+    folder: &str,
+) -> bool {
+    if !send(rt, alloc, town, ledger, file) {
+        return false;
+    }
+    plan(rt, alloc, ledger, folder);
+    *file = spelled(rt, alloc, ledger);
+    if !send(rt, alloc, town, ledger, file) {
+        return false;
+    }
+    plan_release(rt, alloc, ledger);
+    *file = spelled(rt, alloc, ledger);
+    send(rt, alloc, town, ledger, file)
+}
+
+/// Publishes a folder from what the file keeps.
 fn publish(
     rt: &impl Abort,
     alloc: Global,
     town: &mut Town,
     file: &mut String,
     folder: &str,
-) -> Result<bool, Fail> {
-    let mut ledger = Ledger::read(alloc, file.as_str())?;
-    if !deliver(rt, alloc, town, &mut ledger, file)? {
-        return Ok(false);
-    }
-    let wanted = commands(alloc, folder)?;
-    assert!(rt; ledger.is_idle());
-    ledger.plan(alloc, &wanted)?;
-    *file = ledger.spelled(alloc)?;
-    if !deliver(rt, alloc, town, &mut ledger, file)? {
-        return Ok(false);
-    }
-    assert!(rt; ledger.is_idle());
-    ledger.plan_release(alloc)?;
-    *file = ledger.spelled(alloc)?;
-    deliver(rt, alloc, town, &mut ledger, file)
+) -> bool {
+    let mut ledger = read(rt, alloc, file.as_str());
+    go_on(rt, alloc, town, &mut ledger, file, folder)
 }
 
 /// After how many commands the first run ends, whether it was at its end, and the next ticket's number once the second folder is published: a release
 /// that was planned is sent, too.
-const RUNS: [(usize, bool, u64); 6] = [
+const RUNS: &[(usize, bool, u64)] = &[
     (0, false, 7),
     (1, false, 7),
     (2, false, 7),
@@ -96,22 +123,35 @@ const RUNS: [(usize, bool, u64); 6] = [
     (5, true, 8),
 ];
 
+/// The group has what the second folder has.
+fn is_published(rt: &impl Abort, alloc: Global, file: &str, next: u64) {
+    let ledger = read(rt, alloc, file);
+    assert!(rt; ledger.next() == next);
+    let has = kept(alloc, &ledger).expect(rt, "memory");
+    assert!(rt; has.as_str() == "TBr");
+}
+
+/// The file of an editor that has published nothing.
+fn new_file(rt: &impl Abort, alloc: Global) -> String {
+    spelled(rt, alloc, &Ledger::new(alloc, 7))
+}
+
+fn interrupt(rt: &impl Abort, alloc: Global, town: &mut Town, ends: bool, next: u64) {
+    let mut file = new_file(rt, alloc);
+    assert!(rt; publish(rt, alloc, town, &mut file, "TAR") == ends);
+    town.left = 20;
+    assert!(rt; publish(rt, alloc, town, &mut file, "TB"));
+    is_published(rt, alloc, file.as_str(), next);
+    assert!(rt; town.given.len() as u64 == next.saturating_sub(1));
+}
+
 #[test]
-fn interrupted(rt: HostRuntime) -> Result<(), Fail> {
-    let alloc = rt.alloc();
-    for (after, ends, next) in RUNS {
+fn interrupted(rt: HostRuntime) {
+    for &(after, ends, next) in RUNS {
         let mut town = Town {
-            given: BTreeMap::new(alloc),
+            given: BTreeMap::new(rt.alloc()),
             left: after,
         };
-        let mut file = Ledger::new(alloc, 7).spelled(alloc)?;
-        assert_eq!(rt; publish(&rt, alloc, &mut town, &mut file, "TAR")?, ends);
-        town.left = 20;
-        assert!(rt; publish(&rt, alloc, &mut town, &mut file, "TB")?);
-        let ledger = Ledger::read(alloc, file.as_str())?;
-        assert_eq!(rt; ledger.next(), next, "after {after}");
-        assert_eq!(rt; kept(alloc, &ledger)?.as_str(), "TBr", "after {after}");
-        assert!(rt; town.given.len() as u64 == next.saturating_sub(1));
+        interrupt(&rt, rt.alloc(), &mut town, ends, next);
     }
-    Ok(())
 }

@@ -1,10 +1,11 @@
 //! Files that the script `tools/publish` kept, read as ledgers.
+use crate::samples::is_spelled;
 use site_ledger::{Ledger, ReadFault};
+use std::alloc::Global;
 use std::process::Abort;
-use std::test::Fail;
 
 /// A file, and that of the ledger that it is read as: each file's text is none that a command has.
-const FILES: [(&str, &str); 3] = [
+const FILES: &[(&str, &str)] = &[
     (
         "editor 7\nnext 1\n",
         "published 2\neditor 7\nnext 1\nlast_release 0\n",
@@ -20,7 +21,7 @@ const FILES: [(&str, &str); 3] = [
 ];
 
 /// Other files: such of a run that was interrupted, and such as nobody wrote.
-const FAULTS: [(&str, ReadFault); 9] = [
+const FAULTS: &[(&str, ReadFault)] = &[
     (
         "editor 7\nnext 3\nplan 2 - put route / t a\n",
         ReadFault::Old,
@@ -35,41 +36,44 @@ const FAULTS: [(&str, ReadFault); 9] = [
     ("editor 7\nnext 1\nhas 0a1f\n", ReadFault::Line(3)),
 ];
 
+fn read(rt: &impl Abort, alloc: Global, file: &str) -> Ledger {
+    Ledger::read_old(alloc, file).expect(rt, "a ledger")
+}
+
+/// The fault of a file, if it is none that the script kept.
+fn fault_of(alloc: Global, file: &str) -> Option<ReadFault> {
+    Ledger::read_old(alloc, file).err()
+}
+
 #[test]
-fn olds(rt: HostRuntime) -> Result<(), Fail> {
-    let alloc = rt.alloc();
-    for (file, wanted) in FILES {
-        let ledger = Ledger::read_old(alloc, file)?;
-        assert_eq!(rt; ledger.spelled(alloc)?.as_str(), wanted);
+fn olds(rt: HostRuntime) {
+    for &(file, wanted) in FILES {
+        is_spelled(&rt, rt.alloc(), &read(&rt, rt.alloc(), file), wanted);
     }
-    for (file, wanted) in FAULTS {
-        match Ledger::read_old(alloc, file) {
-            Ok(_) => assert!(rt; false, "read {file:?}"),
-            Err(fault) => assert_eq!(rt; fault, wanted, "in {file:?}"),
-        }
+    for &(file, wanted) in FAULTS {
+        assert!(rt; fault_of(rt.alloc(), file) == Some(wanted), "in {file:?}");
     }
-    Ok(())
+}
+
+const KEPT: &str =
+    "editor 7\nhas 0a1f put data a\nhas 0a2f put data b\nhas - put route /a t a\nnext 5\n";
+
+const WANTED: &[&str] = &["put data a\n1\n", "put route /a t a\n"];
+
+/// The text of each that is on its way.
+const PLANNED: &[&str] = &["put data a\n1\n", "remove data b\n"];
+
+fn plans(rt: &impl Abort, alloc: Global, ledger: &mut Ledger) {
+    assert!(rt; ledger.is_idle());
+    assert!(rt; ledger.plan(alloc, WANTED).is_ok());
+    assert!(rt; ledger.sent().len() == PLANNED.len());
+    for (sent, text) in ledger.sent().iter().zip(PLANNED) {
+        assert!(rt; sent.text.as_str() == *text, "{text}");
+    }
 }
 
 /// What is published next from such a ledger: a file's text is put once more, what is gone is removed, and a route stays.
 #[test]
-fn goes_on(rt: HostRuntime) -> Result<(), Fail> {
-    let alloc = rt.alloc();
-    let mut ledger = Ledger::read_old(
-        alloc,
-        "editor 7\nhas 0a1f put data a\nhas 0a2f put data b\nhas - put route /a t a\nnext 5\n",
-    )?;
-    if ledger.is_idle() {
-        ledger.plan(alloc, &["put data a\n1\n", "put route /a t a\n"])?;
-    }
-    let texts: Vec<&str> = ledger
-        .sent()
-        .iter()
-        .map(|sent| sent.text.as_str())
-        .collect(alloc)?;
-    assert_eq!(rt;
-        texts.as_slice(),
-        ["put data a\n1\n", "remove data b\n"].as_slice()
-    );
-    Ok(())
+fn goes_on(rt: HostRuntime) {
+    plans(&rt, rt.alloc(), &mut read(&rt, rt.alloc(), KEPT));
 }

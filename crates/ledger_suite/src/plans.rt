@@ -1,9 +1,8 @@
 //! A history of a ledger, step by step.
-use crate::samples::{commands, told};
+use crate::samples::{plan, plan_release, receive, told};
 use site_ledger::Ledger;
 use std::alloc::Global;
 use std::process::Abort;
-use std::test::Fail;
 
 /// What happens to a ledger.
 #[derive(Clone, Copy)]
@@ -16,7 +15,7 @@ enum Step {
 }
 
 /// Each step, and the ledger after it.
-const HISTORY: [(Step, &str); 24] = [
+const HISTORY: &[(Step, &str)] = &[
     (Step::Release, "1 0 "),
     (Step::ReleaseAgain, "1 0 "),
     (Step::Plan(""), "1 0 "),
@@ -43,34 +42,35 @@ const HISTORY: [(Step, &str); 24] = [
     (Step::Receive(10), "11 3 art"),
 ];
 
-fn take(rt: &impl Abort, alloc: Global, ledger: &mut Ledger, step: Step) -> Result<(), Fail> {
+fn release_again(rt: &impl Abort, alloc: Global, ledger: &mut Ledger) {
+    assert!(rt; ledger.is_idle());
+    assert!(rt; ledger.release_again(alloc).is_ok());
+}
+
+fn take(rt: &impl Abort, alloc: Global, ledger: &mut Ledger, step: Step) {
     match step {
-        Step::Plan(letters) => {
-            let wanted = commands(alloc, letters)?;
-            assert!(rt; ledger.is_idle());
-            ledger.plan(alloc, &wanted)?;
-        }
-        Step::Release => {
-            assert!(rt; ledger.is_idle());
-            ledger.plan_release(alloc)?;
-        }
-        Step::ReleaseAgain => {
-            assert!(rt; ledger.is_idle());
-            ledger.release_again(alloc)?;
-        }
-        Step::Receive(number) => ledger.receive(number)?,
+        Step::Plan(letters) => plan(rt, alloc, ledger, letters),
+        Step::Release => plan_release(rt, alloc, ledger),
+        Step::ReleaseAgain => release_again(rt, alloc, ledger),
+        Step::Receive(number) => receive(rt, ledger, number),
     }
-    Ok(())
+}
+
+fn is_told(rt: &impl Abort, alloc: Global, ledger: &Ledger, wanted: &str) {
+    let line = told(alloc, ledger).expect(rt, "memory");
+    assert_eq!(rt; line.as_str(), wanted);
+}
+
+fn take_all(rt: &impl Abort, alloc: Global, ledger: &mut Ledger) {
+    for &(step, wanted) in HISTORY {
+        take(rt, alloc, ledger, step);
+        is_told(rt, alloc, ledger, wanted);
+    }
 }
 
 #[test]
-fn history(rt: HostRuntime) -> Result<(), Fail> {
-    let alloc = rt.alloc();
-    let mut ledger = Ledger::new(alloc, 7);
-    for (step, wanted) in HISTORY {
-        take(&rt, alloc, &mut ledger, step)?;
-        assert_eq!(rt; told(alloc, &ledger)?.as_str(), wanted);
-    }
-    assert_eq!(rt; ledger.editor(), 7);
-    Ok(())
+fn history(rt: HostRuntime) {
+    let mut ledger = Ledger::new(rt.alloc(), 7);
+    take_all(&rt, rt.alloc(), &mut ledger);
+    assert!(rt; ledger.editor() == 7);
 }

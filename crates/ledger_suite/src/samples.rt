@@ -1,9 +1,10 @@
 //! Commands by a letter each, and ledgers told by those.
 use site_ledger::{Ledger, Sent};
 use std::alloc::{AllocError, Global};
+use std::process::Abort;
 
 /// Commands, each with its letter: a capital puts, and the small one removes what it put.
-pub const COMMANDS: [(char, &str); 8] = [
+const COMMANDS: &[(char, &str)] = &[
     ('T', "put template t\nx"),
     ('A', "put data a\n1\n"),
     ('B', "put data a\n2\n"),
@@ -16,7 +17,7 @@ pub const COMMANDS: [(char, &str); 8] = [
 
 /// The command of a letter.
 fn command_of(letter: char) -> &'static str {
-    for (known, text) in COMMANDS {
+    for &(known, text) in COMMANDS {
         if known == letter {
             return text;
         }
@@ -26,7 +27,7 @@ fn command_of(letter: char) -> &'static str {
 
 /// The letter of a command.
 fn letter_of(text: &str) -> char {
-    for (letter, known) in COMMANDS {
+    for &(letter, known) in COMMANDS {
         if known == text {
             return letter;
         }
@@ -41,6 +42,36 @@ pub fn commands(alloc: Global, letters: &str) -> Result<Vec<&'static str>, Alloc
         texts.push(command_of(letter))?;
     }
     Ok(texts)
+}
+
+// Below, a ledger's steps, where memory is not refused.
+
+/// Plans the commands of a word's letters.
+pub fn plan(rt: &impl Abort, alloc: Global, ledger: &mut Ledger, letters: &str) {
+    let wanted = commands(alloc, letters).expect(rt, "memory");
+    assert!(rt; ledger.is_idle());
+    assert!(rt; ledger.plan(alloc, wanted.as_slice()).is_ok());
+}
+
+pub fn plan_release(rt: &impl Abort, alloc: Global, ledger: &mut Ledger) {
+    assert!(rt; ledger.is_idle());
+    assert!(rt; ledger.plan_release(alloc).is_ok());
+}
+
+pub fn receive(rt: &impl Abort, ledger: &mut Ledger, number: u64) {
+    assert!(rt; ledger.receive(number).is_ok());
+}
+
+pub fn spelled(rt: &impl Abort, alloc: Global, ledger: &Ledger) -> String {
+    ledger.spelled(alloc).expect(rt, "memory")
+}
+
+pub fn is_spelled(rt: &impl Abort, alloc: Global, ledger: &Ledger, wanted: &str) {
+    assert_eq!(rt; spelled(rt, alloc, ledger).as_str(), wanted);
+}
+
+pub fn read(rt: &impl Abort, alloc: Global, file: &str) -> Ledger {
+    Ledger::read(alloc, file).expect(rt, "a ledger")
 }
 
 /// The letters of what the group has.

@@ -2,7 +2,8 @@
 
 use crate::options::words;
 use sitectl::{Counted, asks_version, tell_version};
-use std::test::Fail;
+use std::alloc::Global;
+use std::process::Abort;
 
 /// The words of a line, and whether they ask for the version.
 const LINES: &[(&str, bool)] = &[
@@ -15,18 +16,21 @@ const LINES: &[(&str, bool)] = &[
 ];
 
 #[test]
-fn a_version_is_asked_for_alone(rt: HostRuntime) -> Result<(), Fail> {
+fn a_version_is_asked_for_alone(rt: HostRuntime) {
     for &(line, asks) in LINES {
-        let words = words(rt.alloc(), line)?;
-        assert_eq!(rt; asks_version(words.as_slice()), asks, "{line}");
+        let words = words(&rt, rt.alloc(), line);
+        assert!(rt; asks_version(words.as_slice()) == asks, "{line}");
     }
-    Ok(())
+}
+
+fn is_told(rt: &impl Abort, alloc: Global, out: &mut Counted<Vec<u8>>) {
+    let status = tell_version(alloc, out, "sitesim").expect(rt, "memory");
+    assert!(rt; status == 0);
 }
 
 #[test]
-fn a_version_is_a_name_and_a_heading(rt: HostRuntime) -> Result<(), Fail> {
+fn a_version_is_a_name_and_a_heading(rt: HostRuntime) {
     let mut out = Counted::new(Vec::<u8>::new(rt.alloc()));
-    assert_eq!(rt; tell_version(rt.alloc(), &mut out, "sitesim")?, 0);
-    assert_eq!(rt; out.into_inner().as_slice(), b"sitesim 1.0\n".as_slice());
-    Ok(())
+    is_told(&rt, rt.alloc(), &mut out);
+    assert!(rt; out.into_inner().as_slice() == b"sitesim 1.0\n".as_slice());
 }

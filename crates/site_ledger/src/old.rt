@@ -57,6 +57,47 @@ fn shown(alloc: Global, editor: u32, next: u64, kept: Vec<String>) -> Ledger
     }
 }
 
+/// What the lines so far tell.
+#[derive(Drop)]
+struct Told {
+    editor: Option<u32>,
+    next: Option<u64>,
+    kept: Vec<String>,
+}
+
+impl Told {
+    fn take(&mut self, alloc: Global, line: OldLine<'_>) -> Result<(), ReadFault> {
+        match line {
+            OldLine::Editor(number) => self.editor = Some(number),
+            OldLine::Next(number) => self.next = Some(number),
+            OldLine::Has(digest, head) => self.kept.push(text_of(alloc, digest, head)?)?,
+            OldLine::Sent => return Err(ReadFault::Old),
+        }
+        Ok(())
+    }
+
+    fn take_all(&mut self, alloc: Global, text: &str) -> Result<(), ReadFault> {
+        for (i, line) in text.lines().enumerate() {
+            match line_in(line) {
+                Some(line) => self.take(alloc, line)?,
+                None => return Err(ReadFault::Line(i.saturating_add(1))),
+            }
+        }
+        Ok(())
+    }
+
+    fn ledger(self, alloc: Global) -> Result<Ledger, ReadFault>
+        ensures idle { IfOk result (λ ledger. is_idle ledger ≡ true) }
+        ensures shown { IfOk result (λ ledger. has_unshown ledger ≡ false) }
+        ensures log { IfOk result (λ ledger. ledger.log ≡ []) }
+    {
+        match (self.editor, self.next) {
+            (Some(editor), Some(next)) => Ok(shown(alloc, editor, next, self.kept)),
+            _ => Err(ReadFault::Line(1)),
+        }
+    }
+}
+
 impl Ledger {
     /// Reads what `tools/publish` kept, where nothing was on its way: a text for each kind and name that the group has, of a file one that no folder has,
     /// and no log. `ReadFault::Old` says that something was.
@@ -65,21 +106,12 @@ impl Ledger {
         ensures shown { IfOk result (λ ledger. has_unshown ledger ≡ false) }
         ensures log { IfOk result (λ ledger. ledger.log ≡ []) }
     {
-        let mut kept = Vec::new(alloc);
-        let mut editor = None;
-        let mut next = None;
-        for (i, line) in text.lines().enumerate() {
-            match line_in(line) {
-                Some(OldLine::Editor(number)) => editor = Some(number),
-                Some(OldLine::Next(number)) => next = Some(number),
-                Some(OldLine::Has(digest, head)) => kept.push(text_of(alloc, digest, head)?)?,
-                Some(OldLine::Sent) => return Err(ReadFault::Old),
-                None => return Err(ReadFault::Line(i.saturating_add(1))),
-            }
-        }
-        match (editor, next) {
-            (Some(editor), Some(next)) => Ok(shown(alloc, editor, next, kept)),
-            _ => Err(ReadFault::Line(1)),
-        }
+        let mut told = Told {
+            editor: None,
+            next: None,
+            kept: Vec::new(alloc),
+        };
+        told.take_all(alloc, text)?;
+        told.ledger(alloc)
     }
 }

@@ -79,18 +79,24 @@ impl<'a> Rest<'a> {
         ))
     }
 
-    fn entry(self, alloc: Global) -> Result<(Entry<'a>, Rest<'a>), ReadFault>
+    /// The release that the first line's numbers tell.
+    fn released(self, release: &str, time: &str, commands: &str) -> Result<Released, ReadFault>
         ensures { IfErr result (λ e. e ≢ ReadFault.Old) }
     {
-        let (line, rest) = self.line()?;
-        let words: Vec<&str> = line.split(' ').collect(alloc)?;
-        match words.as_slice() {
+        Ok(Released {
+            release: self.parsed(release)?,
+            time: self.parsed(time)?,
+            commands: self.parsed(commands)?,
+        })
+    }
+
+    /// The entry that the first line's words begin; the rest stands behind that line.
+    fn begun(self, words: &[&str], rest: Rest<'a>) -> Result<(Entry<'a>, Rest<'a>), ReadFault>
+        ensures { IfErr result (λ e. e ≢ ReadFault.Old) }
+    {
+        match words {
             ["released", release, time, commands] => {
-                let released = Released {
-                    release: self.parsed(release)?,
-                    time: self.parsed(time)?,
-                    commands: self.parsed(commands)?,
-                };
+                let released = self.released(release, time, commands)?;
                 Ok((Entry::Released(released), rest))
             }
             ["has", length] => {
@@ -103,6 +109,14 @@ impl<'a> Rest<'a> {
             }
             _ => Err(ReadFault::Line(self.line)),
         }
+    }
+
+    fn entry(self, alloc: Global) -> Result<(Entry<'a>, Rest<'a>), ReadFault>
+        ensures { IfErr result (λ e. e ≢ ReadFault.Old) }
+    {
+        let (line, rest) = self.line()?;
+        let words: Vec<&str> = line.split(' ').collect(alloc)?;
+        self.begun(words.as_slice(), rest)
     }
 }
 
@@ -120,33 +134,63 @@ impl Ledger {
         }
         Ok(())
     }
+
+    /// Enters all that is left of a text; an entry takes a byte or more.
+    fn enter_all(&mut self, alloc: Global, behind: Rest<'_>) -> Result<(), ReadFault>
+        ensures { IfErr result (λ e. e ≢ ReadFault.Old) }
+    {
+        let mut rest = behind;
+        for _ in 0..behind.text.len() {
+            if rest.text.is_empty() {
+                return Ok(());
+            }
+            let (entry, after) = rest.entry(alloc)?;
+            self.enter(alloc, entry)?;
+            rest = after;
+        }
+        Ok(())
+    }
 }
 
-/// The ledger that a text looks like.
-fn parsed(alloc: Global, text: &str) -> Result<Ledger, ReadFault>
+/// What the front lines tell.
+#[derive(Clone, Copy)]
+struct Front {
+    editor: u32,
+    next: u64,
+    last_release: u64,
+}
+
+/// The front lines of a text, and what stands behind them.
+fn front_of(text: &str) -> Result<(Front, Rest<'_>), ReadFault>
     ensures { IfErr result (λ e. e ≢ ReadFault.Old) }
 {
     let (version, rest) = Rest { text, line: 1 }.number("published")?;
     let (editor, rest) = rest.number("editor")?;
     let (next, rest) = rest.number("next")?;
-    let (last_release, mut rest) = rest.number("last_release")?;
+    let (last_release, rest) = rest.number("last_release")?;
     let Ok(editor) = u32::try_from(editor) else {
         return Err(ReadFault::Line(2));
     };
     if version != VERSION {
         return Err(ReadFault::Line(1));
     }
-    let mut ledger = Ledger::new(alloc, editor);
-    ledger.next = next;
-    ledger.last_release = last_release;
-    for _ in 0..text.len() {
-        if rest.text.is_empty() {
-            return Ok(ledger);
-        }
-        let (entry, after) = rest.entry(alloc)?;
-        ledger.enter(alloc, entry)?;
-        rest = after;
-    }
+    let front = Front {
+        editor,
+        next,
+        last_release,
+    };
+    Ok((front, rest))
+}
+
+/// The ledger that a text looks like.
+fn parsed(alloc: Global, text: &str) -> Result<Ledger, ReadFault>
+    ensures { IfErr result (λ e. e ≢ ReadFault.Old) }
+{
+    let (front, rest) = front_of(text)?;
+    let mut ledger = Ledger::new(alloc, front.editor);
+    ledger.next = front.next;
+    ledger.last_release = front.last_release;
+    ledger.enter_all(alloc, rest)?;
     Ok(ledger)
 }
 
@@ -163,6 +207,19 @@ fn first_difference(text: &str, other: &str) -> usize {
 }
 
 impl Ledger {
+    /// That text spells the ledger, or differs from what does in a line.
+    fn is_spelled(&self, alloc: Global, text: &str) -> Result<(), ReadFault>
+        ensures ok { IfOk result (λ done. spelled self.now ≡ text.now) }
+        ensures err { IfErr result (λ e. e ≢ ReadFault.Old) }
+    {
+        let again = self.spelled(alloc)?;
+        if again.as_str() == text {
+            Ok(())
+        } else {
+            Err(ReadFault::Line(first_difference(text, again.as_str())))
+        }
+    }
+
     /// Reads the text of a file back. What it reads is spelled by that very text, so that another spelling of a number, or entries in another order,
     /// are a fault in the first line that a ledger would spell otherwise.
     pub fn read(alloc: Global, text: &str) -> Result<Ledger, ReadFault>
@@ -173,11 +230,7 @@ impl Ledger {
             return Err(ReadFault::Old);
         }
         let ledger = parsed(alloc, text)?;
-        let again = ledger.spelled(alloc)?;
-        if again.as_str() == text {
-            Ok(ledger)
-        } else {
-            Err(ReadFault::Line(first_difference(text, again.as_str())))
-        }
+        ledger.is_spelled(alloc, text)?;
+        Ok(ledger)
     }
 }
