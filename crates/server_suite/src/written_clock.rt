@@ -99,12 +99,12 @@ const NEWS: &[Step] = &[
 const YIELDS: &[Step] = &[
     (0, false, true, Call::Ask, &[PREPARE]),
     (1, true, true, Call::Nothing, &[]),
-    (50, false, true, Call::Nothing, &[]),
-    (51, false, true, Call::Widen, &[]),
+    (6, false, true, Call::Nothing, &[]),
+    (7, false, true, Call::Widen, &[]),
     // It waited in vain, and does so once more.
-    (52, false, true, Call::Nothing, &[]),
+    (8, false, true, Call::Nothing, &[]),
     // The patience is what it would be.
-    (100, false, true, Call::Nothing, &[]),
+    (100, false, true, Call::Widen, &[]),
     (101, false, true, Call::Tick, &[FIRST_KNOWN]),
     // Node 2 tried last: this one comes next.
     (102, false, true, Call::Widen, &[]),
@@ -116,19 +116,21 @@ const TURNS: &[Step] = &[
     (1, false, true, Call::Nothing, &[HIGHER_PREPARE]),
     (2, false, true, Call::Nothing, &[FIRST_KNOWN]),
     (3, false, true, Call::Nothing, &[]),
-    // Node 2's attempt stood for a millisecond: so long the next one is waited for.
-    (4, false, true, Call::Nothing, &[]),
-    (5, false, true, Call::Widen, &[]),
+    // Node 2's attempt stood for a millisecond: so long the next one is waited for, and one more.
+    (5, false, true, Call::Nothing, &[]),
     (6, false, true, Call::Widen, &[]),
+    (7, false, true, Call::Widen, &[]),
 ];
 
-/// So does it here, as a value is submitted that nobody tries.
-const NO_TURN: &[Step] = &[
+/// So does it here, as a value is submitted that nobody tries: that waits too.
+const SUBMITTED: &[Step] = &[
     (0, false, true, Call::Ask, &[THIRD_PREPARE]),
     (1, false, true, Call::Nothing, &[HIGHER_PREPARE]),
     (2, false, true, Call::Nothing, &[FIRST_KNOWN]),
     (3, false, true, Call::Nothing, &[]),
-    (4, true, true, Call::Tick, &[]),
+    (4, true, true, Call::Nothing, &[]),
+    (5, false, true, Call::Nothing, &[]),
+    (6, false, true, Call::Widen, &[]),
 ];
 
 /// A node with its link, a desk and a pace.
@@ -244,6 +246,6 @@ fn the_next_one_is_waited_for(rt: HostRuntime) {
 }
 
 #[test]
-fn a_value_that_nobody_tries_waits_for_no_turn(rt: HostRuntime) {
-    run(&rt, rt.alloc(), NO_TURN);
+fn a_value_just_submitted_waits_its_turn(rt: HostRuntime) {
+    run(&rt, rt.alloc(), SUBMITTED);
 }
