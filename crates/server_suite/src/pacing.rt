@@ -14,7 +14,7 @@ const TIMES: Times = Times {
     yielding: 50,
     idle: 200,
     quiet: 2000,
-    rest: 50,
+    rest: 10,
     idle_rest: 1500,
     quiet_rest: 20_000,
     between_requests: 5000,
@@ -210,8 +210,8 @@ fn a_telling_begins_behind_the_answer(rt: HostRuntime) {
 
 /// What came (anything, a response, messages that are no questions), empty steps, how many microseconds are rested, and empty steps then.
 const RESTS: &[(bool, bool, bool, u32, Option<u64>, u32)] = &[
-    (false, false, false, 0, Some(50), 1),
-    (false, false, false, 199, Some(50), 200),
+    (false, false, false, 0, Some(10), 1),
+    (false, false, false, 199, Some(10), 200),
     (false, false, false, 200, Some(1500), 201),
     (false, false, false, 1999, Some(1500), 2000),
     (false, false, false, 2000, Some(20_000), 2001),
@@ -243,12 +243,12 @@ const STEPS: &[(bool, bool, u32, Option<u64>)] = &[
     (true, false, 2, None),
     (false, false, 1, Some(20_000)),
     (true, true, 1, None),
-    (false, false, 200, Some(50)),
+    (false, false, 200, Some(10)),
     (true, false, 5, None),
     (false, false, 1800, Some(1500)),
     (false, false, 9, Some(20_000)),
     (false, true, 1, None),
-    (false, false, 1, Some(50)),
+    (false, false, 1, Some(10)),
 ];
 
 /// The node of a group of one.

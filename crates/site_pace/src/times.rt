@@ -55,7 +55,7 @@ const STANDARD: Times = Times {
     yielding: 50,
     idle: 200,
     quiet: 2000,
-    rest: 50,
+    rest: 10,
     idle_rest: 1500,
     quiet_rest: 20_000,
     between_requests: 5000,
