@@ -1,10 +1,9 @@
 //! Files of a static copy.
 use site_folder::{Copies, NoCopy};
 use std::process::Abort;
-use std::test::Fail;
 
 /// Paths in order, and the file that each takes.
-const TAKEN: [(&str, Result<&str, NoCopy>); 16] = [
+const TAKEN: &[(&str, Result<&str, NoCopy>)] = &[
     ("/", Ok("index.html")),
     ("/a", Ok("a/index.html")),
     ("/a/", Err(NoCopy::Taken)),
@@ -23,16 +22,25 @@ const TAKEN: [(&str, Result<&str, NoCopy>); 16] = [
     ("/.html", Ok(".html")),
 ];
 
-#[test]
-fn files_of_pages(rt: HostRuntime) -> Result<(), Fail> {
-    let alloc = rt.alloc();
-    let mut copies = Copies::new(alloc);
-    for (path, wanted) in TAKEN {
-        match (copies.take(path)?, wanted) {
-            (Ok(file), Ok(name)) => assert_eq!(rt; file.as_str(), name),
-            (Err(why), Err(reason)) => assert!(rt; why == reason),
-            _ => assert!(rt; false),
-        }
+fn is_taken(taken: &Result<String, NoCopy>, wanted: Result<&str, NoCopy>) -> bool {
+    match taken {
+        Ok(file) => wanted == Ok(file.as_str()),
+        Err(why) => wanted == Err(*why),
     }
-    Ok(())
+}
+
+fn takes(rt: &impl Abort, copies: &mut Copies, path: &str, wanted: Result<&str, NoCopy>) {
+    let taken = copies.take(path).expect(rt, "memory");
+    assert!(rt; is_taken(&taken, wanted), "{path}");
+}
+
+fn take_all(rt: &impl Abort, copies: &mut Copies) {
+    for &(path, wanted) in TAKEN {
+        takes(rt, copies, path, wanted);
+    }
+}
+
+#[test]
+fn files_of_pages(rt: HostRuntime) {
+    take_all(&rt, &mut Copies::new(rt.alloc()));
 }

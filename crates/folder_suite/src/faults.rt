@@ -1,11 +1,11 @@
 //! What is told of a folder's faults: the file, the place, why and what to do, and the line of the formats.
-use crate::folders::{files, told};
-use site_folder::folder_of;
+use crate::folders::{folder, is_told};
+use site_folder::Folder;
+use std::alloc::Global;
 use std::process::Abort;
-use std::test::Fail;
 
 /// A file and its text, and the lines that it is told by.
-const FILES: [(&str, &[u8], &str); 26] = [
+const FILES: &[(&str, &[u8], &str)] = &[
     (
         "templates/a.mustache",
         b"a\n\xc3\xa4 {{#x}}\n{{/y}}\n",
@@ -139,19 +139,15 @@ const FILES: [(&str, &[u8], &str); 26] = [
 ];
 
 #[test]
-fn files_by_themselves(rt: HostRuntime) -> Result<(), Fail> {
-    let alloc = rt.alloc();
-    for (path, text, lines) in FILES {
-        let rows = [(path, text)];
-        let folder = folder_of(alloc, &files(alloc, rows.as_slice())?)?;
-        let found = told(alloc, &folder)?;
-        assert_eq!(rt; found.as_str(), lines);
+fn files_by_themselves(rt: HostRuntime) {
+    for &(path, text, lines) in FILES {
+        let folder = folder(&rt, rt.alloc(), &[(path, text)]);
+        is_told(&rt, rt.alloc(), &folder, lines);
     }
-    Ok(())
 }
 
 /// Files that are passed over.
-const PASSED: [&str; 5] = [
+const PASSED: &[&str] = &[
     ".DS_Store",
     ".git/config",
     "README.md",
@@ -159,30 +155,29 @@ const PASSED: [&str; 5] = [
     "data/.hidden.json",
 ];
 
-#[test]
-fn files_that_are_passed_over(rt: HostRuntime) -> Result<(), Fail> {
-    let alloc = rt.alloc();
-    for path in PASSED {
-        let rows: [(&str, &[u8]); 1] = [(path, b"\xff")];
-        let folder = folder_of(alloc, &files(alloc, rows.as_slice())?)?;
-        assert!(rt; folder.findings.is_empty() && folder.commands.is_empty());
-    }
-    Ok(())
+fn is_empty(folder: &Folder) -> bool {
+    folder.findings.is_empty() && folder.commands.is_empty()
 }
 
 #[test]
-fn all_faults_of_all_files(rt: HostRuntime) -> Result<(), Fail> {
-    let alloc = rt.alloc();
-    let rows: [(&str, &[u8]); 5] = [
-        ("data/b.json", b"[1,]"),
-        ("data/c.json", b"{}"),
-        ("partials/q.mustache", b"{{>p}}\n {{>q}}{{>p}}"),
-        ("routes", b"/ t b\n/a u c\n/a/ u c\n/ u d\n"),
-        ("templates/t.mustache", b"{{/x}}"),
-    ];
-    let folder = folder_of(alloc, &files(alloc, rows.as_slice())?)?;
-    let lines =
-        "templates/t.mustache:1:1: `{{/x}}` ends nothing: no section is open [5 Template 5 NoSection at 0]
+fn files_that_are_passed_over(rt: HostRuntime) {
+    for &path in PASSED {
+        let folder = folder(&rt, rt.alloc(), &[(path, b"\xff")]);
+        assert!(rt; is_empty(&folder), "{path}");
+    }
+}
+
+/// Files with faults of every sort, and the lines that they are told by.
+const FAULTY: &[(&str, &[u8])] = &[
+    ("data/b.json", b"[1,]"),
+    ("data/c.json", b"{}"),
+    ("partials/q.mustache", b"{{>p}}\n {{>q}}{{>p}}"),
+    ("routes", b"/ t b\n/a u c\n/a/ u c\n/ u d\n"),
+    ("templates/t.mustache", b"{{/x}}"),
+];
+
+const TOLD: &str =
+    "templates/t.mustache:1:1: `{{/x}}` ends nothing: no section is open [5 Template 5 NoSection at 0]
 data/b.json:1:4: no JSON: the comma before this has to go [6 Data 1 NotJson]
 routes:4:1: the route / stands in line 1 already
 routes:2:1: there is no templates/u.mustache
@@ -193,24 +188,30 @@ routes:3:1: warning: /a/ and /a are two paths, which readers take for one
 partials/q.mustache:1:1: warning: there is no partials/p.mustache, so nothing is printed here
 partials/q.mustache:2:8: warning: there is no partials/p.mustache, so nothing is printed here
 ";
-    let found = told(alloc, &folder)?;
-    assert_eq!(rt; found.as_str(), lines);
-    Ok(())
+
+#[test]
+fn all_faults_of_all_files(rt: HostRuntime) {
+    is_told(&rt, rt.alloc(), &folder(&rt, rt.alloc(), FAULTY), TOLD);
+}
+
+/// How many bytes a template has, and how that is told.
+const LENGTHS: &[(usize, &str)] = &[
+    (
+        32_768,
+        "templates/t.mustache: the file has 32768 bytes, and may have 32741: part it [1 TooLong]\n",
+    ),
+    (32_741, ""),
+];
+
+fn long(rt: &impl Abort, alloc: Global, length: usize, lines: &str) {
+    let text = vec![in alloc; b'x'; length].expect(rt, "memory");
+    let folder = folder(rt, alloc, &[("templates/t.mustache", text.as_slice())]);
+    is_told(rt, alloc, &folder, lines);
 }
 
 #[test]
-fn a_file_that_is_too_long(rt: HostRuntime) -> Result<(), Fail> {
-    let alloc = rt.alloc();
-    let text = vec![in alloc; b'x'; 32_768]?;
-    let rows = [("templates/t.mustache", text.as_slice())];
-    let folder = folder_of(alloc, &files(alloc, rows.as_slice())?)?;
-    let found = told(alloc, &folder)?;
-    assert_eq!(rt;
-        found.as_str(),
-        "templates/t.mustache: the file has 32768 bytes, and may have 32741: part it [1 TooLong]\n"
-    );
-    let rows = [("templates/t.mustache", &text[..32_741])];
-    let folder = folder_of(alloc, &files(alloc, rows.as_slice())?)?;
-    assert!(rt; folder.findings.is_empty());
-    Ok(())
+fn a_file_that_is_too_long(rt: HostRuntime) {
+    for &(length, lines) in LENGTHS {
+        long(&rt, rt.alloc(), length, lines);
+    }
 }

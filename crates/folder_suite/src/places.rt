@@ -2,7 +2,7 @@
 use site_folder::place_of;
 use std::process::Abort;
 
-const PLACES: [(&[u8], usize, usize, usize); 8] = [
+const PLACES: &[(&[u8], usize, usize, usize)] = &[
     (b"", 0, 1, 1),
     (b"ab", 1, 1, 2),
     (b"ab", 9, 1, 3),
@@ -15,7 +15,7 @@ const PLACES: [(&[u8], usize, usize, usize); 8] = [
 
 #[test]
 fn lines_and_columns(rt: HostRuntime) {
-    for (text, at, line, column) in PLACES {
+    for &(text, at, line, column) in PLACES {
         let place = place_of(text, at);
         assert!(rt; place.line == line && place.column == column);
     }

@@ -3,11 +3,10 @@ ghost use Rattle.std.specs.Prelude.{Some};
 
 use engine_parts::Feed;
 use http_read::Counted;
-use node_client::{AnswerFault, read_answer};
-use std::alloc::Global;
+use node_client::{Answer, AnswerFault, read_answer};
+use std::alloc::{AllocError, Global};
 use std::io::{self, ErrorKind, Read};
 use std::process::Abort;
-use std::test::Fail;
 
 /// Gives pieces of one size, and fails once `good` calls were made.
 #[derive(Drop)]
@@ -33,7 +32,7 @@ impl Read for Pieces<'_> {
 }
 
 /// What a connection gives, and what its answers are told as, the last with the reason why none follows.
-const CONNECTIONS: [(&str, &str); 15] = [
+const CONNECTIONS: &[(&str, &str)] = &[
     (
         "HTTP/1.1 200 OK\r\nContent-Type: text/plain; charset=utf-8\r\nContent-Length: 2\r\n\r\n7\n",
         "200 7\n; ended",
@@ -83,77 +82,109 @@ const CONNECTIONS: [(&str, &str); 15] = [
     ),
 ];
 
-/// Answers of a connection until none follows, at most ten.
-fn told(alloc: Global, reader: &mut Counted<Pieces<'_>>) -> Result<String, Fail> {
-    let mut feed = Feed::new(alloc);
-    let mut text = String::new(alloc);
-    for _ in 0..10 {
-        match read_answer(alloc, reader, &mut feed) {
-            Ok(answer) => {
-                let status = answer.status;
-                let body = str::from_utf8(&answer.body).unwrap_or("?");
-                text.push_str(format!(in alloc; "{status} {body}; ")?.as_str())?;
-            }
-            Err(AnswerFault::Read) => {
-                text.push_str("failed")?;
-                break;
-            }
-            Err(AnswerFault::Ended) => {
-                text.push_str("ended")?;
-                break;
-            }
-            Err(AnswerFault::NoAnswer) => {
-                text.push_str("no answer")?;
-                break;
-            }
-            Err(AnswerFault::OutOfMemory) => {
-                text.push_str("out of memory")?;
-                break;
-            }
+/// Why no answer follows.
+fn reason(fault: AnswerFault) -> &'static str {
+    match fault {
+        AnswerFault::Read => "failed",
+        AnswerFault::Ended => "ended",
+        AnswerFault::NoAnswer => "no answer",
+        AnswerFault::OutOfMemory => "out of memory",
+    }
+}
+
+fn text_of(alloc: Global, answer: &Answer) -> Result<String, AllocError> {
+    let status = answer.status;
+    let body = str::from_utf8(&answer.body).unwrap_or("?");
+    format!(in alloc; "{status} {body}; ")
+}
+
+fn tell(rt: &impl Abort, alloc: Global, text: &mut String, answer: &Answer) {
+    let told = text_of(alloc, answer).expect(rt, "memory");
+    text.push_str(told.as_str()).expect(rt, "memory");
+}
+
+/// Tells the next answer, or why none follows: whether one may follow.
+fn tell_next(
+    rt: &impl Abort,
+    alloc: Global,
+    reader: &mut Counted<Pieces<'_>>,
+    feed: &mut Feed,
+    text: &mut String,
+) -> bool {
+    match read_answer(alloc, reader, feed) {
+        Ok(answer) => {
+            tell(rt, alloc, text, &answer);
+            true
+        }
+        Err(fault) => {
+            text.push_str(reason(fault)).expect(rt, "memory");
+            false
         }
     }
-    Ok(text)
+}
+
+/// Answers of a connection until none follows, at most ten.
+fn tell_all(
+    rt: &impl Abort,
+    alloc: Global,
+    reader: &mut Counted<Pieces<'_>>,
+    feed: &mut Feed,
+    text: &mut String,
+) {
+    for _ in 0..10 {
+        if !tell_next(rt, alloc, reader, feed, text) {
+            return;
+        }
+    }
+}
+
+/// A connection's answers are told so.
+fn is_told(rt: &impl Abort, alloc: Global, reader: &mut Counted<Pieces<'_>>, wanted: &str) {
+    let mut text = String::new(alloc);
+    tell_all(rt, alloc, reader, &mut Feed::new(alloc), &mut text);
+    assert_eq!(rt; text.as_str(), wanted);
+}
+
+fn in_pieces(bytes: &[u8], piece: usize, good: usize) -> Counted<Pieces<'_>> {
+    Counted::new(Pieces { bytes, piece, good })
+}
+
+const SIZES: &[usize] = &[1, 2, 7, 8_192];
+
+fn connection(rt: &impl Abort, alloc: Global, bytes: &str, wanted: &str) {
+    for &piece in SIZES {
+        let mut reader = in_pieces(bytes.as_bytes(), piece, usize::MAX);
+        is_told(rt, alloc, &mut reader, wanted);
+    }
 }
 
 #[test]
-fn connections(rt: HostRuntime) -> Result<(), Fail> {
-    let alloc = rt.alloc();
-    for (bytes, wanted) in CONNECTIONS {
-        for piece in [1, 2, 7, 8_192] {
-            let mut reader = Counted::new(Pieces {
-                bytes: bytes.as_bytes(),
-                piece,
-                good: usize::MAX,
-            });
-            let told = told(alloc, &mut reader)?;
-            assert_eq!(rt; told.as_str(), wanted, "in pieces of {piece}");
-        }
+fn connections(rt: HostRuntime) {
+    for &(bytes, wanted) in CONNECTIONS {
+        connection(&rt, rt.alloc(), bytes, wanted);
     }
-    Ok(())
 }
 
 /// After how many good reads of a byte the connection fails, and what is told.
-const FAILING: [(usize, &str); 4] = [
+const FAILING: &[(usize, &str)] = &[
     (0, "failed"),
     (35, "failed"),
     (36, "200 a; failed"),
     (71, "200 a; failed"),
 ];
 
+const TWO: &str =
+    "HTTP/1.1 200\r\nContent-Length: 1\r\n\r\naHTTP/1.1 200\r\nContent-Length: 1\r\n\r\nb";
+
+fn fail(rt: &impl Abort, alloc: Global, good: usize, wanted: &str) {
+    let mut reader = in_pieces(TWO.as_bytes(), 1, good);
+    is_told(rt, alloc, &mut reader, wanted);
+    assert!(rt; reader.failures() == 1, "after {good}");
+}
+
 #[test]
-fn failing(rt: HostRuntime) -> Result<(), Fail> {
-    let alloc = rt.alloc();
-    let bytes =
-        b"HTTP/1.1 200\r\nContent-Length: 1\r\n\r\naHTTP/1.1 200\r\nContent-Length: 1\r\n\r\nb";
-    for (good, wanted) in FAILING {
-        let mut reader = Counted::new(Pieces {
-            bytes,
-            piece: 1,
-            good,
-        });
-        let told = told(alloc, &mut reader)?;
-        assert_eq!(rt; told.as_str(), wanted, "after {good}");
-        assert_eq!(rt; reader.failures(), 1);
+fn failing(rt: HostRuntime) {
+    for &(good, wanted) in FAILING {
+        fail(&rt, rt.alloc(), good, wanted);
     }
-    Ok(())
 }

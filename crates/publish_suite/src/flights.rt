@@ -1,15 +1,14 @@
 //! Publications into a group in memory, interrupted after each answer, and gone on with by another folder.
 use site_ledger::Ledger;
 use site_publish::{Ask, Flight, Heard, Stage, advance};
-use std::alloc::Global;
+use std::alloc::{AllocError, Global};
 use std::collections::BTreeMap;
 use std::process::Abort;
-use std::test::Fail;
 
 /// The folders: the second changes a text, takes one away and adds one.
-const FIRST: [&str; 3] = ["put template t\nx", "put data a\n1\n", "put route /a t a\n"];
+const FIRST: &[&str] = &["put template t\nx", "put data a\n1\n", "put route /a t a\n"];
 
-const SECOND: [&str; 3] = ["put template t\nx", "put data a\n2\n", "put route /b t a\n"];
+const SECOND: &[&str] = &["put template t\nx", "put data a\n2\n", "put route /b t a\n"];
 
 /// A group of one node: the text of each ticket that is known, and those that wait, of which it takes few; how many answers it gives before the editor
 /// is interrupted.
@@ -23,26 +22,39 @@ struct Town {
 /// So many commands wait at most.
 const ROOM: usize = 2;
 
+/// The ticket of the text is that one's, where it is known.
+fn is_same(rt: &impl Abort, had: Option<&String>, number: u64, text: &str) -> bool {
+    match had {
+        Some(had) => {
+            assert!(rt; had.as_str() == text, "ticket {number}");
+            true
+        }
+        None => false,
+    }
+}
+
+fn put(rt: &impl Abort, alloc: Global, texts: &mut BTreeMap<u64, String>, number: u64, text: &str) {
+    let text = String::from_str(alloc, text).expect(rt, "memory");
+    assert!(rt; texts.insert(number, text).is_ok());
+}
+
 impl Town {
-    /// Takes a command, and gives a status. No ticket ever has two texts.
-    fn submit(
-        &mut self,
-        rt: &impl Abort,
-        alloc: Global,
-        number: u64,
-        text: &str,
-    ) -> Result<u16, Fail> {
-        for had in [self.known.get(&number), self.waiting.get(&number)] {
-            if let Some(had) = had {
-                assert_eq!(rt; had.as_str(), text, "ticket {number}");
-                return Ok(200);
-            }
+    /// Whether the command waits or is known. No ticket ever has two texts.
+    fn has(&self, rt: &impl Abort, number: u64, text: &str) -> bool {
+        is_same(rt, self.known.get(&number), number, text)
+            || is_same(rt, self.waiting.get(&number), number, text)
+    }
+
+    /// Takes a command, and gives a status.
+    fn submit(&mut self, rt: &impl Abort, alloc: Global, number: u64, text: &str) -> u16 {
+        if self.has(rt, number, text) {
+            return 200;
         }
         if self.waiting.len() >= ROOM {
-            return Ok(503);
+            return 503;
         }
-        let _ = self.waiting.insert(number, String::from_str(alloc, text)?)?;
-        Ok(202)
+        put(rt, alloc, &mut self.waiting, number, text);
+        202
     }
 
     /// The status for a receipt.
@@ -54,101 +66,174 @@ impl Town {
         }
     }
 
+    fn decide_one(&mut self, rt: &impl Abort) {
+        if let Some((number, text)) = self.waiting.pop_first() {
+            assert!(rt; self.known.insert(number, text).is_ok());
+        }
+    }
+
     /// What waits becomes known.
-    fn decide(&mut self) -> Result<(), Fail> {
+    fn decide(&mut self, rt: &impl Abort) {
         for _ in 0..self.waiting.len() {
-            if let Some((number, text)) = self.waiting.pop_first() {
-                let _ = self.known.insert(number, text)?;
+            self.decide_one(rt);
+        }
+    }
+
+    /// The status for a command that is on its way.
+    fn submit_of(&mut self, rt: &impl Abort, alloc: Global, ledger: &Ledger, number: u64) -> u16 {
+        for sent in ledger.sent() {
+            if sent.number == number {
+                return self.submit(rt, alloc, number, sent.text.as_str());
             }
         }
-        Ok(())
+        panic!(rt; "asked for what is not on its way")
     }
 
     /// The answer to what is asked, unless the editor is interrupted before.
-    fn answer(
-        &mut self,
-        rt: &impl Abort,
-        alloc: Global,
-        ledger: &Ledger,
-        ask: Ask,
-    ) -> Result<Option<u16>, Fail> {
+    fn answer(&mut self, rt: &impl Abort, alloc: Global, ledger: &Ledger, ask: Ask) -> Option<u16> {
         if self.left == 0 {
-            return Ok(None);
+            return None;
         }
         self.left -= 1;
-        let number = match ask {
-            Ask::Receipt(number) => return Ok(Some(self.receipt(number))),
-            Ask::Submit(number) => number,
-        };
-        for sent in ledger.sent() {
-            if sent.number == number {
-                return Ok(Some(self.submit(rt, alloc, number, sent.text.as_str())?));
-            }
+        match ask {
+            Ask::Receipt(number) => Some(self.receipt(number)),
+            Ask::Submit(number) => Some(self.submit_of(rt, alloc, ledger, number)),
         }
-        Err(Fail::from("asked for what is not on its way"))
     }
 }
 
-/// Sends what is on its way. Whether it was interrupted is the answer.
-fn deliver(
+/// What an answer means.
+fn hear(rt: &impl Abort, flight: &mut Flight, ledger: &mut Ledger, ask: Ask, status: u16) -> Heard {
+    flight.hear(ledger, ask, status).expect(rt, "memory")
+}
+
+fn asks(rt: &impl Abort, alloc: Global, flight: &Flight, ledger: &Ledger) -> Vec<Ask> {
+    flight.asks(alloc, ledger.sent()).expect(rt, "memory")
+}
+
+/// Asks each of these. Whether it was interrupted is the answer.
+fn ask_each(
     rt: &impl Abort,
     alloc: Global,
     town: &mut Town,
     ledger: &mut Ledger,
-) -> Result<bool, Fail> {
-    let mut flight = Flight::new(alloc);
-    for _ in 0..100 {
-        if ledger.is_idle() {
-            return Ok(false);
+    flight: &mut Flight,
+    asks: &[Ask],
+) -> bool {
+    for &ask in asks {
+        match town.answer(rt, alloc, ledger, ask) {
+            Some(status) => {
+                assert!(rt; hear(rt, flight, ledger, ask, status) != Heard::Refused);
+            }
+            None => return true,
         }
-        for ask in flight.asks(alloc, ledger.sent())? {
-            let Some(status) = town.answer(rt, alloc, ledger, ask)? else {
-                return Ok(true);
-            };
-            let heard = flight.hear(ledger, ask, status)?;
-            assert_ne!(rt; heard, Heard::Refused);
-        }
-        town.decide()?;
     }
-    Err(Fail::from("it comes to no end"))
+    false
 }
 
-/// Publishes a folder from what the file keeps. Whether it was interrupted is the answer.
+/// Sends what is on its way. Whether it was interrupted is the answer.
+fn fly(
+    rt: &impl Abort,
+    alloc: Global,
+    town: &mut Town,
+    ledger: &mut Ledger,
+    flight: &mut Flight,
+) -> bool {
+    for _ in 0..100 {
+        if ledger.is_idle() {
+            return false;
+        }
+        let asks = asks(rt, alloc, flight, ledger);
+        if ask_each(rt, alloc, town, ledger, flight, asks.as_slice()) {
+            return true;
+        }
+        town.decide(rt);
+    }
+    panic!(rt; "it comes to no end")
+}
+
+fn goes_on(rt: &impl Abort, alloc: Global, ledger: &mut Ledger, folder: &[&str]) -> bool {
+    advance(alloc, ledger, folder).expect(rt, "memory") != Stage::Done
+}
+
+fn spelled(rt: &impl Abort, alloc: Global, ledger: &Ledger) -> String {
+    ledger.spelled(alloc).expect(rt, "memory")
+}
+
+fn read(rt: &impl Abort, alloc: Global, file: &str) -> Ledger {
+    Ledger::read(alloc, file).expect(rt, "a ledger")
+}
+
+/// Publishes a folder, and keeps the ledger in the file. Whether it was interrupted is the answer.
+fn go(
+    rt: &impl Abort,
+    alloc: Global,
+    town: &mut Town,
+    ledger: &mut Ledger,
+    file: &mut String,
+    folder: &[&str],
+) -> bool {
+    for _ in 0..10 {
+        if !goes_on(rt, alloc, ledger, folder) {
+            return false;
+        }
+        *file = spelled(rt, alloc, ledger);
+        if fly(rt, alloc, town, ledger, &mut Flight::new(alloc)) {
+            return true;
+        }
+        *file = spelled(rt, alloc, ledger);
+    }
+    panic!(rt; "it comes to no end")
+}
+
+/// Publishes a folder from what the file keeps.
 fn publish(
     rt: &impl Abort,
     alloc: Global,
     town: &mut Town,
     file: &mut String,
     folder: &[&str],
-) -> Result<bool, Fail> {
-    let mut ledger = Ledger::read(alloc, file.as_str())?;
-    for _ in 0..10 {
-        if advance(alloc, &mut ledger, folder)? == Stage::Done {
-            return Ok(false);
-        }
-        *file = ledger.spelled(alloc)?;
-        if deliver(rt, alloc, town, &mut ledger)? {
-            return Ok(true);
-        }
-        *file = ledger.spelled(alloc)?;
-    }
-    Err(Fail::from("it comes to no end"))
+) -> bool {
+    let mut ledger = read(rt, alloc, file.as_str());
+    go(rt, alloc, town, &mut ledger, file, folder)
 }
 
-/// The site that the group shows, in a line: of each kind and name the last text's.
-fn shown(alloc: Global, town: &Town) -> Result<String, Fail> {
-    let mut site: BTreeMap<String, String> = BTreeMap::new(alloc);
-    for (_, text) in town.known.iter() {
-        let words: Vec<&str> = text.as_str().split_ascii_whitespace().collect(alloc)?;
-        if let [verb, kind, name, ..] = words.as_slice() {
-            let key = format!(in alloc; "{kind} {name}")?;
-            if *verb == "put" {
-                let _ = site.insert(key, text.clone()?)?;
-            } else {
-                let _ = site.remove(key.as_str());
-            }
-        }
+/// What the group shows: of each kind and name the last text.
+type Site = BTreeMap<String, String>;
+
+/// A command is shown that puts a name of a kind, or removes it.
+fn show(rt: &impl Abort, alloc: Global, site: &mut Site, words: (&str, &str, &str), text: &str) {
+    let (verb, kind, name) = words;
+    let key = format!(in alloc; "{kind} {name}").expect(rt, "memory");
+    if verb == "put" {
+        let text = String::from_str(alloc, text).expect(rt, "memory");
+        assert!(rt; site.insert(key, text).is_ok());
+    } else {
+        let _ = site.remove(key.as_str());
     }
+}
+
+fn words_of<'a>(rt: &impl Abort, alloc: Global, text: &'a str) -> Vec<&'a str> {
+    text.split_ascii_whitespace()
+        .collect(alloc)
+        .expect(rt, "memory")
+}
+
+fn show_text(rt: &impl Abort, alloc: Global, site: &mut Site, text: &str) {
+    let words = words_of(rt, alloc, text);
+    if let [verb, kind, name, ..] = words.as_slice() {
+        show(rt, alloc, site, (verb, kind, name), text);
+    }
+}
+
+fn show_all(rt: &impl Abort, alloc: Global, site: &mut Site, town: &Town) {
+    for (_, text) in town.known.iter() {
+        show_text(rt, alloc, site, text.as_str());
+    }
+}
+
+/// A site in a line.
+fn line_of(alloc: Global, site: &Site) -> Result<String, AllocError> {
     let mut line = String::new(alloc);
     for (_, text) in site.iter() {
         line.push_str(text.as_str().trim_end())?;
@@ -157,36 +242,51 @@ fn shown(alloc: Global, town: &Town) -> Result<String, Fail> {
     Ok(line)
 }
 
+/// The site that the group shows is this one, in a line.
+fn is_shown(rt: &impl Abort, alloc: Global, town: &Town, wanted: &str) {
+    let mut site = BTreeMap::new(alloc);
+    show_all(rt, alloc, &mut site, town);
+    let line = line_of(alloc, &site).expect(rt, "memory");
+    assert_eq!(rt; line.as_str(), wanted);
+}
+
+/// All that was given has its receipt, and is released.
+fn is_whole(rt: &impl Abort, town: &Town, ledger: &Ledger) {
+    assert!(rt; ledger.is_idle() && !ledger.has_unshown());
+    assert!(rt; town.known.len() as u64 == ledger.next().saturating_sub(1));
+}
+
+/// The site of the second folder.
+const SHOWN: &str = "put data a\n2; put route /b t a; put template t\nx; ";
+
+/// The file of an editor that has published nothing.
+fn new_file(rt: &impl Abort, alloc: Global) -> String {
+    spelled(rt, alloc, &Ledger::new(alloc, 7))
+}
+
+fn interrupt(rt: &impl Abort, alloc: Global, town: &mut Town) {
+    let mut file = new_file(rt, alloc);
+    let _ = publish(rt, alloc, town, &mut file, FIRST);
+    town.left = 100;
+    assert!(rt; !publish(rt, alloc, town, &mut file, SECOND));
+    is_shown(rt, alloc, town, SHOWN);
+    is_whole(rt, town, &read(rt, alloc, file.as_str()));
+}
+
 #[test]
-fn interrupted(rt: HostRuntime) -> Result<(), Fail> {
-    let alloc = rt.alloc();
+fn interrupted(rt: HostRuntime) {
     for left in 0..16 {
         let mut town = Town {
-            known: BTreeMap::new(alloc),
-            waiting: BTreeMap::new(alloc),
+            known: BTreeMap::new(rt.alloc()),
+            waiting: BTreeMap::new(rt.alloc()),
             left,
         };
-        let mut file = Ledger::new(alloc, 7).spelled(alloc)?;
-        let _ = publish(&rt, alloc, &mut town, &mut file, &FIRST)?;
-        town.left = 100;
-        assert!(rt;
-            !publish(&rt, alloc, &mut town, &mut file, &SECOND)?,
-            "after {left}"
-        );
-        assert_eq!(rt;
-            shown(alloc, &town)?.as_str(),
-            "put data a\n2; put route /b t a; put template t\nx; ",
-            "after {left}"
-        );
-        let ledger = Ledger::read(alloc, file.as_str())?;
-        assert!(rt; ledger.is_idle() && !ledger.has_unshown());
-        assert_eq!(rt; town.known.len() as u64, ledger.next().saturating_sub(1));
+        interrupt(&rt, rt.alloc(), &mut town);
     }
-    Ok(())
 }
 
 /// What is asked, a status, and what it means.
-const HEARD: [(Ask, u16, Heard); 12] = [
+const HEARD: &[(Ask, u16, Heard)] = &[
     (Ask::Receipt(1), 200, Heard::Received),
     (Ask::Receipt(1), 404, Heard::Waits),
     (Ask::Receipt(1), 503, Heard::Nothing),
@@ -201,17 +301,19 @@ const HEARD: [(Ask, u16, Heard); 12] = [
     (Ask::Submit(1), 399, Heard::Nothing),
 ];
 
+/// The file of a ledger whose release is on its way.
+const ONE_SENT: &str = "published 2\neditor 7\nnext 2\nlast_release 0\nsent 1 8\nrelease\n\n";
+
+fn hears(rt: &impl Abort, alloc: Global, ask: Ask, status: u16, wanted: Heard) {
+    let mut ledger = read(rt, alloc, ONE_SENT);
+    let heard = hear(rt, &mut Flight::new(alloc), &mut ledger, ask, status);
+    assert!(rt; heard == wanted, "{status}");
+    assert!(rt; ledger.is_idle() == (wanted == Heard::Received), "{status}");
+}
+
 #[test]
-fn heard(rt: HostRuntime) -> Result<(), Fail> {
-    let alloc = rt.alloc();
-    for (ask, status, wanted) in HEARD {
-        let mut ledger = Ledger::read(
-            alloc,
-            "published 2\neditor 7\nnext 2\nlast_release 0\nsent 1 8\nrelease\n\n",
-        )?;
-        let heard = Flight::new(alloc).hear(&mut ledger, ask, status)?;
-        assert_eq!(rt; heard, wanted, "{status}");
-        assert_eq!(rt; ledger.is_idle(), wanted == Heard::Received, "{status}");
+fn heard(rt: HostRuntime) {
+    for &(ask, status, wanted) in HEARD {
+        hears(&rt, rt.alloc(), ask, status, wanted);
     }
-    Ok(())
 }

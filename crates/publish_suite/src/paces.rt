@@ -1,10 +1,9 @@
 //! How a delivery goes on, as a table.
 use site_publish::{Came, Pace, Step};
 use std::process::Abort;
-use std::test::Fail;
 
 /// What exchanges came to, when each ended, and how it goes on, where a minute may pass without a receipt.
-const STEPS: [(Came, u64, Step); 19] = [
+const STEPS: &[(Came, u64, Step)] = &[
     (Came::Answers, 1, Step::Again(2)),
     (Came::Answers, 4, Step::Again(4)),
     (Came::Answers, 9, Step::Again(8)),
@@ -27,14 +26,22 @@ const STEPS: [(Came, u64, Step); 19] = [
     (Came::Silence, 60_013, Step::GiveUp),
 ];
 
+fn steps(rt: &impl Abort, pace: &mut Pace, came: (Came, u64), patience: u64, wanted: Step) {
+    let (came, now) = came;
+    assert!(rt; pace.step(came, now, patience) == wanted, "at {now}");
+}
+
 #[test]
-fn paces(rt: HostRuntime) -> Result<(), Fail> {
+fn paces(rt: HostRuntime) {
     let mut pace = Pace::new();
-    for (came, now, wanted) in STEPS {
-        assert_eq!(rt; pace.step(came, now, 60), wanted, "at {now}");
+    for &(came, now, wanted) in STEPS {
+        steps(&rt, &mut pace, (came, now), 60, wanted);
     }
-    // With no patience it gives up behind the first exchange that brought nothing.
-    assert_eq!(rt; Pace::new().step(Came::Receipt, 0, 0), Step::Again(0));
-    assert_eq!(rt; Pace::new().step(Came::Answers, 0, 0), Step::GiveUp);
-    Ok(())
+}
+
+/// With no patience it gives up behind the first exchange that brought nothing.
+#[test]
+fn no_patience(rt: HostRuntime) {
+    steps(&rt, &mut Pace::new(), (Came::Receipt, 0), 0, Step::Again(0));
+    steps(&rt, &mut Pace::new(), (Came::Answers, 0), 0, Step::GiveUp);
 }

@@ -44,18 +44,27 @@ pub(crate) fn value(rt: &impl Abort, alloc: Global, number: u64, text: &str) -> 
     }
 }
 
+/// A run ended so.
+pub(crate) fn runs(rt: &impl Abort, ended: Result<(), WorldFault>, wanted: Result<(), WorldFault>) {
+    assert_eq!(rt; ended, wanted);
+}
+
+/// One that is refused memory is pushed once more.
+pub(crate) fn push(rt: &impl Abort, events: &mut Vec<Event>, event: Event) {
+    if let Err(refused) = events.push(event) {
+        assert!(rt; events.push(refused.value).is_ok());
+    }
+}
+
 /// How many ticks and deliveries these events are; none where another event is among them.
 fn counts(events: &[Event]) -> (usize, usize) {
-    let ticks = events
-        .iter()
-        .filter(|event| matches!(event, Event::Tick { .. }))
-        .count();
-    let deliveries = events
-        .iter()
-        .filter(|event| matches!(event, Event::Deliver { .. }))
-        .count();
-    if ticks.saturating_add(deliveries) != events.len() {
-        return (0, 0);
+    let (mut ticks, mut deliveries): (usize, usize) = (0, 0);
+    for event in events {
+        match event {
+            Event::Tick { .. } => ticks = ticks.saturating_add(1),
+            Event::Deliver { .. } => deliveries = deliveries.saturating_add(1),
+            _ => return (0, 0),
+        }
     }
     (ticks, deliveries)
 }
@@ -285,40 +294,75 @@ impl Group {
         }
     }
 
-    fn has_page(&self, rt: &impl Abort, number: u8, n: u64, path: &str, page: (u16, &str)) -> bool {
-        let answer = self.answer(rt, number, n, path);
-        is_page(&answer, page.0, page.1)
+    /// The events of these steps.
+    pub(crate) fn events(&self, rt: &impl Abort, steps: &[Step]) -> Vec<Event> {
+        let mut events = Vec::new(self.alloc);
+        for &step in steps {
+            let event = self.event(rt, step).expect(rt, "an event");
+            push(rt, &mut events, event);
+        }
+        events
     }
 
-    fn planned_counts(&self, rt: &impl Abort, number: u8) -> (usize, usize) {
+    /// A run over the events of these steps as it is.
+    pub(crate) fn run_steps(&mut self, rt: &impl Abort, steps: &[Step]) -> Result<(), WorldFault> {
+        let events = self.events(rt, steps);
+        self.run(events.as_slice())
+    }
+
+    fn has_page(&self, rt: &impl Abort, number: u8, n: u64, path: &str, page: (u16, &str)) {
+        let answer = self.answer(rt, number, n, path);
+        assert!(rt; is_page(&answer, page.0, page.1), "{path} of {number}");
+    }
+
+    fn plans(&self, rt: &impl Abort, number: u8, wanted: (usize, usize)) {
         let plan = self.plan(rt, number);
-        counts(plan.as_slice())
+        assert!(rt; counts(plan.as_slice()) == wanted, "node {number}");
+    }
+
+    fn shows(&self, rt: &impl Abort, number: u8, wanted: Shown) {
+        assert!(rt; self.shown(rt, number) == wanted, "node {number}");
+    }
+
+    fn says(&self, rt: &impl Abort, count: usize, kind: Kind) {
+        assert!(rt; self.sent_count() == count, "{count} messages");
+        assert!(rt; self.kind(count.saturating_sub(1)) == Some(kind));
+    }
+
+    fn prepares(&self, rt: &impl Abort, index: usize, wanted: (u32, u32, u8)) {
+        assert!(rt; self.prepared(index) == Some(wanted), "message {index}");
     }
 
     /// Sees whether what the step says is so.
     fn look(&self, rt: &impl Abort, step: Step) {
         match step {
-            Step::Plans(number, ticks, deliveries) => {
-                let planned = self.planned_counts(rt, number);
-                assert_eq!(rt; planned, (ticks, deliveries), "{step:?}");
-            }
+            Step::Plans(number, ticks, deliveries) => self.plans(rt, number, (ticks, deliveries)),
             Step::Shows(number, state, known, newest) => {
-                assert_eq!(rt; self.shown(rt, number), (state, known, newest), "{step:?}");
+                self.shows(rt, number, (state, known, newest));
             }
             Step::Page(number, n, path, status, body) => {
-                assert!(rt;
-                    self.has_page(rt, number, n, path, (status, body)),
-                    "{step:?}"
-                );
+                self.has_page(rt, number, n, path, (status, body));
             }
-            Step::Last(count, kind) => {
-                assert_eq!(rt; self.sent_count(), count, "{step:?}");
-                assert_eq!(rt; self.kind(count.saturating_sub(1)), Some(kind));
-            }
+            Step::Last(count, kind) => self.says(rt, count, kind),
             Step::Prepares(index, at, round, count) => {
-                assert_eq!(rt; self.prepared(index), Some((at, round, count)), "{step:?}");
+                self.prepares(rt, index, (at, round, count));
             }
             _ => {}
+        }
+    }
+
+    fn lose(&mut self) {
+        self.settled = self.sent_count();
+    }
+
+    /// Takes the event of a step, or looks at what it says.
+    fn take_or_look(&mut self, rt: &impl Abort, step: Step) -> Result<(), WorldFault> {
+        match self.event(rt, step) {
+            Some(event) => self.take(rt, event),
+            None => {
+                self.look(rt, step);
+                Ok(())
+            }
         }
     }
 
@@ -328,23 +372,18 @@ impl Group {
             Step::Settle => self.settle(rt),
             Step::Quiet(number) => self.quiet(rt, number),
             Step::Lose => {
-                self.settled = self.sent_count();
+                self.lose();
                 Ok(())
             }
-            _ => match self.event(rt, step) {
-                Some(event) => self.take(rt, event),
-                None => {
-                    self.look(rt, step);
-                    Ok(())
-                }
-            },
+            _ => self.take_or_look(rt, step),
         }
     }
 
     /// Does the steps. None of them ends in a fault.
     pub(crate) fn act_all(&mut self, rt: &impl Abort, steps: &[Step]) {
-        for step in steps {
-            assert_eq!(rt; self.act(rt, *step), Ok(()), "{step:?}");
+        for &step in steps {
+            let done = self.act(rt, step);
+            runs(rt, done, Ok(()));
         }
     }
 }
@@ -358,7 +397,17 @@ pub(crate) fn is_page(answer: &Result<Answer, AskFault>, status: u16, body: &str
 
 /// A world of so many nodes goes through the steps, and never wants memory.
 pub(crate) fn play(rt: &impl Abort, alloc: Global, size: u8, steps: &[Step]) {
-    let mut group = Group::new(rt, alloc, size);
-    group.act_all(rt, steps);
-    assert_eq!(rt; group.wants(), 0);
+    play_parts(rt, alloc, size, &[steps]);
+}
+
+fn act_parts(rt: &impl Abort, group: &mut Group, parts: &[&[Step]]) {
+    for steps in parts {
+        group.act_all(rt, steps);
+    }
+    assert!(rt; group.wants() == 0);
+}
+
+/// The same with steps in parts.
+pub(crate) fn play_parts(rt: &impl Abort, alloc: Global, size: u8, parts: &[&[Step]]) {
+    act_parts(rt, &mut Group::new(rt, alloc, size), parts);
 }

@@ -1,11 +1,13 @@
 //! Runs with one growth refused, as `tools/gate/refuse-growths` runs this: a run goes on from the count that it gave, and every answer is that of the
 //! schedule without refusals. A disk in memory that finds none stops its node, which is opened again; then the schedule comes once more.
-use crate::group::{Group, is_page};
+use crate::group::{Group, is_page, runs};
 use crate::step::{Kind, Step};
+use release::Answer;
+use std::alloc::Global;
 use std::process::Abort;
-use world::{AskFault, Event, NodeState, WorldFault};
+use world::{AskFault, NodeState, WorldFault};
 
-const PAGE: [Step; 12] = [
+const PAGE: &[Step] = &[
     Step::Submit(1, 1, "put template t\nv{{n}}\n"),
     Step::Submit(1, 2, "put data d\n{\"n\":1}"),
     Step::Submit(1, 3, "put route / t d\n"),
@@ -20,7 +22,7 @@ const PAGE: [Step; 12] = [
     Step::Settle,
 ];
 
-const CRASHES: [Step; 10] = [
+const CRASHES: &[Step] = &[
     Step::Submit(1, 1, "release\n"),
     Step::Tick(1),
     Step::Settle,
@@ -34,44 +36,67 @@ const CRASHES: [Step; 10] = [
 ];
 
 /// A call of node 2's vote fails, and the node ends so and is opened again. Then node 3 asks for promises: the release comes first, or the route.
-fn lost_vote(end: Step) -> [Step; 19] {
-    [
-        Step::Submit(1, 1, "release\n"),
-        Step::Submit(3, 2, "put route / t d\n"),
-        Step::Tick(1),
-        Step::Deliver(1, 0),
-        Step::Deliver(2, 0),
-        Step::Deliver(1, 1),
-        Step::Deliver(1, 2),
-        Step::Arm(2, 3),
-        Step::Deliver(2, 3),
-        end,
-        Step::Restart(2),
-        Step::Tick(3),
-        Step::Deliver(2, 4),
-        Step::Deliver(3, 4),
-        Step::Deliver(3, 5),
-        Step::Deliver(3, 6),
-        Step::Settle,
-        Step::Tick(1),
-        Step::Settle,
-    ]
-}
+const VOTE_FAILED: &[Step] = &[
+    Step::Submit(1, 1, "release\n"),
+    Step::Submit(3, 2, "put route / t d\n"),
+    Step::Tick(1),
+    Step::Deliver(1, 0),
+    Step::Deliver(2, 0),
+    Step::Deliver(1, 1),
+    Step::Deliver(1, 2),
+    Step::Arm(2, 3),
+    Step::Deliver(2, 3),
+];
+
+const VOTE_ENDS: &[Step] = &[Step::Crash(2, 0), Step::Crash(2, 1), Step::Restart(2)];
+
+const ASKED_AGAIN: &[Step] = &[
+    Step::Restart(2),
+    Step::Tick(3),
+    Step::Deliver(2, 4),
+    Step::Deliver(3, 4),
+    Step::Deliver(3, 5),
+    Step::Deliver(3, 6),
+    Step::Settle,
+    Step::Tick(1),
+    Step::Settle,
+];
 
 /// A page's status and body.
 type Page = (u16, &'static str);
 
+const PAGE_SHOWN: &[Page] = &[(200, "v1\n")];
+
+const NONE_SHOWN: &[Page] = &[(404, "not found\n")];
+
+const EITHER_SHOWN: &[Page] = &[(404, "not found\n"), (500, "template missing\n")];
+
+/// Which of these pages the answer is.
+fn which(answer: &Result<Answer, AskFault>, pages: &[Page]) -> Option<usize> {
+    let mut at: usize = 0;
+    for &(status, body) in pages {
+        if is_page(answer, status, body) {
+            return Some(at);
+        }
+        at = at.saturating_add(1);
+    }
+    None
+}
+
+/// Which of these pages the answer is, where the node has the release.
+fn shown(rt: &impl Abort, answer: &Result<Answer, AskFault>, pages: &[Page]) -> Option<usize> {
+    if matches!(answer, Err(AskFault::NoSuchRelease)) {
+        return None;
+    }
+    let shown = which(answer, pages);
+    assert!(rt; shown.is_some());
+    shown
+}
+
 /// Which of these pages a node shows for release 1, where it has that.
 fn page_at(rt: &impl Abort, group: &Group, number: u8, pages: &[Page]) -> Option<usize> {
     let answer = group.answer(rt, number, 1, "/");
-    if matches!(&answer, Err(AskFault::NoSuchRelease)) {
-        return None;
-    }
-    let shown = pages
-        .iter()
-        .position(|(status, body)| is_page(&answer, *status, body));
-    assert!(rt; shown.is_some(), "node {number}");
-    shown
+    shown(rt, &answer, pages)
 }
 
 fn agree(one: Option<usize>, other: Option<usize>) -> bool {
@@ -88,13 +113,20 @@ fn all_answer(rt: &impl Abort, group: &Group, pages: &[Page]) -> bool {
 }
 
 /// A message that wasn't handed out, since its node was stopped, reaches nobody.
+fn is_done(done: Result<(), WorldFault>) -> bool {
+    matches!(done, Ok(()) | Err(WorldFault::BadEvent(_)))
+}
+
 fn act_each(rt: &impl Abort, group: &mut Group, steps: &[Step]) {
-    for step in steps {
-        let done = group.act(rt, *step);
-        assert!(rt;
-            matches!(done, Ok(()) | Err(WorldFault::BadEvent(_))),
-            "{step:?}"
-        );
+    for &step in steps {
+        let done = group.act(rt, step);
+        assert!(rt; is_done(done));
+    }
+}
+
+fn act_parts(rt: &impl Abort, group: &mut Group, parts: &[&[Step]]) {
+    for steps in parts {
+        act_each(rt, group, steps);
     }
 }
 
@@ -108,72 +140,64 @@ fn open_stopped(rt: &impl Abort, group: &mut Group) {
 }
 
 /// The schedule, and once more with all messages where a node lacks the release then.
-fn goes(rt: &impl Abort, group: &mut Group, steps: &[Step], pages: &[Page]) {
-    act_each(rt, group, steps);
+fn goes(rt: &impl Abort, group: &mut Group, parts: &[&[Step]], pages: &[Page]) {
+    act_parts(rt, group, parts);
     if !all_answer(rt, group, pages) {
         open_stopped(rt, group);
         group.unsettle();
-        act_each(rt, group, steps);
+        act_parts(rt, group, parts);
     }
-    assert!(rt; group.wants() <= 1 && all_answer(rt, group, pages));
+    assert!(rt; group.wants() <= 1);
+    assert!(rt; all_answer(rt, group, pages));
+}
+
+fn three(rt: &impl Abort, alloc: Global) -> Group {
+    Group::new(rt, alloc, 3)
 }
 
 #[test]
 fn a_page(rt: HostRuntime) {
-    let mut group = Group::new(&rt, rt.alloc(), 3);
-    goes(&rt, &mut group, &PAGE, &[(200, "v1\n")]);
+    goes(&rt, &mut three(&rt, rt.alloc()), &[PAGE], PAGE_SHOWN);
 }
 
 #[test]
 fn crashes(rt: HostRuntime) {
-    let mut group = Group::new(&rt, rt.alloc(), 3);
-    goes(&rt, &mut group, &CRASHES, &[(404, "not found\n")]);
-}
-
-fn loses_a_vote(rt: &impl Abort, group: &mut Group, end: Step) {
-    let pages = [(404, "not found\n"), (500, "template missing\n")];
-    goes(rt, group, &lost_vote(end), &pages);
+    goes(&rt, &mut three(&rt, rt.alloc()), &[CRASHES], NONE_SHOWN);
 }
 
 #[test]
 fn lost_votes(rt: HostRuntime) {
-    for end in [Step::Crash(2, 0), Step::Crash(2, 1), Step::Restart(2)] {
-        loses_a_vote(&rt, &mut Group::new(&rt, rt.alloc(), 3), end);
+    for &end in VOTE_ENDS {
+        let parts = [VOTE_FAILED, &[end], ASKED_AGAIN];
+        goes(&rt, &mut three(&rt, rt.alloc()), &parts, EITHER_SHOWN);
     }
 }
 
 /// Each question hands out one message, so a count that is off by one shows.
-fn each_event_once(rt: &impl Abort, group: &mut Group) {
-    let (one, two) = (group.node(rt, 1), group.node(rt, 2));
-    let events = [
-        Event::Ask { node: one },
-        Event::Crash {
-            node: two,
-            choice: 0,
-        },
-        Event::Restart { node: two },
-        Event::Deliver {
-            node: one,
-            index: 0,
-        },
-        Event::Ask { node: two },
-        Event::Crash {
-            node: one,
-            choice: 0,
-        },
-        Event::Restart { node: one },
-        Event::Ask { node: one },
-    ];
-    assert_eq!(rt; group.run_on(rt, &events), Ok(()));
+const EACH_ONCE: &[Step] = &[
+    Step::Ask(1),
+    Step::Crash(2, 0),
+    Step::Restart(2),
+    Step::Deliver(1, 0),
+    Step::Ask(2),
+    Step::Crash(1, 0),
+    Step::Restart(1),
+    Step::Ask(1),
+];
+
+const ALL_ASKED: &[Step] = &[
+    Step::Last(3, Kind::Ask),
+    Step::Shows(1, NodeState::Up, 0, 0),
+    Step::Shows(2, NodeState::Up, 0, 0),
+];
+
+fn run_once(rt: &impl Abort, group: &mut Group) {
+    let events = group.events(rt, EACH_ONCE);
+    runs(rt, group.run_on(rt, events.as_slice()), Ok(()));
+    group.act_all(rt, ALL_ASKED);
 }
 
 #[test]
 fn one_run(rt: HostRuntime) {
-    let mut group = Group::new(&rt, rt.alloc(), 3);
-    each_event_once(&rt, &mut group);
-    assert_eq!(rt; group.sent_count(), 3);
-    for number in [1, 2] {
-        assert_eq!(rt; group.shown(&rt, number), (NodeState::Up, 0, 0));
-    }
-    assert_eq!(rt; group.kind(2), Some(Kind::Ask));
+    run_once(&rt, &mut three(&rt, rt.alloc()));
 }

@@ -2,6 +2,7 @@
 use failing_ends::{Sink, trickle};
 use sitectl::{Counted, sitesim};
 use std::alloc::Global;
+use std::process::Abort;
 
 /// What a run printed, and its status.
 #[derive(Drop)]
@@ -27,26 +28,40 @@ fn trickled(alloc: Global, good: usize, room: usize) -> Printed {
     }
 }
 
+fn ends(rt: &impl Abort, printed: &Printed, status: u8, line: &str) {
+    assert!(rt; printed.status == status);
+    assert!(rt; printed.err.as_slice() == line.as_bytes());
+}
+
+/// It fails as a line says, behind a beginning of what is printed.
+fn is_begun(rt: &impl Abort, printed: &Printed) {
+    ends(rt, printed, 1, "read failed\n");
+    assert!(rt; PRINTED.as_bytes().starts_with(printed.out.as_slice()));
+}
+
+fn is_whole(rt: &impl Abort, printed: &Printed) {
+    ends(rt, printed, 0, "");
+    assert!(rt; printed.out.as_slice() == PRINTED.as_bytes());
+}
+
 #[test]
 fn a_reader_fails_anywhere(rt: HostRuntime) {
     for good in 0..=SCHEDULE.len() {
-        let printed = trickled(rt.alloc(), good, 1000);
-        assert_eq!(rt; printed.status, 1, "{good}");
-        assert!(rt; PRINTED.as_bytes().starts_with(printed.out.as_slice()));
-        assert_eq!(rt; printed.err.as_slice(), b"read failed\n".as_slice());
+        is_begun(&rt, &trickled(rt.alloc(), good, 1000));
     }
-    let whole = trickled(rt.alloc(), 1000, 1000);
-    assert!(rt; whole.status == 0 && whole.err.is_empty());
-    assert_eq!(rt; whole.out.as_slice(), PRINTED.as_bytes());
+    is_whole(&rt, &trickled(rt.alloc(), 1000, 1000));
+}
+
+/// It fails as a line says, behind so many bytes.
+fn is_cut(rt: &impl Abort, printed: &Printed, room: usize) {
+    ends(rt, printed, 1, "write failed\n");
+    assert!(rt; printed.out.len() == room);
+    assert!(rt; PRINTED.as_bytes().starts_with(printed.out.as_slice()));
 }
 
 #[test]
 fn a_writer_fails_anywhere(rt: HostRuntime) {
-    let lines = PRINTED.as_bytes();
-    for room in 0..lines.len() {
-        let printed = trickled(rt.alloc(), 1000, room);
-        assert_eq!(rt; printed.status, 1, "{room}");
-        assert_eq!(rt; printed.out.as_slice(), &lines[..room]);
-        assert_eq!(rt; printed.err.as_slice(), b"write failed\n".as_slice());
+    for room in 0..PRINTED.len() {
+        is_cut(&rt, &trickled(rt.alloc(), 1000, room), room);
     }
 }

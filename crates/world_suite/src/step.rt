@@ -2,7 +2,7 @@
 use world::NodeState;
 
 /// What happens at a node, by its number, or what is seen there.
-#[derive(Clone, Copy, Debug)]
+#[derive(Clone, Copy)]
 pub(crate) enum Step {
     /// A command of editor 1, with the number of its ticket.
     Submit(u8, u64, &'static str),
@@ -33,7 +33,7 @@ pub(crate) enum Step {
     Prepares(usize, u32, u32, u8),
 }
 
-#[derive(Clone, Copy, Debug, PartialEq, Eq)]
+#[derive(Clone, Copy, PartialEq, Eq)]
 pub(crate) enum Kind {
     Prepare,
     /// Whether it tells a vote.
