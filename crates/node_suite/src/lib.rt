@@ -6,6 +6,8 @@ mod batches;
 #[cfg(test)]
 mod devices;
 #[cfg(test)]
+mod heard;
+#[cfg(test)]
 mod peer;
 #[cfg(test)]
 mod refusals;

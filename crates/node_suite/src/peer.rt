@@ -18,6 +18,15 @@ pub(crate) struct Peer {
     out: Outbox,
 }
 
+/// A call came to that.
+pub(crate) fn ends(rt: &impl Abort, called: Result<(), NodeFault>, wanted: Result<(), NodeFault>) {
+    assert_eq!(rt; called, wanted);
+}
+
+pub(crate) fn passes(rt: &impl Abort, called: Result<(), NodeFault>) {
+    ends(rt, called, Ok(()));
+}
+
 fn format(alloc: Global, cluster: Cluster, me: NodeId) -> Result<MemDisk, RecordFault> {
     let mut disk = MemDisk::new(alloc);
     match Record::format(cluster, me, &mut disk) {
@@ -122,10 +131,10 @@ impl Peer {
         &self.out
     }
 
-    /// A message of its cluster.
-    pub(crate) fn hand(&mut self, rt: &impl Abort, message: &Message) -> Result<(), NodeFault> {
+    /// A message of its cluster, which is let go of here alone.
+    pub(crate) fn hand(&mut self, rt: &impl Abort, message: Message) -> Result<(), NodeFault> {
         assert!(rt; message.is_of(self.node.cluster()));
-        self.node.deliver(message, &mut self.out)
+        self.node.deliver(&message, &mut self.out)
     }
 
     pub(crate) fn arm(&mut self, calls: u32) {

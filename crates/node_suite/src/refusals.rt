@@ -1,6 +1,6 @@
 //! Each call with one growth refused, as `tools/gate/refuse-growths` runs this: it answers as ever, or that memory was refused, and then the next try
 //! answers as ever. Where the disk in memory found none its call failed, so the node is opened again; an opening is tried twice.
-use crate::peer::Peer;
+use crate::peer::{Peer, ends, passes};
 use crate::samples::{
     accepted, asked_instance, ballot, chosen, copied, instance, prepare, prepared_round, promise,
     propose, proposes, question, told_vote, value,
@@ -10,7 +10,7 @@ use std::alloc::Global;
 use std::process::Abort;
 use wire::Message;
 
-#[derive(Clone, Copy, Debug)]
+#[derive(Clone, Copy)]
 enum Step {
     Submit,
     Ask,
@@ -23,7 +23,7 @@ enum Step {
 }
 
 /// A message about instance 1.
-#[derive(Clone, Copy, Debug)]
+#[derive(Clone, Copy)]
 enum Said {
     /// Of node 3.
     Propose,
@@ -64,7 +64,7 @@ fn message(rt: &impl Abort, node: &Peer, said: Said) -> Message {
 
 fn hear(rt: &impl Abort, node: &mut Peer, said: Said) -> Result<(), NodeFault> {
     let message = message(rt, node, said);
-    node.hand(rt, &message)
+    node.hand(rt, message)
 }
 
 fn submit(rt: &impl Abort, node: &mut Peer) -> Result<(), NodeFault> {
@@ -84,19 +84,31 @@ fn act(rt: &impl Abort, node: &mut Peer, step: Step) -> Result<(), NodeFault> {
     }
 }
 
-/// Whether the step took. One that was refused hands out nothing and makes nothing known.
-fn takes(rt: &impl Abort, node: &mut Peer, step: Step) -> bool {
-    let before = (node.out().len(), node.known());
-    let Err(fault) = act(rt, node, step) else {
-        return true;
-    };
-    let cause = if node.is_stopped() {
+/// Why a call is refused where memory was.
+fn cause(node: &Peer) -> NodeFault {
+    if node.is_stopped() {
         NodeFault::Device
     } else {
         NodeFault::OutOfMemory
-    };
-    assert_eq!(rt; fault, cause, "{step:?}");
-    assert!(rt; before == (node.out().len(), node.known()));
+    }
+}
+
+/// So many messages were handed out, and so many instances are known.
+fn is_where(rt: &impl Abort, node: &Peer, said: usize, known: u32) {
+    assert!(rt; node.out().len() == said);
+    assert!(rt; node.known() == known);
+}
+
+/// Whether the step took. One that was refused hands out nothing and makes nothing known.
+fn takes(rt: &impl Abort, node: &mut Peer, step: Step) -> bool {
+    let said = node.out().len();
+    let known = node.known();
+    let acted = act(rt, node, step);
+    if acted.is_ok() {
+        return true;
+    }
+    ends(rt, acted, Err(cause(node)));
+    is_where(rt, node, said, known);
     false
 }
 
@@ -115,7 +127,7 @@ fn stepped(rt: &impl Abort, node: Peer, step: Step) -> Peer {
     let took = takes(rt, &mut node, step);
     let mut node = going(rt, node);
     if !took {
-        assert_eq!(rt; act(rt, &mut node, step), Ok(()), "the next try");
+        passes(rt, act(rt, &mut node, step));
     }
     node
 }
@@ -123,74 +135,83 @@ fn stepped(rt: &impl Abort, node: Peer, step: Step) -> Peer {
 /// Node 1 of three after the steps.
 fn after(rt: &impl Abort, alloc: Global, steps: &[Step]) -> Peer {
     let mut node = Peer::fresh(rt, alloc, 3);
-    for step in steps {
-        node = stepped(rt, node, *step);
+    for &step in steps {
+        node = stepped(rt, node, step);
     }
     node
 }
 
+const SUBMISSIONS: &[Step] = &[Step::Submit, Step::Ask];
+
+const TICKS: &[Step] = &[
+    Step::Tick,
+    Step::Hear(Said::Promise(2)),
+    Step::Hear(Said::Promise(3)),
+];
+
+const WIDENINGS: &[Step] = &[Step::Submit, Step::Widen, Step::Tick];
+
+const REQUESTS: &[Step] = &[Step::Hear(Said::Propose), Step::Hear(Said::Prepare)];
+
+const OPENINGS: &[Step] = &[Step::Tick, Step::Hear(Said::Propose)];
+
+const VOTES_TOLD: &[Step] = &[
+    Step::Hear(Said::Vote(2)),
+    Step::Hear(Said::Vote(3)),
+    Step::Publish,
+];
+
+const VALUES_TOLD: &[Step] = &[Step::Hear(Said::Chosen), Step::Hear(Said::Question)];
+
+const TELLINGS: &[Step] = &[Step::Hear(Said::Propose), Step::Tell];
+
 #[test]
 fn submissions(rt: HostRuntime) {
-    let node = after(&rt, rt.alloc(), &[Step::Submit, Step::Ask]);
+    let node = after(&rt, rt.alloc(), SUBMISSIONS);
     assert!(rt; node.wants_tick() && asked_instance(node.out()) == Some(1));
 }
 
 #[test]
 fn ticks(rt: HostRuntime) {
-    let steps = [
-        Step::Tick,
-        Step::Hear(Said::Promise(2)),
-        Step::Hear(Said::Promise(3)),
-    ];
-    let node = after(&rt, rt.alloc(), &steps);
+    let node = after(&rt, rt.alloc(), TICKS);
     assert!(rt; proposes(node.out(), b"v"));
 }
 
 #[test]
 fn widenings(rt: HostRuntime) {
-    let steps = [Step::Submit, Step::Widen, Step::Tick];
-    let node = after(&rt, rt.alloc(), &steps);
+    let node = after(&rt, rt.alloc(), WIDENINGS);
     assert!(rt; prepared_round(node.out()).is_some());
 }
 
 #[test]
 fn requests(rt: HostRuntime) {
-    let steps = [Step::Hear(Said::Propose), Step::Hear(Said::Prepare)];
-    let node = after(&rt, rt.alloc(), &steps);
+    let node = after(&rt, rt.alloc(), REQUESTS);
     assert!(rt; node.out().len() == 2 && told_vote(node.out()) == Some(true));
 }
 
 #[test]
 fn openings(rt: HostRuntime) {
-    let steps = [Step::Tick, Step::Hear(Said::Propose)];
-    let node = after(&rt, rt.alloc(), &steps).again(&rt, None);
+    let node = after(&rt, rt.alloc(), OPENINGS).again(&rt, None);
     let node = stepped(&rt, node, Step::Hear(Said::Prepare));
-    assert_eq!(rt; told_vote(node.out()), Some(true));
+    assert!(rt; told_vote(node.out()) == Some(true));
     let node = stepped(&rt, node, Step::Tick);
     assert!(rt; prepared_round(node.out()).is_some_and(|round| 1 < round));
 }
 
 #[test]
 fn votes_told(rt: HostRuntime) {
-    let steps = [
-        Step::Hear(Said::Vote(2)),
-        Step::Hear(Said::Vote(3)),
-        Step::Publish,
-    ];
-    let node = after(&rt, rt.alloc(), &steps);
+    let node = after(&rt, rt.alloc(), VOTES_TOLD);
     assert!(rt; node.known() == 1 && node.newest() == 1);
 }
 
 #[test]
 fn values_told(rt: HostRuntime) {
-    let steps = [Step::Hear(Said::Chosen), Step::Hear(Said::Question)];
-    let node = after(&rt, rt.alloc(), &steps);
+    let node = after(&rt, rt.alloc(), VALUES_TOLD);
     assert!(rt; node.known() == 1 && node.out().len() == 1);
 }
 
 #[test]
 fn tellings(rt: HostRuntime) {
-    let steps = [Step::Hear(Said::Propose), Step::Tell];
-    let node = after(&rt, rt.alloc(), &steps);
-    assert_eq!(rt; node.out().len(), 2);
+    let node = after(&rt, rt.alloc(), TELLINGS);
+    assert!(rt; node.out().len() == 2);
 }

@@ -1,7 +1,8 @@
 //! Worked rows of one node.
-use crate::peer::Peer;
+use crate::heard::choice_comes;
+use crate::peer::{Peer, ends, passes};
 use crate::samples::{
-    accepted, asked_instance, ballot, chosen, copied, instance, nack, prepared_round, promise,
+    accepted, asked_instance, ballot, bytes_of, copied, instance, nack, prepared_round, promise,
     proposes, question, value,
 };
 use node::{NodeFault, Submitted};
@@ -13,22 +14,32 @@ fn tell(rt: &impl Abort, node: &mut Peer, from: u8, value: &Value) {
     let at = ballot(rt, 1, node.other(rt, 1));
     let value = value.try_clone().expect(rt, "a copy");
     let message = accepted(rt, node.other(rt, from), at, value);
-    assert_eq!(rt; node.hand(rt, &message), Ok(()));
+    passes(rt, node.hand(rt, message));
 }
 
-/// Node 2 tells a chosen value.
-fn choose(rt: &impl Abort, node: &mut Peer, at: u32, value: Value) -> Result<(), NodeFault> {
-    let message = chosen(rt, node.other(rt, 2), at, value);
-    node.hand(rt, &message)
+/// Votes of nodes, and how many instances are known behind each.
+const VOTES: &[(u8, u32)] = &[(2, 0), (2, 0), (2, 0), (3, 0), (4, 1)];
+
+fn knows(rt: &impl Abort, node: &Peer, known: u32) {
+    assert_eq!(rt; node.known(), known);
+}
+
+/// The newest release.
+fn publishes(rt: &impl Abort, node: &mut Peer, newest: u64) {
+    assert_eq!(rt; node.publish(), Ok(newest));
+}
+
+fn answers(rt: &impl Abort, submitted: Result<Submitted, NodeFault>, wanted: Submitted) {
+    assert_eq!(rt; submitted, Ok(wanted));
 }
 
 fn a_majority_of_votes(rt: &impl Abort, node: &mut Peer, release: &Value) {
-    for (from, known) in [(2, 0), (2, 0), (2, 0), (3, 0), (4, 1)] {
+    for &(from, known) in VOTES {
         tell(rt, node, from, release);
-        assert_eq!(rt; node.known(), known, "a vote of node {from}");
+        knows(rt, node, known);
     }
-    assert_eq!(rt; node.publish(), Ok(1));
-    assert_eq!(rt; node.submit(release), Ok(Submitted::Already));
+    publishes(rt, node, 1);
+    answers(rt, node.submit(release), Submitted::Already);
     assert!(rt; node.out().is_empty());
 }
 
@@ -39,42 +50,49 @@ fn votes_of_a_majority_make_a_value_known(rt: HostRuntime) {
     a_majority_of_votes(&rt, &mut node, &release);
 }
 
+/// An instance, a ticket's number, a text; a number of instances, a release.
+type Chosen = (u32, u64, &'static str, u32, u64);
+
 /// A chosen value, how many are known without a gap then, and the newest release.
-const CHOSEN: &[(u32, u64, &str, u32, u64)] = &[
+const CHOSEN: &[Chosen] = &[
     (1, 1, "put data d\n{}", 1, 0),
     (3, 3, "release\n", 1, 0),
     (2, 2, "put data e\n{}", 3, 1),
     (4, 1, "remove data d\n", 4, 1),
 ];
 
-fn step(rt: &impl Abort, node: &mut Peer, row: (u32, u64, &str, u32, u64)) {
-    let (at, number, text, known, newest) = row;
-    let value = value(rt, node.alloc(), number, text);
-    assert_eq!(rt; choose(rt, node, at, value), Ok(()));
-    assert_eq!(rt; node.known(), known, "after instance {at}");
-    assert_eq!(rt; node.publish(), Ok(newest), "after instance {at}");
+fn choose(rt: &impl Abort, node: &mut Peer, at: u32, number: u64, text: &str) {
+    let bytes = bytes_of(rt, node.alloc(), number, text);
+    passes(rt, choice_comes(rt, node, at, bytes.as_slice()));
 }
+
+fn step(rt: &impl Abort, node: &mut Peer, row: Chosen) {
+    let (at, number, text, known, newest) = row;
+    choose(rt, node, at, number, text);
+    knows(rt, node, known);
+    publishes(rt, node, newest);
+}
+
+/// The ticket of the first value.
+const FIRST: Ticket = Ticket {
+    editor: 1,
+    number: 1,
+};
 
 fn up_to_a_gap(rt: &impl Abort, node: &mut Peer) {
     for &row in CHOSEN {
         step(rt, node, row);
     }
-    assert_eq!(rt; node.status("/"), Some(404));
-    let first = Ticket {
-        editor: 1,
-        number: 1,
-    };
-    assert_eq!(rt; node.receipt(first), Some(instance(rt, 1)));
+    assert!(rt; node.status("/") == Some(404));
+    assert!(rt; node.receipt(FIRST) == Some(instance(rt, 1)));
+    ends(rt, choice_comes(rt, node, 1, b""), Err(NodeFault::Conflict));
+    knows(rt, node, 4);
 }
 
 #[test]
 fn chosen_values_are_published_up_to_a_gap(rt: HostRuntime) {
     let mut node = Peer::fresh(&rt, rt.alloc(), 3);
     up_to_a_gap(&rt, &mut node);
-    let empty = copied(&rt, rt.alloc(), b"");
-    let conflict = choose(&rt, &mut node, 1, empty);
-    assert_eq!(rt; conflict, Err(NodeFault::Conflict));
-    assert_eq!(rt; node.known(), 4);
 }
 
 fn submit(
@@ -87,19 +105,23 @@ fn submit(
     node.submit(&value)
 }
 
+fn submit_release(rt: &impl Abort, node: &mut Peer, number: u64) -> Result<Submitted, NodeFault> {
+    submit(rt, node, number, "release\n")
+}
+
+fn is_full(rt: &impl Abort, node: &mut Peer) {
+    answers(rt, submit_release(rt, node, 63), Submitted::Already);
+    assert!(rt; submit_release(rt, node, 64) == Err(NodeFault::QueueFull));
+    let refused = submit(rt, node, 65, "put template t\n{{#a}}");
+    assert!(rt; matches!(refused, Err(NodeFault::NotACommand(_))));
+}
+
 fn sixty_four(rt: &impl Abort, node: &mut Peer) {
     assert!(rt; !node.wants_tick());
     for number in 0..64 {
-        let queued = submit(rt, node, number, "release\n");
-        assert_eq!(rt; queued, Ok(Submitted::Queued));
+        answers(rt, submit_release(rt, node, number), Submitted::Queued);
     }
-    assert_eq!(rt; submit(rt, node, 63, "release\n"), Ok(Submitted::Already));
-    assert_eq!(rt;
-        submit(rt, node, 64, "release\n"),
-        Err(NodeFault::QueueFull)
-    );
-    let refused = submit(rt, node, 65, "put template t\n{{#a}}");
-    assert!(rt; matches!(refused, Err(NodeFault::NotACommand(_))));
+    is_full(rt, node);
     assert!(rt; node.wants_tick());
 }
 
@@ -113,7 +135,7 @@ fn refuse(rt: &impl Abort, node: &mut Peer) {
     let asked = ballot(rt, 1, node.other(rt, 1));
     let promised = ballot(rt, 5, node.other(rt, 2));
     let message = nack(rt, node.other(rt, 3), asked, promised);
-    assert_eq!(rt; node.hand(rt, &message), Ok(()));
+    passes(rt, node.hand(rt, message));
 }
 
 /// A promise of node 1's round that tells a vote for `v`.
@@ -122,13 +144,13 @@ fn promises(rt: &impl Abort, node: &mut Peer, from: u8, round: u32, prior: u32) 
     let prior = ballot(rt, prior, node.other(rt, 2));
     let value = copied(rt, node.alloc(), b"v");
     let message = promise(rt, node.other(rt, from), at, prior, value);
-    assert_eq!(rt; node.hand(rt, &message), Ok(()));
+    passes(rt, node.hand(rt, message));
 }
 
 /// A tick prepares in that round.
 fn ticks(rt: &impl Abort, node: &mut Peer, round: u32) {
-    assert_eq!(rt; node.tick(), Ok(()));
-    assert_eq!(rt; prepared_round(node.out()), Some(round));
+    passes(rt, node.tick());
+    assert!(rt; prepared_round(node.out()) == Some(round));
 }
 
 fn above_a_round_heard(rt: &impl Abort, node: &mut Peer) {
@@ -138,7 +160,7 @@ fn above_a_round_heard(rt: &impl Abort, node: &mut Peer) {
     ticks(rt, node, 6);
     promises(rt, node, 2, 6, 4);
     promises(rt, node, 2, 6, 4);
-    assert_eq!(rt; node.out().len(), 2);
+    assert!(rt; node.out().len() == 2);
     promises(rt, node, 3, 6, 5);
     assert!(rt; proposes(node.out(), b"v") && node.wants_tick());
 }
@@ -148,22 +170,24 @@ fn a_tick_begins_above_a_round_heard_of(rt: HostRuntime) {
     above_a_round_heard(&rt, &mut Peer::fresh(&rt, rt.alloc(), 3));
 }
 
-fn asked(rt: &impl Abort, node: &mut Peer, at: u32, answers: usize) {
+/// Behind a question about an instance so many messages were handed out in all.
+fn asked(rt: &impl Abort, node: &mut Peer, at: u32, count: usize) {
     let message = question(rt, node.other(rt, 3), at);
-    assert_eq!(rt; node.hand(rt, &message), Ok(()));
-    assert_eq!(rt; node.out().len(), answers, "asked for instance {at}");
+    passes(rt, node.hand(rt, message));
+    assert!(rt; node.out().len() == count, "asked for instance {at}");
 }
 
+/// Instances at which the no-op is chosen: the third one isn't known.
+const KNOWN: &[u32] = &[1, 2, 4];
+
 fn questions(rt: &impl Abort, node: &mut Peer) {
-    for at in [1, 2, 4] {
-        let empty = copied(rt, node.alloc(), b"");
-        assert_eq!(rt; choose(rt, node, at, empty), Ok(()));
+    for &at in KNOWN {
+        passes(rt, choice_comes(rt, node, at, b""));
     }
-    assert_eq!(rt; node.ask(), Ok(()));
-    assert_eq!(rt; asked_instance(node.out()), Some(3));
-    for (at, answers) in [(3, 1), (4, 2)] {
-        asked(rt, node, at, answers);
-    }
+    passes(rt, node.ask());
+    assert!(rt; asked_instance(node.out()) == Some(3));
+    asked(rt, node, 3, 1);
+    asked(rt, node, 4, 2);
 }
 
 #[test]

@@ -14,18 +14,19 @@ pub(crate) fn ballot(rt: &impl Abort, round: u32, node: NodeId) -> Ballot {
     Ballot::new(round, node).expect(rt, "a ballot")
 }
 
-fn written(alloc: Global, number: u64, text: &str) -> Option<Value> {
+/// The bytes of a command of editor 1.
+pub(crate) fn bytes_of(rt: &impl Abort, alloc: Global, number: u64, text: &str) -> Vec<u8> {
     let ticket = Ticket { editor: 1, number };
-    let bytes = write(alloc, ticket, text.as_bytes()).ok()?;
-    Value::from_bytes(bytes).ok()
+    match write(alloc, ticket, text.as_bytes()) {
+        Ok(bytes) => bytes,
+        Err(_) => write(alloc, ticket, text.as_bytes()).expect(rt, "a command"),
+    }
 }
 
-/// The value of a command of editor 1.
+/// Its value.
 pub(crate) fn value(rt: &impl Abort, alloc: Global, number: u64, text: &str) -> Value {
-    match written(alloc, number, text) {
-        Some(value) => value,
-        None => written(alloc, number, text).expect(rt, "a value"),
-    }
+    let bytes = bytes_of(rt, alloc, number, text);
+    copied(rt, alloc, bytes.as_slice())
 }
 
 pub(crate) fn copied(rt: &impl Abort, alloc: Global, bytes: &[u8]) -> Value {

@@ -1,6 +1,7 @@
 //! What a node tells again: of each instance the value that it knows, or else its last vote.
-use crate::peer::Peer;
-use crate::samples::{chosen, copied, instance, prepare_span, propose};
+use crate::heard::{choice_comes, prepare_comes, proposal_comes};
+use crate::peer::{Peer, ends, passes};
+use crate::samples::{instance, propose};
 use node::{NodeFault, To};
 use site_ids::Value;
 use std::alloc::{AllocError, Global};
@@ -8,7 +9,7 @@ use std::process::Abort;
 use wire::Message;
 
 /// What comes to node 1, and what it tells.
-#[derive(Clone, Copy, Debug)]
+#[derive(Clone, Copy)]
 enum Step {
     /// Node 2 tells a chosen value at an instance.
     Learn(u32, &'static str),
@@ -20,7 +21,7 @@ enum Step {
     Tells(u32, &'static [Told]),
 }
 
-#[derive(Clone, Copy, Debug)]
+#[derive(Clone, Copy)]
 enum Told {
     /// The value of an instance is chosen.
     Chosen(u32, &'static str),
@@ -28,25 +29,25 @@ enum Told {
     Vote(u32, u32, &'static str),
 }
 
-fn is_told(said: &(To, Message), told: Told) -> bool {
-    match (&said.1, told) {
-        (
-            Message::Chosen {
-                instance,
-                value,
-                ..
-            },
-            Told::Chosen(at, text),
-        ) => instance.number() == at && value.as_bytes() == text.as_bytes(),
-        (
-            Message::Accepted {
-                instance,
-                ballot,
-                value,
-                ..
-            },
-            Told::Vote(at, round, text),
-        ) => {
+fn is_chosen(message: &Message, at: u32, text: &str) -> bool {
+    match message {
+        Message::Chosen {
+            instance,
+            value,
+            ..
+        } => instance.number() == at && value.as_bytes() == text.as_bytes(),
+        _ => false,
+    }
+}
+
+fn is_vote(message: &Message, at: u32, round: u32, text: &str) -> bool {
+    match message {
+        Message::Accepted {
+            instance,
+            ballot,
+            value,
+            ..
+        } => {
             instance.number() == at
                 && ballot.round() == round
                 && value.as_bytes() == text.as_bytes()
@@ -55,52 +56,51 @@ fn is_told(said: &(To, Message), told: Told) -> bool {
     }
 }
 
-/// The message that comes, if one does.
-fn message(rt: &impl Abort, node: &Peer, step: Step) -> Option<Message> {
-    let (two, three) = (node.other(rt, 2), node.other(rt, 3));
-    match step {
-        Step::Vote(at, round, text) => {
-            let value = copied(rt, node.alloc(), text.as_bytes());
-            Some(propose(rt, three, at, round, value))
-        }
-        Step::Promise(at, round) => Some(prepare_span(rt, three, at, 1, round)),
-        Step::Learn(at, text) => {
-            let value = copied(rt, node.alloc(), text.as_bytes());
-            Some(chosen(rt, two, at, value))
-        }
-        Step::Tells(..) => None,
-    }
-}
-
-fn hear(rt: &impl Abort, node: &mut Peer, step: Step) {
-    if let Some(message) = message(rt, node, step) {
-        assert_eq!(rt; node.hand(rt, &message), Ok(()), "{step:?}");
+fn is_told(message: &Message, told: Told) -> bool {
+    match told {
+        Told::Chosen(at, text) => is_chosen(message, at, text),
+        Told::Vote(at, round, text) => is_vote(message, at, round, text),
     }
 }
 
 /// All messages of a telling from an instance on, and how many.
 fn telling(rt: &impl Abort, node: &mut Peer, to: To, first: u32, count: usize) {
     node.forget_said();
-    assert_eq!(rt; node.tell(to, instance(rt, first)), Ok(()));
-    assert_eq!(rt; node.out().len(), count, "from {first}");
+    passes(rt, node.tell(to, instance(rt, first)));
+    assert!(rt; node.out().len() == count, "from {first}");
+}
+
+/// The message at a place tells that, to node 2.
+fn is_said(rt: &impl Abort, node: &Peer, at: usize, told: Told) {
+    let said = node.out().get(at).expect(rt, "a message");
+    assert!(rt; said.0 == To::One(node.other(rt, 2)));
+    assert!(rt; is_told(&said.1, told));
 }
 
 fn tells(rt: &impl Abort, node: &mut Peer, first: u32, told: &[Told]) {
     let to = To::One(node.other(rt, 2));
     telling(rt, node, to, first, told.len());
-    for (said, told) in node.out().iter().zip(told) {
-        assert!(rt; said.0 == to && is_told(said, *told), "{told:?}");
+    let mut at: usize = 0;
+    for &one in told {
+        is_said(rt, node, at, one);
+        at = at.saturating_add(1);
     }
+}
+
+fn vote(rt: &impl Abort, node: &mut Peer, at: (u32, u32), text: &str) {
+    passes(rt, proposal_comes(rt, node, 3, at, text.as_bytes()));
 }
 
 fn act(rt: &impl Abort, node: &mut Peer, step: Step) {
     match step {
         Step::Tells(first, told) => tells(rt, node, first, told),
-        _ => hear(rt, node, step),
+        Step::Vote(at, round, text) => vote(rt, node, (at, round), text),
+        Step::Promise(at, round) => passes(rt, prepare_comes(rt, node, 3, (at, 1), round)),
+        Step::Learn(at, text) => passes(rt, choice_comes(rt, node, at, text.as_bytes())),
     }
 }
 
-const STEPS: [Step; 16] = [
+const STEPS: &[Step] = &[
     Step::Tells(1, &[]),
     Step::Vote(2, 3, "b"),
     Step::Learn(1, "a"),
@@ -120,15 +120,15 @@ const STEPS: [Step; 16] = [
 ];
 
 fn act_all(rt: &impl Abort, node: &mut Peer, steps: &[Step]) {
-    for step in steps {
-        act(rt, node, *step);
+    for &step in steps {
+        act(rt, node, step);
     }
 }
 
 /// A value that is known goes before the vote there; a promise alone is nothing to tell; of 64 instances, and none past the last.
 #[test]
 fn values_and_votes_are_told(rt: HostRuntime) {
-    act_all(&rt, &mut Peer::fresh(&rt, rt.alloc(), 3), &STEPS);
+    act_all(&rt, &mut Peer::fresh(&rt, rt.alloc(), 3), STEPS);
 }
 
 /// A value of so many bytes.
@@ -142,17 +142,20 @@ fn long_value(alloc: Global, size: usize) -> Result<Value, AllocError> {
 fn propose_long(rt: &impl Abort, node: &mut Peer, at: u32, size: usize) {
     let value = long_value(node.alloc(), size).expect(rt, "a value");
     let message = propose(rt, node.other(rt, 3), at, 1, value);
-    assert_eq!(rt; node.hand(rt, &message), Ok(()));
+    passes(rt, node.hand(rt, message));
 }
 
 /// Values of 32,768, 32,767 and one byte: two fit, and then one byte more does.
 const SIZES: &[(u32, usize)] = &[(1, 32_768), (2, 32_767), (3, 1), (4, 32_768), (5, 32_768)];
 
+/// How many messages a telling from an instance on has.
+const TELLINGS: &[(u32, usize)] = &[(1, 3), (2, 3), (3, 2)];
+
 fn long_values(rt: &impl Abort, node: &mut Peer) {
     for &(at, size) in SIZES {
         propose_long(rt, node, at, size);
     }
-    for (first, told) in [(1, 3), (2, 3), (3, 2)] {
+    for &(first, told) in TELLINGS {
         telling(rt, node, To::All, first, told);
     }
 }
@@ -163,12 +166,12 @@ fn a_telling_has_65536_bytes_of_values_at_most(rt: HostRuntime) {
 }
 
 fn stopped(rt: &impl Abort, node: &mut Peer) {
-    act(rt, node, Step::Vote(1, 1, "a"));
+    vote(rt, node, (1, 1), "a");
     node.forget_said();
     node.arm(0);
-    assert_eq!(rt; node.tick(), Err(NodeFault::Device));
+    ends(rt, node.tick(), Err(NodeFault::Device));
     let told = node.tell(To::All, instance(rt, 1));
-    assert_eq!(rt; told, Err(NodeFault::Stopped));
+    ends(rt, told, Err(NodeFault::Stopped));
     assert!(rt; node.out().is_empty());
 }
 
