@@ -1,14 +1,11 @@
 //! What the words do.
-use crate::exporting::{begin, export};
-use crate::line::{Word, word_in};
-use crate::log_word::tell_log;
 use clap::error::ErrorKind;
-use editor_parts::{Halt, say};
+use editor_line::{Word, word_in};
+use editor_parts::Halt;
 use folder_publish::{Publishing, publish};
+use folder_words::{begin, check, export, tell_log};
 use group_client::tell_status;
-use site_files::{Clean, read_clean};
 use site_preview::preview;
-use std::alloc::Global;
 use std::env;
 use std::io::{self, Write};
 use std::net::{Net, TcpListener, TcpStream};
@@ -20,33 +17,6 @@ const NOT_UTF8: &str = "error: invalid UTF-8 was detected in one or more argumen
 
 /// What `--version` prints: the heading of `docs/CHANGES.md` that this is of.
 const VERSION: &str = "sitepub 1.0";
-
-/// Writes that a folder has no fault.
-fn tell_clean<W: Write>(
-    alloc: Global,
-    out: &mut W,
-    folder: &str,
-    clean: &Clean,
-) -> Result<u8, Halt> {
-    let commands = clean.folder.commands.len();
-    let pages = clean.pages.len();
-    let line = format!(in alloc; "{folder}: no fault; commands: {commands}, pages: {pages}")?;
-    say(out, line.as_str())?;
-    Ok(0)
-}
-
-fn check<R: Files + AllocGlobal + Clone + Drop, W: Write, E: Write>(
-    rt: &R,
-    out: &mut W,
-    err: &mut E,
-    folder: &str,
-    ignore: bool,
-) -> Result<u8, Halt> {
-    match read_clean(rt, err, folder, ignore)? {
-        Some(clean) => tell_clean(rt.alloc(), out, folder, &clean),
-        None => Ok(1),
-    }
-}
 
 /// Does what a word says.
 fn done<

@@ -1,5 +1,5 @@
 -- When a server tries again, asks and tells, and how long it rests. Times are milliseconds since it began, rests microseconds.
-use Rattle.std.specs.Prelude.{◌≡◌, ◌≢◌, ◌⊎◌, ℕ, suc, ◌+◌, ◌-◌, ◌*◌, ◌/◌, ◌^◌, ◌<◌, ◌≤◌, min, List, length, replicate, get_or, set, Bool, true, false, not, ◌||◌, nat_eq, nat_le, nat_lt, if◌then◌else◌, Option, Some, None, is_none, unwrap_or, IsTrue, ◌↔◌}
+use Rattle.std.specs.Prelude.{◌≡◌, ◌≢◌, ◌⊎◌, ℕ, suc, ◌+◌, ◌-◌, ◌*◌, ◌^◌, ◌<◌, ◌≤◌, min, List, length, replicate, get_or, set, Bool, true, false, not, ◌||◌, nat_eq, nat_le, nat_lt, if◌then◌else◌, Option, Some, None, is_none, unwrap_or, IsTrue, ◌↔◌}
 use Rattle.site_ids.specs.declared.TheConstants.{MAX_INSTANCE}
 use Rattle.site_ids.specs.Ids.{BallotOf, IsInstance}
 use Rattle.durable.specs.Entries.{last_vote, IsPromise}
@@ -16,29 +16,9 @@ use Rattle.site_pace.specs.declared.questions.Questions.{Questions}
 use Rattle.site_pace.specs.declared.resting.Resting.{Resting}
 use Rattle.site_pace.specs.declared.seen.Seen.{Seen}
 use Rattle.site_pace.specs.declared.ticking.Ticking.{Ticking}
-use Rattle.site_pace.specs.declared.times.Times.{Times}
 use Rattle.site_pace.specs.declared.yielding.Yielding.{Yielding}
-
--- ---- what is waited for
-
--- so many milliseconds have passed since then; since never they have
-abbrev pub passed : Option ℕ → ℕ → ℕ → Bool
-passed None now millis = true
-passed (Some since) now millis = nat_le millis (now - since)
-
--- before its first try a server waits half the patience, and half of it more for each number up to its own
-abbrev pub patience_of : Times → ℕ → ℕ
-patience_of times node = min (times.patience * (node + 1)) (2 ^ 64 - 1) / 2
-
--- behind a question that brought nothing; empty is how many steps went by in which nothing came
-abbrev pub asks_after : Times → ℕ → ℕ
-asks_after times empty = if nat_lt empty times.quiet then times.asking else times.quiet_asking
-
--- in microseconds
-abbrev pub rest_after : Times → ℕ → ℕ
-rest_after times empty =
-    if nat_lt empty times.idle then times.rest
-    else (if nat_lt empty times.quiet then times.idle_rest else times.quiet_rest)
+use Rattle.site_times.specs.Timing.{asks_after, passed, patience_of}
+use Rattle.site_times.specs.declared.times.Times.{Times}
 
 -- ---- ticks
 

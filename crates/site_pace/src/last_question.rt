@@ -5,7 +5,7 @@ ghost use Rattle.site_pace.specs.Pacing.{asking_of};
 
 use crate::asking::Asking;
 use crate::seen::Seen;
-use crate::times::{Times, has_passed};
+use site_times::{Times, has_passed};
 
 /// When a server asked last, and what it knew then.
 #[derive(Clone, Copy, Debug, PartialEq, Eq, Drop)]

@@ -9,7 +9,6 @@ mod questions;
 mod resting;
 mod seen;
 mod ticking;
-mod times;
 mod yielding;
 
 pub use asking::{Asking, Telling};
@@ -19,6 +18,6 @@ pub use pace::Pace;
 pub use questions::first_told;
 pub use resting::Resting;
 pub use seen::Seen;
+pub use site_times::{Times, has_passed};
 pub use ticking::Ticking;
-pub use times::{Times, has_passed};
 pub use yielding::Yielding;

@@ -6,7 +6,8 @@ ghost use Rattle.node.specs.Standing.{IsNodeOf};
 ghost use Rattle.site_pace.specs.declared.due.Due.{Due};
 ghost use Rattle.site_pace.specs.declared.seen.Seen.{Seen};
 ghost use Rattle.site_drive.specs.declared.last_call.LastCall.TheVariants.{Ask, TickOrAsk};
-ghost use Rattle.site_pace.specs.Pacing.{empty_after, first_pace, heard, pace_after, question_after, rest_after, resting_of, ticking_after, IsDue, IsFresh, IsSeen, IsToldOf, IsTriedBy, IsUntried, IsYielding};
+ghost use Rattle.site_pace.specs.Pacing.{empty_after, first_pace, heard, pace_after, question_after, resting_of, ticking_after, IsDue, IsFresh, IsSeen, IsToldOf, IsTriedBy, IsUntried, IsYielding};
+ghost use Rattle.site_times.specs.Timing.{rest_after};
 ghost use Rattle.site_pace.specs.Turns.{call_behind};
 
 use crate::due::Due;
@@ -15,12 +16,12 @@ use crate::questions::Questions;
 use crate::resting::Resting;
 use crate::seen::{Seen, first_tried_by};
 use crate::ticking::Ticking;
-use crate::times::Times;
 use crate::yielding::Yielding;
 use node::Node;
 use site_disk::Disk;
 use site_drive::{Delivered, LastCall};
 use site_ids::{Cluster, Instance, NodeId};
+use site_times::Times;
 
 /// What was tried, asked, heard and told, by whom and when.
 ///

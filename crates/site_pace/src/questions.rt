@@ -4,14 +4,15 @@ ghost use Rattle.std.specs.Prelude.{◌≡◌, ◌↔◌, ◌⊎◌, ◌-◌, �
 ghost use Rattle.node.specs.Nodes.{Node as AbstractNode};
 ghost use Rattle.node.specs.Standing.{IsNodeOf};
 ghost use Rattle.site_ids.specs.Ids.{IsInstance, IsNode};
-ghost use Rattle.site_pace.specs.Pacing.{no_questions, passed, told_from, IsFirstAsked, IsFull, IsToldOf, Tells};
+ghost use Rattle.site_pace.specs.Pacing.{no_questions, told_from, IsFirstAsked, IsFull, IsToldOf, Tells};
+ghost use Rattle.site_times.specs.Timing.{passed};
 
 use crate::asking::Telling;
-use crate::times::{Times, has_passed};
 use node::{MAX_TOLD, Node};
 use site_disk::Disk;
 use site_drive::Delivered;
 use site_ids::{Cluster, Instance, NodeId};
+use site_times::{Times, has_passed};
 
 /// For each node the instance that it asked for and was not told of yet, and when it was told less than it may be at once.
 #[derive(Clone, Copy, Debug, PartialEq, Eq, Drop)]

@@ -3,8 +3,8 @@
 ghost use Rattle.std.specs.Prelude.{◌≡◌, ◌↔◌, ◌<◌, ◌≤◌, ◌-◌, IsTrue, unwrap_or};
 ghost use Rattle.site_pace.specs.Pacing.{ended, first_yielding, noted_tries, places_behind, stood_by, yielding_after, IsBehind, IsSoon, MayGoOn, Waits, Yields};
 
-use crate::times::Times;
 use site_ids::NodeId;
+use site_times::Times;
 
 /// In a stretch it yields for less than so many times as long as the last attempts stood, and a millisecond more: turns of six others.
 const TURNS: u64 = 6;

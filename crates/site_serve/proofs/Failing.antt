@@ -8,9 +8,9 @@ use Rattle.node.specs.Standing.{CountsDevice}
 use Rattle.site_drive.proofs.Failing.{store_kept}
 use Rattle.site_halts.specs.declared.halt.Halt.{Halt}
 use Rattle.site_halts.specs.declared.halt.Halt.TheVariants.{Stopped, OutOfMemory}
-use Rattle.site_serve.specs.declared.served.Served.{Served}
+use Rattle.site_seats.specs.declared.served.Served.{Served}
 use Rattle.site_halts.specs.Halts.{of_node, CountsNone}
-use Rattle.site_serve.specs.Served.{offered}
+use Rattle.site_seats.specs.Served.{offered}
 
 one_fault : {T : Type 0} (x y : NodeFault) → ◌≡◌ {A = Result T NodeFault} (Err x) (Err y) → x ≡ y
 one_fault x y e = cc

@@ -1,6 +1,4 @@
-pub mod Serving
 pub mod Placed
-pub mod Answering
 pub mod ManySteps
 pub mod ManyPasses
 pub mod Noting

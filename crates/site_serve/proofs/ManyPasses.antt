@@ -14,10 +14,10 @@ use Rattle.site_drive.specs.Posting.{spelled_of}
 use Rattle.site_drive.specs.declared.last_call.LastCall.{LastCall}
 use Rattle.site_halts.specs.Halts.{of_node}
 use Rattle.site_serve.specs.Passes.{MayTakeMany, TakesStep, BreaksStep, TakesPass, TakesPasses, BreaksPass, BreaksPasses, BreaksWork, Led, IsBatched, LosesStep, LosesPass, LosesPasses}
-use Rattle.site_serve.specs.Served.{offered}
+use Rattle.site_seats.specs.Served.{offered}
 use Rattle.site_halts.specs.declared.halt.Halt.{Halt}
 use Rattle.site_halts.specs.declared.halt.Halt.TheVariants as halt
-use Rattle.site_serve.specs.declared.served.Served.{Served}
+use Rattle.site_seats.specs.declared.served.Served.{Served}
 use Rattle.site_serve.proofs.ManySteps.{still_published, steps_on, last_on, none_led, widened, led_on, of_same, requests_lead, many_others}
 
 -- ---- what is published

@@ -16,8 +16,8 @@ use Rattle.node.specs.Standing.{IsNodeOf, KeepsOthers}
 use Rattle.node.specs.declared.node.Node.{Node as Running}
 use Rattle.site_drive.specs.Leading.{KeepsRecord, StaysWhose}
 use Rattle.site_serve.specs.Passes.{MayTake, MayTakeMany, AreSteps, last_of, Led}
-use Rattle.site_serve.specs.Served.{ComesTo, offered}
-use Rattle.site_serve.specs.declared.served.Served.{Served}
+use Rattle.site_seats.specs.Served.{ComesTo, offered}
+use Rattle.site_seats.specs.declared.served.Served.{Served}
 
 pub if_err_gives : {T E : Type 0} {P Q : E → Type 0} (r : Result T E) → IfErr r P → ((e : E) → P e → Q e) → IfErr r Q
 if_err_gives (Ok x) h f = tt

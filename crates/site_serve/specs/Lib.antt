@@ -1,8 +1,5 @@
-pub mod Served
 pub mod Placing
 pub mod Mailing
-pub mod Staying
-pub mod Answering
 pub mod Passes
 pub mod Noted
 pub mod Running

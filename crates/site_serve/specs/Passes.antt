@@ -15,7 +15,7 @@ use Rattle.site_drive.specs.Leading.{KeepsRecord}
 use Rattle.site_drive.specs.Posting.{spelled_of}
 use Rattle.site_drive.specs.declared.last_call.LastCall.{LastCall}
 use Rattle.site_halts.specs.Halts.{of_node}
-use Rattle.site_serve.specs.Served.{ComesTo}
+use Rattle.site_seats.specs.Served.{ComesTo}
 use Rattle.site_halts.specs.declared.halt.Halt.{Halt}
 use Rattle.site_halts.specs.declared.halt.Halt.TheVariants as halt
 

@@ -7,12 +7,12 @@ ghost use Rattle.site_ids.specs.Ids.{IsNode};
 ghost use Rattle.site_halts.specs.Halts.{EndsOpening};
 ghost use Rattle.site_serve.specs.Runs.{IsOpened};
 
-use crate::served::Served;
 use durable::{Record, RecordFault};
 use node::Node;
 use site_disk::{Disk, FileDisk};
 use site_halts::{Cause, Halt};
 use site_ids::{Cluster, Instance, MAX_INSTANCE, NodeId};
+use site_seats::Served;
 use std::alloc::Global;
 use std::fs::{File, OpenOptions, TryLockError};
 use std::io;

@@ -6,21 +6,20 @@ ghost use Rattle.site_drive.specs.Batches.{TakesBatch, LeadsSealed};
 ghost use Rattle.site_drive.specs.Leading.{StaysWhose};
 ghost use Rattle.site_drive.specs.Posting.{spelled_of};
 ghost use Rattle.site_drive.specs.declared.last_call.LastCall.{LastCall};
-ghost use Rattle.site_serve.specs.Answering.{AreAnswered, TellsAnswered};
+ghost use Rattle.site_seats.specs.Answering.{AreAnswered, TellsAnswered};
 ghost use Rattle.site_halts.specs.Halts.{CountsNone, EndsLaps};
 ghost use Rattle.site_serve.specs.Mailing.{waiting_of, posted_of, own_of};
 ghost use Rattle.site_serve.specs.Passes.{Led, TakesStep, BreaksStep, LosesStep, IsBatched};
-ghost use Rattle.site_serve.specs.Served.{offered};
-ghost use Rattle.site_serve.specs.declared.served.Served.{Served};
+ghost use Rattle.site_seats.specs.Served.{offered};
+ghost use Rattle.site_seats.specs.declared.served.Served.{Served};
 
 use crate::mail::Mail;
-use crate::seats::Seats;
-use crate::served::Served;
 use site_disk::Disk;
 use site_drive::Desk;
 use site_halts::Halt;
 use site_ids::NodeId;
 use site_pace::{Pace, Times};
+use site_seats::{Seats, Served};
 use std::alloc::{AllocError, Global};
 
 /// A server without sockets and clock: a node, its mail, its clients, and when it tries and asks.

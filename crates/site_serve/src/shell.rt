@@ -7,12 +7,12 @@
 use crate::addresses::Addresses;
 use crate::mail::Mail;
 use crate::packing::pack;
-use crate::seats::Seats;
 use crate::watch::Watch;
 use site_drive::Letter;
 use site_ids::{MAX_NODES, NodeId};
 use site_notes::Notes;
 use site_packets::Packet;
+use site_seats::Seats;
 use std::alloc::{AllocError, Global};
 use std::io::{ErrorKind, Read};
 use std::net::{Shutdown, SocketAddr, TcpListener, TcpStream, UdpSocket};

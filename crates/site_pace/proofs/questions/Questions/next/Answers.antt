@@ -1,6 +1,7 @@
 use Rattle.std.proofs.Common.{rules, arith, ◌≡◌, ◌↔◌, ◌⊎◌, ◌-◌, ◌<◌, ◌≤◌, ℕ, true, get_or, IsSome, List, Option, None, sym, ◌∙◌, ap, subst}
 use Rattle.std.proofs.lemmas.Option.{none-some, same_Some}
-use Rattle.site_pace.specs.Pacing.{passed, told_from, IsFirstAsked, IsFull}
+use Rattle.site_pace.specs.Pacing.{told_from, IsFirstAsked, IsFull}
+use Rattle.site_times.specs.Timing.{passed}
 use Rattle.site_pace.proofs.questions.Questions.next.Goals as goal
 
 -- the first of the nodes is before no other one

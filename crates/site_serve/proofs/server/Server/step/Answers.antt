@@ -2,8 +2,8 @@ use Rattle.std.proofs.Common.{inl, subst, ◌∙◌}
 use Rattle.site_drive.proofs.ManyTurns.{stays_on}
 use Rattle.site_drive.proofs.Results.{err_gives}
 use Rattle.site_drive.proofs.Sealing.{of_others}
-use Rattle.site_serve.specs.Answering.{AreAnswered}
-use Rattle.site_serve.specs.Served.{offered}
+use Rattle.site_seats.specs.Answering.{AreAnswered}
+use Rattle.site_seats.specs.Served.{offered}
 use Rattle.site_serve.proofs.Failing.{requests_kept, none_failed}
 use Rattle.site_serve.proofs.ManySteps.{many_others}
 use Rattle.site_serve.proofs.ManyPasses.{answered, not_answered}

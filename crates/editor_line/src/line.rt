@@ -1,0 +1,281 @@
+//! The command line of `sitepub`.
+use clap::{Arg, ArgAction, ArgMatches, Command, Error};
+use std::alloc::{AllocError, Global};
+
+/// How many seconds may pass without progress, where none are given.
+const PATIENCE: u64 = 60;
+
+/// Where a preview answers, where nothing else is said.
+const PREVIEW: &str = "127.0.0.1:8000";
+
+/// What `sitepub` is told to do.
+#[derive(Debug, Drop)]
+pub enum Word<'a> {
+    /// Writes a small site to start from.
+    New {
+        folder: &'a str,
+    },
+    /// Tells what is wrong with a folder.
+    Check {
+        folder: &'a str,
+        ignore: bool,
+    },
+    /// Writes a static copy of a folder's pages.
+    Export {
+        folder: &'a str,
+        out: &'a str,
+        ignore: bool,
+    },
+    /// Makes a folder the next release of a group.
+    Publish {
+        folder: &'a str,
+        urls: Vec<&'a str>,
+        editor: Option<u32>,
+        patience: u64,
+        dry_run: bool,
+        ignore: bool,
+    },
+    /// Serves a folder as it is on disk.
+    Preview {
+        folder: &'a str,
+        http: &'a str,
+        ignore: bool,
+    },
+    /// Tells the releases of a folder.
+    Log {
+        folder: &'a str,
+    },
+    /// Tells what each node says of itself.
+    Status {
+        urls: Vec<&'a str>,
+    },
+}
+
+fn folder_argument<'a>(alloc: Global, help: &'static str) -> Arg<'a> {
+    Arg::new(alloc, "folder")
+        .value_name("FOLDER")
+        .help(help)
+        .required(true)
+        .action(ArgAction::Set)
+}
+
+fn ignore_flag<'a>(alloc: Global) -> Arg<'a> {
+    Arg::new(alloc, "ignore")
+        .long("ignore")
+        .help("Passes over files that are no part of a site")
+        .action(ArgAction::SetTrue)
+}
+
+fn new_word<'a>(alloc: Global) -> Result<Command<'a>, Error> {
+    Ok(
+        Command::new(alloc, "new")
+            .about("Writes a small site to start from")
+            .arg(folder_argument(alloc, "The folder of the site, empty or absent"))?,
+    )
+}
+
+fn check_word<'a>(alloc: Global) -> Result<Command<'a>, Error> {
+    Ok(
+        Command::new(alloc, "check")
+            .about("Tells what is wrong with a folder, each fault with its place and what to do")
+            .arg(folder_argument(alloc, "The folder of the site"))?
+            .arg(ignore_flag(alloc))?,
+    )
+}
+
+fn export_word<'a>(alloc: Global) -> Result<Command<'a>, Error> {
+    Ok(
+        Command::new(alloc, "export")
+            .about("Writes a static copy of a folder's pages")
+            .arg(folder_argument(alloc, "The folder of the site"))?
+            .arg(
+                Arg::new(alloc, "out")
+                    .value_name("OUT")
+                    .help("The folder of the copy, empty or absent")
+                    .required(true)
+                    .action(ArgAction::Set),
+            )?
+            .arg(ignore_flag(alloc))?,
+    )
+}
+
+fn urls_argument<'a>(alloc: Global) -> Arg<'a> {
+    Arg::new(alloc, "url")
+        .value_name("URL")
+        .help("The address of a node, as http://127.0.0.1:8001; the first that answers is kept to")
+        .action(ArgAction::Append)
+}
+
+fn publish_word<'a>(alloc: Global) -> Result<Command<'a>, Error> {
+    Ok(
+        Command::new(alloc, "publish")
+            .about(
+                "Makes a folder the next release of a group, and goes on where it was interrupted",
+            )
+            .arg(folder_argument(alloc, "The folder of the site"))?
+            .arg(urls_argument(alloc))?
+            .arg(
+                Arg::new(alloc, "editor")
+                    .long("editor")
+                    .value_name("E")
+                    .help(
+                        "The editor's number; by default that of FOLDER/published, at first one at random",
+                    )
+                    .value_parser(clap::value_parser!(u32))
+                    .action(ArgAction::Set),
+            )?
+            .arg(
+                Arg::new(alloc, "patience")
+                    .long("patience")
+                    .value_name("SECONDS")
+                    .help("Gives up where so many seconds pass without progress; 60 by default")
+                    .value_parser(clap::value_parser!(u64))
+                    .action(ArgAction::Set),
+            )?
+            .arg(
+                Arg::new(alloc, "dry-run")
+                    .long("dry-run")
+                    .help(
+                        "Tells what would be put and removed, and which pages change; asks and sends nothing",
+                    )
+                    .action(ArgAction::SetTrue),
+            )?
+            .arg(ignore_flag(alloc))?,
+    )
+}
+
+fn preview_word<'a>(alloc: Global) -> Result<Command<'a>, Error> {
+    Ok(
+        Command::new(alloc, "preview")
+            .about(
+                "Serves a folder to a browser as it is on disk at each request; what is wrong with it in place of its pages",
+            )
+            .arg(folder_argument(alloc, "The folder of the site"))?
+            .arg(
+                Arg::new(alloc, "http")
+                    .long("http")
+                    .value_name("ADDRESS")
+                    .help("Where it answers, IP:PORT; 127.0.0.1:8000 by default")
+                    .action(ArgAction::Set),
+            )?
+            .arg(ignore_flag(alloc))?,
+    )
+}
+
+fn log_word<'a>(alloc: Global) -> Result<Command<'a>, Error> {
+    Ok(
+        Command::new(alloc, "log")
+            .about("Tells the releases that were made of a folder: number, time, how many commands")
+            .arg(folder_argument(alloc, "The folder of the site"))?,
+    )
+}
+
+fn status_word<'a>(alloc: Global) -> Result<Command<'a>, Error> {
+    Ok(
+        Command::new(alloc, "status")
+            .about(
+                "Tells of each node whether it answers, its newest release, and whether it shows the same; status 1 where one is silent, behind or differs",
+            )
+            .arg(urls_argument(alloc).required(true))?,
+    )
+}
+
+/// A command that has one word more, where that could be made.
+fn with_word<'a>(
+    command: Command<'a>,
+    word: Result<Command<'a>, Error>,
+) -> Result<Command<'a>, Error> {
+    Ok(command.subcommand(word?)?)
+}
+
+fn matches_of<'a>(alloc: Global, words: &'a [String]) -> Result<ArgMatches<'a>, Error> {
+    let command = Command::new(alloc, "sitepub")
+        .about("What an editor does with a folder of a site")
+        .after_help(
+            "Examples:\n  sitepub new site\n  sitepub preview site\n  sitepub publish site http://127.0.0.1:8001\n\n--version prints the program's version",
+        )
+        .subcommand_required(true);
+    let command = with_word(command, new_word(alloc))?;
+    let command = with_word(command, check_word(alloc))?;
+    let command = with_word(command, export_word(alloc))?;
+    let command = with_word(command, preview_word(alloc))?;
+    let command = with_word(command, publish_word(alloc))?;
+    let command = with_word(command, log_word(alloc))?;
+    with_word(command, status_word(alloc))?.try_get_matches_from(words)
+}
+
+/// A text that the word has; the empty one where it has none.
+fn text<'a>(matches: &ArgMatches<'a>, id: &str) -> &'a str {
+    matches.get_str(id).unwrap_or("")
+}
+
+/// All that were given as a URL.
+fn urls<'a>(alloc: Global, matches: &ArgMatches<'a>) -> Result<Vec<&'a str>, AllocError> {
+    match matches.get_strs("url") {
+        Some(given) => Vec::from_slice(alloc, given),
+        None => Ok(Vec::new(alloc)),
+    }
+}
+
+fn publish_in<'a>(alloc: Global, found: &ArgMatches<'a>) -> Result<Word<'a>, AllocError> {
+    Ok(Word::Publish {
+        folder: text(found, "folder"),
+        urls: urls(alloc, found)?,
+        editor: found.get_one::<u32>("editor"),
+        patience: found.get_one::<u64>("patience").unwrap_or(PATIENCE),
+        dry_run: found.get_flag("dry-run"),
+        ignore: found.get_flag("ignore"),
+    })
+}
+
+fn preview_in<'a>(found: &ArgMatches<'a>) -> Word<'a> {
+    Word::Preview {
+        folder: text(found, "folder"),
+        http: found.get_str("http").unwrap_or(PREVIEW),
+        ignore: found.get_flag("ignore"),
+    }
+}
+
+fn export_in<'a>(found: &ArgMatches<'a>) -> Word<'a> {
+    Word::Export {
+        folder: text(found, "folder"),
+        out: text(found, "out"),
+        ignore: found.get_flag("ignore"),
+    }
+}
+
+/// The word of that name, as it was found.
+fn word_of<'a>(
+    alloc: Global,
+    name: &str,
+    found: &ArgMatches<'a>,
+) -> Result<Option<Word<'a>>, AllocError> {
+    Ok(Some(match name {
+        "new" => Word::New {
+            folder: text(found, "folder"),
+        },
+        "check" => Word::Check {
+            folder: text(found, "folder"),
+            ignore: found.get_flag("ignore"),
+        },
+        "export" => export_in(found),
+        "publish" => publish_in(alloc, found)?,
+        "preview" => preview_in(found),
+        "log" => Word::Log {
+            folder: text(found, "folder"),
+        },
+        "status" => Word::Status {
+            urls: urls(alloc, found)?,
+        },
+        _ => return Ok(None),
+    }))
+}
+
+/// Reads the words of a command line, the program's name first. `clap` says why it refuses others, help among it.
+pub fn word_in<'a>(alloc: Global, words: &'a [String]) -> Result<Option<Word<'a>>, Error> {
+    let matches = matches_of(alloc, words)?;
+    match matches.subcommand() {
+        Some((name, found)) => Ok(word_of(alloc, name, found)?),
+        None => Ok(None),
+    }
+}

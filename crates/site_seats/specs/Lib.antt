@@ -1,0 +1,3 @@
+pub mod Served
+pub mod Staying
+pub mod Answering

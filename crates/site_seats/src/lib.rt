@@ -1,0 +1,15 @@
+//! The clients of a server: what each sent and is owed, on 64 seats, and a node that answers them.
+#![tactic(auto)]
+
+mod requests;
+mod seat;
+mod seats;
+mod served;
+mod serving_node;
+mod stay;
+
+pub use requests::serve_requests;
+pub use seat::Seat;
+pub use seats::Seats;
+pub use served::Served;
+pub use stay::Stay;
