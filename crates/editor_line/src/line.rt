@@ -83,18 +83,20 @@ fn check_word<'a>(alloc: Global) -> Result<Command<'a>, Error> {
     )
 }
 
+fn out_argument<'a>(alloc: Global) -> Arg<'a> {
+    Arg::new(alloc, "out")
+        .value_name("OUT")
+        .help("The folder of the copy, empty or absent")
+        .required(true)
+        .action(ArgAction::Set)
+}
+
 fn export_word<'a>(alloc: Global) -> Result<Command<'a>, Error> {
     Ok(
         Command::new(alloc, "export")
             .about("Writes a static copy of a folder's pages")
             .arg(folder_argument(alloc, "The folder of the site"))?
-            .arg(
-                Arg::new(alloc, "out")
-                    .value_name("OUT")
-                    .help("The folder of the copy, empty or absent")
-                    .required(true)
-                    .action(ArgAction::Set),
-            )?
+            .arg(out_argument(alloc))?
             .arg(ignore_flag(alloc))?,
     )
 }
@@ -106,6 +108,31 @@ fn urls_argument<'a>(alloc: Global) -> Arg<'a> {
         .action(ArgAction::Append)
 }
 
+fn editor_option<'a>(alloc: Global) -> Arg<'a> {
+    Arg::new(alloc, "editor")
+        .long("editor")
+        .value_name("E")
+        .help("The editor's number; by default that of FOLDER/published, at first one at random")
+        .value_parser(clap::value_parser!(u32))
+        .action(ArgAction::Set)
+}
+
+fn patience_option<'a>(alloc: Global) -> Arg<'a> {
+    Arg::new(alloc, "patience")
+        .long("patience")
+        .value_name("SECONDS")
+        .help("Gives up where so many seconds pass without progress; 60 by default")
+        .value_parser(clap::value_parser!(u64))
+        .action(ArgAction::Set)
+}
+
+fn dry_run_flag<'a>(alloc: Global) -> Arg<'a> {
+    Arg::new(alloc, "dry-run")
+        .long("dry-run")
+        .help("Tells what would be put and removed, and which pages change; asks and sends nothing")
+        .action(ArgAction::SetTrue)
+}
+
 fn publish_word<'a>(alloc: Global) -> Result<Command<'a>, Error> {
     Ok(
         Command::new(alloc, "publish")
@@ -114,34 +141,19 @@ fn publish_word<'a>(alloc: Global) -> Result<Command<'a>, Error> {
             )
             .arg(folder_argument(alloc, "The folder of the site"))?
             .arg(urls_argument(alloc))?
-            .arg(
-                Arg::new(alloc, "editor")
-                    .long("editor")
-                    .value_name("E")
-                    .help(
-                        "The editor's number; by default that of FOLDER/published, at first one at random",
-                    )
-                    .value_parser(clap::value_parser!(u32))
-                    .action(ArgAction::Set),
-            )?
-            .arg(
-                Arg::new(alloc, "patience")
-                    .long("patience")
-                    .value_name("SECONDS")
-                    .help("Gives up where so many seconds pass without progress; 60 by default")
-                    .value_parser(clap::value_parser!(u64))
-                    .action(ArgAction::Set),
-            )?
-            .arg(
-                Arg::new(alloc, "dry-run")
-                    .long("dry-run")
-                    .help(
-                        "Tells what would be put and removed, and which pages change; asks and sends nothing",
-                    )
-                    .action(ArgAction::SetTrue),
-            )?
+            .arg(editor_option(alloc))?
+            .arg(patience_option(alloc))?
+            .arg(dry_run_flag(alloc))?
             .arg(ignore_flag(alloc))?,
     )
+}
+
+fn address_option<'a>(alloc: Global) -> Arg<'a> {
+    Arg::new(alloc, "http")
+        .long("http")
+        .value_name("ADDRESS")
+        .help("Where it answers, IP:PORT; 127.0.0.1:8000 by default")
+        .action(ArgAction::Set)
 }
 
 fn preview_word<'a>(alloc: Global) -> Result<Command<'a>, Error> {
@@ -151,13 +163,7 @@ fn preview_word<'a>(alloc: Global) -> Result<Command<'a>, Error> {
                 "Serves a folder to a browser as it is on disk at each request; what is wrong with it in place of its pages",
             )
             .arg(folder_argument(alloc, "The folder of the site"))?
-            .arg(
-                Arg::new(alloc, "http")
-                    .long("http")
-                    .value_name("ADDRESS")
-                    .help("Where it answers, IP:PORT; 127.0.0.1:8000 by default")
-                    .action(ArgAction::Set),
-            )?
+            .arg(address_option(alloc))?
             .arg(ignore_flag(alloc))?,
     )
 }
