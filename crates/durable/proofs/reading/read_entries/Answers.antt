@@ -1,4 +1,4 @@
-use Rattle.std.proofs.Common.{◌≡◌, ◌-◌, ◌++◌, ◌∷◌, [], ℕ, List, Err, length, drop, take, min, refl, ◌∙◌, ap, arith, length-drop}
+use Rattle.std.proofs.Common.{◌≡◌, ◌-◌, ◌++◌, ◌∷◌, [], ℕ, List, Err, length, drop, take, min, refl, ◌∙◌, ap, rules, arith, length-drop, length-take}
 use Rattle.std.proofs.lemmas.Grind.{common_steps}
 use Rattle.std.proofs.lemmas.Bool.{leb-true}
 use Rattle.durable.specs.declared.fault.RecordFault.TheVariants.{Damaged}
@@ -10,13 +10,17 @@ empty_of : (xs : List ℕ) → length xs ≡ 0 → xs ≡ []
 empty_of [] is = refl
 empty_of (x ∷ xs) is = absurd (omega (arith, is))
 
+-- a piece is as long as what is left, up to a bound
+piece_size : (len gate n : ℕ) (buffer : List ℕ) → length buffer ≡ min len 1048576 → n ≡ min (len - gate) 1048576 → length (take n buffer) ≡ min (len - gate) 1048576
+piece_size len gate n buffer room is = omega (arith, length-take n buffer, room, is)
+
 pub returns-in_err-take_piece-clause-damaged : goal.returns-in_err-take_piece-clause-damaged
 returns-in_err-take_piece-clause-damaged g c = λ is d entries stands size history spelled.
     let fault = c.in_err-take_piece.field-0.0 in
     let gate = c.loop-buffer.recorded.gate in
     let inside = c.loop-buffer.invariant in
     let n = length (take c.min-in-loop-buffer.result c.deref_mut.result.now) in
-    let n_is : n ≡ min (c.args.len - gate) 1048576 = grind (arith, common_steps, inside.room, c.deref_mut.ensures.len, c.min-in-loop-buffer.ensures) in
+    let n_is = piece_size c.args.len gate c.min-in-loop-buffer.result c.deref_mut.result.now (c.deref_mut.ensures.len ∙ (search rules)) c.min-in-loop-buffer.ensures in
     let piece = c.in_ok-read_at.ensures.read d (inside.state d stands) (omega (arith, n_is, size, inside.within)) in
     let before = inside.read in
     in_piece c.args.cluster d.seen c.read_at.new.buf gate n before.0 (before.2 d stands size) piece c.loop-buffer.recorded entries before.1 history spelled
@@ -28,7 +32,7 @@ returns-then-branch-clause-read g c =
     let gate = c.loop-buffer.recorded.gate in
     let inside = c.loop-buffer.invariant in
     let n = length (take c.min-in-loop-buffer.result c.deref_mut.result.now) in
-    let n_is : n ≡ min (c.args.len - gate) 1048576 = grind (arith, common_steps, inside.room, c.deref_mut.ensures.len, c.min-in-loop-buffer.ensures) in
+    let n_is = piece_size c.args.len gate c.min-in-loop-buffer.result c.deref_mut.result.now (c.deref_mut.ensures.len ∙ (search rules)) c.min-in-loop-buffer.ensures in
     let before = inside.read in
     let t = c.in_ok-take_piece.ensures.taken before.0 before.1 in (
       before.0 ++ t.0,
@@ -43,7 +47,7 @@ loop-buffer-preserved g c =
     let gate = c.loop-buffer.recorded.gate in
     let inside = c.loop-buffer.invariant in
     let n = length (take c.min-in-loop-buffer.result c.deref_mut.result.now) in
-    let n_is : n ≡ min (c.args.len - gate) 1048576 = grind (arith, common_steps, inside.room, c.deref_mut.ensures.len, c.min-in-loop-buffer.ensures) in
+    let n_is = piece_size c.args.len gate c.min-in-loop-buffer.result c.deref_mut.result.now (c.deref_mut.ensures.len ∙ (search rules)) c.min-in-loop-buffer.ensures in
     record {
       within = grind (arith, c.in_ok-take_piece.ensures.within, n_is, inside.within);
       room = grind (arith, common_steps, inside.room);

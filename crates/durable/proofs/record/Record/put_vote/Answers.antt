@@ -1,4 +1,5 @@
-use Rattle.std.proofs.Common.{List, [], ◌∷◌, length, ap, ◌∙◌, arith, length-append, subst}
+use Rattle.std.proofs.Common.{◌≡◌, ◌+◌, ℕ, List, [], ◌∷◌, ◌++◌, length, ap, ◌∙◌, arith, length-append, subst}
+use Rattle.std.proofs.lemmas.Grind.{common_steps}
 use Rattle.site_ids.specs.declared.value.Vote.{Vote}
 use Rattle.durable.specs.Entries.{Entry, Voted}
 use Rattle.durable.specs.Histories.{MayFollow}
@@ -8,6 +9,13 @@ use Rattle.durable.proofs.Advances.{vote_advances}
 use Rattle.durable.proofs.Endings.{written_put}
 use Rattle.durable.proofs.record.Record.put_vote.Goals as goal
 
+-- a vote's bytes, by the value that was measured
+measured : (value bytes : List ℕ) → bytes ≡ value → length (value ++ 0 ∷ []) ≡ length bytes + 1
+measured value bytes is = omega (arith, ap length is, length-append value (0 ∷ []))
+
+pub returns-in_err-write : goal.returns-in_err-write
+returns-in_err-write g c = grind (arith, common_steps, measured _ _ c.as_bytes.ensures)
+
 pub returns : goal.returns
 returns g c =
     let old = c.args.self.now in
@@ -16,7 +24,7 @@ returns g c =
     let made = c.in_ok-bytes.ensures in
     let range = made.in_range in
     let checked = c.in_ok-check_room.ensures.running in
-    let room : ¬ IsFullFor old entry = λ full. omega (arith, full, checked.1, ap length c.as_bytes.ensures, length-append value (0 ∷ [])) in
+    let room : ¬ IsFullFor old entry = λ full. omega (arith, full, checked.1, measured _ _ c.as_bytes.ensures) in
     let follows : (entries : List Entry) → IsKept entries old.recorded → MayFollow old.cluster entries entry
     = λ entries kept. record {
       in_range = (range.0, (range.1, range.2, c.requires.of_cluster), c.requires.fits);
