@@ -1,4 +1,6 @@
 //! Publications into a group in memory, interrupted after each answer, and gone on with by another folder.
+use crate::ledgers::{new_file, read, spelled};
+use crate::tickets::{Texts, has, keep};
 use site_ledger::Ledger;
 use site_publish::{Ask, Flight, Heard, Stage, advance};
 use std::alloc::{AllocError, Global};
@@ -14,35 +16,18 @@ const SECOND: &[&str] = &["put template t\nx", "put data a\n2\n", "put route /b 
 /// is interrupted.
 #[derive(Drop)]
 struct Town {
-    known: BTreeMap<u64, String>,
-    waiting: BTreeMap<u64, String>,
+    known: Texts,
+    waiting: Texts,
     left: usize,
 }
 
 /// So many commands wait at most.
 const ROOM: usize = 2;
 
-/// The ticket of the text is that one's, where it is known.
-fn is_same(rt: &impl Abort, had: Option<&String>, number: u64, text: &str) -> bool {
-    match had {
-        Some(had) => {
-            assert!(rt; had.as_str() == text, "ticket {number}");
-            true
-        }
-        None => false,
-    }
-}
-
-fn put(rt: &impl Abort, alloc: Global, texts: &mut BTreeMap<u64, String>, number: u64, text: &str) {
-    let text = String::from_str(alloc, text).expect(rt, "memory");
-    assert!(rt; texts.insert(number, text).is_ok());
-}
-
 impl Town {
     /// Whether the command waits or is known. No ticket ever has two texts.
     fn has(&self, rt: &impl Abort, number: u64, text: &str) -> bool {
-        is_same(rt, self.known.get(&number), number, text)
-            || is_same(rt, self.waiting.get(&number), number, text)
+        has(rt, &self.known, number, text) || has(rt, &self.waiting, number, text)
     }
 
     /// Takes a command, and gives a status.
@@ -53,7 +38,7 @@ impl Town {
         if self.waiting.len() >= ROOM {
             return 503;
         }
-        put(rt, alloc, &mut self.waiting, number, text);
+        keep(rt, alloc, &mut self.waiting, number, text);
         202
     }
 
@@ -156,14 +141,6 @@ fn goes_on(rt: &impl Abort, alloc: Global, ledger: &mut Ledger, folder: &[&str])
     advance(alloc, ledger, folder).expect(rt, "memory") != Stage::Done
 }
 
-fn spelled(rt: &impl Abort, alloc: Global, ledger: &Ledger) -> String {
-    ledger.spelled(alloc).expect(rt, "memory")
-}
-
-fn read(rt: &impl Abort, alloc: Global, file: &str) -> Ledger {
-    Ledger::read(alloc, file).expect(rt, "a ledger")
-}
-
 /// Publishes a folder, and keeps the ledger in the file. Whether it was interrupted is the answer.
 fn go(
     rt: &impl Abort,
@@ -258,11 +235,6 @@ fn is_whole(rt: &impl Abort, town: &Town, ledger: &Ledger) {
 
 /// The site of the second folder.
 const SHOWN: &str = "put data a\n2; put route /b t a; put template t\nx; ";
-
-/// The file of an editor that has published nothing.
-fn new_file(rt: &impl Abort, alloc: Global) -> String {
-    spelled(rt, alloc, &Ledger::new(alloc, 7))
-}
 
 fn interrupt(rt: &impl Abort, alloc: Global, town: &mut Town) {
     let mut file = new_file(rt, alloc);

@@ -1,5 +1,6 @@
 //! A publication that is interrupted after each of its commands, and goes on from the file with another folder.
-use crate::samples::{kept, plan, plan_release, read, receive, spelled};
+use crate::ledgers::{kept, new_file, plan, plan_release, read, receive, spelled};
+use crate::tickets::{Texts, has, keep};
 use site_ledger::Ledger;
 use std::alloc::Global;
 use std::collections::BTreeMap;
@@ -8,35 +9,19 @@ use std::process::Abort;
 /// A group as an editor sees it: the text of each ticket that was given, and how many commands it takes before the editor is interrupted.
 #[derive(Drop)]
 struct Town {
-    given: BTreeMap<u64, String>,
+    given: Texts,
     left: usize,
 }
 
 impl Town {
-    /// Whether the ticket was given. No ticket has two texts.
-    fn has(&self, rt: &impl Abort, number: u64, text: &str) -> bool {
-        match self.given.get(&number) {
-            Some(known) => {
-                assert!(rt; known.as_str() == text, "ticket {number}");
-                true
-            }
-            None => false,
-        }
-    }
-
-    fn keep(&mut self, rt: &impl Abort, alloc: Global, number: u64, text: &str) {
-        let text = String::from_str(alloc, text).expect(rt, "memory");
-        assert!(rt; self.given.insert(number, text).is_ok());
-    }
-
     /// Takes a command, if nobody is interrupted before.
     fn post(&mut self, rt: &impl Abort, alloc: Global, number: u64, text: &str) -> bool {
         if self.left == 0 {
             return false;
         }
         self.left -= 1;
-        if !self.has(rt, number, text) {
-            self.keep(rt, alloc, number, text);
+        if !has(rt, &self.given, number, text) {
+            keep(rt, alloc, &mut self.given, number, text);
         }
         true
     }
@@ -129,11 +114,6 @@ fn is_published(rt: &impl Abort, alloc: Global, file: &str, next: u64) {
     assert!(rt; ledger.next() == next);
     let has = kept(alloc, &ledger).expect(rt, "memory");
     assert!(rt; has.as_str() == "TBr");
-}
-
-/// The file of an editor that has published nothing.
-fn new_file(rt: &impl Abort, alloc: Global) -> String {
-    spelled(rt, alloc, &Ledger::new(alloc, 7))
 }
 
 fn interrupt(rt: &impl Abort, alloc: Global, town: &mut Town, ends: bool, next: u64) {

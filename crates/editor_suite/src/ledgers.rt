@@ -74,6 +74,11 @@ pub fn read(rt: &impl Abort, alloc: Global, file: &str) -> Ledger {
     Ledger::read(alloc, file).expect(rt, "a ledger")
 }
 
+/// The file of an editor that has published nothing.
+pub fn new_file(rt: &impl Abort, alloc: Global) -> String {
+    spelled(rt, alloc, &Ledger::new(alloc, 7))
+}
+
 /// The letters of what the group has.
 pub fn kept(alloc: Global, ledger: &Ledger) -> Result<String, AllocError> {
     let mut letters = String::new(alloc);

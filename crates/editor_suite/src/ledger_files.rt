@@ -1,5 +1,5 @@
 //! Files of ledgers: what is written, what is read back, and the faults of others.
-use crate::samples::{is_spelled, plan, plan_release, read, receive};
+use crate::ledgers::{is_spelled, plan, plan_release, read, receive};
 use site_ledger::{Ledger, ReadFault, Released};
 use std::alloc::Global;
 use std::process::Abort;

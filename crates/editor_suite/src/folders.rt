@@ -24,7 +24,7 @@ fn line(alloc: Global, finding: &Finding) -> Result<String, AllocError> {
 }
 
 /// All that is wrong with a folder, a line each.
-pub(crate) fn told(alloc: Global, folder: &Folder) -> Result<String, AllocError> {
+pub(crate) fn lines_of(alloc: Global, folder: &Folder) -> Result<String, AllocError> {
     let mut lines = String::new(alloc);
     for finding in folder.findings.iter() {
         lines.push_str(line(alloc, finding)?.as_str())?;
@@ -44,7 +44,7 @@ pub(crate) fn folder(rt: &impl Abort, alloc: Global, rows: &[(&str, &[u8])]) -> 
 
 /// All that is wrong with a folder is told by these lines.
 pub(crate) fn is_told(rt: &impl Abort, alloc: Global, folder: &Folder, lines: &str) {
-    let found = told(alloc, folder).expect(rt, "memory");
+    let found = lines_of(alloc, folder).expect(rt, "memory");
     assert_eq!(rt; found.as_str(), lines);
 }
 

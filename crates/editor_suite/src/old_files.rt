@@ -1,5 +1,5 @@
 //! Files that the script `tools/publish` kept, read as ledgers.
-use crate::samples::is_spelled;
+use crate::ledgers::is_spelled;
 use site_ledger::{Ledger, ReadFault};
 use std::alloc::Global;
 use std::process::Abort;

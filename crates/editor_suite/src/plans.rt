@@ -1,5 +1,5 @@
 //! A history of a ledger, step by step.
-use crate::samples::{plan, plan_release, receive, told};
+use crate::ledgers::{plan, plan_release, receive, told};
 use site_ledger::Ledger;
 use std::alloc::Global;
 use std::process::Abort;

@@ -1,35 +1,10 @@
 //! Answers of a node, cut in every way.
-ghost use Rattle.std.specs.Prelude.{Some};
-
 use engine_parts::Feed;
+use failing_ends::Pieces;
 use http_read::Counted;
 use node_client::{Answer, AnswerFault, read_answer};
 use std::alloc::{AllocError, Global};
-use std::io::{self, ErrorKind, Read};
 use std::process::Abort;
-
-/// Gives pieces of one size, and fails once `good` calls were made.
-#[derive(Drop)]
-struct Pieces<'a> {
-    bytes: &'a [u8],
-    piece: usize,
-    good: usize,
-}
-
-impl Read for Pieces<'_> {
-    ghost remaining = { λ p. Some p.bytes.now };
-
-    fn read(&mut self, buf: &mut [u8]) -> io::Result<usize> {
-        if self.good == 0 {
-            return Err(io::Error::from(ErrorKind::TimedOut));
-        }
-        self.good -= 1;
-        let n = self.piece.max(1).min(buf.len()).min(self.bytes.len());
-        buf[..n].copy_from_slice(&self.bytes[..n]);
-        self.bytes = &self.bytes[n..];
-        Ok(n)
-    }
-}
 
 /// What a connection gives, and what its answers are told as, the last with the reason why none follows.
 const CONNECTIONS: &[(&str, &str)] = &[
@@ -146,7 +121,7 @@ fn is_told(rt: &impl Abort, alloc: Global, reader: &mut Counted<Pieces<'_>>, wan
 }
 
 fn in_pieces(bytes: &[u8], piece: usize, good: usize) -> Counted<Pieces<'_>> {
-    Counted::new(Pieces { bytes, piece, good })
+    Counted::new(failing_ends::in_pieces(bytes, piece, piece, good))
 }
 
 const SIZES: &[usize] = &[1, 2, 7, 8_192];
