@@ -1,23 +1,46 @@
-//! Requests and what comes of them, as tables; requests cut in every way, over readers that fail; where a reading stands; limits; several requests on a
-//! connection; and a request with one growth refused.
+//! Requests and what comes of them, as tables: their heads, targets and bodies, in pieces, cut, at the limits, several on a connection, and where a reading
+//! stands; then served from a service in memory (`desk`): each path with each method, submissions, refusals, over ends that fail, and in steps (`lines`);
+//! each growth refused.
 #![tactic(auto)]
 
+#[cfg(test)]
+mod asks;
 #[cfg(test)]
 mod bodies;
 #[cfg(test)]
 mod cuts;
 #[cfg(test)]
+mod desk;
+#[cfg(test)]
+mod ends;
+#[cfg(test)]
 mod heads;
 #[cfg(test)]
 mod limits;
+#[cfg(test)]
+mod lines;
+#[cfg(test)]
+mod paths;
 #[cfg(test)]
 mod pieces;
 #[cfg(test)]
 mod refusals;
 #[cfg(test)]
+mod responses;
+#[cfg(test)]
+mod served_cuts;
+#[cfg(test)]
+mod served_several;
+#[cfg(test)]
 mod several;
 #[cfg(test)]
+mod speed;
+#[cfg(test)]
 mod standing;
+#[cfg(test)]
+mod steps;
+#[cfg(test)]
+mod submissions;
 #[cfg(test)]
 mod targets;
 #[cfg(test)]

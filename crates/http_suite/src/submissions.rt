@@ -1,6 +1,7 @@
 //! Submissions: each outcome, and what is taken where the response is lost.
 use crate::desk::{Desk, Mood, open_desk};
 use crate::ends::{PLAIN, Row, reads, responds, response, writes};
+use crate::texts::{joined, times};
 use failing_ends::{in_pieces, whole};
 use http_serve::ServeFault;
 use std::alloc::{AllocError, Global};
@@ -68,18 +69,10 @@ fn check_faults(rt: &impl Abort, alloc: Global, desk: &mut Desk<'_>) {
     }
 }
 
-/// A template of so many letters.
-fn template(alloc: Global, letters: u32) -> Result<String, AllocError> {
-    let mut text = String::from_str(alloc, "put template t\n")?;
-    for _ in 0..letters {
-        text.push('x')?;
-    }
-    Ok(text)
-}
-
 /// A text of 32,757 bytes is too long with its ticket, and so is the longest body.
 fn check_too_long(rt: &impl Abort, alloc: Global, desk: &mut Desk<'_>, letters: u32) {
-    let text = template(alloc, letters).expect(rt, "memory");
+    let letters = times(rt, alloc, "x", letters);
+    let text = joined(rt, alloc, "put template t\n", letters.as_str(), "");
     let row = ("422 Unprocessable Content", PLAIN, "", "1 TooLong\n");
     check_text(rt, alloc, desk, text.as_str(), row);
 }

@@ -1,8 +1,10 @@
 //! Connections whose bytes come and go in many steps: cut in every way, over ends of which calls come too early, up to a fault, and up to the
 //! last response.
 use crate::desk::{Desk, open_desk};
-use crate::several::{BAD, BOTH, BOTH_PAGES, GET, LAST_PAGE, PAGE, pages, repeated};
+use crate::responses::{BAD, LAST_PAGE, PAGE};
+use crate::served_several::{BOTH, BOTH_PAGES, GET, pages};
 use crate::steps::{AMPLE, Room, Run, led};
+use crate::texts::times;
 use failing_ends::{Pieces, in_pieces, whole};
 use std::alloc::Global;
 use std::process::Abort;
@@ -179,8 +181,8 @@ fn a_last_response(rt: HostRuntime) {
 
 /// So many requests, of which a hundred are answered.
 fn check_many(rt: &impl Abort, alloc: Global, desk: &mut Desk<'_>, count: u32) {
-    let sent = repeated(alloc, GET, count as usize).expect(rt, "memory");
-    let written = pages(alloc, count as usize).expect(rt, "memory");
+    let sent = times(rt, alloc, GET, count);
+    let written = pages(rt, alloc, count);
     let reader = whole(sent.as_str().as_bytes());
     let end = (written.as_str().as_bytes(), count.min(100));
     check(

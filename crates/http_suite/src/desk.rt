@@ -3,7 +3,7 @@ ghost use Rattle.std.specs.Prelude.{◌≡◌, IfOk, OnErr, IfSome, ⊤};
 ghost use Rattle.release.specs.Standing.{answer_view};
 ghost use Rattle.http_serve.specs.Services.{IsTold};
 ghost use Rattle.release.specs.Page.{in_place, moved_to};
-ghost use Rattle.serve_suite.specs.Desks.{page_at, shown_at};
+ghost use Rattle.http_suite.specs.Desks.{page_at, shown_at};
 
 use command::{CommandFault, read, write};
 use http_serve::{Service, Submission, SubmitFault};

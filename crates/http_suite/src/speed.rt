@@ -1,12 +1,13 @@
 //! Many requests, as `bench/http` times them: the time of many less that of few.
 use crate::desk::{Desk, open_desk};
 use crate::ends::served;
+use crate::texts::times;
 use failing_ends::whole;
-use std::alloc::{AllocError, Global};
+use std::alloc::Global;
 use std::process::Abort;
 
-const REQUEST: &[u8] =
-    b"GET /h HTTP/1.1\r\nHost: localhost\r\nUser-Agent: bench\r\nAccept: */*\r\n\r\n";
+const REQUEST: &str =
+    "GET /h HTTP/1.1\r\nHost: localhost\r\nUser-Agent: bench\r\nAccept: */*\r\n\r\n";
 
 /// The requests are answered, by more than so many bytes.
 fn writes_more(rt: &impl Abort, alloc: Global, desk: &mut Desk<'_>, sent: &[u8], size: usize) {
@@ -15,47 +16,30 @@ fn writes_more(rt: &impl Abort, alloc: Global, desk: &mut Desk<'_>, sent: &[u8],
     assert!(rt; run.written.len() > size);
 }
 
-fn check_times(rt: &impl Abort, alloc: Global, desk: &mut Desk<'_>, times: u32) {
+fn check_single(rt: &impl Abort, alloc: Global, desk: &mut Desk<'_>, requests: u32) {
     let size = desk.page.len();
-    for _ in 0..times {
-        writes_more(rt, alloc, desk, REQUEST, size);
+    for _ in 0..requests {
+        writes_more(rt, alloc, desk, REQUEST.as_bytes(), size);
     }
-}
-
-fn hundred(alloc: Global) -> Result<Vec<u8>, AllocError> {
-    let mut requests = Vec::new(alloc);
-    for _ in 0..100 {
-        requests.extend_from_slice(REQUEST)?;
-    }
-    Ok(requests)
 }
 
 /// The same in connections of a hundred requests.
 fn check_kept(rt: &impl Abort, alloc: Global, desk: &mut Desk<'_>, connections: u32) {
-    let requests = hundred(alloc).expect(rt, "memory");
+    let requests = times(rt, alloc, REQUEST, 100);
     let size = desk.page.len().saturating_mul(100);
     for _ in 0..connections {
-        writes_more(rt, alloc, desk, requests.as_slice(), size);
+        writes_more(rt, alloc, desk, requests.as_str().as_bytes(), size);
     }
 }
 
-/// A page of so many bytes.
-fn page_of(alloc: Global, size: u32) -> Result<String, AllocError> {
-    let mut page = String::new(alloc);
-    for _ in 0..size {
-        page.push('a')?;
-    }
-    Ok(page)
-}
-
-fn check_page(rt: &impl Abort, alloc: Global, size: u32, times: u32) {
-    let page = page_of(alloc, size).expect(rt, "memory");
+fn check_page(rt: &impl Abort, alloc: Global, size: u32, requests: u32) {
+    let page = times(rt, alloc, "a", size);
     let mut desk = open_desk(alloc, page.as_str(), 1);
-    check_times(rt, alloc, &mut desk, times);
+    check_single(rt, alloc, &mut desk, requests);
 }
 
 fn check_connections(rt: &impl Abort, alloc: Global, connections: u32) {
-    let page = page_of(alloc, 100).expect(rt, "memory");
+    let page = times(rt, alloc, "a", 100);
     let mut desk = open_desk(alloc, page.as_str(), 1);
     check_kept(rt, alloc, &mut desk, connections);
 }

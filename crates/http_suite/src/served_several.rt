@@ -1,10 +1,12 @@
 //! Several requests on a connection: responses one behind another, when it is closed, and what stands after a fault.
 use crate::desk::{Desk, open_desk};
 use crate::ends::{End, reads, writes};
+use crate::responses::{BAD, LAST_PAGE, PAGE};
+use crate::texts::{joined, times};
 use failing_ends::{Sink, in_pieces, whole};
 use http_read::{Counted, Inbox};
 use http_serve::{Next, ServeFault, exchange};
-use std::alloc::{AllocError, Global};
+use std::alloc::Global;
 use std::process::Abort;
 
 pub(crate) const GET: &str = "GET /h HTTP/1.1\r\nHost: a\r\n\r\n";
@@ -13,18 +15,9 @@ pub(crate) const GET: &str = "GET /h HTTP/1.1\r\nHost: a\r\n\r\n";
 pub(crate) const BOTH: &[u8] =
     b"GET /h HTTP/1.1\r\nHost: a\r\n\r\nGET /old HTTP/1.1\r\nHost: a\r\nConnection: close\r\n\r\n";
 
-pub(crate) const PAGE: &str =
-    "HTTP/1.1 200 OK\r\nContent-Type: text/html; charset=utf-8\r\nContent-Length: 3\r\n\r\nHi\n";
-
-pub(crate) const LAST_PAGE: &str =
-    "HTTP/1.1 200 OK\r\nContent-Type: text/html; charset=utf-8\r\nContent-Length: 3\r\nConnection: close\r\n\r\nHi\n";
-
 /// The page, and one that moved.
 pub(crate) const BOTH_PAGES: &[u8] =
     b"HTTP/1.1 200 OK\r\nContent-Type: text/html; charset=utf-8\r\nContent-Length: 3\r\n\r\nHi\nHTTP/1.1 301 Moved Permanently\r\nContent-Type: text/plain; charset=utf-8\r\nLocation: /h\r\nContent-Length: 12\r\nConnection: close\r\n\r\nmoved to /h\n";
-
-pub(crate) const BAD: &str =
-    "HTTP/1.1 400 Bad Request\r\nContent-Type: text/plain; charset=utf-8\r\nContent-Length: 12\r\nConnection: close\r\n\r\nbad request\n";
 
 /// Two submissions, each with a ticket of its own.
 const TWO_SUBMISSIONS: &[u8] =
@@ -145,30 +138,21 @@ fn where_it_ends(rt: HostRuntime) {
     assert!(rt; desk.values.is_empty());
 }
 
-pub(crate) fn repeated(alloc: Global, text: &str, count: usize) -> Result<String, AllocError> {
-    let mut all = String::new(alloc);
-    for _ in 0..count {
-        all.push_str(text)?;
-    }
-    Ok(all)
-}
-
 /// What is written for so many requests: the hundredth response is the last.
-pub(crate) fn pages(alloc: Global, count: usize) -> Result<String, AllocError> {
-    let mut pages = repeated(alloc, PAGE, count.min(99))?;
-    if count >= 100 {
-        pages.push_str(LAST_PAGE)?;
-    }
-    Ok(pages)
+pub(crate) fn pages(rt: &impl Abort, alloc: Global, count: u32) -> String {
+    let pages = times(rt, alloc, PAGE, count.min(99));
+    let last = if count < 100 { "" } else { LAST_PAGE };
+    joined(rt, alloc, pages.as_str(), last, "")
 }
 
 /// So many requests, and what is written for the first hundred of them.
-fn check_many(rt: &impl Abort, alloc: Global, desk: &mut Desk<'_>, count: usize) {
-    let sent = repeated(alloc, GET, count).expect(rt, "memory");
-    let pages = pages(alloc, count).expect(rt, "memory");
+fn check_many(rt: &impl Abort, alloc: Global, desk: &mut Desk<'_>, count: u32) {
+    let sent = times(rt, alloc, GET, count);
+    let pages = pages(rt, alloc, count);
     let end = (Ok(()), pages.as_str().as_bytes());
     let reader = whole(sent.as_str().as_bytes());
-    reads(rt, alloc, desk, reader, end, ("requests", count));
+    let row = ("requests", count as usize);
+    reads(rt, alloc, desk, reader, end, row);
 }
 
 #[test]

@@ -1,19 +1,20 @@
 //! Single requests, with the whole bytes of their responses.
 use crate::desk::{Desk, open_desk};
 use crate::ends::{PLAIN, Row, check, responds};
-use std::alloc::{AllocError, Global};
+use crate::texts::{joined, times};
+use std::alloc::Global;
 use std::process::Abort;
 
-const PAGE: &str =
+pub(crate) const PAGE: &str =
     "HTTP/1.1 200 OK\r\nContent-Type: text/html; charset=utf-8\r\nContent-Length: 3\r\n\r\nHi\n";
 
-const LAST_PAGE: &str =
+pub(crate) const LAST_PAGE: &str =
     "HTTP/1.1 200 OK\r\nContent-Type: text/html; charset=utf-8\r\nContent-Length: 3\r\nConnection: close\r\n\r\nHi\n";
 
 const PAGE_HEAD: &str =
     "HTTP/1.1 200 OK\r\nContent-Type: text/html; charset=utf-8\r\nContent-Length: 3\r\n\r\n";
 
-const BAD: &str =
+pub(crate) const BAD: &str =
     "HTTP/1.1 400 Bad Request\r\nContent-Type: text/plain; charset=utf-8\r\nContent-Length: 12\r\nConnection: close\r\n\r\nbad request\n";
 
 const BAD_HEAD: &str =
@@ -85,15 +86,16 @@ const LONG: &[(&str, &str, Row)] = &[
     ),
 ];
 
+/// A request in three parts is refused so.
 fn check_refused(
     rt: &impl Abort,
     alloc: Global,
     desk: &mut Desk<'_>,
-    before: &str,
-    behind: &str,
+    parts: (&str, &str, &str),
     row: Row,
 ) {
-    let request = format!(in alloc; "{before}{behind}").expect(rt, "memory");
+    let (before, part, behind) = parts;
+    let request = joined(rt, alloc, before, part, behind);
     responds(rt, alloc, desk, request.as_str(), row, false);
 }
 
@@ -102,8 +104,8 @@ fn check_rows(rt: &impl Abort, alloc: Global, desk: &mut Desk<'_>) {
         check(rt, alloc, desk, request, expected);
     }
     for &(behind, row) in REFUSED {
-        let before = "GET /h HTTP/1.1\r\nHost: a\r\n";
-        check_refused(rt, alloc, desk, before, behind, row);
+        let parts = ("GET /h HTTP/1.1\r\n", "Host: a\r\n", behind);
+        check_refused(rt, alloc, desk, parts, row);
     }
 }
 
@@ -114,32 +116,12 @@ fn single_requests(rt: HostRuntime) {
     assert!(rt; desk.values.is_empty());
 }
 
-/// Letters, and a text behind them.
-fn letters(alloc: Global, count: u32, behind: &str) -> Result<String, AllocError> {
-    let mut text = String::new(alloc);
-    for _ in 0..count {
-        text.push('a')?;
-    }
-    text.push_str(behind)?;
-    Ok(text)
-}
-
-fn check_long(
-    rt: &impl Abort,
-    alloc: Global,
-    desk: &mut Desk<'_>,
-    before: &str,
-    behind: &str,
-    row: Row,
-) {
-    let letters = letters(alloc, 8_188, behind).expect(rt, "memory");
-    check_refused(rt, alloc, desk, before, letters.as_str(), row);
-}
-
 #[test]
 fn long_heads(rt: HostRuntime) {
     let mut desk = open_desk(rt.alloc(), "Hi\n", 1);
+    let letters = times(&rt, rt.alloc(), "a", 8_188);
     for &(before, behind, row) in LONG {
-        check_long(&rt, rt.alloc(), &mut desk, before, behind, row);
+        let parts = (before, letters.as_str(), behind);
+        check_refused(&rt, rt.alloc(), &mut desk, parts, row);
     }
 }
