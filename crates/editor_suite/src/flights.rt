@@ -178,13 +178,17 @@ fn publish(
 /// What the group shows: of each kind and name the last text.
 type Site = BTreeMap<String, String>;
 
+fn put(rt: &impl Abort, alloc: Global, site: &mut Site, key: String, text: &str) {
+    let text = String::from_str(alloc, text).expect(rt, "memory");
+    assert!(rt; site.insert(key, text).is_ok());
+}
+
 /// A command is shown that puts a name of a kind, or removes it.
 fn show(rt: &impl Abort, alloc: Global, site: &mut Site, words: (&str, &str, &str), text: &str) {
     let (verb, kind, name) = words;
     let key = format!(in alloc; "{kind} {name}").expect(rt, "memory");
     if verb == "put" {
-        let text = String::from_str(alloc, text).expect(rt, "memory");
-        assert!(rt; site.insert(key, text).is_ok());
+        put(rt, alloc, site, key, text);
     } else {
         let _ = site.remove(key.as_str());
     }

@@ -10,13 +10,23 @@ fn file(alloc: Global, path: &str, bytes: &[u8]) -> Result<SiteFile, AllocError>
     })
 }
 
+fn push_file(
+    alloc: Global,
+    files: &mut Vec<SiteFile>,
+    path: &str,
+    bytes: &[u8],
+) -> Result<(), AllocError> {
+    let file = file(alloc, path, bytes)?;
+    Ok(files.push(file)?)
+}
+
 /// A folder of these files, each a path and a text.
 pub(crate) fn files(alloc: Global, rows: &[(&str, &[u8])]) -> Result<Vec<SiteFile>, AllocError> {
-    let mut found = Vec::new(alloc);
+    let mut files = Vec::new(alloc);
     for (path, bytes) in rows {
-        found.push(file(alloc, path, bytes)?)?;
+        push_file(alloc, &mut files, path, bytes)?;
     }
-    Ok(found)
+    Ok(files)
 }
 
 fn line(alloc: Global, finding: &Finding) -> Result<String, AllocError> {
@@ -170,11 +180,11 @@ const BEGUN: &[(&str, &str)] = &[
 ];
 
 fn beginning(alloc: Global) -> Result<Vec<SiteFile>, AllocError> {
-    let mut found = Vec::new(alloc);
+    let mut files = Vec::new(alloc);
     for (path, text) in BEGINNING {
-        found.push(file(alloc, path, text.as_bytes())?)?;
+        push_file(alloc, &mut files, path, text.as_bytes())?;
     }
-    Ok(found)
+    Ok(files)
 }
 
 fn is_begun(rt: &impl Abort, page: &Page, path: &str, text: &str) {

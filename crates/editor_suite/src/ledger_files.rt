@@ -114,6 +114,6 @@ fn fault_of(alloc: Global, text: &str) -> Option<ReadFault> {
 #[test]
 fn faults(rt: HostRuntime) {
     for &(text, wanted) in FAULTS {
-        assert!(rt; fault_of(rt.alloc(), text) == Some(wanted), "in {text:?}");
+        assert_eq!(rt; (text, fault_of(rt.alloc(), text)), (text, Some(wanted)));
     }
 }

@@ -3,32 +3,28 @@ use site_ledger::{Ledger, Sent};
 use std::alloc::{AllocError, Global};
 use std::process::Abort;
 
-/// Commands, each with its letter: a capital puts, and the small one removes what it put.
-const COMMANDS: &[(char, &str)] = &[
-    ('T', "put template t\nx"),
-    ('A', "put data a\n1\n"),
-    ('B', "put data a\n2\n"),
-    ('R', "put route /a t a\n"),
-    ('t', "remove template t\n"),
-    ('a', "remove data a\n"),
-    ('r', "remove route /a\n"),
-    ('!', "release\n"),
-];
+/// The letters of commands: a capital puts, and the small one removes what it put.
+const LETTERS: &str = "TABRtar!";
 
 /// The command of a letter.
 fn command_of(letter: char) -> &'static str {
-    for &(known, text) in COMMANDS {
-        if known == letter {
-            return text;
-        }
+    match letter {
+        'T' => "put template t\nx",
+        'A' => "put data a\n1\n",
+        'B' => "put data a\n2\n",
+        'R' => "put route /a t a\n",
+        't' => "remove template t\n",
+        'a' => "remove data a\n",
+        'r' => "remove route /a\n",
+        '!' => "release\n",
+        _ => "",
     }
-    ""
 }
 
 /// The letter of a command.
 fn letter_of(text: &str) -> char {
-    for &(letter, known) in COMMANDS {
-        if known == text {
+    for letter in LETTERS.chars() {
+        if command_of(letter) == text {
             return letter;
         }
     }
@@ -46,11 +42,15 @@ pub fn commands(alloc: Global, letters: &str) -> Result<Vec<&'static str>, Alloc
 
 // Below, a ledger's steps, where memory is not refused.
 
+pub fn plan_texts(rt: &impl Abort, alloc: Global, ledger: &mut Ledger, wanted: &[&str]) {
+    assert!(rt; ledger.is_idle());
+    assert!(rt; ledger.plan(alloc, wanted).is_ok());
+}
+
 /// Plans the commands of a word's letters.
 pub fn plan(rt: &impl Abort, alloc: Global, ledger: &mut Ledger, letters: &str) {
     let wanted = commands(alloc, letters).expect(rt, "memory");
-    assert!(rt; ledger.is_idle());
-    assert!(rt; ledger.plan(alloc, wanted.as_slice()).is_ok());
+    plan_texts(rt, alloc, ledger, wanted.as_slice());
 }
 
 pub fn plan_release(rt: &impl Abort, alloc: Global, ledger: &mut Ledger) {
@@ -88,22 +88,25 @@ pub fn kept(alloc: Global, ledger: &Ledger) -> Result<String, AllocError> {
     Ok(letters)
 }
 
-/// What is on its way: a number and a letter each.
-fn sent(alloc: Global, sent: &[Sent]) -> Result<String, AllocError> {
-    let mut letters = String::new(alloc);
-    for given in sent {
-        let number = given.number;
-        let letter = letter_of(given.text.as_str());
-        letters.push_str(format!(in alloc; " {number}{letter}")?.as_str())?;
-    }
-    Ok(letters)
+/// What is on its way: its number and its letter.
+fn push_sent(alloc: Global, line: &mut String, sent: &Sent) -> Result<(), AllocError> {
+    let number = sent.number;
+    let letter = letter_of(sent.text.as_str());
+    line.push_str(format!(in alloc; " {number}{letter}")?.as_str())
+}
+
+fn begun(alloc: Global, ledger: &Ledger) -> Result<String, AllocError> {
+    let next = ledger.next();
+    let last = ledger.last_release();
+    let has = kept(alloc, ledger)?;
+    format!(in alloc; "{next} {last} {has}")
 }
 
 /// A ledger in a line: the next ticket's number, that of the last release, what the group has, what is on its way.
 pub fn told(alloc: Global, ledger: &Ledger) -> Result<String, AllocError> {
-    let next = ledger.next();
-    let last = ledger.last_release();
-    let has = kept(alloc, ledger)?;
-    let way = sent(alloc, ledger.sent())?;
-    format!(in alloc; "{next} {last} {has}{way}")
+    let mut line = begun(alloc, ledger)?;
+    for sent in ledger.sent() {
+        push_sent(alloc, &mut line, sent)?;
+    }
+    Ok(line)
 }

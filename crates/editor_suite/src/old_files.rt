@@ -1,5 +1,5 @@
 //! Files that the script `tools/publish` kept, read as ledgers.
-use crate::ledgers::is_spelled;
+use crate::ledgers::{is_spelled, plan_texts};
 use site_ledger::{Ledger, ReadFault};
 use std::alloc::Global;
 use std::process::Abort;
@@ -51,7 +51,7 @@ fn olds(rt: HostRuntime) {
         is_spelled(&rt, rt.alloc(), &read(&rt, rt.alloc(), file), wanted);
     }
     for &(file, wanted) in FAULTS {
-        assert!(rt; fault_of(rt.alloc(), file) == Some(wanted), "in {file:?}");
+        assert_eq!(rt; (file, fault_of(rt.alloc(), file)), (file, Some(wanted)));
     }
 }
 
@@ -63,17 +63,17 @@ const WANTED: &[&str] = &["put data a\n1\n", "put route /a t a\n"];
 /// The text of each that is on its way.
 const PLANNED: &[&str] = &["put data a\n1\n", "remove data b\n"];
 
-fn plans(rt: &impl Abort, alloc: Global, ledger: &mut Ledger) {
-    assert!(rt; ledger.is_idle());
-    assert!(rt; ledger.plan(alloc, WANTED).is_ok());
+fn has_planned(rt: &impl Abort, ledger: &Ledger) {
     assert!(rt; ledger.sent().len() == PLANNED.len());
     for (sent, text) in ledger.sent().iter().zip(PLANNED) {
-        assert!(rt; sent.text.as_str() == *text, "{text}");
+        assert_eq!(rt; sent.text.as_str(), *text);
     }
 }
 
 /// What is published next from such a ledger: a file's text is put once more, what is gone is removed, and a route stays.
 #[test]
 fn goes_on(rt: HostRuntime) {
-    plans(&rt, rt.alloc(), &mut read(&rt, rt.alloc(), KEPT));
+    let mut ledger = read(&rt, rt.alloc(), KEPT);
+    plan_texts(&rt, rt.alloc(), &mut ledger, WANTED);
+    has_planned(&rt, &ledger);
 }
