@@ -28,12 +28,16 @@ const ROWS: &[(&[u8], Option<(u32, u64)>)] = &[
     (b"G", None),
 ];
 
-fn check(rt: &impl Abort, alloc: Global, came: &[u8], wanted: Option<(u32, u64)>) {
-    let mut line = Line::new(alloc);
-    assert!(rt; line.asks_receipt().is_none());
+fn hear(rt: &impl Abort, line: &mut Line, came: &[u8]) {
     let mut reader = Counted::new(whole(came));
     assert!(rt; line.may_hear());
     assert!(rt; line.hear(&mut reader).is_ok());
+}
+
+fn check(rt: &impl Abort, alloc: Global, came: &[u8], wanted: Option<(u32, u64)>) {
+    let mut line = Line::new(alloc);
+    assert!(rt; line.asks_receipt().is_none());
+    hear(rt, &mut line, came);
     let ticket = wanted.map(|(editor, number)| Ticket { editor, number });
     assert_eq!(rt; line.asks_receipt(), ticket);
 }

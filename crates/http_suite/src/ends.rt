@@ -61,13 +61,11 @@ pub(crate) type End<'a> = (Result<(), ServeFault>, &'a [u8]);
 /// A connection came to that end: a fault of its reader or its writer is one call that failed.
 fn ends(rt: &impl Abort, run: &Connection, end: End<'_>, row: (&str, usize)) {
     let (result, written) = end;
-    let (what, number) = row;
-    assert_eq!(rt; run.result, result, "{what} {number}");
-    assert_eq!(rt; run.written.as_slice(), written, "{what} {number}");
     let reads = u64::from(result == Err(ServeFault::Read));
     let writes = u64::from(result == Err(ServeFault::Write));
-    assert_eq!(rt; run.failed_reads, reads, "{what} {number}");
-    assert_eq!(rt; run.failed_writes, writes, "{what} {number}");
+    let failed = (run.failed_reads, run.failed_writes);
+    assert_eq!(rt; (row, run.result, failed), (row, result, (reads, writes)));
+    assert_eq!(rt; (row, run.written.as_slice()), (row, written));
 }
 
 /// What is read so comes to that end.

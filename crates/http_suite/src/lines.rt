@@ -15,10 +15,9 @@ type End<'a> = (&'a [u8], u32);
 /// The connection is over, and came to that end.
 fn ends(rt: &impl Abort, run: &Run, end: End<'_>, row: (&str, usize)) {
     let (written, answered) = end;
-    let (what, number) = row;
-    assert_eq!(rt; run.written.as_slice(), written, "{what} {number}");
-    assert_eq!(rt; run.answered, answered, "{what} {number}");
-    assert!(rt; run.result.is_ok() && run.is_over, "{what} {number}");
+    assert_eq!(rt; (row, run.written.as_slice()), (row, written));
+    assert_eq!(rt; (row, run.answered, run.is_over), (row, answered, true));
+    assert!(rt; run.result.is_ok());
 }
 
 fn check(

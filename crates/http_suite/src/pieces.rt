@@ -3,6 +3,7 @@
 use crate::texts::joined;
 use failing_ends::Pieces;
 use http_read::{Counted, Inbox, Incoming, Method, Progress, ReadFault, Request, advance, request};
+use httparse::spans::HeaderSpan;
 use std::alloc::{AllocError, Global};
 use std::process::Abort;
 
@@ -70,9 +71,8 @@ fn is_so(
     expected: &str,
     row: (&str, usize),
 ) {
-    let (what, number) = row;
     let text = text_of(alloc, came).expect(rt, "memory");
-    assert_eq!(rt; text.as_str(), expected, "{what} {number}");
+    assert_eq!(rt; (row, text.as_str()), (row, expected));
 }
 
 fn next(
@@ -110,6 +110,16 @@ fn read_more(
     }
 }
 
+/// Reads on in what an inbox holds. The call's contract is long: here it stands alone, and nothing is promised of it.
+pub(crate) fn read_held(
+    alloc: Global,
+    progress: &mut Progress,
+    inbox: &mut Inbox,
+    spans: &mut Vec<HeaderSpan>,
+) -> Result<Option<Incoming>, AllocError> {
+    advance(alloc, progress, inbox, spans)
+}
+
 /// The next request, read on after each reading; where the input ends before it is whole, that it ended early.
 fn read_on(
     rt: &impl Abort,
@@ -120,7 +130,7 @@ fn read_on(
     let mut progress = Progress::Head;
     let mut spans = Vec::new(alloc);
     for _ in 0..1_000_000 {
-        let came = advance(alloc, &mut progress, inbox, &mut spans).expect(rt, "memory");
+        let came = read_held(alloc, &mut progress, inbox, &mut spans).expect(rt, "memory");
         if let Some(incoming) = came {
             return Some(Ok(incoming));
         }

@@ -2,10 +2,12 @@
 //! was written and nothing taken, and then another connection with the same bytes is answered as ever.
 use crate::desk::{Desk, open_desk};
 use crate::ends::{Connection, served};
+use crate::pieces::read_held;
 use crate::steps::{AMPLE, Run, led};
 use failing_ends::whole;
-use http_read::{Counted, Inbox, Incoming, Progress, ReadFault, advance, request};
+use http_read::{Counted, Inbox, Incoming, Progress, ReadFault, request};
 use http_serve::ServeFault;
+use httparse::spans::HeaderSpan;
 use std::alloc::Global;
 use std::process::Abort;
 
@@ -83,17 +85,28 @@ fn is_taken(inbox: &mut Inbox, piece: &[u8]) -> bool {
     !inbox.is_full() && matches!(inbox.read_from(&mut Counted::new(piece)), Ok(Ok(_)))
 }
 
-/// Reads on in pieces of two bytes. Where memory is refused the same call is made once more, and goes on where the first one stood.
+/// Where memory is refused the same call is made once more, and goes on where the first one stood.
+fn read_held_again(
+    rt: &impl Abort,
+    alloc: Global,
+    progress: &mut Progress,
+    inbox: &mut Inbox,
+    spans: &mut Vec<HeaderSpan>,
+) -> Option<Incoming> {
+    match read_held(alloc, progress, inbox, spans) {
+        Ok(came) => came,
+        Err(_) => read_held(alloc, progress, inbox, spans).expect(rt, "memory"),
+    }
+}
+
+/// Reads on in pieces of two bytes.
 fn read_on(rt: &impl Abort, alloc: Global, bytes: &[u8]) -> Option<Incoming> {
     let mut progress = Progress::Head;
     let mut inbox = Inbox::new(alloc);
     let mut spans = Vec::new(alloc);
     for piece in bytes.chunks(2) {
         assert!(rt; is_taken(&mut inbox, piece) || is_taken(&mut inbox, piece));
-        let came = match advance(alloc, &mut progress, &mut inbox, &mut spans) {
-            Ok(came) => came,
-            Err(_) => advance(alloc, &mut progress, &mut inbox, &mut spans).expect(rt, "memory"),
-        };
+        let came = read_held_again(rt, alloc, &mut progress, &mut inbox, &mut spans);
         if let Some(incoming) = came {
             return Some(incoming);
         }

@@ -1,5 +1,7 @@
 //! Where the reading of a request stands after each of its pieces.
-use http_read::{Awaited, Counted, Inbox, Incoming, Progress, advance};
+use crate::pieces::read_held;
+use http_read::{Awaited, Counted, Inbox, Incoming, Progress};
+use httparse::spans::HeaderSpan;
 use std::alloc::Global;
 use std::process::Abort;
 
@@ -24,17 +26,29 @@ fn is_due(came: &Option<Incoming>, is_last: bool, body: &[u8]) -> bool {
     }
 }
 
+/// What a piece makes whole, if it does.
+fn behind(
+    rt: &impl Abort,
+    alloc: Global,
+    progress: &mut Progress,
+    inbox: &mut Inbox,
+    spans: &mut Vec<HeaderSpan>,
+    piece: &str,
+) -> Option<Incoming> {
+    take(rt, inbox, piece.as_bytes());
+    read_held(alloc, progress, inbox, spans).expect(rt, "memory")
+}
+
 /// Gives the pieces one after another. The last one makes the request whole.
 fn check_awaited(rt: &impl Abort, alloc: Global, rows: &[Row], body: &[u8], left: &[u8]) {
     let mut progress = Progress::Head;
     let mut inbox = Inbox::new(alloc);
     let mut spans = Vec::new(alloc);
     for (i, (piece, awaited)) in rows.iter().enumerate() {
-        take(rt, &mut inbox, piece.as_bytes());
-        let came = advance(alloc, &mut progress, &mut inbox, &mut spans).expect(rt, "memory");
-        assert_eq!(rt; progress.awaits(), *awaited, "behind piece {i}");
+        let came = behind(rt, alloc, &mut progress, &mut inbox, &mut spans, piece);
+        assert_eq!(rt; (i, progress.awaits()), (i, *awaited));
         let is_last = i + 1 == rows.len();
-        assert!(rt; is_due(&came, is_last, body), "behind piece {i}");
+        assert_eq!(rt; (i, is_due(&came, is_last, body)), (i, true));
     }
     assert_eq!(rt; inbox.held(), left);
 }
