@@ -8,49 +8,76 @@ use std::process::Abort;
 /// A piece, and where the reading stands behind it: `None` within a head, and behind a whole request.
 type Row = (&'static str, Option<Awaited>);
 
-/// Takes a piece whole.
-fn take(rt: &impl Abort, inbox: &mut Inbox, piece: &[u8]) {
-    assert!(rt; !inbox.is_full());
-    let read = inbox
-        .read_from(&mut Counted::new(piece))
-        .expect(rt, "memory");
-    assert_eq!(rt; read.ok(), Some(piece.len()));
+/// A reading, lent to the rows.
+#[derive(Drop)]
+struct Reading {
+    progress: Progress,
+    inbox: Inbox,
+    spans: Vec<HeaderSpan>,
 }
 
-/// The last piece, and no other, makes the request whole, which has this body.
-fn is_due(came: &Option<Incoming>, is_last: bool, body: &[u8]) -> bool {
-    match came {
-        None => !is_last,
-        Some(Incoming::Request(asked)) => is_last && asked.body.as_slice() == body,
-        Some(_) => false,
+impl Reading {
+    fn new(alloc: Global) -> Reading {
+        Reading {
+            progress: Progress::Head,
+            inbox: Inbox::new(alloc),
+            spans: Vec::new(alloc),
+        }
+    }
+
+    /// Takes a piece whole.
+    fn take(&mut self, rt: &impl Abort, piece: &[u8]) {
+        assert!(rt; !self.inbox.is_full());
+        let read = self
+            .inbox
+            .read_from(&mut Counted::new(piece))
+            .expect(rt, "memory");
+        assert_eq!(rt; read.ok(), Some(piece.len()));
+    }
+
+    fn go_on(&mut self, rt: &impl Abort, alloc: Global) -> Option<Incoming> {
+        let came = read_held(alloc, &mut self.progress, &mut self.inbox, &mut self.spans);
+        came.expect(rt, "memory")
     }
 }
 
-/// What a piece makes whole, if it does.
-fn behind(
+/// What came is the request of that body, or nothing.
+fn is_due(came: &Option<Incoming>, body: Option<&[u8]>) -> bool {
+    match (came, body) {
+        (Some(Incoming::Request(asked)), Some(body)) => asked.body.as_slice() == body,
+        (None, None) => true,
+        _ => false,
+    }
+}
+
+/// Gives a piece. It makes the request of that body whole, or none.
+fn check_piece(
     rt: &impl Abort,
     alloc: Global,
-    progress: &mut Progress,
-    inbox: &mut Inbox,
-    spans: &mut Vec<HeaderSpan>,
-    piece: &str,
-) -> Option<Incoming> {
-    take(rt, inbox, piece.as_bytes());
-    read_held(alloc, progress, inbox, spans).expect(rt, "memory")
+    reading: &mut Reading,
+    row: Row,
+    body: Option<&[u8]>,
+) {
+    let (piece, awaited) = row;
+    reading.take(rt, piece.as_bytes());
+    let came = reading.go_on(rt, alloc);
+    assert_eq!(rt; (piece, reading.progress.awaits()), (piece, awaited));
+    assert_eq!(rt; (piece, is_due(&came, body)), (piece, true));
 }
 
-/// Gives the pieces one after another. The last one makes the request whole.
-fn check_awaited(rt: &impl Abort, alloc: Global, rows: &[Row], body: &[u8], left: &[u8]) {
-    let mut progress = Progress::Head;
-    let mut inbox = Inbox::new(alloc);
-    let mut spans = Vec::new(alloc);
-    for (i, (piece, awaited)) in rows.iter().enumerate() {
-        let came = behind(rt, alloc, &mut progress, &mut inbox, &mut spans, piece);
-        assert_eq!(rt; (i, progress.awaits()), (i, *awaited));
+/// Gives the pieces one after another. The last one, and no other, makes the request whole.
+fn check_pieces(rt: &impl Abort, alloc: Global, reading: &mut Reading, rows: &[Row], body: &[u8]) {
+    for (i, &row) in rows.iter().enumerate() {
         let is_last = i + 1 == rows.len();
-        assert_eq!(rt; (i, is_due(&came, is_last, body)), (i, true));
+        let whole = if is_last { Some(body) } else { None };
+        check_piece(rt, alloc, reading, row, whole);
     }
-    assert_eq!(rt; inbox.held(), left);
+}
+
+fn check_awaited(rt: &impl Abort, alloc: Global, rows: &[Row], body: &[u8], left: &[u8]) {
+    let mut reading = Reading::new(alloc);
+    check_pieces(rt, alloc, &mut reading, rows, body);
+    assert_eq!(rt; reading.inbox.held(), left);
 }
 
 const STATED: &[Row] = &[
