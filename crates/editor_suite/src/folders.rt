@@ -112,26 +112,20 @@ fn the_commands_of_a_folder(rt: HostRuntime) {
     has_routes(&rt, &folder);
 }
 
-/// A path, the line that it stands in, its status and its text.
-type PageRow = (&'static str, &'static str, u16, &'static str);
+/// A path, the file and the line that it stands in, its status and its text.
+type PageRow = (&'static str, (&'static str, usize), u16, &'static str);
 
 /// The pages of that site: each path, its line, its status and its text.
 const PAGES: &[PageRow] = &[
-    ("/", "routes:3", 200, "<1>\n"),
-    ("/b", "routes:4", 200, "<1>\n"),
+    ("/", ("routes", 3), 200, "<1>\n"),
+    ("/b", ("routes", 4), 200, "<1>\n"),
     (
         "/c",
-        "redirects:2",
+        ("redirects", 2),
         301,
         "<!DOCTYPE html>\n<meta charset=\"utf-8\">\n<meta http-equiv=\"refresh\" content=\"0; url=/b\">\n<title>Moved</title>\n<p>Moved to <a href=\"/b\">/b</a></p>\n",
     ),
 ];
-
-fn stands_in(rt: &impl Abort, alloc: Global, page: &Page, at: &str) {
-    let (file, line) = (page.file, page.line);
-    let place = format!(in alloc; "{file}:{line}").expect(rt, "memory");
-    assert!(rt; place.as_str() == at);
-}
 
 fn is_fault(rt: &impl Abort, alloc: Global, page: &Page) -> bool {
     page.fault(alloc).expect(rt, "memory").is_some()
@@ -140,7 +134,7 @@ fn is_fault(rt: &impl Abort, alloc: Global, page: &Page) -> bool {
 fn is_page(rt: &impl Abort, alloc: Global, page: &Page, wanted: PageRow) {
     let (path, at, status, body) = wanted;
     assert!(rt; page.path.as_str() == path && page.status == status);
-    stands_in(rt, alloc, page, at);
+    assert!(rt; (page.file, page.line) == at);
     assert!(rt; page.body.as_str() == body);
     assert!(rt; !is_fault(rt, alloc, page));
 }

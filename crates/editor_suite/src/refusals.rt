@@ -166,10 +166,6 @@ fn asks(rt: &impl Abort, alloc: Global, flight: &Flight, ledger: &Ledger) -> Vec
     }
 }
 
-fn hears(flight: &mut Flight, ledger: &mut Ledger, ask: Ask, status: u16) -> Option<Heard> {
-    flight.hear(ledger, ask, status).ok()
-}
-
 /// What the answer means, where it is heard once more if memory was refused: nothing has changed then.
 fn means(
     rt: &impl Abort,
@@ -179,10 +175,14 @@ fn means(
     wanted: Heard,
 ) {
     let (ask, status) = row;
-    if hears(flight, ledger, ask, status).is_none() {
-        assert!(rt; !ledger.is_idle());
-        assert!(rt; hears(flight, ledger, ask, status) == Some(wanted));
-    }
+    let heard = match flight.hear(ledger, ask, status) {
+        Ok(heard) => heard,
+        Err(_) => {
+            assert!(rt; !ledger.is_idle());
+            flight.hear(ledger, ask, status).expect(rt, "memory")
+        }
+    };
+    assert!(rt; heard == wanted);
 }
 
 fn fly(rt: &impl Abort, alloc: Global, flight: &mut Flight, ledger: &mut Ledger) {
