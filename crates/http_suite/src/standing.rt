@@ -43,10 +43,10 @@ impl Reading {
 
 /// What came is the request of that body, or nothing.
 fn is_due(came: &Option<Incoming>, body: Option<&[u8]>) -> bool {
-    match (came, body) {
-        (Some(Incoming::Request(asked)), Some(body)) => asked.body.as_slice() == body,
-        (None, None) => true,
-        _ => false,
+    match came {
+        Some(Incoming::Request(asked)) => body == Some(asked.body.as_slice()),
+        Some(_) => false,
+        None => body.is_none(),
     }
 }
 
