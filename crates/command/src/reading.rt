@@ -7,7 +7,7 @@ ghost use Rattle.command.specs.Action.{Order};
 ghost use Rattle.command.specs.Reading.{is_name, is_path, is_removable, wrong_remove, row_reading, text_reading, ticket_of, value_reading, TakesMemory};
 ghost use Rattle.command.specs.Rows.{Row as TextRow, release_row, template_row, partial_row, data_row, route_row, redirect_row, remove_row, row_of};
 ghost use Rattle.command.specs.Standing.{StandsFor, IsActionOf};
-ghost use Rattle.command.specs.View.{kind_view};
+ghost use Rattle.command.specs.View.{kind_view, row_view};
 ghost use Rattle.command.specs.Written.{HasLine};
 
 use crate::commands::{Action, Command, Kind};
@@ -60,26 +60,36 @@ fn action_of(alloc: Global, text: &str) -> Result<Action, CommandFault>
     ensures memory { IfErr result (λ e. e ≡ CommandFault.OutOfMemory → (row : TextRow) × (row_of text.now ≡ Some row) × (row ≢ release_row)) }
 {
     match row_in(text) {
+        Some(row) => row_action(alloc, row),
         None => Err(CommandFault::Form),
-        Some(Row::Template { name, body }) => match named_text(alloc, name, body) {
-            Ok((name, template)) => Ok(Action::PutTemplate { name, template }),
-            Err(fault) => Err(fault),
-        },
-        Some(Row::Partial { name, body }) => match named_text(alloc, name, body) {
-            Ok((name, template)) => Ok(Action::PutPartial { name, template }),
-            Err(fault) => Err(fault),
-        },
-        Some(Row::Data { name, body }) => data_put(alloc, name, body),
-        Some(
-            Row::Route {
-                path,
-                template,
-                page_data,
-            },
-        ) => route_put(alloc, path, template, page_data),
-        Some(Row::Redirect { path, target }) => redirect_put(alloc, path, target),
-        Some(Row::Remove { kind, name }) => removal(alloc, kind, name),
-        Some(Row::Release) => Ok(Action::Release),
+    }
+}
+
+/// The action of a row of the table.
+fn row_action(alloc: Global, row: Row<'_>) -> Result<Action, CommandFault>
+    ensures ok { IfOk result (λ a. IsActionOf a (row_reading (row_view row.entry))) }
+    ensures err { IfErr result (λ e. e ≢ CommandFault.OutOfMemory → row_reading (row_view row.entry) ≡ Err e) }
+    ensures line { IfErr result (λ e. e ≢ CommandFault.OutOfMemory → HasLine e) }
+    ensures memory { IfErr result (λ e. e ≡ CommandFault.OutOfMemory → row_view row.entry ≢ release_row) }
+{
+    match row {
+        Row::Template { name, body } => {
+            let (name, template) = named_text(alloc, name, body)?;
+            Ok(Action::PutTemplate { name, template })
+        }
+        Row::Partial { name, body } => {
+            let (name, template) = named_text(alloc, name, body)?;
+            Ok(Action::PutPartial { name, template })
+        }
+        Row::Data { name, body } => data_put(alloc, name, body),
+        Row::Route {
+            path,
+            template,
+            page_data,
+        } => route_put(alloc, path, template, page_data),
+        Row::Redirect { path, target } => redirect_put(alloc, path, target),
+        Row::Remove { kind, name } => removal(alloc, kind, name),
+        Row::Release => Ok(Action::Release),
     }
 }
 
