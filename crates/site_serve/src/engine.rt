@@ -2,6 +2,8 @@
 
 ghost use Rattle.std.specs.Prelude.{◌≡◌, ◌⊎◌, IfOk, OnOk, IfErr, length};
 ghost use Rattle.http_read.specs.Bytes.{end_of};
+ghost use Rattle.site_halts.specs.Halts.{EndsOpening};
+ghost use Rattle.site_ids.specs.Ids.{IsNode};
 ghost use Rattle.site_serve.specs.Placing.{IsPlaced};
 ghost use Rattle.site_serve.specs.Passes.{Led, TakesPasses, BreaksWork, LosesPasses, passes_of};
 ghost use Rattle.site_serve.specs.Runs.{IsOpened, IsRun};
@@ -17,6 +19,7 @@ use crate::sockets::open_sockets;
 use http_read::Counted;
 use site_disk::{Disk, FileDisk};
 use site_halts::{Cause, Halt, ServeOptions, say, say_why};
+use site_ids::{Cluster, NodeId};
 use site_notes::Notes;
 use site_pace::Times;
 use std::alloc::Global;
@@ -24,6 +27,32 @@ use std::fs::File;
 use std::io::Write;
 use std::net::{Net, TcpListener, TcpStream};
 use std::rt::{Clock, Files};
+
+/// A server of the node over the record.
+fn open_server<R: Files<File = File>>(
+    rt: &R,
+    alloc: Global,
+    cluster: Cluster,
+    me: NodeId,
+    options: &ServeOptions<'_>,
+    cause: &mut Cause,
+) -> Result<Server<FileDisk, TcpStream>, Halt>
+    requires { IsNode cluster me }
+    ensures opened { IfOk result (λ server. IsOpened ⟦<FileDisk as Disk>⟧.stands_for cluster me server.served.node) }
+    ensures fault { IfErr result EndsOpening }
+{
+    let served = open_node(
+        rt,
+        alloc,
+        cluster,
+        me,
+        options.record,
+        options.format,
+        cause,
+    )?;
+    let times = Times::new(options.patience, options.serve_ms);
+    Ok(Server::new(alloc, me, served, times)?)
+}
 
 /// Opens the record and then the sockets.
 fn open<R: Net<Listener = TcpListener, Stream = TcpStream> + Files<File = File> + Clock>(
@@ -38,17 +67,7 @@ fn open<R: Net<Listener = TcpListener, Stream = TcpStream> + Files<File = File> 
 {
     let addresses = read_addresses(alloc, options)?;
     let (cluster, me) = (addresses.cluster, addresses.me);
-    let served = open_node(
-        rt,
-        alloc,
-        cluster,
-        me,
-        options.record,
-        options.format,
-        cause,
-    )?;
-    let times = Times::new(options.patience, options.serve_ms);
-    let server = Server::new(alloc, me, served, times)?;
+    let server = open_server(rt, alloc, cluster, me, options, cause)?;
     let notes = Notes::new(cluster, me, count_votes(&server.served.node));
     let shell = open_sockets(rt, alloc, addresses, notes, cause)?;
     Ok((server, shell))
