@@ -5,6 +5,7 @@ ghost use Rattle.acceptor.specs.Judging.{IsFreeBelow};
 ghost use Rattle.durable.specs.Slots.{slot_at};
 
 use crate::disks::{syncs, writes};
+use crate::samples::{cluster, instance};
 use acceptor::{PrepareVerdict, ProposeVerdict, judge_prepare, judge_propose};
 use durable::{Record, RecordFault};
 use record_meaning::history::is_free_below;
@@ -22,18 +23,8 @@ pub const ONE_ROUND: [u8; 21] = *b"SITEREC1\x02\x03\x01\x00\x00\x00\x05\x01\x00\
 
 /// A cluster of three, and a node of it.
 pub fn one_of_three(rt: &impl Abort, number: u8) -> (Cluster, NodeId) {
-    let cluster = Cluster::new(3).expect(rt, "a cluster");
+    let cluster = cluster(rt, 3);
     (cluster, cluster.node(number).expect(rt, "a node"))
-}
-
-pub fn instance(rt: &impl Abort, number: u32) -> Instance {
-    Instance::new(number).expect(rt, "an instance")
-}
-
-/// A ballot of node 1.
-pub fn ballot(rt: &impl Abort, round: u32) -> Ballot {
-    let (_, node) = one_of_three(rt, 1);
-    Ballot::new(round, node).expect(rt, "a ballot")
 }
 
 /// A disk that holds these bytes, all of them synced.

@@ -1,8 +1,7 @@
 //! A record on a real file. `tools/audit/trace-put` shows the system's calls of these tests.
 use crate::disks::{reads, syncs, writes};
-use crate::samples::{
-    ONE_ROUND, ballot, ends, instance, one_of_three, opened, put_round, put_vote_for,
-};
+use crate::samples::{ballot, instance};
+use crate::stored::{ONE_ROUND, ends, one_of_three, opened, put_round, put_vote_for};
 use durable::Record;
 use site_disk::{Disk, FileDisk};
 use std::alloc::Global;
@@ -11,11 +10,11 @@ use std::io::ErrorKind;
 use std::os::unix::fs::FileExt;
 use std::process::Abort;
 
-const FOLDER: &str = "record_suite_files";
+const FOLDER: &str = "paxos_suite_files";
 
-const FILE: &str = "record_suite_files/record";
+const FILE: &str = "paxos_suite_files/record";
 
-const BATCH_FILE: &str = "record_suite_batch";
+const BATCH_FILE: &str = "paxos_suite_batch";
 
 /// What the system says of a write to a file that is open for reading.
 const EBADF: i32 = 9;
@@ -116,7 +115,7 @@ fn a_real_file_keeps_the_record(rt: HostRuntime) {
 fn put_votes(rt: &impl Abort, alloc: Global, record: &mut Record<FileDisk>) {
     ends(rt, record.begin(), Ok(()));
     for at in 1..=VOTES {
-        let vote = (instance(rt, at), ballot(rt, 1));
+        let vote = (instance(rt, at), ballot(rt, 1, 1));
         let put = put_vote_for(rt, alloc, record, vote, b"value");
         ends(rt, put, Ok(()));
     }

@@ -1,9 +1,8 @@
 //! The promise of a span on record.
 use crate::disks::{holds, is_long_behind};
 use crate::listed::SPANNED;
-use crate::samples::{
-    arm, ballot, empty, ends, instance, is_refused, opened, put_promise, put_span, put_vote_for,
-};
+use crate::samples::{ballot, instance};
+use crate::stored::{arm, empty, ends, is_refused, opened, put_promise, put_span, put_vote_for};
 use acceptor::Slot;
 use durable::{Record, RecordFault};
 use site_disk::MemDisk;
@@ -82,13 +81,13 @@ fn put(
     step: Step,
 ) -> Result<(), RecordFault> {
     match step {
-        Step::Promise(at, round) => put_promise(record, instance(rt, at), ballot(rt, round)),
+        Step::Promise(at, round) => put_promise(record, instance(rt, at), ballot(rt, round, 1)),
         Step::Vote(at, round, text) => {
-            let vote = (instance(rt, at), ballot(rt, round));
+            let vote = (instance(rt, at), ballot(rt, round, 1));
             put_vote_for(rt, alloc, record, vote, text.as_bytes())
         }
         Step::Span(first, count, round) | Step::NoSpan(first, count, round) => {
-            put_span(record, instance(rt, first), count, ballot(rt, round))
+            put_span(record, instance(rt, first), count, ballot(rt, round, 1))
         }
         _ => Ok(()),
     }
@@ -205,7 +204,7 @@ fn spans_of_sixty_four_up_to_the_last_instance(rt: HostRuntime) {
 /// A put of the span whose disk fails after so many calls, if it makes so many.
 fn put_armed(rt: &impl Abort, record: &mut Record<MemDisk>, calls: u32) {
     arm(record, calls);
-    let put = put_span(record, instance(rt, 5), 3, ballot(rt, 1));
+    let put = put_span(record, instance(rt, 5), 3, ballot(rt, 1, 1));
     if calls < 4 {
         ends(rt, put, Err(RecordFault::Device));
         promises(rt, record, 4, &[0, 0, 0, 0, 0]);

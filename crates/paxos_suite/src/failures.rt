@@ -1,8 +1,8 @@
 //! One call of a disk fails, and those behind it pass.
 use crate::disks::{begins, crashed_within, is_long, reads, syncs, writes};
-use crate::samples::{
-    ONE_PROMISE, arm, ballot, disk_of, ends, formatted, is_promised, one_of_three, opened,
-    put_round,
+use crate::samples::ballot;
+use crate::stored::{
+    ONE_PROMISE, arm, disk_of, ends, formatted, is_promised, one_of_three, opened, put_round,
 };
 use durable::{Record, RecordFault};
 use site_disk::{Armed, Disk, FailOnce, MemDisk};
@@ -98,7 +98,7 @@ fn failed_opening(rt: &impl Abort, alloc: Global, calls: u32) -> FailOnce<MemDis
 
 fn opens(rt: &impl Abort, alloc: Global, disk: FailOnce<MemDisk>) {
     let record = opened(rt, alloc, disk);
-    is_promised(rt, &record, Some(ballot(rt, 1)));
+    is_promised(rt, &record, Some(ballot(rt, 1, 1)));
 }
 
 /// Each call of an opening fails in turn, and gives the disk back: it opens then.

@@ -2,9 +2,10 @@
 use crate::damage::is_of;
 use crate::disks::{crashed_within, holds, is_long, is_long_behind, reads};
 use crate::listed::{RECORD, SPANNED, entries};
-use crate::samples::{
-    arm, ballot, disk_of, empty, formatted, instance, is_promised, opened, put_promise, put_round,
-    put_span, put_vote_for,
+use crate::samples::{ballot, instance};
+use crate::stored::{
+    arm, disk_of, empty, formatted, is_promised, opened, put_promise, put_round, put_span,
+    put_vote_for,
 };
 use durable::{Record, RecordFault};
 use site_disk::{Armed, Call, Disk, FailOnce, MemDisk};
@@ -106,12 +107,12 @@ fn act<D: Disk>(
         Step::Begin => record.begin(),
         Step::Seal => record.seal(),
         Step::Round(round) => put_round(record, round),
-        Step::Promise(at, round) => put_promise(record, instance(rt, at), ballot(rt, round)),
+        Step::Promise(at, round) => put_promise(record, instance(rt, at), ballot(rt, round, 1)),
         Step::Span(first, count, round) => {
-            put_span(record, instance(rt, first), count, ballot(rt, round))
+            put_span(record, instance(rt, first), count, ballot(rt, round, 1))
         }
         Step::Vote(at, round, text) => {
-            let vote = (instance(rt, at), ballot(rt, round));
+            let vote = (instance(rt, at), ballot(rt, round, 1));
             put_vote_for(rt, alloc, record, vote, text.as_bytes())
         }
     }
@@ -150,7 +151,7 @@ fn tells<D: Disk>(rt: &impl Abort, record: &Record<D>, all: bool) {
     assert!(rt; is_voted(record, instance(rt, 1), all));
     if all {
         tells_rounds(rt, record, 1, 2);
-        is_promised(rt, record, Some(ballot(rt, 2)));
+        is_promised(rt, record, Some(ballot(rt, 2, 1)));
     } else {
         tells_rounds(rt, record, 0, 0);
         is_promised(rt, record, None);
@@ -318,7 +319,7 @@ const FURTHER: &[Step] = &[
 /// The record tells what stood before, and these.
 fn tells_further(rt: &impl Abort, record: &Record<MemDisk>) {
     tells_rounds(rt, record, 5, 6);
-    is_promised(rt, record, Some(ballot(rt, 6)));
+    is_promised(rt, record, Some(ballot(rt, 6, 1)));
     assert!(rt; is_voted(record, instance(rt, 2), true));
 }
 

@@ -1,6 +1,6 @@
 //! Crashes after each call of a put.
 use crate::disks::{begins, is_long, is_long_behind, reads, syncs, writes};
-use crate::samples::{arm, disk_of, empty, ends, opened, put_round};
+use crate::stored::{arm, disk_of, empty, ends, opened, put_round};
 use durable::{Record, RecordFault};
 use site_disk::{Armed, Disk, MemDisk};
 use std::alloc::Global;

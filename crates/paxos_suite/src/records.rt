@@ -1,8 +1,9 @@
 //! Record files byte by byte.
 use crate::disks::holds;
-use crate::samples::{
-    ONE_PROMISE, ONE_ROUND, ballot, disk_of, empty, ends, instance, is_promised, is_refused,
-    one_of_three, opened, put_promise, put_round, put_vote_for,
+use crate::samples::{ballot, instance};
+use crate::stored::{
+    ONE_PROMISE, ONE_ROUND, disk_of, empty, ends, is_promised, is_refused, one_of_three, opened,
+    put_promise, put_round, put_vote_for,
 };
 use acceptor::Slot;
 use durable::{Record, RecordFault};
@@ -45,7 +46,7 @@ fn a_promise_record_is_read_or_refused(rt: HostRuntime) {
         is_refused(&rt, rt.alloc(), node, bytes, want);
     }
     is_refused(&rt, rt.alloc(), 2, &SHUT, None);
-    promises(&rt, rt.alloc(), &ONE_PROMISE, Some(ballot(&rt, 1)));
+    promises(&rt, rt.alloc(), &ONE_PROMISE, Some(ballot(&rt, 1, 1)));
     promises(&rt, rt.alloc(), &SHUT, None);
 }
 
@@ -81,7 +82,7 @@ fn a_round_is_four_calls_and_eleven_bytes(rt: HostRuntime) {
 }
 
 fn put_seventy(rt: &impl Abort, alloc: Global, record: &mut Record<MemDisk>) {
-    let ballot = ballot(rt, 1);
+    let ballot = ballot(rt, 1, 1);
     for number in 1..71u8 {
         let at = instance(rt, u32::from(number));
         ends(rt, put_promise(record, at, ballot), Ok(()));
@@ -98,7 +99,7 @@ fn is_voted(slot: &Slot, ballot: Ballot, value: &[u8]) -> bool {
 }
 
 fn read_seventy(rt: &impl Abort, record: &Record<MemDisk>) {
-    let ballot = ballot(rt, 1);
+    let ballot = ballot(rt, 1, 1);
     for number in 1..71u8 {
         let slot = record.slot(instance(rt, u32::from(number)));
         assert!(rt; slot.promised == Some(ballot));

@@ -1,6 +1,7 @@
 //! The histories that a record stands for with one byte changed, computed from its own.
 use crate::changes::{changed, other, places, put_byte};
-use crate::samples::{ballot, instance, one_of_three};
+use crate::samples::{ballot, instance};
+use crate::stored::one_of_three;
 use record_meaning::entry::Entry;
 use record_meaning::history::is_history;
 use record_meaning::spelling::spelled;
@@ -19,12 +20,12 @@ pub const RECORD: [u8; 53] =
 pub fn entries(rt: &impl Abort, alloc: Global) -> Vec<Entry> {
     let value = Value::copied_from(alloc, b"ab").expect(rt, "memory");
     let voted = Vote {
-        ballot: ballot(rt, 2),
+        ballot: ballot(rt, 2, 1),
         value,
     };
     let mut entries = Vec::new(alloc);
     entries.push(Entry::Round(1)).expect(rt, "memory");
-    let promised = Entry::Promised(instance(rt, 1), ballot(rt, 1));
+    let promised = Entry::Promised(instance(rt, 1), ballot(rt, 1, 1));
     entries.push(promised).expect(rt, "memory");
     let voted = Entry::Voted(instance(rt, 1), voted);
     entries.push(voted).expect(rt, "memory");
@@ -37,7 +38,7 @@ pub const SPANNED: [u8; 27] =
 
 /// Its history.
 pub fn spanned(rt: &impl Abort, alloc: Global) -> Vec<Entry> {
-    let promised = Entry::PromisedSpan(instance(rt, 5), 3, ballot(rt, 1));
+    let promised = Entry::PromisedSpan(instance(rt, 5), 3, ballot(rt, 1, 1));
     let mut entries = Vec::new(alloc);
     entries.push(promised).expect(rt, "memory");
     entries

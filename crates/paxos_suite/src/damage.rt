@@ -1,6 +1,6 @@
 //! A record cut at each byte, and with each byte changed. What these bytes come to is computed from the definition of a record.
 use crate::listed::{Listed, RECORD, SPANNED, entries, spanned, with_byte};
-use crate::samples::{disk_of, one_of_three};
+use crate::stored::{disk_of, one_of_three};
 use durable::Record;
 use record_meaning::entry::Entry;
 use record_meaning::recorded::{greatest_round, is_slot, last_round, last_vote};
