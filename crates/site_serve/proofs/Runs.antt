@@ -11,6 +11,10 @@ pub on_ok_gives : {T E A B : Type 0} (r : Result T E) → OnOk r A → (A → B)
 on_ok_gives (Ok x) a f = f a
 on_ok_gives (Err e) a f = tt
 
+-- the node that was opened, by another name
+pub opened_as : {D : Type 0} {stands_for : D → DiskState → Type 0} {n p : ℕ} {node other : Running D} → node ≡ other → IsOpened stands_for n p node → IsOpened stands_for n p other
+opened_as {D} {stands_for} {n} {p} same is = subst (IsOpened stands_for n p) same is
+
 -- the node that was opened is the one that was led
 pub run_of : {D : Type 0} {stands_for : D → DiskState → Type 0} (n p : ℕ) (How : ℕ → ℕ → List (List ℕ) → Node → Node → Type 0) (opened ended : Running D)
     → IsOpened stands_for n p opened → Led stands_for opened ended (How opened.cluster opened.me ended.releases) → IsRun stands_for n p (How n p)

@@ -28,6 +28,19 @@ use std::io::Write;
 use std::net::{Net, TcpListener, TcpStream};
 use std::rt::{Clock, Files};
 
+type FileServer = Server<FileDisk, TcpStream>;
+
+/// What owns a server is proved to let it go, and a box is let go of in one step.
+fn boxed(alloc: Global, server: FileServer) -> Result<Box<FileServer>, Halt>
+    ensures kept { IfOk result (λ boxed. boxed.value ≡ server) }
+    ensures fault { IfErr result EndsOpening }
+{
+    match Box::new(alloc, server) {
+        Ok(boxed) => Ok(boxed),
+        Err(_) => Err(Halt::OutOfMemory),
+    }
+}
+
 /// A server of the node over the record.
 fn open_server<R: Files<File = File>>(
     rt: &R,
@@ -36,9 +49,9 @@ fn open_server<R: Files<File = File>>(
     me: NodeId,
     options: &ServeOptions<'_>,
     cause: &mut Cause,
-) -> Result<Server<FileDisk, TcpStream>, Halt>
+) -> Result<Box<FileServer>, Halt>
     requires { IsNode cluster me }
-    ensures opened { IfOk result (λ server. IsOpened ⟦<FileDisk as Disk>⟧.stands_for cluster me server.served.node) }
+    ensures opened { IfOk result (λ server. IsOpened ⟦<FileDisk as Disk>⟧.stands_for cluster me server.value.served.node) }
     ensures fault { IfErr result EndsOpening }
 {
     let served = open_node(
@@ -51,7 +64,7 @@ fn open_server<R: Files<File = File>>(
         cause,
     )?;
     let times = Times::new(options.patience, options.serve_ms);
-    Ok(Server::new(alloc, me, served, times)?)
+    boxed(alloc, Server::new(alloc, me, served, times)?)
 }
 
 /// Opens the record and then the sockets.
@@ -60,9 +73,9 @@ fn open<R: Net<Listener = TcpListener, Stream = TcpStream> + Files<File = File> 
     alloc: Global,
     options: &ServeOptions<'_>,
     cause: &mut Cause,
-) -> Result<(Server<FileDisk, TcpStream>, Shell), Halt>
+) -> Result<(Box<FileServer>, Shell), Halt>
     ensures ok { OnOk result (IsPlaced options.now) }
-    ensures opened { IfOk result (λ parts. IsOpened ⟦<FileDisk as Disk>⟧.stands_for (length options.now.peers.items) options.now.id parts.0.served.node) }
+    ensures opened { IfOk result (λ parts. IsOpened ⟦<FileDisk as Disk>⟧.stands_for (length options.now.peers.items) options.now.id parts.0.value.served.node) }
     ensures err { IfErr result (λ why. EndsBefore options.now why) }
 {
     let addresses = read_addresses(alloc, options)?;
@@ -87,7 +100,7 @@ fn work<C: Clock, W: Write, E: Write>(
     out: &mut Counted<W>,
     err: &mut Counted<E>,
     shell: &mut Shell,
-    server: &mut Server<FileDisk, TcpStream>,
+    server: &mut FileServer,
     id: u8,
     count: u64,
 ) -> Result<(), Halt>
@@ -108,7 +121,7 @@ fn start<C: Clock, W: Write, E: Write>(
     out: &mut Counted<W>,
     err: &mut Counted<E>,
     shell: &mut Shell,
-    server: &mut Server<FileDisk, TcpStream>,
+    server: &mut FileServer,
     options: &ServeOptions<'_>,
 ) -> Result<(), Halt>
     ensures said { WorkEnds (end_of W.contents out.old out.new) (end_of E.contents err.old err.new) options.now.id result }
@@ -137,7 +150,7 @@ fn run<
     ensures laps { OnOk result (IsRun ⟦<FileDisk as Disk>⟧.stands_for (length options.now.peers.items) options.now.id (TakesPasses (length options.now.peers.items) options.now.id (passes_of options.now.id options.now.rounds))) }
 {
     let (mut server, mut shell) = open(rt, alloc, options, cause)?;
-    let done = start(rt, alloc, out, err, &mut shell, &mut server, options);
+    let done = start(rt, alloc, out, err, &mut shell, &mut *server, options);
     cause.error = server.served.node.disk().last_failure();
     done
 }
