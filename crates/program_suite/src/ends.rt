@@ -7,7 +7,7 @@ use std::io;
 use std::io::Write;
 use std::process::Abort;
 
-fn with_room(alloc: Global, room: usize) -> Counted<Sink> {
+pub(crate) fn with_room(alloc: Global, room: usize) -> Counted<Sink> {
     Counted::new(Sink::with_room(alloc, room))
 }
 

@@ -1,4 +1,4 @@
-//! The renderer over memory, with readers and writers that fail; command lines.
+//! The renderer and the simulator over memory, with readers and writers that fail; command lines.
 #![tactic(auto)]
 
 #[cfg(test)]
@@ -13,5 +13,7 @@ mod refusals;
 mod runs;
 #[cfg(test)]
 mod serve_options;
+#[cfg(test)]
+mod simulator;
 #[cfg(test)]
 mod versions;

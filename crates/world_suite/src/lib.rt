@@ -1,5 +1,4 @@
-//! Worlds over disks in memory: worked schedules, runs that stop at an event or go on over a refusal, each growth refused; and the simulator
-//! over ends that fail at each byte.
+//! Worlds over disks in memory: worked schedules, runs that stop at an event or go on over a refusal, each growth refused.
 #![tactic(auto)]
 
 #[cfg(test)]
@@ -14,8 +13,6 @@ mod refusals;
 mod runs;
 #[cfg(test)]
 mod schedules;
-#[cfg(test)]
-mod simulator;
 #[cfg(test)]
 mod step;
 #[cfg(test)]

@@ -1,16 +1,10 @@
 //! What the simulator prints over readers and writers that fail at each byte.
-use failing_ends::{Sink, trickle};
+use crate::ends::with_room;
+use crate::runs::Printed;
+use failing_ends::trickle;
 use sitectl::{Counted, sitesim};
 use std::alloc::Global;
 use std::process::Abort;
-
-/// What a run printed, and its status.
-#[derive(Drop)]
-struct Printed {
-    status: u8,
-    out: Vec<u8>,
-    err: Vec<u8>,
-}
 
 const SCHEDULE: &str = "nodes 1\nsubmit 1 1 1 8\nrelease\n\ntick 1\nsettle\nshow 1\nget 1 1 /\n";
 
@@ -18,7 +12,7 @@ const PRINTED: &str = "node 1: up known 1 newest 1\nnode 1 release 1 /: 404 10\n
 
 fn trickled(alloc: Global, good: usize, room: usize) -> Printed {
     let mut reader = Counted::new(trickle(SCHEDULE.as_bytes(), good));
-    let mut out = Counted::new(Sink::with_room(alloc, room));
+    let mut out = with_room(alloc, room);
     let mut err = Counted::new(Vec::<u8>::new(alloc));
     let status = sitesim(alloc, &mut reader, &mut out, &mut err);
     Printed {
