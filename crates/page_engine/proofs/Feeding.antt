@@ -1,6 +1,7 @@
 -- The reading of an input, from what each value was answered with as it was fed.
-use Rattle.std.proofs.Common.{◌≡◌, ◌==◌, ◌<◌, ◌≤◌, ℕ, List, [], ◌∷◌, ◌++◌, Bool, true, false, cond, map, length, Option, Some, None, unwrap_or, Result, Ok, Err, refl, sym, ap, ◌∙◌, arith}
+use Rattle.std.proofs.Common.{◌≡◌, ◌==◌, ◌<◌, ◌≤◌, ℕ, List, [], ◌∷◌, ◌++◌, Bool, true, false, cond, map, length, Option, Some, None, unwrap_or, Result, Ok, Err, refl, sym, ap, ◌∙◌, arith, subst}
 use Rattle.std.proofs.lemmas.List.{map-append}
+use Rattle.std.specs.Option.{MatchOption}
 use Rattle.command.specs.Action.{Action, put_template, put_partial, put_data, put_route, put_redirect, remove, release, Order}
 use Rattle.command.specs.Effective.{has_ticket, effective}
 use Rattle.command.specs.Releases.{release_count}
@@ -46,3 +47,10 @@ nothing_left (b ∷ rest) empty = absurd (omega arith)
 pub some_left : (rest : List ℕ) → (length rest == 0) ≡ false → 0 < length rest
 some_left [] none = absurd (let never : true ≡ false = none in cc)
 some_left (b ∷ rest) none = omega arith
+
+-- what holds where there is none, and where there is one
+pub where_none : {X : Type 0} (A : Type 0) (B : X → Type 0) (o : Option X) → MatchOption o A B → o ≡ None → A
+where_none A B o holds is = subst (λ x. MatchOption x A B) is holds
+
+pub where_some : {X : Type 0} (A : Type 0) (B : X → Type 0) (o : Option X) (x : X) → MatchOption o A B → o ≡ Some x → B x
+where_some A B o x holds is = subst (λ y. MatchOption y A B) is holds

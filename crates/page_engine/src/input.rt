@@ -1,13 +1,15 @@
 //! The values of an input.
-ghost use Rattle.std.specs.Prelude.{◌≡◌, ◌≢◌, ℕ, IfOk, IfErr, Ok, Err, string_bytes};
+ghost use Rattle.std.specs.Prelude.{◌≡◌, ◌≢◌, ◌<◌, [], length, IfOk, MatchOption, Ok, Err, string_bytes};
 ghost use Rattle.command.specs.Action.{Order};
 ghost use Rattle.command.specs.Reading.{value_reading};
 ghost use Rattle.command.specs.Written.{line_of, HasLine};
 ghost use Rattle.command.specs.declared.fault.CommandFault.{CommandFault as Fault};
-ghost use Rattle.page_engine.specs.Standing.{IsInput};
-ghost use Rattle.page_engine.specs.Reading.{fault_at};
+ghost use Rattle.page_engine.specs.Standing.{IsFaultLine, IsFed, IsInput};
+ghost use Rattle.page_engine.specs.Reading.{HasReading, fault_at};
+ghost use Rattle.page_engine.specs.Verdict.{HasValues};
+ghost use Rattle.page_engine.specs.View.{framed_view};
 
-use crate::framed::next;
+use crate::framed::{Framed, next};
 use command::{CommandFault, fault_line, read, write};
 use content::Applied;
 use release::Releases;
@@ -23,25 +25,57 @@ pub(crate) enum Input {
     Fault(String),
 }
 
-/// Feeds the values of framed commands. A fault is told by the command's place, counted from 1.
-pub(crate) fn fed(alloc: Global, input: &[u8]) -> Result<Input, AllocError>
-    ensures { IfOk result (λ found. IsInput input.now found) }
+/// Feeds the value of the command of that place. The answer is the line of its fault, where it has one.
+fn feed_one(
+    alloc: Global,
+    releases: &mut Releases,
+    place: usize,
+    framed: Framed<'_>,
+) -> Result<Option<String>, AllocError>
+    requires { length releases.old < MAX_COMMANDS }
+    ensures { IfOk result (λ found. MatchOption found
+        (IsFed (framed_view framed.entry) releases.old releases.new) (λ line. IsFaultLine (framed_view framed.entry) place (string_bytes line))) }
 {
-    let mut releases = Releases::new(alloc);
+    let value = write(alloc, framed.ticket, framed.text)?;
+    if matches!(releases.feed(&value)?, Applied::NotACommand) {
+        return Ok(Some(fault_at(alloc, place, &value)?));
+    }
+    Ok(None)
+}
+
+/// Feeds the values of framed commands to releases that have none. The answer is the line of the first fault, told by the command's place, counted from 1.
+fn feed_all(
+    alloc: Global,
+    releases: &mut Releases,
+    input: &[u8],
+) -> Result<Option<String>, AllocError>
+    requires { releases.old ≡ [] }
+    ensures { IfOk result (λ found. MatchOption found (HasValues input.now releases.new) (λ line. HasReading input.now (Err (string_bytes line)))) }
+{
     let mut rest = input;
     while !rest.is_empty() {
         let place = releases.len() + 1;
         let framed = match next(rest) {
             Some(framed) if place <= MAX_COMMANDS => framed,
-            _ => return Ok(Input::Fault(line_at(alloc, place, "framing")?)),
+            _ => return Ok(Some(line_at(alloc, place, "framing")?)),
         };
-        let value = write(alloc, framed.ticket, framed.text)?;
-        if matches!(releases.feed(&value)?, Applied::NotACommand) {
-            return Ok(Input::Fault(fault_at(alloc, place, &value)?));
+        match feed_one(alloc, releases, place, framed)? {
+            Some(line) => return Ok(Some(line)),
+            None => rest = framed.rest,
         }
-        rest = framed.rest;
     }
-    Ok(Input::Fed(releases))
+    Ok(None)
+}
+
+/// The releases of the values of framed commands, or the line of the first fault.
+pub(crate) fn fed(alloc: Global, input: &[u8]) -> Result<Input, AllocError>
+    ensures { IfOk result (λ found. IsInput input.now found) }
+{
+    let mut releases = Releases::new(alloc);
+    match feed_all(alloc, &mut releases, input)? {
+        None => Ok(Input::Fed(releases)),
+        Some(line) => Ok(Input::Fault(line)),
+    }
 }
 
 /// The line of a value that is no command, which is read once more for its fault.

@@ -4,7 +4,7 @@ use Rattle.page_engine.specs.declared.input.TheConstants.{MAX_COMMANDS}
 use Rattle.page_engine.specs.Framed.{FramedCommand}
 use Rattle.page_engine.specs.Reading.{Begins}
 use Rattle.page_engine.specs.Verdict.{framed_value}
-use Rattle.page_engine.proofs.input.fed.Given as goal
+use Rattle.page_engine.proofs.input.feed_all.Given as goal
 
 -- the input begins with the commands fed so far, and goes on with the rest
 abbrev pub invariant-loop-rest : goal.invariant-loop-rest
