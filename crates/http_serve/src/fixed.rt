@@ -13,7 +13,7 @@ use std::alloc::{AllocError, Global};
 const LONGEST: usize = 92 + 23 + 8;
 
 /// What a submission is told, but for a fault's line.
-#[derive(Clone, Copy, Debug, PartialEq, Eq, Drop)]
+#[derive(Clone, Copy, Drop)]
 pub(crate) enum FixedReply {
     Queued,
     Already,

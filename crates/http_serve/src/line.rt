@@ -23,7 +23,7 @@ use std::io;
 use std::io::{ErrorKind, Read, Write};
 
 /// How a connection stands.
-#[derive(Clone, Copy, Debug, Drop, PartialEq, Eq)]
+#[derive(Clone, Copy, Drop, PartialEq, Eq)]
 pub(crate) enum LineState {
     /// The client may send more.
     Open,

@@ -5,7 +5,7 @@ ghost use Rattle.world.specs.Bids.{IsHigher};
 use site_ids::{Ballot, NodeId};
 
 /// A ballot that is to be promised, or a higher one with the node that promised it.
-#[derive(Clone, Copy, Debug, Drop)]
+#[derive(Clone, Copy, Drop)]
 pub(crate) struct Bid {
     pub ballot: Ballot,
     pub node: Option<NodeId>,
