@@ -1,10 +1,13 @@
-//! Nodes over disks in memory: worked rows of one node, devices that fail at each call of a put and of a seal, and each growth refused.
+//! Nodes over disks in memory: worked rows of one node, devices that fail at each call of a put and of a seal, and each growth refused. `driven` has nodes
+//! that are driven over links.
 #![tactic(auto)]
 
 #[cfg(test)]
 mod batches;
 #[cfg(test)]
 mod devices;
+#[cfg(test)]
+mod driven;
 #[cfg(test)]
 mod heard;
 #[cfg(test)]

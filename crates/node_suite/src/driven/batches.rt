@@ -1,7 +1,7 @@
 //! Batches: what one takes and posts, the calls that a burst makes of the device, and what one that fails leaves: nothing is posted, and all of the batch is
 //! found again or none.
-use crate::opening::reopened;
-use crate::server::{Server, bytes};
+use crate::driven::opening::reopened;
+use crate::driven::server::{Server, bytes};
 use node::{NodeFault, To};
 use site_drive::{LastCall, Letter, MemLink};
 use site_ids::Instance;

@@ -1,7 +1,7 @@
 //! A link whose calls fail.
 ghost use Rattle.std.specs.Prelude.{◌≡◌};
 
-use crate::server::{Server, passes};
+use crate::driven::server::{Server, passes};
 use site_drive::{Link, LinkFailed};
 use site_ids::NodeId;
 use std::process::Abort;

@@ -1,5 +1,5 @@
 //! Datagrams that spell no message of three nodes, and the longest one that does.
-use crate::server::{Server, bytes, passes};
+use crate::driven::server::{Server, bytes, passes};
 use site_drive::MemLink;
 use std::alloc::Global;
 use std::process::Abort;

@@ -1,5 +1,5 @@
 //! Faults of a node: the drive ends there, and what was sent before stays sent.
-use crate::server::Server;
+use crate::driven::server::Server;
 use node::NodeFault;
 use site_drive::{Link, MemLink};
 use std::alloc::Global;

@@ -1,6 +1,6 @@
 //! Three nodes over queues in memory agree on a page.
-use crate::looped::Looped;
-use crate::server::{Server, passes};
+use crate::driven::looped::Looped;
+use crate::driven::server::{Server, passes};
 use std::alloc::Global;
 use std::process::Abort;
 

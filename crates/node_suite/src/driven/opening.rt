@@ -1,7 +1,7 @@
 //! Nodes over disks in memory, boxed: what owns one is proved to let it go, and a box is let go of in one step.
 ghost use Rattle.site_ids.specs.Ids.{IsNode};
 
-use crate::server::{Server, boxed};
+use crate::driven::server::{Server, boxed};
 use durable::Record;
 use node::Node;
 use site_disk::MemDisk;

@@ -2,8 +2,8 @@
 //! memory was wanted, or by that of the device where the disk in memory found none, and then the node is opened again. Where the link found none it
 //! counts a failure. Either way what was heard may be lost, as a datagram may; so it comes once more, and then the node is where it is without
 //! refusals.
-use crate::opening::again;
-use crate::server::{Server, bytes};
+use crate::driven::opening::again;
+use crate::driven::server::{Server, bytes};
 use node::NodeFault;
 use site_drive::{LastCall, MemLink};
 use std::alloc::Global;

@@ -1,5 +1,5 @@
 //! A node with its link, boxed: a box is let go of in one step.
-use crate::opening::fresh;
+use crate::driven::opening::fresh;
 use command::write;
 use node::{Node, NodeFault, Submitted};
 use site_disk::MemDisk;

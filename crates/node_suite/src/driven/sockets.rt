@@ -1,6 +1,6 @@
 //! Links over sockets on loopback, in one thread.
-use crate::datagrams::{PROMISE_OF_2, long};
-use crate::server::{Server, passes};
+use crate::driven::datagrams::{PROMISE_OF_2, long};
+use crate::driven::server::{Server, passes};
 use site_drive::{Link, UdpLink};
 use std::alloc::Global;
 use std::net::{Ipv4Addr, Net, SocketAddr, UdpSocket};

@@ -1,5 +1,5 @@
 //! What node 1 of three sends for what it hears, datagram by datagram; turns alone beside `drive`, and the other calls behind turns.
-use crate::server::{Server, passes};
+use crate::driven::server::{Server, passes};
 use site_drive::{Delivered, Desk, LastCall, MemLink};
 use site_ids::{Instance, NodeId};
 use std::alloc::Global;
