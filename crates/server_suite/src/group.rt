@@ -5,7 +5,7 @@ use crate::client::Client;
 use durable::Record;
 use node::Node;
 use site_disk::MemDisk;
-use site_drive::Letter;
+use site_drive::{Desk, Letter};
 use site_ids::{Cluster, NodeId};
 use site_pace::Times;
 use site_packets::Packet;
@@ -28,12 +28,12 @@ pub(crate) struct Group {
 fn served(alloc: Global, cluster: Cluster, me: NodeId, disk: MemDisk) -> Option<Boxed>
     requires { IsNode cluster me }
 {
+    let desk = Desk::new(alloc).ok()?;
     let Ok(node) = Node::open(alloc, cluster, me, disk) else {
         return None;
     };
     let times = Times::new(None, None);
-    let server = Server::new(alloc, me, Served { node }, times).ok()?;
-    Box::new(alloc, server).ok()
+    Box::new(alloc, Server::new(alloc, me, Served { node }, desk, times)).ok()
 }
 
 /// One over a record that was just made. None where memory was refused.

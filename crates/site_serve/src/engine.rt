@@ -18,6 +18,7 @@ use crate::shell::Shell;
 use crate::sockets::open_sockets;
 use http_read::Counted;
 use site_disk::{Disk, FileDisk};
+use site_drive::Desk;
 use site_halts::{Cause, Halt, ServeOptions, say, say_why};
 use site_ids::{Cluster, NodeId};
 use site_notes::Notes;
@@ -54,6 +55,7 @@ fn open_server<R: Files<File = File>>(
     ensures opened { IfOk result (λ server. IsOpened ⟦<FileDisk as Disk>⟧.stands_for cluster me server.value.served.node) }
     ensures fault { IfErr result EndsOpening }
 {
+    let desk = Desk::new(alloc)?;
     let served = open_node(
         rt,
         alloc,
@@ -64,7 +66,7 @@ fn open_server<R: Files<File = File>>(
         cause,
     )?;
     let times = Times::new(options.patience, options.serve_ms);
-    boxed(alloc, Server::new(alloc, me, served, times)?)
+    boxed(alloc, Server::new(alloc, me, served, desk, times))
 }
 
 /// Opens the record and then the sockets.

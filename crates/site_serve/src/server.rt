@@ -20,7 +20,7 @@ use site_halts::Halt;
 use site_ids::NodeId;
 use site_pace::{Pace, Times};
 use site_seats::{Seats, Served};
-use std::alloc::{AllocError, Global};
+use std::alloc::Global;
 
 /// A server without sockets and clock: a node, its mail, its clients, and when it tries and asks.
 ///
@@ -48,24 +48,25 @@ pub struct Stepped {
 }
 
 impl<D: Disk + Drop, S: Drop> Server<D, S> {
-    /// This node serves nobody yet, and has heard nothing.
+    /// This node serves nobody yet, and has heard nothing. The desk is an empty one.
     pub fn new(
         alloc: Global,
         me: NodeId,
         served: Served<D>,
+        desk: Desk,
         times: Times,
-    ) -> Result<Server<D, S>, AllocError>
+    ) -> Server<D, S>
         requires { me ≡ served.node.me }
-        ensures { IfOk result (λ server. (server.served ≡ served) × (server.me ≡ me)) }
+        ensures { (result.served ≡ served) × (result.me ≡ me) }
     {
-        Ok(Server {
+        Server {
             me,
             served,
             mail: Mail::new(alloc),
             seats: Seats::new(alloc, times),
-            desk: Desk::new(alloc)?,
+            desk,
             pace: Pace::new(times, me),
-        })
+        }
     }
 
     /// The batch of a step: all that waits, and the call that is due behind it. What that hands out is posted. The answer is how many datagrams spelled no message.
