@@ -9,7 +9,6 @@ use Rattle.engine_parts.specs.Submissions.{joined, FitsSubmission}
 use Rattle.engine_parts.proofs.CutLemmas.{Same, no_cut, one_cut}
 use Rattle.engine_parts.proofs.CutLemmas.{lacks-decimal}
 use Rattle.engine_parts.proofs.LineLemmas.{same_submission, number_cut}
-use Rattle.engine_parts.proofs.CutLemmas.{lacks-decimal}
 use Rattle.engine_parts.proofs.Lines as lines
 use Rattle.engine_parts.proofs.Texts.{lacks-codes, lacks-last, lacks-number, lacks-behind, begins_so, behind_text, cut_more, HasText}
 

@@ -19,7 +19,7 @@ use engine_parts::{
 use site_ids::{Cluster, Instance, NodeId, Ticket};
 
 /// A line behind the first, with the words of it that vary. A node of it need not be one of the schedule's nodes.
-#[derive(Clone, Copy, Debug)]
+#[derive(Clone, Copy)]
 pub(crate) enum Line<'a> {
     Submit {
         node: NodeId,
@@ -70,7 +70,7 @@ pub(crate) enum Line<'a> {
 }
 
 /// What stands at the front of the bytes that were read so far.
-#[derive(Clone, Copy, Debug)]
+#[derive(Clone, Copy)]
 pub(crate) enum Found<'a> {
     /// A line, and what follows it.
     Line(Line<'a>, &'a [u8]),
@@ -81,7 +81,7 @@ pub(crate) enum Found<'a> {
 }
 
 /// The same for the first line.
-#[derive(Clone, Copy, Debug)]
+#[derive(Clone, Copy)]
 pub(crate) enum FoundNodes<'a> {
     Nodes(Cluster, &'a [u8]),
     Short,

@@ -3,6 +3,7 @@
 //! A stopped `quiet` is `out of memory`.
 
 ghost use Rattle.std.specs.Prelude.{◌≡◌, ◌⊎◌, ℕ, List, [], ◌∷◌, ◌++◌, ◌<◌, ◌≤◌, ◌+◌, length, IfOk, OnOk, IfErr, IsErrOf, string_bytes, codes};
+ghost use Rattle.engine_parts.specs.Faults.{fault_at};
 ghost use Rattle.http_read.specs.Bytes.{end_of, IsGiven};
 ghost use Rattle.node.specs.Effects.{messages_of};
 ghost use Rattle.schedule_engine.specs.ScheduleView.{line_view};
@@ -120,27 +121,26 @@ fn state_word(state: NodeState) -> &'static str
     }
 }
 
-/// What `get` prints of a page.
-fn page_text(
+/// What `get` prints: whose page it was asked for, and the rest.
+fn got_text(
     alloc: Global,
     number: u8,
     release: u64,
     path: &str,
-    answer: &Answer,
+    rest: &str,
 ) -> Result<String, AllocError>
-    ensures { IfOk result (λ text. string_bytes text ≡ got number release path.now (page_lines (answer_view answer.now))) }
+    ensures { IfOk result (λ text. string_bytes text ≡ got number release path.now rest.now) }
 {
-    let (status, len) = (answer.status, answer.body.len());
-    let mut text = format!(in alloc; "node {number} release {release} {path}: {status} {len}\n")?;
-    text.push_str(answer.body.as_str())?;
-    Ok(text)
+    format!(in alloc; "node {number} release {release} {path}: {rest}")
 }
 
-/// What `get` prints where there is none.
-fn no_page_text(alloc: Global, number: u8, release: u64, path: &str) -> Result<String, AllocError>
-    ensures { IfOk result (λ text. string_bytes text ≡ got number release path.now (codes "none\n")) }
+/// The lines of a page.
+fn page_text(alloc: Global, answer: &Answer) -> Result<String, AllocError>
+    ensures { IfOk result (λ text. string_bytes text ≡ page_lines (answer_view answer.now)) }
 {
-    format!(in alloc; "node {number} release {release} {path}: none\n")
+    let (status, body) = (answer.status, answer.body.as_str());
+    let len = body.len();
+    format!(in alloc; "{status} {len}\n{body}")
 }
 
 impl Simulation {
@@ -248,10 +248,13 @@ impl Simulation {
             return Err(SimFault::BadLine);
         }
         match self.world.answer(node, release, path) {
-            Ok(answer) => Ok(page_text(alloc, number, release, path, &answer)?),
-            Err(AskFault::NoSuchRelease) => Ok(no_page_text(alloc, number, release, path)?),
-            Err(AskFault::NotUp) => Ok(no_page_text(alloc, number, release, path)?),
+            Ok(answer) => {
+                let page = page_text(alloc, &answer)?;
+                Ok(got_text(alloc, number, release, path, page.as_str())?)
+            }
             Err(AskFault::OutOfMemory) => Err(SimFault::OutOfMemory),
+            Err(AskFault::NoSuchRelease) => Ok(got_text(alloc, number, release, path, "none\n")?),
+            Err(AskFault::NotUp) => Ok(got_text(alloc, number, release, path, "none\n")?),
         }
     }
 
@@ -351,20 +354,27 @@ fn begin<R: Read>(
     }
 }
 
+/// Says in these words why line k stopped the run.
+fn say_at<E: Write>(alloc: Global, err: &mut Counted<E>, k: u64, why: &str) -> u8
+    ensures status { result ≡ 1 }
+    ensures said { (said : List ℕ) × ((said ≡ fault_at k why.now) ⊎ (said ≡ codes "out of memory\n")) × IsGiven (end_of E.contents err.old err.new) said }
+{
+    match format!(in alloc; "line {k}: {why}\n") {
+        Ok(line) => say(err, line.as_str()),
+        Err(_) => say(err, "out of memory\n"),
+    }
+}
+
 /// Says why line k stopped the run.
 fn say_fault<E: Write>(alloc: Global, err: &mut Counted<E>, k: u64, fault: SimFault) -> u8
     ensures status { result ≡ 1 }
     ensures said { (said : List ℕ) × IsSaid k fault said × IsGiven (end_of E.contents err.old err.new) said }
 {
-    let line = match fault {
-        SimFault::OutOfMemory => return say(err, "out of memory\n"),
-        SimFault::Read => return say(err, "read failed\n"),
-        SimFault::BadLine => format!(in alloc; "line {k}: bad line\n"),
-        SimFault::BadEvent => format!(in alloc; "line {k}: bad event\n"),
-    };
-    match line {
-        Ok(line) => say(err, line.as_str()),
-        Err(_) => say(err, "out of memory\n"),
+    match fault {
+        SimFault::BadLine => say_at(alloc, err, k, "bad line"),
+        SimFault::BadEvent => say_at(alloc, err, k, "bad event"),
+        SimFault::OutOfMemory => say(err, "out of memory\n"),
+        SimFault::Read => say(err, "read failed\n"),
     }
 }
 

@@ -10,3 +10,6 @@ node_behind (Some p) front head rest is h = (h.0, is ∙ ap (λ t. front ++ t) h
 
 pub returns : goal.returns
 returns c = node_behind c.read_node.result c.args.front.now c.args.head.now c.in_ok-after.field-0.now c.in_ok-after.ensures c.read_node.ensures
+
+pub returns-in_err-after : goal.returns-in_err-after
+returns-in_err-after c = rw c.from_residual.ensures (λ p ok is. c.in_err-after.ensures (decimal p) is)
