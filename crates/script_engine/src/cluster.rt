@@ -1,6 +1,7 @@
 //! Three servers that a script drives: its lines in, what its requests are answered with out.
-ghost use Rattle.std.specs.Prelude.{◌≡◌, ℕ, List, IfOk};
+ghost use Rattle.std.specs.Prelude.{◌≡◌, ◌⊎◌, ℕ, List, IfOk, codes};
 ghost use Rattle.site_ids.specs.Ids.{IsNode};
+ghost use Rattle.engine_parts.specs.Faults.{fault_at};
 ghost use Rattle.http_read.specs.Bytes.{end_of, IsGiven};
 ghost use Rattle.script_engine.specs.declared.script.TheConstants.{SERVERS};
 ghost use Rattle.script_engine.specs.Client.{IsShown};
@@ -149,20 +150,27 @@ fn next<N: Net<Stream = TcpStream>, R: Read>(
     Ok(Some(text))
 }
 
+/// Says in these words why line k stopped the run.
+fn say_at<E: Write>(alloc: Global, err: &mut Counted<E>, k: u64, why: &str) -> u8
+    ensures status { result ≡ 1 }
+    ensures said { (said : List ℕ) × ((said ≡ fault_at k why.now) ⊎ (said ≡ codes "out of memory\n")) × IsGiven (end_of E.contents err.old err.new) said }
+{
+    match format!(in alloc; "line {k}: {why}\n") {
+        Ok(line) => say(err, line.as_str()),
+        Err(_) => say(err, "out of memory\n"),
+    }
+}
+
 /// Says why line k stopped the run.
 fn say_fault<E: Write>(alloc: Global, err: &mut Counted<E>, k: u64, fault: ScriptFault) -> u8
     ensures status { result ≡ 1 }
     ensures said { (said : List ℕ) × IsSaid k fault said × IsGiven (end_of E.contents err.old err.new) said }
 {
-    let line = match fault {
-        ScriptFault::OutOfMemory => return say(err, "out of memory\n"),
-        ScriptFault::Socket => return say(err, "socket failed\n"),
-        ScriptFault::Read => return say(err, "read failed\n"),
-        ScriptFault::BadLine => format!(in alloc; "line {k}: bad line\n"),
-    };
-    match line {
-        Ok(line) => say(err, line.as_str()),
-        Err(_) => say(err, "out of memory\n"),
+    match fault {
+        ScriptFault::BadLine => say_at(alloc, err, k, "bad line"),
+        ScriptFault::Socket => say(err, "socket failed\n"),
+        ScriptFault::OutOfMemory => say(err, "out of memory\n"),
+        ScriptFault::Read => say(err, "read failed\n"),
     }
 }
 

@@ -23,7 +23,7 @@ pub(crate) const MAX_POST: usize = 40_000;
 pub(crate) const MAX_TURNS: u64 = 1_000;
 
 /// A line, with the words of it that vary.
-#[derive(Clone, Copy, Debug)]
+#[derive(Clone, Copy)]
 pub(crate) enum Line<'a> {
     Post {
         node: NodeId,
@@ -44,7 +44,7 @@ pub(crate) enum Line<'a> {
 }
 
 /// What stands at the front of the bytes that were read so far.
-#[derive(Clone, Copy, Debug)]
+#[derive(Clone, Copy)]
 pub(crate) enum Found<'a> {
     /// A line, and what follows it.
     Line(Line<'a>, &'a [u8]),

@@ -1,6 +1,7 @@
-use Rattle.std.proofs.Common.{◌∙◌, ap, Err, inl}
+use Rattle.std.proofs.Common.{◌∙◌, ap, sym, Err, inl, inr}
 use Rattle.std.proofs.lemmas.Result.{err_from_is_err_and}
 use Rattle.engine_parts.proofs.Fed.{grown_then, ended, some_held}
+use Rattle.script_engine.specs.ScriptView.{line_view}
 use Rattle.script_engine.proofs.ScriptRuns.{fault_then}
 use Rattle.script_engine.proofs.cluster.fill.Goals as goal
 
@@ -13,3 +14,9 @@ pub returns-then-not-branch : goal.returns-then-not-branch
 returns-then-not-branch g c =
     let e = ended _ _ _ c.in_ok-read_more.field-0 c.if-not-branch.true c.in_ok-read_more.ensures in
     (grown_then _ _ _ _ _ _ _ _ _ c.loop-feed.invariant.0 e.0, inl (e.2, rw e.3 (rw c.held.ensures at c.in-Short.ensures), some_held _ _ c.is_empty.result c.if-is_empty.false c.is_empty.ensures c.held-then-not-branch.ensures))
+
+pub returns-in-Line : goal.returns-in-Line
+returns-in-Line g c = (c.loop-feed.invariant.0, c.loop-feed.invariant.1, (line_view c.in-Line.field-0, c.in-Line.field-1.now, c.in-Line.ensures.0, sym c.held.ensures ∙ c.in-Line.ensures.1))
+
+pub returns-in-Bad : goal.returns-in-Bad
+returns-in-Bad g c = (c.loop-feed.invariant.0, inr (rw c.held.ensures at c.in-Bad.ensures))
