@@ -58,7 +58,7 @@ pub record IsChain (start command : Command) (xs : List Arg) (ids : List (List �
 
 -- ---- their ids
 
-and_left : (a b : Bool) → (a && b) ≡ true → a ≡ true
+pub and_left : (a b : Bool) → (a && b) ≡ true → a ≡ true
 and_left true b e = refl
 and_left false b e = e
 

@@ -6,6 +6,11 @@ use Rattle.clap.specs.Words.{App, Text, HasMatchesOf, is_simple, takes, matches_
 use Rattle.clap.specs.declared.error.kind.ErrorKind.TheVariants.{OutOfMemory}
 use Rattle.clap.specs.declared.error.Error.{Error}
 use Rattle.clap.specs.declared.parser.matches.ArgMatches.{ArgMatches}
+use Rattle.command_lines.proofs.Chains.{and_left}
+
+-- one that is simple and free is simple
+pub simple_by : (a : App) → is_simple_and_free a ≡ true → is_simple a ≡ true
+simple_by a free = and_left (is_simple a) _ free
 
 -- its rows
 pub rows_by : (a b : App) (words : List Text) (r : Result ArgMatches Error) → a ≡ b → is_simple b ≡ true

@@ -3,7 +3,7 @@ ghost use Rattle.std.specs.Prelude.{◌≡◌, Some, false};
 ghost use Rattle.clap.specs.Built.{TakesValue};
 ghost use Rattle.clap.specs.Words.{rule_of, IsPlainArg};
 ghost use Rattle.clap.specs.declared.builder.value_parser.ValueParser.TheVariants.{Unsigned};
-ghost use Rattle.command_lines.specs.Arguments.{number_rule, required_rule, word_rule};
+ghost use Rattle.command_lines.specs.Arguments.{number_rule, option_rule, required_rule, word_rule};
 
 use clap::{Arg, ArgAction};
 use std::alloc::Global;
@@ -29,6 +29,20 @@ pub(crate) fn required_option<'a>(
         .action(ArgAction::Set)
 }
 
+/// `--NAME VALUE`, which may be there.
+fn value_option<'a>(alloc: Global, name: &'a str, value: &'a str, help: &'a str) -> Arg<'a>
+    ensures rule { rule_of result ≡ option_rule name.entry.now }
+    ensures id { result.id.now ≡ name.entry.now }
+    ensures plain { IsPlainArg result }
+    ensures local { result.global ≡ false }
+{
+    Arg::new(alloc, name)
+        .long(name)
+        .value_name(value)
+        .help(help)
+        .action(ArgAction::Set)
+}
+
 /// `--NAME N`, which may be there, N a number below 2^64.
 pub(crate) fn number_option<'a>(alloc: Global, name: &'a str, help: &'a str) -> Arg<'a>
     ensures rule { rule_of result ≡ number_rule name.entry.now }
@@ -37,12 +51,7 @@ pub(crate) fn number_option<'a>(alloc: Global, name: &'a str, help: &'a str) -> 
     ensures local { result.global ≡ false }
     ensures parser { result.value_parser ≡ Some (Unsigned 0 18446744073709551615) }
 {
-    Arg::new(alloc, name)
-        .long(name)
-        .value_name("N")
-        .help(help)
-        .value_parser(clap::value_parser!(u64))
-        .action(ArgAction::Set)
+    value_option(alloc, name, "N", help).value_parser(clap::value_parser!(u64))
 }
 
 /// A word by itself, which has to be there.

@@ -1,18 +1,14 @@
 use Rattle.std.proofs.Common.{ap₂, refl, sym, subst, Some, true, false, ℕ, List, [], ◌∷◌, codes, is_some, ◌≡◌, ◌∙◌, ◌^◌, arith}
 use Rattle.std.proofs.lemmas.Result.{IfOk-weaker}
-use Rattle.clap.specs.Words.{App, Rule, AddsArg, app_of, rule_of, is_simple, with_rule, is_simple_and_free, found_of, one_text, first_value}
+use Rattle.clap.specs.Words.{App, Rule, AddsArg, app_of, rule_of, with_rule, is_simple_and_free, found_of, one_text, first_value}
 use Rattle.clap.specs.declared.builder.arg.Arg.{Arg}
 use Rattle.clap.specs.declared.builder.command.Command.{Command}
 use Rattle.clap.proofs.OnLiterals.{clap_on_literals}
 use Rattle.command_lines.specs.ServeOptions.{serve_app, SpellsBelow}
 use Rattle.command_lines.proofs.Chains.{IsChain, adds, chain_given, chain_accepted}
-use Rattle.command_lines.proofs.SimpleCommands.{rows_by, taken_by, refused_by}
+use Rattle.command_lines.proofs.SimpleCommands.{simple_by, rows_by, taken_by, refused_by}
 use Rattle.command_lines.proofs.ServeLemmas.{chain_number}
 use Rattle.command_lines.proofs.serve_line.serve_matches.Goals as goal
-
-simple : is_simple serve_app ≡ true
-unfolding clap_on_literals
-simple = refl
 
 free : is_simple_and_free serve_app ≡ true
 unfolding clap_on_literals
@@ -107,7 +103,7 @@ pub returns : goal.returns
 returns c =
     let parse = c.try_get_matches_from in
     record {
-      rows = rows_by _ serve_app _ parse.result (app_is c) simple parse.ensures.matches;
+      rows = rows_by _ serve_app _ parse.result (app_is c) (simple_by serve_app free) parse.ensures.matches;
       taken = taken_by _ serve_app _ parse.result (app_is c) parse.ensures.passes;
       refused = refused_by _ serve_app _ parse.result (app_is c) free parse.ensures.kinds;
       id = IfOk-weaker parse.result _ _ (λ m h. subst (λ (w : List ℕ). SpellsBelow (2 ^ 8) (one_text (found_of m) w)) c.id_option.ensures.id

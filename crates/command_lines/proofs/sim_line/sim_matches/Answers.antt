@@ -1,15 +1,11 @@
 use Rattle.std.proofs.Common.{refl, subst, true, ℕ, List, [], ◌∷◌, codes, is_some, ◌≡◌, arith}
 use Rattle.std.proofs.lemmas.Result.{IfOk-weaker}
-use Rattle.clap.specs.Words.{app_of, is_simple, is_simple_and_free, found_of, first_value}
+use Rattle.clap.specs.Words.{app_of, is_simple_and_free, found_of, first_value}
 use Rattle.clap.proofs.OnLiterals.{clap_on_literals}
 use Rattle.command_lines.specs.SimOptions.{sim_app}
 use Rattle.command_lines.proofs.Chains.{IsChain, adds, chain_given}
-use Rattle.command_lines.proofs.SimpleCommands.{rows_by, taken_by, refused_by}
+use Rattle.command_lines.proofs.SimpleCommands.{simple_by, rows_by, taken_by, refused_by}
 use Rattle.command_lines.proofs.sim_line.sim_matches.Goals as goal
-
-simple : is_simple sim_app ≡ true
-unfolding clap_on_literals
-simple = refl
 
 free : is_simple_and_free sim_app ≡ true
 unfolding clap_on_literals
@@ -36,7 +32,7 @@ pub returns : goal.returns
 returns c =
     let parse = c.try_get_matches_from in
     record {
-      rows = rows_by _ sim_app _ parse.result (app_is c) simple parse.ensures.matches;
+      rows = rows_by _ sim_app _ parse.result (app_is c) (simple_by sim_app free) parse.ensures.matches;
       taken = taken_by _ sim_app _ parse.result (app_is c) parse.ensures.passes;
       refused = refused_by _ sim_app _ parse.result (app_is c) free parse.ensures.kinds;
       file = IfOk-weaker parse.result _ _ (λ m h. subst (λ (w : List ℕ). is_some (first_value (found_of m) w) ≡ true) c.word_argument.ensures.id
