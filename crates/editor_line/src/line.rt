@@ -51,95 +51,138 @@ pub enum Word<'a> {
     },
 }
 
-fn folder_argument<'a>(alloc: Global, help: &'static str) -> Arg<'a> {
-    Arg::new(alloc, "folder")
-        .value_name("FOLDER")
+/// An argument of one value, which help calls so.
+fn value<'a>(
+    alloc: Global,
+    name: &'static str,
+    called: &'static str,
+    help: &'static str,
+) -> Arg<'a> {
+    Arg::new(alloc, name)
+        .value_name(called)
         .help(help)
-        .required(true)
         .action(ArgAction::Set)
 }
 
-fn ignore_flag<'a>(alloc: Global) -> Arg<'a> {
-    Arg::new(alloc, "ignore")
-        .long("ignore")
-        .help("Passes over files that are no part of a site")
+/// An option of one value.
+fn option<'a>(
+    alloc: Global,
+    name: &'static str,
+    called: &'static str,
+    help: &'static str,
+) -> Arg<'a> {
+    value(alloc, name, called, help).long(name)
+}
+
+fn flag<'a>(alloc: Global, name: &'static str, help: &'static str) -> Arg<'a> {
+    Arg::new(alloc, name)
+        .long(name)
+        .help(help)
         .action(ArgAction::SetTrue)
 }
 
+fn ignore_flag<'a>(alloc: Global) -> Arg<'a> {
+    flag(
+        alloc,
+        "ignore",
+        "Passes over files that are no part of a site",
+    )
+}
+
+/// A word that is followed by a folder.
+fn folder_word<'a>(
+    alloc: Global,
+    name: &'static str,
+    about: &'static str,
+    folder: &'static str,
+) -> Result<Command<'a>, Error> {
+    let folder = value(alloc, "folder", "FOLDER", folder).required(true);
+    Ok(Command::new(alloc, name).about(about).arg(folder)?)
+}
+
+/// A word that is followed by the folder of a site.
+fn site_word<'a>(
+    alloc: Global,
+    name: &'static str,
+    about: &'static str,
+) -> Result<Command<'a>, Error> {
+    folder_word(alloc, name, about, "The folder of the site")
+}
+
 fn new_word<'a>(alloc: Global) -> Result<Command<'a>, Error> {
-    Ok(
-        Command::new(alloc, "new")
-            .about("Writes a small site to start from")
-            .arg(folder_argument(alloc, "The folder of the site, empty or absent"))?,
+    folder_word(
+        alloc,
+        "new",
+        "Writes a small site to start from",
+        "The folder of the site, empty or absent",
     )
 }
 
 fn check_word<'a>(alloc: Global) -> Result<Command<'a>, Error> {
-    Ok(
-        Command::new(alloc, "check")
-            .about("Tells what is wrong with a folder, each fault with its place and what to do")
-            .arg(folder_argument(alloc, "The folder of the site"))?
-            .arg(ignore_flag(alloc))?,
-    )
+    let about = "Tells what is wrong with a folder, each fault with its place and what to do";
+    Ok(site_word(alloc, "check", about)?.arg(ignore_flag(alloc))?)
 }
 
 fn out_argument<'a>(alloc: Global) -> Arg<'a> {
-    Arg::new(alloc, "out")
-        .value_name("OUT")
-        .help("The folder of the copy, empty or absent")
-        .required(true)
-        .action(ArgAction::Set)
+    value(
+        alloc,
+        "out",
+        "OUT",
+        "The folder of the copy, empty or absent",
+    )
+    .required(true)
 }
 
 fn export_word<'a>(alloc: Global) -> Result<Command<'a>, Error> {
     Ok(
-        Command::new(alloc, "export")
-            .about("Writes a static copy of a folder's pages")
-            .arg(folder_argument(alloc, "The folder of the site"))?
+        site_word(alloc, "export", "Writes a static copy of a folder's pages")?
             .arg(out_argument(alloc))?
             .arg(ignore_flag(alloc))?,
     )
 }
 
 fn urls_argument<'a>(alloc: Global) -> Arg<'a> {
-    Arg::new(alloc, "url")
-        .value_name("URL")
-        .help("The address of a node, as http://127.0.0.1:8001; the first that answers is kept to")
-        .action(ArgAction::Append)
+    value(
+        alloc,
+        "url",
+        "URL",
+        "The address of a node, as http://127.0.0.1:8001; the first that answers is kept to",
+    )
+    .action(ArgAction::Append)
 }
 
 fn editor_option<'a>(alloc: Global) -> Arg<'a> {
-    Arg::new(alloc, "editor")
-        .long("editor")
-        .value_name("E")
-        .help("The editor's number; by default that of FOLDER/published, at first one at random")
-        .value_parser(clap::value_parser!(u32))
-        .action(ArgAction::Set)
+    option(
+        alloc,
+        "editor",
+        "E",
+        "The editor's number; by default that of FOLDER/published, at first one at random",
+    )
+    .value_parser(clap::value_parser!(u32))
 }
 
 fn patience_option<'a>(alloc: Global) -> Arg<'a> {
-    Arg::new(alloc, "patience")
-        .long("patience")
-        .value_name("SECONDS")
-        .help("Gives up where so many seconds pass without progress; 60 by default")
-        .value_parser(clap::value_parser!(u64))
-        .action(ArgAction::Set)
+    option(
+        alloc,
+        "patience",
+        "SECONDS",
+        "Gives up where so many seconds pass without progress; 60 by default",
+    )
+    .value_parser(clap::value_parser!(u64))
 }
 
 fn dry_run_flag<'a>(alloc: Global) -> Arg<'a> {
-    Arg::new(alloc, "dry-run")
-        .long("dry-run")
-        .help("Tells what would be put and removed, and which pages change; asks and sends nothing")
-        .action(ArgAction::SetTrue)
+    flag(
+        alloc,
+        "dry-run",
+        "Tells what would be put and removed, and which pages change; asks and sends nothing",
+    )
 }
 
 fn publish_word<'a>(alloc: Global) -> Result<Command<'a>, Error> {
+    let about = "Makes a folder the next release of a group, and goes on where it was interrupted";
     Ok(
-        Command::new(alloc, "publish")
-            .about(
-                "Makes a folder the next release of a group, and goes on where it was interrupted",
-            )
-            .arg(folder_argument(alloc, "The folder of the site"))?
+        site_word(alloc, "publish", about)?
             .arg(urls_argument(alloc))?
             .arg(editor_option(alloc))?
             .arg(patience_option(alloc))?
@@ -149,30 +192,29 @@ fn publish_word<'a>(alloc: Global) -> Result<Command<'a>, Error> {
 }
 
 fn address_option<'a>(alloc: Global) -> Arg<'a> {
-    Arg::new(alloc, "http")
-        .long("http")
-        .value_name("ADDRESS")
-        .help("Where it answers, IP:PORT; 127.0.0.1:8000 by default")
-        .action(ArgAction::Set)
+    option(
+        alloc,
+        "http",
+        "ADDRESS",
+        "Where it answers, IP:PORT; 127.0.0.1:8000 by default",
+    )
 }
 
 fn preview_word<'a>(alloc: Global) -> Result<Command<'a>, Error> {
+    let about =
+        "Serves a folder to a browser as it is on disk at each request; what is wrong with it in place of its pages";
     Ok(
-        Command::new(alloc, "preview")
-            .about(
-                "Serves a folder to a browser as it is on disk at each request; what is wrong with it in place of its pages",
-            )
-            .arg(folder_argument(alloc, "The folder of the site"))?
+        site_word(alloc, "preview", about)?
             .arg(address_option(alloc))?
             .arg(ignore_flag(alloc))?,
     )
 }
 
 fn log_word<'a>(alloc: Global) -> Result<Command<'a>, Error> {
-    Ok(
-        Command::new(alloc, "log")
-            .about("Tells the releases that were made of a folder: number, time, how many commands")
-            .arg(folder_argument(alloc, "The folder of the site"))?,
+    site_word(
+        alloc,
+        "log",
+        "Tells the releases that were made of a folder: number, time, how many commands",
     )
 }
 
