@@ -2,7 +2,8 @@
 //!
 //! Behind an interrupted run all pages are compared, else those that changed.
 
-use editor_parts::{Halt, say};
+use crate::telling::say_made;
+use editor_parts::Halt;
 use group_client::{Node, ask};
 use node_client::{Answer, Question};
 use site_folder::{View, path_in, views_of};
@@ -43,14 +44,16 @@ fn paths_of(alloc: Global, texts: &[&str], others: &[&str]) -> Result<Vec<String
 
 /// The views that differ from those before, which are of the same paths.
 fn differing(alloc: Global, olds: &[View], news: Vec<View>) -> Result<Vec<Change>, AllocError> {
-    olds.iter()
-        .zip(news)
-        .filter(|(old, view)| old.status != view.status || old.body != view.body)
-        .map(|(old, view)| Change {
-            before: old.status,
-            view,
-        })
-        .collect(alloc)
+    let mut changes = Vec::new(alloc);
+    for (old, view) in olds.iter().zip(news) {
+        if old.status != view.status || old.body != view.body {
+            changes.push(Change {
+                before: old.status,
+                view,
+            })?;
+        }
+    }
+    Ok(changes)
 }
 
 /// The pages that differ between the texts before and those after.
@@ -102,8 +105,7 @@ fn tell_difference<E: Write>(
     } else {
         "was not answered"
     };
-    let line = format!(in alloc; "{url}/@{release}{path}: {why}")?;
-    say(err, line.as_str())
+    say_made(err, format!(in alloc; "{url}/@{release}{path}: {why}"))
 }
 
 /// Tells each page that was not answered as it is wanted. Whether there is one is the answer.

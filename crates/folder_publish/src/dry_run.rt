@@ -1,5 +1,6 @@
 //! What would be published.
 use crate::comparing::{Change, changes_since};
+use crate::telling::say_made;
 use editor_parts::{Halt, say};
 use site_ledger::{Ledger, Sent};
 use site_publish::{Stage, advance};
@@ -12,10 +13,12 @@ fn head_of(text: &str) -> &str {
 }
 
 /// Takes what is on its way as received.
-fn settle(alloc: Global, ledger: &mut Ledger) -> Result<(), AllocError> {
-    let numbers: Vec<u64> = ledger.sent().iter().map(|sent| sent.number).collect(alloc)?;
-    for number in numbers {
-        ledger.receive(number)?;
+fn settle(ledger: &mut Ledger) -> Result<(), AllocError> {
+    for _ in 0..ledger.sent().len() {
+        if let Some(sent) = ledger.sent().first() {
+            let number = sent.number;
+            ledger.receive(number)?;
+        }
     }
     Ok(())
 }
@@ -24,8 +27,7 @@ fn settle(alloc: Global, ledger: &mut Ledger) -> Result<(), AllocError> {
 fn tell_sent<W: Write>(alloc: Global, out: &mut W, sent: &[Sent]) -> Result<(), Halt> {
     for sent in sent {
         let head = head_of(sent.text.as_str());
-        let line = format!(in alloc; "{head} (on its way)")?;
-        say(out, line.as_str())?;
+        say_made(out, format!(in alloc; "{head} (on its way)"))?;
     }
     Ok(())
 }
@@ -37,8 +39,7 @@ fn tell_page<W: Write>(alloc: Global, out: &mut W, change: &Change) -> Result<()
         (_, 404) => "goes",
         _ => "changes",
     };
-    let line = format!(in alloc; "page {path} {what}")?;
-    say(out, line.as_str())
+    say_made(out, format!(in alloc; "page {path} {what}"))
 }
 
 /// Tells what is planned, and which pages change by it.
@@ -79,6 +80,6 @@ pub(crate) fn tell_plan<W: Write>(
     wanted: &[&str],
 ) -> Result<(), Halt> {
     tell_sent(alloc, out, ledger.sent())?;
-    settle(alloc, ledger)?;
+    settle(ledger)?;
     tell_next(alloc, out, ledger, wanted)
 }

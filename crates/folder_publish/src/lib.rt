@@ -2,7 +2,7 @@
 //!
 //! `publishing.rt` has the way of a publication: the folder is read, the group is asked whether the file `published` is the newest, what changed is sent
 //! and released, and `comparing.rt` looks whether the release shows it. `taking_over.rt` tells what a first publication meets, `dry_run.rt` what one
-//! would send. What is decided, `site_publish` says; `site_files` reads and saves, `group_client` asks and sends.
+//! would send, and `telling.rt` writes a line. What is decided, `site_publish` says; `site_files` reads and saves, `group_client` asks and sends.
 #![tactic(auto)]
 
 mod comparing;
@@ -10,5 +10,6 @@ mod dry_run;
 mod made;
 mod publishing;
 mod taking_over;
+mod telling;
 
 pub use publishing::{Publishing, publish};

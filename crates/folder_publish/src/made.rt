@@ -1,5 +1,6 @@
 //! The release that a publication made.
-use editor_parts::{Halt, say};
+use crate::telling::say_made;
+use editor_parts::Halt;
 use site_ledger::Ledger;
 use std::alloc::Global;
 use std::io::Write;
@@ -45,8 +46,8 @@ pub(crate) fn tell_made<W: Write>(
         " or one shortly before it (another editor released as well)"
     };
     let noun = if commands == 1 { "command" } else { "commands" };
-    let line = format!(in alloc;
-        "release {release}{whose}, of {commands} {noun}: {url}/@{release}/"
-    )?;
-    say(out, line.as_str())
+    say_made(
+        out,
+        format!(in alloc; "release {release}{whose}, of {commands} {noun}: {url}/@{release}/"),
+    )
 }

@@ -3,6 +3,7 @@ use crate::comparing::{Change, changes_of, changes_since, tell_differences};
 use crate::dry_run::tell_plan;
 use crate::made::{Made, commands_of, release_ticket, tell_made};
 use crate::taking_over::tell_taken_over;
+use crate::telling::say_made;
 use editor_parts::{Halt, say};
 use group_client::{Group, Node, confirm, deliver, newest};
 use site_files::{Clean, new_editor, read_clean, read_ledger, save, texts_of};
@@ -289,10 +290,12 @@ fn publish_wanted<
 
 /// Tells that a folder has no page.
 fn tell_no_page<E: Write>(alloc: Global, err: &mut E, folder: &str) -> Result<(), Halt> {
-    let line = format!(in alloc;
-        "{folder}: no page, so nothing was sent: a site has a file routes; a folder of what changed is for tools/editors/frame"
-    )?;
-    say(err, line.as_str())
+    say_made(
+        err,
+        format!(in alloc;
+            "{folder}: no page, so nothing was sent: a site has a file routes; a folder of what changed is for tools/editors/frame"
+        ),
+    )
 }
 
 /// Publishes a folder without a fault.

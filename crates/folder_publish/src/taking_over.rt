@@ -1,5 +1,6 @@
 //! What a first publication takes over from those who have published in the group.
-use editor_parts::{Halt, say};
+use crate::telling::say_made;
+use editor_parts::Halt;
 use group_client::{Node, ask, newest};
 use node_client::{Answer, Question};
 use site_folder::path_in;
@@ -13,10 +14,16 @@ fn paths_in<'a>(alloc: Global, texts: &[&'a str]) -> Result<Vec<&'a str>, AllocE
 }
 
 fn tell_shown<E: Write>(alloc: Global, err: &mut E, release: u64) -> Result<(), Halt> {
-    let line = format!(in alloc;
-        "this group shows release {release} already, and this folder is published there for the first time: other paths stay; a template, a partial or data of the same name is replaced"
-    )?;
-    say(err, line.as_str())
+    say_made(
+        err,
+        format!(in alloc;
+            "this group shows release {release} already, and this folder is published there for the first time: other paths stay; a template, a partial or data of the same name is replaced"
+        ),
+    )
+}
+
+fn tell_path<E: Write>(alloc: Global, err: &mut E, path: &str) -> Result<(), Halt> {
+    say_made(err, format!(in alloc; "takes over {path}"))
 }
 
 /// Tells the paths that the group answers.
@@ -28,8 +35,7 @@ fn tell_paths<E: Write>(
 ) -> Result<(), Halt> {
     for (path, answer) in paths.iter().zip(answers.iter()) {
         if answer.status != 404 {
-            let line = format!(in alloc; "takes over {path}")?;
-            say(err, line.as_str())?;
+            tell_path(alloc, err, path)?;
         }
     }
     Ok(())
