@@ -53,23 +53,32 @@ pub fn below(alloc: Global, path: &str, name: &str) -> Result<String, AllocError
     format!(in alloc; "{path}/{name}")
 }
 
-fn kind_of<R: Files + AllocGlobal>(rt: &R, whole: &str, path: &str) -> Result<Kind, Halt> {
-    let is_folder = match fs::metadata(rt, whole) {
-        Ok(found) => found.is_dir(),
-        Err(fault) => return Err(Halt::at_path(rt.alloc(), whole, fault)),
-    };
-    Ok(match (is_folder, is_part(path), is_of_site(path)) {
-        (true, true, _) => Kind::Part,
-        (false, _, true) => Kind::Site,
-        _ => Kind::Other,
-    })
+/// What the system gave of a path, or what it says of that.
+pub(crate) fn at<T>(alloc: Global, path: &str, given: io::Result<T>) -> Result<T, Halt> {
+    match given {
+        Ok(given) => Ok(given),
+        Err(fault) => Err(Halt::at_path(alloc, path, fault)),
+    }
 }
 
-fn bytes_at<R: Files + AllocGlobal>(rt: &R, whole: &str) -> Result<Vec<u8>, Halt> {
-    match fs::read(rt, whole) {
-        Ok(bytes) => Ok(bytes),
-        Err(fault) => Err(Halt::at_path(rt.alloc(), whole, fault)),
+/// What a folder or a file at a path below the folder is to a site.
+fn kind_at(is_folder: bool, path: &str) -> Kind {
+    if is_folder {
+        if is_part(path) {
+            Kind::Part
+        } else {
+            Kind::Other
+        }
+    } else if is_of_site(path) {
+        Kind::Site
+    } else {
+        Kind::Other
     }
+}
+
+fn kind_of<R: Files + AllocGlobal>(rt: &R, whole: &str, path: &str) -> Result<Kind, Halt> {
+    let found = at(rt.alloc(), whole, fs::metadata(rt, whole))?;
+    Ok(kind_at(found.is_dir(), path))
 }
 
 /// The names in a folder.
@@ -79,16 +88,6 @@ fn list<R: Files + AllocGlobal + Clone + Drop>(rt: &R, whole: &str) -> io::Resul
         names.push(String::from_str(rt.alloc(), entry?.file_name())?)?;
     }
     Ok(names)
-}
-
-fn names_in<R: Files + AllocGlobal + Clone + Drop>(
-    rt: &R,
-    whole: &str,
-) -> Result<Vec<String>, Halt> {
-    match list(rt, whole) {
-        Ok(names) => Ok(names),
-        Err(fault) => Err(Halt::at_path(rt.alloc(), whole, fault)),
-    }
 }
 
 impl Search {
@@ -117,7 +116,7 @@ fn take_at<R: Files + AllocGlobal>(
     let alloc = rt.alloc();
     match kind_of(rt, whole, path)? {
         Kind::Part => search.put_off(alloc, path)?,
-        Kind::Site => search.put(alloc, path, bytes_at(rt, whole)?)?,
+        Kind::Site => search.put(alloc, path, at(alloc, whole, fs::read(rt, whole))?)?,
         Kind::Other if search.ignore => search.pass_over(),
         Kind::Other => search.put(alloc, path, Vec::new(alloc))?,
     }
@@ -165,7 +164,7 @@ fn look_in<R: Files + AllocGlobal + Clone + Drop>(
     search: &mut Search,
 ) -> Result<(), Halt> {
     let whole = below(rt.alloc(), root, folder)?;
-    let names = names_in(rt, whole.as_str())?;
+    let names = at(rt.alloc(), whole.as_str(), list(rt, whole.as_str()))?;
     take_names(rt, root, folder, &names, search)
 }
 
@@ -235,17 +234,11 @@ fn make_folders<R: Files + AllocGlobal>(rt: &R, path: &str) -> Result<(), Halt> 
     let Some((folder, _)) = path.rsplit_once('/') else {
         return Ok(());
     };
-    match fs::create_dir_all(rt, folder) {
-        Ok(()) => Ok(()),
-        Err(fault) => Err(Halt::at_path(rt.alloc(), folder, fault)),
-    }
+    at(rt.alloc(), folder, fs::create_dir_all(rt, folder))
 }
 
 /// Writes a file, and makes the folders that it stands in.
 pub fn write_file<R: Files + AllocGlobal>(rt: &R, path: &str, text: &str) -> Result<(), Halt> {
     make_folders(rt, path)?;
-    match fs::write(rt, path, text) {
-        Ok(()) => Ok(()),
-        Err(fault) => Err(Halt::at_path(rt.alloc(), path, fault)),
-    }
+    at(rt.alloc(), path, fs::write(rt, path, text))
 }

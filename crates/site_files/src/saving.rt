@@ -1,16 +1,16 @@
 //! The file `published` of a folder.
-use crate::files::below;
+use crate::files::{at, below};
 use editor_parts::Halt;
 use site_ledger::{Ledger, ReadFault};
-use std::alloc::Global;
+use std::alloc::{AllocError, Global};
 use std::fs::{self, File, OpenFile};
 use std::io::{self, Write};
 use std::random::RandomSource;
 use std::rt::Files;
 
 /// Where a folder's file is.
-fn ledger_path(alloc: Global, folder: &str) -> Result<String, Halt> {
-    Ok(below(alloc, folder, "published")?)
+fn ledger_path(alloc: Global, folder: &str) -> Result<String, AllocError> {
+    below(alloc, folder, "published")
 }
 
 /// The ledger that a text spells, as it is written now or as the script `tools/publish` wrote it.
@@ -67,8 +67,5 @@ pub fn save<R: Files + AllocGlobal>(rt: &R, folder: &str, ledger: &Ledger) -> Re
     let path = ledger_path(alloc, folder)?;
     let fresh = below(alloc, folder, ".published.new")?;
     let (fresh, path) = (fresh.as_str(), path.as_str());
-    match replace(rt, folder, fresh, path, text.as_str()) {
-        Ok(()) => Ok(()),
-        Err(fault) => Err(Halt::at_path(alloc, path, fault)),
-    }
+    at(alloc, path, replace(rt, folder, fresh, path, text.as_str()))
 }
