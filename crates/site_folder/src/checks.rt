@@ -5,27 +5,22 @@ ghost use Rattle.site_folder.specs.Texts.{AreCommands};
 use crate::finding::Finding;
 use crate::folder::{PartialCall, Reading, Redirect, Route, key_of};
 use crate::place::Place;
-use crate::reasons::{fault_in, warning_in};
+use crate::reasons::{line_fault, warning_in};
 use command::Kind;
 use std::alloc::{AllocError, Global};
-
-/// A fault of a line of `routes`.
-fn route_fault(alloc: Global, line: usize, reason: &str) -> Result<Finding, AllocError> {
-    fault_in(alloc, "routes", Some(Place { line, column: 1 }), reason)
-}
 
 /// A route's template isn't there.
 fn missing_template(alloc: Global, route: &Route) -> Result<Finding, AllocError> {
     let name = route.template.as_str();
     let reason = format!(in alloc; "there is no templates/{name}.mustache")?;
-    route_fault(alloc, route.line, reason.as_str())
+    line_fault(alloc, "routes", route.line, reason)
 }
 
 /// A route's data aren't there.
 fn missing_data(alloc: Global, route: &Route) -> Result<Finding, AllocError> {
     let name = route.page_data.as_str();
     let reason = format!(in alloc; "there is no data/{name}.json")?;
-    route_fault(alloc, route.line, reason.as_str())
+    line_fault(alloc, "routes", route.line, reason)
 }
 
 /// A path has a route, and so has the bare one, without its slash at the end.

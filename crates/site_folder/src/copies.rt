@@ -34,20 +34,24 @@ fn has_parts(path: &str) -> bool {
         .all(|part| !part.is_empty() && part != "." && part != "..")
 }
 
+/// Whether a path is a file's as it is.
+fn names_file(path: &str) -> bool {
+    ENDINGS.iter().any(|ending| path.ends_with(*ending))
+}
+
 /// The file of a page without regard to others: `index.html` for `/`, `a/index.html` for `/a` and `/a/`, `a.css` for `/a.css`.
 fn file_of(alloc: Global, path: &str) -> Result<Option<String>, AllocError> {
     let below = path.strip_prefix('/').unwrap_or(path);
-    if below.is_empty() {
-        return Ok(Some(String::from_str(alloc, "index.html")?));
-    }
     let bare = below.strip_suffix('/').unwrap_or(below);
-    if !has_parts(bare) {
+    Ok(Some(if below.is_empty() {
+        String::from_str(alloc, "index.html")?
+    } else if !has_parts(bare) {
         return Ok(None);
-    }
-    if ENDINGS.iter().any(|ending| below.ends_with(*ending)) {
-        return Ok(Some(String::from_str(alloc, bare)?));
-    }
-    Ok(Some(format!(in alloc; "{bare}/index.html")?))
+    } else if names_file(below) {
+        String::from_str(alloc, bare)?
+    } else {
+        format!(in alloc; "{bare}/index.html")?
+    }))
 }
 
 /// The folders in which a file stands, the outermost first.
@@ -86,14 +90,29 @@ impl Copies {
         false
     }
 
-    /// Notes a file and its folders.
-    fn note(&mut self, file: &str, folders: Vec<String>) -> Result<(), AllocError> {
-        for folder in folders {
-            drop(self.taken.insert(folder, Taken::Folder)?);
-        }
-        let file = String::from_str(self.alloc, file)?;
-        drop(self.taken.insert(file, Taken::File)?);
+    /// Notes what stands at a path.
+    fn mark(&mut self, path: &str, taken: Taken) -> Result<(), AllocError> {
+        let path = String::from_str(self.alloc, path)?;
+        drop(self.taken.insert(path, taken)?);
         Ok(())
+    }
+
+    /// Notes a file and its folders.
+    fn note(&mut self, file: &str, folders: &[String]) -> Result<(), AllocError> {
+        for folder in folders {
+            self.mark(folder.as_str(), Taken::Folder)?;
+        }
+        self.mark(file, Taken::File)
+    }
+
+    /// Notes a file, unless it is taken. Whether it was free is the answer.
+    fn note_free(&mut self, file: &str) -> Result<bool, AllocError> {
+        let folders = folders_of(self.alloc, file)?;
+        if self.is_taken(file, &folders) {
+            return Ok(false);
+        }
+        self.note(file, &folders)?;
+        Ok(true)
     }
 
     /// Takes the file of a page, as a path below the copy's folder.
@@ -101,11 +120,10 @@ impl Copies {
         let Some(file) = file_of(self.alloc, path)? else {
             return Ok(Err(NoCopy::NoPath));
         };
-        let folders = folders_of(self.alloc, file.as_str())?;
-        if self.is_taken(file.as_str(), &folders) {
-            return Ok(Err(NoCopy::Taken));
+        if self.note_free(file.as_str())? {
+            Ok(Ok(file))
+        } else {
+            Ok(Err(NoCopy::Taken))
         }
-        self.note(file.as_str(), folders)?;
-        Ok(Ok(file))
     }
 }

@@ -71,44 +71,42 @@ fn reason_at(alloc: Global, before: u8, here: u8) -> Result<String, AllocError> 
     String::from_str(alloc, reason)
 }
 
+fn slip_at(alloc: Global, at: usize, reason: &str) -> Result<Slip, AllocError> {
+    let reason = String::from_str(alloc, reason)?;
+    Ok(Slip { at, reason })
+}
+
+/// Why bytes are no JSON that a parser refuses at a place.
+fn refused_at(
+    alloc: Global,
+    bytes: &[u8],
+    line: usize,
+    column: usize,
+    is_end: bool,
+) -> Result<Slip, AllocError> {
+    let start = line_start(bytes, line);
+    let at = start
+        .saturating_add(column.saturating_sub(1))
+        .min(bytes.len());
+    if is_end || at == bytes.len() {
+        let reason = "no JSON: the file ends too early: a `}`, a `]` or a double quote is missing";
+        return slip_at(alloc, bytes.len(), reason);
+    }
+    let reason = reason_at(alloc, last_of(&bytes[..at]), bytes[at])?;
+    Ok(Slip { at, reason })
+}
+
 /// Why bytes that are no JSON are none.
 pub(crate) fn json_slip(alloc: Global, bytes: &[u8]) -> Result<Slip, AllocError> {
     if bytes.starts_with(b"\xef\xbb\xbf") {
-        return Ok(Slip {
-            at: 0,
-            reason: String::from_str(
-                alloc,
-                "the file begins with a byte order mark: save it as UTF-8 without one",
-            )?,
-        });
+        let reason = "the file begins with a byte order mark: save it as UTF-8 without one";
+        return slip_at(alloc, 0, reason);
     }
-    let fault = match Value::from_slice(alloc, bytes) {
-        Ok(_) => {
-            return Ok(Slip {
-                at: 0,
-                reason: String::from_str(alloc, "no JSON")?,
-            });
-        }
-        Err(fault) => fault,
-    };
-    if fault.is_memory() {
-        return Err(AllocError);
+    match Value::from_slice(alloc, bytes) {
+        Ok(_) => slip_at(alloc, 0, "no JSON"),
+        Err(fault) if fault.is_memory() => Err(AllocError),
+        Err(fault) => refused_at(alloc, bytes, fault.line(), fault.column(), fault.is_eof()),
     }
-    let start = line_start(bytes, fault.line());
-    let at = start
-        .saturating_add(fault.column().saturating_sub(1))
-        .min(bytes.len());
-    if fault.is_eof() || at == bytes.len() {
-        let reason = "no JSON: the file ends too early: a `}`, a `]` or a double quote is missing";
-        return Ok(Slip {
-            at: bytes.len(),
-            reason: String::from_str(alloc, reason)?,
-        });
-    }
-    Ok(Slip {
-        at,
-        reason: reason_at(alloc, last_of(&bytes[..at]), bytes[at])?,
-    })
 }
 
 fn is_number_byte(b: u8) -> bool {
@@ -170,13 +168,11 @@ pub(crate) fn number_slip(alloc: Global, bytes: &[u8]) -> Result<Slip, AllocErro
         inside = step(inside, *b);
         behind = *b;
     }
-    Ok(Slip {
-        at: 0,
-        reason: String::from_str(
-            alloc,
-            "a number is not whole, or too large: write it as a text",
-        )?,
-    })
+    slip_at(
+        alloc,
+        0,
+        "a number is not whole, or too large: write it as a text",
+    )
 }
 
 /// Whether the byte is a letter that numbers have: no number begins with one.

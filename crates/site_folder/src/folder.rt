@@ -130,29 +130,49 @@ impl Reading {
         self.judge(text)
     }
 
+    /// A file that is no UTF-8 from a byte on.
+    fn no_text(&mut self, file: &SiteFile, at: usize) -> Result<(), AllocError>
+        ensures { AreCommands self.old.folder.commands.items → AreCommands self.new.folder.commands.items }
+    {
+        let finding = no_text(self.alloc, file.path.as_str(), &file.bytes, at)?;
+        self.find(finding)
+    }
+
+    /// Takes the command of a file, or finds why it is none. Whether it is one is the answer.
+    fn judge_body(&mut self, path: &str, head: &str, body: &str) -> Result<bool, AllocError>
+        ensures { AreCommands self.old.folder.commands.items → AreCommands self.new.folder.commands.items }
+    {
+        match self.judge_file(head, body)? {
+            Some(refusal) => {
+                let finding = file_fault(self.alloc, path, head.len(), body, refusal)?;
+                self.find(finding)?;
+                Ok(false)
+            }
+            None => Ok(true),
+        }
+    }
+
+    /// Takes the text of a template, a partial or data, and the partials that it calls.
+    fn body(&mut self, kind: Kind, name: &str, path: &str, body: &str) -> Result<(), AllocError>
+        ensures { AreCommands self.old.folder.commands.items → AreCommands self.new.folder.commands.items }
+    {
+        let word = kind_word(kind);
+        let head = format!(in self.alloc; "put {word} {name}\n")?;
+        let taken = self.judge_body(path, head.as_str(), body)?;
+        if taken && matches!(kind, Kind::Template | Kind::Partial) {
+            return self.partials(path, body);
+        }
+        Ok(())
+    }
+
     /// Takes a file that is the text of a template, a partial or data.
     fn text(&mut self, kind: Kind, name: &str, file: &SiteFile) -> Result<(), AllocError>
         ensures { AreCommands self.old.folder.commands.items → AreCommands self.new.folder.commands.items }
     {
         let _ = self.found.insert(key_of(self.alloc, kind, name)?, 0)?;
-        let path = file.path.as_str();
-        let body = match str::from_utf8(&file.bytes) {
-            Ok(body) => body,
-            Err(wrong) => {
-                let finding = no_text(self.alloc, path, &file.bytes, wrong.valid_up_to())?;
-                return self.find(finding);
-            }
-        };
-        let word = kind_word(kind);
-        let head = format!(in self.alloc; "put {word} {name}\n")?;
-        if let Some(refusal) = self.judge_file(head.as_str(), body)? {
-            let finding = file_fault(self.alloc, path, head.len(), body, refusal)?;
-            return self.find(finding);
-        }
-        match kind {
-            Kind::Template => self.partials(path, body),
-            Kind::Partial => self.partials(path, body),
-            _ => Ok(()),
+        match str::from_utf8(&file.bytes) {
+            Ok(body) => self.body(kind, name, file.path.as_str(), body),
+            Err(wrong) => self.no_text(file, wrong.valid_up_to()),
         }
     }
 
@@ -185,7 +205,7 @@ impl Reading {
     {
         let (path, template, page_data) = (route.path, route.template, route.page_data);
         let text = format!(in self.alloc; "put route {path} {template} {page_data}\n")?;
-        self.judge(Vec::from_slice(self.alloc, text.as_bytes())?)
+        self.judge(text.into_bytes())
     }
 
     /// Notes what a line of `routes` says.
@@ -225,7 +245,7 @@ impl Reading {
     {
         let (path, target) = (redirect.path, redirect.target);
         let text = format!(in self.alloc; "put redirect {path} {target}\n")?;
-        self.judge(Vec::from_slice(self.alloc, text.as_bytes())?)
+        self.judge(text.into_bytes())
     }
 
     /// Notes what a line of `redirects` says.
@@ -275,7 +295,7 @@ impl Reading {
     {
         let word = kind_word(kind);
         let text = format!(in self.alloc; "remove {word} {name}\n")?;
-        self.judge(Vec::from_slice(self.alloc, text.as_bytes())?)
+        self.judge(text.into_bytes())
     }
 
     /// Takes a line of `removes`.
@@ -341,11 +361,7 @@ impl Reading {
     {
         let text = match str::from_utf8(&file.bytes) {
             Ok(text) => text,
-            Err(wrong) => {
-                let at = wrong.valid_up_to();
-                let finding = no_text(self.alloc, file.path.as_str(), &file.bytes, at)?;
-                return self.find(finding);
-            }
+            Err(wrong) => return self.no_text(file, wrong.valid_up_to()),
         };
         for line in lines_in(self.alloc, text)?.iter() {
             self.line(line, of)?;
@@ -368,6 +384,18 @@ impl Reading {
             }
             _ => Ok(()),
         }
+    }
+
+    /// Takes all files, pass by pass, and finds what is wrong beyond them.
+    fn files(&mut self, files: &[SiteFile]) -> Result<(), AllocError>
+        ensures { AreCommands self.old.folder.commands.items → AreCommands self.new.folder.commands.items }
+    {
+        for pass in PASSES {
+            for file in files {
+                self.file(pass, file)?;
+            }
+        }
+        self.check()
     }
 }
 
@@ -417,11 +445,6 @@ pub fn folder_of(alloc: Global, files: &[SiteFile]) -> Result<Folder, AllocError
     ensures { IfOk result (λ f. AreCommands f.commands.items) }
 {
     let mut reading = Reading::new(alloc);
-    for pass in PASSES {
-        for file in files {
-            reading.file(pass, file)?;
-        }
-    }
-    reading.check()?;
+    reading.files(files)?;
     Ok(reading.folder)
 }

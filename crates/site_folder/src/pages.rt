@@ -1,8 +1,8 @@
 //! The pages of a folder, as a node shows them; those that moved as files that lead on.
-use crate::finding::{Finding, Weight};
+use crate::finding::Finding;
 use crate::folder::{Folder, Redirect};
 use crate::moved::moved_page;
-use crate::place::Place;
+use crate::reasons::line_fault;
 use command::write;
 use release::{Answer, AnswerFault, Releases};
 use site_ids::{MAX_INSTANCE, Ticket};
@@ -114,10 +114,20 @@ fn pages_in(alloc: Global, folder: &Folder, releases: &Releases) -> Result<Vec<P
     Ok(pages)
 }
 
+/// The same once its commands are fed.
+fn pages_by(
+    alloc: Global,
+    folder: &Folder,
+    releases: &mut Releases,
+) -> Result<Vec<Page>, AllocError> {
+    feed_folder(alloc, releases, folder)?;
+    pages_in(alloc, folder, releases)
+}
+
 /// The pages of a folder in a release of its commands alone: of its routes, then of its redirects whose paths have no route, each in order.
 pub fn pages_of(alloc: Global, folder: &Folder) -> Result<Vec<Page>, AllocError> {
-    let releases = release_of(alloc, folder)?;
-    pages_in(alloc, folder, &releases)
+    let mut releases = Releases::new(alloc);
+    pages_by(alloc, folder, &mut releases)
 }
 
 impl Page {
@@ -128,15 +138,7 @@ impl Page {
         }
         let path = self.path.as_str();
         let why = self.body.as_str().trim_end();
-        Ok(Some(Finding {
-            weight: Weight::Fault,
-            file: String::from_str(alloc, self.file)?,
-            place: Some(Place {
-                line: self.line,
-                column: 1,
-            }),
-            reason: format!(in alloc; "{path}: {why}")?,
-            label: None,
-        }))
+        let reason = format!(in alloc; "{path}: {why}")?;
+        Ok(Some(line_fault(alloc, self.file, self.line, reason)?))
     }
 }

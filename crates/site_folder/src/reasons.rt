@@ -9,6 +9,25 @@ use context::DataFault;
 use site_ids::{MAX_VALUE, TICKET_BYTES};
 use std::alloc::{AllocError, Global};
 
+/// What is wrong with a file; the formats know nothing of it where it has no label.
+fn finding(
+    alloc: Global,
+    weight: Weight,
+    file: &str,
+    place: Option<Place>,
+    reason: String,
+    label: Option<String>,
+) -> Result<Finding, AllocError> {
+    let file = String::from_str(alloc, file)?;
+    Ok(Finding {
+        weight,
+        file,
+        place,
+        reason,
+        label,
+    })
+}
+
 /// A fault of a file, of which the formats know nothing.
 pub(crate) fn fault_in(
     alloc: Global,
@@ -16,13 +35,19 @@ pub(crate) fn fault_in(
     place: Option<Place>,
     reason: &str,
 ) -> Result<Finding, AllocError> {
-    Ok(Finding {
-        weight: Weight::Fault,
-        file: String::from_str(alloc, file)?,
-        place,
-        reason: String::from_str(alloc, reason)?,
-        label: None,
-    })
+    let reason = String::from_str(alloc, reason)?;
+    finding(alloc, Weight::Fault, file, place, reason, None)
+}
+
+/// A fault of a line of a file.
+pub(crate) fn line_fault(
+    alloc: Global,
+    file: &str,
+    line: usize,
+    reason: String,
+) -> Result<Finding, AllocError> {
+    let place = Some(Place { line, column: 1 });
+    finding(alloc, Weight::Fault, file, place, reason, None)
 }
 
 /// A warning of a line or a place of a file.
@@ -32,13 +57,7 @@ pub(crate) fn warning_in(
     place: Place,
     reason: String,
 ) -> Result<Finding, AllocError> {
-    Ok(Finding {
-        weight: Weight::Warning,
-        file: String::from_str(alloc, file)?,
-        place: Some(place),
-        reason,
-        label: None,
-    })
+    finding(alloc, Weight::Warning, file, Some(place), reason, None)
 }
 
 /// The bytes of a file that are no UTF-8, by the first.
@@ -111,11 +130,12 @@ pub(crate) fn file_fault(
     refusal: Refusal,
 ) -> Result<Finding, AllocError> {
     let (place, reason) = place_and_reason(alloc, head, text, &refusal.fault)?;
-    Ok(Finding {
-        weight: Weight::Fault,
-        file: String::from_str(alloc, file)?,
+    finding(
+        alloc,
+        Weight::Fault,
+        file,
         place,
         reason,
-        label: Some(refusal.line),
-    })
+        Some(refusal.line),
+    )
 }

@@ -44,11 +44,21 @@ fn views_in(alloc: Global, releases: &Releases, paths: &[String]) -> Result<Vec<
     Ok(views)
 }
 
+/// The same once these command texts are fed.
+fn views_by(
+    alloc: Global,
+    releases: &mut Releases,
+    texts: &[&str],
+    paths: &[String],
+) -> Result<Vec<View>, AllocError> {
+    feed_texts(alloc, releases, texts)?;
+    views_in(alloc, releases, paths)
+}
+
 /// What a node shows at paths, in a release of these command texts alone: one view a path, in order.
 pub fn views_of(alloc: Global, texts: &[&str], paths: &[String]) -> Result<Vec<View>, AllocError> {
     let mut releases = Releases::new(alloc);
-    feed_texts(alloc, &mut releases, texts)?;
-    views_in(alloc, &releases, paths)
+    views_by(alloc, &mut releases, texts, paths)
 }
 
 /// The path that a command text is about, where it is about a route or a redirect.
