@@ -205,13 +205,20 @@ impl Machine {
         mem::replace(self, Machine::Bare(MemDisk::new(alloc))).close()
     }
 
+    /// It is that machine from now on. What it was is let go of here alone.
+    fn put(&mut self, machine: Machine)
+        ensures { self.new ≡ machine }
+    {
+        *self = machine;
+    }
+
     /// The node is down, and its disk has lost what wasn't synced, by the choice.
     pub(crate) fn crash(&mut self, alloc: Global, choice: u8)
         ensures { (n p : ℕ) → Turns n p (λ s out next. Settled Down s out next) self.old self.new [] [] }
     {
         let mut disk = self.take(alloc);
         disk.crash(choice);
-        *self = Machine::Bare(disk);
+        self.put(Machine::Bare(disk));
     }
 
     /// Opens the node over its disk. Where that is refused, the node is down.
@@ -230,11 +237,11 @@ impl Machine {
         disk.disarm();
         match Node::open(alloc, cluster, me, disk) {
             Ok(node) => {
-                *self = Machine::Open { node, armed: false };
+                self.put(Machine::Open { node, armed: false });
                 Ok(())
             }
             Err((fault, disk)) => {
-                *self = Machine::Bare(disk);
+                self.put(Machine::Bare(disk));
                 Err(fault)
             }
         }
