@@ -52,7 +52,10 @@ impl Sockets {
 fn boxed(alloc: Global, server: Server) -> Result<Box<Server>, ServerFault> {
     match Box::new(alloc, server) {
         Ok(server) => Ok(server),
-        Err(_) => Err(ServerFault::OutOfMemory),
+        Err(server) => {
+            drop(server);
+            Err(ServerFault::OutOfMemory)
+        }
     }
 }
 

@@ -38,7 +38,10 @@ fn boxed(alloc: Global, server: FileServer) -> Result<Box<FileServer>, Halt>
 {
     match Box::new(alloc, server) {
         Ok(boxed) => Ok(boxed),
-        Err(_) => Err(Halt::OutOfMemory),
+        Err(server) => {
+            drop(server);
+            Err(Halt::OutOfMemory)
+        }
     }
 }
 

@@ -209,7 +209,7 @@ impl Machine {
     fn put(&mut self, machine: Machine)
         ensures { self.new ≡ machine }
     {
-        *self = machine;
+        drop(mem::replace(self, machine));
     }
 
     /// The node is down, and its disk has lost what wasn't synced, by the choice.
