@@ -1,4 +1,5 @@
 //! Which receipt a connection's next request asks for, as its first bytes tell.
+use crate::comparing::same;
 use failing_ends::whole;
 use http_read::Counted;
 use http_serve::Line;
@@ -7,13 +8,28 @@ use std::alloc::Global;
 use std::process::Abort;
 
 /// What came, and the ticket whose receipt it asks for.
-const ROWS: &[(&[u8], Option<(u32, u64)>)] = &[
+const ROWS: &[(&[u8], Option<Ticket>)] = &[
     (
         b"GET /_ticket/1/5 HTTP/1.1\r\nHost: a\r\n\r\n",
-        Some((1, 5)),
+        Some(Ticket {
+            editor: 1,
+            number: 5,
+        }),
     ),
-    (b"GET /_ticket/0/18446744073709551615 ", Some((0, u64::MAX))),
-    (b"GET /_ticket/4294967295/0 ", Some((u32::MAX, 0))),
+    (
+        b"GET /_ticket/0/18446744073709551615 ",
+        Some(Ticket {
+            editor: 0,
+            number: u64::MAX,
+        }),
+    ),
+    (
+        b"GET /_ticket/4294967295/0 ",
+        Some(Ticket {
+            editor: u32::MAX,
+            number: 0,
+        }),
+    ),
     (b"GET /_ticket/4294967296/0 ", None),
     (b"GET /_ticket/1/5", None),
     (b"GET /_ticket/1/05 ", None),
@@ -34,12 +50,12 @@ fn hear(rt: &impl Abort, line: &mut Line, came: &[u8]) {
     assert!(rt; line.hear(&mut reader).is_ok());
 }
 
-fn check(rt: &impl Abort, alloc: Global, came: &[u8], wanted: Option<(u32, u64)>) {
+fn check(rt: &impl Abort, alloc: Global, came: &[u8], wanted: Option<Ticket>) {
     let mut line = Line::new(alloc);
     assert!(rt; line.asks_receipt().is_none());
     hear(rt, &mut line, came);
-    let ticket = wanted.map(|(editor, number)| Ticket { editor, number });
-    assert_eq!(rt; line.asks_receipt(), ticket);
+    same(rt, line.asks_receipt(), wanted);
+    drop(line);
 }
 
 #[test]

@@ -1,4 +1,5 @@
 //! Requests cut in every way, cut off after each byte, and over a reader that fails in place of each call.
+use crate::comparing::same;
 use crate::pieces::{check_one, comes, even, in_pieces};
 use failing_ends::Pieces;
 use http_read::{Counted, Inbox};
@@ -21,7 +22,7 @@ fn check_alone(
 ) {
     let mut inbox = Inbox::new(alloc);
     comes(rt, alloc, reader, &mut inbox, expected, row);
-    assert_eq!(rt; reader.failures(), failures);
+    same(rt, reader.failures(), failures);
 }
 
 /// For each cut into two, and in pieces of each size.

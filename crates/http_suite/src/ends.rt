@@ -1,5 +1,6 @@
 //! A connection between a reader and a writer over memory that work in pieces and may fail.
 
+use crate::comparing::same;
 use crate::desk::Desk;
 use failing_ends::{Pieces, Sink, whole};
 use http_read::Counted;
@@ -58,14 +59,25 @@ pub(crate) fn served(alloc: Global, desk: &mut Desk<'_>, reader: Pieces<'_>) -> 
 /// How a connection ends, and what was written.
 pub(crate) type End<'a> = (Result<(), ServeFault>, &'a [u8]);
 
-/// A connection came to that end: a fault of its reader or its writer is one call that failed.
+/// Whether a connection came to that result: a fault of its reader or its writer is one call that failed.
+fn is_result(run: &Connection, wanted: Result<(), ServeFault>) -> bool {
+    let (reads, writes) = match wanted {
+        Err(ServeFault::Read) => (1, 0),
+        Err(ServeFault::Write) => (0, 1),
+        _ => (0, 0),
+    };
+    run.result == wanted && run.failed_reads == reads && run.failed_writes == writes
+}
+
+/// A connection came to that end.
 fn ends(rt: &impl Abort, run: &Connection, end: End<'_>, row: (&str, usize)) {
     let (result, written) = end;
-    let reads = u64::from(result == Err(ServeFault::Read));
-    let writes = u64::from(result == Err(ServeFault::Write));
-    let failed = (run.failed_reads, run.failed_writes);
-    assert_eq!(rt; (row, run.result, failed), (row, result, (reads, writes)));
-    assert_eq!(rt; (row, run.written.as_slice()), (row, written));
+    let is_so = is_result(run, result);
+    same(
+        rt,
+        (row, is_so, run.written.as_slice()),
+        (row, true, written),
+    );
 }
 
 /// What is read so comes to that end.

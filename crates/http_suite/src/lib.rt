@@ -8,6 +8,8 @@ mod asks;
 #[cfg(test)]
 mod bodies;
 #[cfg(test)]
+mod comparing;
+#[cfg(test)]
 mod cuts;
 #[cfg(test)]
 mod desk;

@@ -1,5 +1,6 @@
 //! Requests in pieces, and what each comes to, in a line of text.
 
+use crate::comparing::same;
 use crate::texts::joined;
 use failing_ends::Pieces;
 use http_read::{Counted, Inbox, Incoming, Method, Progress, ReadFault, Request, advance, request};
@@ -72,7 +73,7 @@ fn is_so(
     row: (&str, usize),
 ) {
     let text = text_of(alloc, came).expect(rt, "memory");
-    assert_eq!(rt; (row, text.as_str()), (row, expected));
+    same(rt, (row, text.as_str()), (row, expected));
 }
 
 fn next(
@@ -163,7 +164,7 @@ fn left_of(alloc: Global, held: &[u8], behind: &[u8]) -> Result<Vec<u8>, AllocEr
 
 fn check_left(rt: &impl Abort, alloc: Global, held: &[u8], behind: &[u8], left: &str) {
     let rest = left_of(alloc, held, behind).expect(rt, "memory");
-    assert_eq!(rt; rest.as_slice(), left.as_bytes());
+    same(rt, rest.as_slice(), left.as_bytes());
 }
 
 /// A part of a request, and what the request comes to.
@@ -192,7 +193,7 @@ fn check_behind(
     reader: Counted<Pieces<'_>>,
     inbox: &Inbox,
 ) {
-    assert_eq!(rt; reader.failures(), 0);
+    same(rt, reader.failures(), 0);
     if case.is_asked() {
         let behind = reader.into_inner().bytes;
         check_left(rt, alloc, inbox.held(), behind, case.left);
@@ -206,6 +207,7 @@ fn check_pieces(rt: &impl Abort, alloc: Global, case: Case<'_>, piece: usize) {
     let row = (case.text, piece);
     comes(rt, alloc, &mut reader, &mut inbox, case.expected, row);
     check_behind(rt, alloc, case, reader, &inbox);
+    drop(inbox);
 }
 
 /// Reads on in one that comes in a first piece and then in pieces of one size.
@@ -215,6 +217,7 @@ fn check_so_far(rt: &impl Abort, alloc: Global, case: Case<'_>, first: usize, pi
     let row = (case.text, first);
     comes_so_far(rt, alloc, &mut reader, &mut inbox, case.expected, row);
     check_behind(rt, alloc, case, reader, &inbox);
+    drop(inbox);
 }
 
 const SHORT_PIECES: &[usize] = &[1, 2, 7, 999];

@@ -1,5 +1,6 @@
 //! Requests and connections with one growth refused, as `tools/gate/refuse-growths` runs this: a call answers as ever, or memory was refused, nothing
 //! was written and nothing taken, and then another connection with the same bytes is answered as ever.
+use crate::comparing::same;
 use crate::desk::{Desk, open_desk};
 use crate::ends::{Connection, served};
 use crate::pieces::read_held;
@@ -170,7 +171,7 @@ fn is_refused(rt: &impl Abort, desk: &Desk<'_>, run: &Connection, first: &[u8]) 
         return true;
     }
     if run.result == Err(ServeFault::Write) {
-        assert_eq!(rt; run.failed_writes, 1);
+        same(rt, run.failed_writes, 1);
         return true;
     }
     false
@@ -209,14 +210,14 @@ fn connections(rt: HostRuntime) {
     }
     assert!(rt; desk.values.is_empty());
     tried_again(&rt, rt.alloc(), &mut desk, SUBMISSION);
-    assert_eq!(rt; desk.values.len(), 1);
+    same(&rt, desk.values.len(), 1);
 }
 
 #[test]
 fn two_requests(rt: HostRuntime) {
     let mut desk = open_desk(rt.alloc(), "Hi\n", 1);
     tried_again(&rt, rt.alloc(), &mut desk, TWO);
-    assert_eq!(rt; desk.values.len(), 1);
+    same(&rt, desk.values.len(), 1);
 }
 
 /// Whether memory was refused to a connection in steps, before anything was taken and but for that response written, and it is over; or the
@@ -258,5 +259,5 @@ fn lines(rt: HostRuntime) {
     }
     assert!(rt; desk.values.is_empty());
     led_again(&rt, rt.alloc(), &mut desk, TWO);
-    assert_eq!(rt; desk.values.len(), 1);
+    same(&rt, desk.values.len(), 1);
 }

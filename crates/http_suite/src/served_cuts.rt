@@ -1,4 +1,5 @@
 //! Requests cut in every way, cut off after each byte, and over readers and writers that fail at each place.
+use crate::comparing::same;
 use crate::desk::{Desk, open_desk};
 use crate::ends::{reads, writes};
 use failing_ends::{in_pieces, whole};
@@ -46,7 +47,7 @@ fn check_short(rt: &impl Abort, alloc: Global, desk: &mut Desk<'_>) {
 
 /// A writer takes pieces of each size, or fails after each number of bytes.
 fn check_writers(rt: &impl Abort, alloc: Global, desk: &mut Desk<'_>) {
-    assert_eq!(rt; RESPONSE.len(), 81);
+    same(rt, RESPONSE.len(), 81);
     for k in 0..RESPONSE.len() {
         let end = (Ok(()), RESPONSE);
         writes(rt, alloc, desk, REQUEST, (usize::MAX, k + 1), end);

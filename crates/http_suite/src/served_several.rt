@@ -1,4 +1,5 @@
 //! Several requests on a connection: responses one behind another, when it is closed, and what stands after a fault.
+use crate::comparing::same;
 use crate::desk::{Desk, open_desk};
 use crate::ends::{End, reads, writes};
 use crate::responses::{BAD, LAST_PAGE, PAGE};
@@ -169,7 +170,7 @@ fn two_submissions(rt: HostRuntime) {
     let end = (Ok(()), BOTH_QUEUED);
     let reader = whole(TWO_SUBMISSIONS);
     reads(&rt, rt.alloc(), &mut desk, reader, end, ("submissions", 2));
-    assert_eq!(rt; desk.values.len(), 2);
+    same(&rt, desk.values.len(), 2);
 }
 
 /// A connection that is served by turns.
@@ -235,10 +236,10 @@ fn by_turns(
     desk: &mut Desk<'_>,
 ) {
     for answered in 0..2 {
-        assert_eq!(rt; one.turn(alloc, desk, answered), Ok(Next::Stays));
-        assert_eq!(rt; other.turn(alloc, desk, answered), Ok(Next::Stays));
+        same(rt, one.turn(alloc, desk, answered), Ok(Next::Stays));
+        same(rt, other.turn(alloc, desk, answered), Ok(Next::Stays));
     }
-    assert_eq!(rt; one.turn(alloc, desk, 2), Ok(Next::Ended));
+    same(rt, one.turn(alloc, desk, 2), Ok(Next::Ended));
 }
 
 #[test]
@@ -247,6 +248,6 @@ fn two_connections_by_turns(rt: HostRuntime) {
     let mut one = sending(rt.alloc(), TWO_REQUESTS);
     let mut other = sending(rt.alloc(), TWO_REQUESTS);
     by_turns(&rt, rt.alloc(), &mut one, &mut other, &mut desk);
-    assert_eq!(rt; one.into_written().as_slice(), TWO_PAGES);
-    assert_eq!(rt; other.into_written().as_slice(), TWO_PAGES);
+    same(&rt, one.into_written().as_slice(), TWO_PAGES);
+    same(&rt, other.into_written().as_slice(), TWO_PAGES);
 }

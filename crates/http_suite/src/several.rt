@@ -1,4 +1,5 @@
 //! Several requests on one connection: behind each the inbox and the reader have what follows it.
+use crate::comparing::same;
 use crate::pieces::{comes, even};
 use crate::texts::{joined, times};
 use http_read::Inbox;
@@ -13,7 +14,8 @@ fn check_each(rt: &impl Abort, alloc: Global, bytes: &[u8], piece: usize, expect
         let row = ("in pieces of", piece);
         comes(rt, alloc, &mut reader, &mut inbox, one, row);
     }
-    assert_eq!(rt; reader.failures(), 0);
+    drop(inbox);
+    same(rt, reader.failures(), 0);
 }
 
 const CONNECTION: &[u8] =
@@ -44,6 +46,7 @@ fn check_many(rt: &impl Abort, alloc: Global, bytes: &[u8], piece: usize, expect
         comes(rt, alloc, &mut reader, &mut inbox, expected, row);
     }
     comes(rt, alloc, &mut reader, &mut inbox, "ended", ("", piece));
+    drop(inbox);
 }
 
 const PIECES: &[usize] = &[1, 100, 1_049, 5_000, 16_384, 99_999];

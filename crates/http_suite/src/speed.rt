@@ -1,4 +1,5 @@
 //! Many requests, as `bench/http` times them: the time of many less that of few.
+use crate::comparing::same;
 use crate::desk::{Desk, open_desk};
 use crate::ends::served;
 use crate::texts::times;
@@ -12,7 +13,7 @@ const REQUEST: &str =
 /// The requests are answered, by more than so many bytes.
 fn writes_more(rt: &impl Abort, alloc: Global, desk: &mut Desk<'_>, sent: &[u8], size: usize) {
     let run = served(alloc, desk, whole(sent));
-    assert_eq!(rt; run.result, Ok(()));
+    same(rt, run.result, Ok(()));
     assert!(rt; run.written.len() > size);
 }
 

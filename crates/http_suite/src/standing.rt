@@ -1,4 +1,5 @@
 //! Where the reading of a request stands after each of its pieces.
+use crate::comparing::same;
 use crate::pieces::read_held;
 use http_read::{Awaited, Counted, Inbox, Incoming, Progress};
 use httparse::spans::HeaderSpan;
@@ -32,7 +33,7 @@ impl Reading {
             .inbox
             .read_from(&mut Counted::new(piece))
             .expect(rt, "memory");
-        assert_eq!(rt; read.ok(), Some(piece.len()));
+        same(rt, read.ok(), Some(piece.len()));
     }
 
     fn go_on(&mut self, rt: &impl Abort, alloc: Global) -> Option<Incoming> {
@@ -61,8 +62,8 @@ fn check_piece(
     let (piece, awaited) = row;
     reading.take(rt, piece.as_bytes());
     let came = reading.go_on(rt, alloc);
-    assert_eq!(rt; (piece, reading.progress.awaits()), (piece, awaited));
-    assert_eq!(rt; (piece, is_due(&came, body)), (piece, true));
+    same(rt, (piece, reading.progress.awaits()), (piece, awaited));
+    same(rt, (piece, is_due(&came, body)), (piece, true));
 }
 
 /// Gives the pieces one after another. The last one, and no other, makes the request whole.
@@ -77,7 +78,7 @@ fn check_pieces(rt: &impl Abort, alloc: Global, reading: &mut Reading, rows: &[R
 fn check_awaited(rt: &impl Abort, alloc: Global, rows: &[Row], body: &[u8], left: &[u8]) {
     let mut reading = Reading::new(alloc);
     check_pieces(rt, alloc, &mut reading, rows, body);
-    assert_eq!(rt; reading.inbox.held(), left);
+    same(rt, reading.inbox.held(), left);
 }
 
 const STATED: &[Row] = &[

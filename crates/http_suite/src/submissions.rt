@@ -1,4 +1,5 @@
 //! Submissions: each outcome, and what is taken where the response is lost.
+use crate::comparing::same;
 use crate::desk::{Desk, Mood, open_desk};
 use crate::ends::{PLAIN, Row, reads, responds, response, writes};
 use crate::texts::{joined, times};
@@ -101,7 +102,7 @@ fn check_pieces(rt: &impl Abort, alloc: Global, desk: &mut Desk<'_>) {
     for piece in 2..CHUNKED.len() {
         check_chunks(rt, alloc, desk, piece, ALREADY);
     }
-    assert_eq!(rt; desk.values.len(), 1);
+    same(rt, desk.values.len(), 1);
 }
 
 /// Busy and stopped take nothing, but what is there stays there.
@@ -121,7 +122,7 @@ fn check_outcomes(rt: &impl Abort, alloc: Global, desk: &mut Desk<'_>) {
 fn outcomes(rt: HostRuntime) {
     let mut desk = open_desk(rt.alloc(), "Hi\n", 1);
     check_outcomes(&rt, rt.alloc(), &mut desk);
-    assert_eq!(rt; desk.values.get(0).map(|v| v.as_slice()), Some(VALUE));
+    same(&rt, desk.values.get(0).map(|v| v.as_slice()), Some(VALUE));
 }
 
 /// Where memory was missing none was taken, and a request cut short takes none.
@@ -151,5 +152,5 @@ fn lost_responses(rt: HostRuntime) {
     check_not_taken(&rt, rt.alloc(), &mut desk);
     let end = (Err(ServeFault::Write), b"HTTP/1.1 202 Accepte".as_slice());
     writes(&rt, rt.alloc(), &mut desk, CHUNKED, (20, 7), end);
-    assert_eq!(rt; desk.values.len(), 1);
+    same(&rt, desk.values.len(), 1);
 }

@@ -1,9 +1,11 @@
 //! Nodes over disks in memory: worked rows of one node, devices that fail at each call of a put and of a seal, and each growth refused. `driven` has nodes
-//! that are driven over links.
+//! that are driven over links, `worlds` whole groups under schedules.
 #![tactic(auto)]
 
 #[cfg(test)]
 mod batches;
+#[cfg(test)]
+mod comparing;
 #[cfg(test)]
 mod devices;
 #[cfg(test)]
@@ -24,3 +26,5 @@ mod spans;
 mod told_again;
 #[cfg(test)]
 mod widening;
+#[cfg(test)]
+mod worlds;

@@ -2,6 +2,7 @@
 //! step.
 ghost use Rattle.site_ids.specs.Ids.{IsNode};
 
+use crate::comparing::same;
 use durable::{Record, RecordFault};
 use node::{Node, NodeFault, Outbox, Submitted, To};
 use site_disk::MemDisk;
@@ -20,7 +21,7 @@ pub(crate) struct Peer {
 
 /// A call came to that.
 pub(crate) fn ends(rt: &impl Abort, called: Result<(), NodeFault>, wanted: Result<(), NodeFault>) {
-    assert_eq!(rt; called, wanted);
+    same(rt, called, wanted);
 }
 
 pub(crate) fn passes(rt: &impl Abort, called: Result<(), NodeFault>) {
@@ -40,7 +41,7 @@ fn formatted(rt: &impl Abort, alloc: Global, cluster: Cluster, me: NodeId) -> Me
     match format(alloc, cluster, me) {
         Ok(disk) => disk,
         Err(fault) => {
-            assert_eq!(rt; fault, RecordFault::Device);
+            same(rt, fault, RecordFault::Device);
             format(alloc, cluster, me).expect(rt, "a record")
         }
     }

@@ -1,4 +1,5 @@
 //! Worked rows of one node.
+use crate::comparing::same;
 use crate::heard::choice_comes;
 use crate::peer::{Peer, ends, passes};
 use crate::samples::{
@@ -21,16 +22,16 @@ fn tell(rt: &impl Abort, node: &mut Peer, from: u8, value: &Value) {
 const VOTES: &[(u8, u32)] = &[(2, 0), (2, 0), (2, 0), (3, 0), (4, 1)];
 
 fn knows(rt: &impl Abort, node: &Peer, known: u32) {
-    assert_eq!(rt; node.known(), known);
+    same(rt, node.known(), known);
 }
 
 /// The newest release.
 fn publishes(rt: &impl Abort, node: &mut Peer, newest: u64) {
-    assert_eq!(rt; node.publish(), Ok(newest));
+    same(rt, node.publish(), Ok(newest));
 }
 
 fn answers(rt: &impl Abort, submitted: Result<Submitted, NodeFault>, wanted: Submitted) {
-    assert_eq!(rt; submitted, Ok(wanted));
+    same(rt, submitted, Ok(wanted));
 }
 
 fn a_majority_of_votes(rt: &impl Abort, node: &mut Peer, release: &Value) {

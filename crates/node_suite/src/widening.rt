@@ -1,4 +1,5 @@
 //! Several attempts of one node.
+use crate::comparing::same;
 use crate::heard::choice_comes;
 use crate::peer::{Peer, passes};
 use crate::samples::{ballot, nack, value};
@@ -69,7 +70,7 @@ fn submit_each(rt: &impl Abort, node: &mut Peer, first: u64, last: u64) {
 }
 
 fn widen(rt: &impl Abort, node: &mut Peer, answer: Result<bool, NodeFault>) {
-    assert_eq!(rt; node.widen(), answer);
+    same(rt, node.widen(), answer);
 }
 
 fn prepares(rt: &impl Abort, node: &mut Peer, wanted: &[(u32, u32, u8)]) {

@@ -10,6 +10,8 @@ mod batches;
 #[cfg(test)]
 mod changes;
 #[cfg(test)]
+mod comparing;
+#[cfg(test)]
 mod crashes;
 #[cfg(test)]
 mod damage;

@@ -1,4 +1,5 @@
 //! The promise of a span on record.
+use crate::comparing::same;
 use crate::disks::{holds, is_long_behind};
 use crate::listed::SPANNED;
 use crate::samples::{ballot, instance};
@@ -62,7 +63,7 @@ fn is_voted_for(slot: &Slot, text: &str) -> bool {
 }
 
 fn is_round(rt: &impl Abort, at: u32, promised: u32, round: u32) {
-    assert_eq!(rt; promised, round, "at instance {at}");
+    same(rt, (at, promised), (at, round));
 }
 
 /// The rounds promised from an instance on are these.

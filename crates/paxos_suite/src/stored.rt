@@ -4,6 +4,7 @@ ghost use Rattle.site_ids.specs.Spans.{IsInSpan};
 ghost use Rattle.acceptor.specs.Judging.{IsFreeBelow};
 ghost use Rattle.durable.specs.Slots.{slot_at};
 
+use crate::comparing::same;
 use crate::disks::{syncs, writes};
 use crate::samples::{cluster, instance};
 use acceptor::{PrepareVerdict, ProposeVerdict, judge_prepare, judge_propose};
@@ -65,12 +66,12 @@ pub fn arm<D: Armed>(record: &mut Record<D>, calls: u32) {
 
 /// A call of a record came to that.
 pub fn ends(rt: &impl Abort, came: Result<(), RecordFault>, wanted: Result<(), RecordFault>) {
-    assert_eq!(rt; came, wanted);
+    same(rt, came, wanted);
 }
 
 /// That is what the record promised at instance 1.
 pub fn is_promised<D: Disk>(rt: &impl Abort, record: &Record<D>, promised: Option<Ballot>) {
-    assert_eq!(rt; record.slot(instance(rt, 1)).promised, promised);
+    same(rt, record.slot(instance(rt, 1)).promised, promised);
 }
 
 /// Why these bytes are refused to a node of three, if they are.
@@ -90,7 +91,7 @@ pub fn is_refused(
     bytes: &[u8],
     wanted: Option<RecordFault>,
 ) {
-    assert_eq!(rt; refusal(rt, alloc, number, bytes), wanted);
+    same(rt, refusal(rt, alloc, number, bytes), wanted);
 }
 
 /// Puts a round. `NotARecord` where it is no higher one.

@@ -1,4 +1,5 @@
 //! When a patient server asks, and when it tells.
+use crate::comparing::same;
 use site_pace::{Asking, Telling};
 use std::process::Abort;
 
@@ -29,7 +30,7 @@ fn a_question_that_brought_news_is_followed_by_the_next(rt: HostRuntime) {
             calm,
             passed,
         };
-        assert_eq!(rt; asking.is_due(), due, "{asking:?}");
+        same(&rt, (asking, asking.is_due()), (asking, due));
     }
 }
 
@@ -46,6 +47,6 @@ const TELLINGS: &[(bool, bool, bool, bool)] = &[
 fn a_full_telling_comes_at_once(rt: HostRuntime) {
     for &(full, calm, passed, due) in TELLINGS {
         let telling = Telling { full, calm, passed };
-        assert_eq!(rt; telling.is_due(), due, "{telling:?}");
+        same(&rt, (telling, telling.is_due()), (telling, due));
     }
 }

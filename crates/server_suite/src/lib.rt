@@ -1,4 +1,5 @@
-//! Servers without sockets and clock: the rules of their waiting as tables, seats, and groups joined in memory by scripts.
+//! Servers without sockets and clock: the rules of their waiting as tables, seats, and groups joined in memory by scripts. `programs` has the other
+//! programs' engines and the command lines.
 #![tactic(auto)]
 
 #[cfg(test)]
@@ -8,6 +9,8 @@ mod behind_turns;
 #[cfg(test)]
 mod client;
 #[cfg(test)]
+mod comparing;
+#[cfg(test)]
 mod group;
 #[cfg(test)]
 mod notes;
@@ -15,6 +18,8 @@ mod notes;
 mod pacing;
 #[cfg(test)]
 mod packets;
+#[cfg(test)]
+mod programs;
 #[cfg(test)]
 mod receipts;
 #[cfg(test)]

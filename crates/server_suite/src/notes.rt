@@ -1,4 +1,5 @@
 //! What a server says of itself, and when.
+use crate::comparing::same;
 use site_ids::Cluster;
 use site_notes::Notes;
 use std::alloc::{AllocError, Global};
@@ -121,7 +122,7 @@ fn pass(rt: &impl Abort, alloc: Global, notes: &mut Notes, pass: Pass) -> Result
     for &line in lines {
         let note = notes.next(now, known).expect(rt, line);
         let text = format!(in alloc; "{note}")?;
-        assert_eq!(rt; text.as_str(), line);
+        same(rt, text.as_str(), line);
     }
     assert!(rt; notes.next(now, known).is_none(), "{now}");
     Ok(())

@@ -1,4 +1,5 @@
 //! When a server ticks, whom it tells from where on, and how long it rests: each rule as a table.
+use crate::comparing::same;
 use site_ids::{Cluster, Instance, NodeId};
 use site_pace::{LastQuestion, Pace, Resting, Seen, Ticking, Times, first_told, has_passed};
 use std::process::Abort;
@@ -25,13 +26,13 @@ const TIMES: Times = Times {
 
 #[test]
 fn a_command_line_names_two_times(rt: HostRuntime) {
-    assert_eq!(rt; Times::new(None, None), TIMES);
+    same(&rt, Times::new(None, None), TIMES);
     let named = Times {
         patience: 250,
         serve_ms: Some(2000),
         ..TIMES
     };
-    assert_eq!(rt; Times::new(Some(250), Some(2000)), named);
+    same(&rt, Times::new(Some(250), Some(2000)), named);
 }
 
 /// Since when, the moment, so many milliseconds, and whether they have passed.
@@ -48,10 +49,10 @@ const PASSED: &[(Option<u64>, u64, u64, bool)] = &[
 #[test]
 fn time_passes(rt: HostRuntime) {
     for &(since, now, millis, passed) in PASSED {
-        assert_eq!(rt;
-            has_passed(since, now, millis),
-            passed,
-            "{since:?} {now} {millis}"
+        same(
+            &rt,
+            (since, now, millis, has_passed(since, now, millis)),
+            (since, now, millis, passed),
         );
     }
 }
@@ -70,7 +71,11 @@ const PATIENCES: &[(u64, u8, u64)] = &[
 fn greater_numbers_wait_longer(rt: HostRuntime) {
     for &(patience, node, millis) in PATIENCES {
         let times = Times::new(Some(patience), None);
-        assert_eq!(rt; times.patience_of(node), millis, "{patience} {node}");
+        same(
+            &rt,
+            (patience, node, times.patience_of(node)),
+            (patience, node, millis),
+        );
     }
 }
 
@@ -91,10 +96,10 @@ fn a_value_that_nobody_tries_is_fresh(rt: HostRuntime) {
             known: 7,
             ticks: 0,
         };
-        assert_eq!(rt;
-            ticking.is_fresh(wanted, stirred),
-            fresh,
-            "{wanted} {since:?} {stirred}"
+        same(
+            &rt,
+            (wanted, since, stirred, ticking.is_fresh(wanted, stirred)),
+            (wanted, since, stirred, fresh),
         );
     }
 }
@@ -121,10 +126,10 @@ fn news_begin_the_patience_anew(rt: HostRuntime) {
             known,
             ticks,
         };
-        assert_eq!(rt;
-            ticking.noted(9, wanted, known),
-            noted,
-            "{since:?} {wanted} {known}"
+        same(
+            &rt,
+            (since, wanted, known, ticking.noted(9, wanted, known)),
+            (since, wanted, known, noted),
         );
     }
 }
@@ -150,7 +155,11 @@ fn the_patience_grows(rt: HostRuntime) {
             known: 7,
             ticks,
         };
-        assert_eq!(rt; ticking.is_due(now, 150, 3), due, "{ticking:?} {now}");
+        same(
+            &rt,
+            (ticking, now, ticking.is_due(now, 150, 3)),
+            (ticking, now, due),
+        );
         assert!(rt; !ticking.is_due(now, u64::MAX, 3), "{ticking:?}");
     }
 }
@@ -185,7 +194,11 @@ fn a_server_asks_in_its_time_and_behind_news(rt: HostRuntime) {
             drained,
         };
         let asking = last.asking(TIMES, now, seen, empty);
-        assert_eq!(rt; asking.is_due(), asks, "{last:?} {now} {empty} {seen:?}");
+        same(
+            &rt,
+            (last, now, empty, seen, asking.is_due()),
+            (last, now, empty, seen, asks),
+        );
     }
 }
 
@@ -204,7 +217,7 @@ fn a_telling_begins_behind_the_answer(rt: HostRuntime) {
     for &(known, asked, first) in TOLD {
         let asked = Instance::new(asked).expect(&rt, "an instance");
         let told = first_told(known, asked).map(Instance::number);
-        assert_eq!(rt; told, first, "{known} {asked:?}");
+        same(&rt, (known, asked, told), (known, asked, first));
     }
 }
 
@@ -232,8 +245,8 @@ fn a_step_rests_where_nothing_came(rt: HostRuntime) {
             empty,
         };
         let rest = resting.is_due().then_some(TIMES.rest_after(empty));
-        assert_eq!(rt; rest, micros, "{resting:?}");
-        assert_eq!(rt; resting.empty_after(), then, "{resting:?}");
+        same(&rt, (resting, rest), (resting, micros));
+        same(&rt, (resting, resting.empty_after()), (resting, then));
     }
 }
 
@@ -262,7 +275,11 @@ fn a_server_begins_quiet_and_wakes_with_a_client(rt: HostRuntime) {
     let mut pace = Pace::new(TIMES, me);
     for &(came, served, steps, micros) in STEPS {
         for step in 0..steps {
-            assert_eq!(rt; pace.rest(came, served), micros, "{came} {served} {step}");
+            same(
+                &rt,
+                (came, served, step, pace.rest(came, served)),
+                (came, served, step, micros),
+            );
         }
     }
 }

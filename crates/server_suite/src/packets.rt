@@ -1,4 +1,5 @@
 //! Packets as tables: what is sent of datagrams, what comes of bytes, and which letters go together.
+use crate::comparing::same;
 use crate::group::fresh;
 use node::To;
 use site_drive::Letter;
@@ -31,8 +32,8 @@ fn datagrams_are_sent_as_one(rt: HostRuntime) {
             assert!(rt; packet.has_room(datagram.len()));
             packet.push(datagram).expect(&rt, "memory");
         }
-        assert_eq!(rt; packet.is_empty(), datagrams.is_empty());
-        assert_eq!(rt; packet.bytes(), sent);
+        same(&rt, packet.is_empty(), datagrams.is_empty());
+        same(&rt, packet.bytes(), sent);
     }
 }
 
@@ -62,7 +63,7 @@ fn hold(rt: &impl Abort, frames: &[u8], datagrams: &[&[u8]]) {
     let mut rest = frames;
     for &datagram in datagrams {
         let (first, behind) = first_frame(rest).expect(rt, "a datagram");
-        assert_eq!(rt; first, datagram);
+        same(rt, first, datagram);
         rest = behind;
     }
     assert!(rt; rest.is_empty());
@@ -105,8 +106,12 @@ fn a_packet_has_a_bound(rt: HostRuntime) {
         packet
             .push(bytes(&rt, rt.alloc(), first).as_slice())
             .expect(&rt, "memory");
-        assert_eq!(rt; packet.has_room(second), together, "{first} {second}");
-        assert_eq!(rt; packet.bytes().len(), first);
+        same(
+            &rt,
+            (first, second, packet.has_room(second)),
+            (first, second, together),
+        );
+        same(&rt, packet.bytes().len(), first);
     }
 }
 
@@ -147,9 +152,9 @@ fn letters_for_a_node_go_together(rt: HostRuntime) {
             letters.push(letter).expect(&rt, "memory");
         }
         let packed = pack(letters.as_slice(), to, &mut packet).expect(&rt, "memory");
-        assert_eq!(rt; packed, count, "{rows:?}");
+        same(&rt, (rows, packed), (rows, count));
         let none = packet.is_empty();
-        assert_eq!(rt; none, len == 0, "{rows:?}");
+        same(&rt, (rows, none), (rows, len == 0));
         assert!(rt; none || packet.bytes().len() == len, "{rows:?}");
     }
 }
@@ -176,7 +181,7 @@ fn a_piece_waits_as_its_datagrams(rt: HostRuntime) {
     for &(piece, malformed) in PIECES {
         server.mail.take_in(piece).expect(&rt, "memory");
         match server.step(0) {
-            Ok(stepped) => assert_eq!(rt; stepped.malformed, malformed, "{piece:?}"),
+            Ok(stepped) => same(&rt, (piece, stepped.malformed), (piece, malformed)),
             Err(_) => assert!(rt; false, "{piece:?}"),
         }
     }

@@ -1,4 +1,5 @@
 //! A receipt that is not there yet is waited for.
+use crate::comparing::same;
 use crate::group::Group;
 use std::alloc::Global;
 use std::process::Abort;
@@ -38,7 +39,7 @@ fn check(rt: &impl Abort, alloc: Global, sends: &[u8], millis: u64, wanted: &[u8
     group.comes(rt, 1, sends, usize::MAX);
     group.goes_on(rt, millis, 0);
     let client = group.leaves(rt, 1).expect(rt, "a client");
-    assert_eq!(rt; client.got(), wanted, "{millis}");
+    same(rt, (millis, client.got()), (millis, wanted));
 }
 
 #[test]

@@ -1,4 +1,5 @@
 //! Groups of servers by scripts: posts at each node, a node that was away, a power cut, clients that send a byte at a time.
+use crate::comparing::same;
 use crate::group::Group;
 use std::alloc::Global;
 use std::process::Abort;
@@ -95,5 +96,5 @@ fn each_client_gets_its_own_response(rt: HostRuntime) {
     let newest = group.leaves(&rt, 1).expect(&rt, "a client");
     assert!(rt; newest.got().starts_with(HEAD) && newest.got().ends_with(b"\n0\n"));
     let posted = group.leaves(&rt, 1).expect(&rt, "a client");
-    assert_eq!(rt; posted.got(), QUEUED);
+    same(&rt, posted.got(), QUEUED);
 }

@@ -1,5 +1,6 @@
 //! Seats: who goes for the 65th client, and how long a connection stays.
 use crate::client::Client;
+use crate::comparing::same;
 use site_pace::Times;
 use site_serve::{Seats, Stay};
 use std::alloc::Global;
@@ -24,15 +25,15 @@ const STAYS: &[(u64, Option<u64>, bool, bool)] = &[
 fn a_connection_stays_as_long_as_it_moves_and_its_request_may_take(rt: HostRuntime) {
     for &(still, busy, alone, limited) in STAYS {
         let stay = Stay { still, busy };
-        assert_eq!(rt;
-            stay.is_too_long(Times::new(None, None)),
-            alone,
-            "{still} {busy:?}"
+        same(
+            &rt,
+            (still, busy, stay.is_too_long(Times::new(None, None))),
+            (still, busy, alone),
         );
-        assert_eq!(rt;
-            stay.is_too_long(Times::new(None, Some(2_000))),
-            limited,
-            "{still} {busy:?}"
+        same(
+            &rt,
+            (still, busy, stay.is_too_long(Times::new(None, Some(2_000)))),
+            (still, busy, limited),
         );
     }
 }
@@ -45,18 +46,29 @@ fn comes(
     now: u64,
 ) -> bool {
     let client = Client::new(alloc, sends, usize::MAX).expect(rt, "memory");
-    seats.admit(client, now).expect(rt, "memory").is_none()
+    let gone = seats.admit(client, now).expect(rt, "memory");
+    let is_seated = gone.is_none();
+    drop(gone);
+    is_seated
+}
+
+/// Whether nothing was heard of the client that goes, if one does.
+fn was_silent(gone: Option<Client>) -> Option<bool> {
+    let client = gone?;
+    let was = client.is_unheard();
+    drop(client);
+    Some(was)
 }
 
 /// Sixty-four clients: each comes a millisecond behind the one before it, and the first so many send a request.
 fn full(rt: &impl Abort, alloc: Global, asking: u64) -> Seats<Client> {
     let mut seats = Seats::new(alloc, Times::new(None, None));
     for k in 0..64 {
-        assert!(rt; seats.has_room() && seats.make_room().is_none());
+        let stay = seats.has_room() && was_silent(seats.make_room()).is_none();
         let sends: &[u8] = if k < asking { GET } else { b"" };
-        assert!(rt; comes(rt, alloc, &mut seats, sends, k));
+        assert!(rt; stay && comes(rt, alloc, &mut seats, sends, k));
     }
-    assert_eq!(rt; seats.len(), 64);
+    same(rt, seats.len(), 64);
     seats
 }
 
@@ -66,20 +78,27 @@ fn the_client_that_was_silent_longest_goes_for_another_one(rt: HostRuntime) {
     assert!(rt; !comes(&rt, rt.alloc(), &mut seats, GET, 64));
     // The first two send now, so the third was silent longest; it has sent nothing.
     assert!(rt; seats.hear(100).expect(&rt, "memory"));
-    let gone = seats.make_room().expect(&rt, "a client that goes");
-    assert!(rt; gone.is_unheard());
+    same(&rt, was_silent(seats.make_room()), Some(true));
     assert!(rt; seats.len() == 63 && comes(&rt, rt.alloc(), &mut seats, GET, 101));
+    drop(seats);
 }
+
+/// When clients leave, and whether the one that does was silent. The first one's request is unanswered for a second; the second one came at 1 and sent
+/// nothing in five seconds.
+const LEAVES: &[(u64, Option<bool>)] = &[
+    (1_063, None),
+    (1_064, Some(false)),
+    (5_000, None),
+    (5_001, Some(true)),
+    (5_001, None),
+];
 
 #[test]
 fn connections_leave_in_their_time(rt: HostRuntime) {
     let mut seats = full(&rt, rt.alloc(), 1);
     assert!(rt; seats.hear(64).expect(&rt, "memory"));
-    assert!(rt; seats.leave(1_063).is_none());
-    // The first one's request is unanswered for a second.
-    assert!(rt; !seats.leave(1_064).expect(&rt, "a client").is_unheard());
-    assert!(rt; seats.leave(5_000).is_none());
-    // The second one came at 1 and sent nothing in five seconds.
-    assert!(rt; seats.leave(5_001).expect(&rt, "a client").is_unheard());
-    assert!(rt; seats.leave(5_001).is_none());
+    for &(now, leaves) in LEAVES {
+        same(&rt, (now, was_silent(seats.leave(now))), (now, leaves));
+    }
+    drop(seats);
 }

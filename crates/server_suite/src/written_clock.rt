@@ -1,6 +1,7 @@
 //! A pace over a written clock, beside node 1 of three that hears what a row says.
 ghost use Rattle.site_ids.specs.Ids.{IsNode};
 
+use crate::comparing::same;
 use command::write;
 use durable::Record;
 use node::{Node, Submitted};
@@ -187,7 +188,7 @@ impl Paced {
         };
         let bytes = write(self.alloc, ticket, b"release\n").expect(rt, "a command");
         let value = Value::from_bytes(bytes).expect(rt, "a value");
-        assert_eq!(rt; self.node.submit(&value), Ok(Submitted::Queued));
+        same(rt, self.node.submit(&value), Ok(Submitted::Queued));
     }
 
     /// These datagrams and then that call; and what was delivered is heard.
@@ -208,7 +209,7 @@ impl Paced {
             self.submit(rt);
         }
         let last = self.pace.due(now, &self.node, drained);
-        assert_eq!(rt; called(&last), call, "{now}");
+        same(rt, (now, called(&last)), (now, call));
         self.drive(rt, heard, last);
     }
 }

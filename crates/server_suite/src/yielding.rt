@@ -1,4 +1,5 @@
 //! When a server yields to another one that tries: each rule as a table.
+use crate::comparing::same;
 use site_ids::{Cluster, NodeId};
 use site_pace::{Times, Yielding};
 use std::process::Abort;
@@ -75,9 +76,13 @@ fn nodes_that_try_take_turns(rt: HostRuntime) {
             since,
         };
         let me = node(me).expect(&rt, "a node");
-        assert_eq!(rt; yielding.waits(me), waits, "{yielding:?} {me:?}");
+        same(
+            &rt,
+            (yielding, me, yielding.waits(me)),
+            (yielding, me, waits),
+        );
         let due = yielding.is_due(times, NOW, me);
-        assert_eq!(rt; due, yields, "{yielding:?} {me:?}");
+        same(&rt, (yielding, me, due), (yielding, me, yields));
     }
 }
 
@@ -106,7 +111,7 @@ fn a_stretch_of_yielding_ends(rt: HostRuntime) {
             since: Some(since),
         };
         let due = yielding.is_due(times, NOW, me);
-        assert_eq!(rt; due, yields, "{yielding:?}");
+        same(&rt, (yielding, due), (yielding, yields));
     }
 }
 
@@ -155,7 +160,11 @@ fn whose_attempt_stands_is_noted(rt: HostRuntime) {
             since: Some(3),
         };
         yielding.note(NOW, node(tries));
-        assert_eq!(rt; yielding, after, "{by} {stood:?} {free:?} {tries}");
+        same(
+            &rt,
+            (by, stood, free, tries, yielding),
+            (by, stood, free, tries, after),
+        );
     }
 }
 
@@ -182,6 +191,10 @@ fn who_waited_in_vain_goes_on(rt: HostRuntime) {
             ..Yielding::new()
         };
         yielding.pass(NOW, waits, yields);
-        assert_eq!(rt; yielding, after, "{since:?} {waits} {yields}");
+        same(
+            &rt,
+            (since, waits, yields, yielding),
+            (since, waits, yields, after),
+        );
     }
 }

@@ -1,6 +1,6 @@
 //! A folder of a site as data: its files in, its commands and all that is wrong with it out.
 //!
-//! Nothing here reads a file: `site_editor` does. `folder.rt` goes over the files, `judging.rt` asks `command` whether a text is a command, and
+//! Nothing here reads a file: `site_files` does. `folder.rt` goes over the files, `judging.rt` asks `command` whether a text is a command, and
 //! where it is none `template_reasons.rt`, `data_reasons.rt` and `reasons.rt` say why, for people: the place, and what to do. `lines.rt` reads
 //! `routes`, `redirects` and `removes`. `checks.rt` looks for what is named and isn't there. `pages.rt` renders each route, as a node would, `moved.rt`
 //! makes the file of a page that moved, and `copies.rt` says which file of a static copy a page is. `views.rt` says what a node shows of any texts. `beginning.rt` has a small site to start from.

@@ -3,7 +3,7 @@
 //! `standing.rt` judges a ledger by what nodes say of two tickets. `course.rt` plans: first the commands, then their release. `flight.rt` says what is
 //! asked of a node next, and hears its answers: the ledger moves by receipts alone. `pace.rt` says how long a
 //! node is stayed with and waited for. `laws.rt` says what follows, for every interruption and
-//! continuation. Nothing here sends, waits or saves: `group_client` and `site_editor` do, and save a plan before any of it is sent.
+//! continuation. Nothing here sends, waits or saves: `group_client` and `folder_publish` do, and save a plan before any of it is sent.
 #![tactic(auto)]
 
 mod course;

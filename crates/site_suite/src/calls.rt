@@ -1,4 +1,5 @@
 //! Each public call of the crates below that takes memory, once with ample memory. What a call made is lent to what looks at it.
+use crate::comparing::same;
 use command::{Action, CommandFault, fault_line, read, write};
 use context::{Data, DataFault, Frame, resolve};
 use mustache_parse::{Node, parse};
@@ -50,7 +51,7 @@ const NODES: &str = "[Text { text: \"a\", leads: true, trails: true }, Variable(
 fn parsing(rt: HostRuntime) {
     let template = parse(rt.alloc(), "a{{b}}").expect(&rt, "a template");
     let nodes = printed(rt.alloc(), template.nodes()).expect(&rt, "memory");
-    assert_eq!(rt; nodes.as_str(), NODES);
+    same(&rt, nodes.as_str(), NODES);
 }
 
 /// What a name is found to be.

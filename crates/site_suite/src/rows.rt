@@ -1,4 +1,5 @@
 //! Commands as rows: their values, and what they are answered with.
+use crate::comparing::same;
 use command::write;
 use content::Applied;
 use site_ids::Ticket;
@@ -35,5 +36,5 @@ pub(crate) fn is_answered(
     answer: Result<Applied, AllocError>,
     applied: Applied,
 ) {
-    assert_eq!(rt; answer, Ok(applied), "{text}");
+    same(rt, (text, answer), (text, Ok(applied)));
 }

@@ -1,8 +1,13 @@
 //! What an editor does with a folder of a site: `sitepub new`, `check`, `preview`, `publish`, `log`, `status`, `export`.
+//!
+//! `words.rt` does what a command line says (`editor_line`); what each word comes to stands in crates of its own (`folder_words`, `folder_publish`,
+//! `group_client`, `site_preview`, over `site_files`). What real files and sockets give and take is tested, not proved.
 #![tactic(auto)]
 
-use site_editor::sitepub;
+mod words;
+
 use std::process::ExitCode;
+use words::sitepub;
 
 fn main(rt: HostRuntime) -> ExitCode {
     ExitCode::from(sitepub(&rt, &mut rt.stdout(), &mut rt.stderr()))

@@ -1,4 +1,5 @@
 //! Datagrams that spell no message of three nodes, and the longest one that does.
+use crate::comparing::same;
 use crate::driven::server::{Server, bytes, passes};
 use site_drive::MemLink;
 use std::alloc::Global;
@@ -83,7 +84,7 @@ fn hear_each(rt: &impl Abort, server: &mut Server<MemLink>) {
 /// The datagrams sent from that place on are three, each the proposal.
 fn proposes(rt: &impl Abort, server: &Server<MemLink>, first: usize) {
     let proposal = long(rt, server.alloc, PROPOSAL, 32_784);
-    assert_eq!(rt; server.link.sent().len(), first.saturating_add(3));
+    same(rt, server.link.sent().len(), first.saturating_add(3));
     for (_, datagram) in server.link.sent().iter().skip(first) {
         assert!(rt; datagram.as_slice() == proposal.as_slice());
     }

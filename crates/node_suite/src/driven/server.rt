@@ -1,4 +1,5 @@
 //! A node with its link, boxed: a box is let go of in one step.
+use crate::comparing::same;
 use crate::driven::opening::fresh;
 use command::write;
 use node::{Node, NodeFault, Submitted};
@@ -23,7 +24,7 @@ pub(crate) fn passes(
     malformed: u32,
     failed: u64,
 ) {
-    assert_eq!(rt; driven, Ok(Driven { malformed, failed }), "{row}");
+    same(rt, (row, driven), (row, Ok(Driven { malformed, failed })));
 }
 
 /// Bytes that are given in hexadecimal. Where memory was refused they are read once more.

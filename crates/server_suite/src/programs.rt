@@ -1,0 +1,10 @@
+//! The renderer and the simulator over memory, with readers and writers that fail; command lines.
+
+mod ends;
+mod misuses;
+mod options;
+mod refusals;
+mod runs;
+mod serve_options;
+mod simulator;
+mod versions;

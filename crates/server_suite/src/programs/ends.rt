@@ -1,0 +1,164 @@
+//! Readers that end and fail in mid-stream, and writers that fail.
+use crate::programs::runs::{GREETING, Printed, run};
+use failing_ends::{Sink, trickle};
+use sitectl::{Counted, siterender};
+use std::alloc::Global;
+use std::io;
+use std::io::Write;
+use std::process::Abort;
+
+pub(crate) fn with_room(alloc: Global, room: usize) -> Counted<Sink> {
+    Counted::new(Sink::with_room(alloc, room))
+}
+
+/// It ends by a line alone.
+fn says(rt: &impl Abort, printed: &Printed, line: &str) {
+    assert!(rt; printed.status == 1 && printed.out.is_empty());
+    assert!(rt; printed.err.as_slice() == line.as_bytes());
+}
+
+fn says_framing(rt: &impl Abort, printed: &Printed) {
+    assert!(rt; printed.status == 1 && printed.out.is_empty());
+    assert!(rt; printed.err.ends_with(b": framing\n"));
+}
+
+/// Where a command ends.
+const ENDS: &[usize] = &[0, 42, 79, 102];
+
+fn cut_off(rt: &impl Abort, alloc: Global, input: &[u8]) {
+    let printed = run(alloc, input, None, "/");
+    if ENDS.contains(&input.len()) {
+        says(rt, &printed, "no release\n");
+    } else {
+        says_framing(rt, &printed);
+    }
+}
+
+#[test]
+fn input_cut_off_anywhere(rt: HostRuntime) {
+    let whole = GREETING.as_bytes();
+    for end in 0..whole.len() {
+        cut_off(&rt, rt.alloc(), &whole[..end]);
+    }
+}
+
+/// What is printed over a reader that fails behind so many calls, and how many failed.
+fn over_reader(alloc: Global, good: usize) -> (Printed, u64) {
+    let mut reader = Counted::new(trickle(GREETING.as_bytes(), good));
+    let mut out = with_room(alloc, 1000);
+    let mut err = with_room(alloc, 1000);
+    let status = siterender(alloc, &mut reader, &mut out, &mut err, None, "/");
+    let printed = Printed {
+        status,
+        out: out.into_inner().taken,
+        err: err.into_inner().taken,
+    };
+    (printed, reader.failures())
+}
+
+fn shows(rt: &impl Abort, printed: &Printed) {
+    assert!(rt; printed.status == 0 && printed.err.is_empty());
+    assert!(rt; printed.out.as_slice() == b"Hello, world!\n".as_slice());
+}
+
+fn read_over(rt: &impl Abort, alloc: Global, good: usize) {
+    let (printed, failures) = over_reader(alloc, good);
+    if good <= GREETING.len() {
+        assert!(rt; failures == 1);
+        says(rt, &printed, "read failed\n");
+    } else {
+        assert!(rt; failures == 0);
+        shows(rt, &printed);
+    }
+}
+
+#[test]
+fn a_reader_fails_anywhere(rt: HostRuntime) {
+    for good in 0..GREETING.len() + 2 {
+        read_over(&rt, rt.alloc(), good);
+    }
+}
+
+/// What is printed over writers with so much room, and how many calls of each failed.
+fn over_writers(alloc: Global, input: &str, out: usize, err: usize) -> (Printed, (u64, u64)) {
+    let mut reader = Counted::new(input.as_bytes());
+    let mut out = with_room(alloc, out);
+    let mut err = with_room(alloc, err);
+    let status = siterender(alloc, &mut reader, &mut out, &mut err, None, "/");
+    let failures = (out.failures(), err.failures());
+    let printed = Printed {
+        status,
+        out: out.into_inner().taken,
+        err: err.into_inner().taken,
+    };
+    (printed, failures)
+}
+
+/// The first writer took a beginning of the page, and the other one the line.
+fn writes_to(rt: &impl Abort, alloc: Global, room: usize) {
+    let (printed, failures) = over_writers(alloc, GREETING, room, 1000);
+    assert!(rt; printed.status == 1 && failures.0 == 1);
+    assert!(rt; printed.out.len() == room);
+    assert!(rt; b"Hello, world!\n".starts_with(printed.out.as_slice()));
+    assert!(rt; printed.err.as_slice() == b"write failed\n".as_slice());
+}
+
+#[test]
+fn a_writer_fails_anywhere(rt: HostRuntime) {
+    for room in 0..b"Hello, world!\n".len() {
+        writes_to(&rt, rt.alloc(), room);
+    }
+}
+
+fn writes_line_to(rt: &impl Abort, alloc: Global, room: usize) {
+    let (printed, failures) = over_writers(alloc, "", 0, room);
+    assert!(rt; printed.status == 1 && failures == (0, 1));
+    assert!(rt; printed.err.len() == room);
+    assert!(rt; b"no release\n".starts_with(printed.err.as_slice()));
+}
+
+#[test]
+fn both_writers_fail(rt: HostRuntime) {
+    for room in 0..b"no release\n".len() {
+        writes_line_to(&rt, rt.alloc(), room);
+    }
+}
+
+/// Holds what it was given until it is flushed.
+#[derive(Drop)]
+struct Held {
+    held: Vec<u8>,
+    shown: Vec<u8>,
+}
+
+impl Write for Held {
+    fn write(&mut self, buf: &[u8]) -> io::Result<usize> {
+        self.held.extend_from_slice(buf)?;
+        Ok(buf.len())
+    }
+
+    fn flush(&mut self) -> io::Result<()> {
+        self.shown.extend_from_slice(self.held.as_slice())?;
+        self.held.clear();
+        Ok(())
+    }
+}
+
+/// What was flushed of a page.
+fn flushed(rt: &impl Abort, alloc: Global) -> Vec<u8> {
+    let mut reader = Counted::new(GREETING.as_bytes());
+    let mut out = Counted::new(Held {
+        held: Vec::new(alloc),
+        shown: Vec::new(alloc),
+    });
+    let mut err = with_room(alloc, 1000);
+    let status = siterender(alloc, &mut reader, &mut out, &mut err, None, "/");
+    assert!(rt; status == 0);
+    out.into_inner().shown
+}
+
+#[test]
+fn what_is_written_is_flushed(rt: HostRuntime) {
+    let shown = flushed(&rt, rt.alloc());
+    assert!(rt; shown.as_slice() == b"Hello, world!\n".as_slice());
+}

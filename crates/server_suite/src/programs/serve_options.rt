@@ -1,0 +1,185 @@
+//! Command lines of `sited` and `sitecluster`.
+use crate::programs::options::words;
+use clap::error::ErrorKind;
+use sitectl::{ServeOptions, cluster_options, sited_options};
+use std::alloc::{AllocError, Global};
+use std::process::Abort;
+
+fn time_text(alloc: Global, millis: Option<u64>) -> Result<String, AllocError> {
+    match millis {
+        Some(n) => format!(in alloc; " {n}"),
+        None => String::from_str(alloc, " -"),
+    }
+}
+
+fn push_time(alloc: Global, text: &mut String, millis: Option<u64>) -> Result<(), AllocError> {
+    text.push_str(time_text(alloc, millis)?.as_str())
+}
+
+fn begun(alloc: Global, o: &ServeOptions<'_>) -> Result<String, AllocError> {
+    let id = o.id;
+    let rounds = o.rounds;
+    let format = o.format;
+    format!(in alloc; "{id} {} {} {rounds} {format}", o.record, o.http)
+}
+
+fn push_rest(alloc: Global, text: &mut String, o: &ServeOptions<'_>) -> Result<(), AllocError> {
+    push_time(alloc, text, o.patience)?;
+    push_time(alloc, text, o.serve_ms)?;
+    text.push_str(": ")?;
+    for peer in o.peers.as_slice() {
+        text.push_str(peer)?;
+        text.push_str(" ")?;
+    }
+    Ok(())
+}
+
+/// The fields of what a line names, with a space behind each address; `-` for a time that is not named.
+fn shown(alloc: Global, o: &ServeOptions<'_>) -> Result<String, AllocError> {
+    let mut text = begun(alloc, o)?;
+    push_rest(alloc, &mut text, o)?;
+    Ok(text)
+}
+
+/// Lines, and the fields of what each names; none where it is refused.
+const SERVERS: &[(&str, &str)] = &[
+    (
+        "sited --id 1 --record r --http h --rounds 2",
+        "1 r h 2 false - -: ",
+    ),
+    (
+        "sited a:1 --format --id=+3 b:2 --record=/x --http 127.0.0.1:0 --rounds 4294967295 c:3",
+        "3 /x 127.0.0.1:0 4294967295 true - -: a:1 b:2 c:3 ",
+    ),
+    (
+        "other --rounds 00 --http h --record r --id 255 -- --format",
+        "255 r h 0 false - -: --format ",
+    ),
+    (
+        "sited --patience-ms 100 --id 1 --record r --http h --rounds 2 --serve-ms=+2000 a:1",
+        "1 r h 2 false 100 2000: a:1 ",
+    ),
+    (
+        "sited --id=-0 --record --http --http h --rounds 1 not-an-address",
+        "",
+    ),
+];
+
+fn given(rt: &impl Abort, alloc: Global, words: &[String]) -> String {
+    match sited_options(alloc, words) {
+        Ok(options) => shown(alloc, &options).expect(rt, "memory"),
+        Err(_) => String::new(alloc),
+    }
+}
+
+#[test]
+fn lines_that_name_a_server(rt: HostRuntime) {
+    for &(line, expected) in SERVERS {
+        let words = words(&rt, rt.alloc(), line);
+        let given = given(&rt, rt.alloc(), words.as_slice());
+        assert!(rt; given.as_str() == expected, "{line}");
+    }
+}
+
+/// Lines that are refused, and how.
+const REFUSED: &[(&str, ErrorKind)] = &[
+    ("sited", ErrorKind::MissingRequiredArgument),
+    (
+        "sited --record r --http h --rounds 2",
+        ErrorKind::MissingRequiredArgument,
+    ),
+    (
+        "sited --id 1 --http h --rounds 2",
+        ErrorKind::MissingRequiredArgument,
+    ),
+    (
+        "sited --id 1 --record r --rounds 2",
+        ErrorKind::MissingRequiredArgument,
+    ),
+    (
+        "sited --id 1 --record r --http h",
+        ErrorKind::MissingRequiredArgument,
+    ),
+    (
+        "sited --id 256 --record r --http h --rounds 2",
+        ErrorKind::ValueValidation,
+    ),
+    (
+        "sited --id=-1 --record r --http h --rounds 2",
+        ErrorKind::ValueValidation,
+    ),
+    (
+        "sited --id x --record r --http h --rounds 2",
+        ErrorKind::ValueValidation,
+    ),
+    (
+        "sited --id 1 --record r --http h --rounds 4294967296",
+        ErrorKind::ValueValidation,
+    ),
+    (
+        "sited --id 1 --record r --http h --rounds 2 --id 1",
+        ErrorKind::ArgumentConflict,
+    ),
+    (
+        "sited --format --id 1 --format",
+        ErrorKind::ArgumentConflict,
+    ),
+    ("sited --format=yes", ErrorKind::TooManyValues),
+    (
+        "sited --id 1 --http h --rounds 2 --record",
+        ErrorKind::InvalidValue,
+    ),
+    (
+        "sited --id 1 --record r --http h --rounds 2 --patience-ms 18446744073709551616",
+        ErrorKind::ValueValidation,
+    ),
+    (
+        "sited --id 1 --record r --http h --rounds 2 --serve-ms=-1",
+        ErrorKind::ValueValidation,
+    ),
+    (
+        "sited --id 1 --serve-ms 1 --serve-ms 1",
+        ErrorKind::ArgumentConflict,
+    ),
+    ("sited --port 80", ErrorKind::UnknownArgument),
+    ("sited --help", ErrorKind::DisplayHelp),
+];
+
+fn is_refused(alloc: Global, words: &[String], kind: ErrorKind) -> bool {
+    match sited_options(alloc, words) {
+        Ok(_) => false,
+        Err(refused) => refused.kind() == kind,
+    }
+}
+
+#[test]
+fn lines_that_name_no_server(rt: HostRuntime) {
+    for &(line, kind) in REFUSED {
+        let words = words(&rt, rt.alloc(), line);
+        assert!(rt; is_refused(rt.alloc(), words.as_slice(), kind), "{line}");
+    }
+}
+
+/// Lines of `sitecluster`, and how they are refused, if they are.
+const CLUSTERS: &[(&str, Option<ErrorKind>)] = &[
+    ("sitecluster", None),
+    ("other", None),
+    ("sitecluster x", Some(ErrorKind::UnknownArgument)),
+    ("sitecluster --nodes", Some(ErrorKind::UnknownArgument)),
+    ("sitecluster --help", Some(ErrorKind::DisplayHelp)),
+];
+
+fn refusal_of(alloc: Global, words: &[String]) -> Option<ErrorKind> {
+    match cluster_options(alloc, words) {
+        Ok(_) => None,
+        Err(refused) => Some(refused.kind()),
+    }
+}
+
+#[test]
+fn lines_of_sitecluster(rt: HostRuntime) {
+    for &(line, kind) in CLUSTERS {
+        let words = words(&rt, rt.alloc(), line);
+        assert!(rt; refusal_of(rt.alloc(), words.as_slice()) == kind, "{line}");
+    }
+}
