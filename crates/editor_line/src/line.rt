@@ -89,15 +89,29 @@ fn ignore_flag<'a>(alloc: Global) -> Arg<'a> {
     )
 }
 
+/// A word that takes one argument more, where it could be made.
+fn taking<'a>(
+    word: Result<Command<'a>, AllocError>,
+    argument: Arg<'a>,
+) -> Result<Command<'a>, AllocError> {
+    match word {
+        Ok(word) => word.arg(argument),
+        Err(refused) => {
+            drop(argument);
+            Err(refused)
+        }
+    }
+}
+
 /// A word that is followed by a folder.
 fn folder_word<'a>(
     alloc: Global,
     name: &'static str,
     about: &'static str,
     folder: &'static str,
-) -> Result<Command<'a>, Error> {
+) -> Result<Command<'a>, AllocError> {
     let folder = value(alloc, "folder", "FOLDER", folder).required(true);
-    Ok(Command::new(alloc, name).about(about).arg(folder)?)
+    Command::new(alloc, name).about(about).arg(folder)
 }
 
 /// A word that is followed by the folder of a site.
@@ -105,11 +119,11 @@ fn site_word<'a>(
     alloc: Global,
     name: &'static str,
     about: &'static str,
-) -> Result<Command<'a>, Error> {
+) -> Result<Command<'a>, AllocError> {
     folder_word(alloc, name, about, "The folder of the site")
 }
 
-fn new_word<'a>(alloc: Global) -> Result<Command<'a>, Error> {
+fn new_word<'a>(alloc: Global) -> Result<Command<'a>, AllocError> {
     folder_word(
         alloc,
         "new",
@@ -118,9 +132,9 @@ fn new_word<'a>(alloc: Global) -> Result<Command<'a>, Error> {
     )
 }
 
-fn check_word<'a>(alloc: Global) -> Result<Command<'a>, Error> {
+fn check_word<'a>(alloc: Global) -> Result<Command<'a>, AllocError> {
     let about = "Tells what is wrong with a folder, each fault with its place and what to do";
-    Ok(site_word(alloc, "check", about)?.arg(ignore_flag(alloc))?)
+    taking(site_word(alloc, "check", about), ignore_flag(alloc))
 }
 
 fn out_argument<'a>(alloc: Global) -> Arg<'a> {
@@ -133,12 +147,10 @@ fn out_argument<'a>(alloc: Global) -> Arg<'a> {
     .required(true)
 }
 
-fn export_word<'a>(alloc: Global) -> Result<Command<'a>, Error> {
-    Ok(
-        site_word(alloc, "export", "Writes a static copy of a folder's pages")?
-            .arg(out_argument(alloc))?
-            .arg(ignore_flag(alloc))?,
-    )
+fn export_word<'a>(alloc: Global) -> Result<Command<'a>, AllocError> {
+    let word = site_word(alloc, "export", "Writes a static copy of a folder's pages");
+    let word = taking(word, out_argument(alloc));
+    taking(word, ignore_flag(alloc))
 }
 
 fn urls_argument<'a>(alloc: Global) -> Arg<'a> {
@@ -179,16 +191,14 @@ fn dry_run_flag<'a>(alloc: Global) -> Arg<'a> {
     )
 }
 
-fn publish_word<'a>(alloc: Global) -> Result<Command<'a>, Error> {
+fn publish_word<'a>(alloc: Global) -> Result<Command<'a>, AllocError> {
     let about = "Makes a folder the next release of a group, and goes on where it was interrupted";
-    Ok(
-        site_word(alloc, "publish", about)?
-            .arg(urls_argument(alloc))?
-            .arg(editor_option(alloc))?
-            .arg(patience_option(alloc))?
-            .arg(dry_run_flag(alloc))?
-            .arg(ignore_flag(alloc))?,
-    )
+    let word = site_word(alloc, "publish", about);
+    let word = taking(word, urls_argument(alloc));
+    let word = taking(word, editor_option(alloc));
+    let word = taking(word, patience_option(alloc));
+    let word = taking(word, dry_run_flag(alloc));
+    taking(word, ignore_flag(alloc))
 }
 
 fn address_option<'a>(alloc: Global) -> Arg<'a> {
@@ -200,17 +210,14 @@ fn address_option<'a>(alloc: Global) -> Arg<'a> {
     )
 }
 
-fn preview_word<'a>(alloc: Global) -> Result<Command<'a>, Error> {
+fn preview_word<'a>(alloc: Global) -> Result<Command<'a>, AllocError> {
     let about =
         "Serves a folder to a browser as it is on disk at each request; what is wrong with it in place of its pages";
-    Ok(
-        site_word(alloc, "preview", about)?
-            .arg(address_option(alloc))?
-            .arg(ignore_flag(alloc))?,
-    )
+    let word = taking(site_word(alloc, "preview", about), address_option(alloc));
+    taking(word, ignore_flag(alloc))
 }
 
-fn log_word<'a>(alloc: Global) -> Result<Command<'a>, Error> {
+fn log_word<'a>(alloc: Global) -> Result<Command<'a>, AllocError> {
     site_word(
         alloc,
         "log",
@@ -218,38 +225,53 @@ fn log_word<'a>(alloc: Global) -> Result<Command<'a>, Error> {
     )
 }
 
-fn status_word<'a>(alloc: Global) -> Result<Command<'a>, Error> {
-    Ok(
-        Command::new(alloc, "status")
-            .about(
-                "Tells of each node whether it answers, its newest release, and whether it shows the same; status 1 where one is silent, behind or differs",
-            )
-            .arg(urls_argument(alloc).required(true))?,
-    )
+fn status_word<'a>(alloc: Global) -> Result<Command<'a>, AllocError> {
+    Command::new(alloc, "status")
+        .about(
+            "Tells of each node whether it answers, its newest release, and whether it shows the same; status 1 where one is silent, behind or differs",
+        )
+        .arg(urls_argument(alloc).required(true))
 }
 
-/// A command that has one word more, where that could be made.
+/// A command that has one word more, where both could be made.
 fn with_word<'a>(
-    command: Command<'a>,
-    word: Result<Command<'a>, Error>,
-) -> Result<Command<'a>, Error> {
-    Ok(command.subcommand(word?)?)
+    command: Result<Command<'a>, AllocError>,
+    word: Result<Command<'a>, AllocError>,
+) -> Result<Command<'a>, AllocError> {
+    match command {
+        Ok(command) => match word {
+            Ok(word) => command.subcommand(word),
+            Err(refused) => {
+                drop(command);
+                Err(refused)
+            }
+        },
+        Err(refused) => {
+            drop(word);
+            Err(refused)
+        }
+    }
 }
 
-fn matches_of<'a>(alloc: Global, words: &'a [String]) -> Result<ArgMatches<'a>, Error> {
+/// What `sitepub` takes.
+fn command<'a>(alloc: Global) -> Result<Command<'a>, AllocError> {
     let command = Command::new(alloc, "sitepub")
         .about("What an editor does with a folder of a site")
         .after_help(
             "Examples:\n  sitepub new site\n  sitepub preview site\n  sitepub publish site http://127.0.0.1:8001\n\n--version prints the program's version",
         )
         .subcommand_required(true);
-    let command = with_word(command, new_word(alloc))?;
-    let command = with_word(command, check_word(alloc))?;
-    let command = with_word(command, export_word(alloc))?;
-    let command = with_word(command, preview_word(alloc))?;
-    let command = with_word(command, publish_word(alloc))?;
-    let command = with_word(command, log_word(alloc))?;
-    with_word(command, status_word(alloc))?.try_get_matches_from(words)
+    let command = with_word(Ok(command), new_word(alloc));
+    let command = with_word(command, check_word(alloc));
+    let command = with_word(command, export_word(alloc));
+    let command = with_word(command, preview_word(alloc));
+    let command = with_word(command, publish_word(alloc));
+    let command = with_word(command, log_word(alloc));
+    with_word(command, status_word(alloc))
+}
+
+fn matches_of<'a>(alloc: Global, words: &'a [String]) -> Result<ArgMatches<'a>, Error> {
+    command(alloc)?.try_get_matches_from(words)
 }
 
 /// A text that the word has; the empty one where it has none.
