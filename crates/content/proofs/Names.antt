@@ -1,5 +1,5 @@
 -- What is at each name, as one name changes.
-use Rattle.std.proofs.Common.{◌≡◌, ℕ, List, [], ◌∷◌, Bool, true, false, cond, None, Ordering, Less, Equal, Greater, String, Global, Result, Ok, Err, OnOk, nat_cmp, string_bytes, bytes_eq, refl, sym, ap, ◌∙◌}
+use Rattle.std.proofs.Common.{◌≡◌, ℕ, List, [], ◌∷◌, Bool, true, false, cond, None, Ordering, Less, Equal, Greater, String, Global, Result, Ok, Err, OnOk, IfOk, nat_cmp, string_bytes, bytes_eq, refl, sym, ap, ◌∙◌}
 use Rattle.std.proofs.lemmas.Cmp.{nat_list_cmp_total}
 use Rattle.std.proofs.lemmas.Map.Text.{is_eq-slice_cmp}
 use Rattle.std.specs.BTreeMap.{is_at}
@@ -12,6 +12,14 @@ use Rattle.content.specs.View.{Named, at_name}
 pub on_ok : {A E P Q : Type 0} (r : Result A E) → (P → Q) → OnOk r P → OnOk r Q
 on_ok (Ok x) f p = f p
 on_ok (Err e) f p = p
+
+pub when_ok : {A E P : Type 0} (r : Result A E) (x : A) → r ≡ Ok x → OnOk r P → P
+when_ok (Ok y) x e p = p
+when_ok (Err f) x e p = cc
+
+pub on_if_ok : {A E : Type 0} {P Q : A → Type 0} (r : Result A E) → ((x : A) → P x → Q x) → IfOk r P → IfOk r Q
+on_if_ok (Ok x) f p = f x p
+on_if_ok (Err e) f p = p
 
 abbrev pub by_bytes : List ℕ → String Global → Ordering
 by_bytes bytes k = slice_cmp nat_cmp bytes (string_bytes k)

@@ -9,7 +9,7 @@ ghost use Rattle.content.specs.Standing.{HasContents};
 ghost use Rattle.content.specs.Answered.{answered};
 
 use crate::applied::Applied;
-use crate::maps::{put, take_away};
+use crate::maps::{put, share, take_away};
 use crate::target::Target;
 use command::{Action, Kind};
 use context::Data;
@@ -69,10 +69,10 @@ impl Contents {
             → HasContents self.old orders → HasContents self.new (orders ++ (order ∷ [])) × (a ≡ answered order.action)) }
         ensures err { OnErr result (self.new ≡ self.old) }
     {
-        match action {
-            Action::PutTemplate { name, template } => put(&mut self.templates, name, template)?,
-            Action::PutPartial { name, template } => put(&mut self.partials, name, template)?,
-            Action::PutData { name, page_data } => put(&mut self.page_data, name, page_data)?,
+        let done = match action {
+            Action::PutTemplate { name, template } => put(&mut self.templates, name, template),
+            Action::PutPartial { name, template } => put(&mut self.partials, name, template),
+            Action::PutData { name, page_data } => put(&mut self.page_data, name, page_data),
             Action::PutRoute {
                 path,
                 template,
@@ -82,12 +82,13 @@ impl Contents {
                     template,
                     page_data,
                 };
-                put(&mut self.routes, path, target)?
+                put(&mut self.routes, path, target)
             }
-            Action::PutRedirect { path, target } => put(&mut self.redirects, path, target)?,
-            Action::Remove { kind, name } => self.remove(kind, &name)?,
+            Action::PutRedirect { path, target } => put(&mut self.redirects, path, target),
+            Action::Remove { kind, name } => self.remove(kind, &name),
             Action::Release => return Ok(Applied::Released),
-        }
+        };
+        done?;
         Ok(Applied::Changed)
     }
 
@@ -109,14 +110,25 @@ impl Contents {
     pub fn copy(&self) -> Result<Contents, AllocError>
         ensures { IfOk result (λ s. s ≡ self.now) }
     {
-        Ok(Contents {
-            alloc: self.alloc,
-            templates: self.templates.copy()?,
-            partials: self.partials.copy()?,
-            page_data: self.page_data.copy()?,
-            routes: self.routes.copy()?,
-            redirects: self.redirects.copy()?,
-        })
+        let mut copy = Contents::new(self.alloc);
+        match copy.share(self) {
+            Ok(()) => Ok(copy),
+            Err(refused) => {
+                drop(copy);
+                Err(refused)
+            }
+        }
+    }
+
+    /// Takes what others have, and shares it with them.
+    fn share(&mut self, others: &Contents) -> Result<(), AllocError>
+        ensures { OnOk result (self.new ≡ others.now) }
+    {
+        share(&mut self.templates, &others.templates)?;
+        share(&mut self.partials, &others.partials)?;
+        share(&mut self.page_data, &others.page_data)?;
+        share(&mut self.routes, &others.routes)?;
+        share(&mut self.redirects, &others.redirects)
     }
 
     /// The template of that name.

@@ -6,6 +6,7 @@ ghost use Rattle.content.specs.View.{at_name};
 
 use shared_map::SharedMap;
 use std::alloc::AllocError;
+use std::mem;
 
 /// Puts something at a name, in place of what was there.
 pub(crate) fn put<V: Drop>(
@@ -28,4 +29,15 @@ pub(crate) fn take_away<V: Drop>(
     ensures err { OnErr result (map.new ≡ map.old) }
 {
     map.remove(name)
+}
+
+/// Has a map take what another has, and share it with that one.
+pub(crate) fn share<V: Drop>(
+    map: &mut SharedMap<String, V>,
+    other: &SharedMap<String, V>,
+) -> Result<(), AllocError>
+    ensures { OnOk result (map.new ≡ other.now) }
+{
+    drop(mem::replace(map, other.copy()?));
+    Ok(())
 }

@@ -1,26 +1,29 @@
 //! The set of tickets with the new one is made beside the old.
 
-ghost use Rattle.std.specs.Prelude.{◌≡◌, ◌≢◌, ℕ, List, [], ◌∷◌, ◌++◌, Some, None, Ok, IfOk, OnErr, MatchOption, option_map};
+ghost use Rattle.std.specs.Prelude.{◌≡◌, ◌≢◌, ℕ, List, [], ◌∷◌, ◌++◌, Some, None, Ok, true, if◌then◌else◌, IfOk, OnErr, MatchOption, option_map};
 ghost use Rattle.command.specs.Action.{Order};
-ghost use Rattle.command.specs.Effective.{effective};
+ghost use Rattle.command.specs.Effective.{effective, is_same_ticket};
 ghost use Rattle.command.specs.Reading.{value_reading};
 ghost use Rattle.command.specs.Site.{template_at, partial_at, data_at, route_at, redirect_at};
-ghost use Rattle.command.specs.Standing.{StandsFor};
+ghost use Rattle.command.specs.Standing.{StandsAs, StandsFor};
 ghost use Rattle.command.specs.View.{pair_view};
 ghost use Rattle.context.specs.View.{data_view};
 ghost use Rattle.mustache_parse.specs.Template.{IsTemplateOf};
-ghost use Rattle.content.specs.Standing.{IsSiteOf};
-ghost use Rattle.content.specs.Answered.{applied};
+ghost use Rattle.content.specs.Standing.{HasContents, IsSiteOf, is_held};
+ghost use Rattle.content.specs.View.{keys};
+ghost use Rattle.site_ids.specs.declared.Ticket.{Ticket};
+ghost use Rattle.content.specs.Answered.{answered, applied};
 
 use crate::applied::Applied;
 use crate::contents::Contents;
-use command::{Command, CommandFault, read};
+use command::{Action, Command, CommandFault, read};
 use context::Data;
 use mustache_parse::Template;
 use shared_map::SharedMap;
 use site_ids::Ticket;
 use std::alloc::{AllocError, Global};
 use std::marker::Model;
+use std::mem;
 
 /// What a list of values leaves: the contents by name, and the tickets of its commands.
 #[derive(Drop)]
@@ -51,6 +54,18 @@ fn no_command(fault: CommandFault) -> Result<Applied, AllocError>
         CommandFault::OutOfMemory => Err(AllocError),
         _ => Ok(Applied::NotACommand),
     }
+}
+
+/// Tickets and one more, beside the old.
+fn with_ticket(
+    tickets: &SharedMap<Ticket, ()>,
+    ticket: Ticket,
+) -> Result<SharedMap<Ticket, ()>, AllocError>
+    ensures { IfOk result (λ more. (t : Ticket) → is_held t (keys more) ≡ (if is_same_ticket ticket t then true else is_held t (keys tickets.now))) }
+{
+    let mut more = tickets.copy()?;
+    more.put(ticket, ())?;
+    Ok(more)
 }
 
 impl Site {
@@ -85,12 +100,26 @@ impl Site {
     {
         let Command { ticket, action } = command;
         if self.tickets.contains(&ticket) {
+            drop(action);
             return Ok(Applied::Repeat);
         }
-        let mut tickets = self.tickets.copy()?;
-        tickets.put(ticket, ())?;
+        match with_ticket(&self.tickets, ticket) {
+            Ok(tickets) => self.act(tickets, action),
+            Err(refused) => {
+                drop(action);
+                Err(refused)
+            }
+        }
+    }
+
+    /// Takes an action, and the tickets with its command's.
+    fn act(&mut self, tickets: SharedMap<Ticket, ()>, action: Action) -> Result<Applied, AllocError>
+        ensures ok { IfOk result (λ a. (self.new.tickets ≡ keys tickets) × ((orders : List Order) (order : Order) → StandsAs action order.action
+            → HasContents self.old.contents orders → HasContents self.new.contents (orders ++ (order ∷ [])) × (a ≡ answered order.action))) }
+        ensures err { OnErr result (self.new ≡ self.old) }
+    {
         let done = self.contents.act(action)?;
-        self.tickets = tickets;
+        drop(mem::replace(&mut self.tickets, tickets));
         Ok(done)
     }
 
