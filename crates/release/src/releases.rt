@@ -117,10 +117,18 @@ impl Releases {
     {
         let Command { ticket, action } = command;
         if self.kept.receipts.contains_key(&ticket) {
+            drop(action);
             self.pass(value)?;
             return Ok(Applied::Repeat);
         }
-        match step_of(&self.kept.live, action)? {
+        let step = match step_of(&self.kept.live, action) {
+            Ok(step) => step,
+            Err(refused) => {
+                drop(value);
+                return Err(refused);
+            }
+        };
+        match step {
             Step::Change(site) => {
                 self.kept.take(Effect {
                     value,

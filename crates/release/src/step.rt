@@ -2,7 +2,7 @@
 //!
 //! A value that is no command is read once more for its fault's line.
 
-ghost use Rattle.std.specs.Prelude.{List, IfOk};
+ghost use Rattle.std.specs.Prelude.{◌≡◌, List, IfOk};
 ghost use Rattle.command.specs.Action.{Order};
 ghost use Rattle.command.specs.Standing.{StandsAs};
 ghost use Rattle.content.specs.Standing.{HasContents};
@@ -21,16 +21,44 @@ pub(crate) enum Step {
     Release(Contents, Contents),
 }
 
+/// A release: the site, and a copy of it.
+fn released(site: Contents) -> Result<Step, AllocError>
+    ensures { IfOk result (λ step. step ≡ Step.Release site site) }
+{
+    match site.copy() {
+        Ok(copy) => Ok(Step::Release(site, copy)),
+        Err(refused) => {
+            drop(site);
+            Err(refused)
+        }
+    }
+}
+
+/// The step by an action that the site takes.
+fn acted(mut site: Contents, action: Action) -> Result<Step, AllocError>
+    ensures { IfOk result (λ step. (orders : List Order) (order : Order) → StandsAs action order.action → HasContents site orders → IsStep step orders order) }
+{
+    match site.act(action) {
+        Ok(applied) => match applied {
+            Applied::Released => released(site),
+            _ => Ok(Step::Change(site)),
+        },
+        Err(refused) => {
+            drop(site);
+            Err(refused)
+        }
+    }
+}
+
 /// The step of the next command, by its action.
 pub(crate) fn step_of(live: &Contents, action: Action) -> Result<Step, AllocError>
     ensures { IfOk result (λ step. (orders : List Order) (order : Order) → StandsAs action order.action → HasContents live.now orders → IsStep step orders order) }
 {
-    let mut site = live.copy()?;
-    match site.act(action)? {
-        Applied::Released => {
-            let copy = site.copy()?;
-            Ok(Step::Release(site, copy))
+    match live.copy() {
+        Ok(site) => acted(site, action),
+        Err(refused) => {
+            drop(action);
+            Err(refused)
         }
-        _ => Ok(Step::Change(site)),
     }
 }

@@ -1,9 +1,13 @@
-use Rattle.std.proofs.Common.{◌≡◌, ◌≢◌, refl, sym, subst, ◌∙◌}
+use Rattle.std.proofs.Common.{Result, Ok, Err, IfOk, ◌≡◌, ◌≢◌, refl, sym, subst, ◌∙◌}
 use Rattle.command.specs.Action.{Action, put_template, put_partial, put_data, put_route, put_redirect, remove, release}
 use Rattle.content.specs.Answered.{answered}
-use Rattle.content.specs.Standing.{HasContents}
 use Rattle.content.specs.declared.applied.Applied.TheVariants.{Changed, Released}
-use Rattle.release.proofs.step.step_of.Goals as goal
+use Rattle.release.specs.Stepping.{IsStep}
+use Rattle.release.proofs.step.acted.Goals as goal
+
+on_if_ok : {A E : Type 0} {P Q : A → Type 0} (r : Result A E) → ((x : A) → P x → Q x) → IfOk r P → IfOk r Q
+on_if_ok (Ok x) f p = f x p
+on_if_ok (Err e) f p = p
 
 -- what is no release changes a name
 changes : (a : Action) → answered a ≢ Released → Changed ≡ answered a
@@ -15,12 +19,14 @@ changes (put_redirect p t) apart = refl
 changes (remove k n) apart = refl
 changes release apart = absurd (apart refl)
 
-pub returns-in_ok-copy-in-Released : goal.returns-in_ok-copy-in-Released
-returns-in_ok-copy-in-Released c orders order stands has =
-    let done = c.in_ok-act.ensures.ok orders order stands (subst (λ s. HasContents s orders) (sym c.in_ok-site.ensures) has) in
-    (sym c.in-Released.is ∙ done.1, done.0, c.in_ok-copy-in-Released.ensures)
+pub returns-in-Released : goal.returns-in-Released
+returns-in-Released c =
+    on_if_ok c.released.result
+    (λ step is orders order stands has.
+    let done = c.in-Ok.ensures.ok orders order stands has in
+    subst (λ s. IsStep s orders order) (sym is) (sym c.in-Released.is ∙ done.1, done.0, refl)) c.released.ensures
 
 pub returns-in_default : goal.returns-in_default
 returns-in_default c orders order stands has =
-    let done = c.in_ok-act.ensures.ok orders order stands (subst (λ s. HasContents s orders) (sym c.in_ok-site.ensures) has) in
+    let done = c.in-Ok.ensures.ok orders order stands has in
     (changes order.action (λ e. c.in_default.not-Released (done.1 ∙ e)), done.0)
