@@ -2,6 +2,14 @@
 use command::Kind;
 use std::alloc::{AllocError, Global};
 
+/// The text before a mark, all of it where the mark isn't there.
+pub(crate) fn before(text: &str, mark: char) -> &str {
+    match text.split_once(mark) {
+        Some((front, _)) => front,
+        None => text,
+    }
+}
+
 /// A line of `routes`: a path, and the names of its template and its data.
 #[derive(Clone, Copy)]
 pub(crate) struct RouteLine<'a> {
@@ -28,6 +36,8 @@ pub(crate) fn lines_in(alloc: Global, text: &str) -> Result<Vec<Line<'_>>, Alloc
                 words,
                 number: i.saturating_add(1),
             })?;
+        } else {
+            drop(words);
         }
     }
     Ok(found)

@@ -1,6 +1,6 @@
 //! The pages of a folder, as a node shows them; those that moved as files that lead on.
 use crate::finding::Finding;
-use crate::folder::{Folder, Redirect};
+use crate::folder::{Folder, Redirect, Route};
 use crate::moved::moved_page;
 use crate::reasons::line_fault;
 use command::write;
@@ -48,8 +48,27 @@ fn feed_folder(alloc: Global, releases: &mut Releases, folder: &Folder) -> Resul
 /// The release of a folder's commands alone.
 pub fn release_of(alloc: Global, folder: &Folder) -> Result<Releases, AllocError> {
     let mut releases = Releases::new(alloc);
-    feed_folder(alloc, &mut releases, folder)?;
-    Ok(releases)
+    match feed_folder(alloc, &mut releases, folder) {
+        Ok(()) => Ok(releases),
+        Err(fault) => {
+            drop(releases);
+            Err(fault)
+        }
+    }
+}
+
+/// Adds the page of a route, by what is shown at its path.
+fn push_route(route: &Route, answer: Answer, pages: &mut Vec<Page>) -> Result<(), AllocError> {
+    let Answer { status, body, .. } = answer;
+    let path = route.path.clone()?;
+    pages.push(Page {
+        path,
+        file: "routes",
+        line: route.line,
+        status,
+        body,
+    })?;
+    Ok(())
 }
 
 /// Adds the pages of a folder's routes, in order.
@@ -60,13 +79,7 @@ fn push_routes(
 ) -> Result<(), AllocError> {
     for route in folder.routes.iter() {
         if let Some(answer) = page_at(releases, route.path.as_str())? {
-            pages.push(Page {
-                path: route.path.clone()?,
-                file: "routes",
-                line: route.line,
-                status: answer.status,
-                body: answer.body,
-            })?;
+            push_route(route, answer, pages)?;
         }
     }
     Ok(())
@@ -100,7 +113,9 @@ fn push_redirects(
 ) -> Result<(), AllocError> {
     for redirect in folder.redirects.iter() {
         if let Some(answer) = page_at(releases, redirect.path.as_str())? {
-            push_redirect(alloc, redirect, &answer, pages)?;
+            let pushed = push_redirect(alloc, redirect, &answer, pages);
+            drop(answer);
+            pushed?;
         }
     }
     Ok(())
@@ -127,7 +142,9 @@ fn pages_by(
 /// The pages of a folder in a release of its commands alone: of its routes, then of its redirects whose paths have no route, each in order.
 pub fn pages_of(alloc: Global, folder: &Folder) -> Result<Vec<Page>, AllocError> {
     let mut releases = Releases::new(alloc);
-    pages_by(alloc, folder, &mut releases)
+    let pages = pages_by(alloc, folder, &mut releases);
+    drop(releases);
+    pages
 }
 
 impl Page {

@@ -1,4 +1,5 @@
 //! Which part of a site a file is, by its path.
+use crate::lines::before;
 use command::Kind;
 
 /// What a file of a folder is to the site.
@@ -86,9 +87,5 @@ pub fn is_of_site(path: &str) -> bool {
 
 /// Whether files of a site stand in the folder at a path below its folder, or further below.
 pub fn is_part(path: &str) -> bool {
-    let top = match path.split_once('/') {
-        Some((top, _)) => top,
-        None => path,
-    };
-    matches!(top, "templates" | "partials" | "data")
+    matches!(before(path, '/'), "templates" | "partials" | "data")
 }

@@ -1,4 +1,5 @@
 //! What a node shows of any commands.
+use crate::lines::before;
 use crate::pages::{feed, page_at};
 use release::Releases;
 use std::alloc::{AllocError, Global};
@@ -58,22 +59,18 @@ fn views_by(
 /// What a node shows at paths, in a release of these command texts alone: one view a path, in order.
 pub fn views_of(alloc: Global, texts: &[&str], paths: &[String]) -> Result<Vec<View>, AllocError> {
     let mut releases = Releases::new(alloc);
-    views_by(alloc, &mut releases, texts, paths)
+    let views = views_by(alloc, &mut releases, texts, paths);
+    drop(releases);
+    views
 }
 
 /// The path that a command text is about, where it is about a route or a redirect.
 pub fn path_in(text: &str) -> Option<&str> {
-    let head = match text.split_once('\n') {
-        Some((head, _)) => head,
-        None => text,
-    };
-    let (_, rest) = head.split_once(' ')?;
-    let (kind, rest) = rest.split_once(' ')?;
-    if kind != "route" && kind != "redirect" {
-        return None;
-    }
-    match rest.split_once(' ') {
-        Some((path, _)) => Some(path),
-        None => Some(rest),
+    let mut words = before(text, '\n').split(' ');
+    let kind = words.nth(1)?;
+    let path = words.next()?;
+    match kind {
+        "route" | "redirect" => Some(path),
+        _ => None,
     }
 }
