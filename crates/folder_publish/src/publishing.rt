@@ -78,12 +78,11 @@ fn send<R: Files + Net<Stream = TcpStream> + Clock + AllocGlobal, E: Write>(
     err: &mut E,
     group: &mut Group,
     ledger: &mut Ledger,
-    how: Publishing<'_>,
+    how: &Publishing<'_>,
 ) -> Result<(), Halt> {
     save(rt, how.folder, ledger)?;
     let sent = deliver(rt, err, group, ledger, how.patience);
-    save(rt, how.folder, ledger)?;
-    sent
+    save(rt, how.folder, ledger).and(sent)
 }
 
 fn untold(alloc: Global, url: &str) -> Result<Halt, AllocError> {
@@ -125,7 +124,7 @@ fn release<R: Files + Net<Stream = TcpStream> + Clock + AllocGlobal, E: Write>(
     err: &mut E,
     group: &mut Group,
     ledger: &mut Ledger,
-    how: Publishing<'_>,
+    how: &Publishing<'_>,
     ticket: u64,
     fresh: bool,
 ) -> Result<Made, Halt> {
@@ -149,7 +148,7 @@ fn send_planned<R: Files + Net<Stream = TcpStream> + Clock + AllocGlobal, E: Wri
     err: &mut E,
     group: &mut Group,
     ledger: &mut Ledger,
-    how: Publishing<'_>,
+    how: &Publishing<'_>,
     fresh: bool,
 ) -> Result<Option<Made>, Halt> {
     match release_ticket(ledger) {
@@ -167,7 +166,7 @@ fn bring<R: Files + Net<Stream = TcpStream> + Clock + AllocGlobal, E: Write>(
     err: &mut E,
     group: &mut Group,
     ledger: &mut Ledger,
-    how: Publishing<'_>,
+    how: &Publishing<'_>,
     wanted: &[&str],
 ) -> Result<Option<Made>, Halt> {
     let mut made = None;
@@ -241,7 +240,7 @@ fn publish_texts<R: Files + Net<Stream = TcpStream> + Clock + AllocGlobal, W: Wr
     err: &mut E,
     group: &mut Group,
     ledger: &mut Ledger,
-    how: Publishing<'_>,
+    how: &Publishing<'_>,
     wanted: &[&str],
 ) -> Result<bool, Halt> {
     let changes = changes_in(rt.alloc(), ledger, wanted)?;
@@ -257,7 +256,7 @@ fn publish_confirmed<R: Files + Net<Stream = TcpStream> + Clock + AllocGlobal, W
     err: &mut E,
     group: &mut Group,
     ledger: &mut Ledger,
-    how: Publishing<'_>,
+    how: &Publishing<'_>,
     wanted: &[&str],
 ) -> Result<bool, Halt> {
     confirm(rt, err, how.folder, group, ledger, how.patience)?;
@@ -277,7 +276,7 @@ fn publish_wanted<
     out: &mut W,
     err: &mut E,
     group: &mut Group,
-    how: Publishing<'_>,
+    how: &Publishing<'_>,
     wanted: &[&str],
 ) -> Result<bool, Halt> {
     let mut ledger = ledger_of(rt, how.folder, how.editor)?;
@@ -308,7 +307,7 @@ fn publish_clean<
     out: &mut W,
     err: &mut E,
     group: &mut Group,
-    how: Publishing<'_>,
+    how: &Publishing<'_>,
     clean: &Clean,
 ) -> Result<bool, Halt> {
     if clean.pages.is_empty() {
@@ -324,7 +323,7 @@ fn publish_folder<
     R: Files + Net<Stream = TcpStream> + Clock + RandomSource + AllocGlobal + Clone + Drop,
     W: Write,
     E: Write,
->(rt: &R, out: &mut W, err: &mut E, group: &mut Group, how: Publishing<'_>) -> Result<bool, Halt> {
+>(rt: &R, out: &mut W, err: &mut E, group: &mut Group, how: &Publishing<'_>) -> Result<bool, Halt> {
     match read_clean(rt, err, how.folder, how.ignore)? {
         Some(clean) => publish_clean(rt, out, err, group, how, &clean),
         None => Ok(true),
@@ -341,6 +340,6 @@ pub fn publish<
         return Err(Halt::NoNodes);
     }
     let mut group = Group::of(rt.alloc(), how.urls)?;
-    let bad = publish_folder(rt, out, err, &mut group, how)?;
+    let bad = publish_folder(rt, out, err, &mut group, &how)?;
     Ok(if bad { 1 } else { 0 })
 }

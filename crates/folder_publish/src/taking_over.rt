@@ -26,6 +26,14 @@ fn tell_path<E: Write>(alloc: Global, err: &mut E, path: &str) -> Result<(), Hal
     say_made(err, format!(in alloc; "takes over {path}"))
 }
 
+/// Whether the group has a page at a path that it was asked for.
+fn is_there(answer: Option<&Answer>) -> bool {
+    match answer {
+        Some(answer) => answer.status != 404,
+        None => false,
+    }
+}
+
 /// Tells the paths that the group answers.
 fn tell_paths<E: Write>(
     alloc: Global,
@@ -33,8 +41,8 @@ fn tell_paths<E: Write>(
     paths: &[&str],
     answers: &[Answer],
 ) -> Result<(), Halt> {
-    for (path, answer) in paths.iter().zip(answers.iter()) {
-        if answer.status != 404 {
+    for (i, path) in paths.iter().enumerate() {
+        if is_there(answers.get(i)) {
             tell_path(alloc, err, path)?;
         }
     }
