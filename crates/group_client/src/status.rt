@@ -94,10 +94,17 @@ fn are_same(page: Option<&Answer>, other: Option<&Answer>) -> bool {
     }
 }
 
+/// Writes a line, where there was memory to make it.
+fn say_made<W: Write>(out: &mut W, line: Result<String, AllocError>) -> Result<(), Halt> {
+    say(out, line?.as_str())
+}
+
 /// Writes that a node is silent.
 fn tell_silent<W: Write>(alloc: Global, out: &mut W, url: &str) -> Result<(), Halt> {
-    let line = format!(in alloc; "{url:<32} {:>6} {:>8} {:>7}  -", "silent", "-", "-")?;
-    say(out, line.as_str())
+    say_made(
+        out,
+        format!(in alloc; "{url:<32} silent        -       -  -"),
+    )
 }
 
 /// Writes what a node said, in columns. Whether all is well is the answer.
@@ -116,8 +123,10 @@ fn tell_answer<W: Write>(
         (_, true) => "same",
         (_, false) => "differs",
     };
-    let line = format!(in alloc; "{url:<32} {millis:>6} {newest:>8} {behind:>7}  {page}")?;
-    say(out, line.as_str())?;
+    say_made(
+        out,
+        format!(in alloc; "{url:<32} {millis:>6} {newest:>8} {behind:>7}  {page}"),
+    )?;
     Ok(behind == 0 && (same || range.common == 0))
 }
 
@@ -142,11 +151,10 @@ fn tell<W: Write>(
 }
 
 fn tell_head<W: Write>(alloc: Global, out: &mut W, common: u64) -> Result<(), Halt> {
-    let line = format!(in alloc;
-        "{:<32} {:>6} {:>8} {:>7}  /@{common}/",
-        "node", "ms", "release", "behind"
-    )?;
-    say(out, line.as_str())
+    say_made(
+        out,
+        format!(in alloc; "node                                 ms  release  behind  /@{common}/"),
+    )
 }
 
 /// Writes a line for each node. Whether all is well is the answer.
@@ -160,8 +168,10 @@ fn tell_all<W: Write>(
     tell_head(alloc, out, range.common)?;
     let first = reports.iter().find_map(|report| report.page.as_ref());
     let mut well = true;
-    for (node, report) in nodes.iter().zip(reports.iter()) {
-        well = tell(alloc, out, node.url.as_str(), report, first, range)? && well;
+    for (i, node) in nodes.iter().enumerate() {
+        if let Some(report) = reports.get(i) {
+            well = tell(alloc, out, node.url.as_str(), report, first, range)? && well;
+        }
     }
     Ok(well)
 }
