@@ -1,7 +1,11 @@
 -- Steps of the simulator.
-use Rattle.std.proofs.Common.{◌≡◌, ◌⊎◌, append-nil, String, Global, string_bytes, ℕ, zero, suc, ◌<◌, ◌≤◌, ◌+◌, List, [], ◌∷◌, ◌++◌, length, Some, None, refl, sym, ap, ◌∙◌, subst, arith, append_assoc, Option, Bool, Result, Ok, Err, inl, inr}
+use Rattle.std.proofs.Common.{◌≡◌, ◌==◌, ◌⊎◌, true, false, true≢false, append-nil, String, Global, string_bytes, ℕ, zero, suc, ◌<◌, ◌≤◌, ◌+◌, List, [], ◌∷◌, ◌++◌, length, Some, None, refl, sym, ap, ◌∙◌, subst, arith, append_assoc, Option, Bool, Result, Ok, Err, inl, inr}
 use Rattle.std.specs.Prelude.{IfOk, IfErr, IsErrOf}
 use Rattle.std.specs.List.{flat_map}
+use Rattle.std.proofs.lemmas.Bool.{ne_eqb}
+use Rattle.std.specs.Io.KnownBytes.{IsAtEnd}
+use Rattle.http_read.specs.Bytes.{End, IsSound}
+use denote.Bor.{Bor}
 use Rattle.command.specs.Effective.{effective}
 use Rattle.command.specs.Releases.{release_count}
 use Rattle.node.specs.Effects.{messages_of}
@@ -27,12 +31,16 @@ use Rattle.engine_parts.specs.declared.ends.InputFault.TheVariants as input
 use Rattle.schedule_engine.specs.declared.simulator.SimFault.{SimFault}
 use Rattle.schedule_engine.specs.declared.simulator.Simulation.{Simulation}
 use Rattle.schedule_engine.specs.declared.simulator.SimFault.TheVariants as sim
-use Rattle.schedule_engine.specs.Schedule.{Line, submit_line, tick_line, widen_line, ask_line, tell_line, restart_line, deliver_line, arm_line, crash_line, settle_line, quiet_line, show_line, get_line, trace_line}
+use Rattle.schedule_engine.specs.declared.schedule.Line.{Line as LineCode}
+use Rattle.schedule_engine.specs.declared.schedule.Found.{Found}
+use Rattle.schedule_engine.specs.declared.schedule.Found.TheVariants as found
+use Rattle.schedule_engine.specs.ScheduleView.{IsFound}
+use Rattle.schedule_engine.specs.Schedule.{Line, spelled, Fits, submit_line, tick_line, widen_line, ask_line, tell_line, restart_line, deliver_line, arm_line, crash_line, settle_line, quiet_line, show_line, get_line, trace_line}
 use Rattle.schedule_engine.specs.Tracing.{message_line}
 use Rattle.schedule_engine.specs.Simulation.{Moment, IsMoment, Takes, to_each, deliveries, event_of, HasRelease, IsPage, IsNoPage, Does, TakesOne, TakesPlan}
 use Rattle.schedule_engine.specs.SimulationEnds.{IsStart}
 use Rattle.engine_parts.specs.Feeds.{Grown, ReadEnds}
-use Rattle.schedule_engine.specs.Stepping.{FillEnds, BeginEnds, HappenEnds, moment_of, sim_fault}
+use Rattle.schedule_engine.specs.Stepping.{HasLine, FillEnds, NextEnds, BeginEnds, HappenEnds, moment_of, sim_fault}
 use Rattle.engine_parts.proofs.Fed.{taken_then}
 
 -- a run of one event meets no other
@@ -131,6 +139,46 @@ pub same_fault : {T : Type 0} (r : Result T SimFault) (y e f : SimFault) → r �
 same_fault r y e f is from other = let same : Err y ≡ Err f = sym is ∙ other in let one : y ≡ f = cc in sym from ∙ one
 
 -- ---- bytes
+
+-- bytes were read
+pub read_on : (reader : End) (old new : List ℕ) (b : Bool) → b ≡ true → ReadEnds reader old new (Ok b) → Grown reader old new × IsSound reader × (length old < length new)
+read_on reader old new true is h = h
+read_on reader old new false is h = cc
+
+pub none_held : (xs held : List ℕ) (b : Bool) → b ≡ true → b ≡ (length held == 0) → held ≡ xs → xs ≡ []
+none_held xs [] b is empty same = sym same
+none_held xs (x ∷ held) b is empty same = absurd (true≢false (sym is ∙ (empty ∙ ne_eqb (length (x ∷ held)) 0 (λ e. omega (arith, e)))))
+
+-- a filled feed with no line is at the input's end
+pub filled_none : (reader : End) (old new : List ℕ) (b : Bool) → b ≡ false → FillEnds reader old new (Ok b) → Grown reader old [] × IsSound reader × IsAtEnd reader.after
+filled_none reader old new true is h = cc
+filled_none reader old new false is (grown, sound, at_end, none) = (subst (λ xs. Grown reader old xs) none grown, sound, at_end)
+
+pub filled : (reader : End) (old new : List ℕ) (b : Bool) → b ≡ true → FillEnds reader old new (Ok b) → Grown reader old new × IsSound reader × HasLine new
+filled reader old new true is h = h
+filled reader old new false is h = cc
+
+-- a fault before a line is found
+pub fill_fault : (reader : End) (s : Simulation) (old new : List ℕ) (e : SimFault) (r : Result (Option (String Global)) SimFault) → r ≡ Err e → FillEnds reader old new (Err e) → NextEnds reader s s old new r
+fill_fault reader s old new sim.BadLine r is (grown, inl none) = rw is (new, grown, inl none)
+fill_fault reader s old new sim.BadLine r is (grown, inr never) = rw is (new, grown, inr (inl never))
+fill_fault reader s old new sim.BadEvent r is h = absurd h
+fill_fault reader s old new sim.OutOfMemory r is h = rw is h
+fill_fault reader s old new sim.Read r is h = rw is h
+
+-- a fault of the line that was found
+pub line_fault : (reader : End) (before after : Simulation) (old held new : List ℕ) (line : Line) (rest : List ℕ) (e : SimFault) (r : Result (Option (String Global)) SimFault) → r ≡ Err e → Grown reader old held → Fits line
+    → held ≡ spelled line ++ rest → HappenEnds before after line (Err e) → NextEnds reader before after old new r
+line_fault reader before after old held new line rest sim.BadLine r is grown fits whole asks = rw is (held, grown, inr (inr (line, rest, fits, whole, asks)))
+line_fault reader before after old held new line rest sim.BadEvent r is grown fits whole bad = rw is (held, grown, λ n events m. (line, rest, fits, whole, bad n events m))
+line_fault reader before after old held new line rest sim.OutOfMemory r is grown fits whole h = rw is (grown.more, grown.taken)
+line_fault reader before after old held new line rest sim.Read r is grown fits whole h = absurd h
+
+-- a line stands in front, so it is found
+pub unfound : (bytes held : List ℕ) (f : Found) → IsFound held f → held ≡ bytes → HasLine bytes → ((line : LineCode) (rest : Bor (List ℕ)) → ¬ (f ≡ found.Line line rest)) → ⊥
+unfound bytes held (found.Line line rest) is same has not = not line rest refl
+unfound bytes held found.Short none same (line, rest, fits, whole) not = none line rest fits (same ∙ whole)
+unfound bytes held found.Bad none same (line, rest, fits, whole) not = none [] line rest fits (append-nil held ∙ (same ∙ whole))
 
 -- a call that fails behind sound ones
 pub fault_then : (a b d : Option (List ℕ)) (f g h : ℕ) (old mid new : List ℕ) (e : InputFault) (r : Result Bool SimFault) → r ≡ Err (sim_fault e)

@@ -1,7 +1,8 @@
-use Rattle.std.proofs.Common.{◌∙◌, sym, ap, Err, inl}
+use Rattle.std.proofs.Common.{◌∙◌, sym, ap, refl, Err, inl, append-nil, []}
+use Rattle.std.proofs.KnownBytes.{Consumes-nil}
 use Rattle.std.proofs.lemmas.Result.{err_from_is_err_and}
 use Rattle.schedule_engine.specs.Schedule.{spelled_nodes}
-use Rattle.schedule_engine.proofs.Simulating.{begin_fault_then}
+use Rattle.schedule_engine.proofs.Simulating.{begin_fault_then, read_on}
 use Rattle.engine_parts.proofs.Fed.{grown_then, ended, used_front}
 use Rattle.schedule_engine.proofs.simulator.begin.Goals as goal
 
@@ -25,3 +26,16 @@ pub returns-then-not-branch : goal.returns-then-not-branch
 returns-then-not-branch g c =
     let e = ended _ _ _ c.in_ok-read_more.field-0 c.if-not-branch.true c.in_ok-read_more.ensures in
     (_, grown_then _ _ _ _ _ _ _ _ _ c.loop-cluster.invariant.0 e.0, inl (e.2, rw e.3 (rw c.held.ensures at c.in-Short.ensures)))
+
+pub loop-cluster-init : goal.loop-cluster-init
+loop-cluster-init g c = (record { more = []; taken = Consumes-nil _; longer = sym (append-nil _) }, refl)
+
+pub loop-cluster-preserved : goal.loop-cluster-preserved
+loop-cluster-preserved g c =
+    let r = read_on _ _ _ c.in_ok-read_more.field-0 c.if-not-branch.false c.in_ok-read_more.ensures in
+    (grown_then _ _ _ _ _ _ _ _ _ c.loop-cluster.invariant.0 r.0, r.1 ∙ c.loop-cluster.invariant.1)
+
+pub returns-in_err-new-in-Nodes : goal.returns-in_err-new-in-Nodes
+returns-in_err-new-in-Nodes g c =
+    let p = err_from_is_err_and c.from_residual.result c.from_residual.ensures.1 in
+    rw (p.1 ∙ ap Err p.2) (c.loop-cluster.invariant.0.more, c.loop-cluster.invariant.0.taken)
