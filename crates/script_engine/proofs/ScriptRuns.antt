@@ -1,9 +1,11 @@
 -- Whole runs of a script.
-use Rattle.std.proofs.Common.{◌≡◌, ℕ, ◌+◌, List, [], ◌∷◌, ◌++◌, length, Option, Some, None, is_some, true≢false, Bool, Result, Ok, Err, Vec, Global, codes, refl, sym, ap, ◌∙◌, subst, inl, inr, arith, append_assoc, append-nil, length-append}
+use Rattle.std.proofs.Common.{◌≡◌, ◌==◌, ◌<◌, true, false, ℕ, ◌+◌, List, [], ◌∷◌, ◌++◌, length, Option, Some, None, is_some, true≢false, Bool, Result, Ok, Err, Vec, Global, codes, refl, sym, ap, ◌∙◌, subst, inl, inr, arith, append_assoc, append-nil, length-append}
 use Rattle.std.specs.List.{flat_map, AllByRecursion}
 use Rattle.std.specs.Io.KnownBytes.{Consumes, Appends, IsAtEnd}
 use Rattle.std.proofs.KnownBytes.{Consumes-trans, Consumes-nil, Appends-trans, Appends-nil}
 use Rattle.std.proofs.lemmas.List.Concat.{flat_map-append}
+use Rattle.std.proofs.lemmas.Bool.{ne_eqb}
+use denote.Bor.{Bor}
 use Rattle.http_read.specs.Bytes.{End, IsSound, IsSilent, IsWritten, IsBroken, IsGiven}
 use Rattle.http_read.specs.Counted.{RoseByOne}
 use Rattle.script_engine.specs.declared.cluster.ScriptFault.{ScriptFault}
@@ -11,7 +13,13 @@ use Rattle.script_engine.specs.declared.cluster.ScriptFault.TheVariants as scrip
 use Rattle.engine_parts.specs.declared.ends.InputFault.{InputFault}
 use Rattle.engine_parts.specs.declared.ends.InputFault.TheVariants as input
 use Rattle.script_engine.specs.ScriptEnds.{Prints, PrintsAll, HasDone, HasRun, IsFault}
-use Rattle.script_engine.specs.ScriptSteps.{HasStepped, FillEnds, NextEnds, IsSaid, of_input}
+use Rattle.script_engine.specs.ScriptSteps.{HasLine, HasStepped, HappenEnds, FillEnds, NextEnds, IsSaid, of_input, of_servers}
+use Rattle.script_engine.specs.declared.server_fault.ServerFault.{ServerFault}
+use Rattle.script_engine.specs.declared.server_fault.ServerFault.TheVariants as server
+use Rattle.script_engine.specs.declared.script.Line.{Line as LineCode}
+use Rattle.script_engine.specs.declared.script.Found.{Found}
+use Rattle.script_engine.specs.declared.script.Found.TheVariants as found
+use Rattle.script_engine.specs.ScriptView.{IsFound}
 use Rattle.script_engine.specs.Script.{Line, spelled, Fits}
 use Rattle.engine_parts.specs.Feeds.{Grown, ReadEnds}
 use Rattle.engine_parts.proofs.Fed.{taken_then}
@@ -177,3 +185,42 @@ pub fault_then : (a b d : Option (List ℕ)) (f g h : ℕ) (old mid new : List �
     → FillEnds (record { before = a; after = d; failures = f; failures_after = h }) old new r
 fault_then a b d f g h old mid new input.Read r is p sound q = rw is (taken_then a b d f g h h old mid p q.0, subst (λ n. RoseByOne n h) sound q.1)
 fault_then a b d f g h old mid new input.OutOfMemory r is p sound q = rw is (taken_then a b d f g h h old mid p q)
+
+-- ---- a line that is found and done
+
+-- bytes were read
+pub read_on : (reader : End) (old new : List ℕ) (b : Bool) → b ≡ true → ReadEnds reader old new (Ok b) → Grown reader old new × IsSound reader × (length old < length new)
+read_on reader old new true is h = h
+read_on reader old new false is h = cc
+
+pub none_held : (xs held : List ℕ) (b : Bool) → b ≡ true → b ≡ (length held == 0) → held ≡ xs → xs ≡ []
+none_held xs [] b is empty same = sym same
+none_held xs (x ∷ held) b is empty same = absurd (true≢false (sym is ∙ (empty ∙ ne_eqb (length (x ∷ held)) 0 (λ e. omega (arith, e)))))
+
+-- with no line held the input is at its end
+pub filled_none : (reader : End) (old new : List ℕ) (b : Bool) → b ≡ false → FillEnds reader old new (Ok b) → Grown reader old [] × IsSound reader × IsAtEnd reader.after
+filled_none reader old new true is h = cc
+filled_none reader old new false is (grown, sound, at_end, none) = (subst (λ xs. Grown reader old xs) none grown, sound, at_end)
+
+pub filled : (reader : End) (old new : List ℕ) (b : Bool) → b ≡ true → FillEnds reader old new (Ok b) → Grown reader old new × IsSound reader × HasLine new
+filled reader old new true is h = h
+filled reader old new false is h = cc
+
+-- a fault before a line is found
+pub fill_fault : (reader : End) (old new : List ℕ) (e : ScriptFault) (r : Result (Option (Vec ℕ Global)) ScriptFault) → r ≡ Err e → FillEnds reader old new (Err e) → NextEnds reader old new r
+fill_fault reader old new script.BadLine r is (grown, bad) = rw is (new, grown, bad)
+fill_fault reader old new script.Socket r is h = absurd h
+fill_fault reader old new script.OutOfMemory r is h = rw is h
+fill_fault reader old new script.Read r is h = rw is h
+
+-- a fault of the line that was found
+pub line_fault : (reader : End) (old held new : List ℕ) (line : Line) (rest : List ℕ) (e : ServerFault) (r : Result (Option (Vec ℕ Global)) ScriptFault) → r ≡ Err (of_servers e) → Grown reader old held → Fits line
+    → held ≡ spelled line ++ rest → HappenEnds line (Err e) → NextEnds reader old new r
+line_fault reader old held new line rest server.Socket r is grown fits whole asks = rw is (held, grown, (line, rest, fits, whole, asks))
+line_fault reader old held new line rest server.OutOfMemory r is grown fits whole h = rw is (grown.more, grown.taken)
+
+-- where a line stands one is found
+pub unfound : (bytes held : List ℕ) (f : Found) → IsFound held f → held ≡ bytes → HasLine bytes → ((line : LineCode) (rest : Bor (List ℕ)) → ¬ (f ≡ found.Line line rest)) → ⊥
+unfound bytes held (found.Line line rest) is same has not = not line rest refl
+unfound bytes held found.Short none same (line, rest, fits, whole) not = none line rest fits (same ∙ whole)
+unfound bytes held found.Bad none same (line, rest, fits, whole) not = none [] line rest fits (append-nil held ∙ (same ∙ whole))

@@ -1,8 +1,9 @@
-use Rattle.std.proofs.Common.{◌∙◌, ap, sym, Err, inl, inr}
+use Rattle.std.proofs.Common.{◌∙◌, ap, sym, refl, Err, inl, inr, append-nil, []}
+use Rattle.std.proofs.KnownBytes.{Consumes-nil}
 use Rattle.std.proofs.lemmas.Result.{err_from_is_err_and}
 use Rattle.engine_parts.proofs.Fed.{grown_then, ended, some_held}
 use Rattle.script_engine.specs.ScriptView.{line_view}
-use Rattle.script_engine.proofs.ScriptRuns.{fault_then}
+use Rattle.script_engine.proofs.ScriptRuns.{fault_then, read_on, none_held}
 use Rattle.script_engine.proofs.cluster.fill.Goals as goal
 
 pub returns-in_err-read_more : goal.returns-in_err-read_more
@@ -20,3 +21,16 @@ returns-in-Line g c = (c.loop-feed.invariant.0, c.loop-feed.invariant.1, (line_v
 
 pub returns-in-Bad : goal.returns-in-Bad
 returns-in-Bad g c = (c.loop-feed.invariant.0, inr (rw c.held.ensures at c.in-Bad.ensures))
+
+pub loop-feed-init : goal.loop-feed-init
+loop-feed-init g c = (record { more = []; taken = Consumes-nil _; longer = sym (append-nil _) }, refl)
+
+pub loop-feed-preserved : goal.loop-feed-preserved
+loop-feed-preserved g c =
+    let r = read_on _ _ _ c.in_ok-read_more.field-0 c.if-not-branch.false c.in_ok-read_more.ensures in
+    (grown_then _ _ _ _ _ _ _ _ _ c.loop-feed.invariant.0 r.0, r.1 ∙ c.loop-feed.invariant.1)
+
+pub returns-then-is_empty : goal.returns-then-is_empty
+returns-then-is_empty g c =
+    let e = ended _ _ _ c.in_ok-read_more.field-0 c.if-not-branch.true c.in_ok-read_more.ensures in
+    (grown_then _ _ _ _ _ _ _ _ _ c.loop-feed.invariant.0 e.0, e.1 ∙ c.loop-feed.invariant.1, e.2, none_held _ _ c.is_empty.result c.if-is_empty.true c.is_empty.ensures c.held-then-not-branch.ensures)
