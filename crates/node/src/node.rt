@@ -119,7 +119,21 @@ impl<D: Disk> Node<D> {
         ensures is { result ≡ self.store.disk }
         ensures keeps { (s : AbstractNode) (d : DiskState) → IsOnDisk D.stands_for self s d → D.stands_for result d × Keeps self.me self.cluster s.entries s.in_flight d }
     {
-        self.store.close()
+        let Node {
+            store,
+            proposer,
+            learner,
+            known,
+            queue,
+            releases,
+            ..
+        } = self;
+        drop(proposer);
+        drop(learner);
+        drop(known);
+        drop(queue);
+        drop(releases);
+        store.close()
     }
 }
 

@@ -84,6 +84,7 @@ pub(crate) fn feed_value(
         if read.is_of(value) {
             return read.feed(releases);
         }
+        drop(read);
     }
     releases.feed_value(value.try_clone()?)?;
     Ok(())
