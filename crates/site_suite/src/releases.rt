@@ -49,7 +49,9 @@ pub(crate) fn shows(
         Some(to) => location == Some(to.as_str()),
         None => location.is_none(),
     };
-    Ok(moved && answer.status == status && answer.body.as_str() == body)
+    let is_page = moved && answer.status == status && answer.body.as_str() == body;
+    drop(answer);
+    Ok(is_page)
 }
 
 /// Pages of releases by their paths.

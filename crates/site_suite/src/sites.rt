@@ -127,11 +127,8 @@ fn leads(site: &Site, to: &str) -> bool {
 }
 
 fn check_greeting(rt: &impl Abort, site: &Site) {
-    assert!(rt; has_text(site, "Hello, "));
-    assert!(rt; has_name(site, "x"));
-    assert!(rt; is_routed(site));
-    assert!(rt; leads(site, "/new"));
-    assert!(rt; has_three(site.data("d")));
+    let shows = has_text(site, "Hello, ") && has_name(site, "x") && has_three(site.data("d"));
+    assert!(rt; shows && is_routed(site) && leads(site, "/new"));
 }
 
 /// Names of one kind are none of another.
