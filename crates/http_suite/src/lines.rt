@@ -1,6 +1,6 @@
 //! Connections whose bytes come and go in many steps: cut in every way, over ends of which calls come too early, up to a fault, and up to the
 //! last response.
-use crate::comparing::same;
+use crate::comparing::{ensure, same};
 use crate::desk::{Desk, open_desk};
 use crate::responses::{BAD, LAST_PAGE, PAGE};
 use crate::served_several::{BOTH, BOTH_PAGES, GET, pages};
@@ -17,7 +17,7 @@ type End<'a> = (&'a [u8], u32);
 fn ends(rt: &impl Abort, run: &Run, end: End<'_>, row: (&str, usize)) {
     let (written, answered) = end;
     let came = run.written.as_slice() == written && run.answered == answered;
-    assert!(rt; came && run.is_over && run.result.is_ok(), "{row:?}");
+    ensure(rt, came && run.is_over && run.result.is_ok(), row);
 }
 
 fn check(

@@ -1,6 +1,6 @@
 //! Requests and connections with one growth refused, as `tools/gate/refuse-growths` runs this: a call answers as ever, or memory was refused, nothing
 //! was written and nothing taken, and then another connection with the same bytes is answered as ever.
-use crate::comparing::same;
+use crate::comparing::{ensure, same};
 use crate::desk::{Desk, open_desk};
 use crate::ends::{Connection, served};
 use crate::pieces::read_held;
@@ -190,10 +190,7 @@ fn answers(rt: &impl Abort, alloc: Global, desk: &mut Desk<'_>, row: Row) -> boo
     if is_refused(rt, desk, &run, first.as_bytes()) {
         return false;
     }
-    assert!(rt;
-        is_answer(&run, first.as_bytes(), last.as_bytes()),
-        "{sent}"
-    );
+    ensure(rt, is_answer(&run, first.as_bytes(), last.as_bytes()), sent);
     true
 }
 
@@ -241,8 +238,8 @@ fn answers_in_steps(rt: &impl Abort, alloc: Global, desk: &mut Desk<'_>, row: Ro
         return false;
     }
     let written = run.written.as_slice();
-    assert!(rt; written.starts_with(first.as_bytes()), "{sent}");
-    assert!(rt; written.ends_with(last.as_bytes()), "{sent}");
+    ensure(rt, written.starts_with(first.as_bytes()), sent);
+    ensure(rt, written.ends_with(last.as_bytes()), sent);
     true
 }
 

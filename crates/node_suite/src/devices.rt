@@ -1,4 +1,5 @@
 //! A device that fails at each call of each put, what is found when the node is opened again, and what the node says of it.
+use crate::comparing::ensure;
 use crate::heard::{prepare_comes, proposal_comes};
 use crate::peer::{Peer, ends, passes};
 use crate::samples::{prepared_round, told_vote};
@@ -99,7 +100,7 @@ fn found(rt: &impl Abort, alloc: Global, which: Put, calls: u32, crash: Option<u
 fn each_failure(rt: &impl Abort, alloc: Global, which: Put) {
     for &(calls, crash, wanted) in FAILURES {
         let is_found = found(rt, alloc, which, calls, crash);
-        assert!(rt; is_found == wanted, "{calls} calls, {crash:?}");
+        ensure(rt, is_found == wanted, (calls, crash));
     }
 }
 

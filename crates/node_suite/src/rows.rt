@@ -1,5 +1,5 @@
 //! Worked rows of one node.
-use crate::comparing::same;
+use crate::comparing::{ensure, same};
 use crate::heard::choice_comes;
 use crate::peer::{Peer, ends, passes};
 use crate::samples::{
@@ -175,7 +175,7 @@ fn a_tick_begins_above_a_round_heard_of(rt: HostRuntime) {
 fn asked(rt: &impl Abort, node: &mut Peer, at: u32, count: usize) {
     let message = question(rt, node.other(rt, 3), at);
     passes(rt, node.hand(rt, message));
-    assert!(rt; node.out().len() == count, "asked for instance {at}");
+    ensure(rt, node.out().len() == count, at);
 }
 
 /// Instances at which the no-op is chosen: the third one isn't known.

@@ -1,4 +1,5 @@
 //! Prepares of several instances, delivered to a node.
+use crate::comparing::ensure;
 use crate::heard::{prepare_comes, proposal_comes};
 use crate::peer::{Peer, ends, passes};
 use node::{NodeFault, To};
@@ -65,7 +66,7 @@ fn is_said(rt: &impl Abort, said: &(To, Message), to: NodeId, wanted: Answer) {
 
 /// As many messages were handed out since the last look.
 fn has_said(rt: &impl Abort, node: &Peer, count: usize) {
-    assert!(rt; node.out().len() == count, "{count} messages");
+    ensure(rt, node.out().len() == count, count);
 }
 
 /// The answers since the last look are these, all to one node.

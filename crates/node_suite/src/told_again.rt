@@ -1,4 +1,5 @@
 //! What a node tells again: of each instance the value that it knows, or else its last vote.
+use crate::comparing::ensure;
 use crate::heard::{choice_comes, prepare_comes, proposal_comes};
 use crate::peer::{Peer, ends, passes};
 use crate::samples::{instance, propose};
@@ -67,7 +68,7 @@ fn is_told(message: &Message, told: Told) -> bool {
 fn telling(rt: &impl Abort, node: &mut Peer, to: To, first: u32, count: usize) {
     node.forget_said();
     passes(rt, node.tell(to, instance(rt, first)));
-    assert!(rt; node.out().len() == count, "from {first}");
+    ensure(rt, node.out().len() == count, first);
 }
 
 /// The message at a place tells that, to node 2.

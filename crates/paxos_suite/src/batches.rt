@@ -1,4 +1,5 @@
 //! Batches: all of one stands or none of it, whichever call of its seal fails and whatever a crash chooses; their bytes are those of single puts.
+use crate::comparing::ensure;
 use crate::damage::is_of;
 use crate::disks::{crashed_within, holds, is_long, is_long_behind, reads};
 use crate::listed::{RECORD, SPANNED, entries};
@@ -205,7 +206,7 @@ fn crash(rt: &impl Abort, alloc: Global, row: (u32, Option<u8>, u64, bool)) -> b
 #[test]
 fn a_crash_after_each_call_of_a_seal_keeps_all_or_none(rt: HostRuntime) {
     for &row in CRASHES {
-        assert!(rt; crash(&rt, rt.alloc(), row), "{row:?}");
+        ensure(&rt, crash(&rt, rt.alloc(), row), row);
     }
 }
 

@@ -1,5 +1,5 @@
 //! A record cut at each byte, and with each byte changed. What these bytes come to is computed from the definition of a record.
-use crate::comparing::same;
+use crate::comparing::{ensure, same};
 use crate::listed::{Listed, RECORD, SPANNED, entries, spanned, with_byte};
 use crate::stored::{disk_of, one_of_three};
 use durable::Record;
@@ -153,7 +153,7 @@ fn beginning<'a>(
 fn cut_at_each_byte(rt: &impl Abort, alloc: Global, bytes: &[u8], entries: &[Entry]) {
     for len in 0..=bytes.len() {
         let history = beginning(rt, alloc, &bytes[..len], entries);
-        assert!(rt; comes_to(rt, alloc, &bytes[..len], history), "{len} bytes");
+        ensure(rt, comes_to(rt, alloc, &bytes[..len], history), len);
     }
 }
 

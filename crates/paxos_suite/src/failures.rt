@@ -1,4 +1,5 @@
 //! One call of a disk fails, and those behind it pass.
+use crate::comparing::ensure;
 use crate::disks::{begins, crashed_within, is_long, reads, syncs, writes};
 use crate::samples::ballot;
 use crate::stored::{
@@ -46,7 +47,7 @@ fn an_opening_settles_the_entry_in_flight(rt: HostRuntime) {
     for &(calls, round) in PUTS {
         for &choice in CHOICES {
             let rounds = rounds(&rt, rt.alloc(), calls, choice);
-            assert!(rt; rounds == (round, round), "{calls} {choice}");
+            ensure(&rt, rounds == (round, round), (calls, choice));
         }
     }
 }

@@ -1,4 +1,5 @@
 //! A record on a real file. `tools/audit/trace-put` shows the system's calls of these tests.
+use crate::comparing::ensure;
 use crate::disks::{reads, syncs, writes};
 use crate::samples::{ballot, instance};
 use crate::stored::{ONE_ROUND, ends, one_of_three, opened, put_round, put_vote_for};
@@ -128,7 +129,7 @@ fn keep_votes(rt: &impl Abort, alloc: Global, file: File) {
 
 fn has_votes(rt: &impl Abort, record: &Record<FileDisk>) {
     for at in 1..=VOTES {
-        assert!(rt; record.slot(instance(rt, at)).vote.is_some(), "{at}");
+        ensure(rt, record.slot(instance(rt, at)).vote.is_some(), at);
     }
 }
 

@@ -1,6 +1,7 @@
 //! A proposer of a cluster, lent to the rows, and what they do with it.
 ghost use Rattle.std.specs.Prelude.{◌≡◌};
 
+use crate::comparing::ensure;
 use crate::samples::{ballot, cluster, copied, instance, is_ballot, vote};
 use proposer::{Proposal, Proposer, ProposerFault};
 use site_ids::{Ballot, Cluster, Instance, Value, Vote};
@@ -189,10 +190,7 @@ fn promise(
     prior: Option<&Vote>,
     made: Option<&str>,
 ) {
-    assert!(rt;
-        makes(rt, member, from, at, prior, made),
-        "a promise of {from}"
-    );
+    ensure(rt, makes(rt, member, from, at, prior, made), from);
 }
 
 fn tell(
@@ -215,7 +213,7 @@ pub(crate) fn is_resent(rt: &impl Abort, member: &Member, at: u32, sent: Sent) -
 }
 
 fn sends(rt: &impl Abort, member: &Member, at: u32, sent: Sent) {
-    assert!(rt; is_resent(rt, member, at, sent), "at {at}");
+    ensure(rt, is_resent(rt, member, at, sent), at);
 }
 
 fn start(rt: &impl Abort, member: &mut Member, at: u32, ballot: Ballot, text: &str) {

@@ -1,4 +1,5 @@
 //! Messages as datagrams, by rows in hexadecimal; verdicts of an acceptor; names of nodes, instances and ballots.
+use crate::comparing::ensure;
 use crate::samples::{ballot, cluster, instance, node, vote};
 use acceptor::{PrepareVerdict, ProposeVerdict, Slot, judge_prepare, judge_propose};
 use site_ids::{Ballot, Cluster, Instance, MAX_VALUE, NodeId, Value, Vote};
@@ -102,23 +103,20 @@ fn is_written_again(rt: &impl Abort, alloc: Global, text: &str) -> bool {
 #[test]
 fn spellings_are_read_and_written_again(rt: HostRuntime) {
     for &text in SPELLINGS {
-        assert!(rt; is_written_again(&rt, rt.alloc(), text), "{text}");
+        ensure(&rt, is_written_again(&rt, rt.alloc(), text), text);
     }
 }
 
 fn beginnings(rt: &impl Abort, alloc: Global, bytes: &[u8], text: &str) {
     for end in 0..bytes.len() {
-        assert!(rt;
-            is_malformed(rt, alloc, &bytes[..end]),
-            "{end} bytes of {text}"
-        );
+        ensure(rt, is_malformed(rt, alloc, &bytes[..end]), (end, text));
     }
 }
 
 fn one_byte_more(rt: &impl Abort, alloc: Global, bytes: &mut Vec<u8>, text: &str) {
     for more in 0..=255 {
         bytes.push(more).expect(rt, "memory");
-        assert!(rt; is_malformed(rt, alloc, bytes), "{text} and {more}");
+        ensure(rt, is_malformed(rt, alloc, bytes), (text, more));
         bytes.pop();
     }
 }
@@ -136,7 +134,7 @@ fn beginnings_and_one_byte_more(rt: HostRuntime) {
 fn other_bytes_are_malformed(rt: HostRuntime) {
     for &text in MALFORMED {
         let bytes = bytes_of(&rt, rt.alloc(), text);
-        assert!(rt; is_malformed(&rt, rt.alloc(), &bytes), "{text}");
+        ensure(&rt, is_malformed(&rt, rt.alloc(), &bytes), text);
     }
 }
 

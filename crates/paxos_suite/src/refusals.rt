@@ -1,5 +1,6 @@
 //! Each call with one growth refused, as `tools/gate/refuse-growths` runs this: it answers as ever, or memory was refused, nothing has changed, and the
 //! next try answers as ever.
+use crate::comparing::ensure;
 use crate::member::{Member, Sent, is_made, is_resent, is_sent, three_values};
 use crate::messages::is_written;
 use crate::samples::{ballot, cluster, copied, instance, node, vote};
@@ -280,7 +281,7 @@ fn is_refused(rt: &impl Abort, alloc: Global, record: &mut Record<MemDisk>, step
     match act(rt, alloc, record, step) {
         Ok(()) => false,
         Err(fault) => {
-            assert!(rt; fault == RecordFault::OutOfMemory, "{step:?}");
+            ensure(rt, fault == RecordFault::OutOfMemory, step);
             true
         }
     }

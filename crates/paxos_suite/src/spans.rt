@@ -1,5 +1,5 @@
 //! The promise of a span on record.
-use crate::comparing::same;
+use crate::comparing::{ensure, same};
 use crate::disks::{holds, is_long_behind};
 use crate::listed::SPANNED;
 use crate::samples::{ballot, instance};
@@ -98,10 +98,7 @@ fn look(rt: &impl Abort, record: &Record<MemDisk>, step: Step) {
     match step {
         Step::Promised(first, rounds) => promises(rt, record, first, rounds),
         Step::Voted(at, text) => {
-            assert!(rt;
-                is_voted_for(record.slot(instance(rt, at)), text),
-                "{step:?}"
-            );
+            ensure(rt, is_voted_for(record.slot(instance(rt, at)), text), step);
         }
         Step::GreatestRound(round) => assert!(rt; record.greatest_round() == round),
         _ => {}
@@ -230,6 +227,6 @@ fn crash(rt: &impl Abort, alloc: Global, row: (u32, u8, u64, bool)) -> bool {
 #[test]
 fn a_crash_after_each_call_keeps_the_span_or_not(rt: HostRuntime) {
     for &row in CRASHES {
-        assert!(rt; crash(&rt, rt.alloc(), row), "{row:?}");
+        ensure(&rt, crash(&rt, rt.alloc(), row), row);
     }
 }

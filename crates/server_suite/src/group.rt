@@ -2,6 +2,7 @@
 ghost use Rattle.site_ids.specs.Ids.{IsNode};
 
 use crate::client::Client;
+use crate::comparing::ensure;
 use durable::Record;
 use node::Node;
 use site_disk::MemDisk;
@@ -159,10 +160,7 @@ impl Group {
     /// The server of that number knows so many values, and shows so many releases.
     pub(crate) fn stands(&mut self, rt: &impl Abort, number: u8, known: u32, newest: u64) {
         let node = &self.server(rt, number).served.node;
-        assert!(rt;
-            node.known() == known && node.newest() == newest,
-            "node {number}"
-        );
+        ensure(rt, node.known() == known && node.newest() == newest, number);
     }
 
     /// The next client of that server whose connection ends, long after all that was done.
@@ -176,10 +174,7 @@ impl Group {
         for _ in 0..count {
             let client = self.leaves(rt, number).expect(rt, "a client");
             let got = client.got();
-            assert!(rt;
-                got.starts_with(front) && got.ends_with(end),
-                "node {number}"
-            );
+            ensure(rt, got.starts_with(front) && got.ends_with(end), number);
         }
         assert!(rt; self.leaves(rt, number).is_none());
     }

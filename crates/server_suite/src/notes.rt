@@ -1,5 +1,5 @@
 //! What a server says of itself, and when.
-use crate::comparing::same;
+use crate::comparing::{ensure, same};
 use site_ids::Cluster;
 use site_notes::Notes;
 use std::alloc::{AllocError, Global};
@@ -124,7 +124,7 @@ fn pass(rt: &impl Abort, alloc: Global, notes: &mut Notes, pass: Pass) -> Result
         let text = format!(in alloc; "{note}")?;
         same(rt, text.as_str(), line);
     }
-    assert!(rt; notes.next(now, known).is_none(), "{now}");
+    ensure(rt, notes.next(now, known).is_none(), now);
     Ok(())
 }
 

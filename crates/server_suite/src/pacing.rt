@@ -1,5 +1,5 @@
 //! When a server ticks, whom it tells from where on, and how long it rests: each rule as a table.
-use crate::comparing::same;
+use crate::comparing::{ensure, same};
 use site_ids::{Cluster, Instance, NodeId};
 use site_pace::{LastQuestion, Pace, Resting, Seen, Ticking, Times, first_told, has_passed};
 use std::process::Abort;
@@ -160,7 +160,7 @@ fn the_patience_grows(rt: HostRuntime) {
             (ticking, now, ticking.is_due(now, 150, 3)),
             (ticking, now, due),
         );
-        assert!(rt; !ticking.is_due(now, u64::MAX, 3), "{ticking:?}");
+        ensure(&rt, !ticking.is_due(now, u64::MAX, 3), ticking);
     }
 }
 

@@ -1,5 +1,5 @@
 //! Packets as tables: what is sent of datagrams, what comes of bytes, and which letters go together.
-use crate::comparing::same;
+use crate::comparing::{ensure, same};
 use crate::group::fresh;
 use node::To;
 use site_drive::Letter;
@@ -155,7 +155,7 @@ fn letters_for_a_node_go_together(rt: HostRuntime) {
         same(&rt, (rows, packed), (rows, count));
         let none = packet.is_empty();
         same(&rt, (rows, none), (rows, len == 0));
-        assert!(rt; none || packet.bytes().len() == len, "{rows:?}");
+        ensure(&rt, none || packet.bytes().len() == len, rows);
     }
 }
 

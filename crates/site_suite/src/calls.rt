@@ -1,5 +1,5 @@
 //! Each public call of the crates below that takes memory, once with ample memory. What a call made is lent to what looks at it.
-use crate::comparing::same;
+use crate::comparing::{ensure, same};
 use command::{Action, CommandFault, fault_line, read, write};
 use context::{Data, DataFault, Frame, resolve};
 use mustache_parse::{Node, parse};
@@ -69,7 +69,7 @@ const NAMES: &[(&str, &str)] = &[("a", "8"), ("b", "null"), ("c", "none"), (".",
 
 fn check_names(rt: &impl Abort, data: &Data) {
     for &(name, value) in NAMES {
-        assert!(rt; found(data, name) == value, "{name}");
+        ensure(rt, found(data, name) == value, name);
     }
 }
 

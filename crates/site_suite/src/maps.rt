@@ -1,4 +1,5 @@
 //! Maps whose copies share. A map is lent to what changes it: what owns one is proved to let it go at each of its ends.
+use crate::comparing::ensure;
 use shared_map::SharedMap;
 use std::alloc::{AllocError, Global};
 use std::process::Abort;
@@ -31,7 +32,7 @@ fn is_at(map: &Numbers, name: &str, value: Option<u32>) -> bool {
 }
 
 fn has(rt: &impl Abort, map: &Numbers, name: &str, value: Option<u32>) {
-    assert!(rt; is_at(map, name, value), "{name}");
+    ensure(rt, is_at(map, name, value), name);
 }
 
 fn check_changed(rt: &impl Abort, kept: &Numbers, map: &Numbers) {

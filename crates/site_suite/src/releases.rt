@@ -1,5 +1,6 @@
 //! Releases by number: what each value is answered with, the newest, pages and receipts. Releases are boxed, since a box is let go of in one step, and
 //! lent to what is told of them.
+use crate::comparing::ensure;
 use crate::rows::{COMMANDS, Row, is_answered, ticket, value_of};
 use content::Applied;
 use release::{AnswerFault, Releases};
@@ -59,7 +60,7 @@ type Pages = &'static [(u64, &'static str, Page)];
 
 fn check_pages(rt: &impl Abort, releases: &Releases, pages: Pages) {
     for &(n, path, page) in pages {
-        assert!(rt; shows(releases, n, path, page) == Ok(true), "{path} of {n}");
+        ensure(rt, shows(releases, n, path, page) == Ok(true), (path, n));
     }
 }
 
@@ -89,9 +90,10 @@ const KEPT: &[(u64, Option<bool>)] = &[
 fn check_kept(rt: &impl Abort, releases: &Releases) {
     for &(n, kept) in KEPT {
         let no_page = shows(releases, n, "/", V1) == Err(AnswerFault::NoSuchRelease);
-        assert!(rt;
+        ensure(
+            rt,
             has_template(releases, n) == kept && no_page == kept.is_none(),
-            "{n}"
+            n,
         );
     }
 }
@@ -100,7 +102,7 @@ const RECEIPTS: &[(u64, Option<u32>)] = &[(1, Some(1)), (7, Some(8)), (8, None)]
 
 fn check_receipts(rt: &impl Abort, releases: &Releases) {
     for &(number, instance) in RECEIPTS {
-        assert!(rt; receipt(releases, number) == instance, "{number}");
+        ensure(rt, receipt(releases, number) == instance, number);
     }
 }
 

@@ -1,4 +1,5 @@
 //! A site, by the values that it takes, and a copy of it. A site is boxed, since a box is let go of in one step, and lent to what is told of it.
+use crate::comparing::ensure;
 use crate::rows::{Row, is_answered, value_of};
 use content::{Applied, Site};
 use context::Data;
@@ -48,7 +49,7 @@ type Has = (Kind, &'static str, bool);
 
 fn check_has(rt: &impl Abort, site: &Site, rows: &[Has]) {
     for &(kind, name, is_there) in rows {
-        assert!(rt; has(site, kind, name) == is_there, "{name}");
+        ensure(rt, has(site, kind, name) == is_there, name);
     }
 }
 

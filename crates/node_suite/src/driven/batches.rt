@@ -1,5 +1,6 @@
 //! Batches: what one takes and posts, the calls that a burst makes of the device, and what one that fails leaves: nothing is posted, and all of the batch is
 //! found again or none.
+use crate::comparing::ensure;
 use crate::driven::opening::reopened;
 use crate::driven::server::{Server, bytes};
 use node::{NodeFault, To};
@@ -92,8 +93,8 @@ fn is_letter(rt: &impl Abort, alloc: Global, letters: &[Letter], at: usize, row:
     let (to, text) = row;
     let letter = letters.get(at).expect(rt, "a letter");
     let expected = bytes(rt, alloc, text);
-    assert!(rt; letter.bytes.as_slice() == expected.as_slice(), "{text}");
-    assert!(rt; number_of(letter) == to, "{text}");
+    ensure(rt, letter.bytes.as_slice() == expected.as_slice(), text);
+    ensure(rt, number_of(letter) == to, text);
 }
 
 /// What is posted for the first so many datagrams, in order, are the first letters: how many.
@@ -120,7 +121,7 @@ fn first_mail(rt: &impl Abort, alloc: Global, count: usize) -> Vec<Vec<u8>> {
 fn check_letters(rt: &impl Abort, alloc: Global, letters: &[Letter], count: usize, last: &str) {
     let at = posted(rt, alloc, letters, count);
     is_letter(rt, alloc, letters, at, (0, last));
-    assert!(rt; letters.len() == at.saturating_add(1), "{last}");
+    ensure(rt, letters.len() == at.saturating_add(1), last);
 }
 
 /// The first so many datagrams are a batch.
@@ -129,7 +130,7 @@ fn posts(rt: &impl Abort, alloc: Global, count: u8, malformed: usize, last: &str
     let (strange, letters) = server(rt, alloc)
         .batch(came.as_slice(), LastCall::TickOrAsk)
         .expect(rt, "a batch");
-    assert!(rt; strange == malformed, "{last}");
+    ensure(rt, strange == malformed, last);
     check_letters(rt, alloc, letters.as_slice(), usize::from(count), last);
 }
 
@@ -144,10 +145,7 @@ fn a_batch_posts_what_it_hands_out_in_order(rt: HostRuntime) {
 fn has_votes(rt: &impl Abort, server: &Server<MemLink>, all: bool) {
     for number in 1..=3 {
         let instance = Instance::new(number).expect(rt, "an instance");
-        assert!(rt;
-            server.node.slot(instance).vote.is_some() == all,
-            "{number}"
-        );
+        ensure(rt, server.node.slot(instance).vote.is_some() == all, number);
     }
 }
 
@@ -183,10 +181,10 @@ fn a_burst_takes_four_calls_of_the_device_and_what_puts_nothing_takes_none(rt: H
 /// The batch ends with the fault of the device, and the next one with that of a node that is stopped.
 fn fails(rt: &impl Abort, server: &mut Server<MemLink>, came: &[Vec<u8>], calls: u32) {
     let fault = server.batch(came, LastCall::Nothing).err();
-    assert!(rt; fault == Some(NodeFault::Device), "{calls}");
+    ensure(rt, fault == Some(NodeFault::Device), calls);
     assert!(rt; server.node.is_stopped());
     let again = server.batch(came, LastCall::Nothing).err();
-    assert!(rt; again == Some(NodeFault::Stopped), "{calls}");
+    ensure(rt, again == Some(NodeFault::Stopped), calls);
 }
 
 fn fail(rt: &impl Abort, alloc: Global, calls: u32, crash: Option<u8>, found: bool) {

@@ -1,5 +1,5 @@
 //! A node with its link, boxed: a box is let go of in one step.
-use crate::comparing::same;
+use crate::comparing::{ensure, same};
 use crate::driven::opening::fresh;
 use command::write;
 use node::{Node, NodeFault, Submitted};
@@ -140,6 +140,6 @@ impl Server<MemLink> {
             }
             None => false,
         };
-        assert!(rt; is_sent, "{text} to {to}");
+        ensure(rt, is_sent, (text, to));
     }
 }

@@ -1,4 +1,5 @@
 //! What node 1 of three sends for what it hears, datagram by datagram; turns alone beside `drive`, and the other calls behind turns.
+use crate::comparing::ensure;
 use crate::driven::server::{Server, passes};
 use site_drive::{Delivered, Desk, LastCall, MemLink};
 use site_ids::{Instance, NodeId};
@@ -188,7 +189,7 @@ fn tells(
     first: Instance,
     told: &str,
 ) {
-    assert!(rt; first.number() == 1, "{told}");
+    ensure(rt, first.number() == 1, told);
     let sent = server.link.sent().len();
     let to = node(rt, server, 3);
     let last = LastCall::Tell { to, first };
@@ -200,7 +201,7 @@ fn tells(
 fn check_told(rt: &impl Abort, desk: &mut Desk, server: &mut Server<MemLink>, told: &str) {
     match desk.delivered().question_of(node(rt, server, 3)) {
         Some(first) => tells(rt, desk, server, first, told),
-        None => assert!(rt; told.is_empty(), "no question: {told}"),
+        None => ensure(rt, told.is_empty(), told),
     }
 }
 

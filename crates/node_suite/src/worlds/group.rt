@@ -1,7 +1,7 @@
 //! A world, lent to the rows: a row that owned one would have to be proved to let it go at each of its ends.
 ghost use Rattle.std.specs.Prelude.{◌≤◌};
 
-use crate::comparing::same;
+use crate::comparing::{ensure, same};
 use crate::worlds::step::{Kind, Step};
 use command::write;
 use release::Answer;
@@ -313,25 +313,25 @@ impl Group {
 
     fn has_page(&self, rt: &impl Abort, number: u8, n: u64, path: &str, page: (u16, &str)) {
         let answer = self.answer(rt, number, n, path);
-        assert!(rt; is_page(&answer, page.0, page.1), "{path} of {number}");
+        ensure(rt, is_page(&answer, page.0, page.1), (path, number));
     }
 
     fn plans(&self, rt: &impl Abort, number: u8, wanted: (usize, usize)) {
         let plan = self.plan(rt, number);
-        assert!(rt; counts(plan.as_slice()) == wanted, "node {number}");
+        ensure(rt, counts(plan.as_slice()) == wanted, number);
     }
 
     fn shows(&self, rt: &impl Abort, number: u8, wanted: Shown) {
-        assert!(rt; self.shown(rt, number) == wanted, "node {number}");
+        ensure(rt, self.shown(rt, number) == wanted, number);
     }
 
     fn says(&self, rt: &impl Abort, count: usize, kind: Kind) {
-        assert!(rt; self.sent_count() == count, "{count} messages");
+        ensure(rt, self.sent_count() == count, count);
         assert!(rt; self.kind(count.saturating_sub(1)) == Some(kind));
     }
 
     fn prepares(&self, rt: &impl Abort, index: usize, wanted: (u32, u32, u8)) {
-        assert!(rt; self.prepared(index) == Some(wanted), "message {index}");
+        ensure(rt, self.prepared(index) == Some(wanted), index);
     }
 
     /// Sees whether what the step says is so.

@@ -1,4 +1,5 @@
 //! Runs over lists of events: what they take, and what their faults count.
+use crate::comparing::ensure;
 use crate::worlds::group::{Group, push, runs, value};
 use crate::worlds::step::{Kind, Step};
 use release::Answer;
@@ -137,7 +138,7 @@ fn is_fault(answer: &Result<Answer, AskFault>, fault: AskFault) -> bool {
 
 fn has_none(rt: &impl Abort, group: &Group, number: u8, n: u64, fault: AskFault) {
     let answer = group.answer(rt, number, n, "/");
-    assert!(rt; is_fault(&answer, fault), "node {number}");
+    ensure(rt, is_fault(&answer, fault), number);
 }
 
 fn have_none(rt: &impl Abort, group: &mut Group) {

@@ -1,5 +1,6 @@
 //! What is said of a command line that gives a program nothing to do.
 
+use crate::comparing::ensure;
 use crate::programs::options::words;
 use clap::Error;
 use sitectl::{
@@ -30,8 +31,8 @@ const NO_NUMBER: &str =
 
 fn is_said(rt: &impl Abort, alloc: Global, why: &Misuse, status: u8, text: &str) {
     let (is, told) = said(alloc, why);
-    assert!(rt; is == status, "{text}");
-    assert!(rt; told.as_slice() == text.as_bytes(), "{text}");
+    ensure(rt, is == status, text);
+    ensure(rt, told.as_slice() == text.as_bytes(), text);
 }
 
 /// What a read of the command line that failed so comes to.
@@ -58,8 +59,8 @@ fn a_line_that_is_refused_says_why(rt: HostRuntime) {
 
 fn ends_as_refused(rt: &impl Abort, alloc: Global, why: &Misuse, example: &str) {
     let (status, told) = said(alloc, why);
-    assert!(rt; status == 2, "{example}");
-    assert!(rt; told.as_slice().ends_with(example.as_bytes()), "{example}");
+    ensure(rt, status == 2, example);
+    ensure(rt, told.as_slice().ends_with(example.as_bytes()), example);
 }
 
 const RENDER_EXAMPLE: &str =

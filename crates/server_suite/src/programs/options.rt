@@ -1,4 +1,5 @@
 //! Command lines of `siterender`.
+use crate::comparing::ensure;
 use clap::error::ErrorKind;
 use sitectl::render_options;
 use std::alloc::{AllocError, Global};
@@ -32,7 +33,7 @@ const PAGES: &[(&str, Option<u64>, &str)] = &[
 fn names_page(rt: &impl Abort, alloc: Global, words: &[String], release: Option<u64>, path: &str) {
     let options = render_options(alloc, words).expect(rt, "options");
     assert!(rt; options.release == release);
-    assert!(rt; options.path == path, "{path}");
+    ensure(rt, options.path == path, path);
 }
 
 #[test]
@@ -72,6 +73,6 @@ fn is_refused(alloc: Global, words: &[String], kind: ErrorKind) -> bool {
 fn lines_that_are_refused(rt: HostRuntime) {
     for &(line, kind) in REFUSED {
         let words = words(&rt, rt.alloc(), line);
-        assert!(rt; is_refused(rt.alloc(), words.as_slice(), kind), "{line}");
+        ensure(&rt, is_refused(rt.alloc(), words.as_slice(), kind), line);
     }
 }

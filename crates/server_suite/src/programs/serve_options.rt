@@ -1,4 +1,5 @@
 //! Command lines of `sited` and `sitecluster`.
+use crate::comparing::ensure;
 use crate::programs::options::words;
 use clap::error::ErrorKind;
 use sitectl::{ServeOptions, cluster_options, sited_options};
@@ -77,7 +78,7 @@ fn lines_that_name_a_server(rt: HostRuntime) {
     for &(line, expected) in SERVERS {
         let words = words(&rt, rt.alloc(), line);
         let given = given(&rt, rt.alloc(), words.as_slice());
-        assert!(rt; given.as_str() == expected, "{line}");
+        ensure(&rt, given.as_str() == expected, line);
     }
 }
 
@@ -156,7 +157,7 @@ fn is_refused(alloc: Global, words: &[String], kind: ErrorKind) -> bool {
 fn lines_that_name_no_server(rt: HostRuntime) {
     for &(line, kind) in REFUSED {
         let words = words(&rt, rt.alloc(), line);
-        assert!(rt; is_refused(rt.alloc(), words.as_slice(), kind), "{line}");
+        ensure(&rt, is_refused(rt.alloc(), words.as_slice(), kind), line);
     }
 }
 
@@ -180,6 +181,6 @@ fn refusal_of(alloc: Global, words: &[String]) -> Option<ErrorKind> {
 fn lines_of_sitecluster(rt: HostRuntime) {
     for &(line, kind) in CLUSTERS {
         let words = words(&rt, rt.alloc(), line);
-        assert!(rt; refusal_of(rt.alloc(), words.as_slice()) == kind, "{line}");
+        ensure(&rt, refusal_of(rt.alloc(), words.as_slice()) == kind, line);
     }
 }

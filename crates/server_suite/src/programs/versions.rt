@@ -1,5 +1,6 @@
 //! What `--version` prints, and when it is asked for.
 
+use crate::comparing::ensure;
 use crate::programs::options::words;
 use sitectl::{Counted, asks_version, tell_version};
 use std::alloc::Global;
@@ -19,7 +20,7 @@ const LINES: &[(&str, bool)] = &[
 fn a_version_is_asked_for_alone(rt: HostRuntime) {
     for &(line, asks) in LINES {
         let words = words(&rt, rt.alloc(), line);
-        assert!(rt; asks_version(words.as_slice()) == asks, "{line}");
+        ensure(&rt, asks_version(words.as_slice()) == asks, line);
     }
 }
 

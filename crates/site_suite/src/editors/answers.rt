@@ -1,5 +1,5 @@
 //! Answers of a node, cut in every way.
-use crate::comparing::same;
+use crate::comparing::{ensure, same};
 use engine_parts::Feed;
 use failing_ends::Pieces;
 use http_read::Counted;
@@ -155,7 +155,7 @@ const TWO: &str =
 fn fail(rt: &impl Abort, alloc: Global, good: usize, wanted: &str) {
     let mut reader = in_pieces(TWO.as_bytes(), 1, good);
     is_told(rt, alloc, &mut reader, wanted);
-    assert!(rt; reader.failures() == 1, "after {good}");
+    ensure(rt, reader.failures() == 1, good);
 }
 
 #[test]

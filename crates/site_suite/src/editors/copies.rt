@@ -1,4 +1,5 @@
 //! Files of a static copy.
+use crate::comparing::ensure;
 use site_folder::{Copies, NoCopy};
 use std::process::Abort;
 
@@ -31,7 +32,7 @@ fn is_taken(taken: &Result<String, NoCopy>, wanted: Result<&str, NoCopy>) -> boo
 
 fn takes(rt: &impl Abort, copies: &mut Copies, path: &str, wanted: Result<&str, NoCopy>) {
     let taken = copies.take(path).expect(rt, "memory");
-    assert!(rt; is_taken(&taken, wanted), "{path}");
+    ensure(rt, is_taken(&taken, wanted), path);
 }
 
 fn take_all(rt: &impl Abort, copies: &mut Copies) {

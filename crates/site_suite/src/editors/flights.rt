@@ -1,5 +1,5 @@
 //! Publications into a group in memory, interrupted after each answer, and gone on with by another folder.
-use crate::comparing::same;
+use crate::comparing::{ensure, same};
 use crate::editors::ledgers::{new_file, read, spelled};
 use crate::editors::tickets::{Texts, has, keep};
 use site_ledger::Ledger;
@@ -284,8 +284,8 @@ const ONE_SENT: &str = "published 2\neditor 7\nnext 2\nlast_release 0\nsent 1 8\
 fn hears(rt: &impl Abort, alloc: Global, ask: Ask, status: u16, wanted: Heard) {
     let mut ledger = read(rt, alloc, ONE_SENT);
     let heard = hear(rt, &mut Flight::new(alloc), &mut ledger, ask, status);
-    assert!(rt; heard == wanted, "{status}");
-    assert!(rt; ledger.is_idle() == (wanted == Heard::Received), "{status}");
+    ensure(rt, heard == wanted, status);
+    ensure(rt, ledger.is_idle() == (wanted == Heard::Received), status);
 }
 
 #[test]

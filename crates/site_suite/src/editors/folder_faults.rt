@@ -1,4 +1,5 @@
 //! What is told of a folder's faults: the file, the place, why and what to do, and the line of the formats.
+use crate::comparing::ensure;
 use crate::editors::folders::{folder, is_told};
 use site_folder::Folder;
 use std::alloc::Global;
@@ -163,7 +164,7 @@ fn is_empty(folder: &Folder) -> bool {
 fn files_that_are_passed_over(rt: HostRuntime) {
     for &path in PASSED {
         let folder = folder(&rt, rt.alloc(), &[(path, b"\xff")]);
-        assert!(rt; is_empty(&folder), "{path}");
+        ensure(&rt, is_empty(&folder), path);
     }
 }
 

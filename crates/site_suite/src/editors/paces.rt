@@ -1,4 +1,5 @@
 //! How a delivery goes on, as a table.
+use crate::comparing::ensure;
 use site_publish::{Came, Pace, Step};
 use std::process::Abort;
 
@@ -28,7 +29,7 @@ const STEPS: &[(Came, u64, Step)] = &[
 
 fn steps(rt: &impl Abort, pace: &mut Pace, came: (Came, u64), patience: u64, wanted: Step) {
     let (came, now) = came;
-    assert!(rt; pace.step(came, now, patience) == wanted, "at {now}");
+    ensure(rt, pace.step(came, now, patience) == wanted, now);
 }
 
 #[test]

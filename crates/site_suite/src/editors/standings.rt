@@ -1,4 +1,5 @@
 //! How a ledger stands to a group, by what nodes answer.
+use crate::comparing::ensure;
 use site_ledger::Ledger;
 use site_publish::{Standing, Witness, last_ticket, standing_of, told_by};
 use std::alloc::Global;
@@ -37,7 +38,7 @@ fn witness(codes: (u16, u16)) -> Witness {
 
 fn stands(rt: &impl Abort, last: u64, nodes: Codes, wanted: Standing) {
     let witnesses = [witness(nodes.0), witness(nodes.1), witness(nodes.2)];
-    assert!(rt; standing_of(last, &witnesses) == wanted, "ticket {last}");
+    ensure(rt, standing_of(last, &witnesses) == wanted, last);
 }
 
 #[test]
@@ -65,6 +66,6 @@ fn last_of(rt: &impl Abort, alloc: Global, file: &str) -> u64 {
 #[test]
 fn last(rt: HostRuntime) {
     for &(file, wanted) in LAST {
-        assert!(rt; last_of(&rt, rt.alloc(), file) == wanted, "{file}");
+        ensure(&rt, last_of(&rt, rt.alloc(), file) == wanted, file);
     }
 }

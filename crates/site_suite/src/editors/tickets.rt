@@ -1,4 +1,5 @@
 //! The text of each ticket, by its number.
+use crate::comparing::ensure;
 use std::alloc::Global;
 use std::collections::BTreeMap;
 use std::process::Abort;
@@ -9,7 +10,7 @@ pub(crate) type Texts = BTreeMap<u64, String>;
 pub(crate) fn has(rt: &impl Abort, texts: &Texts, number: u64, text: &str) -> bool {
     match texts.get(&number) {
         Some(known) => {
-            assert!(rt; known.as_str() == text, "ticket {number}");
+            ensure(rt, known.as_str() == text, number);
             true
         }
         None => false,
