@@ -1,13 +1,10 @@
-use Rattle.std.proofs.Common.{Result, Ok, Err, IfOk, ◌≡◌, ◌≢◌, refl, sym, subst, ◌∙◌}
+use Rattle.std.proofs.Common.{◌≡◌, ◌≢◌, refl, sym, subst, ◌∙◌}
 use Rattle.command.specs.Action.{Action, put_template, put_partial, put_data, put_route, put_redirect, remove, release}
 use Rattle.content.specs.Answered.{answered}
 use Rattle.content.specs.declared.applied.Applied.TheVariants.{Changed, Released}
+use Rattle.content.proofs.Names.{on_if_ok}
 use Rattle.release.specs.Stepping.{IsStep}
 use Rattle.release.proofs.step.acted.Goals as goal
-
-on_if_ok : {A E : Type 0} {P Q : A → Type 0} (r : Result A E) → ((x : A) → P x → Q x) → IfOk r P → IfOk r Q
-on_if_ok (Ok x) f p = f x p
-on_if_ok (Err e) f p = p
 
 -- what is no release changes a name
 changes : (a : Action) → answered a ≢ Released → Changed ≡ answered a
