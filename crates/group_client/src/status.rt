@@ -168,10 +168,8 @@ fn tell_all<W: Write>(
     tell_head(alloc, out, range.common)?;
     let first = reports.iter().find_map(|report| report.page.as_ref());
     let mut well = true;
-    for (i, node) in nodes.iter().enumerate() {
-        if let Some(report) = reports.get(i) {
-            well = tell(alloc, out, node.url.as_str(), report, first, range)? && well;
-        }
+    for (node, report) in nodes.iter().zip(reports.iter()) {
+        well = tell(alloc, out, node.url.as_str(), report, first, range)? && well;
     }
     Ok(well)
 }
