@@ -36,8 +36,6 @@ pub(crate) fn lines_in(alloc: Global, text: &str) -> Result<Vec<Line<'_>>, Alloc
                 words,
                 number: i.saturating_add(1),
             })?;
-        } else {
-            drop(words);
         }
     }
     Ok(found)

@@ -113,9 +113,7 @@ fn push_redirects(
 ) -> Result<(), AllocError> {
     for redirect in folder.redirects.iter() {
         if let Some(answer) = page_at(releases, redirect.path.as_str())? {
-            let pushed = push_redirect(alloc, redirect, &answer, pages);
-            drop(answer);
-            pushed?;
+            push_redirect(alloc, redirect, &answer, pages)?;
         }
     }
     Ok(())
