@@ -19,7 +19,6 @@ use std::alloc::{AllocError, Global};
 use std::marker::Model;
 
 /// What a list of commands leaves, each of which has an effect, by name.
-#[derive(Drop)]
 pub struct Contents {
     alloc: Global,
     templates: SharedMap<String, Template>,
@@ -27,6 +26,20 @@ pub struct Contents {
     page_data: SharedMap<String, Data>,
     routes: SharedMap<String, Target>,
     redirects: SharedMap<String, String>,
+}
+
+impl Drop for Contents {
+    // Whoever lets go of it proves one step: what lies in it is proved to be let go of here alone.
+    fn drop(self) {
+        let Contents {
+            alloc: _,
+            templates: _,
+            partials: _,
+            page_data: _,
+            routes: _,
+            redirects: _,
+        } = self;
+    }
 }
 
 impl Model for Contents {

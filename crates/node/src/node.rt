@@ -20,7 +20,6 @@ use site_ids::{Cluster, NodeId};
 use std::alloc::Global;
 
 /// A node over its record: what it has learned since it was opened, and the releases that it has published.
-#[derive(Drop)]
 pub struct Node<D> {
     pub(crate) alloc: Global,
     pub(crate) cluster: Cluster,
@@ -39,6 +38,24 @@ pub struct Node<D> {
     ghost proposer_node: { proposer.me ≡ me },
     ghost proposer_cluster: { proposer.cluster ≡ cluster },
     ghost learner_cluster: { learner.cluster ≡ cluster },
+}
+
+impl<D: Drop> Drop for Node<D> {
+    // Whoever lets go of it proves one step: what lies in it is proved to be let go of here alone.
+    fn drop(self) {
+        let Node {
+            alloc: _,
+            cluster: _,
+            me: _,
+            store: _,
+            proposer: _,
+            learner: _,
+            known: _,
+            queue: _,
+            reached: _,
+            releases: _,
+        } = self;
+    }
 }
 
 impl<D: Disk> Node<D> {
@@ -120,13 +137,16 @@ impl<D: Disk> Node<D> {
         ensures keeps { (s : AbstractNode) (d : DiskState) → IsOnDisk D.stands_for self s d → D.stands_for result d × Keeps self.me self.cluster s.entries s.in_flight d }
     {
         let Node {
+            alloc: _,
+            cluster: _,
+            me: _,
             store,
             proposer,
             learner,
             known,
             queue,
+            reached: _,
             releases,
-            ..
         } = self;
         drop(proposer);
         drop(learner);

@@ -27,10 +27,16 @@ use std::marker::Model;
 
 /// The values of a log from its first instance on, and the releases that they make. Each value is applied once, and the
 /// site of each release is kept; kept sites share what they have in common.
-#[derive(Drop)]
 pub struct Releases {
     alloc: Global,
     kept: Kept<Contents>,
+}
+
+impl Drop for Releases {
+    // Whoever lets go of it proves one step: what lies in it is proved to be let go of here alone.
+    fn drop(self) {
+        let Releases { alloc: _, kept: _ } = self;
+    }
 }
 
 impl Model for Releases {
