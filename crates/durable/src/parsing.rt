@@ -1,8 +1,9 @@
 //! What stands at a gate.
 
-ghost use Rattle.std.specs.Prelude.{◌≡◌};
-ghost use Rattle.std.specs.Option.{IfSome, IfNone};
-ghost use Rattle.site_ids.specs.Ids.{BallotOf, IsBallot};
+ghost use Rattle.std.specs.Prelude.{◌≡◌, ◌≢◌, ◌<◌, ◌≤◌, ◌^◌, ℕ, ◌∷◌, ◌++◌, MatchOption};
+ghost use Rattle.byteorder.specs.Endian.{big_bytes};
+ghost use Rattle.site_ids.specs.Ids.{BallotOf, IsBallot, IsInstance};
+ghost use Rattle.site_ids.specs.Spans.{IsSpan};
 ghost use Rattle.site_ids.specs.Spelling.{ballot_bytes};
 ghost use Rattle.durable.specs.Entries.{Entry};
 ghost use Rattle.durable.specs.Histories.{IsInRange};
@@ -31,8 +32,7 @@ pub(crate) enum Next<'a> {
 
 // The ballot that the bytes spell.
 fn ballot_of(bytes: &[u8], cluster: Cluster) -> Option<Ballot>
-    ensures spelled { IfSome result (λ b. IsBallot cluster b × (bytes.now ≡ ballot_bytes b)) }
-    ensures no_other { IfNone result ((b : BallotOf) → IsBallot cluster b → bytes.now ≡ ballot_bytes b → ⊥) }
+    ensures { MatchOption result ((b : BallotOf) → IsBallot cluster b → bytes.now ≢ ballot_bytes b) (λ b. IsBallot cluster b × (bytes.now ≡ ballot_bytes b)) }
 {
     let [a, b, c, d, node] = bytes else {
         return None;
@@ -41,39 +41,70 @@ fn ballot_of(bytes: &[u8], cluster: Cluster) -> Option<Ballot>
     Ballot::new(u32::from_be_bytes([*a, *b, *c, *d]), node)
 }
 
+// The length of an instance and a ballot.
+const SLOT: usize = 9;
+
+// The round that the bytes spell.
+fn round_of(bytes: &[u8]) -> Option<u32>
+    ensures { MatchOption result ((r : ℕ) → 0 < r → r < 2 ^ 32 → bytes.now ≢ big_bytes 4 r) (λ r. (0 < r) × (bytes.now ≡ big_bytes 4 r)) }
+{
+    let [a, b, c, d] = bytes else {
+        return None;
+    };
+    let round = u32::from_be_bytes([*a, *b, *c, *d]);
+    if round == 0 { None } else { Some(round) }
+}
+
+// The instance and the ballot that the bytes spell.
+fn slot_of(bytes: &[u8], cluster: Cluster) -> Option<(Instance, Ballot)>
+    ensures { MatchOption result ((i : ℕ) (b : BallotOf) → IsInstance i → IsBallot cluster b → bytes.now ≢ big_bytes 4 i ++ ballot_bytes b)
+        (λ s. IsInstance s.0 × IsBallot cluster s.1 × (bytes.now ≡ big_bytes 4 s.0 ++ ballot_bytes s.1)) }
+{
+    let [a, b, c, d, ballot @ ..] = bytes else {
+        return None;
+    };
+    let instance = Instance::new(u32::from_be_bytes([*a, *b, *c, *d]))?;
+    Some((instance, ballot_of(ballot, cluster)?))
+}
+
+// The instances and the ballot that the bytes spell.
+fn span_of(bytes: &[u8], cluster: Cluster) -> Option<(Instance, u8, Ballot)>
+    ensures { MatchOption result ((i k : ℕ) (b : BallotOf) → 2 ≤ k → IsSpan i k → IsBallot cluster b → bytes.now ≢ big_bytes 4 i ++ k ∷ ballot_bytes b)
+        (λ s. (2 ≤ s.1) × IsSpan s.0 s.1 × IsBallot cluster s.2 × (bytes.now ≡ big_bytes 4 s.0 ++ s.1 ∷ ballot_bytes s.2)) }
+{
+    let [a, b, c, d, count, ballot @ ..] = bytes else {
+        return None;
+    };
+    let instance = Instance::new(u32::from_be_bytes([*a, *b, *c, *d]))?;
+    let ballot = ballot_of(ballot, cluster)?;
+    if 2 <= *count && instance.begins_span(*count) {
+        Some((instance, *count, ballot))
+    } else {
+        None
+    }
+}
+
 // The entry that a payload spells.
 fn entry_of(payload: &[u8], cluster: Cluster) -> Option<EntryRef<'_>>
-    ensures spelled { IfSome result (λ e. payload.now ≡ payload_of (meaning e)) }
-    ensures in_range { IfSome result (λ e. IsInRange cluster (meaning e)) }
-    ensures no_other { IfNone result ((e : Entry) → IsInRange cluster e → payload.now ≡ payload_of e → ⊥) }
+    ensures { MatchOption result ((e : Entry) → IsInRange cluster e → payload.now ≢ payload_of e)
+        (λ e. IsInRange cluster (meaning e) × (payload.now ≡ payload_of (meaning e))) }
 {
     match payload {
-        [1, a, b, c, d] => {
-            let round = u32::from_be_bytes([*a, *b, *c, *d]);
-            if round == 0 {
-                None
-            } else {
-                Some(EntryRef::Round(round))
-            }
+        [1, round @ ..] => Some(EntryRef::Round(round_of(round)?)),
+        [2, slot @ ..] => {
+            let (instance, ballot) = slot_of(slot, cluster)?;
+            Some(EntryRef::Promised(instance, ballot))
         }
-        [4, a, b, c, d, count, ballot @ ..] => {
-            let instance = Instance::new(u32::from_be_bytes([*a, *b, *c, *d]))?;
-            let ballot = ballot_of(ballot, cluster)?;
-            if 2 <= *count && instance.begins_span(*count) {
-                Some(EntryRef::PromisedSpan(instance, *count, ballot))
-            } else {
-                None
+        [3, vote @ ..] => {
+            if vote.len() < SLOT || SLOT + MAX_VALUE < vote.len() {
+                return None;
             }
+            let (instance, ballot) = slot_of(&vote[..SLOT], cluster)?;
+            Some(EntryRef::Voted(instance, ballot, &vote[SLOT..]))
         }
-        [kind, a, b, c, d, e, f, g, h, node, value @ ..] => {
-            let instance = Instance::new(u32::from_be_bytes([*a, *b, *c, *d]))?;
-            let node = cluster.node(*node)?;
-            let ballot = Ballot::new(u32::from_be_bytes([*e, *f, *g, *h]), node)?;
-            match *kind {
-                2 if value.is_empty() => Some(EntryRef::Promised(instance, ballot)),
-                3 if value.len() <= MAX_VALUE => Some(EntryRef::Voted(instance, ballot, value)),
-                _ => None,
-            }
+        [4, span @ ..] => {
+            let (first, count, ballot) = span_of(span, cluster)?;
+            Some(EntryRef::PromisedSpan(first, count, ballot))
         }
         _ => None,
     }
