@@ -2,9 +2,9 @@
 //!
 //! A page's status is printed as it comes; unknown ones have an empty reason.
 
-ghost use Rattle.std.specs.Prelude.{◌≡◌, ◌≤◌, ◌&&◌, not, length, IfOk, string_bytes};
-ghost use Rattle.http_serve.specs.Shown.{reply_of, written_in, write_as};
-ghost use Rattle.http_serve.specs.Replies.{reply_head, reason, media_type, closes as is_closing, head_end};
+ghost use Rattle.std.specs.Prelude.{◌≡◌, ◌≤◌, ◌&&◌, not, length, [], IfOk, string_bytes};
+ghost use Rattle.http_serve.specs.Shown.{line_of, reply_of, written_in, write_as};
+ghost use Rattle.http_serve.specs.Replies.{line_before, reply_head, reason, media_type, closes as is_closing, head_end};
 
 use percent_encoding::{AsciiSet, NON_ALPHANUMERIC, ascii_set, utf8_percent_encode};
 use std::alloc::{AllocError, Global};
@@ -116,33 +116,33 @@ pub(crate) fn end_of_head(stays: bool) -> &'static str
     }
 }
 
+/// The line that only some responses have, with its end.
+fn own_line(alloc: Global, own: &OwnLine) -> Result<String, AllocError>
+    ensures { IfOk result (λ line. string_bytes line ≡ line_before (line_of own.now) []) }
+{
+    match own {
+        OwnLine::Absent => Ok(String::new(alloc)),
+        OwnLine::Location(path) => {
+            let path = utf8_percent_encode(path.as_str(), ESCAPED);
+            format!(in alloc; "Location: {path}\r\n")
+        }
+        OwnLine::Allow(methods) => format!(in alloc; "Allow: {methods}\r\n"),
+    }
+}
+
 /// The head of a response.
 fn head_of(alloc: Global, stays: bool, response: &Response) -> Result<String, AllocError>
     ensures { IfOk result (λ text. string_bytes text ≡ reply_head stays (reply_of response.now)) }
 {
+    let own = own_line(alloc, &response.own)?;
     let status = response.status;
     let reason = reason_of(status);
     let media = media_of(response.is_page);
     let size = response.body.len();
     let end = end_of_head(stays);
-    match &response.own {
-        OwnLine::Absent => {
-            format!(in alloc;
-                "HTTP/1.1 {status} {reason}\r\nContent-Type: {media}\r\nContent-Length: {size}{end}"
-            )
-        }
-        OwnLine::Location(path) => {
-            let path = utf8_percent_encode(path.as_str(), ESCAPED);
-            format!(in alloc;
-                "HTTP/1.1 {status} {reason}\r\nContent-Type: {media}\r\nLocation: {path}\r\nContent-Length: {size}{end}"
-            )
-        }
-        OwnLine::Allow(methods) => {
-            format!(in alloc;
-                "HTTP/1.1 {status} {reason}\r\nContent-Type: {media}\r\nAllow: {methods}\r\nContent-Length: {size}{end}"
-            )
-        }
-    }
+    format!(in alloc;
+        "HTTP/1.1 {status} {reason}\r\nContent-Type: {media}\r\n{own}Content-Length: {size}{end}"
+    )
 }
 
 /// The whole response; to a HEAD request its head alone.
