@@ -1,5 +1,5 @@
 -- The reading of bytes, from what `serde_json` says of them.
-use Rattle.std.proofs.Common.{◌≡◌, ◌≢◌, ◌⊎◌, inl, inr, ℕ, List, Bool, true, false, Some, None, Result, Ok, Err, IfOk, IfErr, IsErrOf, refl, ap, ◌∙◌}
+use Rattle.std.proofs.Common.{◌≡◌, ◌≢◌, ◌⊎◌, inl, inr, ℕ, List, Bool, true, false, Some, None, Result, Ok, Err, IfOk, IfErr, MatchResult, refl, ap, ◌∙◌}
 use Rattle.std.specs.Str.{IsUtf8, is_utf8}
 use Rattle.std.proofs.lemmas.Str.{is_utf8-from_IsUtf8, IsUtf8-from_is_utf8}
 use Rattle.serde_json.specs.Data as json
@@ -20,17 +20,16 @@ refused false bytes no_text none = rw no_text
 pub read_none : (bytes : List ℕ) → (IsUtf8 bytes → read bytes ≡ None) → data_reading bytes ≡ Err NotJson
 read_none bytes none = refused (is_utf8 bytes) bytes refl none
 
-pub converted_ok : (r : Result Data DataFault) (bytes : List ℕ) (j : json.Data) → data_reading bytes ≡ whole_or_not (whole j) → IfOk r (λ d. whole j ≡ Some (data_view d))
+abbrev Converts : json.Data → Result Data DataFault → Type 0
+Converts j r = MatchResult r (λ d. whole j ≡ Some (data_view d)) (λ e. ((e ≡ NotWhole) × (whole j ≡ None)) ⊎ (e ≡ OutOfMemory))
+
+pub converted_ok : (r : Result Data DataFault) (bytes : List ℕ) (j : json.Data) → data_reading bytes ≡ whole_or_not (whole j) → Converts j r
     → IfOk r (λ d. data_reading bytes ≡ Ok (data_view d))
 converted_ok (Ok d) bytes j reading is = reading ∙ ap whole_or_not is
-converted_ok (Err e) bytes j reading is = tt
+converted_ok (Err e) bytes j reading why = tt
 
-converted_fault : (e : DataFault) (bytes : List ℕ) (j : json.Data) → data_reading bytes ≡ whole_or_not (whole j) → (e ≡ NotWhole → whole j ≡ None) → (e ≡ NotWhole) ⊎ (e ≡ OutOfMemory)
-    → e ≢ OutOfMemory → data_reading bytes ≡ Err e
-converted_fault e bytes j reading not (inl is) other = rw is (reading ∙ ap whole_or_not (not is))
-converted_fault e bytes j reading not (inr is) other = absurd (other is)
-
-pub converted_err : (r : Result Data DataFault) (bytes : List ℕ) (j : json.Data) → data_reading bytes ≡ whole_or_not (whole j) → (IsErrOf r NotWhole → whole j ≡ None)
-    → IfErr r (λ e. (e ≡ NotWhole) ⊎ (e ≡ OutOfMemory)) → IfErr r (λ e. e ≢ OutOfMemory → data_reading bytes ≡ Err e)
-converted_err (Ok d) bytes j reading not only = tt
-converted_err (Err e) bytes j reading not only = converted_fault e bytes j reading (λ (is : e ≡ NotWhole). not cc) only
+pub converted_err : (r : Result Data DataFault) (bytes : List ℕ) (j : json.Data) → data_reading bytes ≡ whole_or_not (whole j) → Converts j r
+    → IfErr r (λ e. e ≢ OutOfMemory → data_reading bytes ≡ Err e)
+converted_err (Ok d) bytes j reading is = tt
+converted_err (Err e) bytes j reading (inl fault) = λ other. rw fault.0 (reading ∙ ap whole_or_not fault.1)
+converted_err (Err e) bytes j reading (inr memory) = λ other. absurd (other memory)

@@ -1,4 +1,4 @@
-ghost use Rattle.std.specs.Prelude.{◌≡◌, ◌≢◌, ◌⊎◌, Some, None, IfOk, IsErrOf, IfErr};
+ghost use Rattle.std.specs.Prelude.{◌≡◌, ◌≢◌, ◌⊎◌, Some, None, IfOk, IfErr, MatchResult};
 ghost use Rattle.serde_json.specs.View.{view, items_view as json_items, members_view as json_members};
 ghost use Rattle.context.specs.Whole.{whole, whole_items, whole_members, data_reading};
 ghost use Rattle.context.specs.View.{data_view, items_view, members_view};
@@ -28,9 +28,8 @@ impl Data {
 
 #[cycle(convert)]
 fn data_of(alloc: Global, value: &Value) -> Result<Data, DataFault>
-    ensures ok { IfOk result (λ d. whole (view value.now) ≡ Some (data_view d)) }
-    ensures not_whole { IsErrOf result DataFault.NotWhole → whole (view value.now) ≡ None }
-    ensures only { IfErr result (λ e. (e ≡ DataFault.NotWhole) ⊎ (e ≡ DataFault.OutOfMemory)) }
+    ensures { MatchResult result (λ d. whole (view value.now) ≡ Some (data_view d))
+        (λ e. ((e ≡ DataFault.NotWhole) × (whole (view value.now) ≡ None)) ⊎ (e ≡ DataFault.OutOfMemory)) }
 {
     match value {
         Value::Null => Ok(Data::Null),
@@ -47,9 +46,8 @@ fn data_of(alloc: Global, value: &Value) -> Result<Data, DataFault>
 
 #[cycle(convert)]
 fn list_of(alloc: Global, items: &Vec<Value>) -> Result<Vec<Data>, DataFault>
-    ensures ok { IfOk result (λ v. whole_items (json_items items.now.items) ≡ Some (items_view v.items)) }
-    ensures not_whole { IsErrOf result DataFault.NotWhole → whole_items (json_items items.now.items) ≡ None }
-    ensures only { IfErr result (λ e. (e ≡ DataFault.NotWhole) ⊎ (e ≡ DataFault.OutOfMemory)) }
+    ensures { MatchResult result (λ v. whole_items (json_items items.now.items) ≡ Some (items_view v.items))
+        (λ e. ((e ≡ DataFault.NotWhole) × (whole_items (json_items items.now.items) ≡ None)) ⊎ (e ≡ DataFault.OutOfMemory)) }
 {
     let mut found = Vec::with_capacity(alloc, items.len())?;
     for item in items {
@@ -63,9 +61,8 @@ fn hash_of(
     alloc: Global,
     members: &BTreeMap<String, Value>,
 ) -> Result<BTreeMap<String, Data>, DataFault>
-    ensures ok { IfOk result (λ m. whole_members (json_members members.now.entries) ≡ Some (members_view m.entries)) }
-    ensures not_whole { IsErrOf result DataFault.NotWhole → whole_members (json_members members.now.entries) ≡ None }
-    ensures only { IfErr result (λ e. (e ≡ DataFault.NotWhole) ⊎ (e ≡ DataFault.OutOfMemory)) }
+    ensures { MatchResult result (λ m. whole_members (json_members members.now.entries) ≡ Some (members_view m.entries))
+        (λ e. ((e ≡ DataFault.NotWhole) × (whole_members (json_members members.now.entries) ≡ None)) ⊎ (e ≡ DataFault.OutOfMemory)) }
 {
     let mut found = BTreeMap::new(alloc);
     for (key, member) in members.iter() {

@@ -1,4 +1,4 @@
-use Rattle.std.proofs.Common.{suc, ◌≡◌, ◌+◌, Some, None, [], ◌∷◌, ◌++◌, take, drop, sym, ap, ◌∙◌, subst, append_assoc, arith, string_bytes, string_cmp, add-one}
+use Rattle.std.proofs.Common.{inl, inr, suc, ◌≡◌, ◌+◌, Some, None, [], ◌∷◌, ◌++◌, take, drop, sym, ap, ◌∙◌, subst, append_assoc, arith, string_bytes, string_cmp, add-one}
 use Rattle.std.proofs.Math.Seq.{take-suc, drop-cons}
 use Rattle.std.proofs.lemmas.List.{take-append-drop}
 use Rattle.std.proofs.lemmas.Result.{err_from_is_err_and}
@@ -10,15 +10,17 @@ use Rattle.context.specs.View.{data_view, items_view, members_view}
 use Rattle.context.proofs.Copies.{JsonEntry, one_more, one_more_not, member_more, member_more_not, put_last, members_view-insert_entry, items_view-append}
 use Rattle.context.proofs.json.+convert.Goals as goal
 
-pub hash_of-returns-in_err-data_of-clause-not_whole : goal.hash_of-returns-in_err-data_of-clause-not_whole
-hash_of-returns-in_err-data_of-clause-not_whole t c is =
+pub hash_of-returns-in_err-data_of : goal.hash_of-returns-in_err-data_of
+hash_of-returns-in_err-data_of t c =
     let l = c.loop-key in
     let done = l.invariant.0 in
     let e : JsonEntry = (c.in-Some.key.now, c.in-Some.member.now) in
     let all : c.args.members.now.entries ≡ done ++ e ∷ c.next.new.self = l.invariant.1 ∙ ap (λ es. done ++ es) c.in-Some.ensures.steps in
     let p = err_from_is_err_and c.from_residual-in_err-data_of.result c.from_residual-in_err-data_of.ensures.1 in
-    let none : whole (view e.1) ≡ None = c.in_err-data_of.ensures.not_whole (cc (p.1, p.2, is)) in
-    ap (λ es. whole_members (json_members es)) all ∙ member_more_not done c.next.new.self e _ l.invariant.2 none
+    rw (p.1, p.2) (elim c.in_err-data_of.ensures [
+      | inl fault ↦ inl (fault.0, ap (λ es. whole_members (json_members es)) all ∙ member_more_not done c.next.new.self e _ l.invariant.2 fault.1)
+      | inr memory ↦ inr memory
+    ])
 
 pub hash_of-loop-key-preserved : goal.hash_of-loop-key-preserved
 hash_of-loop-key-preserved t c =
@@ -32,11 +34,11 @@ hash_of-loop-key-preserved t c =
     let named : string_bytes c.in_ok-name.name ≡ string_bytes e.0 = c.in_ok-name.ensures.cases in (
       done ++ e ∷ [],
       all ∙ sym (append_assoc done (e ∷ []) left),
-      member_more done e _ _ l.invariant.2 c.in_ok-data_of.ensures.ok ∙ ap Some (sym (ap members_view c.in_ok-insert.ensures.entries ∙ members_view-insert_entry l.found.entries c.in_ok-name.name c.in_ok-data_of.field-0 ∙ rw named last)),
+      member_more done e _ _ l.invariant.2 c.in_ok-data_of.ensures ∙ ap Some (sym (ap members_view c.in_ok-insert.ensures.entries ∙ members_view-insert_entry l.found.entries c.in_ok-name.name c.in_ok-data_of.field-0 ∙ rw named last)),
     )
 
-pub list_of-returns-in_err-data_of-clause-not_whole : goal.list_of-returns-in_err-data_of-clause-not_whole
-list_of-returns-in_err-data_of-clause-not_whole t c is =
+pub list_of-returns-in_err-data_of : goal.list_of-returns-in_err-data_of
+list_of-returns-in_err-data_of t c =
     let l = c.loop-item in
     let xs = c.deref-item-items.result.now in
     let v = c.item-item.result in
@@ -44,8 +46,10 @@ list_of-returns-in_err-data_of-clause-not_whole t c is =
     let all : xs ≡ take l.item-index xs ++ v ∷ drop (suc l.item-index) xs =
     sym (take-append-drop l.item-index xs) ∙ ap (λ ys. take l.item-index xs ++ ys) (rest ∙ ap (λ y. y ∷ drop (suc l.item-index) xs) (sym c.item-item.is)) in
     let p = err_from_is_err_and c.from_residual-in_err-data_of.result c.from_residual-in_err-data_of.ensures.1 in
-    let none : whole (view v) ≡ None = c.in_err-data_of.ensures.not_whole (cc (p.1, p.2, is)) in
-    ap (λ ys. whole_items (json_items ys)) (sym c.deref-item-items.ensures.value ∙ all) ∙ one_more_not (take l.item-index xs) _ v _ l.invariant none
+    rw (p.1, p.2) (elim c.in_err-data_of.ensures [
+      | inl fault ↦ inl (fault.0, ap (λ ys. whole_items (json_items ys)) (sym c.deref-item-items.ensures.value ∙ all) ∙ one_more_not (take l.item-index xs) _ v _ l.invariant fault.1)
+      | inr memory ↦ inr memory
+    ])
 
 pub list_of-loop-item-preserved : goal.list_of-loop-item-preserved
 list_of-loop-item-preserved t c =
@@ -55,5 +59,5 @@ list_of-loop-item-preserved t c =
     let step = take-suc xs l.item-index v (omega arith) in
     let cut : take (l.item-index + 1) xs ≡ take l.item-index xs ++ v ∷ [] =
     ap (λ n. take n xs) (add-one l.item-index) ∙ step ∙ ap (λ y. take l.item-index xs ++ y ∷ []) (sym c.item-item.is) in
-    ap (λ ys. whole_items (json_items ys)) cut ∙ one_more (take l.item-index xs) v _ _ l.invariant c.in_ok-data_of.ensures.ok
+    ap (λ ys. whole_items (json_items ys)) cut ∙ one_more (take l.item-index xs) v _ _ l.invariant c.in_ok-data_of.ensures
     ∙ ap Some (sym (ap items_view c.in_ok-push.ensures.items ∙ items_view-append l.found.items (c.in_ok-data_of.field-0 ∷ [])))
