@@ -2,7 +2,7 @@
 //!
 //! Laps count no failure of the device unless they end as stopped, as a node that was stopped before ends by the same word.
 
-ghost use Rattle.std.specs.Prelude.{◌⊎◌, IfErr, OnOk};
+ghost use Rattle.std.specs.Prelude.{◌≡◌, ◌⊎◌, IfErr, OnOk};
 ghost use Rattle.http_read.specs.Bytes.{end_of};
 ghost use Rattle.site_drive.specs.Leading.{StaysWhose};
 ghost use Rattle.site_halts.specs.Halts.{CountsNone, EndsLaps};
@@ -10,7 +10,7 @@ ghost use Rattle.site_serve.specs.Noted.{HasNoted};
 ghost use Rattle.site_serve.specs.Passes.{Led, TakesPass, TakesPasses, BreaksPass, BreaksPasses, LosesPass, LosesPasses};
 
 use crate::saying::tell_notes;
-use crate::server::Server;
+use crate::server::{Server, Stepped};
 use crate::shell::Shell;
 use http_read::Counted;
 use site_disk::Disk;
@@ -19,6 +19,21 @@ use std::alloc::Global;
 use std::io::Write;
 use std::net::TcpStream;
 use std::rt::Clock;
+
+/// Rests behind a step, where it is to.
+fn rest_behind<D: Disk + Drop, C: Clock>(
+    clock: &C,
+    shell: &mut Shell,
+    server: &mut Server<D, TcpStream>,
+    stepped: Stepped,
+    moved: bool,
+)
+    ensures { server.new.served ≡ server.old.served }
+{
+    if let Some(rest) = server.rest(stepped, moved) {
+        shell.rest(clock, rest, &mut server.mail);
+    }
+}
 
 /// One pass. Where nothing came and nothing went, it rests.
 fn take_pass<D: Disk + Drop, C: Clock>(
@@ -33,18 +48,12 @@ fn take_pass<D: Disk + Drop, C: Clock>(
     ensures counts { CountsNone result (D.failed server.old.served.node.store.disk) (D.failed server.new.served.node.store.disk) }
 {
     let now = shell.now(clock);
-    shell.receive(&mut server.mail)?;
-    shell.accept(&mut server.seats, now)?;
-    let heard = server.seats.hear(now)?;
+    let heard = shell.take_in(&mut server.mail, &mut server.seats, now)?;
     let stepped = server.step(now)?;
-    shell.send(server.mail.letters());
-    let told = server.seats.tell(now);
-    shell.part(&mut server.seats, now);
+    let told = shell.give_out(server.mail.letters(), &mut server.seats, now);
     let known = server.served.node.known();
     shell.watch.pass(now, known, stepped.malformed);
-    if let Some(rest) = server.rest(stepped, heard || told) {
-        shell.rest(clock, rest, &mut server.mail);
-    }
+    rest_behind(clock, shell, server, stepped, heard || told);
     Ok(())
 }
 

@@ -139,8 +139,33 @@ impl Shell {
         self.now
     }
 
+    /// Takes in what has come, of other nodes and of clients: whether a client sent any.
+    pub(crate) fn take_in(
+        &mut self,
+        mail: &mut Mail,
+        seats: &mut Seats<TcpStream>,
+        now: u64,
+    ) -> Result<bool, AllocError> {
+        self.receive(mail)?;
+        self.accept(seats, now)?;
+        seats.hear(now)
+    }
+
+    /// Sends the letters and what clients are owed, and closes the connections that leave: whether anything went to a client.
+    pub(crate) fn give_out(
+        &mut self,
+        letters: &[Letter],
+        seats: &mut Seats<TcpStream>,
+        now: u64,
+    ) -> bool {
+        self.send(letters);
+        let told = seats.tell(now);
+        self.part(seats, now);
+        told
+    }
+
     /// Receives what has come, as far as the mail has room. A failure is a loss.
-    pub(crate) fn receive(&mut self, mail: &mut Mail) -> Result<(), AllocError> {
+    fn receive(&mut self, mail: &mut Mail) -> Result<(), AllocError> {
         for _ in 0..RECEIVED {
             if !mail.has_room() {
                 return Ok(());
@@ -158,11 +183,7 @@ impl Shell {
     }
 
     /// Seats the clients that have come, each perhaps for one that was silent for long. One that fails at once is passed over.
-    pub(crate) fn accept(
-        &mut self,
-        seats: &mut Seats<TcpStream>,
-        now: u64,
-    ) -> Result<(), AllocError> {
+    fn accept(&mut self, seats: &mut Seats<TcpStream>, now: u64) -> Result<(), AllocError> {
         for _ in 0..ACCEPTED {
             if !seats.has_room() {
                 self.watch.fill();
@@ -206,14 +227,14 @@ impl Shell {
     }
 
     /// Sends each other node what these letters have for it.
-    pub(crate) fn send(&mut self, letters: &[Letter]) {
+    fn send(&mut self, letters: &[Letter]) {
         for (node, at) in &self.others {
             send_to(&self.socket, &mut self.packet, letters, *node, *at);
         }
     }
 
     /// Closes the connections that leave.
-    pub(crate) fn part(&self, seats: &mut Seats<TcpStream>, now: u64) {
+    fn part(&self, seats: &mut Seats<TcpStream>, now: u64) {
         for _ in 0..ACCEPTED {
             match seats.leave(now) {
                 Some(stream) => close(stream),

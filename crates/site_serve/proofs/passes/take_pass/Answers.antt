@@ -7,18 +7,11 @@ use Rattle.site_serve.proofs.passes.take_pass.Goals as goal
 
 pub returns-in_err-stepped-clause-fault : goal.returns-in_err-stepped-clause-fault
 returns-in_err-stepped-clause-fault g c = err_gives c.from_residual-in_err-stepped.result c.from_residual-in_err-stepped.ensures.1 λ e is.
-    step_broke g.D.Disk.stands_for c.args.server.now.served.node c.step.new.self.served.node _ _ (waiting_of c.receive.new.mail) _ e is c.in_err-stepped.ensures.fault
+    step_broke g.D.Disk.stands_for c.args.server.now.served.node c.step.new.self.served.node _ _ (waiting_of c.take_in.new.mail) _ e is c.in_err-stepped.ensures.fault
 
-pub returns-in-Some-clause-ok : goal.returns-in-Some-clause-ok
-returns-in-Some-clause-ok g c =
+pub returns-clause-ok : goal.returns-clause-ok
+returns-clause-ok g c =
     let old = c.args.server.now.served.node in
     let new = c.step.new.self.served.node in
-    subst (λ v. Led g.D.Disk.stands_for old v.node (TakesPass old.cluster old.me v.node.releases)) (sym c.rest.ensures)
-    (passed g.D.Disk.stands_for old new old.cluster old.me (waiting_of c.receive.new.mail) (posted_of c.step.new.self.mail) new.releases c.in_ok-stepped.ensures.ok)
-
-pub returns-in_default-clause-ok : goal.returns-in_default-clause-ok
-returns-in_default-clause-ok g c =
-    let old = c.args.server.now.served.node in
-    let new = c.step.new.self.served.node in
-    subst (λ v. Led g.D.Disk.stands_for old v.node (TakesPass old.cluster old.me v.node.releases)) (sym c.rest.ensures)
-    (passed g.D.Disk.stands_for old new old.cluster old.me (waiting_of c.receive.new.mail) (posted_of c.step.new.self.mail) new.releases c.in_ok-stepped.ensures.ok)
+    subst (λ v. Led g.D.Disk.stands_for old v.node (TakesPass old.cluster old.me v.node.releases)) (sym c.rest_behind.ensures)
+    (passed g.D.Disk.stands_for old new old.cluster old.me (waiting_of c.take_in.new.mail) (posted_of c.step.new.self.mail) new.releases c.in_ok-stepped.ensures.ok)
