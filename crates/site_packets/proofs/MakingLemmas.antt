@@ -33,7 +33,7 @@ behind_four (a ∷ b ∷ c ∷ []) d four = absurd (omega arith)
 behind_four (a ∷ b ∷ c ∷ e ∷ f ∷ xs) d four = absurd (omega arith)
 
 -- no more than may stand in a packet: there is room, and not for the first alone
-fits : (ds : List (List ℕ)) (len : ℕ) → 1 ≤ length ds → HasRoom ds len → length (framed_all ds) + 5 + len ≤ MAX_PACKET
+pub fits : (ds : List (List ℕ)) (len : ℕ) → 1 ≤ length ds → HasRoom ds len → length (framed_all ds) + 5 + len ≤ MAX_PACKET
 fits ds len some (inl none) = absurd (let n = ap length none in omega arith)
 fits ds len some (inr room) = room
 
