@@ -22,7 +22,7 @@ pub enum Learned {
 }
 
 /// At most one value an instance.
-#[derive(Debug, Drop)]
+#[derive(Drop)]
 pub struct ChosenLog {
     /// Those from instance 1 on up to the first gap.
     prefix: Vec<Value>,

@@ -15,7 +15,7 @@ use std::io::{self, Write};
 use std::rt::HostRuntime;
 
 /// Why a command line gives a program nothing to do.
-#[derive(Debug, Drop)]
+#[derive(Drop)]
 pub enum Misuse {
     NotUtf8,
     OutOfMemory,

@@ -10,7 +10,7 @@ use clap::{ArgMatches, Error};
 use std::alloc::Global;
 
 /// What a command line of `siterender` names: a release, or the newest where it names none, and a path.
-#[derive(Clone, Copy, Debug, Drop)]
+#[derive(Clone, Copy, Drop)]
 pub struct RenderOptions<'a> {
     pub release: Option<u64>,
     pub path: &'a str,

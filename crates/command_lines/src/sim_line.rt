@@ -11,7 +11,7 @@ use clap::{ArgMatches, Error};
 use std::alloc::Global;
 
 /// What a command line of `sitesim` names: the file of a schedule.
-#[derive(Clone, Copy, Debug, Drop)]
+#[derive(Clone, Copy, Drop)]
 pub struct SimOptions<'a> {
     pub file: &'a str,
 }

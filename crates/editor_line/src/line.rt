@@ -9,7 +9,7 @@ const PATIENCE: u64 = 60;
 const PREVIEW: &str = "127.0.0.1:8000";
 
 /// What `sitepub` is told to do.
-#[derive(Debug, Drop)]
+#[derive(Drop)]
 pub enum Word<'a> {
     /// Writes a small site to start from.
     New {

@@ -17,7 +17,7 @@ use std::rt::{Clock, Files};
 use std::time::{SystemTime, UNIX_EPOCH};
 
 /// How a folder is published.
-#[derive(Clone, Copy, Debug)]
+#[derive(Clone, Copy)]
 pub struct Publishing<'a> {
     pub folder: &'a str,
     pub urls: &'a [&'a str],

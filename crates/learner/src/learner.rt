@@ -11,7 +11,7 @@ use std::alloc::{AllocError, Global};
 use std::collections::BTreeMap;
 
 /// A set of votes.
-#[derive(Debug, Drop)]
+#[derive(Drop)]
 pub struct Learner {
     alloc: Global,
     cluster: Cluster,

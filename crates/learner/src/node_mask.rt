@@ -6,7 +6,7 @@ ghost use Rattle.learner.specs.Masks.{HasNode, Counted};
 use site_ids::{Cluster, NodeId};
 
 /// Nodes as the bits of a number: node p is bit p.
-#[derive(Clone, Copy, Debug, Drop)]
+#[derive(Clone, Copy, Drop)]
 pub(crate) struct NodeMask {
     bits: u16,
 }

@@ -11,7 +11,7 @@ use site_ids::{Ballot, NodeId, Value};
 use std::alloc::AllocError;
 
 /// The nodes that told a value at a ballot.
-#[derive(Debug, Drop)]
+#[derive(Drop)]
 pub(crate) struct Tally {
     ballot: Ballot,
     value: Value,

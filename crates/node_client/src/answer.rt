@@ -1,5 +1,5 @@
 /// What a node answered.
-#[derive(Debug, Drop)]
+#[derive(Drop)]
 pub struct Answer {
     pub status: u16,
     pub body: Vec<u8>,

@@ -13,7 +13,7 @@ use site_ids::{Ballot, Cluster, NodeId, Value, Vote};
 use std::alloc::AllocError;
 
 /// An open attempt. Of the votes told it keeps the one of the highest ballot.
-#[derive(Debug, Drop)]
+#[derive(Drop)]
 pub(crate) struct OpenAttempt {
     pub(crate) ballot: Ballot,
     /// The value to propose where no vote is told.

@@ -36,7 +36,7 @@ fn has_own(attempt: &Option<OpenAttempt>, value: &[u8]) -> bool
 }
 
 /// A value to propose, at an attempt's instance and ballot.
-#[derive(Debug, Drop)]
+#[derive(Drop)]
 pub struct Proposal {
     pub instance: Instance,
     pub ballot: Ballot,
@@ -44,7 +44,7 @@ pub struct Proposal {
 }
 
 /// The open attempts of a node.
-#[derive(Debug, Drop)]
+#[derive(Drop)]
 pub struct Proposer {
     alloc: Global,
     cluster: Cluster,

@@ -9,7 +9,7 @@ use site_ids::{Ballot, Instance, Vote};
 use std::alloc::AllocError;
 
 /// An entry of a record.
-#[derive(Debug, Drop)]
+#[derive(Drop)]
 pub enum Entry {
     Round(u32),
     Promised(Instance, Ballot),

@@ -13,7 +13,7 @@ use crate::{Armed, Disk, DiskFailed};
 use std::alloc::{AllocError, Global};
 
 /// A call that a disk in memory let pass.
-#[derive(Debug, Drop)]
+#[derive(Drop)]
 pub enum Call {
     Len,
     Read,

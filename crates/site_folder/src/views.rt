@@ -5,7 +5,7 @@ use release::Releases;
 use std::alloc::{AllocError, Global};
 
 /// What a node shows at a path: a status and a body.
-#[derive(Debug, Drop)]
+#[derive(Drop)]
 pub struct View {
     pub path: String,
     pub status: u16,

@@ -1,7 +1,7 @@
 //! What a server is asked to be.
 
 /// What a command line of `sited` names, each text as it was written.
-#[derive(Debug, Drop)]
+#[derive(Drop)]
 pub struct ServeOptions<'a> {
     /// This server's number.
     pub id: u8,

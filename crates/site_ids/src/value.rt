@@ -57,7 +57,7 @@ impl Value {
 }
 
 /// What an acceptor accepted: a value at a ballot.
-#[derive(Debug, Drop)]
+#[derive(Drop)]
 pub struct Vote {
     pub ballot: Ballot,
     pub value: Value,

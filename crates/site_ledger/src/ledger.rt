@@ -15,7 +15,7 @@ use std::marker::Model;
 const RELEASE: &str = "release\n";
 
 /// What the group has of an editor's folder, and what is on its way.
-#[derive(Debug, Drop)]
+#[derive(Drop)]
 pub struct Ledger {
     pub(crate) editor: u32,
     /// The number of the next ticket; the first is 1.

@@ -5,7 +5,7 @@ ghost use Rattle.site_ledger.specs.View.{given_view};
 use std::alloc::{AllocError, Global};
 
 /// A command on its way: the number of its ticket, and its text.
-#[derive(Debug, Drop)]
+#[derive(Drop)]
 pub struct Sent {
     pub number: u64,
     pub text: String,

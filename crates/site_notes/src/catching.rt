@@ -10,7 +10,7 @@ const SETTLING: u64 = 2000;
 const MANY: u32 = 64;
 
 /// Where a server stands behind its start or an absence.
-#[derive(Clone, Copy, Debug, PartialEq, Eq, Drop)]
+#[derive(Clone, Copy, Drop)]
 pub enum Catching {
     /// It was said that it caught up.
     Done,

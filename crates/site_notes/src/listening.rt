@@ -8,7 +8,7 @@ use crate::silence::Silence;
 use site_ids::{Cluster, NodeId};
 
 /// Of each node how long it was not heard, and of a majority, which is heard each time that so many different nodes were. A server hears itself.
-#[derive(Clone, Copy, Debug, PartialEq, Eq, Drop)]
+#[derive(Clone, Copy, Drop)]
 pub struct Listening {
     cluster: Cluster,
     me: NodeId,

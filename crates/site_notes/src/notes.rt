@@ -15,7 +15,7 @@ use site_ids::{Cluster, NodeId};
 pub const EACH: u64 = 1000;
 
 /// What a server heard of whom, what it counted, and what it said last, and when. Moments are milliseconds since it began, none of them less than the one before.
-#[derive(Clone, Copy, Debug, PartialEq, Eq, Drop)]
+#[derive(Clone, Copy, Drop)]
 pub struct Notes {
     // of the record, until that is said
     votes: Option<u32>,

@@ -7,7 +7,7 @@ ghost use Rattle.site_notes.specs.Noting.{no_silence, heard_at, told_at, ended_t
 pub const LONG: u64 = 5000;
 
 /// When somebody was heard last, and what was told of it. Moments and lengths are milliseconds, moments since the server began.
-#[derive(Clone, Copy, Debug, PartialEq, Eq, Drop)]
+#[derive(Clone, Copy, Drop)]
 pub struct Silence {
     /// When it was heard last: at the beginning, where it never was.
     pub heard: u64,

@@ -26,7 +26,7 @@ use site_times::Times;
 /// What was tried, asked, heard and told, by whom and when.
 ///
 /// A step calls `due`, then `hear` behind its batch, and then `rest`. Its moments are milliseconds since the server began, none of them less than the one before.
-#[derive(Clone, Copy, Debug, PartialEq, Eq, Drop)]
+#[derive(Clone, Copy, Drop)]
 pub struct Pace {
     times: Times,
     // what this server waits before its first try

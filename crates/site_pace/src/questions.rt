@@ -15,7 +15,7 @@ use site_ids::{Cluster, Instance, NodeId};
 use site_times::{Times, has_passed};
 
 /// For each node the instance that it asked for and was not told of yet, and when it was told less than it may be at once.
-#[derive(Clone, Copy, Debug, PartialEq, Eq, Drop)]
+#[derive(Clone, Copy, Drop)]
 pub struct Questions {
     asked: [Option<Instance>; 9],
     told: [Option<u64>; 9],

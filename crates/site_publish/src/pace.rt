@@ -34,7 +34,7 @@ pub enum Step {
 }
 
 /// When a delivery moved, in milliseconds since it began.
-#[derive(Clone, Copy, Debug, Drop, PartialEq, Eq)]
+#[derive(Clone, Copy, Drop)]
 pub struct Pace {
     /// When a receipt came last.
     moved: u64,

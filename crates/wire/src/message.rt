@@ -5,7 +5,7 @@ ghost use Rattle.wire.specs.Spelling.{version_of};
 use site_ids::{Ballot, Instance, MAX_VALUE, NodeId, Value, Vote};
 
 /// What one node tells others about one instance, or asks about a span of them.
-#[derive(Debug, Drop)]
+#[derive(Drop)]
 pub enum Message {
     /// Asks for the promise of a ballot at each of so many instances, from one on.
     Prepare {
