@@ -1,5 +1,6 @@
 //! Readers that end and fail in mid-stream, and writers that fail.
-use crate::programs::runs::{GREETING, Printed, run};
+use crate::comparing::same;
+use crate::programs::runs::{GREETING, Printed, prints, run};
 use failing_ends::{Sink, trickle};
 use sitectl::{Counted, siterender};
 use std::alloc::Global;
@@ -11,11 +12,11 @@ pub(crate) fn with_room(alloc: Global, room: usize) -> Counted<Sink> {
     Counted::new(Sink::with_room(alloc, room))
 }
 
-/// It ends by a line alone.
-fn says(rt: &impl Abort, printed: &Printed, line: &str) {
-    assert!(rt; printed.status == 1 && printed.out.is_empty());
-    assert!(rt; printed.err.as_slice() == line.as_bytes());
-}
+/// What the greeting prints.
+const PAGE: &[u8] = b"Hello, world!\n";
+
+/// What is said where nothing is released.
+const LINE: &[u8] = b"no release\n";
 
 fn says_framing(rt: &impl Abort, printed: &Printed) {
     assert!(rt; printed.status == 1 && printed.out.is_empty());
@@ -28,7 +29,7 @@ const ENDS: &[usize] = &[0, 42, 79, 102];
 fn cut_off(rt: &impl Abort, alloc: Global, input: &[u8]) {
     let printed = run(alloc, input, None, "/");
     if ENDS.contains(&input.len()) {
-        says(rt, &printed, "no release\n");
+        prints(rt, &printed, (1, b"", LINE));
     } else {
         says_framing(rt, &printed);
     }
@@ -56,19 +57,14 @@ fn over_reader(alloc: Global, good: usize) -> (Printed, u64) {
     (printed, reader.failures())
 }
 
-fn shows(rt: &impl Abort, printed: &Printed) {
-    assert!(rt; printed.status == 0 && printed.err.is_empty());
-    assert!(rt; printed.out.as_slice() == b"Hello, world!\n".as_slice());
-}
-
 fn read_over(rt: &impl Abort, alloc: Global, good: usize) {
     let (printed, failures) = over_reader(alloc, good);
     if good <= GREETING.len() {
-        assert!(rt; failures == 1);
-        says(rt, &printed, "read failed\n");
+        same(rt, failures, 1);
+        prints(rt, &printed, (1, b"", b"read failed\n"));
     } else {
-        assert!(rt; failures == 0);
-        shows(rt, &printed);
+        same(rt, failures, 0);
+        prints(rt, &printed, (0, PAGE, b""));
     }
 }
 
@@ -94,33 +90,31 @@ fn over_writers(alloc: Global, input: &str, out: usize, err: usize) -> (Printed,
     (printed, failures)
 }
 
-/// The first writer took a beginning of the page, and the other one the line.
-fn writes_to(rt: &impl Abort, alloc: Global, room: usize) {
-    let (printed, failures) = over_writers(alloc, GREETING, room, 1000);
-    assert!(rt; printed.status == 1 && failures.0 == 1);
-    assert!(rt; printed.out.len() == room);
-    assert!(rt; b"Hello, world!\n".starts_with(printed.out.as_slice()));
-    assert!(rt; printed.err.as_slice() == b"write failed\n".as_slice());
+/// The first writer takes that beginning of the page, and the other one the line.
+fn writes_to(rt: &impl Abort, alloc: Global, begun: &[u8]) {
+    let (printed, failures) = over_writers(alloc, GREETING, begun.len(), 1000);
+    same(rt, failures.0, 1);
+    prints(rt, &printed, (1, begun, b"write failed\n"));
 }
 
 #[test]
 fn a_writer_fails_anywhere(rt: HostRuntime) {
-    for room in 0..b"Hello, world!\n".len() {
-        writes_to(&rt, rt.alloc(), room);
+    for room in 0..PAGE.len() {
+        writes_to(&rt, rt.alloc(), &PAGE[..room]);
     }
 }
 
-fn writes_line_to(rt: &impl Abort, alloc: Global, room: usize) {
-    let (printed, failures) = over_writers(alloc, "", 0, room);
-    assert!(rt; printed.status == 1 && failures == (0, 1));
-    assert!(rt; printed.err.len() == room);
-    assert!(rt; b"no release\n".starts_with(printed.err.as_slice()));
+/// The first writer takes nothing, and the other one that beginning of the line.
+fn writes_line_to(rt: &impl Abort, alloc: Global, begun: &[u8]) {
+    let (printed, failures) = over_writers(alloc, "", 0, begun.len());
+    same(rt, failures, (0, 1));
+    prints(rt, &printed, (1, b"", begun));
 }
 
 #[test]
 fn both_writers_fail(rt: HostRuntime) {
-    for room in 0..b"no release\n".len() {
-        writes_line_to(&rt, rt.alloc(), room);
+    for room in 0..LINE.len() {
+        writes_line_to(&rt, rt.alloc(), &LINE[..room]);
     }
 }
 
@@ -160,5 +154,5 @@ fn flushed(rt: &impl Abort, alloc: Global) -> Vec<u8> {
 #[test]
 fn what_is_written_is_flushed(rt: HostRuntime) {
     let shown = flushed(&rt, rt.alloc());
-    assert!(rt; shown.as_slice() == b"Hello, world!\n".as_slice());
+    same(&rt, shown.as_slice(), PAGE);
 }

@@ -1,7 +1,9 @@
 //! The renderer over memory.
 
+use crate::comparing::same;
 use sitectl::{Counted, siterender};
 use std::alloc::Global;
+use std::process::Abort;
 
 /// Four commands that make a greeting and release it.
 pub(crate) const GREETING: &str =
@@ -13,6 +15,12 @@ pub(crate) struct Printed {
     pub status: u8,
     pub out: Vec<u8>,
     pub err: Vec<u8>,
+}
+
+/// A run printed this, and ended so.
+pub(crate) fn prints(rt: &impl Abort, printed: &Printed, wanted: (u8, &[u8], &[u8])) {
+    let (out, err) = (printed.out.as_slice(), printed.err.as_slice());
+    same(rt, (printed.status, out, err), wanted);
 }
 
 /// Runs the engine over memory.

@@ -1,6 +1,7 @@
 //! What the simulator prints over readers and writers that fail at each byte.
+use crate::comparing::ensure;
 use crate::programs::ends::with_room;
-use crate::programs::runs::Printed;
+use crate::programs::runs::{Printed, prints};
 use failing_ends::trickle;
 use sitectl::{Counted, sitesim};
 use std::alloc::Global;
@@ -8,7 +9,7 @@ use std::process::Abort;
 
 const SCHEDULE: &str = "nodes 1\nsubmit 1 1 1 8\nrelease\n\ntick 1\nsettle\nshow 1\nget 1 1 /\n";
 
-const PRINTED: &str = "node 1: up known 1 newest 1\nnode 1 release 1 /: 404 10\nnot found\n";
+const PRINTED: &[u8] = b"node 1: up known 1 newest 1\nnode 1 release 1 /: 404 10\nnot found\n";
 
 fn trickled(alloc: Global, good: usize, room: usize) -> Printed {
     let mut reader = Counted::new(trickle(SCHEDULE.as_bytes(), good));
@@ -22,20 +23,11 @@ fn trickled(alloc: Global, good: usize, room: usize) -> Printed {
     }
 }
 
-fn ends(rt: &impl Abort, printed: &Printed, status: u8, line: &str) {
-    assert!(rt; printed.status == status);
-    assert!(rt; printed.err.as_slice() == line.as_bytes());
-}
-
 /// It fails as a line says, behind a beginning of what is printed.
 fn is_begun(rt: &impl Abort, printed: &Printed) {
-    ends(rt, printed, 1, "read failed\n");
-    assert!(rt; PRINTED.as_bytes().starts_with(printed.out.as_slice()));
-}
-
-fn is_whole(rt: &impl Abort, printed: &Printed) {
-    ends(rt, printed, 0, "");
-    assert!(rt; printed.out.as_slice() == PRINTED.as_bytes());
+    let begun = printed.out.as_slice();
+    prints(rt, printed, (1, begun, b"read failed\n"));
+    ensure(rt, PRINTED.starts_with(begun), begun);
 }
 
 #[test]
@@ -43,19 +35,19 @@ fn a_reader_fails_anywhere(rt: HostRuntime) {
     for good in 0..=SCHEDULE.len() {
         is_begun(&rt, &trickled(rt.alloc(), good, 1000));
     }
-    is_whole(&rt, &trickled(rt.alloc(), 1000, 1000));
+    let whole = trickled(rt.alloc(), 1000, 1000);
+    prints(&rt, &whole, (0, PRINTED, b""));
 }
 
-/// It fails as a line says, behind so many bytes.
-fn is_cut(rt: &impl Abort, printed: &Printed, room: usize) {
-    ends(rt, printed, 1, "write failed\n");
-    assert!(rt; printed.out.len() == room);
-    assert!(rt; PRINTED.as_bytes().starts_with(printed.out.as_slice()));
+/// It fails as a line says, behind that beginning of what is printed.
+fn is_cut(rt: &impl Abort, alloc: Global, begun: &[u8]) {
+    let printed = trickled(alloc, 1000, begun.len());
+    prints(rt, &printed, (1, begun, b"write failed\n"));
 }
 
 #[test]
 fn a_writer_fails_anywhere(rt: HostRuntime) {
     for room in 0..PRINTED.len() {
-        is_cut(&rt, &trickled(rt.alloc(), 1000, room), room);
+        is_cut(&rt, rt.alloc(), &PRINTED[..room]);
     }
 }
