@@ -103,7 +103,10 @@ pub(crate) fn json_slip(alloc: Global, bytes: &[u8]) -> Result<Slip, AllocError>
         return slip_at(alloc, 0, reason);
     }
     match Value::from_slice(alloc, bytes) {
-        Ok(_) => slip_at(alloc, 0, "no JSON"),
+        Ok(value) => {
+            drop(value);
+            slip_at(alloc, 0, "no JSON")
+        }
         Err(fault) if fault.is_memory() => Err(AllocError),
         Err(fault) => refused_at(alloc, bytes, fault.line(), fault.column(), fault.is_eof()),
     }

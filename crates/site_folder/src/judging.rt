@@ -40,7 +40,10 @@ pub(crate) fn refused(alloc: Global, text: &[u8]) -> Result<Option<Refusal>, All
 {
     let value = write(alloc, NOBODYS, text)?;
     match read(alloc, &value) {
-        Ok(_) => Ok(None),
+        Ok(command) => {
+            drop(command);
+            Ok(None)
+        }
         Err(fault) => Ok(Some(refusal_of(alloc, fault)?)),
     }
 }
