@@ -4,8 +4,9 @@
 //! other entry is a vote for a beginning of the value, since nothing stands behind the last one; in the kind, it is the other one of a promise
 //! and a vote for the empty value, or a vote for one byte in place of a span's promise; and else in a number or the value. No record here has a
 //! vote for one byte.
+use crate::samples::value;
 use record_meaning::entry::Entry;
-use site_ids::{Ballot, Cluster, Instance, Value, Vote};
+use site_ids::{Ballot, Cluster, Instance, Vote};
 use std::alloc::Global;
 use std::process::Abort;
 
@@ -16,29 +17,41 @@ pub fn put_byte(bytes: &mut [u8], place: usize, byte: u8) {
     }
 }
 
+/// The bytes with this one at a place.
+pub fn with_byte(rt: &impl Abort, alloc: Global, bytes: &[u8], place: usize, byte: u8) -> Vec<u8> {
+    let mut bytes = Vec::from_slice(alloc, bytes).expect(rt, "memory");
+    put_byte(&mut bytes, place, byte);
+    bytes
+}
+
 fn number(number: u32, place: usize, byte: u8) -> u32 {
     let mut bytes = number.to_be_bytes();
     put_byte(&mut bytes, place, byte);
     u32::from_be_bytes(bytes)
 }
 
-/// Four bytes are the instance's, four the round's, and the next is the node.
-fn ballot(
+/// Four bytes are the round's, and the next is the node.
+fn ballot(cluster: Cluster, ballot: Ballot, place: usize, byte: u8) -> Option<Ballot> {
+    if place < 4 {
+        Ballot::new(number(ballot.round(), place, byte), ballot.node())
+    } else {
+        Ballot::new(ballot.round(), cluster.node(byte)?)
+    }
+}
+
+/// Four bytes are the instance's, and then come the ballot's.
+fn stand(
     cluster: Cluster,
     instance: Instance,
-    ballot: Ballot,
+    promised: Ballot,
     place: usize,
     byte: u8,
 ) -> Option<(Instance, Ballot)> {
     if place < 4 {
         let instance = Instance::new(number(instance.number(), place, byte))?;
-        Some((instance, ballot))
-    } else if place < 8 {
-        let round = number(ballot.round(), place - 4, byte);
-        Some((instance, Ballot::new(round, ballot.node())?))
+        Some((instance, promised))
     } else {
-        let node = cluster.node(byte)?;
-        Some((instance, Ballot::new(ballot.round(), node)?))
+        Some((instance, ballot(cluster, promised, place - 4, byte)?))
     }
 }
 
@@ -50,7 +63,7 @@ fn vote_for(
     ballot: Ballot,
     bytes: &[u8],
 ) -> Entry {
-    let value = Value::copied_from(alloc, bytes).expect(rt, "memory");
+    let value = value(rt, alloc, bytes);
     Entry::Voted(instance, Vote { ballot, value })
 }
 
@@ -63,8 +76,7 @@ fn vote_with(
     place: usize,
     byte: u8,
 ) -> Entry {
-    let mut bytes = Vec::from_slice(alloc, vote.value.as_bytes()).expect(rt, "memory");
-    put_byte(&mut bytes, place, byte);
+    let bytes = with_byte(rt, alloc, vote.value.as_bytes(), place, byte);
     vote_for(rt, alloc, instance, vote.ballot, &bytes)
 }
 
@@ -81,7 +93,7 @@ fn vote(
     if place >= 9 {
         return Some(vote_with(rt, alloc, instance, vote, place - 9, byte));
     }
-    let (instance, ballot) = ballot(cluster, instance, vote.ballot, place, byte)?;
+    let (instance, ballot) = stand(cluster, instance, vote.ballot, place, byte)?;
     let bytes = vote.value.as_bytes();
     Some(vote_for(rt, alloc, instance, ballot, bytes))
 }
@@ -99,7 +111,7 @@ fn span(
         return Some(Entry::PromisedSpan(first, byte, promised));
     }
     let place = if place < 4 { place } else { place - 1 };
-    let (first, promised) = ballot(cluster, first, promised, place, byte)?;
+    let (first, promised) = stand(cluster, first, promised, place, byte)?;
     Some(Entry::PromisedSpan(first, count, promised))
 }
 
@@ -120,7 +132,7 @@ fn promise(
     place: usize,
     byte: u8,
 ) -> Option<Entry> {
-    let (instance, promised) = ballot(cluster, instance, promised, place, byte)?;
+    let (instance, promised) = stand(cluster, instance, promised, place, byte)?;
     Some(Entry::Promised(instance, promised))
 }
 

@@ -2,7 +2,7 @@
 use crate::comparing::{ensure, same};
 use crate::disks::{holds, is_long_behind};
 use crate::listed::SPANNED;
-use crate::samples::{ballot, instance};
+use crate::samples::{ballot, instance, is_text};
 use crate::stored::{arm, empty, ends, is_refused, opened, put_promise, put_span, put_vote_for};
 use acceptor::Slot;
 use durable::{Record, RecordFault};
@@ -31,7 +31,7 @@ const CRASHES: &[(u32, u8, u64, bool)] = &[
 ];
 
 /// What is put, and what is found then. A ballot is its round, of node 1.
-#[derive(Clone, Copy, Debug)]
+#[derive(Clone, Copy)]
 enum Step {
     /// A promise at an instance.
     Promise(u32, u32),
@@ -57,7 +57,7 @@ fn promised_round(slot: &Slot) -> u32 {
 
 fn is_voted_for(slot: &Slot, text: &str) -> bool {
     match &slot.vote {
-        Some(vote) => vote.value.as_bytes() == text.as_bytes(),
+        Some(vote) => is_text(&vote.value, text),
         None => false,
     }
 }
@@ -98,25 +98,30 @@ fn look(rt: &impl Abort, record: &Record<MemDisk>, step: Step) {
     match step {
         Step::Promised(first, rounds) => promises(rt, record, first, rounds),
         Step::Voted(at, text) => {
-            ensure(rt, is_voted_for(record.slot(instance(rt, at)), text), step);
+            ensure(rt, is_voted_for(record.slot(instance(rt, at)), text), at);
         }
-        Step::GreatestRound(round) => assert!(rt; record.greatest_round() == round),
+        Step::GreatestRound(round) => same(rt, record.greatest_round(), round),
         _ => {}
     }
 }
 
-fn act(rt: &impl Abort, alloc: Global, record: &mut Record<MemDisk>, step: Step) {
-    let wanted = match step {
+fn wanted(step: Step) -> Result<(), RecordFault> {
+    match step {
         Step::NoSpan(..) => Err(RecordFault::NotARecord),
         _ => Ok(()),
-    };
-    assert_eq!(rt; put(rt, alloc, record, step), wanted, "{step:?}");
+    }
+}
+
+fn act(rt: &impl Abort, alloc: Global, record: &mut Record<MemDisk>, number: usize, step: Step) {
+    let came = put(rt, alloc, record, step);
+    same(rt, (number, came), (number, wanted(step)));
     look(rt, record, step);
 }
 
+/// Each step in turn, from the one numbered 0 on.
 fn act_all(rt: &impl Abort, alloc: Global, record: &mut Record<MemDisk>, steps: &[Step]) {
-    for step in steps {
-        act(rt, alloc, record, *step);
+    for (number, &step) in steps.iter().enumerate() {
+        act(rt, alloc, record, number, step);
     }
 }
 
@@ -126,24 +131,36 @@ fn play(rt: &impl Abort, alloc: Global, before: &[Step], behind: &[Step]) {
     act_all(rt, alloc, &mut record, before);
     let mut record = opened(rt, alloc, record.close());
     act_all(rt, alloc, &mut record, behind);
+    drop(record);
+}
+
+/// The next opening finds these rounds promised from instance 4 on.
+fn finds(rt: &impl Abort, alloc: Global, disk: MemDisk, rounds: &[u32]) {
+    let record = opened(rt, alloc, disk);
+    promises(rt, &record, 4, rounds);
+    drop(record);
 }
 
 /// The disk has these bytes, behind so many calls.
 fn is_spanned(rt: &impl Abort, disk: &mut MemDisk) {
-    assert!(rt; disk.calls().len() == 8);
-    assert!(rt; holds(disk, &SPANNED));
+    same(rt, disk.calls().len(), 8);
+    ensure(rt, holds(disk, &SPANNED), SPANNED.len());
+}
+
+/// The disk of an empty record behind these steps.
+fn disk_behind(rt: &impl Abort, alloc: Global, steps: &[Step]) -> MemDisk {
+    let mut record = empty(rt, alloc);
+    act_all(rt, alloc, &mut record, steps);
+    record.close()
 }
 
 const ONE_SPAN: &[Step] = &[Step::Span(5, 3, 1), Step::Promised(4, &[0, 1, 1, 1, 0])];
 
 #[test]
 fn a_span_is_one_entry_of_sixteen_bytes(rt: HostRuntime) {
-    let mut record = empty(&rt, rt.alloc());
-    act_all(&rt, rt.alloc(), &mut record, ONE_SPAN);
-    let mut disk = record.close();
+    let mut disk = disk_behind(&rt, rt.alloc(), ONE_SPAN);
     is_spanned(&rt, &mut disk);
-    let record = opened(&rt, rt.alloc(), disk);
-    promises(&rt, &record, 4, &[0, 1, 1, 1, 0]);
+    finds(&rt, rt.alloc(), disk, &[0, 1, 1, 1, 0]);
 }
 
 const RAISING: &[Step] = &[
@@ -219,8 +236,7 @@ fn crash(rt: &impl Abort, alloc: Global, row: (u32, u8, u64, bool)) -> bool {
     let mut disk = record.close();
     let is_long = is_long_behind(&mut disk, Some(choice), length);
     let round = u32::from(kept);
-    let rounds = [0, round, round, round, 0];
-    promises(rt, &opened(rt, alloc, disk), 4, &rounds);
+    finds(rt, alloc, disk, &[0, round, round, round, 0]);
     is_long
 }
 
