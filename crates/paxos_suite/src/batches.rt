@@ -4,10 +4,8 @@ use crate::damage::is_of;
 use crate::disks::{crashed_within, holds, is_long, is_long_behind, reads};
 use crate::listed::{RECORD, SPANNED, entries};
 use crate::samples::{ballot, instance};
-use crate::stored::{
-    arm, disk_of, empty, ends, formatted, is_promised, opened, put_promise, put_round, put_span,
-    put_vote_for,
-};
+use crate::steps::{Step, act, disk_behind, take};
+use crate::stored::{arm, disk_of, empty, ends, formatted, is_promised, opened};
 use durable::{Record, RecordFault};
 use site_disk::{Armed, Call, Disk, FailOnce, MemDisk};
 use site_ids::Instance;
@@ -43,20 +41,6 @@ const SEALS: &[(u32, bool)] = &[(0, false), (1, false), (2, false), (3, true)];
 
 /// What a crash chooses behind an opening.
 const CHOICES: &[u8] = &[0, 1, 7];
-
-/// A step of a record, where a ballot is its round, of node 1.
-#[derive(Clone, Copy)]
-enum Step {
-    Begin,
-    Seal,
-    Round(u32),
-    /// A promise at an instance.
-    Promise(u32, u32),
-    /// The promise of a span from an instance on, of so many.
-    Span(u32, u8, u32),
-    /// A vote at an instance for a text.
-    Vote(u32, u32, &'static str),
-}
 
 const ROUND: Step = Step::Round(1);
 
@@ -97,35 +81,6 @@ const WRITERS: &[(&[Step], usize)] = &[
 
 /// Steps behind the last, which a record that stopped refuses.
 const REFUSED: &[Step] = &[Step::Begin, Step::Round(9), Step::Promise(9, 9), Step::Seal];
-
-fn act<D: Disk>(
-    rt: &impl Abort,
-    alloc: Global,
-    record: &mut Record<D>,
-    step: Step,
-) -> Result<(), RecordFault> {
-    match step {
-        Step::Begin => record.begin(),
-        Step::Seal => record.seal(),
-        Step::Round(round) => put_round(record, round),
-        Step::Promise(at, round) => put_promise(record, instance(rt, at), ballot(rt, round, 1)),
-        Step::Span(first, count, round) => {
-            put_span(record, instance(rt, first), count, ballot(rt, round, 1))
-        }
-        Step::Vote(at, round, text) => {
-            let vote = (instance(rt, at), ballot(rt, round, 1));
-            put_vote_for(rt, alloc, record, vote, text.as_bytes())
-        }
-    }
-}
-
-/// Each step, from the one numbered 0 on, is taken.
-fn take<D: Disk>(rt: &impl Abort, alloc: Global, record: &mut Record<D>, steps: &[Step]) {
-    for (number, &step) in steps.iter().enumerate() {
-        let came = act(rt, alloc, record, step);
-        same(rt, (number, came), (number, Ok(())));
-    }
-}
 
 /// The record tells these rounds.
 fn tells_rounds<D: Disk>(rt: &impl Abort, record: &Record<D>, round: u32, greatest: u32) {
@@ -252,13 +207,6 @@ fn writes_and_syncs(calls: &[Call]) -> usize {
     count
 }
 
-/// The disk of an empty record behind these steps.
-fn disk_behind(rt: &impl Abort, alloc: Global, steps: &[Step]) -> MemDisk {
-    let mut record = empty(rt, alloc);
-    take(rt, alloc, &mut record, steps);
-    record.close()
-}
-
 /// How many writes and syncs these steps make, an opening's among them.
 fn calls_of(rt: &impl Abort, alloc: Global, steps: &[Step]) -> usize {
     let disk = disk_behind(rt, alloc, steps);
@@ -288,11 +236,12 @@ const EMPTY_BATCH: &[Step] = &[Step::Begin, Step::Seal];
 /// However a record's entries came there, its bytes are the same.
 #[test]
 fn batches_and_puts_write_the_same_bytes(rt: HostRuntime) {
+    let alloc = rt.alloc();
     for &(steps, calls) in WRITERS {
-        write(&rt, rt.alloc(), steps, &RECORD, calls);
+        write(&rt, alloc, steps, &RECORD, calls);
     }
-    write(&rt, rt.alloc(), SPAN_BATCH, &SPANNED, 5);
-    same(&rt, calls_of(&rt, rt.alloc(), EMPTY_BATCH), 1);
+    write(&rt, alloc, SPAN_BATCH, &SPANNED, 5);
+    same(&rt, calls_of(&rt, alloc, EMPTY_BATCH), 1);
 }
 
 /// The record that these steps write.

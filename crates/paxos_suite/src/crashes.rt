@@ -68,4 +68,5 @@ fn an_armed_disk_fails_each_further_call(rt: HostRuntime) {
     fail_each(&rt, &mut disk);
     disk.disarm();
     ensure(&rt, begins(&mut disk, b"abc"), 0);
+    drop(disk);
 }

@@ -148,7 +148,9 @@ fn beginning<'a>(
     None
 }
 
-fn cut_at_each_byte(rt: &impl Abort, alloc: Global, bytes: &[u8], entries: &[Entry]) {
+/// The record with this byte at a place, cut at each byte.
+fn cut_at_each_byte(rt: &impl Abort, alloc: Global, place: usize, gate: u8, entries: &[Entry]) {
+    let bytes = with_byte(rt, alloc, &RECORD, place, gate);
     for len in 0..=bytes.len() {
         let history = beginning(rt, alloc, &bytes[..len], entries);
         ensure(rt, comes_to(rt, alloc, &bytes[..len], history), len);
@@ -164,8 +166,7 @@ fn a_record_cut_at_each_byte(rt: HostRuntime) {
     let alloc = rt.alloc();
     let entries = entries(&rt, alloc);
     for &(place, gate) in GATES {
-        let bytes = with_byte(&rt, alloc, &RECORD, place, gate);
-        cut_at_each_byte(&rt, alloc, &bytes, &entries);
+        cut_at_each_byte(&rt, alloc, place, gate, &entries);
     }
     drop(entries);
 }

@@ -34,12 +34,13 @@ fn failed_put(rt: &impl Abort, alloc: Global, calls: u32) -> FailOnce<MemDisk> {
     disk
 }
 
-/// The rounds of the opening behind such a put, and of the next one, behind a crash.
-fn rounds(rt: &impl Abort, alloc: Global, calls: u32, choice: u8) -> (u32, u32) {
+/// The opening behind such a put finds the round, and the next one, behind a crash.
+fn settles(rt: &impl Abort, alloc: Global, calls: u32, choice: u8, round: u32) {
     let record = opened(rt, alloc, failed_put(rt, alloc, calls));
-    let round = record.round();
+    same(rt, (calls, record.round()), (calls, round));
     let disk = crashed_within(record.close(), choice);
-    (round, found_round(rt, alloc, disk))
+    let found = found_round(rt, alloc, disk);
+    same(rt, (calls, choice, found), (calls, choice, round));
 }
 
 /// Whatever a crash chooses behind an opening, it keeps what that found.
@@ -47,12 +48,7 @@ fn rounds(rt: &impl Abort, alloc: Global, calls: u32, choice: u8) -> (u32, u32) 
 fn an_opening_settles_the_entry_in_flight(rt: HostRuntime) {
     for &(calls, round) in PUTS {
         for &choice in CHOICES {
-            let rounds = rounds(&rt, rt.alloc(), calls, choice);
-            same(
-                &rt,
-                (calls, choice, rounds),
-                (calls, choice, (round, round)),
-            );
+            settles(&rt, rt.alloc(), calls, choice, round);
         }
     }
 }
@@ -93,15 +89,20 @@ fn one_armed_call_fails(rt: HostRuntime) {
     check_within(&rt, disk.into_inner());
 }
 
+/// The disk of a promise's record, of which so many calls pass before one fails.
+fn armed(rt: &impl Abort, alloc: Global, calls: u32) -> FailOnce<MemDisk> {
+    let mut disk = FailOnce::new(disk_of(rt, alloc, &ONE_PROMISE));
+    disk.arm(calls);
+    disk
+}
+
 /// The disk of an opening of which one call failed.
 fn failed_opening(rt: &impl Abort, alloc: Global, calls: u32) -> FailOnce<MemDisk> {
     let (cluster, node) = one_of_three(rt, 2);
-    let mut disk = FailOnce::new(disk_of(rt, alloc, &ONE_PROMISE));
-    disk.arm(calls);
-    match Record::open(alloc, cluster, node, disk) {
+    match Record::open(alloc, cluster, node, armed(rt, alloc, calls)) {
         Ok(_record) => panic!(rt; "an opening without one of its calls"),
         Err((fault, disk)) => {
-            same(rt, fault, RecordFault::Device);
+            same(rt, (fault, disk.failures()), (RecordFault::Device, 1));
             disk
         }
     }
@@ -118,11 +119,7 @@ fn opens(rt: &impl Abort, alloc: Global, disk: FailOnce<MemDisk>) {
 fn an_opening_that_fails_gives_the_disk_back(rt: HostRuntime) {
     let alloc = rt.alloc();
     for calls in 0..4 {
-        let disk = failed_opening(&rt, alloc, calls);
-        same(&rt, disk.failures(), 1);
-        opens(&rt, alloc, disk);
+        opens(&rt, alloc, failed_opening(&rt, alloc, calls));
     }
-    let mut disk = FailOnce::new(disk_of(&rt, alloc, &ONE_PROMISE));
-    disk.arm(4);
-    opens(&rt, alloc, disk);
+    opens(&rt, alloc, armed(&rt, alloc, 4));
 }

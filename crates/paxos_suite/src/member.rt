@@ -256,6 +256,19 @@ fn look(rt: &impl Abort, member: &Member, step: Step) {
     }
 }
 
+/// What a step tells the proposer, or asks of it.
+fn hear(rt: &impl Abort, member: &mut Member, step: Step) {
+    match step {
+        Step::Promise(from, round, node, made) => {
+            promise(rt, member, from, ballot(rt, round, node), None, made);
+        }
+        Step::Tells(from, round, node, told, made) => {
+            tell(rt, member, from, ballot(rt, round, node), told, made);
+        }
+        _ => look(rt, member, step),
+    }
+}
+
 fn act(rt: &impl Abort, member: &mut Member, step: Step) {
     match step {
         Step::Start(at, round, node, text) => {
@@ -264,15 +277,9 @@ fn act(rt: &impl Abort, member: &mut Member, step: Step) {
         Step::Span(first, round, node, bytes) => {
             span(rt, member, first, ballot(rt, round, node), bytes);
         }
-        Step::Promise(from, round, node, made) => {
-            promise(rt, member, from, ballot(rt, round, node), None, made);
-        }
-        Step::Tells(from, round, node, told, made) => {
-            tell(rt, member, from, ballot(rt, round, node), told, made);
-        }
         Step::Abandon(at) => member.proposer.abandon(instance(rt, at)),
         Step::Room(at) => make_room(rt, member, at),
-        _ => look(rt, member, step),
+        _ => hear(rt, member, step),
     }
 }
 

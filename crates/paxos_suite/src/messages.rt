@@ -194,10 +194,16 @@ fn longest(rt: &impl Abort, value: Value) -> Message {
     }
 }
 
+/// The bytes that are spelled so, and so many further ones.
+fn bytes_and(rt: &impl Abort, alloc: Global, text: &str, more: usize) -> Vec<u8> {
+    let mut bytes = bytes_of(rt, alloc, text);
+    let len = bytes.len().saturating_add(more);
+    bytes.resize(len, 65).expect(rt, "memory");
+    bytes
+}
+
 fn longest_value(rt: &impl Abort, alloc: Global) -> Value {
-    let mut bytes = Vec::new(alloc);
-    bytes.resize(MAX_VALUE, 65).expect(rt, "memory");
-    Value::from_bytes(bytes).expect(rt, "a value")
+    Value::from_bytes(bytes_and(rt, alloc, "", MAX_VALUE)).expect(rt, "a value")
 }
 
 #[test]
@@ -209,11 +215,9 @@ fn the_longest_value(rt: HostRuntime) {
 
 #[test]
 fn a_value_one_byte_too_long(rt: HostRuntime) {
-    let mut bytes = bytes_of(&rt, rt.alloc(), "01030100000001000000010100008001");
-    for _ in 0..=MAX_VALUE {
-        push(&rt, &mut bytes, 65);
-    }
-    ensure(&rt, is_malformed(&rt, rt.alloc(), &bytes), bytes.len());
+    let (alloc, header) = (rt.alloc(), "01030100000001000000010100008001");
+    let bytes = bytes_and(&rt, alloc, header, MAX_VALUE + 1);
+    ensure(&rt, is_malformed(&rt, alloc, &bytes), bytes.len());
 }
 
 /// A slot with this promise and a vote for the value `v`.
@@ -232,23 +236,21 @@ fn propose(rt: &impl Abort, slot: &Slot, at: Ballot, text: &str, verdict: Propos
     same(rt, judge_propose(slot, at, text.as_bytes()), verdict);
 }
 
-fn check_prepares(rt: &impl Abort, slot: Slot) {
+fn check_prepares(rt: &impl Abort, slot: &Slot) {
     let own = ballot(rt, 2, 1);
-    prepare(rt, &slot, ballot(rt, 2, 2), PrepareVerdict::Promise);
-    prepare(rt, &slot, own, PrepareVerdict::Again);
-    prepare(rt, &slot, ballot(rt, 1, 9), PrepareVerdict::Nack(own));
-    drop(slot);
+    prepare(rt, slot, ballot(rt, 2, 2), PrepareVerdict::Promise);
+    prepare(rt, slot, own, PrepareVerdict::Again);
+    prepare(rt, slot, ballot(rt, 1, 9), PrepareVerdict::Nack(own));
 }
 
 /// Of a slot that voted at the ballot that it promised.
-fn check_voted(rt: &impl Abort, slot: Slot) {
+fn check_voted(rt: &impl Abort, slot: &Slot) {
     let own = ballot(rt, 2, 1);
-    prepare(rt, &slot, own, PrepareVerdict::Silent);
-    propose(rt, &slot, own, "v", ProposeVerdict::Again);
-    propose(rt, &slot, own, "w", ProposeVerdict::Silent);
-    propose(rt, &slot, ballot(rt, 2, 3), "w", ProposeVerdict::Vote);
-    propose(rt, &slot, ballot(rt, 1, 9), "v", ProposeVerdict::Nack(own));
-    drop(slot);
+    prepare(rt, slot, own, PrepareVerdict::Silent);
+    propose(rt, slot, own, "v", ProposeVerdict::Again);
+    propose(rt, slot, own, "w", ProposeVerdict::Silent);
+    propose(rt, slot, ballot(rt, 2, 3), "w", ProposeVerdict::Vote);
+    propose(rt, slot, ballot(rt, 1, 9), "v", ProposeVerdict::Nack(own));
 }
 
 fn check_empty(rt: &impl Abort) {
@@ -265,8 +267,12 @@ fn check_empty(rt: &impl Abort) {
 #[test]
 fn verdicts_of_an_acceptor(rt: HostRuntime) {
     let (alloc, own) = (rt.alloc(), ballot(&rt, 2, 1));
-    check_prepares(&rt, slot(&rt, alloc, own, ballot(&rt, 1, 3)));
-    check_voted(&rt, slot(&rt, alloc, own, own));
+    let lower = slot(&rt, alloc, own, ballot(&rt, 1, 3));
+    check_prepares(&rt, &lower);
+    drop(lower);
+    let voted = slot(&rt, alloc, own, own);
+    check_voted(&rt, &voted);
+    drop(voted);
     check_empty(&rt);
 }
 

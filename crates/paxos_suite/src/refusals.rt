@@ -4,7 +4,8 @@ use crate::comparing::{ensure, same};
 use crate::member::{Member, Sent, is_made, is_resent, is_sent, three_values};
 use crate::messages::is_written;
 use crate::samples::{ballot, cluster, instance, node, value, vote};
-use crate::stored::{ends, one_of_three, put_promise, put_round, put_span, put_vote};
+use crate::steps::{Step, act};
+use crate::stored::{ends, one_of_three};
 use chosen_log::{ChosenLog, LearnFault, Learned};
 use durable::{Record, RecordFault};
 use learner::Learner;
@@ -206,22 +207,13 @@ fn values(rt: HostRuntime) {
     learn_three(&rt, rt.alloc(), &mut ChosenLog::new(rt.alloc()));
 }
 
-/// A step of a batch. A ballot is of round 1.
-#[derive(Clone, Copy, Debug)]
-enum Step {
-    Begin,
-    Round,
-    Promise,
-    Span,
-    Vote,
-}
-
+/// A batch of round 1.
 const BATCH: &[Step] = &[
     Step::Begin,
-    Step::Round,
-    Step::Promise,
-    Step::Span,
-    Step::Vote,
+    Step::Round(1),
+    Step::Promise(1, 1),
+    Step::Span(5, 3, 1),
+    Step::Vote(1, 1, "v"),
 ];
 
 fn format(alloc: Global, cluster: Cluster, node: NodeId) -> Option<MemDisk> {
@@ -253,25 +245,6 @@ fn opened(rt: &impl Abort, alloc: Global, disk: MemDisk) -> Record<MemDisk> {
     }
 }
 
-fn act(
-    rt: &impl Abort,
-    alloc: Global,
-    record: &mut Record<MemDisk>,
-    step: Step,
-) -> Result<(), RecordFault> {
-    let ballot = ballot(rt, 1, 1);
-    match step {
-        Step::Begin => record.begin(),
-        Step::Round => put_round(record, 1),
-        Step::Promise => put_promise(record, instance(rt, 1), ballot),
-        Step::Span => put_span(record, instance(rt, 5), 3, ballot),
-        Step::Vote => {
-            let value = value(rt, alloc, b"v");
-            put_vote(record, instance(rt, 1), ballot, &value)
-        }
-    }
-}
-
 /// Instances at which the batch promises.
 const RAISED: &[u32] = &[1, 5, 7];
 
@@ -299,7 +272,7 @@ fn is_refused(rt: &impl Abort, alloc: Global, record: &mut Record<MemDisk>, step
     match act(rt, alloc, record, step) {
         Ok(()) => false,
         Err(fault) => {
-            ensure(rt, fault == RecordFault::OutOfMemory, step);
+            same(rt, fault, RecordFault::OutOfMemory);
             true
         }
     }
@@ -330,6 +303,12 @@ fn fill_again(rt: &impl Abort, alloc: Global, record: &mut Record<MemDisk>) {
     }
 }
 
+/// The record tells all of the batch.
+fn finds(rt: &impl Abort, record: Record<MemDisk>) {
+    same(rt, tells(rt, &record), true);
+    drop(record);
+}
+
 #[test]
 fn batches(rt: HostRuntime) {
     let alloc = rt.alloc();
@@ -338,5 +317,5 @@ fn batches(rt: HostRuntime) {
     seal(&rt, &mut record);
     let mut record = opened(&rt, alloc, record.close());
     fill_again(&rt, alloc, &mut record);
-    same(&rt, tells(&rt, &opened(&rt, alloc, record.close())), true);
+    finds(&rt, opened(&rt, alloc, record.close()));
 }

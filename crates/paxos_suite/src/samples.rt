@@ -44,8 +44,7 @@ pub(crate) fn vote(rt: &impl Abort, alloc: Global, ballot: Ballot, text: &str) -
 
 /// Puts one more at the end.
 pub(crate) fn push<T: Drop>(rt: &impl Abort, to: &mut Vec<T>, one: T) {
-    let is_pushed = to.push(one).is_ok();
-    assert!(rt; is_pushed, "memory");
+    to.push(one).expect(rt, "memory");
 }
 
 /// Whether a value is the bytes of this text.

@@ -2,9 +2,9 @@
 use crate::comparing::{ensure, same};
 use crate::disks::{holds, is_long_behind};
 use crate::listed::SPANNED;
-use crate::samples::{ballot, instance, is_text};
-use crate::stored::{arm, empty, ends, is_refused, opened, put_promise, put_span, put_vote_for};
-use acceptor::Slot;
+use crate::samples::{ballot, instance};
+use crate::steps::{Step, disk_behind, promises, take};
+use crate::stored::{arm, empty, ends, is_refused, opened, put_span};
 use durable::{Record, RecordFault};
 use site_disk::MemDisk;
 use site_ids::MAX_INSTANCE;
@@ -30,107 +30,12 @@ const CRASHES: &[(u32, u8, u64, bool)] = &[
     (4, 7, 27, true),
 ];
 
-/// What is put, and what is found then. A ballot is its round, of node 1.
-#[derive(Clone, Copy)]
-enum Step {
-    /// A promise at an instance.
-    Promise(u32, u32),
-    /// A vote at an instance for a text.
-    Vote(u32, u32, &'static str),
-    /// The promise of a span from an instance on, of so many.
-    Span(u32, u8, u32),
-    /// The same is not to be put.
-    NoSpan(u32, u8, u32),
-    /// The rounds promised from an instance on, 0 where none is.
-    Promised(u32, &'static [u32]),
-    /// What is voted for at an instance.
-    Voted(u32, &'static str),
-    GreatestRound(u32),
-}
-
-fn promised_round(slot: &Slot) -> u32 {
-    match slot.promised {
-        Some(promised) => promised.round(),
-        None => 0,
-    }
-}
-
-fn is_voted_for(slot: &Slot, text: &str) -> bool {
-    match &slot.vote {
-        Some(vote) => is_text(&vote.value, text),
-        None => false,
-    }
-}
-
-fn is_round(rt: &impl Abort, at: u32, promised: u32, round: u32) {
-    same(rt, (at, promised), (at, round));
-}
-
-/// The rounds promised from an instance on are these.
-fn promises(rt: &impl Abort, record: &Record<MemDisk>, first: u32, rounds: &[u32]) {
-    for (at, &round) in (first..=MAX_INSTANCE).zip(rounds) {
-        let promised = promised_round(record.slot(instance(rt, at)));
-        is_round(rt, at, promised, round);
-    }
-}
-
-/// Puts, where the step is one.
-fn put(
-    rt: &impl Abort,
-    alloc: Global,
-    record: &mut Record<MemDisk>,
-    step: Step,
-) -> Result<(), RecordFault> {
-    match step {
-        Step::Promise(at, round) => put_promise(record, instance(rt, at), ballot(rt, round, 1)),
-        Step::Vote(at, round, text) => {
-            let vote = (instance(rt, at), ballot(rt, round, 1));
-            put_vote_for(rt, alloc, record, vote, text.as_bytes())
-        }
-        Step::Span(first, count, round) | Step::NoSpan(first, count, round) => {
-            put_span(record, instance(rt, first), count, ballot(rt, round, 1))
-        }
-        _ => Ok(()),
-    }
-}
-
-fn look(rt: &impl Abort, record: &Record<MemDisk>, step: Step) {
-    match step {
-        Step::Promised(first, rounds) => promises(rt, record, first, rounds),
-        Step::Voted(at, text) => {
-            ensure(rt, is_voted_for(record.slot(instance(rt, at)), text), at);
-        }
-        Step::GreatestRound(round) => same(rt, record.greatest_round(), round),
-        _ => {}
-    }
-}
-
-fn wanted(step: Step) -> Result<(), RecordFault> {
-    match step {
-        Step::NoSpan(..) => Err(RecordFault::NotARecord),
-        _ => Ok(()),
-    }
-}
-
-fn act(rt: &impl Abort, alloc: Global, record: &mut Record<MemDisk>, number: usize, step: Step) {
-    let came = put(rt, alloc, record, step);
-    same(rt, (number, came), (number, wanted(step)));
-    look(rt, record, step);
-}
-
-/// Each step in turn, from the one numbered 0 on.
-fn act_all(rt: &impl Abort, alloc: Global, record: &mut Record<MemDisk>, steps: &[Step]) {
-    for (number, &step) in steps.iter().enumerate() {
-        act(rt, alloc, record, number, step);
-    }
-}
-
 /// Steps of an empty record, and further ones where it was closed and opened again.
 fn play(rt: &impl Abort, alloc: Global, before: &[Step], behind: &[Step]) {
     let mut record = empty(rt, alloc);
-    act_all(rt, alloc, &mut record, before);
+    take(rt, alloc, &mut record, before);
     let mut record = opened(rt, alloc, record.close());
-    act_all(rt, alloc, &mut record, behind);
+    take(rt, alloc, &mut record, behind);
     drop(record);
 }
 
@@ -145,13 +50,6 @@ fn finds(rt: &impl Abort, alloc: Global, disk: MemDisk, rounds: &[u32]) {
 fn is_spanned(rt: &impl Abort, disk: &mut MemDisk) {
     same(rt, disk.calls().len(), 8);
     ensure(rt, holds(disk, &SPANNED), SPANNED.len());
-}
-
-/// The disk of an empty record behind these steps.
-fn disk_behind(rt: &impl Abort, alloc: Global, steps: &[Step]) -> MemDisk {
-    let mut record = empty(rt, alloc);
-    act_all(rt, alloc, &mut record, steps);
-    record.close()
 }
 
 const ONE_SPAN: &[Step] = &[Step::Span(5, 3, 1), Step::Promised(4, &[0, 1, 1, 1, 0])];
