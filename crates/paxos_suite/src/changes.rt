@@ -30,29 +30,22 @@ fn number(number: u32, place: usize, byte: u8) -> u32 {
     u32::from_be_bytes(bytes)
 }
 
-/// Four bytes are the round's, and the next is the node.
-fn ballot(cluster: Cluster, ballot: Ballot, place: usize, byte: u8) -> Option<Ballot> {
-    if place < 4 {
-        Ballot::new(number(ballot.round(), place, byte), ballot.node())
-    } else {
-        Ballot::new(ballot.round(), cluster.node(byte)?)
-    }
-}
-
-/// Four bytes are the instance's, and then come the ballot's.
-fn stand(
+/// Four bytes are the instance's, four the round's, and the next is the node.
+fn ballot(
     cluster: Cluster,
     instance: Instance,
-    promised: Ballot,
+    ballot: Ballot,
     place: usize,
     byte: u8,
 ) -> Option<(Instance, Ballot)> {
-    if place < 4 {
-        let instance = Instance::new(number(instance.number(), place, byte))?;
-        Some((instance, promised))
+    let instance = Instance::new(number(instance.number(), place, byte))?;
+    let round = number(ballot.round(), place.wrapping_sub(4), byte);
+    let node = if place == 8 {
+        byte
     } else {
-        Some((instance, ballot(cluster, promised, place - 4, byte)?))
-    }
+        ballot.node().number()
+    };
+    Some((instance, Ballot::new(round, cluster.node(node)?)?))
 }
 
 /// A vote for these bytes.
@@ -93,7 +86,7 @@ fn vote(
     if place >= 9 {
         return Some(vote_with(rt, alloc, instance, vote, place - 9, byte));
     }
-    let (instance, ballot) = stand(cluster, instance, vote.ballot, place, byte)?;
+    let (instance, ballot) = ballot(cluster, instance, vote.ballot, place, byte)?;
     let bytes = vote.value.as_bytes();
     Some(vote_for(rt, alloc, instance, ballot, bytes))
 }
@@ -111,7 +104,7 @@ fn span(
         return Some(Entry::PromisedSpan(first, byte, promised));
     }
     let place = if place < 4 { place } else { place - 1 };
-    let (first, promised) = stand(cluster, first, promised, place, byte)?;
+    let (first, promised) = ballot(cluster, first, promised, place, byte)?;
     Some(Entry::PromisedSpan(first, count, promised))
 }
 
@@ -132,7 +125,7 @@ fn promise(
     place: usize,
     byte: u8,
 ) -> Option<Entry> {
-    let (instance, promised) = stand(cluster, instance, promised, place, byte)?;
+    let (instance, promised) = ballot(cluster, instance, promised, place, byte)?;
     Some(Entry::Promised(instance, promised))
 }
 
@@ -157,6 +150,12 @@ pub fn changed(
     }
 }
 
+/// The ballot that is spelled by a byte and the four of a round.
+fn moved(cluster: Cluster, first: u8, round: u32) -> Option<Ballot> {
+    let [a, b, c, d] = round.to_be_bytes();
+    Ballot::new(u32::from_be_bytes([first, a, b, c]), cluster.node(d)?)
+}
+
 /// The vote for one byte that is spelled as the promise of a span but for its kind: the count is the first byte of its round, the last byte of
 /// the promised round its node, and the promised node its value.
 fn vote_in_span(
@@ -167,9 +166,7 @@ fn vote_in_span(
     count: u8,
     promised: Ballot,
 ) -> Option<Entry> {
-    let [a, b, c, d] = promised.round().to_be_bytes();
-    let node = cluster.node(d)?;
-    let ballot = Ballot::new(u32::from_be_bytes([count, a, b, c]), node)?;
+    let ballot = moved(cluster, count, promised.round())?;
     let value = [promised.node().number()];
     Some(vote_for(rt, alloc, first, ballot, &value))
 }

@@ -3,7 +3,7 @@ use crate::changes::with_byte;
 use crate::comparing::{ensure, same};
 use crate::listed::{Listed, RECORD, SPANNED, entries, spanned};
 use crate::samples::{instance, is_text};
-use crate::stored::{one_of_three, read};
+use crate::stored::{one_of_three, read_bytes};
 use durable::{Record, RecordFault};
 use record_meaning::entry::Entry;
 use record_meaning::recorded::{greatest_round, is_slot, last_round, last_vote};
@@ -99,7 +99,7 @@ fn tells(rt: &impl Abort, record: &Record<MemDisk>, history: &[Entry]) -> bool {
 
 /// Node 2 of three opens the bytes, which stand for this history, or refuses them where there is none.
 fn comes_to(rt: &impl Abort, alloc: Global, bytes: &[u8], history: Option<&[Entry]>) -> bool {
-    match read(rt, alloc, 2, bytes) {
+    match read_bytes(rt, alloc, 2, bytes) {
         Ok(record) => is_told(rt, alloc, record, bytes, history),
         Err(fault) => history.is_none() && is_refusal(rt, bytes, fault),
     }
@@ -148,9 +148,7 @@ fn beginning<'a>(
     None
 }
 
-/// The record with this byte at a place, cut at each byte.
-fn cut_at_each_byte(rt: &impl Abort, alloc: Global, place: usize, gate: u8, entries: &[Entry]) {
-    let bytes = with_byte(rt, alloc, &RECORD, place, gate);
+fn cut_at_each_byte(rt: &impl Abort, alloc: Global, bytes: &[u8], entries: &[Entry]) {
     for len in 0..=bytes.len() {
         let history = beginning(rt, alloc, &bytes[..len], entries);
         ensure(rt, comes_to(rt, alloc, &bytes[..len], history), len);
@@ -166,7 +164,8 @@ fn a_record_cut_at_each_byte(rt: HostRuntime) {
     let alloc = rt.alloc();
     let entries = entries(&rt, alloc);
     for &(place, gate) in GATES {
-        cut_at_each_byte(&rt, alloc, place, gate, &entries);
+        let bytes = with_byte(&rt, alloc, &RECORD, place, gate);
+        cut_at_each_byte(&rt, alloc, &bytes, &entries);
     }
     drop(entries);
 }

@@ -56,12 +56,17 @@ fn start_span(proposer: &mut Proposer, first: Instance, ballot: Ballot, values: 
 {
     let open = proposer.attempts();
     if values.len() > 64 || !first.begins_span(values.len() as u8) {
+        drop(values);
         return false;
     }
     let Err((_wanted, values)) = proposer.start_span(first, ballot, values) else {
         return true;
     };
-    proposer.attempts() == open && proposer.start_span(first, ballot, values).is_ok()
+    let is_as_before = proposer.attempts() == open;
+    let again = proposer.start_span(first, ballot, values);
+    let is_started = again.is_ok();
+    drop(again);
+    is_as_before && is_started
 }
 
 /// Three values of one byte.
@@ -256,19 +261,6 @@ fn look(rt: &impl Abort, member: &Member, step: Step) {
     }
 }
 
-/// What a step tells the proposer, or asks of it.
-fn hear(rt: &impl Abort, member: &mut Member, step: Step) {
-    match step {
-        Step::Promise(from, round, node, made) => {
-            promise(rt, member, from, ballot(rt, round, node), None, made);
-        }
-        Step::Tells(from, round, node, told, made) => {
-            tell(rt, member, from, ballot(rt, round, node), told, made);
-        }
-        _ => look(rt, member, step),
-    }
-}
-
 fn act(rt: &impl Abort, member: &mut Member, step: Step) {
     match step {
         Step::Start(at, round, node, text) => {
@@ -277,9 +269,15 @@ fn act(rt: &impl Abort, member: &mut Member, step: Step) {
         Step::Span(first, round, node, bytes) => {
             span(rt, member, first, ballot(rt, round, node), bytes);
         }
+        Step::Promise(from, round, node, made) => {
+            promise(rt, member, from, ballot(rt, round, node), None, made);
+        }
+        Step::Tells(from, round, node, told, made) => {
+            tell(rt, member, from, ballot(rt, round, node), told, made);
+        }
         Step::Abandon(at) => member.proposer.abandon(instance(rt, at)),
         Step::Room(at) => make_room(rt, member, at),
-        _ => hear(rt, member, step),
+        _ => look(rt, member, step),
     }
 }
 

@@ -134,12 +134,16 @@ fn one_byte_more(rt: &impl Abort, alloc: Global, bytes: &mut Vec<u8>, text: &str
     }
 }
 
+fn cut_or_longer(rt: &impl Abort, alloc: Global, text: &str) {
+    let mut bytes = bytes_of(rt, alloc, text);
+    beginnings(rt, alloc, &bytes, text);
+    one_byte_more(rt, alloc, &mut bytes, text);
+}
+
 #[test]
 fn beginnings_and_one_byte_more(rt: HostRuntime) {
     for &text in SPELLINGS {
-        let mut bytes = bytes_of(&rt, rt.alloc(), text);
-        beginnings(&rt, rt.alloc(), &bytes, text);
-        one_byte_more(&rt, rt.alloc(), &mut bytes, text);
+        cut_or_longer(&rt, rt.alloc(), text);
     }
 }
 

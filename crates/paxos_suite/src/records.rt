@@ -41,17 +41,13 @@ fn promises(rt: &impl Abort, alloc: Global, bytes: &[u8], promised: Option<Ballo
     drop(record);
 }
 
-fn check_openings(rt: &impl Abort, alloc: Global) {
-    for &(len, node, want) in OPENINGS {
-        is_refused(rt, alloc, node, &ONE_PROMISE[..len.min(26)], want);
-    }
-    is_refused(rt, alloc, 2, &SHUT, None);
-}
-
 #[test]
 fn a_promise_record_is_read_or_refused(rt: HostRuntime) {
     let alloc = rt.alloc();
-    check_openings(&rt, alloc);
+    for &(len, node, want) in OPENINGS {
+        is_refused(&rt, alloc, node, &ONE_PROMISE[..len.min(26)], want);
+    }
+    is_refused(&rt, alloc, 2, &SHUT, None);
     promises(&rt, alloc, &ONE_PROMISE, Some(ballot(&rt, 1, 1)));
     promises(&rt, alloc, &SHUT, None);
 }

@@ -5,7 +5,7 @@ use crate::member::{Member, Sent, is_made, is_resent, is_sent, three_values};
 use crate::messages::is_written;
 use crate::samples::{ballot, cluster, instance, node, value, vote};
 use crate::steps::{Step, act};
-use crate::stored::{ends, one_of_three};
+use crate::stored::{self, ends, one_of_three};
 use chosen_log::{ChosenLog, LearnFault, Learned};
 use durable::{Record, RecordFault};
 use learner::Learner;
@@ -17,17 +17,17 @@ use std::process::Abort;
 use wire::{Message, WireFault, decode};
 
 /// A promise with a prior vote for the value of one byte.
-const PROMISE: [u8; 23] = [
+const PROMISE: &[u8] = &[
     1, 2, 2, 0, 0, 0, 1, 0, 0, 0, 3, 1, 1, 0, 0, 0, 1, 2, 0, 0, 0, 1, 7,
 ];
 
 fn decoded(rt: &impl Abort, alloc: Global) -> Message {
     let cluster = cluster(rt, 3);
-    match decode(alloc, &PROMISE, cluster) {
+    match decode(alloc, PROMISE, cluster) {
         Ok(message) => message,
         Err(fault) => {
             same(rt, fault, WireFault::OutOfMemory);
-            decode(alloc, &PROMISE, cluster).expect(rt, "a message")
+            decode(alloc, PROMISE, cluster).expect(rt, "a message")
         }
     }
 }
@@ -40,7 +40,7 @@ fn encodes(rt: &impl Abort, alloc: Global, message: Message) {
         ensure(rt, is_written(&message, &mut out), 1);
     }
     drop(message);
-    ensure(rt, out.as_slice() == PROMISE.as_slice(), 2);
+    ensure(rt, out.as_slice() == PROMISE, 2);
 }
 
 fn copy_of(rt: &impl Abort, message: Message) -> Message {
@@ -145,7 +145,9 @@ fn told(
 ) -> Result<bool, AllocError> {
     let first = instance(rt, 1);
     let known = learner.on_accepted(node(rt, voter), first, ballot(rt, 1, 1), value)?;
-    Ok(known.is_some())
+    let is_known = known.is_some();
+    drop(known);
+    Ok(is_known)
 }
 
 fn tell(rt: &impl Abort, learner: &mut Learner, voter: u8, value: &Value, completes: bool) {
@@ -238,10 +240,7 @@ fn opened(rt: &impl Abort, alloc: Global, disk: MemDisk) -> Record<MemDisk> {
     let (cluster, node) = one_of_three(rt, 2);
     match Record::open(alloc, cluster, node, disk) {
         Ok(record) => record,
-        Err((_fault, disk)) => match Record::open(alloc, cluster, node, disk) {
-            Ok(record) => record,
-            Err((fault, _disk)) => panic!(rt; "{fault:?}"),
-        },
+        Err((_fault, disk)) => stored::opened(rt, alloc, disk),
     }
 }
 

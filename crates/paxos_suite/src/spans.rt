@@ -32,9 +32,7 @@ const CRASHES: &[(u32, u8, u64, bool)] = &[
 
 /// Steps of an empty record, and further ones where it was closed and opened again.
 fn play(rt: &impl Abort, alloc: Global, before: &[Step], behind: &[Step]) {
-    let mut record = empty(rt, alloc);
-    take(rt, alloc, &mut record, before);
-    let mut record = opened(rt, alloc, record.close());
+    let mut record = opened(rt, alloc, disk_behind(rt, alloc, before));
     take(rt, alloc, &mut record, behind);
     drop(record);
 }

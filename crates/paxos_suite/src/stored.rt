@@ -45,13 +45,26 @@ pub fn formatted(rt: &impl Abort, alloc: Global) -> MemDisk {
     disk
 }
 
+/// The record on a disk, or why that is refused to a node of three.
+fn read<D: Disk + Drop>(
+    rt: &impl Abort,
+    alloc: Global,
+    number: u8,
+    disk: D,
+) -> Result<Record<D>, RecordFault> {
+    let (cluster, node) = one_of_three(rt, number);
+    match Record::open(alloc, cluster, node, disk) {
+        Ok(record) => Ok(record),
+        Err((fault, disk)) => {
+            drop(disk);
+            Err(fault)
+        }
+    }
+}
+
 /// The record of node 2 of three.
 pub fn opened<D: Disk + Drop>(rt: &impl Abort, alloc: Global, disk: D) -> Record<D> {
-    let (cluster, node) = one_of_three(rt, 2);
-    match Record::open(alloc, cluster, node, disk) {
-        Ok(record) => record,
-        Err((fault, _disk)) => panic!(rt; "{fault:?}"),
-    }
+    read(rt, alloc, 2, disk).expect(rt, "a record")
 }
 
 /// The round that the next opening finds.
@@ -83,25 +96,18 @@ pub fn is_promised<D: Disk>(rt: &impl Abort, record: &Record<D>, promised: Optio
 }
 
 /// The record of these bytes, or why they are refused to a node of three.
-pub fn read(
+pub fn read_bytes(
     rt: &impl Abort,
     alloc: Global,
     number: u8,
     bytes: &[u8],
 ) -> Result<Record<MemDisk>, RecordFault> {
-    let (cluster, node) = one_of_three(rt, number);
-    match Record::open(alloc, cluster, node, disk_of(rt, alloc, bytes)) {
-        Ok(record) => Ok(record),
-        Err((fault, disk)) => {
-            drop(disk);
-            Err(fault)
-        }
-    }
+    read(rt, alloc, number, disk_of(rt, alloc, bytes))
 }
 
 /// Why these bytes are refused to a node of three, if they are.
 fn refusal(rt: &impl Abort, alloc: Global, number: u8, bytes: &[u8]) -> Option<RecordFault> {
-    match read(rt, alloc, number, bytes) {
+    match read_bytes(rt, alloc, number, bytes) {
         Ok(record) => {
             drop(record);
             None
