@@ -1,7 +1,7 @@
 //! Proposals, votes told and chosen values, by worked rows.
 use crate::comparing::{ensure, same};
 use crate::member::{Member, Sent, Step, play};
-use crate::samples::{ballot, cluster, instance, is_text, node, value};
+use crate::samples::{ballot, cluster, instance, is_bytes, is_text, node, value};
 use chosen_log::{ChosenLog, LearnFault, Learned};
 use learner::Learner;
 use proposer::ProposerFault;
@@ -164,7 +164,7 @@ fn completes(rt: &impl Abort, learner: &Learner, voter: NodeId, at: Ballot, valu
 
 /// Whether the value that is known is the one that was told.
 fn is_copy(known: Value, told: &Value) -> bool {
-    let is_copy = known.as_bytes() == told.as_bytes();
+    let is_copy = is_bytes(known.as_bytes(), told.as_bytes());
     drop(known);
     is_copy
 }

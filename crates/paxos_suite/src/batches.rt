@@ -146,21 +146,20 @@ fn finds(rt: &impl Abort, alloc: Global, disk: MemDisk, all: bool) {
     drop(record);
 }
 
-/// Whether the file is so long behind the crash. The next opening tells what stands.
-fn crash(rt: &impl Abort, alloc: Global, row: (u32, Option<u8>, u64, bool)) -> bool {
+/// The file is so long behind the crash, and the next opening tells what stands.
+fn crash(rt: &impl Abort, alloc: Global, row: (u32, Option<u8>, u64, bool)) {
     let (calls, choice, length, all) = row;
     let mut record = empty(rt, alloc);
     seal_armed(rt, alloc, &mut record, calls);
     let mut disk = record.close();
-    let is_long = is_long_behind(&mut disk, choice, length);
+    ensure(rt, is_long_behind(&mut disk, choice, length), row);
     finds(rt, alloc, disk, all);
-    is_long
 }
 
 #[test]
 fn a_crash_after_each_call_of_a_seal_keeps_all_or_none(rt: HostRuntime) {
     for &row in CRASHES {
-        ensure(&rt, crash(&rt, rt.alloc(), row), row);
+        crash(&rt, rt.alloc(), row);
     }
 }
 

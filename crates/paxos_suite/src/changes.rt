@@ -150,12 +150,6 @@ pub fn changed(
     }
 }
 
-/// The ballot that is spelled by a byte and the four of a round.
-fn moved(cluster: Cluster, first: u8, round: u32) -> Option<Ballot> {
-    let [a, b, c, d] = round.to_be_bytes();
-    Ballot::new(u32::from_be_bytes([first, a, b, c]), cluster.node(d)?)
-}
-
 /// The vote for one byte that is spelled as the promise of a span but for its kind: the count is the first byte of its round, the last byte of
 /// the promised round its node, and the promised node its value.
 fn vote_in_span(
@@ -166,7 +160,9 @@ fn vote_in_span(
     count: u8,
     promised: Ballot,
 ) -> Option<Entry> {
-    let ballot = moved(cluster, count, promised.round())?;
+    let [a, b, c, d] = promised.round().to_be_bytes();
+    let node = cluster.node(d)?;
+    let ballot = Ballot::new(u32::from_be_bytes([count, a, b, c]), node)?;
     let value = [promised.node().number()];
     Some(vote_for(rt, alloc, first, ballot, &value))
 }

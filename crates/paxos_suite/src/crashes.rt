@@ -38,20 +38,20 @@ fn put(rt: &impl Abort, record: &mut Record<MemDisk>, calls: u32) {
     }
 }
 
-/// Whether the file is so long behind the crash, and the next opening finds the round.
-fn crash(rt: &impl Abort, alloc: Global, row: (u32, u8, u64, u32)) -> bool {
+/// The file is so long behind the crash, and the next opening finds the round.
+fn crash(rt: &impl Abort, alloc: Global, row: (u32, u8, u64, u32)) {
     let (calls, choice, length, round) = row;
     let mut record = empty(rt, alloc);
     put(rt, &mut record, calls);
     let mut disk = record.close();
-    let is_long = is_long_behind(&mut disk, Some(choice), length);
-    found_round(rt, alloc, disk) == round && is_long
+    ensure(rt, is_long_behind(&mut disk, Some(choice), length), row);
+    ensure(rt, found_round(rt, alloc, disk) == round, row);
 }
 
 #[test]
 fn a_crash_after_each_call_keeps_the_round_or_not(rt: HostRuntime) {
     for &row in CRASHES {
-        ensure(&rt, crash(&rt, rt.alloc(), row), row);
+        crash(&rt, rt.alloc(), row);
     }
 }
 

@@ -2,7 +2,7 @@
 use crate::changes::with_byte;
 use crate::comparing::{ensure, same};
 use crate::listed::{Listed, RECORD, SPANNED, entries, spanned};
-use crate::samples::{instance, is_text};
+use crate::samples::{instance, is_bytes, is_text};
 use crate::stored::{one_of_three, read_bytes};
 use durable::{Record, RecordFault};
 use record_meaning::entry::Entry;
@@ -173,7 +173,7 @@ fn a_record_cut_at_each_byte(rt: HostRuntime) {
 /// A record with this byte at a place comes to what is listed, if that changes it.
 fn changes(rt: &impl Abort, alloc: Global, listed: &Listed<'_>, place: usize, byte: u8) -> bool {
     let bytes = with_byte(rt, alloc, listed.record(), place, byte);
-    bytes.as_slice() == listed.record() || comes_to(rt, alloc, &bytes, listed.at(place, byte))
+    is_bytes(&bytes, listed.record()) || comes_to(rt, alloc, &bytes, listed.at(place, byte))
 }
 
 /// The record with each other byte at a place, among so many, comes to what is listed.

@@ -1,6 +1,5 @@
 //! The histories that a record stands for with one byte changed, computed from its own.
 use crate::changes::{changed, other, places, with_byte};
-use crate::comparing::ensure;
 use crate::samples::{ballot, instance, push, vote};
 use crate::stored::one_of_three;
 use record_meaning::entry::Entry;
@@ -133,9 +132,7 @@ impl<'a> Listed<'a> {
         if self.stands_with(rt, place, byte, entries) {
             let history = copies(rt, self.alloc, entries);
             let listed: Result<_, _> = self.histories.insert((place, byte), history);
-            let is_listed = listed.is_ok();
-            drop(listed);
-            ensure(rt, is_listed, (place, byte));
+            drop(listed.expect(rt, "memory"));
         }
     }
 

@@ -106,17 +106,17 @@ fn is_spelled(rt: &impl Abort, alloc: Global, message: Message, bytes: &[u8]) ->
     is_written && out.strip_prefix(b"before") == Some(bytes)
 }
 
-/// Whether the message that these bytes spell, in hexadecimal, is written as they are.
-fn is_written_again(rt: &impl Abort, alloc: Global, text: &str) -> bool {
+/// The message that these bytes spell, in hexadecimal, is written as they are.
+fn is_written_again(rt: &impl Abort, alloc: Global, text: &str) {
     let bytes = bytes_of(rt, alloc, text);
     let message = decoded(rt, alloc, &bytes).expect(rt, text);
-    is_spelled(rt, alloc, message, &bytes)
+    ensure(rt, is_spelled(rt, alloc, message, &bytes), text);
 }
 
 #[test]
 fn spellings_are_read_and_written_again(rt: HostRuntime) {
     for &text in SPELLINGS {
-        ensure(&rt, is_written_again(&rt, rt.alloc(), text), text);
+        is_written_again(&rt, rt.alloc(), text);
     }
 }
 
@@ -147,11 +147,24 @@ fn beginnings_and_one_byte_more(rt: HostRuntime) {
     }
 }
 
+/// The bytes that are spelled so, and so many further ones.
+fn bytes_and(rt: &impl Abort, alloc: Global, text: &str, more: usize) -> Vec<u8> {
+    let mut bytes = bytes_of(rt, alloc, text);
+    let len = bytes.len().saturating_add(more);
+    bytes.resize(len, 65).expect(rt, "memory");
+    bytes
+}
+
+/// These bytes, and so many further ones behind them, are malformed.
+fn is_refused(rt: &impl Abort, alloc: Global, text: &str, more: usize) {
+    let bytes = bytes_and(rt, alloc, text, more);
+    ensure(rt, is_malformed(rt, alloc, &bytes), text);
+}
+
 #[test]
 fn other_bytes_are_malformed(rt: HostRuntime) {
     for &text in MALFORMED {
-        let bytes = bytes_of(&rt, rt.alloc(), text);
-        ensure(&rt, is_malformed(&rt, rt.alloc(), &bytes), text);
+        is_refused(&rt, rt.alloc(), text, 0);
     }
 }
 
@@ -198,14 +211,6 @@ fn longest(rt: &impl Abort, value: Value) -> Message {
     }
 }
 
-/// The bytes that are spelled so, and so many further ones.
-fn bytes_and(rt: &impl Abort, alloc: Global, text: &str, more: usize) -> Vec<u8> {
-    let mut bytes = bytes_of(rt, alloc, text);
-    let len = bytes.len().saturating_add(more);
-    bytes.resize(len, 65).expect(rt, "memory");
-    bytes
-}
-
 fn longest_value(rt: &impl Abort, alloc: Global) -> Value {
     Value::from_bytes(bytes_and(rt, alloc, "", MAX_VALUE)).expect(rt, "a value")
 }
@@ -219,9 +224,8 @@ fn the_longest_value(rt: HostRuntime) {
 
 #[test]
 fn a_value_one_byte_too_long(rt: HostRuntime) {
-    let (alloc, header) = (rt.alloc(), "01030100000001000000010100008001");
-    let bytes = bytes_and(&rt, alloc, header, MAX_VALUE + 1);
-    ensure(&rt, is_malformed(&rt, alloc, &bytes), bytes.len());
+    let header = "01030100000001000000010100008001";
+    is_refused(&rt, rt.alloc(), header, MAX_VALUE + 1);
 }
 
 /// A slot with this promise and a vote for the value `v`.
@@ -270,7 +274,8 @@ fn check_empty(rt: &impl Abort) {
 
 #[test]
 fn verdicts_of_an_acceptor(rt: HostRuntime) {
-    let (alloc, own) = (rt.alloc(), ballot(&rt, 2, 1));
+    let alloc = rt.alloc();
+    let own = ballot(&rt, 2, 1);
     let lower = slot(&rt, alloc, own, ballot(&rt, 1, 3));
     check_prepares(&rt, &lower);
     drop(lower);
@@ -281,12 +286,14 @@ fn verdicts_of_an_acceptor(rt: HostRuntime) {
 }
 
 /// The cluster has so many nodes, numbered from one on, and that majority.
-fn has_nodes(cluster: Cluster, size: u8, quorum: u8) -> bool {
-    cluster.size() == size
+fn has_nodes(rt: &impl Abort, size: u8, quorum: u8) {
+    let cluster = cluster(rt, size);
+    let is_right = cluster.size() == size
         && cluster.quorum() == quorum
         && cluster.node(0).is_none()
         && cluster.node(size).is_some()
-        && cluster.node(10).is_none()
+        && cluster.node(10).is_none();
+    ensure(rt, is_right, size);
 }
 
 /// There is no cluster, instance or ballot of that node beyond the bounds.
@@ -314,7 +321,7 @@ const QUORUMS: &[(u8, u8)] = &[
 #[test]
 fn clusters_and_their_majorities(rt: HostRuntime) {
     for &(size, quorum) in QUORUMS {
-        ensure(&rt, has_nodes(cluster(&rt, size), size, quorum), size);
+        has_nodes(&rt, size, quorum);
     }
     ensure(&rt, is_bounded(node(&rt, 1)), 0);
 }

@@ -1,7 +1,7 @@
 //! Record files byte by byte.
 use crate::comparing::{ensure, same};
 use crate::disks::holds;
-use crate::samples::{ballot, instance};
+use crate::samples::{ballot, instance, is_bytes};
 use crate::stored::{
     ONE_PROMISE, ONE_ROUND, disk_of, empty, ends, found_round, is_promised, is_refused,
     one_of_three, opened, put_promise, put_round, put_vote_for,
@@ -102,7 +102,9 @@ fn put_seventy(rt: &impl Abort, alloc: Global, record: &mut Record<MemDisk>) {
 fn is_voted(slot: &Slot, ballot: Ballot, value: &[u8]) -> bool {
     match &slot.vote {
         Some(vote) => {
-            slot.promised == Some(ballot) && vote.ballot == ballot && vote.value.as_bytes() == value
+            slot.promised == Some(ballot)
+                && vote.ballot == ballot
+                && is_bytes(vote.value.as_bytes(), value)
         }
         None => false,
     }

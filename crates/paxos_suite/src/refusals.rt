@@ -3,7 +3,7 @@
 use crate::comparing::{ensure, same};
 use crate::member::{Member, Sent, is_made, is_resent, is_sent, three_values};
 use crate::messages::is_written;
-use crate::samples::{ballot, cluster, instance, node, value, vote};
+use crate::samples::{ballot, cluster, instance, is_bytes, node, value, vote};
 use crate::steps::{Step, act};
 use crate::stored::{self, ends, one_of_three};
 use chosen_log::{ChosenLog, LearnFault, Learned};
@@ -40,7 +40,7 @@ fn encodes(rt: &impl Abort, alloc: Global, message: Message) {
         ensure(rt, is_written(&message, &mut out), 1);
     }
     drop(message);
-    ensure(rt, out.as_slice() == PROMISE, 2);
+    ensure(rt, is_bytes(&out, PROMISE), 2);
 }
 
 fn copy_of(rt: &impl Abort, message: Message) -> Message {
@@ -163,15 +163,16 @@ fn tell(rt: &impl Abort, learner: &mut Learner, voter: u8, value: &Value, comple
     same(rt, known, completes);
 }
 
-fn tell_two(rt: &impl Abort, learner: &mut Learner, value: &Value) {
-    tell(rt, learner, 1, value, false);
-    tell(rt, learner, 2, value, true);
+fn tell_two(rt: &impl Abort, learner: &mut Learner, value: Value) {
+    tell(rt, learner, 1, &value, false);
+    tell(rt, learner, 2, &value, true);
+    drop(value);
 }
 
 #[test]
 fn votes(rt: HostRuntime) {
     let value = value(&rt, rt.alloc(), b"v");
-    tell_two(&rt, &mut Learner::new(rt.alloc(), cluster(&rt, 3)), &value);
+    tell_two(&rt, &mut Learner::new(rt.alloc(), cluster(&rt, 3)), value);
 }
 
 /// The value that was handed back since memory was refused.
@@ -266,23 +267,18 @@ fn tells(rt: &impl Abort, record: &Record<MemDisk>) -> bool {
     all
 }
 
-/// Memory was refused, or the step was taken.
-fn is_refused(rt: &impl Abort, alloc: Global, record: &mut Record<MemDisk>, step: Step) -> bool {
-    match act(rt, alloc, record, step) {
-        Ok(()) => false,
-        Err(fault) => {
-            same(rt, fault, RecordFault::OutOfMemory);
-            true
-        }
+/// The step is taken, at the next try where memory was refused.
+fn take(rt: &impl Abort, alloc: Global, record: &mut Record<MemDisk>, step: Step) {
+    if let Err(fault) = act(rt, alloc, record, step) {
+        same(rt, fault, RecordFault::OutOfMemory);
+        ends(rt, act(rt, alloc, record, step), Ok(()));
     }
 }
 
 /// A batch that waits to be sealed.
 fn fill(rt: &impl Abort, alloc: Global, record: &mut Record<MemDisk>) {
-    for &one in BATCH {
-        if is_refused(rt, alloc, record, one) {
-            ends(rt, act(rt, alloc, record, one), Ok(()));
-        }
+    for &step in BATCH {
+        take(rt, alloc, record, step);
     }
     same(rt, tells(rt, record), true);
 }

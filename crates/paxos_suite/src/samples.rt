@@ -47,7 +47,11 @@ pub(crate) fn push<T: Drop>(rt: &impl Abort, to: &mut Vec<T>, one: T) {
     to.push(one).expect(rt, "memory");
 }
 
+pub(crate) fn is_bytes(came: &[u8], wanted: &[u8]) -> bool {
+    came == wanted
+}
+
 /// Whether a value is the bytes of this text.
 pub(crate) fn is_text(value: &Value, text: &str) -> bool {
-    value.as_bytes() == text.as_bytes()
+    is_bytes(value.as_bytes(), text.as_bytes())
 }

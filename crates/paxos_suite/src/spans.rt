@@ -8,7 +8,7 @@ use crate::stored::{arm, empty, ends, is_refused, opened, put_span};
 use durable::{Record, RecordFault};
 use site_disk::MemDisk;
 use site_ids::MAX_INSTANCE;
-use std::alloc::{AllocError, Global};
+use std::alloc::Global;
 use std::process::Abort;
 
 /// How many calls of a put pass, what the crash chooses, and then the file's length and whether the promise is kept.
@@ -82,18 +82,14 @@ fn a_span_raises_what_is_lower(rt: HostRuntime) {
     play(&rt, rt.alloc(), RAISING, RAISED);
 }
 
-/// So many bytes of the file, and a span once more behind them.
-fn twice(alloc: Global) -> Result<Vec<u8>, AllocError> {
-    let mut bytes = Vec::from_slice(alloc, &SPANNED[..26])?;
-    bytes.extend_from_slice(&SPANNED[10..])?;
-    Ok(bytes)
-}
+/// `SPANNED`, with its span once more behind it.
+const TWICE: &[u8] =
+    b"SITEREC1\x02\x03\x01\x00\x00\x00\x0b\x04\x00\x00\x00\x05\x03\x00\x00\x00\x01\x01\x01\x00\x00\x00\x0b\x04\x00\x00\x00\x05\x03\x00\x00\x00\x01\x01\x00";
 
 #[test]
 fn a_span_that_raises_nothing_is_damage(rt: HostRuntime) {
     is_refused(&rt, rt.alloc(), 2, &SPANNED, None);
-    let bytes = twice(rt.alloc()).expect(&rt, "memory");
-    is_refused(&rt, rt.alloc(), 2, &bytes, Some(RecordFault::Damaged));
+    is_refused(&rt, rt.alloc(), 2, TWICE, Some(RecordFault::Damaged));
 }
 
 const LAST_SPANS: &[Step] = &[
@@ -124,21 +120,20 @@ fn put_armed(rt: &impl Abort, record: &mut Record<MemDisk>, calls: u32) {
     }
 }
 
-/// Whether the file is so long behind the crash. The next opening keeps the promise or not.
-fn crash(rt: &impl Abort, alloc: Global, row: (u32, u8, u64, bool)) -> bool {
+/// The file is so long behind the crash, and the next opening keeps the promise or not.
+fn crash(rt: &impl Abort, alloc: Global, row: (u32, u8, u64, bool)) {
     let (calls, choice, length, kept) = row;
     let mut record = empty(rt, alloc);
     put_armed(rt, &mut record, calls);
     let mut disk = record.close();
-    let is_long = is_long_behind(&mut disk, Some(choice), length);
+    ensure(rt, is_long_behind(&mut disk, Some(choice), length), row);
     let round = u32::from(kept);
     finds(rt, alloc, disk, &[0, round, round, round, 0]);
-    is_long
 }
 
 #[test]
 fn a_crash_after_each_call_keeps_the_span_or_not(rt: HostRuntime) {
     for &row in CRASHES {
-        ensure(&rt, crash(&rt, rt.alloc(), row), row);
+        crash(&rt, rt.alloc(), row);
     }
 }
