@@ -45,7 +45,8 @@ fn crash(rt: &impl Abort, alloc: Global, row: (u32, u8, u64, u32)) {
     put(rt, &mut record, calls);
     let mut disk = record.close();
     ensure(rt, is_long_behind(&mut disk, Some(choice), length), row);
-    ensure(rt, found_round(rt, alloc, disk) == round, row);
+    let found = found_round(rt, alloc, disk);
+    same(rt, (calls, choice, found), (calls, choice, round));
 }
 
 #[test]

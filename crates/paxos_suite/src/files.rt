@@ -104,13 +104,9 @@ fn sync_folder(rt: &(impl Files<File = File> + Abort)) {
     folder.sync_all().expect(rt, "a sync");
 }
 
-/// Whether the folder was there, and is no more.
-fn is_removed(rt: &(impl Files + Alloc)) -> bool {
-    fs::remove_dir_all(rt, FOLDER).is_ok()
-}
-
+/// Without what an earlier run left there.
 fn make_folder(rt: &(impl Files + Alloc + Abort)) {
-    is_removed(rt);
+    let _ = fs::remove_dir_all(rt, FOLDER);
     fs::create_dir(rt, FOLDER).expect(rt, "a folder");
 }
 
@@ -130,7 +126,7 @@ fn keep(rt: &(impl Files<File = File> + Abort), alloc: Global) {
 fn a_real_file_keeps_the_record(rt: HostRuntime) {
     make_folder(&rt);
     keep(&rt, rt.alloc());
-    ensure(&rt, is_removed(&rt), 0);
+    fs::remove_dir_all(&rt, FOLDER).expect(&rt, "no folder");
 }
 
 /// The record takes a vote at each of so many instances, all in one batch.
@@ -162,15 +158,15 @@ fn find_votes(rt: &impl Abort, alloc: Global, file: File) {
     drop(record);
 }
 
-/// Whether the file was there, and is no more.
-fn is_file_removed(rt: &impl Files) -> bool {
-    fs::remove_file(rt, BATCH_FILE).is_ok()
+/// A new file, without what an earlier run left there.
+fn new_batch_file(rt: &(impl Files<File = File> + Abort)) -> File {
+    let _ = fs::remove_file(rt, BATCH_FILE);
+    made_anew(rt, BATCH_FILE)
 }
 
 #[test]
 fn a_real_file_keeps_a_batch(rt: HostRuntime) {
-    is_file_removed(&rt);
-    keep_votes(&rt, rt.alloc(), made_anew(&rt, BATCH_FILE));
+    keep_votes(&rt, rt.alloc(), new_batch_file(&rt));
     find_votes(&rt, rt.alloc(), made_anew(&rt, BATCH_FILE));
-    ensure(&rt, is_file_removed(&rt), 0);
+    fs::remove_file(&rt, BATCH_FILE).expect(&rt, "no file");
 }

@@ -305,6 +305,12 @@ fn is_bounded(node: NodeId) -> bool {
         && Ballot::new(0, node).is_none()
 }
 
+/// The ballot of that round and that node is below one of round 2.
+fn is_below(rt: &impl Abort, round: u32, number: u8, above: u8) {
+    let below = ballot(rt, round, number);
+    ensure(rt, below < ballot(rt, 2, above), below);
+}
+
 /// So many nodes, and the majority of them.
 const QUORUMS: &[(u8, u8)] = &[
     (1, 1),
@@ -324,16 +330,6 @@ fn clusters_and_their_majorities(rt: HostRuntime) {
         has_nodes(&rt, size, quorum);
     }
     ensure(&rt, is_bounded(node(&rt, 1)), 0);
-}
-
-/// The ballot of that round and that node is below one of round 2.
-fn is_below(rt: &impl Abort, round: u32, number: u8, above: u8) {
-    let below = ballot(rt, round, number);
-    ensure(rt, below < ballot(rt, 2, above), below);
-}
-
-#[test]
-fn ballots_go_by_their_rounds_and_then_by_their_nodes(rt: HostRuntime) {
     is_below(&rt, 1, 9, 1);
     is_below(&rt, 2, 1, 2);
 }
