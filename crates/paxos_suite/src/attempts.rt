@@ -1,6 +1,7 @@
 //! Proposals, votes told and chosen values, by worked rows.
+use crate::comparing::{ensure, same};
 use crate::member::{Member, Sent, Step, play};
-use crate::samples::{ballot, cluster, copied, instance, node};
+use crate::samples::{ballot, cluster, instance, is_bytes, is_text, node, value};
 use chosen_log::{ChosenLog, LearnFault, Learned};
 use learner::Learner;
 use proposer::ProposerFault;
@@ -118,18 +119,22 @@ fn next(member: &Member, recorded: u32) -> Result<Ballot, ProposerFault> {
 }
 
 fn rounds(rt: &impl Abort, member: &Member, recorded: u32, round: u32) {
-    assert!(rt; next(member, recorded) == Ok(ballot(rt, round, 2)));
+    same(rt, next(member, recorded), Ok(ballot(rt, round, 2)));
+}
+
+fn hear(rt: &impl Abort, member: &mut Member) {
+    rounds(rt, member, 0, 1);
+    member.heard(ballot(rt, 9, 1));
+    member.heard(ballot(rt, 4, 3));
+    rounds(rt, member, 3, 10);
+    rounds(rt, member, 12, 13);
+    let last = next(member, 4_294_967_295);
+    same(rt, last, Err(ProposerFault::RoundsUsedUp));
 }
 
 #[test]
 fn ballots_above_all_rounds_heard(rt: HostRuntime) {
-    let mut member = Member::new(&rt, rt.alloc(), 3, 2);
-    rounds(&rt, &member, 0, 1);
-    member.heard(ballot(&rt, 9, 1));
-    member.heard(ballot(&rt, 4, 3));
-    rounds(&rt, &member, 3, 10);
-    rounds(&rt, &member, 12, 13);
-    assert!(rt; next(&member, 4_294_967_295) == Err(ProposerFault::RoundsUsedUp));
+    hear(&rt, &mut Member::new(&rt, rt.alloc(), 3, 2));
 }
 
 /// The voter, the round and the node of its ballot, its value, and whether that value becomes known.
@@ -157,6 +162,13 @@ fn completes(rt: &impl Abort, learner: &Learner, voter: NodeId, at: Ballot, valu
     learner.completes(voter, instance(rt, 1), at, value)
 }
 
+/// Whether the value that is known is the one that was told.
+fn is_copy(known: Value, told: &Value) -> bool {
+    let is_copy = is_bytes(known.as_bytes(), told.as_bytes());
+    drop(known);
+    is_copy
+}
+
 /// What a learner makes known is the value that it is told.
 fn is_told(
     rt: &impl Abort,
@@ -167,7 +179,7 @@ fn is_told(
 ) -> bool {
     match known_by(rt, learner, voter, at, value) {
         Some(known) => {
-            assert!(rt; known.as_bytes() == value.as_bytes());
+            ensure(rt, is_copy(known, value), voter);
             true
         }
         None => false,
@@ -177,18 +189,24 @@ fn is_told(
 fn tell(rt: &impl Abort, alloc: Global, learner: &mut Learner, row: (u8, u32, u8, &str, bool)) {
     let (voter, round, number, text, known) = row;
     let (voter, at) = (node(rt, voter), ballot(rt, round, number));
-    let value = copied(alloc, text.as_bytes()).expect(rt, "a value");
-    assert!(rt; completes(rt, learner, voter, at, &value) == known);
-    assert!(rt; is_told(rt, learner, voter, at, &value) == known);
+    let value = value(rt, alloc, text.as_bytes());
+    same(rt, completes(rt, learner, voter, at, &value), known);
+    same(rt, is_told(rt, learner, voter, at, &value), known);
+}
+
+/// The votes that are forgotten count no more.
+fn forgets(rt: &impl Abort, alloc: Global, learner: &mut Learner) {
+    learner.forget(instance(rt, 1));
+    let value = value(rt, alloc, b"v");
+    let would = completes(rt, learner, node(rt, 5), ballot(rt, 1, 1), &value);
+    same(rt, would, false);
 }
 
 fn votes(rt: &impl Abort, alloc: Global, learner: &mut Learner) {
     for &row in VOTES {
         tell(rt, alloc, learner, row);
     }
-    learner.forget(instance(rt, 1));
-    let value = copied(alloc, b"v").expect(rt, "a value");
-    assert!(rt; !completes(rt, learner, node(rt, 5), ballot(rt, 1, 1), &value));
+    forgets(rt, alloc, learner);
 }
 
 #[test]
@@ -209,7 +227,14 @@ const LEARNED: &[(u32, &str, Option<Learned>, u32)] = &[
     (3, "c", Some(Learned::Known), 4),
 ];
 
-/// How a value is learned. One that conflicts with the known one is handed back.
+/// The value that conflicts with the known one is handed back.
+fn hands_back(rt: &impl Abort, fault: LearnFault, text: &str) {
+    let is_back = matches!(&fault, LearnFault::Conflict(back) if is_text(back, text));
+    drop(fault);
+    ensure(rt, is_back, text);
+}
+
+/// How a value is learned, if it is.
 fn learn(
     rt: &impl Abort,
     alloc: Global,
@@ -217,20 +242,19 @@ fn learn(
     number: u32,
     text: &str,
 ) -> Option<Learned> {
-    let value = copied(alloc, text.as_bytes()).expect(rt, "a value");
+    let value = value(rt, alloc, text.as_bytes());
     match log.learn(instance(rt, number), value) {
         Ok(learned) => Some(learned),
-        Err(LearnFault::Conflict(back)) => {
-            assert!(rt; back.as_bytes() == text.as_bytes());
+        Err(fault) => {
+            hands_back(rt, fault, text);
             None
         }
-        Err(LearnFault::OutOfMemory(_)) => panic!(rt; "out of memory"),
     }
 }
 
 fn is_known(rt: &impl Abort, log: &ChosenLog, number: u32, text: &str) -> bool {
     let known = log.get(instance(rt, number)).expect(rt, "a known value");
-    known.as_bytes() == text.as_bytes()
+    is_text(known, text)
 }
 
 fn gap_of(log: &ChosenLog) -> Option<Instance> {
@@ -239,7 +263,7 @@ fn gap_of(log: &ChosenLog) -> Option<Instance> {
 
 /// Three values are known up to the first gap, and the second of them is this one.
 fn has_second(log: &ChosenLog, text: &str) -> bool {
-    matches!(log.prefix(), [_, value, _] if value.as_bytes() == text.as_bytes())
+    matches!(log.prefix(), [_, value, _] if is_text(value, text))
 }
 
 fn learn_row(
@@ -249,16 +273,16 @@ fn learn_row(
     row: (u32, &str, Option<Learned>, u32),
 ) {
     let (number, text, expected, gap) = row;
-    assert!(rt; learn(rt, alloc, log, number, text) == expected);
-    assert!(rt; gap_of(log) == Some(instance(rt, gap)));
-    assert!(rt; is_known(rt, log, number, text) == expected.is_some());
+    same(rt, learn(rt, alloc, log, number, text), expected);
+    same(rt, gap_of(log), Some(instance(rt, gap)));
+    same(rt, is_known(rt, log, number, text), expected.is_some());
 }
 
 fn learn_each(rt: &impl Abort, alloc: Global, log: &mut ChosenLog) {
     for &row in LEARNED {
         learn_row(rt, alloc, log, row);
     }
-    assert!(rt; has_second(log, "b"));
+    ensure(rt, has_second(log, "b"), 2);
 }
 
 #[test]

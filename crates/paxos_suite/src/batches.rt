@@ -1,13 +1,11 @@
 //! Batches: all of one stands or none of it, whichever call of its seal fails and whatever a crash chooses; their bytes are those of single puts.
-use crate::comparing::ensure;
+use crate::comparing::{ensure, same};
 use crate::damage::is_of;
 use crate::disks::{crashed_within, holds, is_long, is_long_behind, reads};
 use crate::listed::{RECORD, SPANNED, entries};
 use crate::samples::{ballot, instance};
-use crate::stored::{
-    arm, disk_of, empty, formatted, is_promised, opened, put_promise, put_round, put_span,
-    put_vote_for,
-};
+use crate::steps::{Step, act, disk_behind, take};
+use crate::stored::{arm, disk_of, empty, ends, formatted, is_promised, opened};
 use durable::{Record, RecordFault};
 use site_disk::{Armed, Call, Disk, FailOnce, MemDisk};
 use site_ids::Instance;
@@ -43,20 +41,6 @@ const SEALS: &[(u32, bool)] = &[(0, false), (1, false), (2, false), (3, true)];
 
 /// What a crash chooses behind an opening.
 const CHOICES: &[u8] = &[0, 1, 7];
-
-/// A step of a record, where a ballot is its round, of node 1.
-#[derive(Clone, Copy, Debug)]
-enum Step {
-    Begin,
-    Seal,
-    Round(u32),
-    /// A promise at an instance.
-    Promise(u32, u32),
-    /// The promise of a span from an instance on, of so many.
-    Span(u32, u8, u32),
-    /// A vote at an instance for a text.
-    Vote(u32, u32, &'static str),
-}
 
 const ROUND: Step = Step::Round(1);
 
@@ -98,48 +82,10 @@ const WRITERS: &[(&[Step], usize)] = &[
 /// Steps behind the last, which a record that stopped refuses.
 const REFUSED: &[Step] = &[Step::Begin, Step::Round(9), Step::Promise(9, 9), Step::Seal];
 
-fn act<D: Disk>(
-    rt: &impl Abort,
-    alloc: Global,
-    record: &mut Record<D>,
-    step: Step,
-) -> Result<(), RecordFault> {
-    match step {
-        Step::Begin => record.begin(),
-        Step::Seal => record.seal(),
-        Step::Round(round) => put_round(record, round),
-        Step::Promise(at, round) => put_promise(record, instance(rt, at), ballot(rt, round, 1)),
-        Step::Span(first, count, round) => {
-            put_span(record, instance(rt, first), count, ballot(rt, round, 1))
-        }
-        Step::Vote(at, round, text) => {
-            let vote = (instance(rt, at), ballot(rt, round, 1));
-            put_vote_for(rt, alloc, record, vote, text.as_bytes())
-        }
-    }
-}
-
-/// A step comes to that.
-fn comes_to<D: Disk>(
-    rt: &impl Abort,
-    alloc: Global,
-    record: &mut Record<D>,
-    step: Step,
-    wanted: Result<(), RecordFault>,
-) {
-    assert_eq!(rt; act(rt, alloc, record, step), wanted, "{step:?}");
-}
-
-fn take<D: Disk>(rt: &impl Abort, alloc: Global, record: &mut Record<D>, steps: &[Step]) {
-    for &one in steps {
-        comes_to(rt, alloc, record, one, Ok(()));
-    }
-}
-
 /// The record tells these rounds.
 fn tells_rounds<D: Disk>(rt: &impl Abort, record: &Record<D>, round: u32, greatest: u32) {
-    assert!(rt; record.round() == round);
-    assert!(rt; record.greatest_round() == greatest);
+    let rounds = (record.round(), record.greatest_round());
+    same(rt, rounds, (round, greatest));
 }
 
 /// Whether a vote at that instance is on record, or none is.
@@ -149,7 +95,7 @@ fn is_voted<D: Disk>(record: &Record<D>, at: Instance, voted: bool) -> bool {
 
 /// The record tells the three entries, or none of them.
 fn tells<D: Disk>(rt: &impl Abort, record: &Record<D>, all: bool) {
-    assert!(rt; is_voted(record, instance(rt, 1), all));
+    ensure(rt, is_voted(record, instance(rt, 1), all), all);
     if all {
         tells_rounds(rt, record, 1, 2);
         is_promised(rt, record, Some(ballot(rt, 2, 1)));
@@ -168,21 +114,22 @@ fn seal_three<D: Disk>(
 ) {
     take(rt, alloc, record, THREE);
     tells(rt, record, true);
-    comes_to(rt, alloc, record, Step::Seal, sealed);
+    ends(rt, record.seal(), sealed);
     tells(rt, record, true);
 }
 
 /// A record that stopped takes nothing more.
 fn is_over<D: Disk>(rt: &impl Abort, alloc: Global, record: &mut Record<D>) {
-    assert!(rt; record.is_stopped());
-    for &one in REFUSED {
-        comes_to(rt, alloc, record, one, Err(RecordFault::Stopped));
+    same(rt, record.is_stopped(), true);
+    for (number, &step) in REFUSED.iter().enumerate() {
+        let came = act(rt, alloc, record, step);
+        same(rt, (number, came), (number, Err(RecordFault::Stopped)));
     }
 }
 
 /// A batch of three, of which so many calls of the disk pass.
 fn seal_armed<D: Armed>(rt: &impl Abort, alloc: Global, record: &mut Record<D>, calls: u32) {
-    comes_to(rt, alloc, record, Step::Begin, Ok(()));
+    ends(rt, record.begin(), Ok(()));
     arm(record, calls);
     if calls < 4 {
         seal_three(rt, alloc, record, Err(RecordFault::Device));
@@ -192,21 +139,27 @@ fn seal_armed<D: Armed>(rt: &impl Abort, alloc: Global, record: &mut Record<D>, 
     }
 }
 
-/// Whether the file is so long behind the crash. The next opening tells what stands.
-fn crash(rt: &impl Abort, alloc: Global, row: (u32, Option<u8>, u64, bool)) -> bool {
+/// The next opening finds the three entries, or none of them.
+fn finds(rt: &impl Abort, alloc: Global, disk: MemDisk, all: bool) {
+    let record = opened(rt, alloc, disk);
+    tells(rt, &record, all);
+    drop(record);
+}
+
+/// The file is so long behind the crash, and the next opening tells what stands.
+fn crash(rt: &impl Abort, alloc: Global, row: (u32, Option<u8>, u64, bool)) {
     let (calls, choice, length, all) = row;
     let mut record = empty(rt, alloc);
     seal_armed(rt, alloc, &mut record, calls);
     let mut disk = record.close();
-    let is_long = is_long_behind(&mut disk, choice, length);
-    tells(rt, &opened(rt, alloc, disk), all);
-    is_long
+    ensure(rt, is_long_behind(&mut disk, choice, length), row);
+    finds(rt, alloc, disk, all);
 }
 
 #[test]
 fn a_crash_after_each_call_of_a_seal_keeps_all_or_none(rt: HostRuntime) {
     for &row in CRASHES {
-        ensure(&rt, crash(&rt, rt.alloc(), row), row);
+        crash(&rt, rt.alloc(), row);
     }
 }
 
@@ -215,15 +168,14 @@ fn failed_seal(rt: &impl Abort, alloc: Global, calls: u32) -> FailOnce<MemDisk> 
     let mut record = opened(rt, alloc, FailOnce::new(formatted(rt, alloc)));
     seal_armed(rt, alloc, &mut record, calls);
     let disk = record.close();
-    assert!(rt; disk.failures() == 1);
+    same(rt, disk.failures(), 1);
     disk
 }
 
 fn settles(rt: &impl Abort, alloc: Global, calls: u32, choice: u8, all: bool) {
     let record = opened(rt, alloc, failed_seal(rt, alloc, calls));
     tells(rt, &record, all);
-    let disk = crashed_within(record.close(), choice);
-    tells(rt, &opened(rt, alloc, disk), all);
+    finds(rt, alloc, crashed_within(record.close(), choice), all);
 }
 
 /// Whatever a crash chooses behind an opening, it keeps what that found.
@@ -240,8 +192,8 @@ fn an_opening_settles_the_batch(rt: HostRuntime) {
 #[test]
 fn a_batch_that_is_not_sealed_is_lost(rt: HostRuntime) {
     let mut disk = disk_behind(&rt, rt.alloc(), NOT_SEALED);
-    assert!(rt; is_long(&mut disk, 11));
-    tells(&rt, &opened(&rt, rt.alloc(), disk), false);
+    ensure(&rt, is_long(&mut disk, 11), 11);
+    finds(&rt, rt.alloc(), disk, false);
 }
 
 fn writes_and_syncs(calls: &[Call]) -> usize {
@@ -254,16 +206,12 @@ fn writes_and_syncs(calls: &[Call]) -> usize {
     count
 }
 
-/// The disk of an empty record behind these steps.
-fn disk_behind(rt: &impl Abort, alloc: Global, steps: &[Step]) -> MemDisk {
-    let mut record = empty(rt, alloc);
-    take(rt, alloc, &mut record, steps);
-    record.close()
-}
-
 /// How many writes and syncs these steps make, an opening's among them.
 fn calls_of(rt: &impl Abort, alloc: Global, steps: &[Step]) -> usize {
-    writes_and_syncs(disk_behind(rt, alloc, steps).calls())
+    let disk = disk_behind(rt, alloc, steps);
+    let calls = writes_and_syncs(disk.calls());
+    drop(disk);
+    calls
 }
 
 /// These steps write these bytes, with so many writes and syncs, an opening's among them.
@@ -275,8 +223,9 @@ fn write<const N: usize>(
     calls: usize,
 ) {
     let mut disk = disk_behind(rt, alloc, steps);
-    assert!(rt; writes_and_syncs(disk.calls()) == calls);
-    assert!(rt; holds(&mut disk, wanted));
+    same(rt, writes_and_syncs(disk.calls()), calls);
+    ensure(rt, holds(&mut disk, wanted), calls);
+    drop(disk);
 }
 
 const SPAN_BATCH: &[Step] = &[Step::Begin, Step::Span(5, 3, 1), Step::Seal];
@@ -286,18 +235,20 @@ const EMPTY_BATCH: &[Step] = &[Step::Begin, Step::Seal];
 /// However a record's entries came there, its bytes are the same.
 #[test]
 fn batches_and_puts_write_the_same_bytes(rt: HostRuntime) {
+    let alloc = rt.alloc();
     for &(steps, calls) in WRITERS {
-        write(&rt, rt.alloc(), steps, &RECORD, calls);
+        write(&rt, alloc, steps, &RECORD, calls);
     }
-    write(&rt, rt.alloc(), SPAN_BATCH, &SPANNED, 5);
-    assert!(rt; calls_of(&rt, rt.alloc(), EMPTY_BATCH) == 1);
+    write(&rt, alloc, SPAN_BATCH, &SPANNED, 5);
+    same(&rt, calls_of(&rt, alloc, EMPTY_BATCH), 1);
 }
 
 /// The record that these steps write.
 fn record_behind(rt: &impl Abort, alloc: Global, steps: &[Step]) -> [u8; 53] {
     let mut disk = disk_behind(rt, alloc, steps);
     let mut bytes = [0; 53];
-    assert!(rt; reads(&mut disk, 0, &mut bytes));
+    ensure(rt, reads(&mut disk, 0, &mut bytes), 53);
+    drop(disk);
     bytes
 }
 
@@ -306,7 +257,8 @@ fn record_behind(rt: &impl Abort, alloc: Global, steps: &[Step]) -> [u8; 53] {
 fn a_batch_stands_for_its_entries(rt: HostRuntime) {
     let bytes = record_behind(&rt, rt.alloc(), IN_ONE_BATCH);
     let entries = entries(&rt, rt.alloc());
-    assert!(rt; is_of(&rt, rt.alloc(), &bytes, &entries));
+    ensure(&rt, is_of(&rt, rt.alloc(), &bytes, &entries), bytes.len());
+    drop(entries);
 }
 
 const FURTHER: &[Step] = &[
@@ -318,16 +270,18 @@ const FURTHER: &[Step] = &[
 ];
 
 /// The record tells what stood before, and these.
-fn tells_further(rt: &impl Abort, record: &Record<MemDisk>) {
-    tells_rounds(rt, record, 5, 6);
-    is_promised(rt, record, Some(ballot(rt, 6, 1)));
-    assert!(rt; is_voted(record, instance(rt, 2), true));
+fn tells_further(rt: &impl Abort, record: Record<MemDisk>) {
+    tells_rounds(rt, &record, 5, 6);
+    is_promised(rt, &record, Some(ballot(rt, 6, 1)));
+    ensure(rt, is_voted(&record, instance(rt, 2), true), 2);
+    drop(record);
 }
 
 /// A record that single puts wrote takes a batch, and one that a batch wrote takes a put.
 #[test]
 fn a_stored_record_goes_on(rt: HostRuntime) {
-    let mut record = opened(&rt, rt.alloc(), disk_of(&rt, rt.alloc(), &RECORD));
-    take(&rt, rt.alloc(), &mut record, FURTHER);
-    tells_further(&rt, &opened(&rt, rt.alloc(), record.close()));
+    let alloc = rt.alloc();
+    let mut record = opened(&rt, alloc, disk_of(&rt, alloc, &RECORD));
+    take(&rt, alloc, &mut record, FURTHER);
+    tells_further(&rt, opened(&rt, alloc, record.close()));
 }

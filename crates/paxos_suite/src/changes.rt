@@ -4,8 +4,9 @@
 //! other entry is a vote for a beginning of the value, since nothing stands behind the last one; in the kind, it is the other one of a promise
 //! and a vote for the empty value, or a vote for one byte in place of a span's promise; and else in a number or the value. No record here has a
 //! vote for one byte.
+use crate::samples::value;
 use record_meaning::entry::Entry;
-use site_ids::{Ballot, Cluster, Instance, Value, Vote};
+use site_ids::{Ballot, Cluster, Instance, Vote};
 use std::alloc::Global;
 use std::process::Abort;
 
@@ -14,6 +15,13 @@ pub fn put_byte(bytes: &mut [u8], place: usize, byte: u8) {
     if place < bytes.len() {
         bytes[place] = byte;
     }
+}
+
+/// The bytes with this one at a place.
+pub fn with_byte(rt: &impl Abort, alloc: Global, bytes: &[u8], place: usize, byte: u8) -> Vec<u8> {
+    let mut bytes = Vec::from_slice(alloc, bytes).expect(rt, "memory");
+    put_byte(&mut bytes, place, byte);
+    bytes
 }
 
 fn number(number: u32, place: usize, byte: u8) -> u32 {
@@ -30,16 +38,14 @@ fn ballot(
     place: usize,
     byte: u8,
 ) -> Option<(Instance, Ballot)> {
-    if place < 4 {
-        let instance = Instance::new(number(instance.number(), place, byte))?;
-        Some((instance, ballot))
-    } else if place < 8 {
-        let round = number(ballot.round(), place - 4, byte);
-        Some((instance, Ballot::new(round, ballot.node())?))
+    let instance = Instance::new(number(instance.number(), place, byte))?;
+    let round = number(ballot.round(), place.wrapping_sub(4), byte);
+    let node = if place == 8 {
+        byte
     } else {
-        let node = cluster.node(byte)?;
-        Some((instance, Ballot::new(ballot.round(), node)?))
-    }
+        ballot.node().number()
+    };
+    Some((instance, Ballot::new(round, cluster.node(node)?)?))
 }
 
 /// A vote for these bytes.
@@ -50,7 +56,7 @@ fn vote_for(
     ballot: Ballot,
     bytes: &[u8],
 ) -> Entry {
-    let value = Value::copied_from(alloc, bytes).expect(rt, "memory");
+    let value = value(rt, alloc, bytes);
     Entry::Voted(instance, Vote { ballot, value })
 }
 
@@ -63,8 +69,7 @@ fn vote_with(
     place: usize,
     byte: u8,
 ) -> Entry {
-    let mut bytes = Vec::from_slice(alloc, vote.value.as_bytes()).expect(rt, "memory");
-    put_byte(&mut bytes, place, byte);
+    let bytes = with_byte(rt, alloc, vote.value.as_bytes(), place, byte);
     vote_for(rt, alloc, instance, vote.ballot, &bytes)
 }
 

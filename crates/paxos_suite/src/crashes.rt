@@ -1,6 +1,7 @@
 //! Crashes after each call of a put.
+use crate::comparing::{ensure, same};
 use crate::disks::{begins, is_long, is_long_behind, reads, syncs, writes};
-use crate::stored::{arm, disk_of, empty, ends, opened, put_round};
+use crate::stored::{arm, disk_of, empty, ends, found_round, put_round};
 use durable::{Record, RecordFault};
 use site_disk::{Armed, Disk, MemDisk};
 use std::alloc::Global;
@@ -37,28 +38,29 @@ fn put(rt: &impl Abort, record: &mut Record<MemDisk>, calls: u32) {
     }
 }
 
-/// Whether the file is so long behind the crash, and the next opening finds the round.
-fn crash(rt: &impl Abort, alloc: Global, row: (u32, u8, u64, u32)) -> bool {
+/// The file is so long behind the crash, and the next opening finds the round.
+fn crash(rt: &impl Abort, alloc: Global, row: (u32, u8, u64, u32)) {
     let (calls, choice, length, round) = row;
     let mut record = empty(rt, alloc);
     put(rt, &mut record, calls);
     let mut disk = record.close();
-    let is_long = is_long_behind(&mut disk, Some(choice), length);
-    opened(rt, alloc, disk).round() == round && is_long
+    ensure(rt, is_long_behind(&mut disk, Some(choice), length), row);
+    let found = found_round(rt, alloc, disk);
+    same(rt, (calls, choice, found), (calls, choice, round));
 }
 
 #[test]
 fn a_crash_after_each_call_keeps_the_round_or_not(rt: HostRuntime) {
     for &row in CRASHES {
-        assert!(rt; crash(&rt, rt.alloc(), row));
+        crash(&rt, rt.alloc(), row);
     }
 }
 
 fn fail_each(rt: &impl Abort, disk: &mut MemDisk) {
     disk.arm(1);
-    assert!(rt; is_long(disk, 3));
-    assert!(rt; !syncs(disk) && !writes(disk, 0, b"d") && !reads(disk, 0, &mut [0]));
-    assert!(rt; disk.failures() == 3);
+    ensure(rt, is_long(disk, 3), 3);
+    let passes = syncs(disk) || writes(disk, 0, b"d") || reads(disk, 0, &mut [0]);
+    same(rt, (passes, disk.failures()), (false, 3));
 }
 
 #[test]
@@ -66,5 +68,6 @@ fn an_armed_disk_fails_each_further_call(rt: HostRuntime) {
     let mut disk = disk_of(&rt, rt.alloc(), b"abc");
     fail_each(&rt, &mut disk);
     disk.disarm();
-    assert!(rt; begins(&mut disk, b"abc"));
+    ensure(&rt, begins(&mut disk, b"abc"), 0);
+    drop(disk);
 }

@@ -1,8 +1,10 @@
 //! A record cut at each byte, and with each byte changed. What these bytes come to is computed from the definition of a record.
+use crate::changes::with_byte;
 use crate::comparing::{ensure, same};
-use crate::listed::{Listed, RECORD, SPANNED, entries, spanned, with_byte};
-use crate::stored::{disk_of, one_of_three};
-use durable::Record;
+use crate::listed::{Listed, RECORD, SPANNED, entries, spanned};
+use crate::samples::{instance, is_bytes, is_text};
+use crate::stored::{one_of_three, read_bytes};
+use durable::{Record, RecordFault};
 use record_meaning::entry::Entry;
 use record_meaning::recorded::{greatest_round, is_slot, last_round, last_vote};
 use record_meaning::standing::{refusal, stands_for};
@@ -56,18 +58,6 @@ fn is_slot_of(record: &Record<MemDisk>, history: &[Entry], instance: Instance) -
     is_slot(history, instance, record.slot(instance))
 }
 
-/// Whether the record tells the slots of the first three instances, of which a history here names two at most.
-fn tells_first(record: &Record<MemDisk>, history: &[Entry]) -> bool {
-    for number in 1..=3 {
-        if let Some(instance) = Instance::new(number) {
-            if !is_slot_of(record, history, instance) {
-                return false;
-            }
-        }
-    }
-    true
-}
-
 /// Whether the record tells the slots of so many instances, from one on, as far as there are any.
 fn tells_span(record: &Record<MemDisk>, history: &[Entry], first: Instance, count: u8) -> bool {
     for past in 0..count {
@@ -99,34 +89,42 @@ fn tells_named(record: &Record<MemDisk>, history: &[Entry]) -> bool {
     true
 }
 
-fn tells(record: &Record<MemDisk>, history: &[Entry]) -> bool {
+/// Whether the record tells the rounds, the slots of the first three instances, of which a history here names two at most, and those that it names.
+fn tells(rt: &impl Abort, record: &Record<MemDisk>, history: &[Entry]) -> bool {
     record.round() == last_round(history)
         && record.greatest_round() == greatest_round(history)
-        && tells_first(record, history)
+        && tells_span(record, history, instance(rt, 1), 3)
         && tells_named(record, history)
 }
 
 /// Node 2 of three opens the bytes, which stand for this history, or refuses them where there is none.
 fn comes_to(rt: &impl Abort, alloc: Global, bytes: &[u8], history: Option<&[Entry]>) -> bool {
-    let (cluster, node) = one_of_three(rt, 2);
-    match Record::open(alloc, cluster, node, disk_of(rt, alloc, bytes)) {
-        Ok(record) => is_told(rt, alloc, &record, bytes, history),
-        Err((fault, _disk)) => history.is_none() && fault == refusal(cluster, node, bytes),
+    match read_bytes(rt, alloc, 2, bytes) {
+        Ok(record) => is_told(rt, alloc, record, bytes, history),
+        Err(fault) => history.is_none() && is_refusal(rt, bytes, fault),
     }
+}
+
+/// Whether that is why node 2 refuses the bytes.
+fn is_refusal(rt: &impl Abort, bytes: &[u8], fault: RecordFault) -> bool {
+    let (cluster, node) = one_of_three(rt, 2);
+    refusal(cluster, node, bytes) == fault
 }
 
 /// The record is of these bytes, and tells that history.
 fn is_told(
     rt: &impl Abort,
     alloc: Global,
-    record: &Record<MemDisk>,
+    record: Record<MemDisk>,
     bytes: &[u8],
     history: Option<&[Entry]>,
 ) -> bool {
-    match history {
-        Some(history) => is_of(rt, alloc, bytes, history) && tells(record, history),
+    let is_told = match history {
+        Some(history) => is_of(rt, alloc, bytes, history) && tells(rt, &record, history),
         None => false,
-    }
+    };
+    drop(record);
+    is_told
 }
 
 /// Whether node 2's record of these bytes stands for that history.
@@ -163,89 +161,85 @@ const GATES: &[(usize, u8)] = &[(35, 0), (20, 0), (10, 0), (35, 1)];
 /// What stands behind a closed gate isn't read, however many entries it is.
 #[test]
 fn a_record_cut_at_each_byte(rt: HostRuntime) {
-    let entries = entries(&rt, rt.alloc());
+    let alloc = rt.alloc();
+    let entries = entries(&rt, alloc);
     for &(place, gate) in GATES {
-        let bytes = with_byte(rt.alloc(), &RECORD, place, gate).expect(&rt, "memory");
-        cut_at_each_byte(&rt, rt.alloc(), &bytes, &entries);
+        let bytes = with_byte(&rt, alloc, &RECORD, place, gate);
+        cut_at_each_byte(&rt, alloc, &bytes, &entries);
     }
+    drop(entries);
 }
 
 /// A record with this byte at a place comes to what is listed, if that changes it.
 fn changes(rt: &impl Abort, alloc: Global, listed: &Listed<'_>, place: usize, byte: u8) -> bool {
-    let bytes = with_byte(alloc, listed.record(), place, byte).expect(rt, "memory");
-    bytes.as_slice() == listed.record() || comes_to(rt, alloc, &bytes, listed.at(place, byte))
+    let bytes = with_byte(rt, alloc, listed.record(), place, byte);
+    is_bytes(&bytes, listed.record()) || comes_to(rt, alloc, &bytes, listed.at(place, byte))
 }
 
-fn change_each_byte(rt: &impl Abort, alloc: Global, listed: &mut Listed<'_>, entries: &[Entry]) {
-    listed.list_all(rt, entries);
-    for place in 0..listed.record().len() {
-        for byte in 0..=255 {
-            assert!(rt;
-                changes(rt, alloc, listed, place, byte),
-                "{byte} at {place} of {}",
-                listed.record().len()
-            );
-        }
+/// The record with each other byte at a place, among so many, comes to what is listed.
+fn change_byte(rt: &impl Abort, alloc: Global, listed: &Listed<'_>, place: usize, of: usize) {
+    for byte in 0..=255 {
+        ensure(
+            rt,
+            changes(rt, alloc, listed, place, byte),
+            (byte, place, of),
+        );
     }
+}
+
+fn change_each_byte(rt: &impl Abort, alloc: Global, listed: Listed<'_>) {
+    let len = listed.record().len();
+    for place in 0..len {
+        change_byte(rt, alloc, &listed, place, len);
+    }
+    drop(listed);
 }
 
 #[test]
 fn a_record_with_each_byte_changed(rt: HostRuntime) {
     let alloc = rt.alloc();
-    let history = entries(&rt, alloc);
-    change_each_byte(&rt, alloc, &mut Listed::new(&rt, alloc, &RECORD), &history);
-    let history = spanned(&rt, alloc);
-    change_each_byte(&rt, alloc, &mut Listed::new(&rt, alloc, &SPANNED), &history);
+    let listed = Listed::of(&rt, alloc, &RECORD, entries(&rt, alloc));
+    change_each_byte(&rt, alloc, listed);
+    let listed = Listed::of(&rt, alloc, &SPANNED, spanned(&rt, alloc));
+    change_each_byte(&rt, alloc, listed);
 }
 
-fn is_voted_for(history: &[Entry], value: &str) -> bool {
-    let Some(first) = Instance::new(1) else {
-        return false;
-    };
-    match last_vote(history, first) {
-        Some(vote) => vote.value.as_bytes() == value.as_bytes(),
+fn is_voted_for(rt: &impl Abort, history: &[Entry], text: &str) -> bool {
+    match last_vote(history, instance(rt, 1)) {
+        Some(vote) => is_text(&vote.value, text),
         None => false,
     }
 }
 
 /// Whether a history has so many entries, this last round, and a vote for this value at instance 1.
-fn is_such(history: &[Entry], count: usize, round: u32, value: &str) -> bool {
-    history.len() == count && last_round(history) == round && is_voted_for(history, value)
+fn is_such(rt: &impl Abort, history: &[Entry], wanted: (usize, u32, &str)) -> bool {
+    let (count, round, text) = wanted;
+    history.len() == count && last_round(history) == round && is_voted_for(rt, history, text)
 }
 
-/// The first row that is wrong.
-fn wrong_row(listed: &Listed<'_>) -> Option<(usize, u8)> {
-    for &(place, byte, want) in LISTED {
-        let is_right = match (listed.at(place, byte), want) {
-            (Some(history), Some((count, round, value))) => {
-                is_such(history, count, round, value)
-            }
-            (None, None) => true,
-            _ => false,
-        };
-        if !is_right {
-            return Some((place, byte));
-        }
+/// Whether that is listed, or nothing is.
+fn is_right(rt: &impl Abort, listed: Option<&[Entry]>, wanted: Option<(usize, u32, &str)>) -> bool {
+    match listed {
+        Some(history) => matches!(wanted, Some(wanted) if is_such(rt, history, wanted)),
+        None => wanted.is_none(),
     }
-    None
 }
 
-fn check_list(rt: &impl Abort, listed: &mut Listed<'_>, entries: &[Entry]) {
-    listed.list_all(rt, entries);
-    assert!(rt; listed.len() == COUNT);
-    same(rt, wrong_row(listed), None);
-}
-
-fn check_spanned(rt: &impl Abort, listed: &mut Listed<'_>, entries: &[Entry]) {
-    listed.list_all(rt, entries);
-    assert!(rt; listed.len() == SPANNED_COUNT);
+fn check_rows(rt: &impl Abort, listed: &Listed<'_>) {
+    for &(place, byte, wanted) in LISTED {
+        let is_right = is_right(rt, listed.at(place, byte), wanted);
+        ensure(rt, is_right, (place, byte));
+    }
 }
 
 #[test]
 fn the_list_has_what_is_worked_out(rt: HostRuntime) {
     let alloc = rt.alloc();
-    let history = entries(&rt, alloc);
-    check_list(&rt, &mut Listed::new(&rt, alloc, &RECORD), &history);
-    let history = spanned(&rt, alloc);
-    check_spanned(&rt, &mut Listed::new(&rt, alloc, &SPANNED), &history);
+    let listed = Listed::of(&rt, alloc, &RECORD, entries(&rt, alloc));
+    same(&rt, listed.len(), COUNT);
+    check_rows(&rt, &listed);
+    drop(listed);
+    let listed = Listed::of(&rt, alloc, &SPANNED, spanned(&rt, alloc));
+    same(&rt, listed.len(), SPANNED_COUNT);
+    drop(listed);
 }

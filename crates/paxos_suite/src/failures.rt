@@ -1,9 +1,10 @@
 //! One call of a disk fails, and those behind it pass.
-use crate::comparing::ensure;
+use crate::comparing::{ensure, same};
 use crate::disks::{begins, crashed_within, is_long, reads, syncs, writes};
 use crate::samples::ballot;
 use crate::stored::{
-    ONE_PROMISE, arm, disk_of, ends, formatted, is_promised, one_of_three, opened, put_round,
+    ONE_PROMISE, arm, disk_of, ends, formatted, found_round, is_promised, one_of_three, opened,
+    put_round,
 };
 use durable::{Record, RecordFault};
 use site_disk::{Armed, Disk, FailOnce, MemDisk};
@@ -20,7 +21,7 @@ const CHOICES: &[u8] = &[0, 1, 7];
 fn fail_put(rt: &impl Abort, record: &mut Record<FailOnce<MemDisk>>, calls: u32) {
     arm(record, calls);
     ends(rt, put_round(record, 1), Err(RecordFault::Device));
-    assert!(rt; record.is_stopped());
+    same(rt, record.is_stopped(), true);
     ends(rt, put_round(record, 1), Err(RecordFault::Stopped));
 }
 
@@ -29,16 +30,17 @@ fn failed_put(rt: &impl Abort, alloc: Global, calls: u32) -> FailOnce<MemDisk> {
     let mut record = opened(rt, alloc, FailOnce::new(formatted(rt, alloc)));
     fail_put(rt, &mut record, calls);
     let disk = record.close();
-    assert!(rt; disk.failures() == 1);
+    same(rt, disk.failures(), 1);
     disk
 }
 
-/// The rounds of the opening behind such a put, and of the next one, behind a crash.
-fn rounds(rt: &impl Abort, alloc: Global, calls: u32, choice: u8) -> (u32, u32) {
+/// The opening behind such a put finds the round, and the next one, behind a crash.
+fn settles(rt: &impl Abort, alloc: Global, calls: u32, choice: u8, round: u32) {
     let record = opened(rt, alloc, failed_put(rt, alloc, calls));
-    let round = record.round();
+    same(rt, (calls, record.round()), (calls, round));
     let disk = crashed_within(record.close(), choice);
-    (round, opened(rt, alloc, disk).round())
+    let found = found_round(rt, alloc, disk);
+    same(rt, (calls, choice, found), (calls, choice, round));
 }
 
 /// Whatever a crash chooses behind an opening, it keeps what that found.
@@ -46,8 +48,7 @@ fn rounds(rt: &impl Abort, alloc: Global, calls: u32, choice: u8) -> (u32, u32) 
 fn an_opening_settles_the_entry_in_flight(rt: HostRuntime) {
     for &(calls, round) in PUTS {
         for &choice in CHOICES {
-            let rounds = rounds(&rt, rt.alloc(), calls, choice);
-            ensure(&rt, rounds == (round, round), (calls, choice));
+            settles(&rt, rt.alloc(), calls, choice, round);
         }
     }
 }
@@ -55,21 +56,29 @@ fn an_opening_settles_the_entry_in_flight(rt: HostRuntime) {
 /// A call that failed did nothing, and the one behind it is as ever. A call that the disk under it fails counts too.
 fn check_calls(rt: &impl Abort, disk: &mut FailOnce<MemDisk>) {
     disk.arm(1);
-    assert!(rt; is_long(disk, 3));
-    assert!(rt; !writes(disk, 0, b"xy"));
+    ensure(rt, is_long(disk, 3), 3);
+    ensure(rt, !writes(disk, 0, b"xy"), 2);
     let mut bytes = [0; 3];
     disk.arm(0);
-    assert!(rt; !reads(disk, 0, &mut bytes));
-    assert!(rt; bytes == [0; 3]);
-    assert!(rt; begins(disk, b"abc"));
+    ensure(rt, !reads(disk, 0, &mut bytes), 1);
+    same(rt, bytes, [0; 3]);
+    ensure(rt, begins(disk, b"abc"), 0);
 }
 
 fn check_further_calls(rt: &impl Abort, disk: &mut FailOnce<MemDisk>) {
-    assert!(rt; writes(disk, 1, b"z"));
+    ensure(rt, writes(disk, 1, b"z"), 1);
     disk.arm(0);
-    assert!(rt; !syncs(disk));
-    assert!(rt; !reads(disk, 9, &mut [0; 3]));
-    assert!(rt; disk.failures() == 4);
+    ensure(rt, !syncs(disk), 0);
+    ensure(rt, !reads(disk, 9, &mut [0; 3]), 9);
+    same(rt, disk.failures(), 4);
+}
+
+/// One call failed of the disk within, which has what it had.
+fn check_within(rt: &impl Abort, mut disk: MemDisk) {
+    same(rt, disk.failures(), 1);
+    disk.crash(0);
+    ensure(rt, begins(&mut disk, b"abc"), 0);
+    drop(disk);
 }
 
 #[test]
@@ -77,21 +86,23 @@ fn one_armed_call_fails(rt: HostRuntime) {
     let mut disk = FailOnce::new(disk_of(&rt, rt.alloc(), b"abc"));
     check_calls(&rt, &mut disk);
     check_further_calls(&rt, &mut disk);
-    let mut disk = disk.into_inner();
-    assert!(rt; disk.failures() == 1);
-    disk.crash(0);
-    assert!(rt; begins(&mut disk, b"abc"));
+    check_within(&rt, disk.into_inner());
+}
+
+/// The disk of a promise's record, of which so many calls pass before one fails.
+fn armed(rt: &impl Abort, alloc: Global, calls: u32) -> FailOnce<MemDisk> {
+    let mut disk = FailOnce::new(disk_of(rt, alloc, &ONE_PROMISE));
+    disk.arm(calls);
+    disk
 }
 
 /// The disk of an opening of which one call failed.
 fn failed_opening(rt: &impl Abort, alloc: Global, calls: u32) -> FailOnce<MemDisk> {
     let (cluster, node) = one_of_three(rt, 2);
-    let mut disk = FailOnce::new(disk_of(rt, alloc, &ONE_PROMISE));
-    disk.arm(calls);
-    match Record::open(alloc, cluster, node, disk) {
+    match Record::open(alloc, cluster, node, armed(rt, alloc, calls)) {
         Ok(_record) => panic!(rt; "an opening without one of its calls"),
         Err((fault, disk)) => {
-            assert!(rt; fault == RecordFault::Device);
+            same(rt, (fault, disk.failures()), (RecordFault::Device, 1));
             disk
         }
     }
@@ -100,6 +111,7 @@ fn failed_opening(rt: &impl Abort, alloc: Global, calls: u32) -> FailOnce<MemDis
 fn opens(rt: &impl Abort, alloc: Global, disk: FailOnce<MemDisk>) {
     let record = opened(rt, alloc, disk);
     is_promised(rt, &record, Some(ballot(rt, 1, 1)));
+    drop(record);
 }
 
 /// Each call of an opening fails in turn, and gives the disk back: it opens then.
@@ -107,11 +119,7 @@ fn opens(rt: &impl Abort, alloc: Global, disk: FailOnce<MemDisk>) {
 fn an_opening_that_fails_gives_the_disk_back(rt: HostRuntime) {
     let alloc = rt.alloc();
     for calls in 0..4 {
-        let disk = failed_opening(&rt, alloc, calls);
-        assert!(rt; disk.failures() == 1);
-        opens(&rt, alloc, disk);
+        opens(&rt, alloc, failed_opening(&rt, alloc, calls));
     }
-    let mut disk = FailOnce::new(disk_of(&rt, alloc, &ONE_PROMISE));
-    disk.arm(4);
-    opens(&rt, alloc, disk);
+    opens(&rt, alloc, armed(&rt, alloc, 4));
 }

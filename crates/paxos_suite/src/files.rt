@@ -1,11 +1,11 @@
 //! A record on a real file. `tools/audit/trace-put` shows the system's calls of these tests.
-use crate::comparing::ensure;
+use crate::comparing::{ensure, same};
 use crate::disks::{reads, syncs, writes};
 use crate::samples::{ballot, instance};
 use crate::stored::{ONE_ROUND, ends, one_of_three, opened, put_round, put_vote_for};
 use durable::Record;
 use site_disk::{Disk, FileDisk};
-use std::alloc::Global;
+use std::alloc::{Alloc, Global};
 use std::fs::{self, File, Files, OpenOptions};
 use std::io::ErrorKind;
 use std::os::unix::fs::FileExt;
@@ -30,34 +30,36 @@ fn fills(file: &File, bytes: &mut [u8]) -> bool {
 /// The bytes of the file are these, as this handle reads them.
 fn has_bytes(rt: &impl Abort, file: &File, wanted: [u8; 21]) {
     let mut bytes = [0; 21];
-    assert!(rt; fills(file, &mut bytes));
-    assert!(rt; bytes == wanted);
+    ensure(rt, fills(file, &mut bytes), 21);
+    same(rt, bytes, wanted);
 }
 
-/// What the last call that failed came to, if one did.
-fn last_kind(disk: &FileDisk) -> Option<ErrorKind> {
-    match disk.last_failure() {
+/// So many calls failed, and the last of them came to that.
+fn has_failed(rt: &impl Abort, disk: &FileDisk, count: u64, kind: Option<ErrorKind>) {
+    let last = match disk.last_failure() {
         Some(error) => Some(error.kind()),
         None => None,
-    }
+    };
+    same(rt, disk.failures(), count);
+    ensure(rt, last == kind, count);
 }
 
 /// A read past the end fails, and no call did before; what the system said of it stays when calls succeed again.
-fn check_disk(rt: &impl Abort, disk: &mut FileDisk) {
-    assert!(rt; disk.failures() == 0);
-    assert!(rt; last_kind(disk).is_none());
-    assert!(rt; !reads(disk, 0, &mut [0; 22]));
-    assert!(rt; disk.failures() == 1);
-    assert!(rt; syncs(disk));
-    assert!(rt; last_kind(disk) == Some(ErrorKind::UnexpectedEof));
+fn check_disk(rt: &impl Abort, mut disk: FileDisk) {
+    has_failed(rt, &disk, 0, None);
+    ensure(rt, !reads(&mut disk, 0, &mut [0; 22]), 22);
+    ensure(rt, syncs(&mut disk), 0);
+    has_failed(rt, &disk, 1, Some(ErrorKind::UnexpectedEof));
+    drop(disk);
 }
 
 /// A disk whose file is open for reading alone refuses each write, and keeps why.
 fn check_read_only(rt: &impl Abort, file: File) {
     let mut disk = FileDisk::new(file);
-    assert!(rt; !writes(&mut disk, 0, b"x"));
+    ensure(rt, !writes(&mut disk, 0, b"x"), 0);
     let error = disk.last_failure().expect(rt, "an error");
-    assert!(rt; error.raw_os_error() == Some(EBADF));
+    same(rt, error.raw_os_error(), Some(EBADF));
+    drop(disk);
 }
 
 /// A record on a new file.
@@ -73,12 +75,13 @@ fn keep_round(rt: &impl Abort, alloc: Global, file: File, reader: &File) {
     let mut record = made(rt, alloc, file);
     ends(rt, put_round(&mut record, 1), Ok(()));
     has_bytes(rt, reader, ONE_ROUND);
+    drop(record);
 }
 
 fn find_round(rt: &impl Abort, alloc: Global, file: File) {
     let record = opened(rt, alloc, FileDisk::new(file));
-    assert!(rt; record.round() == 1);
-    check_disk(rt, &mut record.close());
+    same(rt, record.round(), 1);
+    check_disk(rt, record.close());
 }
 
 /// Read and written, and made where it is not there.
@@ -92,23 +95,37 @@ fn length_of(rt: &impl Abort, file: &File) -> u64 {
     file.metadata().expect(rt, "a length").len()
 }
 
+fn open(rt: &(impl Files<File = File> + Abort), path: &str) -> File {
+    File::open(rt, path).expect(rt, path)
+}
+
 fn sync_folder(rt: &(impl Files<File = File> + Abort)) {
-    let folder = File::open(rt, FOLDER).expect(rt, "a folder");
+    let folder = open(rt, FOLDER);
     folder.sync_all().expect(rt, "a sync");
+}
+
+/// Without what an earlier run left there.
+fn make_folder(rt: &(impl Files + Alloc + Abort)) {
+    let _ = fs::remove_dir_all(rt, FOLDER);
+    fs::create_dir(rt, FOLDER).expect(rt, "a folder");
+}
+
+/// A record on a new file takes a round, and is found when the file is opened again.
+fn keep(rt: &(impl Files<File = File> + Abort), alloc: Global) {
+    let file = made_anew(rt, FILE);
+    let reader = open(rt, FILE);
+    keep_round(rt, alloc, file, &reader);
+    sync_folder(rt);
+    let file = made_anew(rt, FILE);
+    same(rt, length_of(rt, &file), 21);
+    find_round(rt, alloc, file);
+    check_read_only(rt, reader);
 }
 
 #[test]
 fn a_real_file_keeps_the_record(rt: HostRuntime) {
-    let _ = fs::remove_dir_all(&rt, FOLDER);
-    fs::create_dir(&rt, FOLDER).expect(&rt, "a folder");
-    let file = made_anew(&rt, FILE);
-    let reader = File::open(&rt, FILE).expect(&rt, "a file");
-    keep_round(&rt, rt.alloc(), file, &reader);
-    sync_folder(&rt);
-    let file = made_anew(&rt, FILE);
-    assert!(rt; length_of(&rt, &file) == 21);
-    find_round(&rt, rt.alloc(), file);
-    check_read_only(&rt, reader);
+    make_folder(&rt);
+    keep(&rt, rt.alloc());
     fs::remove_dir_all(&rt, FOLDER).expect(&rt, "no folder");
 }
 
@@ -124,7 +141,9 @@ fn put_votes(rt: &impl Abort, alloc: Global, record: &mut Record<FileDisk>) {
 }
 
 fn keep_votes(rt: &impl Abort, alloc: Global, file: File) {
-    put_votes(rt, alloc, &mut made(rt, alloc, file));
+    let mut record = made(rt, alloc, file);
+    put_votes(rt, alloc, &mut record);
+    drop(record);
 }
 
 fn has_votes(rt: &impl Abort, record: &Record<FileDisk>) {
@@ -134,13 +153,20 @@ fn has_votes(rt: &impl Abort, record: &Record<FileDisk>) {
 }
 
 fn find_votes(rt: &impl Abort, alloc: Global, file: File) {
-    has_votes(rt, &opened(rt, alloc, FileDisk::new(file)));
+    let record = opened(rt, alloc, FileDisk::new(file));
+    has_votes(rt, &record);
+    drop(record);
+}
+
+/// A new file, without what an earlier run left there.
+fn new_batch_file(rt: &(impl Files<File = File> + Abort)) -> File {
+    let _ = fs::remove_file(rt, BATCH_FILE);
+    made_anew(rt, BATCH_FILE)
 }
 
 #[test]
 fn a_real_file_keeps_a_batch(rt: HostRuntime) {
-    let _ = fs::remove_file(&rt, BATCH_FILE);
-    keep_votes(&rt, rt.alloc(), made_anew(&rt, BATCH_FILE));
+    keep_votes(&rt, rt.alloc(), new_batch_file(&rt));
     find_votes(&rt, rt.alloc(), made_anew(&rt, BATCH_FILE));
     fs::remove_file(&rt, BATCH_FILE).expect(&rt, "no file");
 }

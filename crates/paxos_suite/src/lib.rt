@@ -36,4 +36,6 @@ mod samples;
 #[cfg(test)]
 mod spans;
 #[cfg(test)]
+mod steps;
+#[cfg(test)]
 mod stored;

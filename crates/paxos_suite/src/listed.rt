@@ -1,14 +1,15 @@
 //! The histories that a record stands for with one byte changed, computed from its own.
-use crate::changes::{changed, other, places, put_byte};
-use crate::samples::{ballot, instance};
+use crate::changes::{changed, other, places, with_byte};
+use crate::samples::{ballot, instance, push, vote};
 use crate::stored::one_of_three;
 use record_meaning::entry::Entry;
 use record_meaning::history::is_history;
 use record_meaning::spelling::spelled;
 use record_meaning::standing::stands_for;
-use site_ids::{Cluster, NodeId, Value, Vote};
-use std::alloc::{AllocError, Global};
+use site_ids::{Cluster, NodeId};
+use std::alloc::Global;
 use std::collections::BTreeMap;
+use std::mem;
 use std::process::Abort;
 
 /// The record of node 2 of 3. At 10 the gate of round 1, at 20 that of the promise of (1, 1) at instance 1, at 35 that of the vote for `ab` at (2, 1)
@@ -18,17 +19,13 @@ pub const RECORD: [u8; 53] =
 
 /// Its history.
 pub fn entries(rt: &impl Abort, alloc: Global) -> Vec<Entry> {
-    let value = Value::copied_from(alloc, b"ab").expect(rt, "memory");
-    let voted = Vote {
-        ballot: ballot(rt, 2, 1),
-        value,
-    };
+    let first = instance(rt, 1);
+    let voted = vote(rt, alloc, ballot(rt, 2, 1), "ab");
     let mut entries = Vec::new(alloc);
-    entries.push(Entry::Round(1)).expect(rt, "memory");
-    let promised = Entry::Promised(instance(rt, 1), ballot(rt, 1, 1));
-    entries.push(promised).expect(rt, "memory");
-    let voted = Entry::Voted(instance(rt, 1), voted);
-    entries.push(voted).expect(rt, "memory");
+    push(rt, &mut entries, Entry::Round(1));
+    let promised = Entry::Promised(first, ballot(rt, 1, 1));
+    push(rt, &mut entries, promised);
+    push(rt, &mut entries, Entry::Voted(first, voted));
     entries
 }
 
@@ -40,28 +37,32 @@ pub const SPANNED: [u8; 27] =
 pub fn spanned(rt: &impl Abort, alloc: Global) -> Vec<Entry> {
     let promised = Entry::PromisedSpan(instance(rt, 5), 3, ballot(rt, 1, 1));
     let mut entries = Vec::new(alloc);
-    entries.push(promised).expect(rt, "memory");
+    push(rt, &mut entries, promised);
     entries
 }
 
-/// A record with this byte at a place.
-pub fn with_byte(
-    alloc: Global,
-    record: &[u8],
-    place: usize,
-    byte: u8,
-) -> Result<Vec<u8>, AllocError> {
-    let mut bytes = Vec::from_slice(alloc, record)?;
-    put_byte(&mut bytes, place, byte);
-    Ok(bytes)
-}
-
-fn copies(alloc: Global, entries: &[Entry]) -> Result<Vec<Entry>, AllocError> {
+fn copies(rt: &impl Abort, alloc: Global, entries: &[Entry]) -> Vec<Entry> {
     let mut copies = Vec::new(alloc);
     for entry in entries {
-        copies.push(entry.try_clone()?)?;
+        push(rt, &mut copies, entry.try_clone().expect(rt, "memory"));
     }
-    Ok(copies)
+    copies
+}
+
+/// The entries with another one in the place of one of them.
+fn replaced(
+    rt: &impl Abort,
+    alloc: Global,
+    entries: &[Entry],
+    at: usize,
+    other: Entry,
+) -> Vec<Entry> {
+    let mut entries = copies(rt, alloc, entries);
+    match entries.get_mut(at) {
+        Some(there) => drop(mem::replace(there, other)),
+        None => drop(other),
+    }
+    entries
 }
 
 /// The first byte that isn't the record's at its place.
@@ -85,8 +86,16 @@ pub struct Listed<'a> {
 }
 
 impl<'a> Listed<'a> {
+    /// Of this record and its history.
+    pub fn of(rt: &impl Abort, alloc: Global, record: &'a [u8], entries: Vec<Entry>) -> Listed<'a> {
+        let mut listed = Listed::new(rt, alloc, record);
+        listed.list_all(rt, &entries);
+        drop(entries);
+        listed
+    }
+
     /// Of this record, of which nothing is listed yet.
-    pub fn new(rt: &impl Abort, alloc: Global, record: &'a [u8]) -> Listed<'a> {
+    fn new(rt: &impl Abort, alloc: Global, record: &'a [u8]) -> Listed<'a> {
         let (cluster, node) = one_of_three(rt, 2);
         Listed {
             alloc,
@@ -114,16 +123,16 @@ impl<'a> Listed<'a> {
 
     /// Whether the record with this byte stands for these entries.
     fn stands_with(&self, rt: &impl Abort, place: usize, byte: u8, entries: &[Entry]) -> bool {
-        let file = with_byte(self.alloc, self.record, place, byte).expect(rt, "memory");
+        let file = with_byte(rt, self.alloc, self.record, place, byte);
         stands_for(self.alloc, self.cluster, self.node, &file, entries).expect(rt, "memory")
     }
 
     /// Lists these entries where it does.
     fn list_at(&mut self, rt: &impl Abort, place: usize, byte: u8, entries: &[Entry]) {
         if self.stands_with(rt, place, byte, entries) {
-            let history = copies(self.alloc, entries).expect(rt, "memory");
+            let history = copies(rt, self.alloc, entries);
             let listed: Result<_, _> = self.histories.insert((place, byte), history);
-            assert!(rt; listed.is_ok(), "memory");
+            drop(listed.expect(rt, "memory"));
         }
     }
 
@@ -151,11 +160,9 @@ impl<'a> Listed<'a> {
     /// Lists the entries with another one, if there is one, in the place of one of them.
     fn list_with(&mut self, rt: &impl Abort, entries: &[Entry], at: usize, other: Option<Entry>) {
         if let Some(other) = other {
-            let mut entries = copies(self.alloc, entries).expect(rt, "memory");
-            if let Some(there) = entries.get_mut(at) {
-                *there = other;
-            }
+            let entries = replaced(rt, self.alloc, entries, at, other);
             self.list(rt, &entries);
+            drop(entries);
         }
     }
 
@@ -172,7 +179,7 @@ impl<'a> Listed<'a> {
     }
 
     /// Lists the beginnings of the record's entries, and the entries with one of them changed.
-    pub fn list_all(&mut self, rt: &impl Abort, entries: &[Entry]) {
+    fn list_all(&mut self, rt: &impl Abort, entries: &[Entry]) {
         self.list(rt, entries);
         for (at, entry) in entries.iter().enumerate() {
             self.list(rt, &entries[..at]);

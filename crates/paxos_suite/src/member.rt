@@ -1,8 +1,8 @@
 //! A proposer of a cluster, lent to the rows, and what they do with it.
 ghost use Rattle.std.specs.Prelude.{◌≡◌};
 
-use crate::comparing::ensure;
-use crate::samples::{ballot, cluster, copied, instance, is_ballot, vote};
+use crate::comparing::{ensure, same};
+use crate::samples::{ballot, cluster, instance, is_ballot, is_text, value, vote};
 use proposer::{Proposal, Proposer, ProposerFault};
 use site_ids::{Ballot, Cluster, Instance, Value, Vote};
 use std::alloc::{AllocError, Global};
@@ -56,12 +56,17 @@ fn start_span(proposer: &mut Proposer, first: Instance, ballot: Ballot, values: 
 {
     let open = proposer.attempts();
     if values.len() > 64 || !first.begins_span(values.len() as u8) {
+        drop(values);
         return false;
     }
     let Err((_wanted, values)) = proposer.start_span(first, ballot, values) else {
         return true;
     };
-    proposer.attempts() == open && proposer.start_span(first, ballot, values).is_ok()
+    let is_as_before = proposer.attempts() == open;
+    let again = proposer.start_span(first, ballot, values);
+    let is_started = again.is_ok();
+    drop(again);
+    is_as_before && is_started
 }
 
 /// Three values of one byte.
@@ -74,29 +79,39 @@ pub(crate) fn three_values(alloc: Global, bytes: &[u8; 3]) -> Result<Vec<Value>,
 }
 
 /// Whether the proposal is this one, of instance 7 at a ballot.
-pub(crate) fn is_made(made: &Option<Proposal>, at: Ballot, value: Option<&str>) -> bool {
-    match (made, value) {
-        (Some(made), Some(text)) => {
-            made.instance.number() == 7
-                && made.ballot == at
-                && made.value.as_bytes() == text.as_bytes()
+fn is_proposal(made: &Proposal, at: Ballot, text: &str) -> bool {
+    made.instance.number() == 7 && made.ballot == at && is_text(&made.value, text)
+}
+
+/// Whether this is proposed, of instance 7 at a ballot, or nothing is.
+pub(crate) fn is_made(made: Option<Proposal>, at: Ballot, value: Option<&str>) -> bool {
+    let is_made = match &made {
+        Some(made) => matches!(value, Some(text) if is_proposal(made, at, text)),
+        None => value.is_none(),
+    };
+    drop(made);
+    is_made
+}
+
+fn is_message(message: &Message, sent: Sent) -> bool {
+    match message {
+        Message::Propose { ballot, value, .. } => {
+            matches!(sent, Sent::Propose(round, node, text) if is_ballot(*ballot, round, node) && is_text(value, text))
         }
-        (None, None) => true,
+        Message::Prepare { ballot, .. } => {
+            matches!(sent, Sent::Prepare(round, node) if is_ballot(*ballot, round, node))
+        }
         _ => false,
     }
 }
 
-pub(crate) fn is_sent(message: &Option<Message>, sent: Sent) -> bool {
-    match (message, sent) {
-        (Some(Message::Propose { ballot, value, .. }), Sent::Propose(round, node, text)) => {
-            is_ballot(*ballot, round, node) && value.as_bytes() == text.as_bytes()
-        }
-        (Some(Message::Prepare { ballot, .. }), Sent::Prepare(round, node)) => {
-            is_ballot(*ballot, round, node)
-        }
-        (None, Sent::Nothing) => true,
-        _ => false,
-    }
+pub(crate) fn is_sent(message: Option<Message>, sent: Sent) -> bool {
+    let is_sent = match &message {
+        Some(message) => is_message(message, sent),
+        None => matches!(sent, Sent::Nothing),
+    };
+    drop(message);
+    is_sent
 }
 
 impl Member {
@@ -156,17 +171,20 @@ impl Member {
     }
 
     fn is_own(&self, at: Instance, value: Option<&str>) -> bool {
-        match (self.proposer.own_value(at), value) {
-            (Some(own), Some(text)) => own.as_bytes() == text.as_bytes(),
-            (None, None) => true,
-            _ => false,
+        match self.proposer.own_value(at) {
+            Some(own) => matches!(value, Some(text) if is_text(own, text)),
+            None => value.is_none(),
         }
     }
 }
 
 fn span(rt: &impl Abort, member: &mut Member, first: u32, ballot: Ballot, bytes: &[u8; 3]) {
     let values = three_values(member.alloc, bytes).expect(rt, "values");
-    assert!(rt; member.start_span(instance(rt, first), ballot, values));
+    ensure(
+        rt,
+        member.start_span(instance(rt, first), ballot, values),
+        first,
+    );
 }
 
 /// Whether a promise of that node makes this proposal.
@@ -179,7 +197,7 @@ fn makes(
     made: Option<&str>,
 ) -> bool {
     let proposal = member.promise(rt, from, instance(rt, 7), at, prior);
-    is_made(&proposal.expect(rt, "memory"), at, made)
+    is_made(proposal.expect(rt, "memory"), at, made)
 }
 
 fn promise(
@@ -209,7 +227,7 @@ fn tell(
 /// Whether that is sent again of an instance.
 pub(crate) fn is_resent(rt: &impl Abort, member: &Member, at: u32, sent: Sent) -> bool {
     let message = member.resend(instance(rt, at)).expect(rt, "memory");
-    is_sent(&message, sent)
+    is_sent(message, sent)
 }
 
 fn sends(rt: &impl Abort, member: &Member, at: u32, sent: Sent) {
@@ -217,20 +235,30 @@ fn sends(rt: &impl Abort, member: &Member, at: u32, sent: Sent) {
 }
 
 fn start(rt: &impl Abort, member: &mut Member, at: u32, ballot: Ballot, text: &str) {
-    let own = copied(member.alloc, text.as_bytes()).expect(rt, "a value");
-    assert!(rt; member.start(instance(rt, at), ballot, &own).is_ok());
+    let own = value(rt, member.alloc, text.as_bytes());
+    ensure(rt, member.start(instance(rt, at), ballot, &own).is_ok(), at);
 }
 
 fn owns(rt: &impl Abort, member: &Member, at: u32, text: Option<&str>) {
-    assert!(rt; member.is_own(instance(rt, at), text));
+    ensure(rt, member.is_own(instance(rt, at), text), at);
 }
 
 fn make_room(rt: &impl Abort, member: &mut Member, at: u32) {
-    assert!(rt; member.proposer.make_room(instance(rt, at)).is_ok());
+    ensure(rt, member.proposer.make_room(instance(rt, at)).is_ok(), at);
 }
 
 fn has_open(rt: &impl Abort, member: &Member, count: usize) {
-    assert!(rt; member.proposer.attempts() == count);
+    same(rt, member.proposer.attempts(), count);
+}
+
+/// What a step asks of the proposer, where it asks.
+fn look(rt: &impl Abort, member: &Member, step: Step) {
+    match step {
+        Step::Sends(at, sent) => sends(rt, member, at, sent),
+        Step::Own(at, text) => owns(rt, member, at, text),
+        Step::Open(count) => has_open(rt, member, count),
+        _ => {}
+    }
 }
 
 fn act(rt: &impl Abort, member: &mut Member, step: Step) {
@@ -247,11 +275,9 @@ fn act(rt: &impl Abort, member: &mut Member, step: Step) {
         Step::Tells(from, round, node, told, made) => {
             tell(rt, member, from, ballot(rt, round, node), told, made);
         }
-        Step::Sends(at, sent) => sends(rt, member, at, sent),
-        Step::Own(at, text) => owns(rt, member, at, text),
         Step::Abandon(at) => member.proposer.abandon(instance(rt, at)),
         Step::Room(at) => make_room(rt, member, at),
-        Step::Open(count) => has_open(rt, member, count),
+        _ => look(rt, member, step),
     }
 }
 

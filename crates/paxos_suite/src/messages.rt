@@ -1,6 +1,6 @@
 //! Messages as datagrams, by rows in hexadecimal; verdicts of an acceptor; names of nodes, instances and ballots.
-use crate::comparing::ensure;
-use crate::samples::{ballot, cluster, instance, node, vote};
+use crate::comparing::{ensure, same};
+use crate::samples::{ballot, cluster, instance, is_text, node, push, vote};
 use acceptor::{PrepareVerdict, ProposeVerdict, Slot, judge_prepare, judge_propose};
 use site_ids::{Ballot, Cluster, Instance, MAX_VALUE, NodeId, Value, Vote};
 use std::alloc::Global;
@@ -74,8 +74,19 @@ fn decoded(rt: &impl Abort, alloc: Global, bytes: &[u8]) -> Result<Message, Wire
     decode(alloc, bytes, cluster(rt, 3))
 }
 
+/// Why the bytes are no message, if they are none.
+fn fault_of(rt: &impl Abort, alloc: Global, bytes: &[u8]) -> Option<WireFault> {
+    match decoded(rt, alloc, bytes) {
+        Ok(message) => {
+            drop(message);
+            None
+        }
+        Err(fault) => Some(fault),
+    }
+}
+
 fn is_malformed(rt: &impl Abort, alloc: Global, bytes: &[u8]) -> bool {
-    matches!(decoded(rt, alloc, bytes), Err(WireFault::Malformed))
+    fault_of(rt, alloc, bytes) == Some(WireFault::Malformed)
 }
 
 fn bytes_of(rt: &impl Abort, alloc: Global, text: &str) -> Vec<u8> {
@@ -88,22 +99,24 @@ pub(crate) fn is_written(message: &Message, out: &mut Vec<u8>) -> bool {
 }
 
 /// Whether a message is written as these bytes, behind those that stand before it.
-fn is_spelled(rt: &impl Abort, alloc: Global, message: &Message, bytes: &[u8]) -> bool {
+fn is_spelled(rt: &impl Abort, alloc: Global, message: Message, bytes: &[u8]) -> bool {
     let mut out = b"before".to_vec(alloc).expect(rt, "memory");
-    is_written(message, &mut out) && out.strip_prefix(b"before") == Some(bytes)
+    let is_written = is_written(&message, &mut out);
+    drop(message);
+    is_written && out.strip_prefix(b"before") == Some(bytes)
 }
 
-/// Whether the message that these bytes spell, in hexadecimal, is written as they are.
-fn is_written_again(rt: &impl Abort, alloc: Global, text: &str) -> bool {
+/// The message that these bytes spell, in hexadecimal, is written as they are.
+fn is_written_again(rt: &impl Abort, alloc: Global, text: &str) {
     let bytes = bytes_of(rt, alloc, text);
     let message = decoded(rt, alloc, &bytes).expect(rt, text);
-    is_spelled(rt, alloc, &message, &bytes)
+    ensure(rt, is_spelled(rt, alloc, message, &bytes), text);
 }
 
 #[test]
 fn spellings_are_read_and_written_again(rt: HostRuntime) {
     for &text in SPELLINGS {
-        ensure(&rt, is_written_again(&rt, rt.alloc(), text), text);
+        is_written_again(&rt, rt.alloc(), text);
     }
 }
 
@@ -115,26 +128,43 @@ fn beginnings(rt: &impl Abort, alloc: Global, bytes: &[u8], text: &str) {
 
 fn one_byte_more(rt: &impl Abort, alloc: Global, bytes: &mut Vec<u8>, text: &str) {
     for more in 0..=255 {
-        bytes.push(more).expect(rt, "memory");
+        push(rt, bytes, more);
         ensure(rt, is_malformed(rt, alloc, bytes), (text, more));
         bytes.pop();
     }
 }
 
+fn cut_or_longer(rt: &impl Abort, alloc: Global, text: &str) {
+    let mut bytes = bytes_of(rt, alloc, text);
+    beginnings(rt, alloc, &bytes, text);
+    one_byte_more(rt, alloc, &mut bytes, text);
+}
+
 #[test]
 fn beginnings_and_one_byte_more(rt: HostRuntime) {
     for &text in SPELLINGS {
-        let mut bytes = bytes_of(&rt, rt.alloc(), text);
-        beginnings(&rt, rt.alloc(), &bytes, text);
-        one_byte_more(&rt, rt.alloc(), &mut bytes, text);
+        cut_or_longer(&rt, rt.alloc(), text);
     }
+}
+
+/// The bytes that are spelled so, and so many further ones.
+fn bytes_and(rt: &impl Abort, alloc: Global, text: &str, more: usize) -> Vec<u8> {
+    let mut bytes = bytes_of(rt, alloc, text);
+    let len = bytes.len().saturating_add(more);
+    bytes.resize(len, 65).expect(rt, "memory");
+    bytes
+}
+
+/// These bytes, and so many further ones behind them, are malformed.
+fn is_refused(rt: &impl Abort, alloc: Global, text: &str, more: usize) {
+    let bytes = bytes_and(rt, alloc, text, more);
+    ensure(rt, is_malformed(rt, alloc, &bytes), text);
 }
 
 #[test]
 fn other_bytes_are_malformed(rt: HostRuntime) {
     for &text in MALFORMED {
-        let bytes = bytes_of(&rt, rt.alloc(), text);
-        ensure(&rt, is_malformed(&rt, rt.alloc(), &bytes), text);
+        is_refused(&rt, rt.alloc(), text, 0);
     }
 }
 
@@ -143,23 +173,30 @@ fn is_prepare(message: &Message, own: Ballot) -> bool {
     matches!(message, Message::Prepare { ballot, count, .. } if *ballot == own && *count == 1)
 }
 
-fn check_prepare(rt: &impl Abort, message: &Message) {
-    assert!(rt; message.from() == node(rt, 2));
-    assert!(rt; message.instance().number() == 1);
-    assert!(rt; is_prepare(message, ballot(rt, 1, 2)));
+fn check_prepare(rt: &impl Abort, message: Message) {
+    same(rt, message.from(), node(rt, 2));
+    same(rt, message.instance(), instance(rt, 1));
+    ensure(rt, is_prepare(&message, ballot(rt, 1, 2)), 1);
+    drop(message);
+}
+
+fn message_of(rt: &impl Abort, alloc: Global, text: &str) -> Message {
+    let bytes = bytes_of(rt, alloc, text);
+    decoded(rt, alloc, &bytes).expect(rt, text)
 }
 
 #[test]
 fn a_prepare_by_its_fields(rt: HostRuntime) {
-    let bytes = bytes_of(&rt, rt.alloc(), "010102000000010000000102");
-    let message = decoded(&rt, rt.alloc(), &bytes).expect(&rt, "a message");
-    check_prepare(&rt, &message);
+    let message = message_of(&rt, rt.alloc(), "010102000000010000000102");
+    check_prepare(&rt, message);
 }
 
 /// Whether a message is as long as one can be, and is read again.
-fn is_longest(rt: &impl Abort, alloc: Global, message: &Message) -> bool {
+fn is_longest(rt: &impl Abort, alloc: Global, message: Message) -> bool {
     let mut out = Vec::new(alloc);
-    is_written(message, &mut out) && out.len() == MAX_MESSAGE && decoded(rt, alloc, &out).is_ok()
+    let is_written = is_written(&message, &mut out);
+    drop(message);
+    is_written && out.len() == MAX_MESSAGE && fault_of(rt, alloc, &out).is_none()
 }
 
 fn longest(rt: &impl Abort, value: Value) -> Message {
@@ -174,21 +211,21 @@ fn longest(rt: &impl Abort, value: Value) -> Message {
     }
 }
 
+fn longest_value(rt: &impl Abort, alloc: Global) -> Value {
+    Value::from_bytes(bytes_and(rt, alloc, "", MAX_VALUE)).expect(rt, "a value")
+}
+
 #[test]
 fn the_longest_value(rt: HostRuntime) {
-    let mut bytes = Vec::new(rt.alloc());
-    bytes.resize(MAX_VALUE, 65).expect(&rt, "memory");
-    let value = Value::from_bytes(bytes).expect(&rt, "a value");
-    assert!(rt; is_longest(&rt, rt.alloc(), &longest(&rt, value)));
+    let alloc = rt.alloc();
+    let message = longest(&rt, longest_value(&rt, alloc));
+    ensure(&rt, is_longest(&rt, alloc, message), MAX_MESSAGE);
 }
 
 #[test]
 fn a_value_one_byte_too_long(rt: HostRuntime) {
-    let mut bytes = bytes_of(&rt, rt.alloc(), "01030100000001000000010100008001");
-    for _ in 0..=MAX_VALUE {
-        bytes.push(65).expect(&rt, "memory");
-    }
-    assert!(rt; is_malformed(&rt, rt.alloc(), &bytes));
+    let header = "01030100000001000000010100008001";
+    is_refused(&rt, rt.alloc(), header, MAX_VALUE + 1);
 }
 
 /// A slot with this promise and a vote for the value `v`.
@@ -200,11 +237,11 @@ fn slot(rt: &impl Abort, alloc: Global, promised: Ballot, voted: Ballot) -> Slot
 }
 
 fn prepare(rt: &impl Abort, slot: &Slot, at: Ballot, verdict: PrepareVerdict) {
-    assert!(rt; judge_prepare(slot, at) == verdict);
+    same(rt, judge_prepare(slot, at), verdict);
 }
 
-fn propose(rt: &impl Abort, slot: &Slot, at: Ballot, value: &[u8], verdict: ProposeVerdict) {
-    assert!(rt; judge_propose(slot, at, value) == verdict);
+fn propose(rt: &impl Abort, slot: &Slot, at: Ballot, text: &str, verdict: ProposeVerdict) {
+    same(rt, judge_propose(slot, at, text.as_bytes()), verdict);
 }
 
 fn check_prepares(rt: &impl Abort, slot: &Slot) {
@@ -218,37 +255,45 @@ fn check_prepares(rt: &impl Abort, slot: &Slot) {
 fn check_voted(rt: &impl Abort, slot: &Slot) {
     let own = ballot(rt, 2, 1);
     prepare(rt, slot, own, PrepareVerdict::Silent);
-    propose(rt, slot, own, b"v", ProposeVerdict::Again);
-    propose(rt, slot, own, b"w", ProposeVerdict::Silent);
-    propose(rt, slot, ballot(rt, 2, 3), b"w", ProposeVerdict::Vote);
-    propose(rt, slot, ballot(rt, 1, 9), b"v", ProposeVerdict::Nack(own));
+    propose(rt, slot, own, "v", ProposeVerdict::Again);
+    propose(rt, slot, own, "w", ProposeVerdict::Silent);
+    propose(rt, slot, ballot(rt, 2, 3), "w", ProposeVerdict::Vote);
+    propose(rt, slot, ballot(rt, 1, 9), "v", ProposeVerdict::Nack(own));
 }
 
-fn check_empty(rt: &impl Abort, slot: &Slot) {
-    let first = ballot(rt, 1, 1);
-    prepare(rt, slot, first, PrepareVerdict::Promise);
-    propose(rt, slot, first, b"", ProposeVerdict::Vote);
-}
-
-#[test]
-fn verdicts_of_an_acceptor(rt: HostRuntime) {
-    let own = ballot(&rt, 2, 1);
-    check_prepares(&rt, &slot(&rt, rt.alloc(), own, ballot(&rt, 1, 3)));
-    check_voted(&rt, &slot(&rt, rt.alloc(), own, own));
+fn check_empty(rt: &impl Abort) {
     let empty = Slot {
         promised: None,
         vote: None,
     };
-    check_empty(&rt, &empty);
+    let first = ballot(rt, 1, 1);
+    prepare(rt, &empty, first, PrepareVerdict::Promise);
+    propose(rt, &empty, first, "", ProposeVerdict::Vote);
+    drop(empty);
+}
+
+#[test]
+fn verdicts_of_an_acceptor(rt: HostRuntime) {
+    let alloc = rt.alloc();
+    let own = ballot(&rt, 2, 1);
+    let lower = slot(&rt, alloc, own, ballot(&rt, 1, 3));
+    check_prepares(&rt, &lower);
+    drop(lower);
+    let voted = slot(&rt, alloc, own, own);
+    check_voted(&rt, &voted);
+    drop(voted);
+    check_empty(&rt);
 }
 
 /// The cluster has so many nodes, numbered from one on, and that majority.
-fn has_nodes(cluster: Cluster, size: u8, quorum: u8) -> bool {
-    cluster.size() == size
+fn has_nodes(rt: &impl Abort, size: u8, quorum: u8) {
+    let cluster = cluster(rt, size);
+    let is_right = cluster.size() == size
         && cluster.quorum() == quorum
         && cluster.node(0).is_none()
         && cluster.node(size).is_some()
-        && cluster.node(10).is_none()
+        && cluster.node(10).is_none();
+    ensure(rt, is_right, size);
 }
 
 /// There is no cluster, instance or ballot of that node beyond the bounds.
@@ -260,31 +305,47 @@ fn is_bounded(node: NodeId) -> bool {
         && Ballot::new(0, node).is_none()
 }
 
-/// Of one node, of two, and so on.
-const QUORUMS: &[u8] = &[1, 2, 2, 3, 3, 4, 4, 5, 5];
+/// The ballot of that round and that node is below one of round 2.
+fn is_below(rt: &impl Abort, round: u32, number: u8, above: u8) {
+    let below = ballot(rt, round, number);
+    ensure(rt, below < ballot(rt, 2, above), below);
+}
+
+/// So many nodes, and the majority of them.
+const QUORUMS: &[(u8, u8)] = &[
+    (1, 1),
+    (2, 2),
+    (3, 2),
+    (4, 3),
+    (5, 3),
+    (6, 4),
+    (7, 4),
+    (8, 5),
+    (9, 5),
+];
 
 #[test]
 fn clusters_and_their_majorities(rt: HostRuntime) {
-    for (size, &quorum) in (1..=9).zip(QUORUMS) {
-        assert!(rt; has_nodes(cluster(&rt, size), size, quorum));
+    for &(size, quorum) in QUORUMS {
+        has_nodes(&rt, size, quorum);
     }
-    assert!(rt; is_bounded(node(&rt, 1)));
-    assert!(rt; ballot(&rt, 1, 9) < ballot(&rt, 2, 1));
-    assert!(rt; ballot(&rt, 2, 1) < ballot(&rt, 2, 2));
+    ensure(&rt, is_bounded(node(&rt, 1)), 0);
+    is_below(&rt, 1, 9, 1);
+    is_below(&rt, 2, 1, 2);
 }
 
-fn is_abc(vote: &Vote) -> bool {
-    vote.value.as_bytes() == b"abc".as_slice()
-}
-
-fn check_copy(rt: &impl Abort, vote: &Vote) {
-    let copy = vote.try_clone().expect(rt, "memory");
-    assert!(rt; copy.ballot == vote.ballot && is_abc(&copy));
+/// The vote is the one for `abc` at that ballot.
+fn is_abc(rt: &impl Abort, vote: Vote, at: Ballot) {
+    same(rt, vote.ballot, at);
+    ensure(rt, is_text(&vote.value, "abc"), at);
+    drop(vote);
 }
 
 #[test]
 fn values_and_votes_are_copied(rt: HostRuntime) {
-    let vote = vote(&rt, rt.alloc(), ballot(&rt, 3, 2), "abc");
-    check_copy(&rt, &vote);
-    assert!(rt; is_abc(&vote));
+    let at = ballot(&rt, 3, 2);
+    let vote = vote(&rt, rt.alloc(), at, "abc");
+    let copy = vote.try_clone().expect(&rt, "memory");
+    is_abc(&rt, vote, at);
+    is_abc(&rt, copy, at);
 }

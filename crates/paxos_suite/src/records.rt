@@ -1,9 +1,10 @@
 //! Record files byte by byte.
+use crate::comparing::{ensure, same};
 use crate::disks::holds;
-use crate::samples::{ballot, instance};
+use crate::samples::{ballot, instance, is_bytes};
 use crate::stored::{
-    ONE_PROMISE, ONE_ROUND, disk_of, empty, ends, is_promised, is_refused, one_of_three, opened,
-    put_promise, put_round, put_vote_for,
+    ONE_PROMISE, ONE_ROUND, disk_of, empty, ends, found_round, is_promised, is_refused,
+    one_of_three, opened, put_promise, put_round, put_vote_for,
 };
 use acceptor::Slot;
 use durable::{Record, RecordFault};
@@ -37,17 +38,18 @@ const OPENINGS: &[(usize, u8, Option<RecordFault>)] = &[
 fn promises(rt: &impl Abort, alloc: Global, bytes: &[u8], promised: Option<Ballot>) {
     let record = opened(rt, alloc, disk_of(rt, alloc, bytes));
     is_promised(rt, &record, promised);
+    drop(record);
 }
 
 #[test]
 fn a_promise_record_is_read_or_refused(rt: HostRuntime) {
+    let alloc = rt.alloc();
     for &(len, node, want) in OPENINGS {
-        let bytes = &ONE_PROMISE[..len.min(26)];
-        is_refused(&rt, rt.alloc(), node, bytes, want);
+        is_refused(&rt, alloc, node, &ONE_PROMISE[..len.min(26)], want);
     }
-    is_refused(&rt, rt.alloc(), 2, &SHUT, None);
-    promises(&rt, rt.alloc(), &ONE_PROMISE, Some(ballot(&rt, 1, 1)));
-    promises(&rt, rt.alloc(), &SHUT, None);
+    is_refused(&rt, alloc, 2, &SHUT, None);
+    promises(&rt, alloc, &ONE_PROMISE, Some(ballot(&rt, 1, 1)));
+    promises(&rt, alloc, &SHUT, None);
 }
 
 fn are_calls(calls: &[Call], letters: &[u8]) -> bool {
@@ -61,24 +63,29 @@ fn are_calls(calls: &[Call], letters: &[u8]) -> bool {
 
 fn check_round(rt: &impl Abort, disk: &mut MemDisk) {
     let (cluster, node) = one_of_three(rt, 2);
-    assert!(rt; are_calls(disk.calls(), b"SLRRWSWS"));
-    assert!(rt; holds(disk, &ONE_ROUND));
+    ensure(rt, are_calls(disk.calls(), b"SLRRWSWS"), 8);
+    ensure(rt, holds(disk, &ONE_ROUND), 21);
     let again = Record::format(cluster, node, disk);
     ends(rt, again, Err(RecordFault::NotARecord));
 }
 
 fn put_one(rt: &impl Abort, record: &mut Record<MemDisk>) {
-    assert!(rt; record.has_room(5));
+    ensure(rt, record.has_room(5), 5);
     ends(rt, put_round(record, 1), Ok(()));
+}
+
+/// The disk of an empty record that took round 1.
+fn disk_of_one(rt: &impl Abort, alloc: Global) -> MemDisk {
+    let mut record = empty(rt, alloc);
+    put_one(rt, &mut record);
+    record.close()
 }
 
 #[test]
 fn a_round_is_four_calls_and_eleven_bytes(rt: HostRuntime) {
-    let mut record = empty(&rt, rt.alloc());
-    put_one(&rt, &mut record);
-    let mut disk = record.close();
+    let mut disk = disk_of_one(&rt, rt.alloc());
     check_round(&rt, &mut disk);
-    assert!(rt; opened(&rt, rt.alloc(), disk).round() == 1);
+    same(&rt, found_round(&rt, rt.alloc(), disk), 1);
 }
 
 fn put_seventy(rt: &impl Abort, alloc: Global, record: &mut Record<MemDisk>) {
@@ -91,25 +98,31 @@ fn put_seventy(rt: &impl Abort, alloc: Global, record: &mut Record<MemDisk>) {
     }
 }
 
+/// Whether the ballot is promised, and voted at for that value.
 fn is_voted(slot: &Slot, ballot: Ballot, value: &[u8]) -> bool {
     match &slot.vote {
-        Some(vote) => vote.ballot == ballot && vote.value.as_bytes() == value,
+        Some(vote) => {
+            slot.promised == Some(ballot)
+                && vote.ballot == ballot
+                && is_bytes(vote.value.as_bytes(), value)
+        }
         None => false,
     }
 }
 
-fn read_seventy(rt: &impl Abort, record: &Record<MemDisk>) {
+fn read_seventy(rt: &impl Abort, record: Record<MemDisk>) {
     let ballot = ballot(rt, 1, 1);
     for number in 1..71u8 {
         let slot = record.slot(instance(rt, u32::from(number)));
-        assert!(rt; slot.promised == Some(ballot));
-        assert!(rt; is_voted(slot, ballot, &[number; 1000]));
+        ensure(rt, is_voted(slot, ballot, &[number; 1000]), number);
     }
+    drop(record);
 }
 
 #[test]
 fn seventy_votes_read_back(rt: HostRuntime) {
-    let mut record = empty(&rt, rt.alloc());
-    put_seventy(&rt, rt.alloc(), &mut record);
-    read_seventy(&rt, &opened(&rt, rt.alloc(), record.close()));
+    let alloc = rt.alloc();
+    let mut record = empty(&rt, alloc);
+    put_seventy(&rt, alloc, &mut record);
+    read_seventy(&rt, opened(&rt, alloc, record.close()));
 }

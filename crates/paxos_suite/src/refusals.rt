@@ -1,10 +1,11 @@
 //! Each call with one growth refused, as `tools/gate/refuse-growths` runs this: it answers as ever, or memory was refused, nothing has changed, and the
 //! next try answers as ever.
-use crate::comparing::ensure;
+use crate::comparing::{ensure, same};
 use crate::member::{Member, Sent, is_made, is_resent, is_sent, three_values};
 use crate::messages::is_written;
-use crate::samples::{ballot, cluster, copied, instance, node, vote};
-use crate::stored::{ends, one_of_three, put_promise, put_round, put_span, put_vote};
+use crate::samples::{ballot, cluster, instance, is_bytes, node, value, vote};
+use crate::steps::{Step, act};
+use crate::stored::{self, ends, one_of_three};
 use chosen_log::{ChosenLog, LearnFault, Learned};
 use durable::{Record, RecordFault};
 use learner::Learner;
@@ -16,39 +17,42 @@ use std::process::Abort;
 use wire::{Message, WireFault, decode};
 
 /// A promise with a prior vote for the value of one byte.
-const PROMISE: [u8; 23] = [
+const PROMISE: &[u8] = &[
     1, 2, 2, 0, 0, 0, 1, 0, 0, 0, 3, 1, 1, 0, 0, 0, 1, 2, 0, 0, 0, 1, 7,
 ];
 
 fn decoded(rt: &impl Abort, alloc: Global) -> Message {
     let cluster = cluster(rt, 3);
-    match decode(alloc, &PROMISE, cluster) {
+    match decode(alloc, PROMISE, cluster) {
         Ok(message) => message,
         Err(fault) => {
-            assert!(rt; fault == WireFault::OutOfMemory);
-            decode(alloc, &PROMISE, cluster).expect(rt, "a message")
+            same(rt, fault, WireFault::OutOfMemory);
+            decode(alloc, PROMISE, cluster).expect(rt, "a message")
         }
     }
 }
 
 /// A message is spelled so.
-fn encodes(rt: &impl Abort, alloc: Global, message: &Message) {
+fn encodes(rt: &impl Abort, alloc: Global, message: Message) {
     let mut out = Vec::new(alloc);
-    if !is_written(message, &mut out) {
-        assert!(rt; out.is_empty());
-        assert!(rt; is_written(message, &mut out));
+    if !is_written(&message, &mut out) {
+        same(rt, out.len(), 0);
+        ensure(rt, is_written(&message, &mut out), 1);
     }
-    assert!(rt; out.as_slice() == PROMISE.as_slice());
+    drop(message);
+    ensure(rt, is_bytes(&out, PROMISE), 2);
 }
 
-fn copy_of(rt: &impl Abort, message: &Message) -> Message {
-    message.try_clone().expect(rt, "a copy")
+fn copy_of(rt: &impl Abort, message: Message) -> Message {
+    let copy = message.try_clone().expect(rt, "a copy");
+    drop(message);
+    copy
 }
 
 #[test]
 fn messages(rt: HostRuntime) {
-    let copy = copy_of(&rt, &decoded(&rt, rt.alloc()));
-    encodes(&rt, rt.alloc(), &copy);
+    let alloc = rt.alloc();
+    encodes(&rt, alloc, copy_of(&rt, decoded(&rt, alloc)));
 }
 
 /// A call whose growth was refused changes nothing, so the next try answers as ever.
@@ -63,7 +67,7 @@ fn promised(
     match member.promise(rt, from, at, own, Some(prior)) {
         Ok(proposal) => proposal,
         Err(fault) => {
-            assert!(rt; fault == ProposerFault::OutOfMemory);
+            same(rt, fault, ProposerFault::OutOfMemory);
             member
                 .promise(rt, from, at, own, Some(prior))
                 .expect(rt, "memory")
@@ -74,14 +78,14 @@ fn promised(
 fn start(rt: &impl Abort, member: &mut Member, own: Ballot, value: &Value) {
     let at = instance(rt, 7);
     if member.start(at, own, value).is_err() {
-        assert!(rt; is_resent(rt, member, 7, Sent::Nothing));
-        assert!(rt; member.start(at, own, value).is_ok());
+        ensure(rt, is_resent(rt, member, 7, Sent::Nothing), 1);
+        ensure(rt, member.start(at, own, value).is_ok(), 2);
     }
 }
 
 fn is_sent_again(rt: &impl Abort, member: &Member) -> Result<bool, AllocError> {
     let message = member.resend(instance(rt, 7))?;
-    Ok(is_sent(&message, Sent::Propose(2, 1, "prior")))
+    Ok(is_sent(message, Sent::Propose(2, 1, "prior")))
 }
 
 fn send_again(rt: &impl Abort, member: &Member) {
@@ -89,23 +93,27 @@ fn send_again(rt: &impl Abort, member: &Member) {
         Ok(is_right) => is_right,
         Err(_) => is_sent_again(rt, member).expect(rt, "memory"),
     };
-    assert!(rt; is_right);
+    ensure(rt, is_right, 7);
 }
 
 fn propose(rt: &impl Abort, member: &mut Member, own: Ballot, value: &Value, prior: &Vote) {
     start(rt, member, own, value);
-    assert!(rt; promised(rt, member, 1, own, prior).is_none());
+    let proposal = promised(rt, member, 1, own, prior);
+    ensure(rt, is_made(proposal, own, None), 1);
     let proposal = promised(rt, member, 2, own, prior);
-    assert!(rt; is_made(&proposal, own, Some("prior")));
+    ensure(rt, is_made(proposal, own, Some("prior")), 2);
     send_again(rt, member);
 }
 
 #[test]
 fn proposals(rt: HostRuntime) {
-    let prior = vote(&rt, rt.alloc(), ballot(&rt, 1, 3), "prior");
-    let value = copied(rt.alloc(), b"own").expect(&rt, "a value");
-    let mut member = Member::new(&rt, rt.alloc(), 3, 1);
+    let alloc = rt.alloc();
+    let prior = vote(&rt, alloc, ballot(&rt, 1, 3), "prior");
+    let value = value(&rt, alloc, b"own");
+    let mut member = Member::new(&rt, alloc, 3, 1);
     propose(&rt, &mut member, ballot(&rt, 2, 1), &value, &prior);
+    drop(value);
+    drop(prior);
 }
 
 fn values_of(rt: &impl Abort, alloc: Global, bytes: &[u8; 3]) -> Vec<Value> {
@@ -115,12 +123,17 @@ fn values_of(rt: &impl Abort, alloc: Global, bytes: &[u8; 3]) -> Vec<Value> {
     }
 }
 
+fn start_span(rt: &impl Abort, member: &mut Member, values: Vec<Value>) {
+    let (first, ballot) = (instance(rt, 6), ballot(rt, 2, 1));
+    ensure(rt, member.start_span(first, ballot, values), first);
+    same(rt, member.proposer().attempts(), 3);
+}
+
 #[test]
 fn spans(rt: HostRuntime) {
-    let values = values_of(&rt, rt.alloc(), b"ABC");
-    let mut member = Member::new(&rt, rt.alloc(), 3, 1);
-    assert!(rt; member.start_span(instance(&rt, 6), ballot(&rt, 2, 1), values));
-    assert!(rt; member.proposer().attempts() == 3);
+    let alloc = rt.alloc();
+    let values = values_of(&rt, alloc, b"ABC");
+    start_span(&rt, &mut Member::new(&rt, alloc, 3, 1), values);
 }
 
 /// Whether a vote for the value makes that known.
@@ -132,7 +145,9 @@ fn told(
 ) -> Result<bool, AllocError> {
     let first = instance(rt, 1);
     let known = learner.on_accepted(node(rt, voter), first, ballot(rt, 1, 1), value)?;
-    Ok(known.is_some())
+    let is_known = known.is_some();
+    drop(known);
+    Ok(is_known)
 }
 
 fn tell(rt: &impl Abort, learner: &mut Learner, voter: u8, value: &Value, completes: bool) {
@@ -141,45 +156,53 @@ fn tell(rt: &impl Abort, learner: &mut Learner, voter: u8, value: &Value, comple
         Ok(known) => known,
         Err(_) => {
             let would = learner.completes(node(rt, voter), first, ballot(rt, 1, 1), value);
-            assert!(rt; would == completes);
+            same(rt, would, completes);
             told(rt, learner, voter, value).expect(rt, "memory")
         }
     };
-    assert!(rt; known == completes);
+    same(rt, known, completes);
 }
 
-fn tell_two(rt: &impl Abort, learner: &mut Learner, value: &Value) {
-    tell(rt, learner, 1, value, false);
-    tell(rt, learner, 2, value, true);
+fn tell_two(rt: &impl Abort, learner: &mut Learner, value: Value) {
+    tell(rt, learner, 1, &value, false);
+    tell(rt, learner, 2, &value, true);
+    drop(value);
 }
 
 #[test]
 fn votes(rt: HostRuntime) {
-    let value = copied(rt.alloc(), b"v").expect(&rt, "a value");
-    tell_two(&rt, &mut Learner::new(rt.alloc(), cluster(&rt, 3)), &value);
+    let value = value(&rt, rt.alloc(), b"v");
+    tell_two(&rt, &mut Learner::new(rt.alloc(), cluster(&rt, 3)), value);
+}
+
+/// The value that was handed back since memory was refused.
+fn handed_back(rt: &impl Abort, fault: LearnFault) -> Value {
+    match fault {
+        LearnFault::Conflict(_) => panic!(rt; "a conflict"),
+        LearnFault::OutOfMemory(back) => back,
+    }
 }
 
 fn learn(rt: &impl Abort, log: &mut ChosenLog, number: u32, value: Value) {
     let at = instance(rt, number);
     let learned = match log.learn(at, value) {
         Ok(learned) => learned,
-        Err(LearnFault::Conflict(_)) => panic!(rt; "a conflict"),
-        Err(LearnFault::OutOfMemory(back)) => {
-            assert!(rt; log.get(at).is_none());
+        Err(fault) => {
+            let back = handed_back(rt, fault);
+            ensure(rt, log.get(at).is_none(), number);
             log.learn(at, back).expect(rt, "memory")
         }
     };
-    assert!(rt; learned == Learned::New);
+    same(rt, learned, Learned::New);
 }
 
 const LEARNED: &[u32] = &[3, 1, 2];
 
 fn learn_three(rt: &impl Abort, alloc: Global, log: &mut ChosenLog) {
     for &number in LEARNED {
-        let value = copied(alloc, b"v").expect(rt, "a value");
-        learn(rt, log, number, value);
+        learn(rt, log, number, value(rt, alloc, b"v"));
     }
-    assert!(rt; log.prefix().len() == 3);
+    same(rt, log.prefix().len(), 3);
 }
 
 #[test]
@@ -187,22 +210,13 @@ fn values(rt: HostRuntime) {
     learn_three(&rt, rt.alloc(), &mut ChosenLog::new(rt.alloc()));
 }
 
-/// A step of a batch. A ballot is of round 1.
-#[derive(Clone, Copy, Debug)]
-enum Step {
-    Begin,
-    Round,
-    Promise,
-    Span,
-    Vote,
-}
-
+/// A batch of round 1.
 const BATCH: &[Step] = &[
     Step::Begin,
-    Step::Round,
-    Step::Promise,
-    Step::Span,
-    Step::Vote,
+    Step::Round(1),
+    Step::Promise(1, 1),
+    Step::Span(5, 3, 1),
+    Step::Vote(1, 1, "v"),
 ];
 
 fn format(alloc: Global, cluster: Cluster, node: NodeId) -> Option<MemDisk> {
@@ -227,30 +241,7 @@ fn opened(rt: &impl Abort, alloc: Global, disk: MemDisk) -> Record<MemDisk> {
     let (cluster, node) = one_of_three(rt, 2);
     match Record::open(alloc, cluster, node, disk) {
         Ok(record) => record,
-        Err((_fault, disk)) => match Record::open(alloc, cluster, node, disk) {
-            Ok(record) => record,
-            Err((fault, _disk)) => panic!(rt; "{fault:?}"),
-        },
-    }
-}
-
-fn value(rt: &impl Abort, alloc: Global) -> Value {
-    copied(alloc, b"v").expect(rt, "a value")
-}
-
-fn act(
-    rt: &impl Abort,
-    alloc: Global,
-    record: &mut Record<MemDisk>,
-    step: Step,
-) -> Result<(), RecordFault> {
-    let ballot = ballot(rt, 1, 1);
-    match step {
-        Step::Begin => record.begin(),
-        Step::Round => put_round(record, 1),
-        Step::Promise => put_promise(record, instance(rt, 1), ballot),
-        Step::Span => put_span(record, instance(rt, 5), 3, ballot),
-        Step::Vote => put_vote(record, instance(rt, 1), ballot, &value(rt, alloc)),
+        Err((_fault, disk)) => stored::opened(rt, alloc, disk),
     }
 }
 
@@ -260,7 +251,7 @@ const RAISED: &[u32] = &[1, 5, 7];
 /// This is promised there.
 fn promises(rt: &impl Abort, record: &Record<MemDisk>, promised: Option<Ballot>) {
     for &at in RAISED {
-        assert!(rt; record.slot(instance(rt, at)).promised == promised);
+        ensure(rt, record.slot(instance(rt, at)).promised == promised, at);
     }
 }
 
@@ -272,35 +263,30 @@ fn tells(rt: &impl Abort, record: &Record<MemDisk>) -> bool {
     } else {
         promises(rt, record, None);
     }
-    assert!(rt; record.slot(instance(rt, 1)).vote.is_some() == all);
+    same(rt, record.slot(instance(rt, 1)).vote.is_some(), all);
     all
 }
 
-/// Memory was refused, or the step was taken.
-fn is_refused(rt: &impl Abort, alloc: Global, record: &mut Record<MemDisk>, step: Step) -> bool {
-    match act(rt, alloc, record, step) {
-        Ok(()) => false,
-        Err(fault) => {
-            ensure(rt, fault == RecordFault::OutOfMemory, step);
-            true
-        }
+/// The step is taken, at the next try where memory was refused.
+fn take(rt: &impl Abort, alloc: Global, record: &mut Record<MemDisk>, step: Step) {
+    if let Err(fault) = act(rt, alloc, record, step) {
+        same(rt, fault, RecordFault::OutOfMemory);
+        ends(rt, act(rt, alloc, record, step), Ok(()));
     }
 }
 
 /// A batch that waits to be sealed.
 fn fill(rt: &impl Abort, alloc: Global, record: &mut Record<MemDisk>) {
-    for &one in BATCH {
-        if is_refused(rt, alloc, record, one) {
-            ends(rt, act(rt, alloc, record, one), Ok(()));
-        }
+    for &step in BATCH {
+        take(rt, alloc, record, step);
     }
-    assert!(rt; tells(rt, record));
+    same(rt, tells(rt, record), true);
 }
 
 /// Where the disk in memory found no memory its call failed.
 fn seal(rt: &impl Abort, record: &mut Record<MemDisk>) {
     if let Err(fault) = record.seal() {
-        assert!(rt; fault == RecordFault::Device);
+        same(rt, fault, RecordFault::Device);
     }
 }
 
@@ -312,6 +298,12 @@ fn fill_again(rt: &impl Abort, alloc: Global, record: &mut Record<MemDisk>) {
     }
 }
 
+/// The record tells all of the batch.
+fn finds(rt: &impl Abort, record: Record<MemDisk>) {
+    same(rt, tells(rt, &record), true);
+    drop(record);
+}
+
 #[test]
 fn batches(rt: HostRuntime) {
     let alloc = rt.alloc();
@@ -320,5 +312,5 @@ fn batches(rt: HostRuntime) {
     seal(&rt, &mut record);
     let mut record = opened(&rt, alloc, record.close());
     fill_again(&rt, alloc, &mut record);
-    assert!(rt; tells(&rt, &opened(&rt, alloc, record.close())));
+    finds(&rt, opened(&rt, alloc, record.close()));
 }

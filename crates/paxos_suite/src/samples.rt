@@ -26,14 +26,32 @@ pub(crate) fn is_ballot(ballot: Ballot, round: u32, number: u8) -> bool {
 }
 
 /// A growth that was refused is tried once more.
-pub(crate) fn copied(alloc: Global, bytes: &[u8]) -> Result<Value, AllocError> {
+fn copied(alloc: Global, bytes: &[u8]) -> Result<Value, AllocError> {
     match Value::copied_from(alloc, bytes) {
         Ok(value) => Ok(value),
         Err(_) => Value::copied_from(alloc, bytes),
     }
 }
 
+pub(crate) fn value(rt: &impl Abort, alloc: Global, bytes: &[u8]) -> Value {
+    copied(alloc, bytes).expect(rt, "a value")
+}
+
 pub(crate) fn vote(rt: &impl Abort, alloc: Global, ballot: Ballot, text: &str) -> Vote {
-    let value = copied(alloc, text.as_bytes()).expect(rt, "a value");
+    let value = value(rt, alloc, text.as_bytes());
     Vote { ballot, value }
+}
+
+/// Puts one more at the end.
+pub(crate) fn push<T: Drop>(rt: &impl Abort, to: &mut Vec<T>, one: T) {
+    to.push(one).expect(rt, "memory");
+}
+
+pub(crate) fn is_bytes(came: &[u8], wanted: &[u8]) -> bool {
+    came == wanted
+}
+
+/// Whether a value is the bytes of this text.
+pub(crate) fn is_text(value: &Value, text: &str) -> bool {
+    is_bytes(value.as_bytes(), text.as_bytes())
 }

@@ -3,12 +3,12 @@ use crate::comparing::{ensure, same};
 use crate::disks::{holds, is_long_behind};
 use crate::listed::SPANNED;
 use crate::samples::{ballot, instance};
-use crate::stored::{arm, empty, ends, is_refused, opened, put_promise, put_span, put_vote_for};
-use acceptor::Slot;
+use crate::steps::{Step, disk_behind, promises, take};
+use crate::stored::{arm, empty, ends, is_refused, opened, put_span};
 use durable::{Record, RecordFault};
 use site_disk::MemDisk;
 use site_ids::MAX_INSTANCE;
-use std::alloc::{AllocError, Global};
+use std::alloc::Global;
 use std::process::Abort;
 
 /// How many calls of a put pass, what the crash chooses, and then the file's length and whether the promise is kept.
@@ -30,120 +30,33 @@ const CRASHES: &[(u32, u8, u64, bool)] = &[
     (4, 7, 27, true),
 ];
 
-/// What is put, and what is found then. A ballot is its round, of node 1.
-#[derive(Clone, Copy, Debug)]
-enum Step {
-    /// A promise at an instance.
-    Promise(u32, u32),
-    /// A vote at an instance for a text.
-    Vote(u32, u32, &'static str),
-    /// The promise of a span from an instance on, of so many.
-    Span(u32, u8, u32),
-    /// The same is not to be put.
-    NoSpan(u32, u8, u32),
-    /// The rounds promised from an instance on, 0 where none is.
-    Promised(u32, &'static [u32]),
-    /// What is voted for at an instance.
-    Voted(u32, &'static str),
-    GreatestRound(u32),
-}
-
-fn promised_round(slot: &Slot) -> u32 {
-    match slot.promised {
-        Some(promised) => promised.round(),
-        None => 0,
-    }
-}
-
-fn is_voted_for(slot: &Slot, text: &str) -> bool {
-    match &slot.vote {
-        Some(vote) => vote.value.as_bytes() == text.as_bytes(),
-        None => false,
-    }
-}
-
-fn is_round(rt: &impl Abort, at: u32, promised: u32, round: u32) {
-    same(rt, (at, promised), (at, round));
-}
-
-/// The rounds promised from an instance on are these.
-fn promises(rt: &impl Abort, record: &Record<MemDisk>, first: u32, rounds: &[u32]) {
-    for (at, &round) in (first..=MAX_INSTANCE).zip(rounds) {
-        let promised = promised_round(record.slot(instance(rt, at)));
-        is_round(rt, at, promised, round);
-    }
-}
-
-/// Puts, where the step is one.
-fn put(
-    rt: &impl Abort,
-    alloc: Global,
-    record: &mut Record<MemDisk>,
-    step: Step,
-) -> Result<(), RecordFault> {
-    match step {
-        Step::Promise(at, round) => put_promise(record, instance(rt, at), ballot(rt, round, 1)),
-        Step::Vote(at, round, text) => {
-            let vote = (instance(rt, at), ballot(rt, round, 1));
-            put_vote_for(rt, alloc, record, vote, text.as_bytes())
-        }
-        Step::Span(first, count, round) | Step::NoSpan(first, count, round) => {
-            put_span(record, instance(rt, first), count, ballot(rt, round, 1))
-        }
-        _ => Ok(()),
-    }
-}
-
-fn look(rt: &impl Abort, record: &Record<MemDisk>, step: Step) {
-    match step {
-        Step::Promised(first, rounds) => promises(rt, record, first, rounds),
-        Step::Voted(at, text) => {
-            ensure(rt, is_voted_for(record.slot(instance(rt, at)), text), step);
-        }
-        Step::GreatestRound(round) => assert!(rt; record.greatest_round() == round),
-        _ => {}
-    }
-}
-
-fn act(rt: &impl Abort, alloc: Global, record: &mut Record<MemDisk>, step: Step) {
-    let wanted = match step {
-        Step::NoSpan(..) => Err(RecordFault::NotARecord),
-        _ => Ok(()),
-    };
-    assert_eq!(rt; put(rt, alloc, record, step), wanted, "{step:?}");
-    look(rt, record, step);
-}
-
-fn act_all(rt: &impl Abort, alloc: Global, record: &mut Record<MemDisk>, steps: &[Step]) {
-    for step in steps {
-        act(rt, alloc, record, *step);
-    }
-}
-
 /// Steps of an empty record, and further ones where it was closed and opened again.
 fn play(rt: &impl Abort, alloc: Global, before: &[Step], behind: &[Step]) {
-    let mut record = empty(rt, alloc);
-    act_all(rt, alloc, &mut record, before);
-    let mut record = opened(rt, alloc, record.close());
-    act_all(rt, alloc, &mut record, behind);
+    let mut record = opened(rt, alloc, disk_behind(rt, alloc, before));
+    take(rt, alloc, &mut record, behind);
+    drop(record);
+}
+
+/// The next opening finds these rounds promised from instance 4 on.
+fn finds(rt: &impl Abort, alloc: Global, disk: MemDisk, rounds: &[u32]) {
+    let record = opened(rt, alloc, disk);
+    promises(rt, &record, 4, rounds);
+    drop(record);
 }
 
 /// The disk has these bytes, behind so many calls.
 fn is_spanned(rt: &impl Abort, disk: &mut MemDisk) {
-    assert!(rt; disk.calls().len() == 8);
-    assert!(rt; holds(disk, &SPANNED));
+    same(rt, disk.calls().len(), 8);
+    ensure(rt, holds(disk, &SPANNED), SPANNED.len());
 }
 
 const ONE_SPAN: &[Step] = &[Step::Span(5, 3, 1), Step::Promised(4, &[0, 1, 1, 1, 0])];
 
 #[test]
 fn a_span_is_one_entry_of_sixteen_bytes(rt: HostRuntime) {
-    let mut record = empty(&rt, rt.alloc());
-    act_all(&rt, rt.alloc(), &mut record, ONE_SPAN);
-    let mut disk = record.close();
+    let mut disk = disk_behind(&rt, rt.alloc(), ONE_SPAN);
     is_spanned(&rt, &mut disk);
-    let record = opened(&rt, rt.alloc(), disk);
-    promises(&rt, &record, 4, &[0, 1, 1, 1, 0]);
+    finds(&rt, rt.alloc(), disk, &[0, 1, 1, 1, 0]);
 }
 
 const RAISING: &[Step] = &[
@@ -169,18 +82,14 @@ fn a_span_raises_what_is_lower(rt: HostRuntime) {
     play(&rt, rt.alloc(), RAISING, RAISED);
 }
 
-/// So many bytes of the file, and a span once more behind them.
-fn twice(alloc: Global) -> Result<Vec<u8>, AllocError> {
-    let mut bytes = Vec::from_slice(alloc, &SPANNED[..26])?;
-    bytes.extend_from_slice(&SPANNED[10..])?;
-    Ok(bytes)
-}
+/// `SPANNED`, with its span once more behind it.
+const TWICE: &[u8] =
+    b"SITEREC1\x02\x03\x01\x00\x00\x00\x0b\x04\x00\x00\x00\x05\x03\x00\x00\x00\x01\x01\x01\x00\x00\x00\x0b\x04\x00\x00\x00\x05\x03\x00\x00\x00\x01\x01\x00";
 
 #[test]
 fn a_span_that_raises_nothing_is_damage(rt: HostRuntime) {
     is_refused(&rt, rt.alloc(), 2, &SPANNED, None);
-    let bytes = twice(rt.alloc()).expect(&rt, "memory");
-    is_refused(&rt, rt.alloc(), 2, &bytes, Some(RecordFault::Damaged));
+    is_refused(&rt, rt.alloc(), 2, TWICE, Some(RecordFault::Damaged));
 }
 
 const LAST_SPANS: &[Step] = &[
@@ -211,22 +120,20 @@ fn put_armed(rt: &impl Abort, record: &mut Record<MemDisk>, calls: u32) {
     }
 }
 
-/// Whether the file is so long behind the crash. The next opening keeps the promise or not.
-fn crash(rt: &impl Abort, alloc: Global, row: (u32, u8, u64, bool)) -> bool {
+/// The file is so long behind the crash, and the next opening keeps the promise or not.
+fn crash(rt: &impl Abort, alloc: Global, row: (u32, u8, u64, bool)) {
     let (calls, choice, length, kept) = row;
     let mut record = empty(rt, alloc);
     put_armed(rt, &mut record, calls);
     let mut disk = record.close();
-    let is_long = is_long_behind(&mut disk, Some(choice), length);
+    ensure(rt, is_long_behind(&mut disk, Some(choice), length), row);
     let round = u32::from(kept);
-    let rounds = [0, round, round, round, 0];
-    promises(rt, &opened(rt, alloc, disk), 4, &rounds);
-    is_long
+    finds(rt, alloc, disk, &[0, round, round, round, 0]);
 }
 
 #[test]
 fn a_crash_after_each_call_keeps_the_span_or_not(rt: HostRuntime) {
     for &row in CRASHES {
-        ensure(&rt, crash(&rt, rt.alloc(), row), row);
+        crash(&rt, rt.alloc(), row);
     }
 }

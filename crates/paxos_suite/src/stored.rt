@@ -4,9 +4,9 @@ ghost use Rattle.site_ids.specs.Spans.{IsInSpan};
 ghost use Rattle.acceptor.specs.Judging.{IsFreeBelow};
 ghost use Rattle.durable.specs.Slots.{slot_at};
 
-use crate::comparing::same;
+use crate::comparing::{ensure, same};
 use crate::disks::{syncs, writes};
-use crate::samples::{cluster, instance};
+use crate::samples::{cluster, instance, value};
 use acceptor::{PrepareVerdict, ProposeVerdict, judge_prepare, judge_propose};
 use durable::{Record, RecordFault};
 use record_meaning::history::is_free_below;
@@ -31,8 +31,8 @@ pub fn one_of_three(rt: &impl Abort, number: u8) -> (Cluster, NodeId) {
 /// A disk that holds these bytes, all of them synced.
 pub fn disk_of(rt: &impl Abort, alloc: Global, bytes: &[u8]) -> MemDisk {
     let mut disk = MemDisk::new(alloc);
-    assert!(rt; writes(&mut disk, 0, bytes));
-    assert!(rt; syncs(&mut disk));
+    ensure(rt, writes(&mut disk, 0, bytes), 0);
+    ensure(rt, syncs(&mut disk), 1);
     disk
 }
 
@@ -45,13 +45,34 @@ pub fn formatted(rt: &impl Abort, alloc: Global) -> MemDisk {
     disk
 }
 
+/// The record on a disk, or why that is refused to a node of three.
+fn read<D: Disk + Drop>(
+    rt: &impl Abort,
+    alloc: Global,
+    number: u8,
+    disk: D,
+) -> Result<Record<D>, RecordFault> {
+    let (cluster, node) = one_of_three(rt, number);
+    match Record::open(alloc, cluster, node, disk) {
+        Ok(record) => Ok(record),
+        Err((fault, disk)) => {
+            drop(disk);
+            Err(fault)
+        }
+    }
+}
+
 /// The record of node 2 of three.
 pub fn opened<D: Disk + Drop>(rt: &impl Abort, alloc: Global, disk: D) -> Record<D> {
-    let (cluster, node) = one_of_three(rt, 2);
-    match Record::open(alloc, cluster, node, disk) {
-        Ok(record) => record,
-        Err((fault, _disk)) => panic!(rt; "{fault:?}"),
-    }
+    read(rt, alloc, 2, disk).expect(rt, "a record")
+}
+
+/// The round that the next opening finds.
+pub fn found_round(rt: &impl Abort, alloc: Global, disk: MemDisk) -> u32 {
+    let record = opened(rt, alloc, disk);
+    let round = record.round();
+    drop(record);
+    round
 }
 
 /// Node 2's empty record.
@@ -74,12 +95,24 @@ pub fn is_promised<D: Disk>(rt: &impl Abort, record: &Record<D>, promised: Optio
     same(rt, record.slot(instance(rt, 1)).promised, promised);
 }
 
+/// The record of these bytes, or why they are refused to a node of three.
+pub fn read_bytes(
+    rt: &impl Abort,
+    alloc: Global,
+    number: u8,
+    bytes: &[u8],
+) -> Result<Record<MemDisk>, RecordFault> {
+    read(rt, alloc, number, disk_of(rt, alloc, bytes))
+}
+
 /// Why these bytes are refused to a node of three, if they are.
 fn refusal(rt: &impl Abort, alloc: Global, number: u8, bytes: &[u8]) -> Option<RecordFault> {
-    let (cluster, node) = one_of_three(rt, number);
-    match Record::open(alloc, cluster, node, disk_of(rt, alloc, bytes)) {
-        Ok(_record) => None,
-        Err((fault, _disk)) => Some(fault),
+    match read_bytes(rt, alloc, number, bytes) {
+        Ok(record) => {
+            drop(record);
+            None
+        }
+        Err(fault) => Some(fault),
     }
 }
 
@@ -165,7 +198,7 @@ pub fn put_vote_for<D: Disk>(
     bytes: &[u8],
 ) -> Result<(), RecordFault> {
     let (instance, ballot) = vote;
-    let value = Value::copied_from(alloc, bytes).expect(rt, "memory");
+    let value = value(rt, alloc, bytes);
     put_vote(record, instance, ballot, &value)
 }
 
