@@ -1,4 +1,4 @@
-use Rattle.std.proofs.Common.{◌≡◌, sym, ap, subst, ◌∙◌}
+use Rattle.std.proofs.Common.{◌≡◌, sym, ap, subst, ◌∙◌, rules}
 use Rattle.site_disk.specs.Model.{DiskState}
 use Rattle.site_ids.specs.declared.value.Vote.{Vote}
 use Rattle.std.specs.Prelude.{Option}
@@ -52,3 +52,6 @@ returns-in-Accepted-clause-counts g c = counts_kept g.D.Disk.failed _ _ _ c.on_a
 
 pub returns-in-Ask-clause-counts : goal.returns-in-Ask-clause-counts
 returns-in-Ask-clause-counts g c = counts_kept g.D.Disk.failed _ _ _ c.on_ask.ensures.no_put
+
+pub returns-in-Chosen-clause-event : goal.returns-in-Chosen-clause-event
+returns-in-Chosen-clause-event g c = search rules
