@@ -108,8 +108,9 @@ fn outermost(rt: &impl Abort, alloc: Global, lists: u32) -> Result<usize, DataFa
 
 #[test]
 fn lists_nest_127_deep(rt: HostRuntime) {
-    assert!(rt; outermost(&rt, rt.alloc(), 127) == Ok(1));
-    assert!(rt; outermost(&rt, rt.alloc(), 128) == Err(DataFault::NotJson));
+    same(&rt, outermost(&rt, rt.alloc(), 127), Ok(1));
+    let deeper = outermost(&rt, rt.alloc(), 128);
+    same(&rt, deeper, Err(DataFault::NotJson));
 }
 
 const RELEASE: &[u8] = b"\x00\x00\x00\x01\x00\x00\x00\x00\x00\x00\x00\x05release\n";
@@ -134,7 +135,8 @@ pub(crate) fn read_as(alloc: Global, value: &[u8]) -> Result<(Ticket, bool), Com
 
 #[test]
 fn reading_values(rt: HostRuntime) {
-    assert!(rt; read_as(rt.alloc(), RELEASE) == Ok((TICKET, true)));
+    let release = read_as(rt.alloc(), RELEASE);
+    ensure(&rt, release == Ok((TICKET, true)), TICKET.number);
 }
 
 #[test]
@@ -144,12 +146,12 @@ fn printing_a_fault_of_a_template(rt: HostRuntime) {
         place: 6,
     };
     let line = fault_line(rt.alloc(), &CommandFault::Template(fault)).expect(&rt, "a line");
-    assert!(rt; line.as_str() == "5 Template 6 WrongEnd at 6");
+    same(&rt, line.as_str(), "5 Template 6 WrongEnd at 6");
 }
 
 #[test]
 fn printing_a_fault_of_data(rt: HostRuntime) {
     let fault = CommandFault::Data(DataFault::NotWhole);
     let line = fault_line(rt.alloc(), &fault).expect(&rt, "a line");
-    assert!(rt; line.as_str() == "6 Data 2 NotWhole");
+    same(&rt, line.as_str(), "6 Data 2 NotWhole");
 }

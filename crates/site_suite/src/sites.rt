@@ -79,7 +79,7 @@ const ANSWERS: &[Row] = &[
 fn check_answers(rt: &impl Abort, alloc: Global, site: &mut Site) {
     take_all(rt, alloc, site, ANSWERS);
     is_answered(rt, "nothing", site.apply(b""), Applied::NotACommand);
-    assert!(rt; has_text(site, "a"));
+    ensure(rt, has_text(site, "a"), 1);
 }
 
 #[test]
@@ -129,7 +129,7 @@ fn leads(site: &Site, to: &str) -> bool {
 
 fn check_greeting(rt: &impl Abort, site: &Site) {
     let shows = has_text(site, "Hello, ") && has_name(site, "x") && has_three(site.data("d"));
-    assert!(rt; shows && is_routed(site) && leads(site, "/new"));
+    ensure(rt, shows && is_routed(site) && leads(site, "/new"), shows);
 }
 
 /// Names of one kind are none of another.
@@ -174,7 +174,7 @@ fn check_contents(rt: &impl Abort, alloc: Global, site: &mut Site) {
     check_greeting(rt, site);
     check_removals(rt, alloc, site);
     take_all(rt, alloc, site, REDIRECTED);
-    assert!(rt; leads(site, "/\u{e9}?x"));
+    ensure(rt, leads(site, "/\u{e9}?x"), 8);
     check_step(
         rt,
         alloc,
