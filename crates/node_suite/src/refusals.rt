@@ -3,7 +3,7 @@
 use crate::comparing::{ensure, same};
 use crate::heard::Heard;
 use crate::peer::{Call, Peer, ends, passes};
-use crate::said::{Said, is_last, prepared_round};
+use crate::said::{Said, ensure_last, prepared_round};
 use crate::samples::{RELEASE, Text};
 use node::NodeFault;
 use std::alloc::Global;
@@ -120,21 +120,17 @@ const VALUES_TOLD: &[Step] = &[
 
 const TELLINGS: &[Step] = &[PROPOSAL, Step::Calls(Call::Tell(0, 1))];
 
-/// That was handed out last.
-fn says(rt: &impl Abort, node: &Peer, to: u8, said: Said) {
-    ensure(rt, is_last(&node.out, to, said), to);
-}
-
 #[test]
 fn submissions(rt: HostRuntime) {
     let node = after(&rt, rt.alloc(), SUBMISSIONS);
-    says(&rt, &node, 0, Said::Ask(1));
+    ensure_last(&rt, &node.out, 0, Said::Ask(1));
     same(&rt, node.node.wants_tick(), true);
 }
 
 #[test]
 fn ticks(rt: HostRuntime) {
-    says(&rt, &after(&rt, rt.alloc(), TICKS), 0, Said::Propose("v"));
+    let node = after(&rt, rt.alloc(), TICKS);
+    ensure_last(&rt, &node.out, 0, Said::Propose("v"));
 }
 
 #[test]
@@ -147,14 +143,14 @@ fn widenings(rt: HostRuntime) {
 fn requests(rt: HostRuntime) {
     let node = after(&rt, rt.alloc(), REQUESTS);
     is_where(&rt, &node, 2, 0);
-    says(&rt, &node, 3, Said::Told(1, 1));
+    ensure_last(&rt, &node.out, 3, Said::Told(1, 1));
 }
 
 #[test]
 fn openings(rt: HostRuntime) {
     let node = after(&rt, rt.alloc(), OPENINGS).again(&rt, None);
     let node = stepped(&rt, node, PREPARE);
-    says(&rt, &node, 3, Said::Told(1, 1));
+    ensure_last(&rt, &node.out, 3, Said::Told(1, 1));
     let node = stepped(&rt, node, Step::Calls(Call::Tick));
     let round = prepared_round(&node.out).unwrap_or(0);
     ensure(&rt, 1 < round, round);

@@ -114,10 +114,9 @@ pub(crate) fn is_said(handed: &(To, Message), to: u8, said: Said) -> bool {
 /// All that was handed out is this, all to one node or to all.
 pub(crate) fn is_all_said(rt: &impl Abort, out: &Outbox, to: u8, wanted: &[Said]) {
     same(rt, out.len(), wanted.len());
-    let mut at: usize = 0;
     for (handed, &said) in out.iter().zip(wanted) {
-        ensure(rt, is_said(handed, to, said), at);
-        at = at.saturating_add(1);
+        let (_, numbers, _) = parts_of(said);
+        ensure(rt, is_said(handed, to, said), (to, numbers));
     }
 }
 
@@ -127,6 +126,12 @@ pub(crate) fn is_last(out: &Outbox, to: u8, said: Said) -> bool {
         Some(handed) => is_said(handed, to, said),
         None => false,
     }
+}
+
+/// That was handed out last.
+pub(crate) fn ensure_last(rt: &impl Abort, out: &Outbox, to: u8, said: Said) {
+    let (_, numbers, _) = parts_of(said);
+    ensure(rt, is_last(out, to, said), (to, numbers));
 }
 
 /// The round of a prepare to all that was handed out last.

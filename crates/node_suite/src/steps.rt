@@ -2,7 +2,7 @@
 use crate::comparing::{ensure, same};
 use crate::heard::Heard;
 use crate::peer::{Call, Peer, ends, passes};
-use crate::said::{Said, is_all_said, is_last};
+use crate::said::{Said, ensure_last, is_all_said};
 use crate::samples::{Text, instance, ticket};
 use node::{NodeFault, Submitted};
 use std::alloc::Global;
@@ -69,7 +69,7 @@ fn status(node: &Peer, path: &str) -> Option<u16> {
 /// Sees whether what the step says is so.
 fn look(rt: &impl Abort, node: &Peer, step: Step) {
     match step {
-        Step::Last(to, said) => ensure(rt, is_last(&node.out, to, said), to),
+        Step::Last(to, said) => ensure_last(rt, &node.out, to, said),
         Step::Many(count) => same(rt, node.out.len(), count),
         Step::Knows(known) => same(rt, node.node.known(), known),
         Step::Receipt(number, at) => {
