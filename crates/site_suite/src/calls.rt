@@ -81,14 +81,10 @@ fn reading_data(rt: HostRuntime) {
 }
 
 /// So many lists within one another.
-fn nested(alloc: Global, lists: u32) -> Result<Vec<u8>, AllocError> {
+fn nested(alloc: Global, lists: usize) -> Result<Vec<u8>, AllocError> {
     let mut json = Vec::new(alloc);
-    for _ in 0..lists {
-        json.push(b'[')?;
-    }
-    for _ in 0..lists {
-        json.push(b']')?;
-    }
+    json.resize(lists, b'[')?;
+    json.resize(lists.saturating_mul(2), b']')?;
     Ok(json)
 }
 
@@ -100,10 +96,12 @@ fn items_of(data: &Data) -> usize {
 }
 
 /// How many items the outermost of so many lists has.
-fn outermost(rt: &impl Abort, alloc: Global, lists: u32) -> Result<usize, DataFault> {
+fn outermost(rt: &impl Abort, alloc: Global, lists: usize) -> Result<usize, DataFault> {
     let json = nested(alloc, lists).expect(rt, "memory");
     let data = Data::from_json(alloc, &json)?;
-    Ok(items_of(&data))
+    let items = items_of(&data);
+    drop(data);
+    Ok(items)
 }
 
 #[test]

@@ -4,7 +4,7 @@ use crate::calls::read_as;
 use crate::comparing::{ensure, same};
 use crate::releases::{V1, feed, new_releases, shows};
 use crate::rows::{COMMANDS, is_answered, ticket};
-use crate::sites::{copied, new_site};
+use crate::sites::{Kind, copied, has, is_routed, new_site};
 use command::{CommandFault, fault_line, write};
 use content::{Applied, Site};
 use context::{Data, DataFault};
@@ -52,7 +52,10 @@ fn data(rt: &impl Abort, alloc: Global) -> Data {
 }
 
 fn has_members(alloc: Global, data: &Data) -> Result<bool, AllocError> {
-    Ok(matches!(&data.copy(alloc)?, Data::Hash(members) if members.len() == 3))
+    let copy = data.copy(alloc)?;
+    let is_whole = matches!(&copy, Data::Hash(members) if members.len() == 3);
+    drop(copy);
+    Ok(is_whole)
 }
 
 fn copy(rt: &impl Abort, alloc: Global, data: &Data) {
@@ -150,9 +153,7 @@ fn take(rt: &impl Abort, site: &mut Site, value: &[u8], text: &str, applied: App
 
 /// Whether a site has what the commands leave.
 fn is_left(site: &Site) -> bool {
-    site.template("t").is_none()
-        && site.data("d").is_some()
-        && matches!(site.route("/"), Some(("t", "d")))
+    !has(site, Kind::Template, "t") && has(site, Kind::Data, "d") && is_routed(site)
 }
 
 fn is_left_in_copy(alloc: Global, site: &Site) -> Option<bool> {

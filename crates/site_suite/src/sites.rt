@@ -26,7 +26,7 @@ fn take_all(rt: &impl Abort, alloc: Global, site: &mut Site, rows: &[Row]) {
 }
 
 #[derive(Clone, Copy)]
-enum Kind {
+pub(crate) enum Kind {
     Template,
     Partial,
     Data,
@@ -34,7 +34,7 @@ enum Kind {
     Redirect,
 }
 
-fn has(site: &Site, kind: Kind, name: &str) -> bool {
+pub(crate) fn has(site: &Site, kind: Kind, name: &str) -> bool {
     match kind {
         Kind::Template => site.template(name).is_some(),
         Kind::Partial => site.partial(name).is_some(),
@@ -119,7 +119,8 @@ fn has_three(data: Option<&Data>) -> bool {
     matches!(data, Some(Data::List(items)) if items.len() == 3 && has_two(items.last()))
 }
 
-fn is_routed(site: &Site) -> bool {
+/// Whether the root has its template and its data.
+pub(crate) fn is_routed(site: &Site) -> bool {
     matches!(site.route("/"), Some(("t", "d")))
 }
 

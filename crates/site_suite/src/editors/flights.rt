@@ -1,7 +1,7 @@
 //! Publications into a group in memory, interrupted after each answer, and gone on with by another folder.
 use crate::comparing::{ensure, same};
 use crate::editors::ledgers::{new_file, read, save};
-use crate::editors::tickets::{Texts, has, keep};
+use crate::editors::tickets::{Texts, has, insert, keep};
 use site_ledger::Ledger;
 use site_publish::{Ask, Flight, Heard, Stage, advance};
 use std::alloc::{AllocError, Global};
@@ -54,7 +54,7 @@ impl Town {
 
     fn decide_one(&mut self, rt: &impl Abort) {
         if let Some((number, text)) = self.waiting.pop_first() {
-            ensure(rt, self.known.insert(number, text).is_ok(), number);
+            insert(rt, &mut self.known, number, text);
         }
     }
 

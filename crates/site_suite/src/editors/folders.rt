@@ -189,8 +189,8 @@ fn is_begun(rt: &impl Abort, page: &Page, path: &str, text: &str) {
 
 fn are_begun(rt: &impl Abort, pages: &[Page]) {
     same(rt, pages.len(), BEGUN.len());
-    for (page, (path, text)) in pages.iter().zip(BEGUN) {
-        is_begun(rt, page, *path, *text);
+    for (page, &(path, text)) in pages.iter().zip(BEGUN) {
+        is_begun(rt, page, path, text);
     }
 }
 
