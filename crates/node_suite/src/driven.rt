@@ -7,7 +7,6 @@ mod datagrams;
 mod faults;
 mod group;
 mod looped;
-mod opening;
 mod refusals;
 mod server;
 mod sockets;

@@ -1,44 +1,117 @@
-//! Messages that come to node 1, and what it answers its caller.
-use crate::peer::Peer;
-use crate::samples::{chosen, copied, prepare_span, propose};
-use node::NodeFault;
+//! Messages that come to node 1, as tables have them.
+use crate::samples::{Text, ballot, instance, node_of, value};
+use site_ids::{Cluster, NodeId, Value, Vote};
+use std::alloc::Global;
 use std::process::Abort;
+use wire::Message;
 
-/// A prepare of a node, of so many instances from one on.
-pub(crate) fn prepare_comes(
-    rt: &impl Abort,
-    node: &mut Peer,
-    from: u8,
-    span: (u32, u8),
-    round: u32,
-) -> Result<(), NodeFault> {
+/// A message of the node whose number stands first.
+#[derive(Clone, Copy)]
+pub(crate) enum Heard {
+    /// It prepares so many instances from one on: the instance, how many, the round.
+    Prepare(u8, u32, u8, u32),
+    /// It proposes a value at an instance, in a round.
+    Propose(u8, u32, u32, Text),
+    /// It promises node 1 that round at instance 1, and tells a vote for `v` in that round of node 2.
+    Promise(u8, u32, u32),
+    /// It votes for a value at instance 1, in round 1 of node 1.
+    Vote(u8, Text),
+    /// It refuses round 1 of node 1 at instance 1, since it promised node 2 that round.
+    Nack(u8, u32),
+    /// It asks for the value of an instance.
+    Ask(u8, u32),
+    /// It tells the value of an instance.
+    Chosen(u8, u32, Text),
+}
+
+fn prepare(rt: &impl Abort, from: NodeId, span: (u32, u8), round: u32) -> Message {
     let (first, count) = span;
-    let message = prepare_span(rt, node.other(rt, from), first, count, round);
-    node.hand(rt, message)
+    Message::Prepare {
+        from,
+        instance: instance(rt, first),
+        ballot: ballot(rt, round, from),
+        count,
+    }
 }
 
-/// A proposal of a node.
-pub(crate) fn proposal_comes(
+fn propose(rt: &impl Abort, from: NodeId, at: (u32, u32), value: Value) -> Message {
+    let (number, round) = at;
+    Message::Propose {
+        from,
+        instance: instance(rt, number),
+        ballot: ballot(rt, round, from),
+        value,
+    }
+}
+
+fn promise(
     rt: &impl Abort,
-    node: &mut Peer,
+    cluster: Cluster,
     from: u8,
-    at: (u32, u32),
-    bytes: &[u8],
-) -> Result<(), NodeFault> {
-    let (instance, round) = at;
-    let value = copied(rt, node.alloc(), bytes);
-    let message = propose(rt, node.other(rt, from), instance, round, value);
-    node.hand(rt, message)
+    rounds: (u32, u32),
+    value: Value,
+) -> Message {
+    let (round, prior) = rounds;
+    Message::Promise {
+        from: node_of(rt, cluster, from),
+        instance: instance(rt, 1),
+        ballot: ballot(rt, round, node_of(rt, cluster, 1)),
+        prior: Some(Vote {
+            ballot: ballot(rt, prior, node_of(rt, cluster, 2)),
+            value,
+        }),
+    }
 }
 
-/// Node 2 tells a chosen value.
-pub(crate) fn choice_comes(
-    rt: &impl Abort,
-    node: &mut Peer,
-    at: u32,
-    bytes: &[u8],
-) -> Result<(), NodeFault> {
-    let value = copied(rt, node.alloc(), bytes);
-    let message = chosen(rt, node.other(rt, 2), at, value);
-    node.hand(rt, message)
+fn vote(rt: &impl Abort, cluster: Cluster, from: u8, value: Value) -> Message {
+    Message::Accepted {
+        from: node_of(rt, cluster, from),
+        instance: instance(rt, 1),
+        ballot: ballot(rt, 1, node_of(rt, cluster, 1)),
+        value,
+    }
+}
+
+fn nack(rt: &impl Abort, cluster: Cluster, from: u8, round: u32) -> Message {
+    Message::Nack {
+        from: node_of(rt, cluster, from),
+        instance: instance(rt, 1),
+        asked: ballot(rt, 1, node_of(rt, cluster, 1)),
+        promised: ballot(rt, round, node_of(rt, cluster, 2)),
+    }
+}
+
+fn chosen(rt: &impl Abort, from: NodeId, at: u32, value: Value) -> Message {
+    Message::Chosen {
+        from,
+        instance: instance(rt, at),
+        value,
+    }
+}
+
+/// The message of a node of that cluster.
+pub(crate) fn message(rt: &impl Abort, alloc: Global, cluster: Cluster, heard: Heard) -> Message {
+    match heard {
+        Heard::Prepare(from, first, count, round) => {
+            prepare(rt, node_of(rt, cluster, from), (first, count), round)
+        }
+        Heard::Propose(from, at, round, text) => {
+            let value = value(rt, alloc, text);
+            propose(rt, node_of(rt, cluster, from), (at, round), value)
+        }
+        Heard::Promise(from, round, prior) => {
+            let value = value(rt, alloc, Text::Raw("v"));
+            promise(rt, cluster, from, (round, prior), value)
+        }
+        Heard::Vote(from, text) => vote(rt, cluster, from, value(rt, alloc, text)),
+        Heard::Nack(from, round) => nack(rt, cluster, from, round),
+        Heard::Ask(from, at) => Message::Ask {
+            from: node_of(rt, cluster, from),
+            instance: instance(rt, at),
+        },
+        Heard::Chosen(from, at, text) => {
+            let value = value(rt, alloc, text);
+            chosen(rt, node_of(rt, cluster, from), at, value)
+        }
+    }
 }

@@ -11,7 +11,11 @@ mod devices;
 #[cfg(test)]
 mod driven;
 #[cfg(test)]
+mod failures;
+#[cfg(test)]
 mod heard;
+#[cfg(test)]
+mod nodes;
 #[cfg(test)]
 mod peer;
 #[cfg(test)]
@@ -19,9 +23,13 @@ mod refusals;
 #[cfg(test)]
 mod rows;
 #[cfg(test)]
+mod said;
+#[cfg(test)]
 mod samples;
 #[cfg(test)]
 mod spans;
+#[cfg(test)]
+mod steps;
 #[cfg(test)]
 mod told_again;
 #[cfg(test)]

@@ -1,22 +1,34 @@
-//! A node over a disk in memory, lent to the rows, and boxed: what owns one is proved to let it go at each of its ends, and a box is let go of in one
-//! step.
-ghost use Rattle.site_ids.specs.Ids.{IsNode};
-
+//! A node over a disk in memory, lent to the rows.
 use crate::comparing::same;
-use durable::{Record, RecordFault};
+use crate::heard::{Heard, message};
+use crate::nodes::{again, fresh};
+use crate::samples::{Text, instance, node_of, value};
 use node::{Node, NodeFault, Outbox, Submitted, To};
 use site_disk::MemDisk;
-use site_ids::{Cluster, Instance, NodeId, Ticket, Value};
 use std::alloc::Global;
 use std::process::Abort;
-use wire::Message;
 
 /// Node 1 of a cluster, and what it handed out.
 #[derive(Drop)]
 pub(crate) struct Peer {
     alloc: Global,
-    node: Box<Node<MemDisk>>,
-    out: Outbox,
+    pub node: Box<Node<MemDisk>>,
+    pub out: Outbox,
+}
+
+/// A call of it.
+#[derive(Clone, Copy)]
+pub(crate) enum Call {
+    Begin,
+    Seal,
+    Tick,
+    Ask,
+    Widen,
+    Publish,
+    Submit(Text),
+    /// It tells a node, or 0: all of them, from an instance on.
+    Tell(u8, u32),
+    Hear(Heard),
 }
 
 /// A call came to that.
@@ -28,81 +40,20 @@ pub(crate) fn passes(rt: &impl Abort, called: Result<(), NodeFault>) {
     ends(rt, called, Ok(()));
 }
 
-fn format(alloc: Global, cluster: Cluster, me: NodeId) -> Result<MemDisk, RecordFault> {
-    let mut disk = MemDisk::new(alloc);
-    match Record::format(cluster, me, &mut disk) {
-        Ok(()) => Ok(disk),
+/// How a call ended, whatever it answered.
+fn ended<T: Copy>(called: Result<T, NodeFault>) -> Result<(), NodeFault> {
+    match called {
+        Ok(_) => Ok(()),
         Err(fault) => Err(fault),
     }
-}
-
-/// A record that was just made. A growth that was refused leaves a beginning of it behind, so it is made on another disk then.
-fn formatted(rt: &impl Abort, alloc: Global, cluster: Cluster, me: NodeId) -> MemDisk {
-    match format(alloc, cluster, me) {
-        Ok(disk) => disk,
-        Err(fault) => {
-            same(rt, fault, RecordFault::Device);
-            format(alloc, cluster, me).expect(rt, "a record")
-        }
-    }
-}
-
-fn open(
-    alloc: Global,
-    cluster: Cluster,
-    me: NodeId,
-    disk: MemDisk,
-) -> Result<Node<MemDisk>, (RecordFault, MemDisk)>
-    requires { IsNode cluster me }
-{
-    Node::open(alloc, cluster, me, disk)
-}
-
-/// A box that was refused memory is made once more.
-fn boxed(rt: &impl Abort, alloc: Global, node: Node<MemDisk>) -> Box<Node<MemDisk>> {
-    let node = match Box::new(alloc, node) {
-        Ok(boxed) => return boxed,
-        Err(refused) => refused.value,
-    };
-    match Box::new(alloc, node) {
-        Ok(boxed) => boxed,
-        Err(_refused) => panic!(rt; "memory"),
-    }
-}
-
-/// An opening that was refused memory is tried once more.
-fn opened(rt: &impl Abort, alloc: Global, cluster: Cluster, disk: MemDisk) -> Node<MemDisk> {
-    let me = cluster.node(1).expect(rt, "a node");
-    let (fault, disk) = match open(alloc, cluster, me, disk) {
-        Ok(node) => return node,
-        Err(refused) => refused,
-    };
-    assert!(rt; matches!(fault, RecordFault::OutOfMemory | RecordFault::Device));
-    match open(alloc, cluster, me, disk) {
-        Ok(node) => node,
-        Err((fault, _disk)) => panic!(rt; "{fault:?}"),
-    }
-}
-
-/// The disk of a node that is closed, behind a crash by that choice, or without one.
-fn closed(node: Box<Node<MemDisk>>, crash: Option<u8>) -> MemDisk {
-    let mut disk = Box::into_inner(node).close();
-    match crash {
-        Some(choice) => disk.crash(choice),
-        None => disk.disarm(),
-    }
-    disk
 }
 
 impl Peer {
     /// Node 1 of so many, over a record that was just made.
     pub(crate) fn fresh(rt: &impl Abort, alloc: Global, size: u8) -> Peer {
-        let cluster = Cluster::new(size).expect(rt, "a cluster");
-        let me = cluster.node(1).expect(rt, "a node");
-        let disk = formatted(rt, alloc, cluster, me);
         Peer {
             alloc,
-            node: boxed(rt, alloc, opened(rt, alloc, cluster, disk)),
+            node: fresh(rt, alloc, size, 1),
             out: Vec::new(alloc),
         }
     }
@@ -110,100 +61,50 @@ impl Peer {
     /// Closed and opened again, behind a crash by that choice, or without one.
     pub(crate) fn again(self, rt: &impl Abort, crash: Option<u8>) -> Peer {
         let Peer { alloc, node, out } = self;
-        let cluster = node.cluster();
-        let disk = closed(node, crash);
         Peer {
             alloc,
-            node: boxed(rt, alloc, opened(rt, alloc, cluster, disk)),
+            node: again(rt, alloc, node, crash),
             out,
         }
     }
 
-    pub(crate) fn alloc(&self) -> Global {
-        self.alloc
-    }
-
-    /// A node of the cluster.
-    pub(crate) fn other(&self, rt: &impl Abort, number: u8) -> NodeId {
-        self.node.cluster().node(number).expect(rt, "a node")
-    }
-
-    pub(crate) fn out(&self) -> &Outbox {
-        &self.out
-    }
-
     /// A message of its cluster, which is let go of here alone.
-    pub(crate) fn hand(&mut self, rt: &impl Abort, message: Message) -> Result<(), NodeFault> {
+    pub(crate) fn hear(&mut self, rt: &impl Abort, heard: Heard) -> Result<(), NodeFault> {
+        let message = message(rt, self.alloc, self.node.cluster(), heard);
         assert!(rt; message.is_of(self.node.cluster()));
-        self.node.deliver(&message, &mut self.out)
+        let ended = self.node.deliver(&message, &mut self.out);
+        drop(message);
+        ended
     }
 
-    pub(crate) fn arm(&mut self, calls: u32) {
-        self.node.arm(calls);
-    }
-
-    pub(crate) fn begin(&mut self) -> Result<(), NodeFault> {
-        self.node.begin()
-    }
-
-    pub(crate) fn seal(&mut self) -> Result<(), NodeFault> {
-        self.node.seal()
-    }
-
-    pub(crate) fn tick(&mut self) -> Result<(), NodeFault> {
-        self.node.tick(&mut self.out)
+    pub(crate) fn submit(&mut self, rt: &impl Abort, text: Text) -> Result<Submitted, NodeFault> {
+        let value = value(rt, self.alloc, text);
+        self.node.submit(&value)
     }
 
     pub(crate) fn widen(&mut self) -> Result<bool, NodeFault> {
         self.node.widen(&mut self.out)
     }
 
-    /// Empties what was handed out.
-    pub(crate) fn forget_said(&mut self) {
-        self.out.clear();
+    fn tell(&mut self, rt: &impl Abort, to: u8, first: u32) -> Result<(), NodeFault> {
+        let to = match to {
+            0 => To::All,
+            _ => To::One(node_of(rt, self.node.cluster(), to)),
+        };
+        self.node.tell(to, instance(rt, first), &mut self.out)
     }
 
-    pub(crate) fn ask(&mut self) -> Result<(), NodeFault> {
-        self.node.ask(&mut self.out)
-    }
-
-    pub(crate) fn tell(&mut self, to: To, first: Instance) -> Result<(), NodeFault> {
-        self.node.tell(to, first, &mut self.out)
-    }
-
-    pub(crate) fn submit(&mut self, value: &Value) -> Result<Submitted, NodeFault> {
-        self.node.submit(value)
-    }
-
-    pub(crate) fn publish(&mut self) -> Result<u64, NodeFault> {
-        self.node.publish()
-    }
-
-    pub(crate) fn known(&self) -> u32 {
-        self.node.known()
-    }
-
-    pub(crate) fn wants_tick(&self) -> bool {
-        self.node.wants_tick()
-    }
-
-    pub(crate) fn is_stopped(&self) -> bool {
-        self.node.is_stopped()
-    }
-
-    pub(crate) fn newest(&self) -> u64 {
-        self.node.newest()
-    }
-
-    pub(crate) fn receipt(&self, ticket: Ticket) -> Option<Instance> {
-        self.node.receipt(ticket)
-    }
-
-    /// The status of the newest release's page.
-    pub(crate) fn status(&self, path: &str) -> Option<u16> {
-        match self.node.answer(self.newest(), path) {
-            Ok(answer) => Some(answer.status),
-            Err(_) => None,
+    pub(crate) fn call(&mut self, rt: &impl Abort, call: Call) -> Result<(), NodeFault> {
+        match call {
+            Call::Begin => self.node.begin(),
+            Call::Seal => self.node.seal(),
+            Call::Tick => self.node.tick(&mut self.out),
+            Call::Ask => self.node.ask(&mut self.out),
+            Call::Widen => ended(self.widen()),
+            Call::Publish => ended(self.node.publish()),
+            Call::Submit(text) => ended(self.submit(rt, text)),
+            Call::Tell(to, first) => self.tell(rt, to, first),
+            Call::Hear(heard) => self.hear(rt, heard),
         }
     }
 }

@@ -81,14 +81,10 @@ fn reading_data(rt: HostRuntime) {
 }
 
 /// So many lists within one another.
-fn nested(alloc: Global, lists: u32) -> Result<Vec<u8>, AllocError> {
+fn nested(alloc: Global, lists: usize) -> Result<Vec<u8>, AllocError> {
     let mut json = Vec::new(alloc);
-    for _ in 0..lists {
-        json.push(b'[')?;
-    }
-    for _ in 0..lists {
-        json.push(b']')?;
-    }
+    json.resize(lists, b'[')?;
+    json.resize(lists.saturating_mul(2), b']')?;
     Ok(json)
 }
 
@@ -100,16 +96,19 @@ fn items_of(data: &Data) -> usize {
 }
 
 /// How many items the outermost of so many lists has.
-fn outermost(rt: &impl Abort, alloc: Global, lists: u32) -> Result<usize, DataFault> {
+fn outermost(rt: &impl Abort, alloc: Global, lists: usize) -> Result<usize, DataFault> {
     let json = nested(alloc, lists).expect(rt, "memory");
     let data = Data::from_json(alloc, &json)?;
-    Ok(items_of(&data))
+    let items = items_of(&data);
+    drop(data);
+    Ok(items)
 }
 
 #[test]
 fn lists_nest_127_deep(rt: HostRuntime) {
-    assert!(rt; outermost(&rt, rt.alloc(), 127) == Ok(1));
-    assert!(rt; outermost(&rt, rt.alloc(), 128) == Err(DataFault::NotJson));
+    same(&rt, outermost(&rt, rt.alloc(), 127), Ok(1));
+    let deeper = outermost(&rt, rt.alloc(), 128);
+    same(&rt, deeper, Err(DataFault::NotJson));
 }
 
 const RELEASE: &[u8] = b"\x00\x00\x00\x01\x00\x00\x00\x00\x00\x00\x00\x05release\n";
@@ -134,7 +133,8 @@ pub(crate) fn read_as(alloc: Global, value: &[u8]) -> Result<(Ticket, bool), Com
 
 #[test]
 fn reading_values(rt: HostRuntime) {
-    assert!(rt; read_as(rt.alloc(), RELEASE) == Ok((TICKET, true)));
+    let release = read_as(rt.alloc(), RELEASE);
+    ensure(&rt, release == Ok((TICKET, true)), TICKET.number);
 }
 
 #[test]
@@ -144,12 +144,12 @@ fn printing_a_fault_of_a_template(rt: HostRuntime) {
         place: 6,
     };
     let line = fault_line(rt.alloc(), &CommandFault::Template(fault)).expect(&rt, "a line");
-    assert!(rt; line.as_str() == "5 Template 6 WrongEnd at 6");
+    same(&rt, line.as_str(), "5 Template 6 WrongEnd at 6");
 }
 
 #[test]
 fn printing_a_fault_of_data(rt: HostRuntime) {
     let fault = CommandFault::Data(DataFault::NotWhole);
     let line = fault_line(rt.alloc(), &fault).expect(&rt, "a line");
-    assert!(rt; line.as_str() == "6 Data 2 NotWhole");
+    same(&rt, line.as_str(), "6 Data 2 NotWhole");
 }

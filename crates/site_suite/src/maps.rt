@@ -1,5 +1,5 @@
 //! Maps whose copies share. A map is lent to what changes it: what owns one is proved to let it go at each of its ends.
-use crate::comparing::ensure;
+use crate::comparing::{ensure, same};
 use shared_map::SharedMap;
 use std::alloc::{AllocError, Global};
 use std::process::Abort;
@@ -80,9 +80,9 @@ fn remove_in_order(rt: &impl Abort, alloc: Global, map: &mut Numbers, end: u32) 
 
 fn check_heights(rt: &impl Abort, alloc: Global, map: &mut Numbers) {
     fill_in_order(rt, alloc, map, 4096);
-    assert!(rt; map.height() == 13);
+    same(rt, map.height(), 13);
     remove_in_order(rt, alloc, map, 4000);
-    assert!(rt; map.height() <= 9);
+    ensure(rt, map.height() <= 9, map.height());
     has(rt, map, "4000", Some(4000));
     has(rt, map, "3999", None);
 }

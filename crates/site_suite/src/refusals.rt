@@ -1,9 +1,10 @@
 //! Each call with one growth refused, as `tools/gate/refuse-growths` runs this: it answers as ever, or that memory was refused, and then the next try
 //! answers as ever. A try tells whether it found what it should, and lets go of that.
 use crate::calls::read_as;
+use crate::comparing::{ensure, same};
 use crate::releases::{V1, feed, new_releases, shows};
 use crate::rows::{COMMANDS, is_answered, ticket};
-use crate::sites::{copied, new_site};
+use crate::sites::{Kind, copied, has, is_routed, new_site};
 use command::{CommandFault, fault_line, write};
 use content::{Applied, Site};
 use context::{Data, DataFault};
@@ -29,11 +30,11 @@ fn has_nodes(alloc: Global) -> Result<bool, TemplateFault> {
 fn is_found(rt: &impl Abort, tried: Result<bool, TemplateFault>) -> bool {
     match tried {
         Ok(found) => {
-            assert!(rt; found);
+            ensure(rt, found, 0);
             true
         }
         Err(fault) => {
-            assert!(rt; fault.kind == FaultKind::OutOfMemory && fault.place == 0);
+            same(rt, (fault.kind, fault.place), (FaultKind::OutOfMemory, 0));
             false
         }
     }
@@ -51,7 +52,10 @@ fn data(rt: &impl Abort, alloc: Global) -> Data {
 }
 
 fn has_members(alloc: Global, data: &Data) -> Result<bool, AllocError> {
-    Ok(matches!(&data.copy(alloc)?, Data::Hash(members) if members.len() == 3))
+    let copy = data.copy(alloc)?;
+    let is_whole = matches!(&copy, Data::Hash(members) if members.len() == 3);
+    drop(copy);
+    Ok(is_whole)
 }
 
 fn copy(rt: &impl Abort, alloc: Global, data: &Data) {
@@ -59,12 +63,13 @@ fn copy(rt: &impl Abort, alloc: Global, data: &Data) {
         Ok(is_whole) => is_whole,
         Err(_) => has_members(alloc, data).expect(rt, "a copy"),
     };
-    assert!(rt; is_whole);
+    ensure(rt, is_whole, 0);
 }
 
 fn check_templates(rt: &impl Abort, alloc: Global) {
-    assert!(rt; is_found(rt, has_tokens(alloc)) || is_found(rt, has_tokens(alloc)));
-    assert!(rt; is_found(rt, has_nodes(alloc)) || is_found(rt, has_nodes(alloc)));
+    let scanned = is_found(rt, has_tokens(alloc)) || is_found(rt, has_tokens(alloc));
+    let parsed = is_found(rt, has_nodes(alloc)) || is_found(rt, has_nodes(alloc));
+    same(rt, (scanned, parsed), (true, true));
 }
 
 #[test]
@@ -85,7 +90,7 @@ fn is_of(rt: &impl Abort, alloc: Global, value: &[u8], ticket: Ticket) {
         Err(CommandFault::OutOfMemory) => read_as(alloc, value).expect(rt, "a command"),
         other => other.expect(rt, "a command"),
     };
-    assert!(rt; found == ticket);
+    same(rt, found, ticket);
 }
 
 const TICKET: Ticket = Ticket {
@@ -117,7 +122,7 @@ fn check_value(rt: &impl Abort, alloc: Global, text: &str) {
 }
 
 fn check_line(rt: &impl Abort, alloc: Global) {
-    assert!(rt; line(rt, alloc).as_str() == "6 Data 1 NotJson");
+    same(rt, line(rt, alloc).as_str(), "6 Data 1 NotJson");
 }
 
 #[test]
@@ -129,7 +134,10 @@ fn values_and_lines(rt: HostRuntime) {
 }
 
 fn length_of(site: &Site) -> Option<usize> {
-    site.template("t").map(|t| t.nodes().len())
+    match site.template("t") {
+        Some(template) => Some(template.nodes().len()),
+        None => None,
+    }
 }
 
 /// The site takes the value, and answers so. Where memory was refused it is as before.
@@ -137,7 +145,7 @@ fn take(rt: &impl Abort, site: &mut Site, value: &[u8], text: &str, applied: App
     let before = length_of(site);
     let mut answer = site.apply(value);
     if answer.is_err() {
-        assert!(rt; length_of(site) == before);
+        same(rt, length_of(site), before);
         answer = site.apply(value);
     }
     is_answered(rt, text, answer, applied);
@@ -145,9 +153,7 @@ fn take(rt: &impl Abort, site: &mut Site, value: &[u8], text: &str, applied: App
 
 /// Whether a site has what the commands leave.
 fn is_left(site: &Site) -> bool {
-    site.template("t").is_none()
-        && site.data("d").is_some()
-        && matches!(site.route("/"), Some(("t", "d")))
+    !has(site, Kind::Template, "t") && has(site, Kind::Data, "d") && is_routed(site)
 }
 
 fn is_left_in_copy(alloc: Global, site: &Site) -> Option<bool> {
@@ -160,7 +166,7 @@ fn check_copy(rt: &impl Abort, alloc: Global, site: &Site) {
         Some(is_left) => is_left,
         None => is_left_in_copy(alloc, site).expect(rt, "a copy"),
     };
-    assert!(rt; is_left);
+    ensure(rt, is_left, 0);
 }
 
 fn take_each(rt: &impl Abort, alloc: Global, site: &mut Site) {
@@ -193,7 +199,7 @@ fn fed(rt: &impl Abort, releases: &mut Releases, value: &[u8], text: &str, appli
     let before = lengths(releases);
     let mut answer = feed(releases, value);
     if answer.is_err() {
-        assert!(rt; lengths(releases) == before);
+        same(rt, lengths(releases), before);
         answer = feed(releases, value);
     }
     is_answered(rt, text, answer, applied);
@@ -205,7 +211,7 @@ fn show(rt: &impl Abort, releases: &Releases) {
         Err(AnswerFault::OutOfMemory) => shows(releases, 1, "/", V1).expect(rt, "a page"),
         other => other.expect(rt, "a page"),
     };
-    assert!(rt; is_right);
+    ensure(rt, is_right, 1);
 }
 
 fn feed_each(rt: &impl Abort, alloc: Global, releases: &mut Releases) {
@@ -226,6 +232,6 @@ fn fresh_releases(rt: &impl Abort, alloc: Global) -> Box<Releases> {
 fn releases(rt: HostRuntime) {
     let mut releases = fresh_releases(&rt, rt.alloc());
     feed_each(&rt, rt.alloc(), &mut releases);
-    assert!(rt; releases.newest() == 2);
+    same(&rt, releases.newest(), 2);
     show(&rt, &releases);
 }

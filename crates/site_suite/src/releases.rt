@@ -1,6 +1,6 @@
 //! Releases by number: what each value is answered with, the newest, pages and receipts. Releases are boxed, since a box is let go of in one step, and
 //! lent to what is told of them.
-use crate::comparing::ensure;
+use crate::comparing::{ensure, same};
 use crate::rows::{COMMANDS, Row, is_answered, ticket, value_of};
 use content::Applied;
 use release::{AnswerFault, Releases};
@@ -107,9 +107,9 @@ fn check_receipts(rt: &impl Abort, releases: &Releases) {
 }
 
 fn eight(rt: &impl Abort, alloc: Global, releases: &mut Releases) {
-    assert!(rt; releases.newest() == 0);
+    same(rt, releases.newest(), 0);
     feed_all(rt, alloc, releases, COMMANDS);
-    assert!(rt; releases.newest() == 2);
+    same(rt, releases.newest(), 2);
     check_pages(rt, releases, PAGES);
     check_kept(rt, releases);
     check_receipts(rt, releases);
@@ -131,10 +131,10 @@ const RELEASED: &[Row] = &[
 fn no_commands(rt: &impl Abort, alloc: Global, releases: &mut Releases) {
     is_answered(rt, "nothing", feed(releases, b""), Applied::NotACommand);
     feed_all(rt, alloc, releases, UNREAD);
-    assert!(rt; receipt(releases, 1).is_none());
+    same(rt, receipt(releases, 1), None);
     feed_all(rt, alloc, releases, RELEASED);
-    assert!(rt; releases.newest() == 1);
-    assert!(rt; receipt(releases, 1) == Some(3));
+    same(rt, releases.newest(), 1);
+    same(rt, receipt(releases, 1), Some(3));
 }
 
 #[test]

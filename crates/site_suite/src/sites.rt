@@ -26,7 +26,7 @@ fn take_all(rt: &impl Abort, alloc: Global, site: &mut Site, rows: &[Row]) {
 }
 
 #[derive(Clone, Copy)]
-enum Kind {
+pub(crate) enum Kind {
     Template,
     Partial,
     Data,
@@ -34,7 +34,7 @@ enum Kind {
     Redirect,
 }
 
-fn has(site: &Site, kind: Kind, name: &str) -> bool {
+pub(crate) fn has(site: &Site, kind: Kind, name: &str) -> bool {
     match kind {
         Kind::Template => site.template(name).is_some(),
         Kind::Partial => site.partial(name).is_some(),
@@ -79,7 +79,7 @@ const ANSWERS: &[Row] = &[
 fn check_answers(rt: &impl Abort, alloc: Global, site: &mut Site) {
     take_all(rt, alloc, site, ANSWERS);
     is_answered(rt, "nothing", site.apply(b""), Applied::NotACommand);
-    assert!(rt; has_text(site, "a"));
+    ensure(rt, has_text(site, "a"), 1);
 }
 
 #[test]
@@ -119,7 +119,8 @@ fn has_three(data: Option<&Data>) -> bool {
     matches!(data, Some(Data::List(items)) if items.len() == 3 && has_two(items.last()))
 }
 
-fn is_routed(site: &Site) -> bool {
+/// Whether the root has its template and its data.
+pub(crate) fn is_routed(site: &Site) -> bool {
     matches!(site.route("/"), Some(("t", "d")))
 }
 
@@ -129,7 +130,7 @@ fn leads(site: &Site, to: &str) -> bool {
 
 fn check_greeting(rt: &impl Abort, site: &Site) {
     let shows = has_text(site, "Hello, ") && has_name(site, "x") && has_three(site.data("d"));
-    assert!(rt; shows && is_routed(site) && leads(site, "/new"));
+    ensure(rt, shows && is_routed(site) && leads(site, "/new"), shows);
 }
 
 /// Names of one kind are none of another.
@@ -174,7 +175,7 @@ fn check_contents(rt: &impl Abort, alloc: Global, site: &mut Site) {
     check_greeting(rt, site);
     check_removals(rt, alloc, site);
     take_all(rt, alloc, site, REDIRECTED);
-    assert!(rt; leads(site, "/\u{e9}?x"));
+    ensure(rt, leads(site, "/\u{e9}?x"), 8);
     check_step(
         rt,
         alloc,

@@ -1,11 +1,13 @@
 //! Batches: what one takes and posts, the calls that a burst makes of the device, and what one that fails leaves: nothing is posted, and all of the batch is
 //! found again or none.
-use crate::comparing::ensure;
-use crate::driven::opening::reopened;
-use crate::driven::server::{Server, bytes};
-use node::{NodeFault, To};
+use crate::comparing::{ensure, same};
+use crate::driven::server::{Server, bytes, reopened};
+use crate::failures::FAILURES;
+use crate::said::number_of;
+use crate::samples::instance;
+use node::{Node, NodeFault};
+use site_disk::MemDisk;
 use site_drive::{LastCall, Letter, MemLink};
-use site_ids::Instance;
 use std::alloc::Global;
 use std::process::Abort;
 
@@ -20,7 +22,9 @@ const BURST: &[&str] = &[
 const IDLE: &[&str] = &["01060300000001", "0104020000000900000001020000000107", "ff"];
 
 /// What comes, and what is posted for it: to whom, 0 for all, and the bytes.
-const MAIL: &[(&str, &[(u8, &str)])] = &[
+type Mail = (&'static str, &'static [(u8, &'static str)]);
+
+const MAIL: &[Mail] = &[
     // A prepare of node 2, and a promise to it.
     (
         "010102000000010000000102",
@@ -47,45 +51,24 @@ const LAST_CALLS: &[(u8, usize, &str)] = &[
     (6, 1, "01060100000002"),
 ];
 
-/// After so many calls the device fails. Then the node is opened again, behind a crash by a choice or without one: whether the three votes are found.
-const FAILURES: &[(u32, Option<u8>, bool)] = &[
-    (0, Some(0), false),
-    (0, Some(1), false),
-    (0, Some(7), false),
-    (0, None, false),
-    (1, Some(0), false),
-    (1, Some(1), false),
-    (1, Some(7), false),
-    (1, None, false),
-    (2, Some(0), false),
-    (2, Some(1), false),
-    (2, Some(7), false),
-    (2, None, false),
-    (3, Some(0), false),
-    (3, Some(1), true),
-    (3, Some(7), false),
-    (3, None, true),
-];
-
-fn server(rt: &impl Abort, alloc: Global) -> Box<Server<MemLink>> {
-    Server::new(rt, alloc, 3, 1, MemLink::new(alloc))
+fn push(rt: &impl Abort, alloc: Global, came: &mut Vec<Vec<u8>>, text: &str) {
+    came.push(bytes(rt, alloc, text)).expect(rt, "a place");
 }
 
 fn datagrams(rt: &impl Abort, alloc: Global, texts: &[&str]) -> Vec<Vec<u8>> {
     let mut came = Vec::new(alloc);
     for text in texts {
-        let datagram = bytes(rt, alloc, text);
-        came.push(datagram).expect(rt, "a place");
+        push(rt, alloc, &mut came, text);
     }
     came
 }
 
-/// The number of the node that a letter is for; 0 for all.
-fn number_of(letter: &Letter) -> u8 {
-    match letter.to {
-        To::All => 0,
-        To::One(node) => node.number(),
+fn datagrams_of(rt: &impl Abort, alloc: Global, mail: &[Mail]) -> Vec<Vec<u8>> {
+    let mut came = Vec::new(alloc);
+    for &(text, _) in mail {
+        push(rt, alloc, &mut came, text);
     }
+    came
 }
 
 /// The letter at that place is for that node, or for all, and has these bytes, in hexadecimal.
@@ -93,14 +76,14 @@ fn is_letter(rt: &impl Abort, alloc: Global, letters: &[Letter], at: usize, row:
     let (to, text) = row;
     let letter = letters.get(at).expect(rt, "a letter");
     let expected = bytes(rt, alloc, text);
-    ensure(rt, letter.bytes.as_slice() == expected.as_slice(), text);
-    ensure(rt, number_of(letter) == to, text);
+    let is_it = number_of(&letter.to) == to && letter.bytes.as_slice() == expected.as_slice();
+    ensure(rt, is_it, text);
 }
 
-/// What is posted for the first so many datagrams, in order, are the first letters: how many.
-fn posted(rt: &impl Abort, alloc: Global, letters: &[Letter], count: usize) -> usize {
+/// What is posted for these datagrams, in order, are the first letters: how many.
+fn posted(rt: &impl Abort, alloc: Global, letters: &[Letter], mail: &[Mail]) -> usize {
     let mut at = 0;
-    for &(_, posted) in MAIL.iter().take(count) {
+    for &(_, posted) in mail {
         for &row in posted {
             is_letter(rt, alloc, letters, at, row);
             at = at.saturating_add(1);
@@ -109,29 +92,22 @@ fn posted(rt: &impl Abort, alloc: Global, letters: &[Letter], count: usize) -> u
     at
 }
 
-fn first_mail(rt: &impl Abort, alloc: Global, count: usize) -> Vec<Vec<u8>> {
-    let mut came = Vec::new(alloc);
-    for &(text, _) in MAIL.iter().take(count) {
-        came.push(bytes(rt, alloc, text)).expect(rt, "a place");
-    }
-    came
-}
-
-/// What is posted for the first so many datagrams, and then what the last call hands out.
-fn check_letters(rt: &impl Abort, alloc: Global, letters: &[Letter], count: usize, last: &str) {
-    let at = posted(rt, alloc, letters, count);
+/// What is posted for these datagrams, and then what the last call hands out.
+fn check_letters(rt: &impl Abort, alloc: Global, letters: &[Letter], mail: &[Mail], last: &str) {
+    let at = posted(rt, alloc, letters, mail);
     is_letter(rt, alloc, letters, at, (0, last));
     ensure(rt, letters.len() == at.saturating_add(1), last);
 }
 
 /// The first so many datagrams are a batch.
 fn posts(rt: &impl Abort, alloc: Global, count: u8, malformed: usize, last: &str) {
-    let came = first_mail(rt, alloc, usize::from(count));
-    let (strange, letters) = server(rt, alloc)
+    let (mail, _) = MAIL.split_at_checked(usize::from(count)).expect(rt, "mail");
+    let came = datagrams_of(rt, alloc, mail);
+    let (strange, letters) = Server::over_queues(rt, alloc, 3)
         .batch(came.as_slice(), LastCall::TickOrAsk)
         .expect(rt, "a batch");
     ensure(rt, strange == malformed, last);
-    check_letters(rt, alloc, letters.as_slice(), usize::from(count), last);
+    check_letters(rt, alloc, letters.as_slice(), mail, last);
 }
 
 #[test]
@@ -142,57 +118,84 @@ fn a_batch_posts_what_it_hands_out_in_order(rt: HostRuntime) {
 }
 
 /// The node has all votes of the burst on record, or none.
-fn has_votes(rt: &impl Abort, server: &Server<MemLink>, all: bool) {
+fn has_votes(rt: &impl Abort, node: &Node<MemDisk>, all: bool) {
     for number in 1..=3 {
-        let instance = Instance::new(number).expect(rt, "an instance");
-        ensure(rt, server.node.slot(instance).vote.is_some() == all, number);
+        let slot = node.slot(instance(rt, number));
+        ensure(rt, slot.vote.is_some() == all, number);
     }
 }
 
-/// So many calls of the device are enough for it at a node where a value waits, and so many letters are posted then.
-fn takes(
+/// A last call, as tables have it.
+#[derive(Clone, Copy)]
+enum Last {
+    TickOrAsk,
+    Ask,
+    Nothing,
+}
+
+/// What comes, and a last call behind it; so many calls of the device are enough for it at a node where a value waits, and so many letters are posted then.
+type Takes = (&'static [&'static str], Last, u32, usize);
+
+const TAKES: &[Takes] = &[
+    (BURST, Last::Nothing, 4, 3),
+    // A tick puts a round, and asks all nodes to promise.
+    (BURST, Last::TickOrAsk, 4, 4),
+    (IDLE, Last::TickOrAsk, 4, 1),
+    (IDLE, Last::Ask, 0, 1),
+    (IDLE, Last::Nothing, 0, 0),
+];
+
+fn call_of(last: Last) -> LastCall {
+    match last {
+        Last::TickOrAsk => LastCall::TickOrAsk,
+        Last::Ask => LastCall::Ask,
+        Last::Nothing => LastCall::Nothing,
+    }
+}
+
+/// How many letters are posted.
+fn posts_many(
     rt: &impl Abort,
-    alloc: Global,
+    server: &mut Server<MemLink>,
     heard: &[&str],
     last: LastCall,
-    calls: u32,
-    posted: usize,
-) {
-    let mut server = server(rt, alloc);
-    server.submit(rt, 1, "release\n");
-    server.node.arm(calls);
-    let came = datagrams(rt, alloc, heard);
+) -> usize {
+    let came = datagrams(rt, server.alloc, heard);
     let (_, letters) = server
         .batch(came.as_slice(), last)
         .expect(rt, "no call more");
-    assert!(rt; letters.len() == posted);
+    letters.len()
+}
+
+fn takes(rt: &impl Abort, server: &mut Server<MemLink>, row: Takes) {
+    let (heard, last, calls, posted) = row;
+    server.submit(rt, 1, "release\n");
+    server.node.arm(calls);
+    same(rt, posts_many(rt, server, heard, call_of(last)), posted);
 }
 
 #[test]
 fn a_burst_takes_four_calls_of_the_device_and_what_puts_nothing_takes_none(rt: HostRuntime) {
-    takes(&rt, rt.alloc(), BURST, LastCall::Nothing, 4, 3);
-    // A tick puts a round, and asks all nodes to promise.
-    takes(&rt, rt.alloc(), BURST, LastCall::TickOrAsk, 4, 4);
-    takes(&rt, rt.alloc(), IDLE, LastCall::TickOrAsk, 4, 1);
-    takes(&rt, rt.alloc(), IDLE, LastCall::Ask, 0, 1);
-    takes(&rt, rt.alloc(), IDLE, LastCall::Nothing, 0, 0);
+    for &row in TAKES {
+        takes(&rt, &mut Server::over_queues(&rt, rt.alloc(), 3), row);
+    }
 }
 
 /// The batch ends with the fault of the device, and the next one with that of a node that is stopped.
-fn fails(rt: &impl Abort, server: &mut Server<MemLink>, came: &[Vec<u8>], calls: u32) {
-    let fault = server.batch(came, LastCall::Nothing).err();
-    ensure(rt, fault == Some(NodeFault::Device), calls);
-    assert!(rt; server.node.is_stopped());
-    let again = server.batch(came, LastCall::Nothing).err();
-    ensure(rt, again == Some(NodeFault::Stopped), calls);
+fn fails(rt: &impl Abort, server: &mut Server<MemLink>, calls: u32) {
+    let came = datagrams(rt, server.alloc, BURST);
+    let fault = server.batch(came.as_slice(), LastCall::Nothing).err();
+    same(rt, (calls, fault), (calls, Some(NodeFault::Device)));
+    ensure(rt, server.node.is_stopped(), calls);
+    let again = server.batch(came.as_slice(), LastCall::Nothing).err();
+    same(rt, (calls, again), (calls, Some(NodeFault::Stopped)));
 }
 
 fn fail(rt: &impl Abort, alloc: Global, calls: u32, crash: Option<u8>, found: bool) {
-    let mut server = server(rt, alloc);
+    let mut server = Server::over_queues(rt, alloc, 3);
     server.node.arm(calls);
-    let came = datagrams(rt, alloc, BURST);
-    fails(rt, &mut server, came.as_slice(), calls);
-    has_votes(rt, &reopened(rt, server, crash), found);
+    fails(rt, &mut server, calls);
+    has_votes(rt, &reopened(rt, server, crash).node, found);
 }
 
 #[test]

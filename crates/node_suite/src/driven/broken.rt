@@ -1,6 +1,7 @@
 //! A link whose calls fail.
 ghost use Rattle.std.specs.Prelude.{◌≡◌};
 
+use crate::comparing::same;
 use crate::driven::server::{Server, passes};
 use site_drive::{Link, LinkFailed};
 use site_ids::NodeId;
@@ -65,7 +66,11 @@ fn drive(rt: &impl Abort, server: &mut Server<Broken>, turns: u32, failed: u64) 
     let tries = server.link.tries.saturating_add(u64::from(turns));
     let failures = server.link.failures.saturating_add(failed);
     passes(rt, "failing calls", server.drive(turns), 0, failed);
-    assert!(rt; server.link.tries == tries && server.link.failures == failures);
+    same(
+        rt,
+        (server.link.tries, server.link.failures),
+        (tries, failures),
+    );
 }
 
 fn drive_each(rt: &impl Abort, server: &mut Server<Broken>) {

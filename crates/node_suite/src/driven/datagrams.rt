@@ -1,5 +1,5 @@
 //! Datagrams that spell no message of three nodes, and the longest one that does.
-use crate::comparing::same;
+use crate::comparing::{ensure, same};
 use crate::driven::server::{Server, bytes, passes};
 use site_drive::MemLink;
 use std::alloc::Global;
@@ -32,17 +32,24 @@ fn all_at_once(rt: &impl Abort, server: &mut Server<MemLink>) {
     passes(rt, "all at once", server.exchange(99), 7, 0);
 }
 
+fn change_nothing(rt: &impl Abort, server: &mut Server<MemLink>) {
+    each_alone(rt, server);
+    all_at_once(rt, server);
+    same(rt, server.link.sent().len(), 0);
+    same(
+        rt,
+        (server.node.known(), server.node.wants_tick()),
+        (0, false),
+    );
+    // The prepare is taken, and no vote is told.
+    server.queue(rt, "010102000000010000000102");
+    passes(rt, "a message", server.exchange(1), 0, 0);
+    server.sent(rt, 0, 2, "01020100000001000000010200");
+}
+
 #[test]
 fn datagrams_of_no_message_are_counted_and_change_nothing(rt: HostRuntime) {
-    let mut server = Server::new(&rt, rt.alloc(), 3, 1, MemLink::new(rt.alloc()));
-    each_alone(&rt, &mut server);
-    all_at_once(&rt, &mut server);
-    assert!(rt; server.link.sent().is_empty());
-    assert!(rt; server.node.known() == 0 && !server.node.wants_tick());
-    // The prepare is taken, and no vote is told.
-    server.queue(&rt, "010102000000010000000102");
-    passes(&rt, "a message", server.exchange(1), 0, 0);
-    server.sent(&rt, 0, 2, "01020100000001000000010200");
+    change_nothing(&rt, &mut Server::over_queues(&rt, rt.alloc(), 3));
 }
 
 /// All of a promise but its vote's value, of 32,768 bytes.
@@ -84,23 +91,31 @@ fn hear_each(rt: &impl Abort, server: &mut Server<MemLink>) {
 /// The datagrams sent from that place on are three, each the proposal.
 fn proposes(rt: &impl Abort, server: &Server<MemLink>, first: usize) {
     let proposal = long(rt, server.alloc, PROPOSAL, 32_784);
-    same(rt, server.link.sent().len(), first.saturating_add(3));
-    for (_, datagram) in server.link.sent().iter().skip(first) {
-        assert!(rt; datagram.as_slice() == proposal.as_slice());
+    let (_, sent) = server
+        .link
+        .sent()
+        .split_at_checked(first)
+        .expect(rt, "a proposal");
+    same(rt, sent.len(), 3);
+    for (to, datagram) in sent {
+        ensure(rt, datagram.as_slice() == proposal.as_slice(), to.number());
     }
 }
 
 /// In round 2 of node 1 two promises tell of the same vote for the greatest value.
+fn longest(rt: &impl Abort, server: &mut Server<MemLink>) {
+    server.submit(rt, 1, "release\n");
+    for _ in 0..2 {
+        passes(rt, "a tick", server.drive(0), 0, 0);
+    }
+    hear_each(rt, server);
+    let first = server.link.sent().len();
+    push(rt, server, PROMISE_OF_3, 32_790);
+    passes(rt, "the second promise", server.exchange(1), 0, 0);
+    proposes(rt, server, first);
+}
+
 #[test]
 fn the_longest_message_arrives_and_a_cut_one_does_not(rt: HostRuntime) {
-    let mut server = Server::new(&rt, rt.alloc(), 3, 1, MemLink::new(rt.alloc()));
-    server.submit(&rt, 1, "release\n");
-    for _ in 0..2 {
-        passes(&rt, "a tick", server.drive(0), 0, 0);
-    }
-    hear_each(&rt, &mut server);
-    let first = server.link.sent().len();
-    push(&rt, &mut server, PROMISE_OF_3, 32_790);
-    passes(&rt, "the second promise", server.exchange(1), 0, 0);
-    proposes(&rt, &server, first);
+    longest(&rt, &mut Server::over_queues(&rt, rt.alloc(), 3));
 }

@@ -1,4 +1,5 @@
 //! Faults of a node: the drive ends there, and what was sent before stays sent.
+use crate::comparing::{ensure, same};
 use crate::driven::server::Server;
 use node::NodeFault;
 use site_drive::{Link, MemLink};
@@ -46,9 +47,9 @@ const FAULTS: &[(&[&str], Option<u32>, End, End)] = &[
 ];
 
 fn ends(rt: &impl Abort, server: &mut Server<MemLink>, turns: u32, end: End) {
-    let (fault, tries, sent) = end;
-    assert!(rt; server.drive(turns).err() == fault);
-    assert!(rt; server.link.tries() == tries && server.link.sent().len() == sent);
+    let fault = server.drive(turns).err();
+    let came = (fault, server.link.tries(), server.link.sent().len());
+    same(rt, came, end);
 }
 
 fn prepare(rt: &impl Abort, server: &mut Server<MemLink>, heard: &[&str], calls: Option<u32>) {
@@ -62,9 +63,9 @@ fn prepare(rt: &impl Abort, server: &mut Server<MemLink>, heard: &[&str], calls:
 }
 
 fn check_stopped(rt: &impl Abort, server: &Server<MemLink>, stopped: bool) {
-    assert!(rt; server.node.is_stopped() == stopped);
+    same(rt, server.node.is_stopped(), stopped);
     server.sent(rt, 0, 3, ANSWER);
-    assert!(rt; server.shows("/", 404, "not found\n"));
+    ensure(rt, server.shows("/", 404, "not found\n"), stopped);
 }
 
 fn fail(
@@ -75,7 +76,7 @@ fn fail(
     first: End,
     second: End,
 ) {
-    let mut server = Server::new(rt, alloc, 3, 1, MemLink::new(alloc));
+    let mut server = Server::over_queues(rt, alloc, 3);
     prepare(rt, &mut server, heard, calls);
     ends(rt, &mut server, 9, first);
     ends(rt, &mut server, 2, second);

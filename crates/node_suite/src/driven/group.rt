@@ -1,4 +1,5 @@
 //! Three nodes over queues in memory agree on a page.
+use crate::comparing::ensure;
 use crate::driven::looped::Looped;
 use crate::driven::server::{Server, passes};
 use std::alloc::Global;
@@ -20,7 +21,12 @@ const DRIVES: &[(usize, &[(u8, u32)])] = &[
 
 /// What a node sent from a place on reaches another one's queue, where it is for that.
 fn carry(rt: &impl Abort, from: &Looped, first: usize, to: &mut Looped) {
-    for (node, datagram) in from.link.sent().iter().skip(first) {
+    let (_, sent) = from
+        .link
+        .sent()
+        .split_at_checked(first)
+        .expect(rt, "what was sent");
+    for (node, datagram) in sent {
         if node.number() == to.me {
             to.link.push(datagram.as_slice()).expect(rt, "a place");
         }
@@ -57,6 +63,7 @@ fn drive_each(
     }
 }
 
+/// Then node 3 shows the page.
 fn drive_all(
     rt: &impl Abort,
     one: &mut Server<Looped>,
@@ -68,6 +75,7 @@ fn drive_all(
             drive_each(rt, drives, one, two, three);
         }
     }
+    ensure(rt, three.shows("/", 200, "Hello, world!\n"), 3);
 }
 
 fn submit_all(rt: &impl Abort, server: &mut Server<Looped>) {
@@ -80,15 +88,9 @@ fn member(rt: &impl Abort, alloc: Global, number: u8) -> Box<Server<Looped>> {
     Server::new(rt, alloc, 3, number, Looped::new(alloc, number))
 }
 
-fn three(rt: &impl Abort, alloc: Global, one: &mut Server<Looped>, two: &mut Server<Looped>) {
-    let mut three = member(rt, alloc, 3);
-    drive_all(rt, one, two, &mut three);
-    assert!(rt; three.shows("/", 200, "Hello, world!\n"));
-}
-
 fn two_more(rt: &impl Abort, alloc: Global, one: &mut Server<Looped>) {
     let mut two = member(rt, alloc, 2);
-    three(rt, alloc, one, &mut two);
+    drive_all(rt, one, &mut two, &mut member(rt, alloc, 3));
 }
 
 #[test]

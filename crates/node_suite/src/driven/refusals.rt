@@ -2,8 +2,8 @@
 //! memory was wanted, or by that of the device where the disk in memory found none, and then the node is opened again. Where the link found none it
 //! counts a failure. Either way what was heard may be lost, as a datagram may; so it comes once more, and then the node is where it is without
 //! refusals.
-use crate::driven::opening::again;
-use crate::driven::server::{Server, bytes};
+use crate::comparing::{ensure, same};
+use crate::driven::server::{Server, bytes, reopened};
 use node::NodeFault;
 use site_drive::{LastCall, MemLink};
 use std::alloc::Global;
@@ -35,7 +35,7 @@ fn batch(rt: &impl Abort, server: &mut Server<MemLink>) -> Result<bool, NodeFaul
         return Err(NodeFault::OutOfMemory);
     };
     let (malformed, letters) = server.batch(came.as_slice(), LastCall::TickOrAsk)?;
-    assert!(rt; malformed == 1 && letters.len() > 1);
+    ensure(rt, malformed == 1 && letters.len() > 1, malformed);
     Ok(true)
 }
 
@@ -45,7 +45,7 @@ fn turns(rt: &impl Abort, server: &mut Server<MemLink>) -> Result<bool, NodeFaul
         server.queue(rt, text);
     }
     let driven = server.drive(10)?;
-    assert!(rt; 1 <= driven.malformed && driven.failed <= 1);
+    ensure(rt, 1 <= driven.malformed && driven.failed <= 1, driven);
     Ok(driven.failed == 0)
 }
 
@@ -70,7 +70,7 @@ fn drives(rt: &impl Abort, server: &mut Server<MemLink>, at_once: bool) -> bool 
     match turn(rt, server, at_once) {
         Ok(whole) => whole,
         Err(fault) => {
-            assert!(rt; fault == cause(server));
+            same(rt, fault, cause(server));
             false
         }
     }
@@ -79,7 +79,7 @@ fn drives(rt: &impl Abort, server: &mut Server<MemLink>, at_once: bool) -> bool 
 /// One that is stopped is opened again.
 fn going(rt: &impl Abort, server: Box<Server<MemLink>>) -> Box<Server<MemLink>> {
     if server.node.is_stopped() {
-        again(rt, server)
+        reopened(rt, server, None)
     } else {
         server
     }
@@ -87,7 +87,7 @@ fn going(rt: &impl Abort, server: Box<Server<MemLink>>) -> Box<Server<MemLink>> 
 
 /// It is where it is without refusals.
 fn check_end(rt: &impl Abort, server: &Server<MemLink>, at_once: bool) {
-    assert!(rt; server.node.known() == 1 && server.node.newest() == 1);
+    same(rt, (server.node.known(), server.node.newest()), (1, 1));
     if !at_once {
         // The last are the answer, and a tick to all.
         let at = server.link.sent().len().saturating_sub(4);
@@ -97,10 +97,10 @@ fn check_end(rt: &impl Abort, server: &Server<MemLink>, at_once: bool) {
 
 /// Where a growth is refused, the second drive has all that the first one may have lost.
 fn driven(rt: &impl Abort, alloc: Global, at_once: bool) {
-    let mut server = Server::new(rt, alloc, 3, 1, MemLink::new(alloc));
+    let mut server = Server::over_queues(rt, alloc, 3);
     let whole = drives(rt, &mut server, at_once);
     let mut server = going(rt, server);
-    assert!(rt; whole || drives(rt, &mut server, at_once));
+    ensure(rt, whole || drives(rt, &mut server, at_once), at_once);
     check_end(rt, &server, at_once);
 }
 

@@ -1,11 +1,10 @@
 //! A node with its link, boxed: a box is let go of in one step.
-use crate::comparing::{ensure, same};
-use crate::driven::opening::fresh;
-use command::write;
+use crate::comparing::{ensure, is_page, same};
+use crate::nodes::{again, boxed, fresh};
+use crate::samples::{Text, value};
 use node::{Node, NodeFault, Submitted};
 use site_disk::MemDisk;
 use site_drive::{Desk, Driven, LastCall, Letter, Link, MemLink, drive};
-use site_ids::{Ticket, Value};
 use std::alloc::Global;
 use std::process::Abort;
 
@@ -32,20 +31,6 @@ pub(crate) fn bytes(rt: &impl Abort, alloc: Global, text: &str) -> Vec<u8> {
     match hex::decode(alloc, text) {
         Ok(bytes) => bytes,
         Err(_) => hex::decode(alloc, text).expect(rt, "bytes"),
-    }
-}
-
-fn value_of(rt: &impl Abort, alloc: Global, number: u64, text: &str) -> Value {
-    let ticket = Ticket { editor: 1, number };
-    let bytes = write(alloc, ticket, text.as_bytes()).expect(rt, "a command");
-    Value::from_bytes(bytes).expect(rt, "a value")
-}
-
-/// Where memory was refused it is boxed once more.
-pub(crate) fn boxed<L: Drop>(rt: &impl Abort, alloc: Global, server: Server<L>) -> Box<Server<L>> {
-    match Box::new(alloc, server) {
-        Ok(server) => server,
-        Err(failed) => Box::new(alloc, failed.value).ok().expect(rt, "memory"),
     }
 }
 
@@ -103,26 +88,25 @@ impl<L: Link + Drop> Server<L> {
         self.drive_with(&mut desk, turns, LastCall::Nothing)
     }
 
-    fn takes(&mut self, value: &Value) -> bool {
-        self.node.submit(value) == Ok(Submitted::Queued)
-    }
-
     /// A command of editor 1, by the number of its ticket.
-    pub(crate) fn submit(&mut self, rt: &impl Abort, number: u64, text: &str) {
-        let value = value_of(rt, self.alloc, number, text);
-        assert!(rt; self.takes(&value));
+    pub(crate) fn submit(&mut self, rt: &impl Abort, number: u64, text: &'static str) {
+        let value = value(rt, self.alloc, Text::Command(number, text));
+        same(rt, self.node.submit(&value), Ok(Submitted::Queued));
     }
 
     /// Whether the page of the newest release is this one.
     pub(crate) fn shows(&self, path: &str, status: u16, body: &str) -> bool {
-        match self.node.answer(self.node.newest(), path) {
-            Ok(answer) => answer.status == status && answer.body.as_str() == body,
-            Err(_) => false,
-        }
+        let answer = self.node.answer(self.node.newest(), path);
+        is_page(&answer, status, body)
     }
 }
 
 impl Server<MemLink> {
+    /// Node 1 of so many, over queues in memory.
+    pub(crate) fn over_queues(rt: &impl Abort, alloc: Global, size: u8) -> Box<Server<MemLink>> {
+        Server::new(rt, alloc, size, 1, MemLink::new(alloc))
+    }
+
     /// Queues a datagram that is given in hexadecimal. Where memory was refused it is queued once more.
     pub(crate) fn queue(&mut self, rt: &impl Abort, text: &str) {
         let datagram = bytes(rt, self.alloc, text);
@@ -142,4 +126,15 @@ impl Server<MemLink> {
         };
         ensure(rt, is_sent, (text, to));
     }
+}
+
+/// Node 1, closed and opened again, behind a crash by that choice, or without one.
+pub(crate) fn reopened(
+    rt: &impl Abort,
+    server: Box<Server<MemLink>>,
+    crash: Option<u8>,
+) -> Box<Server<MemLink>> {
+    let Server { alloc, node, link } = Box::into_inner(server);
+    let node = again(rt, alloc, node, crash);
+    boxed(rt, alloc, Server { alloc, node, link })
 }

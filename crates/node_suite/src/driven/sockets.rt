@@ -1,6 +1,8 @@
 //! Links over sockets on loopback, in one thread.
+use crate::comparing::{ensure, same};
 use crate::driven::datagrams::{PROMISE_OF_2, long};
 use crate::driven::server::{Server, passes};
+use crate::samples::node_of;
 use site_drive::{Link, UdpLink};
 use std::alloc::Global;
 use std::net::{Ipv4Addr, Net, SocketAddr, UdpSocket};
@@ -48,7 +50,7 @@ fn drained(rt: &impl Abort, socket: &UdpSocket, buf: &mut [u8]) -> u32 {
         let Ok((length, _)) = socket.recv_from(buf) else {
             break;
         };
-        assert!(rt; length == MAX_MESSAGE || length == 7);
+        ensure(rt, length == MAX_MESSAGE || length == 7, length);
         count = count.saturating_add(1);
     }
     count
@@ -56,38 +58,46 @@ fn drained(rt: &impl Abort, socket: &UdpSocket, buf: &mut [u8]) -> u32 {
 
 /// Sends more to node 2 than its queue holds, and then a question.
 fn overfill(rt: &impl Abort, server: &mut Server<UdpLink>, datagram: &[u8]) {
-    let two = server.node.cluster().node(2).expect(rt, "node 2");
-    for _ in 0..MANY {
-        assert!(rt; server.link.send(two, datagram).is_ok());
+    let two = node_of(rt, server.node.cluster(), 2);
+    for number in 0..MANY {
+        ensure(rt, server.link.send(two, datagram).is_ok(), number);
     }
     passes(rt, "a question that is lost", server.drive(0), 0, 0);
 }
 
 /// Nobody reads the socket of node 2. Behind the loss the next question arrives.
+fn lose(rt: &impl Abort, server: &mut Server<UdpLink>, reader: &UdpSocket) {
+    let mut datagram = long(rt, server.alloc, "", MAX_MESSAGE);
+    overfill(rt, server, datagram.as_slice());
+    let count = drained(rt, reader, datagram.as_mut_slice());
+    ensure(rt, 0 < count && count < MANY, count);
+    passes(rt, "a question", server.drive(0), 0, 0);
+    same(rt, drained(rt, reader, datagram.as_mut_slice()), 1);
+    same(rt, server.link.failures(), 0);
+}
+
 #[test]
 fn a_full_queue_loses_datagrams_alone(rt: HostRuntime) {
     let here = socket(&rt);
     let reader = socket(&rt);
     let addresses = [address(&rt, &here), address(&rt, &reader)];
     let mut server = server(&rt, rt.alloc(), 1, here, &addresses);
-    let mut datagram = long(&rt, rt.alloc(), "", MAX_MESSAGE);
-    overfill(&rt, &mut server, datagram.as_slice());
-    let count = drained(&rt, &reader, datagram.as_mut_slice());
-    assert!(rt; 0 < count && count < MANY);
-    passes(&rt, "a question", server.drive(0), 0, 0);
-    assert!(rt; drained(&rt, &reader, datagram.as_mut_slice()) == 1);
-    assert!(rt; server.link.failures() == 0);
+    lose(&rt, &mut server, &reader);
 }
 
 /// Nothing can be sent to node 2, whose port is 0. What node 1 sends to itself comes.
+fn fail(rt: &impl Abort, server: &mut Server<UdpLink>) {
+    passes(rt, "nowhere", server.drive(1), 0, 1);
+    passes(rt, "nowhere again", server.drive(1), 0, 1);
+    same(rt, server.link.failures(), 2);
+}
+
 #[test]
 fn a_datagram_to_nowhere_is_a_failure(rt: HostRuntime) {
     let here = socket(&rt);
     let addresses = [address(&rt, &here), loopback(0)];
     let mut server = server(&rt, rt.alloc(), 1, here, &addresses);
-    passes(&rt, "nowhere", server.drive(1), 0, 1);
-    passes(&rt, "nowhere again", server.drive(1), 0, 1);
-    assert!(rt; server.link.failures() == 2);
+    fail(&rt, &mut server);
 }
 
 /// The longest promise, and the same with more behind it, which a receive cuts: lengths, and how many are malformed.
@@ -99,7 +109,7 @@ const LENGTHS: &[(&str, usize, u32)] = &[
 
 fn send(rt: &impl Abort, alloc: Global, length: usize, from: &UdpSocket, to: SocketAddr) {
     let datagram = long(rt, alloc, PROMISE_OF_2, length);
-    assert!(rt; from.send_to(datagram.as_slice(), to).is_ok());
+    ensure(rt, from.send_to(datagram.as_slice(), to).is_ok(), length);
 }
 
 fn hear_each(rt: &impl Abort, server: &mut Server<UdpLink>, peer: &UdpSocket, to: SocketAddr) {

@@ -1,13 +1,16 @@
 //! What node 1 of three sends for what it hears, datagram by datagram; turns alone beside `drive`, and the other calls behind turns.
-use crate::comparing::ensure;
+use crate::comparing::{ensure, same};
 use crate::driven::server::{Server, passes};
+use crate::samples::node_of;
 use site_drive::{Delivered, Desk, LastCall, MemLink};
 use site_ids::{Instance, NodeId};
 use std::alloc::Global;
 use std::process::Abort;
 
 /// What is heard, and what is sent for it, to whom.
-const TURNS: &[(&str, &[(u8, &str)])] = &[
+type Turn = (&'static str, &'static [(u8, &'static str)]);
+
+const TURNS: &[Turn] = &[
     // A prepare of node 2, and a promise to it.
     (
         "010102000000010000000102",
@@ -52,8 +55,15 @@ const LAST_CALLS: &[LastCallRow] = &[
     (9, 1, "01060100000002"),
 ];
 
-fn hear(rt: &impl Abort, server: &mut Server<MemLink>, turns: usize) {
-    for (text, _) in TURNS.iter().take(turns) {
+/// The first so many turns.
+fn first_turns(rt: &impl Abort, count: u8) -> &'static [Turn] {
+    let split = TURNS.split_at_checked(usize::from(count));
+    let (first, _) = split.expect(rt, "turns");
+    first
+}
+
+fn hear(rt: &impl Abort, server: &mut Server<MemLink>, turns: &[Turn]) {
+    for &(text, _) in turns {
         server.queue(rt, text);
     }
 }
@@ -69,9 +79,9 @@ fn sent_for(rt: &impl Abort, server: &Server<MemLink>, first: usize, sent: &[(u8
 }
 
 /// What the turns send, in order, is all or the first of what was sent: how many datagrams.
-fn sent_in_turns(rt: &impl Abort, server: &Server<MemLink>, turns: usize) -> usize {
+fn sent_in_turns(rt: &impl Abort, server: &Server<MemLink>, turns: &[Turn]) -> usize {
     let mut at = 0;
-    for (_, sent) in TURNS.iter().take(turns) {
+    for &(_, sent) in turns {
         at = sent_for(rt, server, at, sent);
     }
     at
@@ -84,37 +94,34 @@ fn last_to_all(rt: &impl Abort, server: &Server<MemLink>, first: usize, size: u8
         server.sent(rt, at, to, text);
         at = at.saturating_add(1);
     }
-    assert!(rt; server.link.sent().len() == at);
-}
-
-fn server(rt: &impl Abort, alloc: Global, size: u8) -> Box<Server<MemLink>> {
-    Server::new(rt, alloc, size, 1, MemLink::new(alloc))
+    same(rt, server.link.sent().len(), at);
 }
 
 /// The turns alone, and then a drive of none.
 fn exchange(rt: &impl Abort, server: &mut Server<MemLink>, row: LastCallRow) {
-    let (turns, malformed, last) = row;
-    hear(rt, server, usize::from(turns));
-    passes(rt, last, server.exchange(u32::from(turns)), malformed, 0);
-    let sent = sent_in_turns(rt, server, usize::from(turns));
-    assert!(rt; server.link.sent().len() == sent);
+    let (count, malformed, last) = row;
+    let turns = first_turns(rt, count);
+    hear(rt, server, turns);
+    passes(rt, last, server.exchange(u32::from(count)), malformed, 0);
+    let sent = sent_in_turns(rt, server, turns);
+    same(rt, server.link.sent().len(), sent);
     passes(rt, last, server.drive(0), 0, 0);
     last_to_all(rt, server, sent, 3, last);
 }
 
 fn drive(rt: &impl Abort, server: &mut Server<MemLink>, row: LastCallRow) {
-    let (turns, malformed, last) = row;
-    hear(rt, server, usize::from(turns));
-    passes(rt, last, server.drive(u32::from(turns)), malformed, 0);
-    let sent = sent_in_turns(rt, server, usize::from(turns));
-    last_to_all(rt, server, sent, 3, last);
+    let (count, malformed, last) = row;
+    let turns = first_turns(rt, count);
+    hear(rt, server, turns);
+    passes(rt, last, server.drive(u32::from(count)), malformed, 0);
+    last_to_all(rt, server, sent_in_turns(rt, server, turns), 3, last);
 }
 
 #[test]
 fn a_drive_is_an_exchange_and_a_last_call(rt: HostRuntime) {
     for &row in LAST_CALLS {
-        exchange(&rt, &mut server(&rt, rt.alloc(), 3), row);
-        drive(&rt, &mut server(&rt, rt.alloc(), 3), row);
+        exchange(&rt, &mut Server::over_queues(&rt, rt.alloc(), 3), row);
+        drive(&rt, &mut Server::over_queues(&rt, rt.alloc(), 3), row);
     }
 }
 
@@ -137,10 +144,11 @@ const WIDENING: &str = "010101000000010000000101";
 
 /// Behind turns by which a tick is wanted: a question, then no widening, and one where a value waits; all on one desk.
 fn without_a_tick(rt: &impl Abort, desk: &mut Desk, server: &mut Server<MemLink>) {
-    hear(rt, server, 6);
+    let turns = first_turns(rt, 6);
+    hear(rt, server, turns);
     let asked = server.drive_with(desk, 6, LastCall::Ask);
     passes(rt, "a question", asked, 0, 0);
-    let sent = sent_in_turns(rt, server, 6);
+    let sent = sent_in_turns(rt, server, turns);
     last_to_all(rt, server, sent, 3, QUESTION);
     calls(rt, desk, server, LastCall::Widen, sent, QUESTION);
     server.submit(rt, 1, "release\n");
@@ -158,7 +166,7 @@ fn without_a_tick(rt: &impl Abort, desk: &mut Desk, server: &mut Server<MemLink>
 #[test]
 fn questions_and_widenings_need_no_tick(rt: HostRuntime) {
     let mut desk = Desk::new(rt.alloc()).expect(&rt, "a desk");
-    let mut server = server(&rt, rt.alloc(), 3);
+    let mut server = Server::over_queues(&rt, rt.alloc(), 3);
     without_a_tick(&rt, &mut desk, &mut server);
 }
 
@@ -176,11 +184,6 @@ const TOLD: &[(u32, u32, u32, &str)] = &[
     (1, 0, 0, ""),
 ];
 
-/// The node of that number.
-fn node(rt: &impl Abort, server: &Server<MemLink>, number: u8) -> NodeId {
-    server.node.cluster().node(number).expect(rt, "a node")
-}
-
 /// Node 3 is told that behind its question about the first instance.
 fn tells(
     rt: &impl Abort,
@@ -191,15 +194,16 @@ fn tells(
 ) {
     ensure(rt, first.number() == 1, told);
     let sent = server.link.sent().len();
-    let to = node(rt, server, 3);
+    let to = node_of(rt, server.node.cluster(), 3);
     let last = LastCall::Tell { to, first };
     passes(rt, told, server.drive_with(desk, 0, last), 0, 0);
     server.sent(rt, sent, 3, told);
-    assert!(rt; server.link.sent().len() == sent.saturating_add(1));
+    same(rt, server.link.sent().len(), sent.saturating_add(1));
 }
 
 fn check_told(rt: &impl Abort, desk: &mut Desk, server: &mut Server<MemLink>, told: &str) {
-    match desk.delivered().question_of(node(rt, server, 3)) {
+    let three = node_of(rt, server.node.cluster(), 3);
+    match desk.delivered().question_of(three) {
         Some(first) => tells(rt, desk, server, first, told),
         None => ensure(rt, told.is_empty(), told),
     }
@@ -207,18 +211,22 @@ fn check_told(rt: &impl Abort, desk: &mut Desk, server: &mut Server<MemLink>, to
 
 /// What a turn delivered. No question is of node 1.
 fn check_turn(rt: &impl Abort, delivered: Delivered, me: NodeId, attempts: u32, stirs: u32) {
-    assert!(rt; delivered.question_of(me).is_none());
-    assert!(rt; delivered.attempts() == attempts);
-    assert!(rt; delivered.stirs() == stirs);
+    ensure(rt, delivered.question_of(me).is_none(), attempts);
+    same(
+        rt,
+        (delivered.attempts(), delivered.stirs()),
+        (attempts, stirs),
+    );
 }
 
 /// Node 3 asks for what it is told behind the answer; whatever else comes is no question: four messages of attempts, and two votes.
 fn told_behind_a_question(rt: &impl Abort, desk: &mut Desk, server: &mut Server<MemLink>) {
-    hear(rt, server, 9);
+    hear(rt, server, TURNS);
+    let one = node_of(rt, server.node.cluster(), 1);
     for &(malformed, attempts, stirs, told) in TOLD {
         let driven = server.drive_with(desk, 1, LastCall::Nothing);
         passes(rt, "a turn", driven, malformed, 0);
-        check_turn(rt, desk.delivered(), node(rt, server, 1), attempts, stirs);
+        check_turn(rt, desk.delivered(), one, attempts, stirs);
         check_told(rt, desk, server, told);
     }
 }
@@ -226,12 +234,12 @@ fn told_behind_a_question(rt: &impl Abort, desk: &mut Desk, server: &mut Server<
 #[test]
 fn a_telling_goes_to_who_asked(rt: HostRuntime) {
     let mut desk = Desk::new(rt.alloc()).expect(&rt, "a desk");
-    let mut server = server(&rt, rt.alloc(), 3);
+    let mut server = Server::over_queues(&rt, rt.alloc(), 3);
     told_behind_a_question(&rt, &mut desk, &mut server);
 }
 
 fn one_for_all(rt: &impl Abort, alloc: Global, size: u8) {
-    let mut server = server(rt, alloc, size);
+    let mut server = Server::over_queues(rt, alloc, size);
     passes(rt, "a question", server.drive(0), 0, 0);
     last_to_all(rt, &server, 0, size, "01060100000001");
 }

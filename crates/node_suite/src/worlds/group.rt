@@ -1,23 +1,23 @@
 //! A world, lent to the rows: a row that owned one would have to be proved to let it go at each of its ends.
 ghost use Rattle.std.specs.Prelude.{◌≤◌};
 
-use crate::comparing::{ensure, same};
-use crate::worlds::step::{Kind, Step};
+use crate::comparing::{ensure, is_page, same};
+use crate::said::{Kind, Numbers, kind_of, numbers_of};
+use crate::worlds::step::Step;
 use command::write;
 use release::Answer;
 use site_ids::{Cluster, Instance, NodeId, Ticket, Value};
-use std::alloc::{AllocError, Global};
+use std::alloc::Global;
 use std::process::Abort;
-use wire::Message;
 use world::{AskFault, Event, NodeState, World, WorldFault};
 
 /// A world, how many of its messages were settled, and how often it wanted memory.
 #[derive(Drop)]
 pub(crate) struct Group {
-    alloc: Global,
+    pub alloc: Global,
+    pub wants: usize,
+    pub settled: usize,
     world: World,
-    settled: usize,
-    wants: usize,
 }
 
 /// What a node shows: its state, how many values it knows, its newest release.
@@ -53,7 +53,7 @@ pub(crate) fn runs(rt: &impl Abort, ended: Result<(), WorldFault>, wanted: Resul
 /// One that is refused memory is pushed once more.
 pub(crate) fn push(rt: &impl Abort, events: &mut Vec<Event>, event: Event) {
     if let Err(refused) = events.push(event) {
-        assert!(rt; events.push(refused.value).is_ok());
+        ensure(rt, events.push(refused.value).is_ok(), 2);
     }
 }
 
@@ -70,36 +70,16 @@ fn counts(events: &[Event]) -> (usize, usize) {
     (ticks, deliveries)
 }
 
-fn kind_of(message: &Message) -> Kind {
-    match message {
-        Message::Prepare { .. } => Kind::Prepare,
-        Message::Promise { prior, .. } => Kind::Promise(prior.is_some()),
-        Message::Propose { .. } => Kind::Propose,
-        Message::Accepted { .. } => Kind::Accepted,
-        Message::Nack { .. } => Kind::Nack,
-        Message::Ask { .. } => Kind::Ask,
-        Message::Chosen { .. } => Kind::Chosen,
-    }
-}
-
 impl Group {
     /// So many nodes, opened over empty records.
     pub(crate) fn new(rt: &impl Abort, alloc: Global, size: u8) -> Group {
         let cluster = Cluster::new(size).expect(rt, "a cluster");
         Group {
             alloc,
-            world: made(rt, alloc, cluster),
-            settled: 0,
             wants: 0,
+            settled: 0,
+            world: made(rt, alloc, cluster),
         }
-    }
-
-    pub(crate) fn alloc(&self) -> Global {
-        self.alloc
-    }
-
-    pub(crate) fn wants(&self) -> usize {
-        self.wants
     }
 
     /// A node of the cluster.
@@ -129,19 +109,10 @@ impl Group {
         self.run_on(rt, &[event])
     }
 
-    /// Each message from the first one on reaches all nodes once more at the next such step.
-    pub(crate) fn unsettle(&mut self) {
-        self.settled = 0;
-    }
-
-    fn deliver(&mut self, rt: &impl Abort, number: u8, index: usize) -> Result<(), WorldFault> {
-        let node = self.node(rt, number);
-        self.take(rt, Event::Deliver { node, index })
-    }
-
     fn deliver_to_all(&mut self, rt: &impl Abort, index: usize) -> Result<(), WorldFault> {
         for number in 1..=self.world.cluster().size() {
-            self.deliver(rt, number, index)?;
+            let node = self.node(rt, number);
+            self.take(rt, Event::Deliver { node, index })?;
         }
         Ok(())
     }
@@ -161,59 +132,21 @@ impl Group {
         self.world.sent_count()
     }
 
-    fn sent(&self, index: usize) -> Option<&Message> {
-        self.world.sent(index)
-    }
-
     /// The kind of the message at a place of all that were handed out.
     pub(crate) fn kind(&self, index: usize) -> Option<Kind> {
-        match self.sent(index) {
+        match self.world.sent(index) {
             Some(message) => Some(kind_of(message)),
             None => None,
         }
     }
 
-    /// The first instance, the round and the count of a prepare.
-    fn prepared(&self, index: usize) -> Option<(u32, u32, u8)> {
-        match self.sent(index) {
-            Some(
-                Message::Prepare {
-                    instance,
-                    ballot,
-                    count,
-                    ..
-                },
-            ) => Some((instance.number(), ballot.round(), *count)),
-            _ => None,
-        }
-    }
-
-    fn state(&self, rt: &impl Abort, number: u8) -> NodeState {
-        let node = self.node(rt, number);
-        self.world.state(node)
-    }
-
-    fn known(&self, rt: &impl Abort, number: u8) -> u32 {
-        let node = self.node(rt, number);
-        self.world.known(node)
-    }
-
-    fn newest(&self, rt: &impl Abort, number: u8) -> u64 {
-        let node = self.node(rt, number);
-        self.world.published(node)
-    }
-
     pub(crate) fn shown(&self, rt: &impl Abort, number: u8) -> Shown {
-        (
-            self.state(rt, number),
-            self.known(rt, number),
-            self.newest(rt, number),
-        )
-    }
-
-    fn asked(&self, rt: &impl Abort, number: u8, n: u64, path: &str) -> Result<Answer, AskFault> {
         let node = self.node(rt, number);
-        self.world.answer(node, n, path)
+        (
+            self.world.state(node),
+            self.world.known(node),
+            self.world.published(node),
+        )
     }
 
     /// A question that is refused memory is put once more.
@@ -224,22 +157,19 @@ impl Group {
         n: u64,
         path: &str,
     ) -> Result<Answer, AskFault> {
-        match self.asked(rt, number, n, path) {
-            Err(AskFault::OutOfMemory) => self.asked(rt, number, n, path),
+        let node = self.node(rt, number);
+        match self.world.answer(node, n, path) {
+            Err(AskFault::OutOfMemory) => self.world.answer(node, n, path),
             answer => answer,
         }
     }
 
-    fn planned(&self, rt: &impl Abort, number: u8) -> Result<Vec<Event>, AllocError> {
-        let node = self.node(rt, number);
-        self.world.quiet_plan(node)
-    }
-
     /// A plan that is refused memory is made once more.
     fn plan(&self, rt: &impl Abort, number: u8) -> Vec<Event> {
-        match self.planned(rt, number) {
+        let node = self.node(rt, number);
+        match self.world.quiet_plan(node) {
             Ok(plan) => plan,
-            Err(_) => self.planned(rt, number).expect(rt, "memory"),
+            Err(_) => self.world.quiet_plan(node).expect(rt, "memory"),
         }
     }
 
@@ -326,12 +256,16 @@ impl Group {
     }
 
     fn says(&self, rt: &impl Abort, count: usize, kind: Kind) {
-        ensure(rt, self.sent_count() == count, count);
-        assert!(rt; self.kind(count.saturating_sub(1)) == Some(kind));
+        same(rt, self.sent_count(), count);
+        ensure(rt, self.kind(count.saturating_sub(1)) == Some(kind), count);
     }
 
-    fn prepares(&self, rt: &impl Abort, index: usize, wanted: (u32, u32, u8)) {
-        ensure(rt, self.prepared(index) == Some(wanted), index);
+    fn prepares(&self, rt: &impl Abort, index: usize, wanted: Numbers) {
+        let is_it = match self.world.sent(index) {
+            Some(message) => kind_of(message) == Kind::Prepare && numbers_of(message) == wanted,
+            None => false,
+        };
+        ensure(rt, is_it, index);
     }
 
     /// Sees whether what the step says is so.
@@ -352,32 +286,18 @@ impl Group {
         }
     }
 
-    fn lose(&mut self) {
-        self.settled = self.sent_count();
-    }
-
-    /// Takes the event of a step, or looks at what it says.
-    fn take_or_look(&mut self, rt: &impl Abort, step: Step) -> Result<(), WorldFault> {
-        match self.event(rt, step) {
-            Some(event) => self.take(rt, event),
-            None => {
-                self.look(rt, step);
-                Ok(())
-            }
-        }
-    }
-
     /// Does a step, or looks at what it says.
     pub(crate) fn act(&mut self, rt: &impl Abort, step: Step) -> Result<(), WorldFault> {
         match step {
-            Step::Settle => self.settle(rt),
-            Step::Quiet(number) => self.quiet(rt, number),
-            Step::Lose => {
-                self.lose();
-                Ok(())
-            }
-            _ => self.take_or_look(rt, step),
+            Step::Settle => return self.settle(rt),
+            Step::Quiet(number) => return self.quiet(rt, number),
+            Step::Lose => self.settled = self.sent_count(),
+            _ => match self.event(rt, step) {
+                Some(event) => return self.take(rt, event),
+                None => self.look(rt, step),
+            },
         }
+        Ok(())
     }
 
     /// Does the steps. None of them ends in a fault.
@@ -389,26 +309,18 @@ impl Group {
     }
 }
 
-pub(crate) fn is_page(answer: &Result<Answer, AskFault>, status: u16, body: &str) -> bool {
-    match answer {
-        Ok(answer) => answer.status == status && answer.body.as_str() == body,
-        Err(_) => false,
-    }
-}
-
-/// A world of so many nodes goes through the steps, and never wants memory.
-pub(crate) fn play(rt: &impl Abort, alloc: Global, size: u8, steps: &[Step]) {
-    play_parts(rt, alloc, size, &[steps]);
-}
-
 fn act_parts(rt: &impl Abort, group: &mut Group, parts: &[&[Step]]) {
     for steps in parts {
         group.act_all(rt, steps);
     }
-    assert!(rt; group.wants() == 0);
+    same(rt, group.wants, 0);
 }
 
-/// The same with steps in parts.
+/// A world of so many nodes goes through the steps, part by part, and never wants memory.
 pub(crate) fn play_parts(rt: &impl Abort, alloc: Global, size: u8, parts: &[&[Step]]) {
     act_parts(rt, &mut Group::new(rt, alloc, size), parts);
+}
+
+pub(crate) fn play(rt: &impl Abort, alloc: Global, size: u8, steps: &[Step]) {
+    play_parts(rt, alloc, size, &[steps]);
 }

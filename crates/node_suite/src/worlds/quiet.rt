@@ -1,6 +1,8 @@
 //! Quiet stretches: whatever stands on record or is on its way, a node learns its next value by a tick or two and a few deliveries.
+use crate::said::Kind;
 use crate::worlds::group::{Group, play, play_parts};
-use crate::worlds::step::{Kind, Step};
+use crate::worlds::step::Step;
+use std::alloc::Global;
 use std::process::Abort;
 use world::NodeState;
 
@@ -36,31 +38,24 @@ fn votes_are_taken_up(rt: HostRuntime) {
     play(&rt, rt.alloc(), 3, VOTES_ARE_TAKEN_UP);
 }
 
-fn learn(rt: &impl Abort, group: &mut Group, number: u8, known: u32) {
-    let steps = [
-        Step::Quiet(number),
-        Step::Shows(number, NodeState::Up, known, 1),
-    ];
-    group.act_all(rt, &steps);
-}
-
 /// The last of so many nodes learns its value, by a majority's help: 4 m deliveries.
-fn decide(rt: &impl Abort, group: &mut Group, size: u8) {
+fn decide(rt: &impl Abort, alloc: Global, size: u8) {
     let deliveries = 4 * (usize::from(size) / 2 + 1);
     let steps = [
         Step::Submit(size, 1, RELEASE),
         Step::Plans(size, 1, deliveries),
+        Step::Quiet(size),
+        Step::Shows(size, NodeState::Up, 1, 1),
+        Step::Quiet(size),
+        Step::Shows(size, NodeState::Up, 2, 1),
     ];
-    group.act_all(rt, &steps);
-    learn(rt, group, size, 1);
-    learn(rt, group, size, 2);
-    assert!(rt; group.wants() == 0);
+    play(rt, alloc, size, &steps);
 }
 
 #[test]
 fn each_group_decides(rt: HostRuntime) {
     for size in 1..=9 {
-        decide(&rt, &mut Group::new(&rt, rt.alloc(), size), size);
+        decide(&rt, rt.alloc(), size);
     }
 }
 

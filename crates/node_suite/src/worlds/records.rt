@@ -1,6 +1,7 @@
 //! What crashes and openings leave.
+use crate::said::Kind;
 use crate::worlds::group::play;
-use crate::worlds::step::{Kind, Step};
+use crate::worlds::step::Step;
 use world::NodeState;
 
 /// All nodes crash and lose what wasn't synced. The vote of node 2, which reached nobody, binds node 3.

@@ -1,7 +1,9 @@
 //! Runs with one growth refused, as `tools/gate/refuse-growths` runs this: a run goes on from the count that it gave, and every answer is that of the
 //! schedule without refusals. A disk in memory that finds none stops its node, which is opened again; then the schedule comes once more.
-use crate::worlds::group::{Group, is_page, runs};
-use crate::worlds::step::{Kind, Step};
+use crate::comparing::{ensure, is_page};
+use crate::said::Kind;
+use crate::worlds::group::{Group, runs};
+use crate::worlds::step::Step;
 use release::Answer;
 use std::alloc::Global;
 use std::process::Abort;
@@ -89,7 +91,7 @@ fn shown(rt: &impl Abort, answer: &Result<Answer, AskFault>, pages: &[Page]) -> 
         return None;
     }
     let shown = which(answer, pages);
-    assert!(rt; shown.is_some());
+    ensure(rt, shown.is_some(), pages.len());
     shown
 }
 
@@ -108,7 +110,8 @@ fn all_answer(rt: &impl Abort, group: &Group, pages: &[Page]) -> bool {
     let one = page_at(rt, group, 1, pages);
     let two = page_at(rt, group, 2, pages);
     let three = page_at(rt, group, 3, pages);
-    assert!(rt; agree(one, two) && agree(two, three) && agree(one, three));
+    let all_agree = agree(one, two) && agree(two, three) && agree(one, three);
+    ensure(rt, all_agree, (one, two, three));
     one.is_some() && two.is_some() && three.is_some()
 }
 
@@ -120,7 +123,7 @@ fn is_done(done: Result<(), WorldFault>) -> bool {
 fn act_each(rt: &impl Abort, group: &mut Group, steps: &[Step]) {
     for &step in steps {
         let done = group.act(rt, step);
-        assert!(rt; is_done(done));
+        ensure(rt, is_done(done), done);
     }
 }
 
@@ -144,32 +147,32 @@ fn goes(rt: &impl Abort, group: &mut Group, parts: &[&[Step]], pages: &[Page]) {
     act_parts(rt, group, parts);
     if !all_answer(rt, group, pages) {
         open_stopped(rt, group);
-        group.unsettle();
+        group.settled = 0;
         act_parts(rt, group, parts);
     }
-    assert!(rt; group.wants() <= 1);
-    assert!(rt; all_answer(rt, group, pages));
+    ensure(rt, group.wants <= 1, group.wants);
+    ensure(rt, all_answer(rt, group, pages), group.wants);
 }
 
-fn three(rt: &impl Abort, alloc: Global) -> Group {
-    Group::new(rt, alloc, 3)
+fn three_go(rt: &impl Abort, alloc: Global, parts: &[&[Step]], pages: &[Page]) {
+    goes(rt, &mut Group::new(rt, alloc, 3), parts, pages);
 }
 
 #[test]
 fn a_page(rt: HostRuntime) {
-    goes(&rt, &mut three(&rt, rt.alloc()), &[PAGE], PAGE_SHOWN);
+    three_go(&rt, rt.alloc(), &[PAGE], PAGE_SHOWN);
 }
 
 #[test]
 fn crashes(rt: HostRuntime) {
-    goes(&rt, &mut three(&rt, rt.alloc()), &[CRASHES], NONE_SHOWN);
+    three_go(&rt, rt.alloc(), &[CRASHES], NONE_SHOWN);
 }
 
 #[test]
 fn lost_votes(rt: HostRuntime) {
     for &end in VOTE_ENDS {
         let parts = [VOTE_FAILED, &[end], ASKED_AGAIN];
-        goes(&rt, &mut three(&rt, rt.alloc()), &parts, EITHER_SHOWN);
+        three_go(&rt, rt.alloc(), &parts, EITHER_SHOWN);
     }
 }
 
@@ -199,5 +202,5 @@ fn run_once(rt: &impl Abort, group: &mut Group) {
 
 #[test]
 fn one_run(rt: HostRuntime) {
-    run_once(&rt, &mut three(&rt, rt.alloc()));
+    run_once(&rt, &mut Group::new(&rt, rt.alloc(), 3));
 }

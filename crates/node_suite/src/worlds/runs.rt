@@ -1,7 +1,8 @@
 //! Runs over lists of events: what they take, and what their faults count.
-use crate::comparing::ensure;
+use crate::comparing::{ensure, same};
+use crate::said::Kind;
 use crate::worlds::group::{Group, push, runs, value};
-use crate::worlds::step::{Kind, Step};
+use crate::worlds::step::Step;
 use release::Answer;
 use site_ids::{Cluster, NodeId};
 use std::process::Abort;
@@ -15,7 +16,7 @@ fn stranger(rt: &impl Abort) -> NodeId {
 
 /// So many messages were handed out.
 fn has_sent(rt: &impl Abort, group: &Group, count: usize) {
-    assert!(rt; group.sent_count() == count);
+    same(rt, group.sent_count(), count);
 }
 
 /// The third of four events names a message that was never handed out: two are taken.
@@ -66,10 +67,10 @@ fn a_bad_event_is_not_counted_as_taken(rt: HostRuntime) {
 
 /// 64 commands fill the queue of node 1.
 fn sixty_four(rt: &impl Abort, group: &Group) -> Vec<Event> {
-    let mut events = Vec::new(group.alloc());
+    let mut events = Vec::new(group.alloc);
     for number in 0..64 {
         let node = group.node(rt, 1);
-        let value = value(rt, group.alloc(), number, "release\n");
+        let value = value(rt, group.alloc, number, "release\n");
         push(rt, &mut events, Event::Submit { node, value });
     }
     events
@@ -99,7 +100,7 @@ fn refused(rt: &impl Abort, group: &mut Group, steps: Refused) {
     let ended = group.run_steps(rt, steps);
     runs(rt, ended, Ok(()));
     has_sent(rt, group, before.saturating_add(1));
-    assert!(rt; group.kind(before) == Some(Kind::Prepare));
+    ensure(rt, group.kind(before) == Some(Kind::Prepare), before);
 }
 
 fn refuse_each(rt: &impl Abort, group: &mut Group) {
@@ -107,7 +108,7 @@ fn refuse_each(rt: &impl Abort, group: &mut Group) {
     for &steps in REFUSED {
         refused(rt, group, steps);
     }
-    assert!(rt; group.shown(rt, 1) == (NodeState::Up, 0, 0));
+    ensure(rt, group.shown(rt, 1) == (NodeState::Up, 0, 0), 1);
 }
 
 #[test]
@@ -147,7 +148,7 @@ fn have_none(rt: &impl Abort, group: &mut Group) {
     for &(number, n, fault) in MISSING {
         has_none(rt, group, number, n, fault);
     }
-    assert!(rt; group.kind(1).is_none());
+    ensure(rt, group.kind(1).is_none(), 1);
 }
 
 #[test]

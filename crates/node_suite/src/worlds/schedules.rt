@@ -1,6 +1,8 @@
 //! Worked schedules.
+use crate::comparing::same;
+use crate::said::Kind;
 use crate::worlds::group::{Group, play};
-use crate::worlds::step::{Kind, Step};
+use crate::worlds::step::Step;
 use std::alloc::Global;
 use std::process::Abort;
 use world::NodeState;
@@ -150,7 +152,7 @@ fn ask_again(rt: &impl Abort, group: &mut Group, told: bool) {
 fn lose_vote(rt: &impl Abort, group: &mut Group, row: LostVote) {
     fail(rt, group, row);
     ask_again(rt, group, row.told);
-    assert!(rt; group.wants() == 0);
+    same(rt, group.wants, 0);
 }
 
 /// Which of the unsynced bytes stay.

@@ -1,4 +1,5 @@
 //! A schedule's steps, as tables have them.
+use crate::said::Kind;
 use world::NodeState;
 
 /// What happens at a node, by its number, or what is seen there.
@@ -31,16 +32,4 @@ pub(crate) enum Step {
     Last(usize, Kind),
     /// A message is a prepare from that instance on, of that round and count.
     Prepares(usize, u32, u32, u8),
-}
-
-#[derive(Clone, Copy, PartialEq, Eq)]
-pub(crate) enum Kind {
-    Prepare,
-    /// Whether it tells a vote.
-    Promise(bool),
-    Propose,
-    Accepted,
-    Nack,
-    Ask,
-    Chosen,
 }

@@ -1,8 +1,7 @@
 //! Groups that were all down: their votes are on record, and told again they make known what was.
-use crate::worlds::group::Group;
-use crate::worlds::step::{Kind, Step};
-use std::alloc::Global;
-use std::process::Abort;
+use crate::said::Kind;
+use crate::worlds::group::play_parts;
+use crate::worlds::step::Step;
 use world::NodeState;
 
 const RELEASE: &str = "release\n";
@@ -30,19 +29,6 @@ const PROPOSED: &[Step] = &[
     Step::Deliver(1, 2),
     Step::Deliver(1, 3),
 ];
-
-/// Three nodes after these steps, part by part, and a power cut, and then these.
-fn cut_short(rt: &impl Abort, group: &mut Group, before: &[&[Step]], after: &[Step]) {
-    for steps in before {
-        group.act_all(rt, steps);
-    }
-    group.act_all(rt, POWER_CUT);
-    group.act_all(rt, after);
-}
-
-fn three(rt: &impl Abort, alloc: Global) -> Group {
-    Group::new(rt, alloc, 3)
-}
 
 const SUBMITTED: &[Step] = &[Step::Submit(1, 1, RELEASE)];
 
@@ -74,8 +60,8 @@ const TOLD_KNOWN: &[Step] = &[
 
 #[test]
 fn votes_told_again_make_all_known(rt: HostRuntime) {
-    let before = &[KNOWN];
-    cut_short(&rt, &mut three(&rt, rt.alloc()), before, TOLD_KNOWN);
+    let parts = [KNOWN, POWER_CUT, TOLD_KNOWN];
+    play_parts(&rt, rt.alloc(), 3, &parts);
 }
 
 const LOST: &[Step] = &[
@@ -100,8 +86,8 @@ const TOLD_BUT_LOST: &[Step] = &[
 /// Node 2's vote is lost with its device: it has nothing to tell, and two others do.
 #[test]
 fn a_vote_lost_in_flight_is_not_told(rt: HostRuntime) {
-    let before = &[SUBMITTED, PROPOSED, LOST];
-    cut_short(&rt, &mut three(&rt, rt.alloc()), before, TOLD_BUT_LOST);
+    let parts = [SUBMITTED, PROPOSED, LOST, POWER_CUT, TOLD_BUT_LOST];
+    play_parts(&rt, rt.alloc(), 3, &parts);
 }
 
 const TWO_BALLOTS: &[Step] = &[
@@ -133,8 +119,8 @@ const TOLD_OF_TWO: &[Step] = &[
 /// Node 1 and 2 voted for a value, and then nodes 2 and 3 for the same at a higher ballot: each tells its last vote.
 #[test]
 fn votes_of_two_ballots_are_told(rt: HostRuntime) {
-    let before = &[SUBMITTED, PROPOSED, TWO_BALLOTS];
-    cut_short(&rt, &mut three(&rt, rt.alloc()), before, TOLD_OF_TWO);
+    let parts = [SUBMITTED, PROPOSED, TWO_BALLOTS, POWER_CUT, TOLD_OF_TWO];
+    play_parts(&rt, rt.alloc(), 3, &parts);
 }
 
 const TWO_SUBMITTED: &[Step] = &[Step::Submit(1, 1, RELEASE), Step::Submit(2, 2, DATA)];
@@ -164,6 +150,12 @@ const TOLD_OF_OTHER: &[Step] = &[
 /// Node 1 alone voted for its value, and the others decided another one at a higher ballot.
 #[test]
 fn a_vote_for_what_was_not_decided_decides_nothing(rt: HostRuntime) {
-    let before = &[TWO_SUBMITTED, PROPOSED, OTHER_DECIDED];
-    cut_short(&rt, &mut three(&rt, rt.alloc()), before, TOLD_OF_OTHER);
+    let parts = [
+        TWO_SUBMITTED,
+        PROPOSED,
+        OTHER_DECIDED,
+        POWER_CUT,
+        TOLD_OF_OTHER,
+    ];
+    play_parts(&rt, rt.alloc(), 3, &parts);
 }

@@ -1,6 +1,7 @@
 //! Worked schedules with several attempts open at a node.
+use crate::said::Kind;
 use crate::worlds::group::{play, play_parts};
-use crate::worlds::step::{Kind, Step};
+use crate::worlds::step::Step;
 use world::NodeState;
 
 const RELEASE: &str = "release\n";

@@ -1,7 +1,7 @@
 //! Publications into a group in memory, interrupted after each answer, and gone on with by another folder.
 use crate::comparing::{ensure, same};
-use crate::editors::ledgers::{new_file, read, spelled};
-use crate::editors::tickets::{Texts, has, keep};
+use crate::editors::ledgers::{new_file, read, save};
+use crate::editors::tickets::{Texts, has, insert, keep};
 use site_ledger::Ledger;
 use site_publish::{Ask, Flight, Heard, Stage, advance};
 use std::alloc::{AllocError, Global};
@@ -54,7 +54,7 @@ impl Town {
 
     fn decide_one(&mut self, rt: &impl Abort) {
         if let Some((number, text)) = self.waiting.pop_first() {
-            assert!(rt; self.known.insert(number, text).is_ok());
+            insert(rt, &mut self.known, number, text);
         }
     }
 
@@ -109,7 +109,8 @@ fn ask_each(
     for &ask in asks {
         match town.answer(rt, alloc, ledger, ask) {
             Some(status) => {
-                assert!(rt; hear(rt, flight, ledger, ask, status) != Heard::Refused);
+                let heard = hear(rt, flight, ledger, ask, status);
+                ensure(rt, heard != Heard::Refused, ask);
             }
             None => return true,
         }
@@ -155,11 +156,12 @@ fn go(
         if !goes_on(rt, alloc, ledger, folder) {
             return false;
         }
-        *file = spelled(rt, alloc, ledger);
-        if fly(rt, alloc, town, ledger, &mut Flight::new(alloc)) {
+        save(rt, alloc, ledger, file);
+        let is_cut = fly(rt, alloc, town, ledger, &mut Flight::new(alloc));
+        if is_cut {
             return true;
         }
-        *file = spelled(rt, alloc, ledger);
+        save(rt, alloc, ledger, file);
     }
     panic!(rt; "it comes to no end")
 }
@@ -181,7 +183,7 @@ type Site = BTreeMap<String, String>;
 
 fn put(rt: &impl Abort, alloc: Global, site: &mut Site, key: String, text: &str) {
     let text = String::from_str(alloc, text).expect(rt, "memory");
-    assert!(rt; site.insert(key, text).is_ok());
+    ensure(rt, site.insert(key, text).is_ok(), 0);
 }
 
 /// A command is shown that puts a name of a kind, or removes it.
@@ -234,8 +236,9 @@ fn is_shown(rt: &impl Abort, alloc: Global, town: &Town, wanted: &str) {
 
 /// All that was given has its receipt, and is released.
 fn is_whole(rt: &impl Abort, town: &Town, ledger: &Ledger) {
-    assert!(rt; ledger.is_idle() && !ledger.has_unshown());
-    assert!(rt; town.known.len() as u64 == ledger.next().saturating_sub(1));
+    let is_shown = ledger.is_idle() && !ledger.has_unshown();
+    ensure(rt, is_shown, ledger.next());
+    same(rt, town.known.len() as u64, ledger.next().saturating_sub(1));
 }
 
 /// The site of the second folder.
@@ -245,7 +248,7 @@ fn interrupt(rt: &impl Abort, alloc: Global, town: &mut Town) {
     let mut file = new_file(rt, alloc);
     let _ = publish(rt, alloc, town, &mut file, FIRST);
     town.left = 100;
-    assert!(rt; !publish(rt, alloc, town, &mut file, SECOND));
+    same(rt, publish(rt, alloc, town, &mut file, SECOND), false);
     is_shown(rt, alloc, town, SHOWN);
     is_whole(rt, town, &read(rt, alloc, file.as_str()));
 }

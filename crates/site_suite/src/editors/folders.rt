@@ -1,5 +1,5 @@
 //! Folders by their files.
-use crate::comparing::same;
+use crate::comparing::{ensure, same};
 use site_folder::{BEGINNING, Finding, Folder, Page, SiteFile, Weight, folder_of, pages_of};
 use std::alloc::{AllocError, Global};
 use std::process::Abort;
@@ -92,16 +92,16 @@ const COMMANDS: &[&[u8]] = &[
 const LINES: &[usize] = &[3, 4];
 
 fn has_commands(rt: &impl Abort, folder: &Folder) {
-    assert!(rt; folder.commands.len() == COMMANDS.len());
+    same(rt, folder.commands.len(), COMMANDS.len());
     for (command, text) in folder.commands.iter().zip(COMMANDS) {
-        assert!(rt; command.text.as_slice() == *text);
+        ensure(rt, command.text.as_slice() == *text, text.len());
     }
 }
 
 fn has_routes(rt: &impl Abort, folder: &Folder) {
-    assert!(rt; folder.routes.len() == LINES.len());
+    same(rt, folder.routes.len(), LINES.len());
     for (route, line) in folder.routes.iter().zip(LINES) {
-        assert!(rt; route.line == *line);
+        same(rt, route.line, *line);
     }
 }
 
@@ -134,14 +134,14 @@ fn is_fault(rt: &impl Abort, alloc: Global, page: &Page) -> bool {
 
 fn is_page(rt: &impl Abort, alloc: Global, page: &Page, wanted: PageRow) {
     let (path, at, status, body) = wanted;
-    assert!(rt; page.path.as_str() == path && page.status == status);
-    assert!(rt; (page.file, page.line) == at);
-    assert!(rt; page.body.as_str() == body);
-    assert!(rt; !is_fault(rt, alloc, page));
+    same(rt, (page.path.as_str(), page.status), (path, status));
+    same(rt, (page.file, page.line), at);
+    same(rt, page.body.as_str(), body);
+    ensure(rt, !is_fault(rt, alloc, page), page.line);
 }
 
 fn are_pages(rt: &impl Abort, alloc: Global, pages: &[Page]) {
-    assert!(rt; pages.len() == PAGES.len());
+    same(rt, pages.len(), PAGES.len());
     for (page, wanted) in pages.iter().zip(PAGES) {
         is_page(rt, alloc, page, *wanted);
     }
@@ -183,14 +183,14 @@ fn beginning(alloc: Global) -> Result<Vec<SiteFile>, AllocError> {
 }
 
 fn is_begun(rt: &impl Abort, page: &Page, path: &str, text: &str) {
-    assert!(rt; page.path.as_str() == path && page.status == 200);
-    assert!(rt; page.body.as_str().contains(text));
+    same(rt, (page.path.as_str(), page.status), (path, 200));
+    ensure(rt, page.body.as_str().contains(text), path);
 }
 
 fn are_begun(rt: &impl Abort, pages: &[Page]) {
-    assert!(rt; pages.len() == BEGUN.len());
-    for (page, (path, text)) in pages.iter().zip(BEGUN) {
-        is_begun(rt, page, *path, *text);
+    same(rt, pages.len(), BEGUN.len());
+    for (page, &(path, text)) in pages.iter().zip(BEGUN) {
+        is_begun(rt, page, path, text);
     }
 }
 
@@ -218,13 +218,13 @@ const ENDLESS: &[(&str, &[u8])] = &[
 
 fn warns_alone(rt: &impl Abort, folder: &Folder) {
     for finding in folder.findings.iter() {
-        assert!(rt; finding.weight == Weight::Warning);
+        same(rt, finding.weight, Weight::Warning);
     }
 }
 
 fn are_shown(rt: &impl Abort, pages: &[Page]) {
     for page in pages {
-        assert!(rt; page.status == 200);
+        same(rt, page.status, 200);
     }
 }
 
@@ -236,7 +236,7 @@ fn fault_line(rt: &impl Abort, alloc: Global, page: &Page) -> String {
 
 fn is_endless(rt: &impl Abort, alloc: Global, pages: &[Page]) {
     let line = fault_line(rt, alloc, pages.first().expect(rt, "a page"));
-    assert!(rt; line.as_str() == "routes:2:1: /: page over limit");
+    same(rt, line.as_str(), "routes:2:1: /: page over limit");
 }
 
 #[test]

@@ -1,5 +1,6 @@
 //! A publication that is interrupted after each of its commands, and goes on from the file with another folder.
-use crate::editors::ledgers::{kept, new_file, plan, plan_release, read, receive, spelled};
+use crate::comparing::same;
+use crate::editors::ledgers::{kept, new_file, plan, plan_release, read, receive, save};
 use crate::editors::tickets::{Texts, has, keep};
 use site_ledger::Ledger;
 use std::alloc::Global;
@@ -58,7 +59,7 @@ fn send(
 ) -> bool {
     let sent = deliver(rt, alloc, town, ledger);
     if sent {
-        *file = spelled(rt, alloc, ledger);
+        save(rt, alloc, ledger, file);
     }
     sent
 }
@@ -76,12 +77,12 @@ fn go_on(
         return false;
     }
     plan(rt, alloc, ledger, folder);
-    *file = spelled(rt, alloc, ledger);
+    save(rt, alloc, ledger, file);
     if !send(rt, alloc, town, ledger, file) {
         return false;
     }
     plan_release(rt, alloc, ledger);
-    *file = spelled(rt, alloc, ledger);
+    save(rt, alloc, ledger, file);
     send(rt, alloc, town, ledger, file)
 }
 
@@ -111,18 +112,18 @@ const RUNS: &[(usize, bool, u64)] = &[
 /// The group has what the second folder has.
 fn is_published(rt: &impl Abort, alloc: Global, file: &str, next: u64) {
     let ledger = read(rt, alloc, file);
-    assert!(rt; ledger.next() == next);
+    same(rt, ledger.next(), next);
     let has = kept(alloc, &ledger).expect(rt, "memory");
-    assert!(rt; has.as_str() == "TBr");
+    same(rt, has.as_str(), "TBr");
 }
 
 fn interrupt(rt: &impl Abort, alloc: Global, town: &mut Town, ends: bool, next: u64) {
     let mut file = new_file(rt, alloc);
-    assert!(rt; publish(rt, alloc, town, &mut file, "TAR") == ends);
+    same(rt, publish(rt, alloc, town, &mut file, "TAR"), ends);
     town.left = 20;
-    assert!(rt; publish(rt, alloc, town, &mut file, "TB"));
+    same(rt, publish(rt, alloc, town, &mut file, "TB"), true);
     is_published(rt, alloc, file.as_str(), next);
-    assert!(rt; town.given.len() as u64 == next.saturating_sub(1));
+    same(rt, town.given.len() as u64, next.saturating_sub(1));
 }
 
 #[test]

@@ -1,5 +1,5 @@
 //! Files of ledgers: what is written, what is read back, and the faults of others.
-use crate::comparing::same;
+use crate::comparing::{ensure, same};
 use crate::editors::ledgers::{is_spelled, plan, plan_release, read, receive};
 use site_ledger::{Ledger, ReadFault, Released};
 use std::alloc::Global;
@@ -85,7 +85,7 @@ fn publish(rt: &impl Abort, alloc: Global, ledger: &mut Ledger) {
     receive(rt, ledger, 1);
     plan_release(rt, alloc, ledger);
     receive(rt, ledger, 2);
-    assert!(rt; ledger.note(RELEASED).is_ok());
+    ensure(rt, ledger.note(RELEASED).is_ok(), RELEASED.release);
 }
 
 fn is_read_back(rt: &impl Abort, alloc: Global, ledger: &Ledger) {

@@ -1,5 +1,5 @@
 //! Commands by a letter each, and ledgers told by those.
-use crate::comparing::same;
+use crate::comparing::{ensure, same};
 use site_ledger::{Ledger, Sent};
 use std::alloc::{AllocError, Global};
 use std::process::Abort;
@@ -44,8 +44,8 @@ pub fn commands(alloc: Global, letters: &str) -> Result<Vec<&'static str>, Alloc
 // Below, a ledger's steps, where memory is not refused.
 
 pub fn plan_texts(rt: &impl Abort, alloc: Global, ledger: &mut Ledger, wanted: &[&str]) {
-    assert!(rt; ledger.is_idle());
-    assert!(rt; ledger.plan(alloc, wanted).is_ok());
+    let is_planned = ledger.is_idle() && ledger.plan(alloc, wanted).is_ok();
+    ensure(rt, is_planned, ledger.next());
 }
 
 /// Plans the commands of a word's letters.
@@ -55,16 +55,21 @@ pub fn plan(rt: &impl Abort, alloc: Global, ledger: &mut Ledger, letters: &str) 
 }
 
 pub fn plan_release(rt: &impl Abort, alloc: Global, ledger: &mut Ledger) {
-    assert!(rt; ledger.is_idle());
-    assert!(rt; ledger.plan_release(alloc).is_ok());
+    let is_planned = ledger.is_idle() && ledger.plan_release(alloc).is_ok();
+    ensure(rt, is_planned, ledger.next());
 }
 
 pub fn receive(rt: &impl Abort, ledger: &mut Ledger, number: u64) {
-    assert!(rt; ledger.receive(number).is_ok());
+    ensure(rt, ledger.receive(number).is_ok(), number);
 }
 
 pub fn spelled(rt: &impl Abort, alloc: Global, ledger: &Ledger) -> String {
     ledger.spelled(alloc).expect(rt, "memory")
+}
+
+/// Keeps it in the file.
+pub fn save(rt: &impl Abort, alloc: Global, ledger: &Ledger, file: &mut String) {
+    *file = spelled(rt, alloc, ledger);
 }
 
 pub fn is_spelled(rt: &impl Abort, alloc: Global, ledger: &Ledger, wanted: &str) {

@@ -69,7 +69,7 @@ const WANTED: &[&str] = &["put data a\n1\n", "put route /a t a\n"];
 const PLANNED: &[&str] = &["put data a\n1\n", "remove data b\n"];
 
 fn has_planned(rt: &impl Abort, ledger: &Ledger) {
-    assert!(rt; ledger.sent().len() == PLANNED.len());
+    same(rt, ledger.sent().len(), PLANNED.len());
     for (sent, text) in ledger.sent().iter().zip(PLANNED) {
         same(rt, sent.text.as_str(), *text);
     }

@@ -1,6 +1,6 @@
 //! Places of texts.
+use crate::comparing::same;
 use site_folder::place_of;
-use std::process::Abort;
 
 const PLACES: &[(&[u8], usize, usize, usize)] = &[
     (b"", 0, 1, 1),
@@ -17,6 +17,6 @@ const PLACES: &[(&[u8], usize, usize, usize)] = &[
 fn lines_and_columns(rt: HostRuntime) {
     for &(text, at, line, column) in PLACES {
         let place = place_of(text, at);
-        assert!(rt; place.line == line && place.column == column);
+        same(&rt, (place.line, place.column), (line, column));
     }
 }

@@ -1,5 +1,5 @@
 //! A history of a ledger, step by step.
-use crate::comparing::same;
+use crate::comparing::{ensure, same};
 use crate::editors::ledgers::{plan, plan_release, receive, told};
 use site_ledger::Ledger;
 use std::alloc::Global;
@@ -44,8 +44,8 @@ const HISTORY: &[(Step, &str)] = &[
 ];
 
 fn release_again(rt: &impl Abort, alloc: Global, ledger: &mut Ledger) {
-    assert!(rt; ledger.is_idle());
-    assert!(rt; ledger.release_again(alloc).is_ok());
+    let is_planned = ledger.is_idle() && ledger.release_again(alloc).is_ok();
+    ensure(rt, is_planned, ledger.next());
 }
 
 fn take(rt: &impl Abort, alloc: Global, ledger: &mut Ledger, step: Step) {
@@ -73,5 +73,5 @@ fn take_all(rt: &impl Abort, alloc: Global, ledger: &mut Ledger) {
 fn history(rt: HostRuntime) {
     let mut ledger = Ledger::new(rt.alloc(), 7);
     take_all(&rt, rt.alloc(), &mut ledger);
-    assert!(rt; ledger.editor() == 7);
+    same(&rt, ledger.editor(), 7);
 }

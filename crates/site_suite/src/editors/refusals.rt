@@ -1,6 +1,6 @@
 //! Each step with one growth refused, as `tools/gate/refuse-growths` runs this: it is taken as ever, or memory was refused, nothing has changed, and the
 //! next try takes it.
-use crate::comparing::same;
+use crate::comparing::{ensure, same};
 use crate::editors::folders::{SITE, files, lines_of};
 use crate::editors::ledgers::{commands, told};
 use engine_parts::Feed;
@@ -37,7 +37,7 @@ fn folders(rt: HostRuntime) {
         Ok(found) => found,
         Err(_) => read_counts(rt.alloc()).expect(&rt, "memory"),
     };
-    assert!(rt; found == (9, 3, 105));
+    same(&rt, found, (9, 3, 105));
 }
 
 fn step(alloc: Global, ledger: &mut Ledger, wanted: &[&str]) -> Result<bool, LedgerFault> {
@@ -58,15 +58,15 @@ fn wanted(rt: &impl Abort, alloc: Global) -> Vec<&'static str> {
 
 fn plan(rt: &impl Abort, alloc: Global, ledger: &mut Ledger, wanted: &[&str]) {
     if step(alloc, ledger, wanted).is_err() {
-        assert!(rt; ledger.next() == 1 && ledger.is_idle());
-        assert!(rt; step(alloc, ledger, wanted) == Ok(true));
+        same(rt, (ledger.next(), ledger.is_idle()), (1, true));
+        same(rt, step(alloc, ledger, wanted), Ok(true));
     }
 }
 
 fn receive(rt: &impl Abort, ledger: &mut Ledger) {
     if ledger.receive(2).is_err() {
-        assert!(rt; ledger.sent().len() == 3 && ledger.kept().is_empty());
-        assert!(rt; ledger.receive(2).is_ok());
+        same(rt, (ledger.sent().len(), ledger.kept().len()), (3, 0));
+        ensure(rt, ledger.receive(2).is_ok(), 2);
     }
 }
 
@@ -134,7 +134,7 @@ fn answer(rt: &impl Abort, alloc: Global) -> Answer {
     match read_one(alloc) {
         Ok(answer) => answer,
         Err(fault) => {
-            assert!(rt; fault == AnswerFault::OutOfMemory);
+            same(rt, fault, AnswerFault::OutOfMemory);
             read_one(alloc).expect(rt, "an answer")
         }
     }
@@ -142,10 +142,11 @@ fn answer(rt: &impl Abort, alloc: Global) -> Answer {
 
 #[test]
 fn answers(rt: HostRuntime) {
-    assert!(rt; request(&rt, rt.alloc()).as_str().starts_with(REQUEST));
+    let asks = request(&rt, rt.alloc()).as_str().starts_with(REQUEST);
+    ensure(&rt, asks, 7);
     let answer = answer(&rt, rt.alloc());
-    assert!(rt; answer.status == 200);
-    assert!(rt; answer.body.as_slice() == b"7\n".as_slice());
+    let is_seven = answer.body.as_slice() == b"7\n".as_slice();
+    same(&rt, (answer.status, is_seven), (200, true));
 }
 
 fn go_on(alloc: Global, ledger: &mut Ledger) -> Result<Stage, LedgerFault> {
@@ -157,7 +158,7 @@ fn advances(rt: &impl Abort, alloc: Global, ledger: &mut Ledger) {
         Ok(stage) => Ok(stage),
         Err(_) => go_on(alloc, ledger),
     };
-    assert!(rt; planned == Ok(Stage::Sends));
+    same(rt, planned, Ok(Stage::Sends));
 }
 
 fn asks(rt: &impl Abort, alloc: Global, flight: &Flight, ledger: &Ledger) -> Vec<Ask> {
@@ -179,20 +180,24 @@ fn means(
     let heard = match flight.hear(ledger, ask, status) {
         Ok(heard) => heard,
         Err(_) => {
-            assert!(rt; !ledger.is_idle());
+            same(rt, ledger.is_idle(), false);
             flight.hear(ledger, ask, status).expect(rt, "memory")
         }
     };
-    assert!(rt; heard == wanted);
+    same(rt, heard, wanted);
 }
 
 fn fly(rt: &impl Abort, alloc: Global, flight: &mut Flight, ledger: &mut Ledger) {
     advances(rt, alloc, ledger);
     let asks = asks(rt, alloc, flight, ledger);
-    assert!(rt; asks.as_slice() == [Ask::Submit(1)].as_slice());
+    ensure(
+        rt,
+        asks.as_slice() == [Ask::Submit(1)].as_slice(),
+        asks.len(),
+    );
     means(rt, flight, ledger, (Ask::Submit(1), 202), Heard::Taken);
     means(rt, flight, ledger, (Ask::Receipt(1), 200), Heard::Received);
-    assert!(rt; ledger.is_idle());
+    same(rt, ledger.is_idle(), true);
 }
 
 #[test]

@@ -17,7 +17,11 @@ pub(crate) fn has(rt: &impl Abort, texts: &Texts, number: u64, text: &str) -> bo
     }
 }
 
+pub(crate) fn insert(rt: &impl Abort, texts: &mut Texts, number: u64, text: String) {
+    ensure(rt, texts.insert(number, text).is_ok(), number);
+}
+
 pub(crate) fn keep(rt: &impl Abort, alloc: Global, texts: &mut Texts, number: u64, text: &str) {
     let text = String::from_str(alloc, text).expect(rt, "memory");
-    assert!(rt; texts.insert(number, text).is_ok());
+    insert(rt, texts, number, text);
 }

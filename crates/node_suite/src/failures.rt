@@ -1,0 +1,25 @@
+//! Where a device fails within the four calls of a put or of a seal.
+
+/// After how many calls the device fails, a choice of the crash, whether what was put is found.
+type Failure = (u32, Option<u8>, bool);
+
+/// After so many calls the device fails. Then the node is opened again, behind a crash by a choice or without one: what was put is found only where its gate
+/// was written and not lost.
+pub(crate) const FAILURES: &[Failure] = &[
+    (0, Some(0), false),
+    (0, Some(1), false),
+    (0, Some(7), false),
+    (0, None, false),
+    (1, Some(0), false),
+    (1, Some(1), false),
+    (1, Some(7), false),
+    (1, None, false),
+    (2, Some(0), false),
+    (2, Some(1), false),
+    (2, Some(7), false),
+    (2, None, false),
+    (3, Some(0), false),
+    (3, Some(1), true),
+    (3, Some(7), false),
+    (3, None, true),
+];

@@ -1,0 +1,104 @@
+//! Nodes over disks in memory, boxed: what owns one is proved to let it go at each of its ends, and a box is let go of in one step. What was refused memory is
+//! tried once more.
+ghost use Rattle.site_ids.specs.Ids.{IsNode};
+
+use crate::comparing::{ensure, same};
+use durable::{Record, RecordFault};
+use node::Node;
+use site_disk::MemDisk;
+use site_ids::{Cluster, NodeId};
+use std::alloc::Global;
+use std::process::Abort;
+
+pub(crate) fn boxed<T: Drop>(rt: &impl Abort, alloc: Global, it: T) -> Box<T> {
+    match Box::new(alloc, it) {
+        Ok(boxed) => boxed,
+        Err(refused) => Box::new(alloc, refused.value).ok().expect(rt, "memory"),
+    }
+}
+
+fn format(alloc: Global, cluster: Cluster, me: NodeId) -> Result<MemDisk, RecordFault> {
+    let mut disk = MemDisk::new(alloc);
+    match Record::format(cluster, me, &mut disk) {
+        Ok(()) => Ok(disk),
+        Err(fault) => Err(fault),
+    }
+}
+
+/// A record that was just made. A growth that was refused leaves a beginning of it behind, so it is made on another disk then.
+fn formatted(rt: &impl Abort, alloc: Global, cluster: Cluster, me: NodeId) -> MemDisk {
+    match format(alloc, cluster, me) {
+        Ok(disk) => disk,
+        Err(fault) => {
+            same(rt, fault, RecordFault::Device);
+            format(alloc, cluster, me).expect(rt, "a record")
+        }
+    }
+}
+
+fn open(
+    alloc: Global,
+    cluster: Cluster,
+    me: NodeId,
+    disk: MemDisk,
+) -> Result<Node<MemDisk>, (RecordFault, MemDisk)>
+    requires { IsNode cluster me }
+{
+    Node::open(alloc, cluster, me, disk)
+}
+
+/// The disk of an opening that was refused memory.
+fn disk_of(rt: &impl Abort, refused: (RecordFault, MemDisk)) -> MemDisk {
+    let (fault, disk) = refused;
+    let is_memory = matches!(fault, RecordFault::OutOfMemory | RecordFault::Device);
+    ensure(rt, is_memory, fault);
+    disk
+}
+
+fn opened(
+    rt: &impl Abort,
+    alloc: Global,
+    cluster: Cluster,
+    me: NodeId,
+    disk: MemDisk,
+) -> Node<MemDisk>
+    requires { IsNode cluster me }
+{
+    match open(alloc, cluster, me, disk) {
+        Ok(node) => node,
+        Err(refused) => open(alloc, cluster, me, disk_of(rt, refused))
+            .ok()
+            .expect(rt, "a node"),
+    }
+}
+
+/// The node of that number among so many, over a record that was just made.
+pub(crate) fn fresh(rt: &impl Abort, alloc: Global, size: u8, number: u8) -> Box<Node<MemDisk>> {
+    let cluster = Cluster::new(size).expect(rt, "a cluster");
+    let me = cluster.node(number).expect(rt, "a node");
+    let disk = formatted(rt, alloc, cluster, me);
+    boxed(rt, alloc, opened(rt, alloc, cluster, me, disk))
+}
+
+/// The disk of a node that is closed, behind a crash by that choice, or without one.
+fn closed(node: Box<Node<MemDisk>>, crash: Option<u8>) -> MemDisk {
+    let mut disk = Box::into_inner(node).close();
+    match crash {
+        Some(choice) => disk.crash(choice),
+        None => disk.disarm(),
+    }
+    disk
+}
+
+/// Node 1, closed and opened again, behind a crash by that choice, or without one.
+pub(crate) fn again(
+    rt: &impl Abort,
+    alloc: Global,
+    node: Box<Node<MemDisk>>,
+    crash: Option<u8>,
+) -> Box<Node<MemDisk>> {
+    let cluster = node.cluster();
+    let me = cluster.node(1).expect(rt, "a node");
+    let disk = closed(node, crash);
+    boxed(rt, alloc, opened(rt, alloc, cluster, me, disk))
+}
