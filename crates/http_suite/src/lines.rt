@@ -45,18 +45,18 @@ fn check_pieces(
 }
 
 /// Two requests, cut into two behind each byte and in pieces of each size.
-fn check_cuts(rt: &impl Abort, desk: &mut Desk<'_>) {
-    for cut in 0..=BOTH.len() {
-        check_pieces(rt, desk, BOTH, cut, cut, BOTH_PAGES, 2);
-        check_pieces(rt, desk, BOTH, cut, usize::MAX, BOTH_PAGES, 2);
+fn check_cuts(rt: &impl Abort, desk: &mut Desk<'_>, both: &[u8], pages: &[u8]) {
+    for cut in 0..=both.len() {
+        check_pieces(rt, desk, both, cut, cut, pages, 2);
+        check_pieces(rt, desk, both, cut, usize::MAX, pages, 2);
     }
 }
 
 /// Writers that take each number of bytes at a time.
-fn check_writers(rt: &impl Abort, desk: &mut Desk<'_>) {
-    for piece in 1..=BOTH_PAGES.len() {
+fn check_writers(rt: &impl Abort, desk: &mut Desk<'_>, both: &[u8], pages: &[u8]) {
+    for piece in 1..=pages.len() {
         let room = (usize::MAX, piece);
-        check(rt, desk, whole(BOTH), room, BOTH_PAGES, 2, piece);
+        check(rt, desk, whole(both), room, pages, 2, piece);
     }
 }
 
@@ -98,7 +98,7 @@ fn check_each_short(
 }
 
 fn check_readers(rt: &impl Abort, desk: &mut Desk<'_>) {
-    check_cuts(rt, desk);
+    check_cuts(rt, desk, BOTH, BOTH_PAGES);
     check_each_short(rt, desk, 0, GET.len(), b"", 0);
     let (from, to) = (GET.len(), BOTH.len());
     check_each_short(rt, desk, from, to, PAGE.as_bytes(), 1);
@@ -108,7 +108,7 @@ fn check_readers(rt: &impl Abort, desk: &mut Desk<'_>) {
 fn a_page_and_one_that_moved_in_steps(rt: HostRuntime) {
     let mut desk = open_desk(rt.alloc(), 1);
     check_readers(&rt, &mut desk);
-    check_writers(&rt, &mut desk);
+    check_writers(&rt, &mut desk, BOTH, BOTH_PAGES);
     check_broken(&rt, &mut desk);
     drop(desk);
 }

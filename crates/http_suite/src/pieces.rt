@@ -90,6 +90,16 @@ pub(crate) struct Input<'a> {
 }
 
 impl<'a> Input<'a> {
+    /// A first piece and then pieces of one size, and no call that fails.
+    pub(crate) fn in_pieces(
+        alloc: Global,
+        bytes: &'a [u8],
+        first: usize,
+        piece: usize,
+    ) -> Input<'a> {
+        Input::new(alloc, in_pieces(bytes, first, piece, usize::MAX))
+    }
+
     pub(crate) fn new(alloc: Global, reader: Pieces<'a>) -> Input<'a> {
         Input {
             alloc,
@@ -131,13 +141,18 @@ impl Input<'_> {
 
     /// Reads on in what is held, and then once more: in words what came, if it is whole, or the fault.
     fn step(&mut self, rt: &impl Abort) -> Option<String> {
-        match self.reading.go_on(self.alloc) {
-            Ok(Some(came)) => Some(told(rt, self.alloc, came)),
-            Ok(None) => match self.read_more() {
-                Some(fault) => Some(words(rt, self.alloc, fault)),
-                None => None,
-            },
-            Err(_) => Some(words(rt, self.alloc, "out of memory")),
+        let came = self.reading.go_on(self.alloc).expect(rt, "memory");
+        match came {
+            Some(came) => Some(told(rt, self.alloc, came)),
+            None => self.fault(rt),
+        }
+    }
+
+    /// The same fault in words.
+    fn fault(&mut self, rt: &impl Abort) -> Option<String> {
+        match self.read_more() {
+            Some(fault) => Some(words(rt, self.alloc, fault)),
+            None => None,
         }
     }
 
@@ -207,16 +222,14 @@ fn check_behind(rt: &impl Abort, case: &Case<'_>, input: Input<'_>) {
 
 /// Reads a request at once that comes in pieces of one size.
 fn check_pieces(rt: &impl Abort, alloc: Global, case: &Case<'_>, piece: usize) {
-    let reader = in_pieces(case.text.as_bytes(), piece, piece, usize::MAX);
-    let mut input = Input::new(alloc, reader);
+    let mut input = Input::in_pieces(alloc, case.text.as_bytes(), piece, piece);
     input.comes(rt, case.expected, (case.text, piece));
     check_behind(rt, case, input);
 }
 
 /// Reads on in one that comes in a first piece and then in pieces of one size.
 fn check_so_far(rt: &impl Abort, alloc: Global, case: &Case<'_>, first: usize, piece: usize) {
-    let reader = in_pieces(case.text.as_bytes(), first, piece, usize::MAX);
-    let mut input = Input::new(alloc, reader);
+    let mut input = Input::in_pieces(alloc, case.text.as_bytes(), first, piece);
     input.comes_so_far(rt, case.expected, (case.text, first));
     check_behind(rt, case, input);
 }

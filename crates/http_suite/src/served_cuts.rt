@@ -12,11 +12,12 @@ const RESPONSE: &[u8] =
     b"HTTP/1.1 200 OK\r\nContent-Type: text/html; charset=utf-8\r\nContent-Length: 3\r\n\r\nHi\n";
 
 /// One that fails behind the last byte is a fault within the next request: the response stands.
-fn check_readers(rt: &impl Abort, desk: &mut Desk<'_>) {
-    answers_in_pieces(rt, desk, REQUEST, RESPONSE);
-    ends_early(rt, desk, REQUEST, 0, b"");
-    fails_to_read(rt, desk, REQUEST, 0, b"");
-    fails_behind(rt, desk, REQUEST, REQUEST.len(), RESPONSE);
+fn check_readers(rt: &impl Abort, desk: &mut Desk<'_>, request: &[u8], response: &[u8]) {
+    let nothing: &[u8] = b"";
+    answers_in_pieces(rt, desk, request, response);
+    ends_early(rt, desk, request, 0, nothing);
+    fails_to_read(rt, desk, request, 0, nothing);
+    fails_behind(rt, desk, request, request.len(), response);
 }
 
 fn check_writers(rt: &impl Abort, desk: &mut Desk<'_>) {
@@ -28,7 +29,7 @@ fn check_writers(rt: &impl Abort, desk: &mut Desk<'_>) {
 #[test]
 fn a_page_in_pieces(rt: HostRuntime) {
     let mut desk = open_desk(rt.alloc(), 1);
-    check_readers(&rt, &mut desk);
+    check_readers(&rt, &mut desk, REQUEST, RESPONSE);
     check_writers(&rt, &mut desk);
     drop(desk);
 }

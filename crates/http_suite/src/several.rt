@@ -1,14 +1,12 @@
 //! Several requests on one connection: behind each the inbox and the reader have what follows it.
 use crate::pieces::Input;
 use crate::texts::{joined, times};
-use failing_ends::in_pieces;
 use std::alloc::Global;
 use std::process::Abort;
 
 /// The requests of these bytes, in pieces of one size, come to these, one after another, and no call fails.
 fn check_each(rt: &impl Abort, alloc: Global, bytes: &[u8], piece: usize, expected: &[&str]) {
-    let reader = in_pieces(bytes, piece, piece, usize::MAX);
-    let mut input = Input::new(alloc, reader);
+    let mut input = Input::in_pieces(alloc, bytes, piece, piece);
     for one in expected {
         input.comes(rt, one, (one, piece));
     }
@@ -37,8 +35,7 @@ fn one_behind_another(rt: HostRuntime) {
 
 /// Sixty requests that come to that, and then the end.
 fn check_many(rt: &impl Abort, alloc: Global, bytes: &[u8], piece: usize, expected: &str) {
-    let reader = in_pieces(bytes, piece, piece, usize::MAX);
-    let mut input = Input::new(alloc, reader);
+    let mut input = Input::in_pieces(alloc, bytes, piece, piece);
     for _ in 0..60 {
         input.comes(rt, expected, ("", piece));
     }

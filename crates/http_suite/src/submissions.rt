@@ -96,10 +96,11 @@ fn texts_that_are_no_command(rt: HostRuntime) {
 }
 
 /// By pieces of each size the value is queued once, and then already there.
-fn check_pieces(rt: &impl Abort, desk: &mut Desk<'_>) {
-    answers(rt, desk, CHUNKED, 1, 1, QUEUED);
-    for piece in 2..CHUNKED.len() {
-        answers(rt, desk, CHUNKED, piece, piece, THERE);
+fn check_pieces(rt: &impl Abort, desk: &mut Desk<'_>, bytes: &[u8]) {
+    answers(rt, desk, bytes, 1, 1, QUEUED);
+    let there = THERE;
+    for piece in 2..bytes.len() {
+        answers(rt, desk, bytes, piece, piece, there);
     }
     took(rt, desk, 1);
 }
@@ -116,7 +117,7 @@ fn check_outcomes(rt: &impl Abort, desk: &mut Desk<'_>) {
     check_mood(rt, desk, Mood::Busy, BUSY);
     took(rt, desk, 0);
     desk.mood = Mood::Open;
-    check_pieces(rt, desk);
+    check_pieces(rt, desk, CHUNKED);
     check_mood(rt, desk, Mood::Busy, ALREADY);
 }
 
@@ -137,12 +138,13 @@ fn outcomes(rt: HostRuntime) {
 }
 
 /// Where memory was missing none was taken, and a request cut short takes none.
-fn check_not_taken(rt: &impl Abort, desk: &mut Desk<'_>) {
+fn check_not_taken(rt: &impl Abort, desk: &mut Desk<'_>, bytes: &[u8]) {
+    let nothing: &[u8] = b"";
     desk.mood = Mood::Starved;
     let starved = Err(ServeFault::OutOfMemory);
-    sends(rt, desk, CHUNKED, starved, b"", CHUNKED.len());
+    sends(rt, desk, bytes, starved, nothing, bytes.len());
     desk.mood = Mood::Open;
-    ends_early(rt, desk, CHUNKED, 0, b"");
+    ends_early(rt, desk, bytes, 0, nothing);
     took(rt, desk, 0);
 }
 
@@ -150,7 +152,7 @@ fn check_not_taken(rt: &impl Abort, desk: &mut Desk<'_>) {
 #[test]
 fn lost_responses(rt: HostRuntime) {
     let mut desk = open_desk(rt.alloc(), 1);
-    check_not_taken(&rt, &mut desk);
+    check_not_taken(&rt, &mut desk, CHUNKED);
     let failed = Err(ServeFault::Write);
     let begun = b"HTTP/1.1 202 Accepte".as_slice();
     writes(&rt, &mut desk, CHUNKED, (20, 7), failed, begun);
