@@ -1,10 +1,8 @@
 //! Which receipt a connection's next request asks for, as its first bytes tell.
-use crate::comparing::same;
-use failing_ends::whole;
+use crate::comparing::{ensure, same};
 use http_read::Counted;
 use http_serve::Line;
 use site_ids::Ticket;
-use std::alloc::Global;
 use std::process::Abort;
 
 /// What came, and the ticket whose receipt it asks for.
@@ -44,16 +42,14 @@ const ROWS: &[(&[u8], Option<Ticket>)] = &[
     (b"G", None),
 ];
 
-fn hear(rt: &impl Abort, line: &mut Line, came: &[u8]) {
-    let mut reader = Counted::new(whole(came));
-    assert!(rt; line.may_hear());
-    assert!(rt; line.hear(&mut reader).is_ok());
+/// Whether bytes may be read, and are.
+fn hears(line: &mut Line, came: &[u8]) -> bool {
+    line.may_hear() && line.hear(&mut Counted::new(came)).is_ok()
 }
 
-fn check(rt: &impl Abort, alloc: Global, came: &[u8], wanted: Option<Ticket>) {
-    let mut line = Line::new(alloc);
-    assert!(rt; line.asks_receipt().is_none());
-    hear(rt, &mut line, came);
+fn check(rt: &impl Abort, mut line: Line, came: &[u8], wanted: Option<Ticket>) {
+    ensure(rt, line.asks_receipt().is_none(), came);
+    ensure(rt, hears(&mut line, came), came);
     same(rt, line.asks_receipt(), wanted);
     drop(line);
 }
@@ -61,6 +57,6 @@ fn check(rt: &impl Abort, alloc: Global, came: &[u8], wanted: Option<Ticket>) {
 #[test]
 fn a_request_for_a_receipt_is_seen_before_it_is_read(rt: HostRuntime) {
     for &(came, wanted) in ROWS {
-        check(&rt, rt.alloc(), came, wanted);
+        check(&rt, Line::new(rt.alloc()), came, wanted);
     }
 }

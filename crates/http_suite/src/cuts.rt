@@ -1,8 +1,6 @@
 //! Requests cut in every way, cut off after each byte, and over a reader that fails in place of each call.
-use crate::comparing::same;
-use crate::pieces::{check_one, comes, even, in_pieces};
-use failing_ends::Pieces;
-use http_read::{Counted, Inbox};
+use crate::pieces::{Input, check_one};
+use failing_ends::{Pieces, in_pieces};
 use std::alloc::Global;
 use std::process::Abort;
 
@@ -15,56 +13,67 @@ const SUBMISSION: &str =
 fn check_alone(
     rt: &impl Abort,
     alloc: Global,
-    reader: &mut Counted<Pieces<'_>>,
+    reader: Pieces<'_>,
     expected: &str,
     failures: u64,
-    row: (&str, usize),
+    of: usize,
 ) {
-    let mut inbox = Inbox::new(alloc);
-    comes(rt, alloc, reader, &mut inbox, expected, row);
-    same(rt, reader.failures(), failures);
+    let mut input = Input::new(alloc, reader);
+    input.comes(rt, expected, ("number", of));
+    input.failed(rt, failures);
+    drop(input);
+}
+
+/// It comes to that in a first piece and pieces of one size.
+fn check_pieces(
+    rt: &impl Abort,
+    alloc: Global,
+    whole: &[u8],
+    first: usize,
+    piece: usize,
+    expected: &str,
+) {
+    let reader = in_pieces(whole, first, piece, usize::MAX);
+    check_alone(rt, alloc, reader, expected, 0, first);
 }
 
 /// For each cut into two, and in pieces of each size.
 fn check_cuts(rt: &impl Abort, alloc: Global, whole: &[u8], expected: &str) {
     for cut in 0..whole.len() {
-        let mut reader = in_pieces(whole, cut, usize::MAX, usize::MAX);
-        check_alone(rt, alloc, &mut reader, expected, 0, ("cut behind", cut));
-        let mut reader = even(whole, cut);
-        check_alone(rt, alloc, &mut reader, expected, 0, ("in pieces of", cut));
+        check_pieces(rt, alloc, whole, cut, usize::MAX, expected);
+        check_pieces(rt, alloc, whole, cut, cut, expected);
     }
 }
 
 /// Cut off after each byte.
 fn check_short(rt: &impl Abort, alloc: Global, whole: &[u8]) {
-    for len in 0..whole.len() {
-        let short = if len == 0 { "ended" } else { "ended early" };
-        check_alone(
-            rt,
-            alloc,
-            &mut even(&whole[..len], 5),
-            short,
-            0,
-            ("after", len),
-        );
+    check_pieces(rt, alloc, b"", 5, 5, "ended");
+    for len in 1..whole.len() {
+        check_pieces(rt, alloc, &whole[..len], 5, 5, "ended early");
     }
 }
 
-/// A read that fails in place of each call; one in place of the call behind the last byte isn't made.
-fn check_failures(rt: &impl Abort, alloc: Global, whole: &[u8], expected: &str) {
+/// A read that fails in place of each call.
+fn check_failures(rt: &impl Abort, alloc: Global, whole: &[u8]) {
     for good in 0..whole.len() {
-        let mut reader = in_pieces(whole, 1, 1, good);
-        check_alone(rt, alloc, &mut reader, "read failed", 1, ("calls", good));
+        let reader = in_pieces(whole, 1, 1, good);
+        check_alone(rt, alloc, reader, "read failed", 1, good);
     }
-    let mut reader = in_pieces(whole, 1, 1, whole.len());
-    check_alone(rt, alloc, &mut reader, expected, 0, ("all calls", 0));
+}
+
+/// One in place of the call behind the last byte isn't made.
+fn check_last(rt: &impl Abort, alloc: Global, whole: &[u8], expected: &str) {
+    let reader = in_pieces(whole, 1, 1, whole.len());
+    check_alone(rt, alloc, reader, expected, 0, whole.len());
 }
 
 fn check_all(rt: &impl Abort, alloc: Global, text: &str, expected: &str) {
     check_one(rt, alloc, text, expected);
-    check_cuts(rt, alloc, text.as_bytes(), expected);
-    check_short(rt, alloc, text.as_bytes());
-    check_failures(rt, alloc, text.as_bytes(), expected);
+    let whole = text.as_bytes();
+    check_cuts(rt, alloc, whole, expected);
+    check_short(rt, alloc, whole);
+    check_failures(rt, alloc, whole);
+    check_last(rt, alloc, whole, expected);
 }
 
 #[test]
@@ -82,6 +91,5 @@ fn a_submission_by_chunks(rt: HostRuntime) {
 #[test]
 fn a_bad_head_is_not_passed_over(rt: HostRuntime) {
     let bad = b"GET / HTTP/1.1\r\nHost : a\r\n";
-    let mut reader = in_pieces(bad, 1, 1, 26);
-    check_alone(&rt, rt.alloc(), &mut reader, "400", 0, ("a bad head", 0));
+    check_alone(&rt, rt.alloc(), in_pieces(bad, 1, 1, 26), "400", 0, 26);
 }

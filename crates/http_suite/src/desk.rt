@@ -5,11 +5,13 @@ ghost use Rattle.http_serve.specs.Services.{IsTold};
 ghost use Rattle.release.specs.Page.{in_place, moved_to};
 ghost use Rattle.http_suite.specs.Desks.{page_at, shown_at};
 
+use crate::comparing::same;
 use command::{CommandFault, read, write};
 use http_serve::{Service, Submission, SubmitFault};
 use release::{Answer, AnswerFault};
 use site_ids::{Instance, Ticket};
 use std::alloc::{AllocError, Global};
+use std::process::Abort;
 
 /// How submissions are met.
 #[derive(Clone, Copy, PartialEq, Eq)]
@@ -23,6 +25,7 @@ pub(crate) enum Mood {
 /// Shows releases, of which the first has this page at `/h`, and keeps the values submitted.
 #[derive(Drop)]
 pub(crate) struct Desk<'a> {
+    pub alloc: Global,
     pub page: &'a str,
     pub newest: u64,
     /// The instance of every ticket.
@@ -31,15 +34,26 @@ pub(crate) struct Desk<'a> {
     pub values: Vec<Vec<u8>>,
 }
 
-/// One that is open, with this many releases, and no receipts.
-pub(crate) fn open_desk(alloc: Global, page: &str, newest: u64) -> Desk<'_> {
+/// One that is open, with this page, this many releases, and no receipts.
+pub(crate) fn desk_of(alloc: Global, page: &str, newest: u64) -> Desk<'_> {
     Desk {
+        alloc,
         page,
         newest,
         receipt: None,
         mood: Mood::Open,
         values: Vec::new(alloc),
     }
+}
+
+/// One whose page is `Hi`.
+pub(crate) fn open_desk(alloc: Global, newest: u64) -> Desk<'static> {
+    desk_of(alloc, "Hi\n", newest)
+}
+
+/// It took so many submissions.
+pub(crate) fn took(rt: &impl Abort, desk: &Desk<'_>, count: usize) {
+    same(rt, desk.values.len(), count);
 }
 
 fn made(alloc: Global, status: u16, body: &str) -> Result<Answer, AllocError>

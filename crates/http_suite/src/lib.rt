@@ -14,6 +14,8 @@ mod cuts;
 #[cfg(test)]
 mod desk;
 #[cfg(test)]
+mod each_end;
+#[cfg(test)]
 mod ends;
 #[cfg(test)]
 mod heads;
@@ -25,6 +27,8 @@ mod lines;
 mod paths;
 #[cfg(test)]
 mod pieces;
+#[cfg(test)]
+mod reading;
 #[cfg(test)]
 mod refusals;
 #[cfg(test)]

@@ -5,7 +5,13 @@ use std::alloc::Global;
 use std::process::Abort;
 
 /// What stands before, a part, how often, what stands behind, and what that comes to.
-type Row = (&'static str, &'static str, u32, &'static str, &'static str);
+type Row = (
+    &'static str,
+    &'static str,
+    usize,
+    &'static str,
+    &'static str,
+);
 
 const BEGUN: &str = "GET / HTTP/1.1\r\nHost: a\r\nA: b\r\nX: ";
 
@@ -82,17 +88,17 @@ const TRAILERS: &[Row] = &[
     ("0\r\nA: ", "a", 8_190, "", "431"),
 ];
 
-/// The bytes of a row, behind these.
-fn row_text(rt: &impl Abort, alloc: Global, ahead: &str, row: Row) -> String {
-    let (before, part, count, behind, _) = row;
-    let middle = times(rt, alloc, part, count);
-    format!(in alloc; "{ahead}{before}{middle}{behind}").expect(rt, "memory")
+/// The row's request, behind these bytes.
+fn check_row(rt: &impl Abort, alloc: Global, ahead: &str, row: &Row) {
+    let middle = times(rt, alloc, row.1, row.2);
+    let front = joined(rt, alloc, ahead, row.0, middle.as_str());
+    let text = joined(rt, alloc, front.as_str(), row.3, "");
+    check_one(rt, alloc, text.as_str(), row.4);
 }
 
 fn check_rows(rt: &impl Abort, alloc: Global, ahead: &str, rows: &[Row]) {
-    for &row in rows {
-        let text = row_text(rt, alloc, ahead, row);
-        check_one(rt, alloc, text.as_str(), row.4);
+    for row in rows {
+        check_row(rt, alloc, ahead, row);
     }
 }
 
@@ -116,34 +122,50 @@ fn trailers(rt: HostRuntime) {
     check_rows(&rt, rt.alloc(), CHUNKED, TRAILERS);
 }
 
-/// A body of 40,000 letters, whole behind a head and in one chunk.
-fn check_whole(rt: &impl Abort, alloc: Global, body: &str, expected: &str) {
-    let head = "POST / HTTP/1.1\r\nHost: a\r\nContent-Length: 40000\r\n\r\n";
-    let text = joined(rt, alloc, head, body, "");
-    check_one(rt, alloc, text.as_str(), expected);
-    let chunk = joined(rt, alloc, "9c40\r\n", body, "\r\n0\r\n\r\n");
-    let text = joined(rt, alloc, CHUNKED, chunk.as_str(), "");
-    check_one(rt, alloc, text.as_str(), expected);
+/// A POST of so many letters comes to them.
+fn check_letters(rt: &impl Abort, alloc: Global, request: &str, letters: &str) {
+    let expected = joined(rt, alloc, "POST / with ", letters, "");
+    check_one(rt, alloc, request, expected.as_str());
 }
 
+const HEAD: &str = "POST / HTTP/1.1\r\nHost: a\r\nContent-Length: 40000\r\n\r\n";
+
+fn check_by_length(rt: &impl Abort, alloc: Global, letters: &str) {
+    let text = joined(rt, alloc, HEAD, letters, "");
+    check_letters(rt, alloc, text.as_str(), letters);
+}
+
+/// Chunks, behind the head.
+fn chunked(rt: &impl Abort, alloc: Global, chunks: &str) -> String {
+    joined(rt, alloc, CHUNKED, chunks, "0\r\n\r\n")
+}
+
+fn check_in_a_chunk(rt: &impl Abort, alloc: Global, letters: &str) {
+    let chunk = joined(rt, alloc, "9c40\r\n", letters, "\r\n");
+    let text = chunked(rt, alloc, chunk.as_str());
+    check_letters(rt, alloc, text.as_str(), letters);
+}
+
+/// 40,000 letters, whole behind a head and in one chunk.
 #[test]
 fn bodies(rt: HostRuntime) {
-    let body = times(&rt, rt.alloc(), "a", 40_000);
-    let expected = joined(&rt, rt.alloc(), "POST / with ", body.as_str(), "");
-    check_whole(&rt, rt.alloc(), body.as_str(), expected.as_str());
+    let letters = times(&rt, rt.alloc(), "a", 40_000);
+    check_by_length(&rt, rt.alloc(), letters.as_str());
+    check_in_a_chunk(&rt, rt.alloc(), letters.as_str());
 }
 
-/// So many chunks of one byte come to that.
-fn check_many(rt: &impl Abort, alloc: Global, count: u32, expected: &str) {
+/// So many chunks of one letter.
+fn many_chunks(rt: &impl Abort, alloc: Global, count: usize) -> String {
     let chunks = times(rt, alloc, "1\r\na\r\n", count);
-    let text = joined(rt, alloc, CHUNKED, chunks.as_str(), "0\r\n\r\n");
-    check_one(rt, alloc, text.as_str(), expected);
+    chunked(rt, alloc, chunks.as_str())
 }
 
 #[test]
 fn bodies_in_many_chunks(rt: HostRuntime) {
-    let body = times(&rt, rt.alloc(), "a", 40_000);
-    let expected = joined(&rt, rt.alloc(), "POST / with ", body.as_str(), "");
-    check_many(&rt, rt.alloc(), 40_000, expected.as_str());
-    check_many(&rt, rt.alloc(), 40_001, "413");
+    let alloc = rt.alloc();
+    let letters = times(&rt, alloc, "a", 40_000);
+    let most = many_chunks(&rt, alloc, 40_000);
+    check_letters(&rt, alloc, most.as_str(), letters.as_str());
+    let more = many_chunks(&rt, alloc, 40_001);
+    check_one(&rt, alloc, more.as_str(), "413");
 }

@@ -1,144 +1,152 @@
 //! Connections whose bytes come and go in many steps: cut in every way, over ends of which calls come too early, up to a fault, and up to the
 //! last response.
 use crate::comparing::{ensure, same};
-use crate::desk::{Desk, open_desk};
+use crate::desk::{Desk, open_desk, took};
 use crate::responses::{BAD, LAST_PAGE, PAGE};
-use crate::served_several::{BOTH, BOTH_PAGES, GET, pages};
+use crate::served_several::{BOTH, BOTH_PAGES, COUNTS, GET, pages};
 use crate::steps::{AMPLE, Room, Run, led};
 use crate::texts::times;
 use failing_ends::{Pieces, in_pieces, whole};
-use std::alloc::Global;
 use std::process::Abort;
 
-/// What is written, and how many requests are answered.
-type End<'a> = (&'a [u8], u32);
-
-/// The connection is over, and came to that end.
-fn ends(rt: &impl Abort, run: &Run, end: End<'_>, row: (&str, usize)) {
-    let (written, answered) = end;
-    let came = run.written.as_slice() == written && run.answered == answered;
-    ensure(rt, came && run.is_over && run.result.is_ok(), row);
+/// Whether the connection is over, and so many requests are answered.
+fn is_over(run: &Run, answered: u32) -> bool {
+    run.is_over && run.result.is_ok() && run.answered == answered
 }
 
+/// What is read so comes to that: what is written, and how many requests are answered.
 fn check(
     rt: &impl Abort,
-    alloc: Global,
     desk: &mut Desk<'_>,
     reader: Pieces<'_>,
     room: Room,
-    end: End<'_>,
-    row: (&str, usize),
+    written: &[u8],
+    answered: u32,
+    of: usize,
 ) {
-    let run = led(alloc, desk, reader, room);
-    ends(rt, &run, end, row);
+    let run = led(desk, reader, room);
+    same(rt, (of, run.written.as_slice()), (of, written));
+    ensure(rt, is_over(&run, answered), of);
+    drop(run);
+}
+
+/// So does what comes in a first piece and then in pieces of one size.
+fn check_pieces(
+    rt: &impl Abort,
+    desk: &mut Desk<'_>,
+    bytes: &[u8],
+    first: usize,
+    piece: usize,
+    written: &[u8],
+    answered: u32,
+) {
+    let reader = in_pieces(bytes, first, piece, usize::MAX);
+    check(rt, desk, reader, AMPLE, written, answered, first);
 }
 
 /// Two requests, cut into two behind each byte and in pieces of each size.
-fn check_cuts(rt: &impl Abort, alloc: Global, desk: &mut Desk<'_>) {
-    for cut in 0..=BOTH.len() {
-        for piece in [cut, usize::MAX] {
-            let reader = in_pieces(BOTH, cut, piece, usize::MAX);
-            let row = ("cut behind", cut);
-            check(rt, alloc, desk, reader, AMPLE, (BOTH_PAGES, 2), row);
-        }
+fn check_cuts(rt: &impl Abort, desk: &mut Desk<'_>, both: &[u8], pages: &[u8]) {
+    for cut in 0..=both.len() {
+        check_pieces(rt, desk, both, cut, cut, pages, 2);
+        check_pieces(rt, desk, both, cut, usize::MAX, pages, 2);
     }
 }
 
-/// Writers that take each number of bytes at a time, and writers that fail behind each number of bytes.
-fn check_writers(rt: &impl Abort, alloc: Global, desk: &mut Desk<'_>) {
-    for k in 0..BOTH_PAGES.len() {
-        let room = (usize::MAX, k + 1);
-        let row = ("bytes a write", k + 1);
-        check(rt, alloc, desk, whole(BOTH), room, (BOTH_PAGES, 2), row);
-        let answered = if k < PAGE.len() { 1 } else { 2 };
-        let end = (&BOTH_PAGES[..k], answered);
-        let row = ("a writer with room for", k);
-        check(rt, alloc, desk, whole(BOTH), (k, usize::MAX), end, row);
+/// Writers that take each number of bytes at a time.
+fn check_writers(rt: &impl Abort, desk: &mut Desk<'_>, both: &[u8], pages: &[u8]) {
+    for piece in 1..=pages.len() {
+        let room = (usize::MAX, piece);
+        check(rt, desk, whole(both), room, pages, 2, piece);
     }
 }
 
-/// How two requests end that are cut off behind so many bytes.
-fn cut_off(len: usize) -> End<'static> {
-    if len < GET.len() {
-        (b"", 0)
-    } else {
-        (PAGE.as_bytes(), 1)
+/// A writer that fails behind these bytes of the responses.
+fn check_begun(rt: &impl Abort, desk: &mut Desk<'_>, begun: &[u8], answered: u32) {
+    let room = begun.len();
+    let writer = (room, usize::MAX);
+    check(rt, desk, whole(BOTH), writer, begun, answered, room);
+}
+
+/// Writers that fail behind each number of bytes.
+fn check_broken(rt: &impl Abort, desk: &mut Desk<'_>) {
+    for room in 0..BOTH_PAGES.len() {
+        let answered = if room < PAGE.len() { 1 } else { 2 };
+        check_begun(rt, desk, &BOTH_PAGES[..room], answered);
     }
 }
 
 /// A client that sends no more behind so many bytes, and a reader that fails there: what was whole is answered.
-fn check_short(rt: &impl Abort, alloc: Global, desk: &mut Desk<'_>) {
-    for len in 0..BOTH.len() {
-        let row = ("cut off behind", len);
-        check(
-            rt,
-            alloc,
-            desk,
-            whole(&BOTH[..len]),
-            AMPLE,
-            cut_off(len),
-            row,
-        );
-        let row = ("a reader that fails behind", len);
-        let reader = in_pieces(BOTH, 1, 1, len);
-        check(rt, alloc, desk, reader, AMPLE, cut_off(len), row);
+fn check_short(rt: &impl Abort, desk: &mut Desk<'_>, len: usize, written: &[u8], answered: u32) {
+    let front = whole(&BOTH[..len.min(BOTH.len())]);
+    check(rt, desk, front, AMPLE, written, answered, len);
+    let failing = in_pieces(BOTH, 1, 1, len);
+    check(rt, desk, failing, AMPLE, written, answered, len);
+}
+
+/// The same behind each number of bytes from this one on, up to that one.
+fn check_each_short(
+    rt: &impl Abort,
+    desk: &mut Desk<'_>,
+    from: usize,
+    to: usize,
+    written: &[u8],
+    answered: u32,
+) {
+    for len in from..to {
+        check_short(rt, desk, len, written, answered);
     }
+}
+
+fn check_readers(rt: &impl Abort, desk: &mut Desk<'_>) {
+    check_cuts(rt, desk, BOTH, BOTH_PAGES);
+    check_each_short(rt, desk, 0, GET.len(), b"", 0);
+    let (from, to) = (GET.len(), BOTH.len());
+    check_each_short(rt, desk, from, to, PAGE.as_bytes(), 1);
 }
 
 #[test]
 fn a_page_and_one_that_moved_in_steps(rt: HostRuntime) {
-    let mut desk = open_desk(rt.alloc(), "Hi\n", 1);
-    check_cuts(&rt, rt.alloc(), &mut desk);
-    check_writers(&rt, rt.alloc(), &mut desk);
-    check_short(&rt, rt.alloc(), &mut desk);
+    let mut desk = open_desk(rt.alloc(), 1);
+    check_readers(&rt, &mut desk);
+    check_writers(&rt, &mut desk, BOTH, BOTH_PAGES);
+    check_broken(&rt, &mut desk);
+    drop(desk);
 }
 
 const POST: &[u8] = b"POST /_submit/1/5 HTTP/1.1\r\nHost: a\r\nContent-Length: 8\r\n\r\nrelease\n";
 
-const QUEUED: &[u8] =
+pub(crate) const QUEUED: &[u8] =
     b"HTTP/1.1 202 Accepted\r\nContent-Type: text/plain; charset=utf-8\r\nContent-Length: 7\r\n\r\nqueued\n";
 
 /// A submission cut behind this byte is taken once, and told once, by a writer that takes a byte at a time.
-fn check_taken(rt: &impl Abort, alloc: Global, cut: usize) {
-    let mut desk = open_desk(alloc, "Hi\n", 1);
+fn check_taken(rt: &impl Abort, mut desk: Desk<'_>, cut: usize) {
     let reader = in_pieces(POST, cut, usize::MAX, usize::MAX);
-    let row = ("a submission cut behind", cut);
-    check(
-        rt,
-        alloc,
-        &mut desk,
-        reader,
-        (usize::MAX, 1),
-        (QUEUED, 1),
-        row,
-    );
-    same(rt, (cut, desk.values.len()), (cut, 1));
+    check(rt, &mut desk, reader, (usize::MAX, 1), QUEUED, 1, cut);
+    took(rt, &desk, 1);
+    drop(desk);
 }
 
 #[test]
 fn a_submission_in_steps(rt: HostRuntime) {
     for cut in 0..POST.len() {
-        check_taken(&rt, rt.alloc(), cut);
+        check_taken(&rt, open_desk(rt.alloc(), 1), cut);
     }
+}
+
+/// Of a request that is not whole nothing comes.
+fn check_cut_off(rt: &impl Abort, desk: &mut Desk<'_>, begun: &[u8]) {
+    check(rt, desk, whole(begun), AMPLE, b"", 0, begun.len());
 }
 
 /// A submission that ends before its last byte is not taken.
 #[test]
 fn a_submission_cut_short(rt: HostRuntime) {
-    let mut desk = open_desk(rt.alloc(), "Hi\n", 1);
+    let mut desk = open_desk(rt.alloc(), 1);
     for len in 0..POST.len() {
-        let row = ("a submission cut off behind", len);
-        check(
-            &rt,
-            rt.alloc(),
-            &mut desk,
-            whole(&POST[..len]),
-            AMPLE,
-            (b"", 0),
-            row,
-        );
+        check_cut_off(&rt, &mut desk, &POST[..len]);
     }
-    assert!(rt; desk.values.is_empty());
+    took(&rt, &desk, 0);
+    drop(desk);
 }
 
 /// What a client sends, and what is written for it: nothing behind a last response is answered, and no submission behind it is taken.
@@ -161,44 +169,40 @@ const LAST: &[(&str, &str)] = &[
     ),
 ];
 
-fn check_last(rt: &impl Abort, alloc: Global, desk: &mut Desk<'_>) {
+fn check_last(rt: &impl Abort, desk: &mut Desk<'_>, sent: &str, written: &str, piece: usize) {
+    let (bytes, last) = (sent.as_bytes(), written.as_bytes());
+    check_pieces(rt, desk, bytes, piece, piece, last, 1);
+}
+
+fn check_each_last(rt: &impl Abort, desk: &mut Desk<'_>, piece: usize) {
     for &(sent, written) in LAST {
-        for piece in [1, 7, usize::MAX] {
-            let reader = in_pieces(sent.as_bytes(), piece, piece, usize::MAX);
-            let end = (written.as_bytes(), 1);
-            check(rt, alloc, desk, reader, AMPLE, end, (sent, piece));
-        }
+        check_last(rt, desk, sent, written, piece);
     }
+    took(rt, desk, 0);
 }
 
 #[test]
 fn a_last_response(rt: HostRuntime) {
-    let mut desk = open_desk(rt.alloc(), "Hi\n", 1);
-    check_last(&rt, rt.alloc(), &mut desk);
-    assert!(rt; desk.values.is_empty());
+    let mut desk = open_desk(rt.alloc(), 1);
+    check_each_last(&rt, &mut desk, 1);
+    check_each_last(&rt, &mut desk, 7);
+    check_each_last(&rt, &mut desk, usize::MAX);
+    drop(desk);
 }
 
 /// So many requests, of which a hundred are answered.
-fn check_many(rt: &impl Abort, alloc: Global, desk: &mut Desk<'_>, count: u32) {
-    let sent = times(rt, alloc, GET, count);
-    let written = pages(rt, alloc, count);
-    let reader = whole(sent.as_str().as_bytes());
-    let end = (written.as_str().as_bytes(), count.min(100));
-    check(
-        rt,
-        alloc,
-        desk,
-        reader,
-        AMPLE,
-        end,
-        ("requests", count as usize),
-    );
+fn check_many(rt: &impl Abort, desk: &mut Desk<'_>, count: usize, answered: u32) {
+    let sent = times(rt, desk.alloc, GET, count);
+    let written = pages(rt, desk.alloc, count);
+    let reader = whole(sent.as_bytes());
+    check(rt, desk, reader, AMPLE, written.as_bytes(), answered, count);
 }
 
 #[test]
 fn a_hundred_requests_in_steps(rt: HostRuntime) {
-    let mut desk = open_desk(rt.alloc(), "Hi\n", 1);
-    for count in [1, 99, 100, 101, 250] {
-        check_many(&rt, rt.alloc(), &mut desk, count);
+    let mut desk = open_desk(rt.alloc(), 1);
+    for &(count, answered) in COUNTS {
+        check_many(&rt, &mut desk, count, answered);
     }
+    drop(desk);
 }

@@ -1,52 +1,68 @@
 //! Each path with each method.
-use crate::desk::{Desk, open_desk};
+use crate::desk::{Desk, open_desk, took};
 use crate::ends::{HTML, PLAIN, Row, responds};
+use crate::texts::joined;
 use site_ids::Instance;
-use std::alloc::{AllocError, Global};
 use std::process::Abort;
 
-const NOT_FOUND: Row = ("404 Not Found", PLAIN, "", "not found\n");
+const NOT_FOUND: &Row = &("404 Not Found", PLAIN, "", "", "not found\n");
 
-const NO_RELEASE: Row = ("404 Not Found", PLAIN, "", "no release\n");
+const NO_RELEASE: &Row = &("404 Not Found", PLAIN, "", "", "no release\n");
 
-const UNKNOWN: Row = ("404 Not Found", PLAIN, "", "unknown\n");
+const UNKNOWN: &Row = &("404 Not Found", PLAIN, "", "", "unknown\n");
 
-const FIRST: Row = ("200 OK", HTML, "", "Hi\n");
+const LOST: &Row = &(
+    "500 Internal Server Error",
+    PLAIN,
+    "",
+    "",
+    "template missing\n",
+);
 
-const LATER: Row = ("200 OK", HTML, "", "later\n");
+const FIRST: &Row = &("200 OK", HTML, "", "", "Hi\n");
 
-const SEVEN: Row = ("200 OK", PLAIN, "", "7\n");
+const LATER: &Row = &("200 OK", HTML, "", "", "later\n");
 
-const MOVED: Row = (
+const NONE: &Row = &("200 OK", PLAIN, "", "", "0\n");
+
+const TWO: &Row = &("200 OK", PLAIN, "", "", "2\n");
+
+const SEVEN: &Row = &("200 OK", PLAIN, "", "", "7\n");
+
+const MOVED: &Row = &(
     "301 Moved Permanently",
     PLAIN,
     "Location: /h\r\n",
+    "",
     "moved to /h\n",
 );
 
-const MOVED_FAR: Row = (
+const MOVED_FAR: &Row = &(
     "301 Moved Permanently",
     PLAIN,
     "Location: /%C3%A9\r\n",
+    "",
     "moved to /é\n",
 );
 
-const WANTS_POST: Row = (
+const WANTS_POST: &Row = &(
     "405 Method Not Allowed",
     PLAIN,
     "Allow: POST\r\n",
+    "",
     "method not allowed\n",
 );
 
-const WANTS_GET: Row = (
+const WANTS_GET: &Row = &(
     "405 Method Not Allowed",
     PLAIN,
     "Allow: GET, HEAD\r\n",
+    "",
     "method not allowed\n",
 );
 
 /// Paths of two releases, and what GET answers; HEAD answers the same without the body, and POST wants GET or HEAD.
-const PATHS: &[(&str, Row)] = &[
+const PATHS: &[(&str, &Row)] = &[
     ("/h", LATER),
     ("/@1/h", FIRST),
     ("/@2/h", LATER),
@@ -55,10 +71,7 @@ const PATHS: &[(&str, Row)] = &[
     ("/@18446744073709551615/", NO_RELEASE),
     ("/@1/", NOT_FOUND),
     ("/@1/%C3%A9/@2/h", NOT_FOUND),
-    (
-        "/lost",
-        ("500 Internal Server Error", PLAIN, "", "template missing\n"),
-    ),
+    ("/lost", LOST),
     ("/old", MOVED),
     ("/@1/old", MOVED),
     ("/alt", MOVED_FAR),
@@ -67,7 +80,7 @@ const PATHS: &[(&str, Row)] = &[
     ("/h/", NOT_FOUND),
     ("//h", NOT_FOUND),
     ("http://a/h", LATER),
-    ("/_newest", ("200 OK", PLAIN, "", "2\n")),
+    ("/_newest", TWO),
     ("/_ticket/1/5", UNKNOWN),
     ("/_ticket/4294967295/18446744073709551615", UNKNOWN),
 ];
@@ -103,82 +116,74 @@ const RESERVED: &[&str] = &[
     "/@18446744073709551616/",
 ];
 
-fn request(alloc: Global, method: &str, path: &str) -> Result<String, AllocError> {
-    format!(in alloc; "{method} {path} HTTP/1.1\r\nHost: a\r\n\r\n")
-}
-
+/// The method, with a space behind it, and the path have this response, or its head alone.
 fn check_method(
     rt: &impl Abort,
-    alloc: Global,
     desk: &mut Desk<'_>,
     method: &str,
     path: &str,
-    row: Row,
+    row: &Row,
+    to_head: bool,
 ) {
-    let request = request(alloc, method, path).expect(rt, "memory");
-    responds(rt, alloc, desk, request.as_str(), row, method == "HEAD");
+    let request = joined(rt, desk.alloc, method, path, " HTTP/1.1\r\nHost: a\r\n\r\n");
+    responds(rt, desk, request.as_str(), row, to_head);
 }
 
-fn check_path(
-    rt: &impl Abort,
-    alloc: Global,
-    desk: &mut Desk<'_>,
-    path: &str,
-    asked: Row,
-    posted: Row,
-) {
-    for (method, row) in [("GET", asked), ("HEAD", asked), ("POST", posted)] {
-        check_method(rt, alloc, desk, method, path, row);
+/// What GET and HEAD have.
+fn check_asked(rt: &impl Abort, desk: &mut Desk<'_>, path: &str, asked: &Row) {
+    check_method(rt, desk, "GET ", path, asked, false);
+    check_method(rt, desk, "HEAD ", path, asked, true);
+}
+
+fn check_path(rt: &impl Abort, desk: &mut Desk<'_>, path: &str, asked: &Row, posted: &Row) {
+    check_asked(rt, desk, path, asked);
+    check_method(rt, desk, "POST ", path, posted, false);
+}
+
+fn check_paths(rt: &impl Abort, desk: &mut Desk<'_>, paths: &[(&str, &Row)]) {
+    for &(path, row) in paths {
+        check_path(rt, desk, path, row, WANTS_GET);
     }
 }
 
-fn check_paths(rt: &impl Abort, alloc: Global, desk: &mut Desk<'_>) {
-    for (path, row) in PATHS {
-        check_path(rt, alloc, desk, path, *row, WANTS_GET);
-    }
-}
-
-fn check_reserved(rt: &impl Abort, alloc: Global, desk: &mut Desk<'_>) {
+fn check_reserved(rt: &impl Abort, desk: &mut Desk<'_>) {
     for path in RESERVED {
-        check_path(rt, alloc, desk, path, NOT_FOUND, NOT_FOUND);
+        check_path(rt, desk, path, NOT_FOUND, NOT_FOUND);
     }
 }
 
-fn check_submissions(rt: &impl Abort, alloc: Global, desk: &mut Desk<'_>) {
-    for path in ["/_submit/1/5", "/_submit/0/0"] {
-        for method in ["GET", "HEAD"] {
-            check_method(rt, alloc, desk, method, path, WANTS_POST);
-        }
+/// Paths of submissions.
+const SUBMISSIONS: &[&str] = &["/_submit/1/5", "/_submit/0/0"];
+
+fn check_submissions(rt: &impl Abort, desk: &mut Desk<'_>) {
+    for path in SUBMISSIONS {
+        check_asked(rt, desk, path, WANTS_POST);
     }
 }
 
 #[test]
 fn each_path_with_each_method(rt: HostRuntime) {
-    let mut desk = open_desk(rt.alloc(), "Hi\n", 2);
-    check_paths(&rt, rt.alloc(), &mut desk);
-    check_reserved(&rt, rt.alloc(), &mut desk);
-    check_submissions(&rt, rt.alloc(), &mut desk);
-    assert!(rt; desk.values.is_empty());
+    let mut desk = open_desk(rt.alloc(), 2);
+    check_paths(&rt, &mut desk, PATHS);
+    check_reserved(&rt, &mut desk);
+    check_submissions(&rt, &mut desk);
+    took(&rt, &desk, 0);
+    drop(desk);
 }
 
 /// Paths where there is no release, and what GET answers where each ticket has a receipt.
-const UNRELEASED: &[(&str, Row)] = &[
+const UNRELEASED: &[(&str, &Row)] = &[
     ("/h", NO_RELEASE),
     ("/@0/h", NO_RELEASE),
     ("/@1/h", NO_RELEASE),
-    ("/_newest", ("200 OK", PLAIN, "", "0\n")),
+    ("/_newest", NONE),
     ("/_ticket/1/5", SEVEN),
 ];
 
-fn check_unreleased(rt: &impl Abort, alloc: Global, desk: &mut Desk<'_>) {
-    for &(path, row) in UNRELEASED {
-        check_path(rt, alloc, desk, path, row, WANTS_GET);
-    }
-}
-
 #[test]
 fn without_a_release_and_with_a_receipt(rt: HostRuntime) {
-    let mut desk = open_desk(rt.alloc(), "Hi\n", 0);
+    let mut desk = open_desk(rt.alloc(), 0);
     desk.receipt = Instance::new(7);
-    check_unreleased(&rt, rt.alloc(), &mut desk);
+    check_paths(&rt, &mut desk, UNRELEASED);
+    drop(desk);
 }

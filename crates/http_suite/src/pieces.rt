@@ -1,43 +1,36 @@
 //! Requests in pieces, and what each comes to, in a line of text.
 
 use crate::comparing::same;
+use crate::reading::Reading;
 use crate::texts::joined;
-use failing_ends::Pieces;
-use http_read::{Counted, Inbox, Incoming, Method, Progress, ReadFault, Request, advance, request};
-use httparse::spans::HeaderSpan;
+use failing_ends::{Pieces, in_pieces};
+use http_read::{Counted, Inbox, Incoming, Method, ReadFault, Request, request};
 use std::alloc::{AllocError, Global};
 use std::process::Abort;
 
-/// A first piece and then pieces of one size, up to a call that fails.
-pub(crate) fn in_pieces(
-    bytes: &[u8],
-    first: usize,
-    piece: usize,
-    good: usize,
-) -> Counted<Pieces<'_>> {
-    Counted::new(failing_ends::in_pieces(bytes, first, piece, good))
-}
-
-/// Pieces of one size, and no call that fails.
-pub(crate) fn even(bytes: &[u8], piece: usize) -> Counted<Pieces<'_>> {
-    in_pieces(bytes, piece, piece, usize::MAX)
-}
-
 fn name_of(method: Method) -> &'static str {
     match method {
-        Method::Get => "GET",
-        Method::Head => "HEAD",
-        Method::Post => "POST",
+        Method::Get => "GET ",
+        Method::Head => "HEAD ",
+        Method::Post => "POST ",
     }
+}
+
+/// The body, and what stands before it.
+fn body_text(asked: &Request) -> (&'static str, &str) {
+    if asked.body.is_empty() {
+        return ("", "");
+    }
+    let body = str::from_utf8(&asked.body).unwrap_or("a body that is no text");
+    (" with ", body)
 }
 
 fn request_text(alloc: Global, asked: &Request) -> Result<String, AllocError> {
     let method = name_of(asked.method);
     let path = asked.path.as_str();
-    let body = str::from_utf8(&asked.body).unwrap_or("a body that is no text");
-    let with = if body.is_empty() { "" } else { " with " };
+    let (with, body) = body_text(asked);
     let closes = if asked.keep { "" } else { " and closes" };
-    format!(in alloc; "{method} {path}{with}{body}{closes}")
+    format!(in alloc; "{method}{path}{with}{body}{closes}")
 }
 
 fn refusal_text(alloc: Global, status: u16, head: bool) -> Result<String, AllocError> {
@@ -53,125 +46,157 @@ fn fault_text(fault: &ReadFault) -> &'static str {
     }
 }
 
-/// What a request comes to: `GET /h`, with its body where it has one, and whether it closes its connection; `400`, or `400 to HEAD`; the end
-/// of the input; or the fault.
-fn text_of(alloc: Global, came: &Result<Incoming, ReadFault>) -> Result<String, AllocError> {
+/// What came, in words: `GET /h`, with its body where it has one, and whether it closes its connection; `400`, or `400 to HEAD`; or the end of
+/// the input.
+fn text_of(alloc: Global, came: &Incoming) -> Result<String, AllocError> {
     match came {
-        Ok(Incoming::Request(asked)) => request_text(alloc, asked),
-        Ok(Incoming::Ended) => String::from_str(alloc, "ended"),
-        Ok(Incoming::Refused { status, head }) => refusal_text(alloc, *status, *head),
-        Err(fault) => String::from_str(alloc, fault_text(fault)),
+        Incoming::Request(asked) => request_text(alloc, asked),
+        Incoming::Ended => String::from_str(alloc, "ended"),
+        Incoming::Refused { status, head } => refusal_text(alloc, *status, *head),
     }
+}
+
+/// The same of what is let go of.
+fn told(rt: &impl Abort, alloc: Global, came: Incoming) -> String {
+    let text = text_of(alloc, &came).expect(rt, "memory");
+    drop(came);
+    text
+}
+
+fn words(rt: &impl Abort, alloc: Global, words: &str) -> String {
+    String::from_str(alloc, words).expect(rt, "memory")
 }
 
 /// What came is that, in a row of these words and number.
-fn is_so(
-    rt: &impl Abort,
-    alloc: Global,
-    came: &Result<Incoming, ReadFault>,
-    expected: &str,
-    row: (&str, usize),
-) {
-    let text = text_of(alloc, came).expect(rt, "memory");
-    same(rt, (row, text.as_str()), (row, expected));
+fn is_so(rt: &impl Abort, came: &str, expected: &str, of: (&str, usize)) {
+    same(rt, (of, came), (of, expected));
 }
 
-fn next(
-    alloc: Global,
-    reader: &mut Counted<Pieces<'_>>,
-    inbox: &mut Inbox,
-) -> Result<Incoming, ReadFault> {
-    request(alloc, reader, inbox)
-}
-
-/// The next request comes to that.
-pub(crate) fn comes(
-    rt: &impl Abort,
-    alloc: Global,
-    reader: &mut Counted<Pieces<'_>>,
-    inbox: &mut Inbox,
-    expected: &str,
-    row: (&str, usize),
-) {
-    let came = next(alloc, reader, inbox);
-    is_so(rt, alloc, &came, expected, row);
-}
-
-/// The fault with which a further reading ends, if it does.
-fn read_more(
-    rt: &impl Abort,
-    reader: &mut Counted<Pieces<'_>>,
-    inbox: &mut Inbox,
-) -> Option<ReadFault> {
-    assert!(rt; !inbox.is_full(), "full and not whole");
-    match inbox.read_from(reader).expect(rt, "memory") {
-        Ok(0) => Some(ReadFault::EndedEarly),
-        Ok(_) => None,
-        Err(_) => Some(ReadFault::Read),
+/// The fault that a reading of so many bytes is, or of none, where it failed.
+fn fault_of(read: Option<usize>) -> Option<&'static str> {
+    match read {
+        Some(0) => Some("ended early"),
+        Some(_) => None,
+        None => Some("read failed"),
     }
 }
 
-/// Reads on in what an inbox holds. The call's contract is long: here it stands alone, and nothing is promised of it.
-pub(crate) fn read_held(
+/// A reader that gives bytes in pieces, and the reading of them.
+#[derive(Drop)]
+pub(crate) struct Input<'a> {
     alloc: Global,
-    progress: &mut Progress,
-    inbox: &mut Inbox,
-    spans: &mut Vec<HeaderSpan>,
-) -> Result<Option<Incoming>, AllocError> {
-    advance(alloc, progress, inbox, spans)
+    reader: Counted<Pieces<'a>>,
+    reading: Reading,
 }
 
-/// The next request, read on after each reading; where the input ends before it is whole, that it ended early.
-fn read_on(
-    rt: &impl Abort,
-    alloc: Global,
-    reader: &mut Counted<Pieces<'_>>,
-    inbox: &mut Inbox,
-) -> Option<Result<Incoming, ReadFault>> {
-    let mut progress = Progress::Head;
-    let mut spans = Vec::new(alloc);
-    for _ in 0..1_000_000 {
-        let came = read_held(alloc, &mut progress, inbox, &mut spans).expect(rt, "memory");
-        if let Some(incoming) = came {
-            return Some(Ok(incoming));
-        }
-        if let Some(fault) = read_more(rt, reader, inbox) {
-            return Some(Err(fault));
+impl<'a> Input<'a> {
+    /// A first piece and then pieces of one size, and no call that fails.
+    pub(crate) fn in_pieces(
+        alloc: Global,
+        bytes: &'a [u8],
+        first: usize,
+        piece: usize,
+    ) -> Input<'a> {
+        Input::new(alloc, in_pieces(bytes, first, piece, usize::MAX))
+    }
+
+    pub(crate) fn new(alloc: Global, reader: Pieces<'a>) -> Input<'a> {
+        Input {
+            alloc,
+            reader: Counted::new(reader),
+            reading: Reading::new(alloc),
         }
     }
-    None
 }
 
-/// The same comes to that.
-fn comes_so_far(
-    rt: &impl Abort,
-    alloc: Global,
-    reader: &mut Counted<Pieces<'_>>,
-    inbox: &mut Inbox,
-    expected: &str,
-    row: (&str, usize),
-) {
-    let came = read_on(rt, alloc, reader, inbox).expect(rt, "an end");
-    is_so(rt, alloc, &came, expected, row);
-}
+impl Input<'_> {
+    fn request(&mut self) -> Result<Incoming, ReadFault> {
+        request(self.alloc, &mut self.reader, &mut self.reading.inbox)
+    }
 
-/// What is left behind a request: what the inbox holds, and then what the reader has.
-fn left_of(alloc: Global, held: &[u8], behind: &[u8]) -> Result<Vec<u8>, AllocError> {
-    let mut left = held.to_vec(alloc)?;
-    left.extend_from_slice(behind)?;
-    Ok(left)
-}
+    /// The next request in words, read at once.
+    fn read(&mut self, rt: &impl Abort) -> String {
+        match self.request() {
+            Ok(came) => told(rt, self.alloc, came),
+            Err(fault) => words(rt, self.alloc, fault_text(&fault)),
+        }
+    }
 
-fn check_left(rt: &impl Abort, alloc: Global, held: &[u8], behind: &[u8], left: &str) {
-    let rest = left_of(alloc, held, behind).expect(rt, "memory");
-    same(rt, rest.as_slice(), left.as_bytes());
+    /// The next request comes to that, read at once.
+    pub(crate) fn comes(&mut self, rt: &impl Abort, expected: &str, of: (&str, usize)) {
+        let text = self.read(rt);
+        is_so(rt, text.as_str(), expected, of);
+    }
+
+    /// The fault with which a further reading ends, if it does.
+    fn read_more(&mut self) -> Option<&'static str> {
+        if self.reading.inbox.is_full() {
+            return Some("full and not whole");
+        }
+        match self.reading.inbox.read_from(&mut self.reader) {
+            Ok(read) => fault_of(read.ok()),
+            Err(_) => Some("out of memory"),
+        }
+    }
+
+    /// Reads on in what is held, and then once more: in words what came, if it is whole, or the fault.
+    fn step(&mut self, rt: &impl Abort) -> Option<String> {
+        let came = self.reading.go_on(self.alloc).expect(rt, "memory");
+        match came {
+            Some(came) => Some(told(rt, self.alloc, came)),
+            None => self.fault(rt),
+        }
+    }
+
+    /// The same fault in words.
+    fn fault(&mut self, rt: &impl Abort) -> Option<String> {
+        match self.read_more() {
+            Some(fault) => Some(words(rt, self.alloc, fault)),
+            None => None,
+        }
+    }
+
+    /// The next request in words, read on after each reading.
+    fn read_on(&mut self, rt: &impl Abort) -> String {
+        for _ in 0..1_000_000 {
+            if let Some(text) = self.step(rt) {
+                return text;
+            }
+        }
+        words(rt, self.alloc, "no end")
+    }
+
+    /// The next request comes to that, read on after each reading.
+    fn comes_so_far(&mut self, rt: &impl Abort, expected: &str, of: (&str, usize)) {
+        let text = self.read_on(rt);
+        is_so(rt, text.as_str(), expected, of);
+    }
+
+    /// So many calls failed.
+    pub(crate) fn failed(&self, rt: &impl Abort, failures: u64) {
+        same(rt, self.reader.failures(), failures);
+    }
+
+    /// That is left: what is held, and then what the reader has.
+    fn leaves(self, rt: &impl Abort, left: &str) {
+        let Input {
+            alloc: _,
+            reader,
+            reading,
+        } = self;
+        let behind = reader.into_inner().bytes;
+        let held = reading.inbox.held();
+        let all = left.as_bytes();
+        same(rt, (held, behind), all.split_at(held.len().min(all.len())));
+        drop(reading);
+    }
 }
 
 /// A part of a request, and what the request comes to.
 pub(crate) type Row = (&'static str, &'static str);
 
 /// Bytes, what they come to, and what is left behind them, if they are a request.
-#[derive(Clone, Copy)]
+#[derive(Drop)]
 struct Case<'a> {
     text: &'a str,
     expected: &'a str,
@@ -179,93 +204,86 @@ struct Case<'a> {
 }
 
 impl Case<'_> {
-    fn is_asked(self) -> bool {
-        let told = self.expected;
-        told.starts_with("GET ") || told.starts_with("HEAD ") || told.starts_with("POST ")
+    /// Whether it comes to a request: that begins with the method.
+    fn is_asked(&self) -> bool {
+        matches!(self.expected.as_bytes().first(), Some(b'A'..=b'Z'))
     }
 }
 
 /// No call failed, and so much is left.
-fn check_behind(
-    rt: &impl Abort,
-    alloc: Global,
-    case: Case<'_>,
-    reader: Counted<Pieces<'_>>,
-    inbox: &Inbox,
-) {
-    same(rt, reader.failures(), 0);
+fn check_behind(rt: &impl Abort, case: &Case<'_>, input: Input<'_>) {
+    input.failed(rt, 0);
     if case.is_asked() {
-        let behind = reader.into_inner().bytes;
-        check_left(rt, alloc, inbox.held(), behind, case.left);
+        input.leaves(rt, case.left);
+    } else {
+        drop(input);
     }
 }
 
 /// Reads a request at once that comes in pieces of one size.
-fn check_pieces(rt: &impl Abort, alloc: Global, case: Case<'_>, piece: usize) {
-    let mut reader = even(case.text.as_bytes(), piece);
-    let mut inbox = Inbox::new(alloc);
-    let row = (case.text, piece);
-    comes(rt, alloc, &mut reader, &mut inbox, case.expected, row);
-    check_behind(rt, alloc, case, reader, &inbox);
-    drop(inbox);
+fn check_pieces(rt: &impl Abort, alloc: Global, case: &Case<'_>, piece: usize) {
+    let mut input = Input::in_pieces(alloc, case.text.as_bytes(), piece, piece);
+    input.comes(rt, case.expected, (case.text, piece));
+    check_behind(rt, case, input);
 }
 
 /// Reads on in one that comes in a first piece and then in pieces of one size.
-fn check_so_far(rt: &impl Abort, alloc: Global, case: Case<'_>, first: usize, piece: usize) {
-    let mut reader = in_pieces(case.text.as_bytes(), first, piece, usize::MAX);
-    let mut inbox = Inbox::new(alloc);
-    let row = (case.text, first);
-    comes_so_far(rt, alloc, &mut reader, &mut inbox, case.expected, row);
-    check_behind(rt, alloc, case, reader, &inbox);
-    drop(inbox);
+fn check_so_far(rt: &impl Abort, alloc: Global, case: &Case<'_>, first: usize, piece: usize) {
+    let mut input = Input::in_pieces(alloc, case.text.as_bytes(), first, piece);
+    input.comes_so_far(rt, case.expected, (case.text, first));
+    check_behind(rt, case, input);
 }
 
 const SHORT_PIECES: &[usize] = &[1, 2, 7, 999];
 
 const LONG_PIECES: &[usize] = &[500, 700, 8_191, 99_999];
 
-/// In pieces of several sizes, read at once; cut into two at each place, and byte by byte, read on.
-fn check_short(rt: &impl Abort, alloc: Global, case: Case<'_>) {
-    for &piece in SHORT_PIECES {
+/// In pieces of each of these sizes.
+fn check_sizes(rt: &impl Abort, alloc: Global, case: &Case<'_>, sizes: &[usize]) {
+    for &piece in sizes {
         check_pieces(rt, alloc, case, piece);
     }
+}
+
+/// Cut into two at each place.
+fn check_cuts(rt: &impl Abort, alloc: Global, case: &Case<'_>) {
     for first in 0..=case.text.len() {
         check_so_far(rt, alloc, case, first, usize::MAX);
     }
-    check_so_far(rt, alloc, case, 1, 1);
 }
 
-/// The same in longer pieces, and cut in the middle alone.
-fn check_long(rt: &impl Abort, alloc: Global, case: Case<'_>) {
-    for &piece in LONG_PIECES {
-        check_pieces(rt, alloc, case, piece);
-    }
-    check_so_far(rt, alloc, case, case.text.len() / 2, usize::MAX);
-    check_so_far(rt, alloc, case, 997, 997);
-}
-
-fn check_case(rt: &impl Abort, alloc: Global, case: Case<'_>) {
+/// In pieces of several sizes, read at once; cut into two at each place, and byte by byte, read on. A long one comes in longer pieces, and is cut in the
+/// middle alone.
+fn check_case(rt: &impl Abort, alloc: Global, case: &Case<'_>) {
     if case.text.len() < 1_000 {
-        check_short(rt, alloc, case);
+        check_sizes(rt, alloc, case, SHORT_PIECES);
+        check_cuts(rt, alloc, case);
+        check_so_far(rt, alloc, case, 1, 1);
     } else {
-        check_long(rt, alloc, case);
+        check_sizes(rt, alloc, case, LONG_PIECES);
+        check_so_far(rt, alloc, case, case.text.len() / 2, usize::MAX);
+        check_so_far(rt, alloc, case, 997, 997);
     }
 }
 
-/// Reads one request in every way. Where it doesn't end early more bytes follow it, which are left behind a request.
+/// What follows a request that comes to that: nothing where it ends early, else more bytes.
+fn behind(expected: &str) -> &'static str {
+    if expected == "ended early" {
+        return "";
+    }
+    "next"
+}
+
+/// Reads one request in every way. More bytes that follow it are left behind a request.
 pub(crate) fn check_one(rt: &impl Abort, alloc: Global, bytes: &str, expected: &str) {
-    let left = if expected == "ended early" {
-        ""
-    } else {
-        "next"
-    };
+    let left = behind(expected);
     let text = joined(rt, alloc, bytes, left, "");
     let case = Case {
         text: text.as_str(),
         expected,
         left,
     };
-    check_case(rt, alloc, case);
+    check_case(rt, alloc, &case);
 }
 
 /// Reads the request of each row, which stands between these bytes.

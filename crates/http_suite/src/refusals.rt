@@ -1,19 +1,21 @@
 //! Requests and connections with one growth refused, as `tools/gate/refuse-growths` runs this: a call answers as ever, or memory was refused, nothing
 //! was written and nothing taken, and then another connection with the same bytes is answered as ever.
 use crate::comparing::{ensure, same};
-use crate::desk::{Desk, open_desk};
+use crate::desk::{Desk, open_desk, took};
 use crate::ends::{Connection, served};
-use crate::pieces::read_held;
+use crate::reading::Reading;
 use crate::steps::{AMPLE, Run, led};
 use failing_ends::whole;
-use http_read::{Counted, Inbox, Incoming, Progress, ReadFault, request};
+use http_read::{Counted, Inbox, Incoming, ReadFault, request};
 use http_serve::ServeFault;
-use httparse::spans::HeaderSpan;
 use std::alloc::Global;
 use std::process::Abort;
 
-/// A POST, by chunks and by a stated length, and what its path and its body are.
-const POSTED: &[(&[u8], &str, &[u8])] = &[
+/// A request, and what its path and its body are.
+type Posted = (&'static [u8], &'static str, &'static [u8]);
+
+/// A POST, by chunks and by a stated length.
+const POSTED: &[Posted] = &[
     (
         b"POST http://a/%68 HTTP/1.1\r\nHost: a\r\nTransfer-Encoding: chunked\r\n\r\n4\r\nrele\r\n0\r\n\r\n",
         "/h",
@@ -27,7 +29,7 @@ const POSTED: &[(&[u8], &str, &[u8])] = &[
 ];
 
 /// The same in pieces: with a trailer, and with a longer body.
-const IN_PIECES: &[(&[u8], &str, &[u8])] = &[
+const IN_PIECES: &[Posted] = &[
     (
         b"POST http://a/%68 HTTP/1.1\r\nHost: a\r\nTransfer-Encoding: chunked\r\n\r\n4\r\nrele\r\n0\r\nA: b\r\n\r\n",
         "/h",
@@ -44,11 +46,26 @@ const IN_PIECES: &[(&[u8], &str, &[u8])] = &[
 const MANY: &[u8] =
     b"GET / HTTP/1.1\r\nHost: a\r\na:\na:\na:\na:\na:\na:\na:\na:\na:\na:\na:\na:\na:\na:\na:\na:\na:\na:\na:\na:\na:\na:\na:\na:\na:\na:\na:\na:\na:\na:\na:\na:\na:\na:\na:\na:\na:\na:\na:\na:\na:\na:\na:\na:\na:\na:\na:\na:\na:\na:\na:\na:\na:\na:\na:\na:\na:\na:\na:\na:\na:\na:\na:\na:\n\r\n";
 
-fn is_posted(incoming: &Incoming, path: &str, body: &[u8]) -> bool {
-    match incoming {
-        Incoming::Request(asked) => { asked.path.as_str() == path && asked.body.as_slice() == body }
+fn is_posted(came: Incoming, row: &Posted) -> bool {
+    let is_posted = match &came {
+        Incoming::Request(asked) => asked.path.as_str() == row.1 && asked.body.as_slice() == row.2,
         _ => false,
-    }
+    };
+    drop(came);
+    is_posted
+}
+
+/// Whether it is refused for its many field lines.
+fn is_too_many(came: Incoming) -> bool {
+    let is_refused = matches!(
+        &came,
+        Incoming::Refused {
+            status: 431,
+            head: false
+        }
+    );
+    drop(came);
+    is_refused
 }
 
 fn asked(alloc: Global, bytes: &[u8]) -> Result<Incoming, ReadFault> {
@@ -58,68 +75,67 @@ fn asked(alloc: Global, bytes: &[u8]) -> Result<Incoming, ReadFault> {
 /// What comes of these bytes, asked once more where memory was refused.
 fn asked_again(rt: &impl Abort, alloc: Global, bytes: &[u8]) -> Incoming {
     match asked(alloc, bytes) {
-        Err(ReadFault::OutOfMemory) => asked(alloc, bytes).expect(rt, "a request"),
-        other => other.expect(rt, "a request"),
+        Ok(came) => came,
+        Err(fault) => {
+            ensure(rt, matches!(fault, ReadFault::OutOfMemory), bytes);
+            asked(alloc, bytes).expect(rt, "a request")
+        }
     }
+}
+
+fn check_posted(rt: &impl Abort, alloc: Global, row: &Posted) {
+    let came = asked_again(rt, alloc, row.0);
+    ensure(rt, is_posted(came, row), row.0);
 }
 
 #[test]
 fn requests(rt: HostRuntime) {
-    for &(bytes, path, body) in POSTED {
-        let came = asked_again(&rt, rt.alloc(), bytes);
-        assert!(rt; is_posted(&came, path, body));
+    for row in POSTED {
+        check_posted(&rt, rt.alloc(), row);
     }
     let came = asked_again(&rt, rt.alloc(), MANY);
-    assert!(rt;
-        matches!(
-            came,
-            Incoming::Refused {
-                status: 431,
-                head: false
-            }
-        )
-    );
-}
-
-/// Whether a piece was taken, and no memory refused.
-fn is_taken(inbox: &mut Inbox, piece: &[u8]) -> bool {
-    !inbox.is_full() && matches!(inbox.read_from(&mut Counted::new(piece)), Ok(Ok(_)))
+    ensure(&rt, is_too_many(came), 431);
 }
 
 /// Where memory is refused the same call is made once more, and goes on where the first one stood.
-fn read_held_again(
-    rt: &impl Abort,
-    alloc: Global,
-    progress: &mut Progress,
-    inbox: &mut Inbox,
-    spans: &mut Vec<HeaderSpan>,
-) -> Option<Incoming> {
-    match read_held(alloc, progress, inbox, spans) {
+fn go_on_again(rt: &impl Abort, alloc: Global, reading: &mut Reading) -> Option<Incoming> {
+    match reading.go_on(alloc) {
         Ok(came) => came,
-        Err(_) => read_held(alloc, progress, inbox, spans).expect(rt, "memory"),
+        Err(_) => reading.go_on(alloc).expect(rt, "memory"),
     }
 }
 
-/// Reads on in pieces of two bytes.
-fn read_on(rt: &impl Abort, alloc: Global, bytes: &[u8]) -> Option<Incoming> {
-    let mut progress = Progress::Head;
-    let mut inbox = Inbox::new(alloc);
-    let mut spans = Vec::new(alloc);
-    for piece in bytes.chunks(2) {
-        assert!(rt; is_taken(&mut inbox, piece) || is_taken(&mut inbox, piece));
-        let came = read_held_again(rt, alloc, &mut progress, &mut inbox, &mut spans);
-        if let Some(incoming) = came {
-            return Some(incoming);
+/// Whether what a further piece brings is the row's request, if it brings one.
+fn brings(
+    rt: &impl Abort,
+    alloc: Global,
+    reading: &mut Reading,
+    piece: &[u8],
+    row: &Posted,
+) -> Option<bool> {
+    ensure(rt, reading.takes(piece) || reading.takes(piece), piece);
+    match go_on_again(rt, alloc, reading) {
+        Some(came) => Some(is_posted(came, row)),
+        None => None,
+    }
+}
+
+/// Whether the row's request comes, in pieces of two bytes.
+fn comes(rt: &impl Abort, alloc: Global, reading: &mut Reading, row: &Posted) -> bool {
+    for piece in row.0.chunks(2) {
+        if let Some(is_so) = brings(rt, alloc, reading, piece, row) {
+            return is_so;
         }
     }
-    None
+    false
 }
 
 #[test]
 fn requests_in_pieces(rt: HostRuntime) {
-    for &(bytes, path, body) in IN_PIECES {
-        let came = read_on(&rt, rt.alloc(), bytes).expect(&rt, "a whole request");
-        assert!(rt; is_posted(&came, path, body));
+    for row in IN_PIECES {
+        let mut reading = Reading::new(rt.alloc());
+        ensure(&rt, comes(&rt, rt.alloc(), &mut reading, row), row.0);
+        drop(reading);
     }
 }
 
@@ -149,112 +165,117 @@ const ROWS: &[Row] = &[
 ];
 
 /// Queued, or already there where the writer was refused memory before.
-const SUBMISSION: Row = (
+const SUBMISSION: &Row = &(
     "POST /_submit/1/5 HTTP/1.1\r\nHost: a\r\nContent-Length: 8\r\n\r\nrelease\n",
     "",
     "",
 );
 
 /// Two requests on a connection: at a refusal nothing was written, or the first response whole.
-const TWO: Row = (
+const TWO: &Row = &(
     "GET /h HTTP/1.1\r\nHost: a\r\n\r\nPOST /_submit/1/5 HTTP/1.1\r\nHost: a\r\nContent-Length: 8\r\n\r\nrelease\n",
     "HTTP/1.1 200 OK\r\nContent-Type: text/html; charset=utf-8\r\nContent-Length: 3\r\n\r\nHi\n",
     "",
 );
 
-/// Whether memory was refused, before anything was taken and but for that response written, or the writer's own growth was.
-fn is_refused(rt: &impl Abort, desk: &Desk<'_>, run: &Connection, first: &[u8]) -> bool {
-    if run.result == Err(ServeFault::OutOfMemory) {
-        let written = run.written.as_slice();
-        assert!(rt; written.is_empty() || written == first);
-        assert!(rt; desk.values.is_empty());
-        return true;
-    }
-    if run.result == Err(ServeFault::Write) {
-        same(rt, run.failed_writes, 1);
-        return true;
-    }
-    false
+/// Whether nothing was taken, and nothing but that response written.
+fn is_untouched(desk: &Desk<'_>, written: &[u8], first: &str) -> bool {
+    (written.is_empty() || written == first.as_bytes()) && desk.values.is_empty()
 }
 
-fn is_answer(run: &Connection, first: &[u8], last: &[u8]) -> bool {
-    run.result == Ok(())
-        && run.written.as_slice().starts_with(first)
-        && run.written.as_slice().ends_with(last)
+/// Whether memory was refused, before anything was taken and but for that response written, or the writer's own growth was.
+fn is_refused(rt: &impl Abort, desk: &Desk<'_>, run: &Connection, row: &Row) -> bool {
+    match run.result {
+        Err(ServeFault::OutOfMemory) => {
+            ensure(rt, is_untouched(desk, run.written.as_slice(), row.1), row.0);
+            true
+        }
+        Err(ServeFault::Write) => {
+            same(rt, run.failed_writes, 1);
+            true
+        }
+        _ => false,
+    }
+}
+
+/// Whether what was written begins and ends as the row says.
+fn is_answer(written: &[u8], row: &Row) -> bool {
+    written.starts_with(row.1.as_bytes()) && written.ends_with(row.2.as_bytes())
 }
 
 /// Whether a connection was answered as ever. Else memory was refused.
-fn answers(rt: &impl Abort, alloc: Global, desk: &mut Desk<'_>, row: Row) -> bool {
-    let (sent, first, last) = row;
-    let run = served(alloc, desk, whole(sent.as_bytes()));
-    if is_refused(rt, desk, &run, first.as_bytes()) {
-        return false;
+fn answers(rt: &impl Abort, desk: &mut Desk<'_>, row: &Row) -> bool {
+    let run = served(desk, whole(row.0.as_bytes()));
+    let is_answered = !is_refused(rt, desk, &run, row);
+    if is_answered {
+        let is_so = run.result.is_ok() && is_answer(run.written.as_slice(), row);
+        ensure(rt, is_so, row.0);
     }
-    ensure(rt, is_answer(&run, first.as_bytes(), last.as_bytes()), sent);
-    true
+    drop(run);
+    is_answered
 }
 
 /// A connection is answered, or else the next one.
-fn tried_again(rt: &impl Abort, alloc: Global, desk: &mut Desk<'_>, row: Row) {
-    assert!(rt; answers(rt, alloc, desk, row) || answers(rt, alloc, desk, row));
+fn tried_again(rt: &impl Abort, desk: &mut Desk<'_>, row: &Row) {
+    ensure(rt, answers(rt, desk, row) || answers(rt, desk, row), row.0);
 }
 
 #[test]
 fn connections(rt: HostRuntime) {
-    let mut desk = open_desk(rt.alloc(), "Hi\n", 1);
-    for &row in ROWS {
-        tried_again(&rt, rt.alloc(), &mut desk, row);
+    let mut desk = open_desk(rt.alloc(), 1);
+    for row in ROWS {
+        tried_again(&rt, &mut desk, row);
     }
-    assert!(rt; desk.values.is_empty());
-    tried_again(&rt, rt.alloc(), &mut desk, SUBMISSION);
-    same(&rt, desk.values.len(), 1);
+    took(&rt, &desk, 0);
+    tried_again(&rt, &mut desk, SUBMISSION);
+    took(&rt, &desk, 1);
+    drop(desk);
 }
 
 #[test]
 fn two_requests(rt: HostRuntime) {
-    let mut desk = open_desk(rt.alloc(), "Hi\n", 1);
-    tried_again(&rt, rt.alloc(), &mut desk, TWO);
-    same(&rt, desk.values.len(), 1);
+    let mut desk = open_desk(rt.alloc(), 1);
+    tried_again(&rt, &mut desk, TWO);
+    took(&rt, &desk, 1);
+    drop(desk);
 }
 
 /// Whether memory was refused to a connection in steps, before anything was taken and but for that response written, and it is over; or the
 /// writer's own growth was.
-fn is_ended(rt: &impl Abort, desk: &Desk<'_>, run: &Run, first: &[u8]) -> bool {
-    assert!(rt; run.is_over);
+fn is_ended(rt: &impl Abort, desk: &Desk<'_>, run: &Run, row: &Row) -> bool {
+    ensure(rt, run.is_over, row.0);
     if run.result.is_err() {
-        let written = run.written.as_slice();
-        assert!(rt; written.is_empty() || written == first);
-        assert!(rt; desk.values.is_empty());
+        ensure(rt, is_untouched(desk, run.written.as_slice(), row.1), row.0);
         return true;
     }
     run.is_broken
 }
 
 /// Whether a connection in steps was answered as ever. Else memory was refused.
-fn answers_in_steps(rt: &impl Abort, alloc: Global, desk: &mut Desk<'_>, row: Row) -> bool {
-    let (sent, first, last) = row;
-    let run = led(alloc, desk, whole(sent.as_bytes()), AMPLE);
-    if is_ended(rt, desk, &run, first.as_bytes()) {
-        return false;
+fn answers_in_steps(rt: &impl Abort, desk: &mut Desk<'_>, row: &Row) -> bool {
+    let run = led(desk, whole(row.0.as_bytes()), AMPLE);
+    let is_answered = !is_ended(rt, desk, &run, row);
+    if is_answered {
+        ensure(rt, is_answer(run.written.as_slice(), row), row.0);
     }
-    let written = run.written.as_slice();
-    ensure(rt, written.starts_with(first.as_bytes()), sent);
-    ensure(rt, written.ends_with(last.as_bytes()), sent);
-    true
+    drop(run);
+    is_answered
 }
 
 /// A connection is answered, or else the next one.
-fn led_again(rt: &impl Abort, alloc: Global, desk: &mut Desk<'_>, row: Row) {
-    assert!(rt; answers_in_steps(rt, alloc, desk, row) || answers_in_steps(rt, alloc, desk, row));
+fn led_again(rt: &impl Abort, desk: &mut Desk<'_>, row: &Row) {
+    let is_answered = answers_in_steps(rt, desk, row) || answers_in_steps(rt, desk, row);
+    ensure(rt, is_answered, row.0);
 }
 
 #[test]
 fn lines(rt: HostRuntime) {
-    let mut desk = open_desk(rt.alloc(), "Hi\n", 1);
-    for &row in ROWS {
-        led_again(&rt, rt.alloc(), &mut desk, row);
+    let mut desk = open_desk(rt.alloc(), 1);
+    for row in ROWS {
+        led_again(&rt, &mut desk, row);
     }
-    assert!(rt; desk.values.is_empty());
-    led_again(&rt, rt.alloc(), &mut desk, TWO);
-    same(&rt, desk.values.len(), 1);
+    took(&rt, &desk, 0);
+    led_again(&rt, &mut desk, TWO);
+    took(&rt, &desk, 1);
+    drop(desk);
 }

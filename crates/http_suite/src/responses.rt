@@ -1,8 +1,7 @@
 //! Single requests, with the whole bytes of their responses.
-use crate::desk::{Desk, open_desk};
-use crate::ends::{PLAIN, Row, check, responds};
+use crate::desk::{Desk, open_desk, took};
+use crate::ends::{CLOSE, PLAIN, Row, check, responds};
 use crate::texts::{joined, times};
-use std::alloc::Global;
 use std::process::Abort;
 
 pub(crate) const PAGE: &str =
@@ -43,28 +42,24 @@ const ROWS: &[(&str, &str)] = &[
     ),
 ];
 
-/// What stands behind `GET /h HTTP/1.1` and a Host line, and its refusal.
-const REFUSED: &[(&str, Row)] = &[
-    (
-        "Transfer-Encoding: gzip\r\n\r\n",
-        ("400 Bad Request", PLAIN, "", "bad request\n"),
-    ),
-    (
-        "Transfer-Encoding: gzip, chunked\r\n\r\n",
-        ("501 Not Implemented", PLAIN, "", "not implemented\n"),
-    ),
+const BAD_REQUEST: &Row = &("400 Bad Request", PLAIN, "", CLOSE, "bad request\n");
+
+const NOT_IMPLEMENTED: &Row = &("501 Not Implemented", PLAIN, "", CLOSE, "not implemented\n");
+
+const TOO_LARGE: &Row = &("413 Content Too Large", PLAIN, "", CLOSE, "too large\n");
+
+const BEGUN: &str = "GET /h HTTP/1.1\r\nHost: a\r\n";
+
+/// What stands behind `BEGUN`, and its refusal.
+const REFUSED: &[(&str, &Row)] = &[
+    ("Transfer-Encoding: gzip\r\n\r\n", BAD_REQUEST),
+    ("Transfer-Encoding: gzip, chunked\r\n\r\n", NOT_IMPLEMENTED),
     (
         "Content-Length: 0\r\nTransfer-Encoding: chunked\r\n\r\n",
-        ("400 Bad Request", PLAIN, "", "bad request\n"),
+        BAD_REQUEST,
     ),
-    (
-        "Content-Length: 40001\r\n\r\n",
-        ("413 Content Too Large", PLAIN, "", "too large\n"),
-    ),
-    (
-        "Transfer-Encoding: chunked\r\n\r\n9C41\r\n",
-        ("413 Content Too Large", PLAIN, "", "too large\n"),
-    ),
+    ("Content-Length: 40001\r\n\r\n", TOO_LARGE),
+    ("Transfer-Encoding: chunked\r\n\r\n9C41\r\n", TOO_LARGE),
 ];
 
 /// Heads that are too long, for 414 and for 431: what stands before 8,188 letters and behind them, and the refusal.
@@ -72,7 +67,7 @@ const LONG: &[(&str, &str, Row)] = &[
     (
         "GET /",
         "",
-        ("414 URI Too Long", PLAIN, "", "uri too long\n"),
+        ("414 URI Too Long", PLAIN, "", CLOSE, "uri too long\n"),
     ),
     (
         "GET / HTTP/1.1\r\nHost: a\r\nX: ",
@@ -81,6 +76,7 @@ const LONG: &[(&str, &str, Row)] = &[
             "431 Request Header Fields Too Large",
             PLAIN,
             "",
+            CLOSE,
             "head too large\n",
         ),
     ),
@@ -89,39 +85,47 @@ const LONG: &[(&str, &str, Row)] = &[
 /// A request in three parts is refused so.
 fn check_refused(
     rt: &impl Abort,
-    alloc: Global,
     desk: &mut Desk<'_>,
-    parts: (&str, &str, &str),
-    row: Row,
+    before: &str,
+    part: &str,
+    behind: &str,
+    row: &Row,
 ) {
-    let (before, part, behind) = parts;
-    let request = joined(rt, alloc, before, part, behind);
-    responds(rt, alloc, desk, request.as_str(), row, false);
+    let request = joined(rt, desk.alloc, before, part, behind);
+    responds(rt, desk, request.as_str(), row, false);
 }
 
-fn check_rows(rt: &impl Abort, alloc: Global, desk: &mut Desk<'_>) {
+fn check_rows(rt: &impl Abort, desk: &mut Desk<'_>) {
     for &(request, expected) in ROWS {
-        check(rt, alloc, desk, request, expected);
+        check(rt, desk, request, expected);
     }
+}
+
+fn check_refusals(rt: &impl Abort, desk: &mut Desk<'_>) {
     for &(behind, row) in REFUSED {
-        let parts = ("GET /h HTTP/1.1\r\n", "Host: a\r\n", behind);
-        check_refused(rt, alloc, desk, parts, row);
+        check_refused(rt, desk, BEGUN, behind, "", row);
     }
 }
 
 #[test]
 fn single_requests(rt: HostRuntime) {
-    let mut desk = open_desk(rt.alloc(), "Hi\n", 1);
-    check_rows(&rt, rt.alloc(), &mut desk);
-    assert!(rt; desk.values.is_empty());
+    let mut desk = open_desk(rt.alloc(), 1);
+    check_rows(&rt, &mut desk);
+    check_refusals(&rt, &mut desk);
+    took(&rt, &desk, 0);
+    drop(desk);
+}
+
+fn check_long(rt: &impl Abort, desk: &mut Desk<'_>, letters: &str) {
+    for row in LONG {
+        check_refused(rt, desk, row.0, letters, row.1, &row.2);
+    }
 }
 
 #[test]
 fn long_heads(rt: HostRuntime) {
-    let mut desk = open_desk(rt.alloc(), "Hi\n", 1);
+    let mut desk = open_desk(rt.alloc(), 1);
     let letters = times(&rt, rt.alloc(), "a", 8_188);
-    for &(before, behind, row) in LONG {
-        let parts = (before, letters.as_str(), behind);
-        check_refused(&rt, rt.alloc(), &mut desk, parts, row);
-    }
+    check_long(&rt, &mut desk, letters.as_str());
+    drop(desk);
 }

@@ -1,10 +1,11 @@
 //! Several requests on a connection: responses one behind another, when it is closed, and what stands after a fault.
 use crate::comparing::same;
-use crate::desk::{Desk, open_desk};
-use crate::ends::{End, reads, writes};
+use crate::desk::{Desk, open_desk, took};
+use crate::each_end::{answers_in_pieces, ends_early, fails_to_read, fails_to_write};
+use crate::ends::{Outcome, sends};
 use crate::responses::{BAD, LAST_PAGE, PAGE};
 use crate::texts::{joined, times};
-use failing_ends::{Sink, in_pieces, whole};
+use failing_ends::Sink;
 use http_read::{Counted, Inbox};
 use http_serve::{Next, ServeFault, exchange};
 use std::alloc::Global;
@@ -28,7 +29,7 @@ const BOTH_QUEUED: &[u8] =
     b"HTTP/1.1 202 Accepted\r\nContent-Type: text/plain; charset=utf-8\r\nContent-Length: 7\r\n\r\nqueued\nHTTP/1.1 202 Accepted\r\nContent-Type: text/plain; charset=utf-8\r\nContent-Length: 7\r\n\r\nqueued\n";
 
 /// What a client sends, what is written, and how it ends: a further request behind each closing one isn't answered.
-const ENDS: &[(&str, &str, Result<(), ServeFault>)] = &[
+const ENDS: &[(&str, &str, Outcome)] = &[
     ("", "", Err(ServeFault::EndedEarly)),
     ("\r\n", "", Err(ServeFault::EndedEarly)),
     (
@@ -64,113 +65,76 @@ const ENDS: &[(&str, &str, Result<(), ServeFault>)] = &[
     ),
 ];
 
-/// Two requests for every cut into two, in pieces of each size.
-fn check_cuts(rt: &impl Abort, alloc: Global, desk: &mut Desk<'_>) {
-    let end = (Ok(()), BOTH_PAGES);
-    for cut in 0..=BOTH.len() {
-        for piece in [cut, usize::MAX] {
-            let reader = in_pieces(BOTH, cut, piece, usize::MAX);
-            reads(rt, alloc, desk, reader, end, ("cut behind", cut));
-        }
-    }
+/// Cut off behind each byte: what was whole is answered.
+fn check_short(rt: &impl Abort, desk: &mut Desk<'_>) {
+    let (one, page) = (GET.as_bytes(), PAGE.as_bytes());
+    ends_early(rt, desk, one, 0, b"");
+    sends(rt, desk, one, Ok(()), page, one.len());
+    ends_early(rt, desk, BOTH, one.len() + 1, page);
 }
 
-/// How two requests end that are cut off behind so many bytes.
-fn cut_off(len: usize) -> End<'static> {
-    if len < GET.len() {
-        (Err(ServeFault::EndedEarly), b"")
-    } else if len == GET.len() {
-        (Ok(()), PAGE.as_bytes())
-    } else {
-        (Err(ServeFault::EndedEarly), PAGE.as_bytes())
-    }
-}
-
-fn check_short(rt: &impl Abort, alloc: Global, desk: &mut Desk<'_>) {
-    for len in 0..BOTH.len() {
-        reads(
-            rt,
-            alloc,
-            desk,
-            whole(&BOTH[..len]),
-            cut_off(len),
-            ("after", len),
-        );
-    }
-}
-
-/// A reader that fails in place of each byte of the second request.
-fn check_reads(rt: &impl Abort, alloc: Global, desk: &mut Desk<'_>) {
-    let end = (Err(ServeFault::Read), PAGE.as_bytes());
-    for good in GET.len()..BOTH.len() {
-        let reader = in_pieces(BOTH, 1, 1, good);
-        reads(rt, alloc, desk, reader, end, ("after", good));
-    }
-}
-
-/// A writer that fails after each byte of the responses.
-fn check_writes(rt: &impl Abort, alloc: Global, desk: &mut Desk<'_>) {
-    for room in 0..BOTH_PAGES.len() {
-        let end = (Err(ServeFault::Write), &BOTH_PAGES[..room]);
-        writes(rt, alloc, desk, BOTH, (room, usize::MAX), end);
-    }
+/// Readers and writers that fail, the readers in place of each byte of the second request.
+fn check_broken(rt: &impl Abort, desk: &mut Desk<'_>) {
+    fails_to_read(rt, desk, BOTH, GET.len(), PAGE.as_bytes());
+    fails_to_write(rt, desk, BOTH, BOTH_PAGES);
 }
 
 #[test]
 fn a_page_and_one_that_moved(rt: HostRuntime) {
-    let mut desk = open_desk(rt.alloc(), "Hi\n", 1);
-    check_cuts(&rt, rt.alloc(), &mut desk);
-    check_short(&rt, rt.alloc(), &mut desk);
-    check_reads(&rt, rt.alloc(), &mut desk);
-    check_writes(&rt, rt.alloc(), &mut desk);
+    let mut desk = open_desk(rt.alloc(), 1);
+    answers_in_pieces(&rt, &mut desk, BOTH, BOTH_PAGES);
+    check_short(&rt, &mut desk);
+    check_broken(&rt, &mut desk);
+    drop(desk);
 }
 
-fn check_ends(rt: &impl Abort, alloc: Global, desk: &mut Desk<'_>) {
+fn check_ends(rt: &impl Abort, desk: &mut Desk<'_>) {
     for &(sent, written, result) in ENDS {
-        let end = (result, written.as_bytes());
-        reads(rt, alloc, desk, whole(sent.as_bytes()), end, (sent, 0));
+        let (bytes, pages) = (sent.as_bytes(), written.as_bytes());
+        sends(rt, desk, bytes, result, pages, sent.len());
     }
 }
 
 #[test]
 fn where_it_ends(rt: HostRuntime) {
-    let mut desk = open_desk(rt.alloc(), "Hi\n", 1);
-    check_ends(&rt, rt.alloc(), &mut desk);
-    assert!(rt; desk.values.is_empty());
+    let mut desk = open_desk(rt.alloc(), 1);
+    check_ends(&rt, &mut desk);
+    took(&rt, &desk, 0);
+    drop(desk);
 }
 
 /// What is written for so many requests: the hundredth response is the last.
-pub(crate) fn pages(rt: &impl Abort, alloc: Global, count: u32) -> String {
+pub(crate) fn pages(rt: &impl Abort, alloc: Global, count: usize) -> String {
     let pages = times(rt, alloc, PAGE, count.min(99));
     let last = if count < 100 { "" } else { LAST_PAGE };
     joined(rt, alloc, pages.as_str(), last, "")
 }
 
+/// How many requests are sent, and how many of them are answered.
+pub(crate) const COUNTS: &[(usize, u32)] = &[(1, 1), (99, 99), (100, 100), (101, 100), (250, 100)];
+
 /// So many requests, and what is written for the first hundred of them.
-fn check_many(rt: &impl Abort, alloc: Global, desk: &mut Desk<'_>, count: u32) {
-    let sent = times(rt, alloc, GET, count);
-    let pages = pages(rt, alloc, count);
-    let end = (Ok(()), pages.as_str().as_bytes());
-    let reader = whole(sent.as_str().as_bytes());
-    let row = ("requests", count as usize);
-    reads(rt, alloc, desk, reader, end, row);
+fn check_many(rt: &impl Abort, desk: &mut Desk<'_>, count: usize) {
+    let sent = times(rt, desk.alloc, GET, count);
+    let pages = pages(rt, desk.alloc, count);
+    sends(rt, desk, sent.as_bytes(), Ok(()), pages.as_bytes(), count);
 }
 
 #[test]
 fn a_hundred_requests_and_one_more(rt: HostRuntime) {
-    let mut desk = open_desk(rt.alloc(), "Hi\n", 1);
-    for count in [1, 99, 100, 101, 250] {
-        check_many(&rt, rt.alloc(), &mut desk, count);
+    let mut desk = open_desk(rt.alloc(), 1);
+    for &(count, _) in COUNTS {
+        check_many(&rt, &mut desk, count);
     }
+    drop(desk);
 }
 
 #[test]
 fn two_submissions(rt: HostRuntime) {
-    let mut desk = open_desk(rt.alloc(), "Hi\n", 1);
-    let end = (Ok(()), BOTH_QUEUED);
-    let reader = whole(TWO_SUBMISSIONS);
-    reads(&rt, rt.alloc(), &mut desk, reader, end, ("submissions", 2));
-    same(&rt, desk.values.len(), 2);
+    let mut desk = open_desk(rt.alloc(), 1);
+    sends(&rt, &mut desk, TWO_SUBMISSIONS, Ok(()), BOTH_QUEUED, 2);
+    took(&rt, &desk, 2);
+    drop(desk);
 }
 
 /// A connection that is served by turns.
@@ -183,33 +147,28 @@ struct Client<'a> {
 
 /// One that sends these bytes, and whose writer takes all.
 fn sending(alloc: Global, bytes: &[u8]) -> Client<'_> {
-    let sink = Sink {
-        taken: Vec::new(alloc),
-        room: usize::MAX,
-        piece: usize::MAX,
-    };
     Client {
         reader: Counted::new(bytes),
-        writer: Counted::new(sink),
+        writer: Counted::new(Sink::with_room(alloc, usize::MAX)),
         inbox: Inbox::new(alloc),
     }
 }
 
 impl Client<'_> {
-    fn turn(
-        &mut self,
-        alloc: Global,
-        desk: &mut Desk<'_>,
-        answered: u32,
-    ) -> Result<Next, ServeFault> {
+    fn turn(&mut self, desk: &mut Desk<'_>, answered: u32) -> Result<Next, ServeFault> {
         exchange(
-            alloc,
+            desk.alloc,
             &mut self.reader,
             &mut self.writer,
             &mut self.inbox,
             desk,
             answered,
         )
+    }
+
+    /// The turn behind so many answers comes to that.
+    fn turns(&mut self, rt: &impl Abort, desk: &mut Desk<'_>, answered: u32, next: Next) {
+        same(rt, self.turn(desk, answered), Ok(next));
     }
 
     fn into_written(self) -> Vec<u8> {
@@ -228,26 +187,26 @@ const TWO_PAGES: &[u8] =
     b"HTTP/1.1 200 OK\r\nContent-Type: text/html; charset=utf-8\r\nContent-Length: 3\r\n\r\nHi\nHTTP/1.1 200 OK\r\nContent-Type: text/html; charset=utf-8\r\nContent-Length: 3\r\n\r\nHi\n";
 
 /// A request of each at a time: what one sent ahead waits in its inbox.
-fn by_turns(
-    rt: &impl Abort,
-    alloc: Global,
-    one: &mut Client<'_>,
-    other: &mut Client<'_>,
-    desk: &mut Desk<'_>,
-) {
+fn by_turns(rt: &impl Abort, one: &mut Client<'_>, other: &mut Client<'_>, desk: &mut Desk<'_>) {
     for answered in 0..2 {
-        same(rt, one.turn(alloc, desk, answered), Ok(Next::Stays));
-        same(rt, other.turn(alloc, desk, answered), Ok(Next::Stays));
+        one.turns(rt, desk, answered, Next::Stays);
+        other.turns(rt, desk, answered, Next::Stays);
     }
-    same(rt, one.turn(alloc, desk, 2), Ok(Next::Ended));
+    one.turns(rt, desk, 2, Next::Ended);
+}
+
+/// The client got both pages.
+fn got_both(rt: &impl Abort, client: Client<'_>) {
+    same(rt, client.into_written().as_slice(), TWO_PAGES);
 }
 
 #[test]
 fn two_connections_by_turns(rt: HostRuntime) {
-    let mut desk = open_desk(rt.alloc(), "Hi\n", 1);
+    let mut desk = open_desk(rt.alloc(), 1);
     let mut one = sending(rt.alloc(), TWO_REQUESTS);
     let mut other = sending(rt.alloc(), TWO_REQUESTS);
-    by_turns(&rt, rt.alloc(), &mut one, &mut other, &mut desk);
-    same(&rt, one.into_written().as_slice(), TWO_PAGES);
-    same(&rt, other.into_written().as_slice(), TWO_PAGES);
+    by_turns(&rt, &mut one, &mut other, &mut desk);
+    got_both(&rt, one);
+    got_both(&rt, other);
+    drop(desk);
 }

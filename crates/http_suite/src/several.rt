@@ -1,21 +1,17 @@
 //! Several requests on one connection: behind each the inbox and the reader have what follows it.
-use crate::comparing::same;
-use crate::pieces::{comes, even};
+use crate::pieces::Input;
 use crate::texts::{joined, times};
-use http_read::Inbox;
 use std::alloc::Global;
 use std::process::Abort;
 
 /// The requests of these bytes, in pieces of one size, come to these, one after another, and no call fails.
 fn check_each(rt: &impl Abort, alloc: Global, bytes: &[u8], piece: usize, expected: &[&str]) {
-    let mut reader = even(bytes, piece);
-    let mut inbox = Inbox::new(alloc);
+    let mut input = Input::in_pieces(alloc, bytes, piece, piece);
     for one in expected {
-        let row = ("in pieces of", piece);
-        comes(rt, alloc, &mut reader, &mut inbox, one, row);
+        input.comes(rt, one, (one, piece));
     }
-    drop(inbox);
-    same(rt, reader.failures(), 0);
+    input.failed(rt, 0);
+    drop(input);
 }
 
 const CONNECTION: &[u8] =
@@ -37,37 +33,36 @@ fn one_behind_another(rt: HostRuntime) {
     }
 }
 
-/// So many requests that come to that, and then the end.
+/// Sixty requests that come to that, and then the end.
 fn check_many(rt: &impl Abort, alloc: Global, bytes: &[u8], piece: usize, expected: &str) {
-    let mut reader = even(bytes, piece);
-    let mut inbox = Inbox::new(alloc);
+    let mut input = Input::in_pieces(alloc, bytes, piece, piece);
     for _ in 0..60 {
-        let row = ("in pieces of", piece);
-        comes(rt, alloc, &mut reader, &mut inbox, expected, row);
+        input.comes(rt, expected, ("", piece));
     }
-    comes(rt, alloc, &mut reader, &mut inbox, "ended", ("", piece));
-    drop(inbox);
+    input.comes(rt, "ended", ("", piece));
+    drop(input);
 }
 
 const PIECES: &[usize] = &[1, 100, 1_049, 5_000, 16_384, 99_999];
 
+/// Requests with that body of a thousand bytes, in pieces of several sizes.
+fn check_long(rt: &impl Abort, alloc: Global, connection: &str, body: &str) {
+    let expected = joined(rt, alloc, "POST / with ", body, "");
+    for &piece in PIECES {
+        check_many(rt, alloc, connection.as_bytes(), piece, expected.as_str());
+    }
+}
+
+const HEAD: &str = "POST / HTTP/1.1\r\nHost: a\r\nContent-Length: 1000\r\n\r\n";
+
 /// Many times what an inbox has room for.
 #[test]
 fn a_long_connection(rt: HostRuntime) {
-    let body = times(&rt, rt.alloc(), "a", 1_000);
-    let head = "POST / HTTP/1.1\r\nHost: a\r\nContent-Length: 1000\r\n\r\n";
-    let one = joined(&rt, rt.alloc(), head, body.as_str(), "");
-    let connection = times(&rt, rt.alloc(), one.as_str(), 60);
-    let expected = joined(&rt, rt.alloc(), "POST / with ", body.as_str(), "");
-    for &piece in PIECES {
-        check_many(
-            &rt,
-            rt.alloc(),
-            connection.as_str().as_bytes(),
-            piece,
-            expected.as_str(),
-        );
-    }
+    let alloc = rt.alloc();
+    let body = times(&rt, alloc, "a", 1_000);
+    let one = joined(&rt, alloc, HEAD, body.as_str(), "");
+    let connection = times(&rt, alloc, one.as_str(), 60);
+    check_long(&rt, alloc, connection.as_str(), body.as_str());
 }
 
 /// Two requests, and how long the first one is.
@@ -76,35 +71,24 @@ const BOTH: &[u8] =
 
 const FIRST: usize = 51;
 
-fn second(end: usize) -> &'static str {
-    if end == FIRST {
-        "ended"
-    } else if end < BOTH.len() {
-        "ended early"
-    } else {
-        "POST /b with de"
-    }
+/// Both come at once, the second cut off behind so many bytes.
+fn check_end(rt: &impl Abort, alloc: Global, bytes: &[u8], second: &str) {
+    check_each(rt, alloc, bytes, usize::MAX, &["POST /a with abc", second]);
 }
 
-/// Both come at once, the second cut off behind each of its bytes.
 #[test]
 fn the_second_cut_off(rt: HostRuntime) {
-    for end in FIRST..=BOTH.len() {
-        let expected = ["POST /a with abc", second(end)];
-        check_each(&rt, rt.alloc(), &BOTH[..end], usize::MAX, &expected);
+    check_end(&rt, rt.alloc(), &BOTH[..FIRST], "ended");
+    for end in FIRST + 1..BOTH.len() {
+        check_end(&rt, rt.alloc(), &BOTH[..end], "ended early");
     }
+    check_end(&rt, rt.alloc(), BOTH, "POST /b with de");
 }
 
 /// Line breaks behind a request begin another one.
-const LINE_BREAKS: &[(&str, &str)] = &[
-    ("", "ended"),
-    ("\r\n", "ended early"),
-    ("\n\n", "ended early"),
-];
-
 #[test]
 fn line_breaks_alone(rt: HostRuntime) {
-    for &(bytes, expected) in LINE_BREAKS {
-        check_each(&rt, rt.alloc(), bytes.as_bytes(), 1, &[expected]);
-    }
+    check_each(&rt, rt.alloc(), b"", 1, &["ended"]);
+    check_each(&rt, rt.alloc(), b"\r\n", 1, &["ended early"]);
+    check_each(&rt, rt.alloc(), b"\n\n", 1, &["ended early"]);
 }

@@ -1,6 +1,6 @@
 //! Many requests, as `bench/http` times them: the time of many less that of few.
-use crate::comparing::same;
-use crate::desk::{Desk, open_desk};
+use crate::comparing::ensure;
+use crate::desk::{Desk, desk_of};
 use crate::ends::served;
 use crate::texts::times;
 use failing_ends::whole;
@@ -10,39 +10,35 @@ use std::process::Abort;
 const REQUEST: &str =
     "GET /h HTTP/1.1\r\nHost: localhost\r\nUser-Agent: bench\r\nAccept: */*\r\n\r\n";
 
-/// The requests are answered, by more than so many bytes.
-fn writes_more(rt: &impl Abort, alloc: Global, desk: &mut Desk<'_>, sent: &[u8], size: usize) {
-    let run = served(alloc, desk, whole(sent));
-    same(rt, run.result, Ok(()));
-    assert!(rt; run.written.len() > size);
+/// Whether what is sent is answered, by more than so many bytes.
+fn writes_more(desk: &mut Desk<'_>, sent: &str, size: usize) -> bool {
+    let run = served(desk, whole(sent.as_bytes()));
+    let writes_more = run.result.is_ok() && run.written.len() > size;
+    drop(run);
+    writes_more
 }
 
-fn check_single(rt: &impl Abort, alloc: Global, desk: &mut Desk<'_>, requests: u32) {
-    let size = desk.page.len();
-    for _ in 0..requests {
-        writes_more(rt, alloc, desk, REQUEST.as_bytes(), size);
+/// So many connections that send this are each answered by more than so many bytes.
+fn check(rt: &impl Abort, desk: &mut Desk<'_>, sent: &str, size: usize, count: u32) {
+    for i in 0..count {
+        ensure(rt, writes_more(desk, sent, size), i);
     }
 }
 
-/// The same in connections of a hundred requests.
-fn check_kept(rt: &impl Abort, alloc: Global, desk: &mut Desk<'_>, connections: u32) {
-    let requests = times(rt, alloc, REQUEST, 100);
-    let size = desk.page.len().saturating_mul(100);
-    for _ in 0..connections {
-        writes_more(rt, alloc, desk, requests.as_str().as_bytes(), size);
-    }
-}
-
-fn check_page(rt: &impl Abort, alloc: Global, size: u32, requests: u32) {
+fn check_page(rt: &impl Abort, alloc: Global, size: usize, requests: u32) {
     let page = times(rt, alloc, "a", size);
-    let mut desk = open_desk(alloc, page.as_str(), 1);
-    check_single(rt, alloc, &mut desk, requests);
+    let mut desk = desk_of(alloc, page.as_str(), 1);
+    check(rt, &mut desk, REQUEST, size, requests);
+    drop(desk);
 }
 
-fn check_connections(rt: &impl Abort, alloc: Global, connections: u32) {
+/// A page of 100 bytes in connections of a hundred requests.
+fn check_kept(rt: &impl Abort, alloc: Global, connections: u32) {
     let page = times(rt, alloc, "a", 100);
-    let mut desk = open_desk(alloc, page.as_str(), 1);
-    check_kept(rt, alloc, &mut desk, connections);
+    let mut desk = desk_of(alloc, page.as_str(), 1);
+    let requests = times(rt, alloc, REQUEST, 100);
+    check(rt, &mut desk, requests.as_str(), 10_000, connections);
+    drop(desk);
 }
 
 #[test]
@@ -77,10 +73,10 @@ fn many_pages_of_100_kb(rt: HostRuntime) {
 
 #[test]
 fn few_kept_connections(rt: HostRuntime) {
-    check_connections(&rt, rt.alloc(), 1);
+    check_kept(&rt, rt.alloc(), 1);
 }
 
 #[test]
 fn many_kept_connections(rt: HostRuntime) {
-    check_connections(&rt, rt.alloc(), 201);
+    check_kept(&rt, rt.alloc(), 201);
 }

@@ -1,84 +1,63 @@
 //! Where the reading of a request stands after each of its pieces.
-use crate::comparing::same;
-use crate::pieces::read_held;
-use http_read::{Awaited, Counted, Inbox, Incoming, Progress};
-use httparse::spans::HeaderSpan;
+use crate::comparing::{ensure, same};
+use crate::reading::Reading;
+use http_read::{Awaited, Incoming};
 use std::alloc::Global;
 use std::process::Abort;
 
-/// A piece, and where the reading stands behind it: `None` within a head, and behind a whole request.
+/// A piece that makes no request whole, and where the reading stands behind it: `None` within a head.
 type Row = (&'static str, Option<Awaited>);
 
-/// A reading, lent to the rows.
-#[derive(Drop)]
-struct Reading {
-    progress: Progress,
-    inbox: Inbox,
-    spans: Vec<HeaderSpan>,
-}
-
-impl Reading {
-    fn new(alloc: Global) -> Reading {
-        Reading {
-            progress: Progress::Head,
-            inbox: Inbox::new(alloc),
-            spans: Vec::new(alloc),
-        }
-    }
-
-    /// Takes a piece whole.
-    fn take(&mut self, rt: &impl Abort, piece: &[u8]) {
-        assert!(rt; !self.inbox.is_full());
-        let read = self
-            .inbox
-            .read_from(&mut Counted::new(piece))
-            .expect(rt, "memory");
-        same(rt, read.ok(), Some(piece.len()));
-    }
-
-    fn go_on(&mut self, rt: &impl Abort, alloc: Global) -> Option<Incoming> {
-        let came = read_held(alloc, &mut self.progress, &mut self.inbox, &mut self.spans);
-        came.expect(rt, "memory")
-    }
-}
-
-/// What came is the request of that body, or nothing.
-fn is_due(came: &Option<Incoming>, body: Option<&[u8]>) -> bool {
-    match came {
+/// Whether what came is the request of that body, or nothing.
+fn is_due(came: Option<Incoming>, body: Option<&[u8]>) -> bool {
+    let is_due = match &came {
         Some(Incoming::Request(asked)) => body == Some(asked.body.as_slice()),
         Some(_) => false,
         None => body.is_none(),
+    };
+    drop(came);
+    is_due
+}
+
+/// Whether a piece makes the request of that body whole, or none.
+fn brings(alloc: Global, reading: &mut Reading, piece: &[u8], body: Option<&[u8]>) -> bool {
+    if !reading.takes(piece) {
+        return false;
+    }
+    match reading.go_on(alloc) {
+        Ok(came) => is_due(came, body),
+        Err(_) => false,
     }
 }
 
-/// Gives a piece. It makes the request of that body whole, or none.
-fn check_piece(
+/// Gives a piece that makes no request whole.
+fn check_piece(rt: &impl Abort, alloc: Global, reading: &mut Reading, row: &Row) {
+    ensure(rt, brings(alloc, reading, row.0.as_bytes(), None), row.0);
+    let awaits = reading.progress.awaits();
+    ensure(rt, awaits == row.1, (row.0, awaits));
+}
+
+fn check_pieces(rt: &impl Abort, alloc: Global, reading: &mut Reading, rows: &[Row]) {
+    for row in rows {
+        check_piece(rt, alloc, reading, row);
+    }
+}
+
+/// Gives the pieces one after another, and then a last one, which makes the request of that body whole and leaves so much.
+fn check_awaited(
     rt: &impl Abort,
     alloc: Global,
-    reading: &mut Reading,
-    row: Row,
-    body: Option<&[u8]>,
+    rows: &[Row],
+    last: &str,
+    body: &[u8],
+    left: &[u8],
 ) {
-    let (piece, awaited) = row;
-    reading.take(rt, piece.as_bytes());
-    let came = reading.go_on(rt, alloc);
-    same(rt, (piece, reading.progress.awaits()), (piece, awaited));
-    same(rt, (piece, is_due(&came, body)), (piece, true));
-}
-
-/// Gives the pieces one after another. The last one, and no other, makes the request whole.
-fn check_pieces(rt: &impl Abort, alloc: Global, reading: &mut Reading, rows: &[Row], body: &[u8]) {
-    for (i, &row) in rows.iter().enumerate() {
-        let is_last = i + 1 == rows.len();
-        let whole = if is_last { Some(body) } else { None };
-        check_piece(rt, alloc, reading, row, whole);
-    }
-}
-
-fn check_awaited(rt: &impl Abort, alloc: Global, rows: &[Row], body: &[u8], left: &[u8]) {
     let mut reading = Reading::new(alloc);
-    check_pieces(rt, alloc, &mut reading, rows, body);
+    check_pieces(rt, alloc, &mut reading, rows);
+    let is_whole = brings(alloc, &mut reading, last.as_bytes(), Some(body));
+    ensure(rt, is_whole && reading.progress.awaits().is_none(), last);
     same(rt, reading.inbox.held(), left);
+    drop(reading);
 }
 
 const STATED: &[Row] = &[
@@ -87,12 +66,11 @@ const STATED: &[Row] = &[
     ("\n", Some(Awaited::Fixed(5))),
     ("ab", Some(Awaited::Fixed(3))),
     ("cd", Some(Awaited::Fixed(1))),
-    ("eGET", None),
 ];
 
 #[test]
 fn a_body_of_a_stated_length(rt: HostRuntime) {
-    check_awaited(&rt, rt.alloc(), STATED, b"abcde", b"GET");
+    check_awaited(&rt, rt.alloc(), STATED, "eGET", b"abcde", b"GET");
 }
 
 const CHUNKED: &[Row] = &[
@@ -108,10 +86,9 @@ const CHUNKED: &[Row] = &[
     ("e\n\r\n0", Some(Awaited::Line)),
     ("\r\n", Some(Awaited::Trailer)),
     ("A: b\r\n\r", Some(Awaited::Trailer)),
-    ("\n", None),
 ];
 
 #[test]
 fn a_body_by_chunks(rt: HostRuntime) {
-    check_awaited(&rt, rt.alloc(), CHUNKED, b"release\n", b"");
+    check_awaited(&rt, rt.alloc(), CHUNKED, "\n", b"release\n", b"");
 }

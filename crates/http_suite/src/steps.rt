@@ -97,9 +97,9 @@ impl Client<'_> {
     }
 
     /// Answers one request, if there is one.
-    fn answer(&mut self, alloc: Global, desk: &mut Desk<'_>) -> Result<(), AllocError> {
-        let mut spans = Vec::new(alloc);
-        let _ = self.line.answer(alloc, desk, &mut spans)?;
+    fn answer(&mut self, desk: &mut Desk<'_>) -> Result<(), AllocError> {
+        let mut spans = Vec::new(desk.alloc);
+        let _ = self.line.answer(desk.alloc, desk, &mut spans)?;
         Ok(())
     }
 
@@ -111,20 +111,20 @@ impl Client<'_> {
     }
 
     /// A pass of a server over the connection.
-    fn pass(&mut self, alloc: Global, desk: &mut Desk<'_>) -> Result<(), AllocError> {
+    fn pass(&mut self, desk: &mut Desk<'_>) -> Result<(), AllocError> {
         self.hear()?;
-        self.answer(alloc, desk)?;
+        self.answer(desk)?;
         self.tell();
         Ok(())
     }
 
     /// Passes until the connection is over, or 20,000.
-    fn passes(&mut self, alloc: Global, desk: &mut Desk<'_>) -> Result<(), AllocError> {
+    fn passes(&mut self, desk: &mut Desk<'_>) -> Result<(), AllocError> {
         for _ in 0..20_000 {
             if self.line.is_over() {
                 break;
             }
-            self.pass(alloc, desk)?;
+            self.pass(desk)?;
         }
         Ok(())
     }
@@ -136,13 +136,15 @@ impl Client<'_> {
             writer,
             is_broken,
         } = self;
-        Run {
+        let run = Run {
             result: end,
             is_over: line.is_over(),
             is_broken,
             answered: line.answered(),
             written: writer.into_inner().inner.into_taken(),
-        }
+        };
+        drop(line);
+        run
     }
 }
 
@@ -158,8 +160,8 @@ pub(crate) struct Run {
     pub written: Vec<u8>,
 }
 
-pub(crate) fn led(alloc: Global, desk: &mut Desk<'_>, reader: Pieces<'_>, room: Room) -> Run {
-    let mut client = connected(alloc, reader, room);
-    let end = client.passes(alloc, desk);
+pub(crate) fn led(desk: &mut Desk<'_>, reader: Pieces<'_>, room: Room) -> Run {
+    let mut client = connected(desk.alloc, reader, room);
+    let end = client.passes(desk);
     client.into_run(end)
 }

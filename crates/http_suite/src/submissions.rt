@@ -1,9 +1,10 @@
 //! Submissions: each outcome, and what is taken where the response is lost.
 use crate::comparing::same;
-use crate::desk::{Desk, Mood, open_desk};
-use crate::ends::{PLAIN, Row, reads, responds, response, writes};
+use crate::desk::{Desk, Mood, open_desk, took};
+use crate::each_end::ends_early;
+use crate::ends::{PLAIN, Row, answers, responds, sends, writes};
+use crate::lines::QUEUED;
 use crate::texts::{joined, times};
-use failing_ends::{in_pieces, whole};
 use http_serve::ServeFault;
 use std::alloc::{AllocError, Global};
 use std::process::Abort;
@@ -16,13 +17,15 @@ const VALUE: &[u8] = &[
     0, 0, 0, 1, 0, 0, 0, 0, 0, 0, 0, 5, 0x72, 0x65, 0x6c, 0x65, 0x61, 0x73, 0x65, 0x0a,
 ];
 
-const QUEUED: Row = ("202 Accepted", PLAIN, "", "queued\n");
+const ALREADY: &Row = &("200 OK", PLAIN, "", "", "already\n");
 
-const ALREADY: Row = ("200 OK", PLAIN, "", "already\n");
+const BUSY: &Row = &("503 Service Unavailable", PLAIN, "", "", "busy\n");
 
-const BUSY: Row = ("503 Service Unavailable", PLAIN, "", "busy\n");
+const STOPPED: &Row = &("503 Service Unavailable", PLAIN, "", "", "stopped\n");
 
-const STOPPED: Row = ("503 Service Unavailable", PLAIN, "", "stopped\n");
+/// The bytes of `ALREADY`.
+const THERE: &[u8] =
+    b"HTTP/1.1 200 OK\r\nContent-Type: text/plain; charset=utf-8\r\nContent-Length: 8\r\n\r\nalready\n";
 
 /// Texts that are no command, and the line of their fault.
 const FAULTY: &[(&str, &str)] = &[
@@ -58,99 +61,101 @@ fn submission(alloc: Global, text: &str) -> Result<String, AllocError> {
 }
 
 /// Submits the text under ticket (1, 5), with a Content-Length line.
-fn check_text(rt: &impl Abort, alloc: Global, desk: &mut Desk<'_>, text: &str, row: Row) {
-    let request = submission(alloc, text).expect(rt, "memory");
-    responds(rt, alloc, desk, request.as_str(), row, false);
+fn check_text(rt: &impl Abort, desk: &mut Desk<'_>, text: &str, row: &Row) {
+    let request = submission(desk.alloc, text).expect(rt, "memory");
+    responds(rt, desk, request.as_str(), row, false);
 }
 
-fn check_faults(rt: &impl Abort, alloc: Global, desk: &mut Desk<'_>) {
+/// The text is no command, as the line says.
+fn check_fault(rt: &impl Abort, desk: &mut Desk<'_>, text: &str, line: &'static str) {
+    let row = ("422 Unprocessable Content", PLAIN, "", "", line);
+    check_text(rt, desk, text, &row);
+}
+
+fn check_faults(rt: &impl Abort, desk: &mut Desk<'_>) {
     for &(text, line) in FAULTY {
-        let row = ("422 Unprocessable Content", PLAIN, "", line);
-        check_text(rt, alloc, desk, text, row);
+        check_fault(rt, desk, text, line);
     }
 }
 
 /// A text of 32,757 bytes is too long with its ticket, and so is the longest body.
-fn check_too_long(rt: &impl Abort, alloc: Global, desk: &mut Desk<'_>, letters: u32) {
-    let letters = times(rt, alloc, "x", letters);
-    let text = joined(rt, alloc, "put template t\n", letters.as_str(), "");
-    let row = ("422 Unprocessable Content", PLAIN, "", "1 TooLong\n");
-    check_text(rt, alloc, desk, text.as_str(), row);
+fn check_too_long(rt: &impl Abort, desk: &mut Desk<'_>, letters: usize) {
+    let letters = times(rt, desk.alloc, "x", letters);
+    let text = joined(rt, desk.alloc, "put template t\n", letters.as_str(), "");
+    check_fault(rt, desk, text.as_str(), "1 TooLong\n");
 }
 
 #[test]
 fn texts_that_are_no_command(rt: HostRuntime) {
-    let mut desk = open_desk(rt.alloc(), "Hi\n", 1);
-    check_faults(&rt, rt.alloc(), &mut desk);
-    for letters in [32_742, 39_985] {
-        check_too_long(&rt, rt.alloc(), &mut desk, letters);
-    }
-    assert!(rt; desk.values.is_empty());
-}
-
-/// The value in chunks, which are read in pieces of that size.
-fn check_chunks(rt: &impl Abort, alloc: Global, desk: &mut Desk<'_>, piece: usize, row: Row) {
-    let expected = response(alloc, row, false).expect(rt, "memory");
-    let reader = in_pieces(CHUNKED, piece, piece, usize::MAX);
-    let end = (Ok(()), expected.as_str().as_bytes());
-    reads(rt, alloc, desk, reader, end, ("in pieces of", piece));
+    let mut desk = open_desk(rt.alloc(), 1);
+    check_faults(&rt, &mut desk);
+    check_too_long(&rt, &mut desk, 32_742);
+    check_too_long(&rt, &mut desk, 39_985);
+    took(&rt, &desk, 0);
+    drop(desk);
 }
 
 /// By pieces of each size the value is queued once, and then already there.
-fn check_pieces(rt: &impl Abort, alloc: Global, desk: &mut Desk<'_>) {
-    check_chunks(rt, alloc, desk, 1, QUEUED);
-    for piece in 2..CHUNKED.len() {
-        check_chunks(rt, alloc, desk, piece, ALREADY);
+fn check_pieces(rt: &impl Abort, desk: &mut Desk<'_>, bytes: &[u8]) {
+    answers(rt, desk, bytes, 1, 1, QUEUED);
+    let there = THERE;
+    for piece in 2..bytes.len() {
+        answers(rt, desk, bytes, piece, piece, there);
     }
-    same(rt, desk.values.len(), 1);
+    took(rt, desk, 1);
+}
+
+/// In that mood a release is met so.
+fn check_mood(rt: &impl Abort, desk: &mut Desk<'_>, mood: Mood, row: &Row) {
+    desk.mood = mood;
+    check_text(rt, desk, "release\n", row);
 }
 
 /// Busy and stopped take nothing, but what is there stays there.
-fn check_outcomes(rt: &impl Abort, alloc: Global, desk: &mut Desk<'_>) {
-    for (mood, row) in [(Mood::Stopped, STOPPED), (Mood::Busy, BUSY)] {
-        desk.mood = mood;
-        check_text(rt, alloc, desk, "release\n", row);
-    }
-    assert!(rt; desk.values.is_empty());
+fn check_outcomes(rt: &impl Abort, desk: &mut Desk<'_>) {
+    check_mood(rt, desk, Mood::Stopped, STOPPED);
+    check_mood(rt, desk, Mood::Busy, BUSY);
+    took(rt, desk, 0);
     desk.mood = Mood::Open;
-    check_pieces(rt, alloc, desk);
-    desk.mood = Mood::Busy;
-    check_text(rt, alloc, desk, "release\n", ALREADY);
+    check_pieces(rt, desk, CHUNKED);
+    check_mood(rt, desk, Mood::Busy, ALREADY);
+}
+
+/// The first value that was taken, if one was.
+fn first<'a>(desk: &'a Desk<'_>) -> &'a [u8] {
+    match desk.values.get(0) {
+        Some(value) => value.as_slice(),
+        None => b"",
+    }
 }
 
 #[test]
 fn outcomes(rt: HostRuntime) {
-    let mut desk = open_desk(rt.alloc(), "Hi\n", 1);
-    check_outcomes(&rt, rt.alloc(), &mut desk);
-    same(&rt, desk.values.get(0).map(|v| v.as_slice()), Some(VALUE));
+    let mut desk = open_desk(rt.alloc(), 1);
+    check_outcomes(&rt, &mut desk);
+    same(&rt, first(&desk), VALUE);
+    drop(desk);
 }
 
 /// Where memory was missing none was taken, and a request cut short takes none.
-fn check_not_taken(rt: &impl Abort, alloc: Global, desk: &mut Desk<'_>) {
+fn check_not_taken(rt: &impl Abort, desk: &mut Desk<'_>, bytes: &[u8]) {
+    let nothing: &[u8] = b"";
     desk.mood = Mood::Starved;
-    let starved = (Err(ServeFault::OutOfMemory), b"".as_slice());
-    reads(rt, alloc, desk, whole(CHUNKED), starved, ("starved", 0));
+    let starved = Err(ServeFault::OutOfMemory);
+    sends(rt, desk, bytes, starved, nothing, bytes.len());
     desk.mood = Mood::Open;
-    let early = (Err(ServeFault::EndedEarly), b"".as_slice());
-    for len in 0..CHUNKED.len() {
-        reads(
-            rt,
-            alloc,
-            desk,
-            whole(&CHUNKED[..len]),
-            early,
-            ("after", len),
-        );
-    }
-    assert!(rt; desk.values.is_empty());
+    ends_early(rt, desk, bytes, 0, nothing);
+    took(rt, desk, 0);
 }
 
 /// A submission stays taken where its response can't be written.
 #[test]
 fn lost_responses(rt: HostRuntime) {
-    let mut desk = open_desk(rt.alloc(), "Hi\n", 1);
-    check_not_taken(&rt, rt.alloc(), &mut desk);
-    let end = (Err(ServeFault::Write), b"HTTP/1.1 202 Accepte".as_slice());
-    writes(&rt, rt.alloc(), &mut desk, CHUNKED, (20, 7), end);
-    same(&rt, desk.values.len(), 1);
+    let mut desk = open_desk(rt.alloc(), 1);
+    check_not_taken(&rt, &mut desk, CHUNKED);
+    let failed = Err(ServeFault::Write);
+    let begun = b"HTTP/1.1 202 Accepte".as_slice();
+    writes(&rt, &mut desk, CHUNKED, (20, 7), failed, begun);
+    took(&rt, &desk, 1);
+    drop(desk);
 }

@@ -1,5 +1,5 @@
 //! Texts that are put together.
-use std::alloc::{AllocError, Global};
+use std::alloc::Global;
 use std::process::Abort;
 
 /// Three texts, one behind the other.
@@ -10,18 +10,10 @@ pub(crate) fn joined(
     part: &str,
     behind: &str,
 ) -> String {
-    format!(in alloc; "{before}{part}{behind}").expect(rt, "memory")
-}
-
-fn repeated(alloc: Global, part: &str, count: u32) -> Result<String, AllocError> {
-    let mut text = String::new(alloc);
-    for _ in 0..count {
-        text.push_str(part)?;
-    }
-    Ok(text)
+    [before, part, behind].join(alloc, "").expect(rt, "memory")
 }
 
 /// A text so many times.
-pub(crate) fn times(rt: &impl Abort, alloc: Global, part: &str, count: u32) -> String {
-    repeated(alloc, part, count).expect(rt, "memory")
+pub(crate) fn times(rt: &impl Abort, alloc: Global, part: &str, count: usize) -> String {
+    part.repeat(alloc, count).expect(rt, "memory")
 }
