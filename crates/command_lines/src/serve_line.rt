@@ -88,33 +88,35 @@ fn serve_matches<'a>(alloc: Global, words: &'a [String]) -> Result<ArgMatches<'a
 {
     let example =
         "Example, server 1 of 3 on one machine:\n  sited --id 1 --record /var/lib/sited/1.record --format --http 127.0.0.1:8001 --rounds 4294967295 127.0.0.1:7001 127.0.0.1:7002 127.0.0.1:7003\n\n--version prints the program's version";
-    let command = described(alloc, "sited", "Runs one server of a site", example)
-        .arg(id_option(alloc))?
-        .arg(required_option(
+    let args = vec![in alloc;
+        id_option(alloc),
+        required_option(
             alloc,
             "record",
             "FILE",
             "The file that keeps what this server has promised and voted",
-        ))?
-        .arg(required_option(
+        ),
+        required_option(
             alloc,
             "http",
             "ADDRESS",
             "Where this server answers HTTP requests, IP:PORT: 64 connections at once, each closed after 5 seconds between requests, or 1 without progress in one",
-        ))?
-        .arg(rounds_option(alloc))?
-        .arg(format_flag(alloc))?
-        .arg(number_option(
+        ),
+        rounds_option(alloc),
+        format_flag(alloc),
+        number_option(
             alloc,
             "patience-ms",
             "Tries again after N milliseconds without progress, 100 where none are named: for use, 100 or three round trips, whichever is more",
-        ))?
-        .arg(number_option(
+        ),
+        number_option(
             alloc,
             "serve-ms",
             "Closes a connection whose request takes N milliseconds, from its first byte to the last of its response",
-        ))?
-        .arg(address_arguments(alloc))?;
+        ),
+        address_arguments(alloc),
+    ]?;
+    let command = described(alloc, "sited", "Runs one server of a site", example).args(args)?;
     command.try_get_matches_from(words)
 }
 

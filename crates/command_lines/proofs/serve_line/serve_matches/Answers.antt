@@ -1,6 +1,7 @@
-use Rattle.std.proofs.Common.{ap₂, refl, sym, subst, Some, true, false, ℕ, List, [], ◌∷◌, codes, is_some, ◌≡◌, ◌∙◌, ◌^◌, arith}
+use Rattle.std.proofs.Common.{ap, refl, sym, subst, Some, true, false, ℕ, List, [], ◌∷◌, codes, is_some, ◌≡◌, ◌∙◌, ◌^◌, arith}
 use Rattle.std.proofs.lemmas.Result.{IfOk-weaker}
-use Rattle.clap.specs.Words.{App, Rule, AddsArg, app_of, rule_of, with_rule, is_simple_and_free, found_of, one_text, first_value}
+use Rattle.clap.specs.Words.{AddsArg, app_of, is_simple_and_free, found_of, one_text, first_value}
+use Rattle.clap.specs.Built.{AddsInTurn}
 use Rattle.clap.specs.declared.builder.arg.Arg.{Arg}
 use Rattle.clap.specs.declared.builder.command.Command.{Command}
 use Rattle.clap.proofs.OnLiterals.{clap_on_literals}
@@ -22,6 +23,9 @@ args c =
     c.id_option.result ∷ c.required_option.result ∷ c.required_option-2.result ∷ c.rounds_option.result ∷ c.format_flag.result ∷ c.number_option.result ∷ c.number_option-2.result ∷
     c.address_arguments.result ∷ []
 
+added : (c : goal.After-try_get_matches_from) → AddsInTurn AddsArg c.described.result (args c) c.in_ok-command.command
+added c = subst (λ (xs : List Arg). AddsInTurn AddsArg c.described.result xs c.in_ok-command.command) c.in_ok-args.ensures.items c.in_ok-command.ensures
+
 made : (c : goal.After-try_get_matches_from) → IsChain c.described.result c.in_ok-command.command (args c) ids
 made c =
     let id = c.id_option.ensures in
@@ -34,27 +38,7 @@ made c =
     let address = c.address_arguments.ensures in
     record {
       bare = record { args = c.described.ensures.empty.0; groups = c.described.ensures.empty.1; globals = c.described.ensures.local; negates = c.described.ensures.negates };
-      added = (
-        c.in_ok-arg.field-0,
-        c.in_ok-arg.ensures,
-        (
-          c.in_ok-arg-2.field-0,
-          c.in_ok-arg-2.ensures,
-          (
-            c.in_ok-arg-3.field-0,
-            c.in_ok-arg-3.ensures,
-            (
-              c.in_ok-arg-4.field-0,
-              c.in_ok-arg-4.ensures,
-              (
-                c.in_ok-arg-5.field-0,
-                c.in_ok-arg-5.ensures,
-                (c.in_ok-arg-6.field-0, c.in_ok-arg-6.ensures, (c.in_ok-arg-7.field-0, c.in_ok-arg-7.ensures, (c.in_ok-command.command, c.in_ok-command.ensures, refl))),
-              ),
-            ),
-          ),
-        ),
-      );
+      added = added c;
       named = (
         record { is = id.id; plain = id.plain; local = id.local },
         (
@@ -83,14 +67,22 @@ made c =
 
 app_is : (c : goal.After-try_get_matches_from) → app_of c.in_ok-command.command ≡ serve_app
 app_is c =
-    adds _ _ _ _ _ c.in_ok-command.ensures c.address_arguments.ensures.local
-    (adds _ _ _ _ _ c.in_ok-arg-7.ensures c.number_option-2.ensures.local
-    (adds _ _ _ _ _ c.in_ok-arg-6.ensures c.number_option.ensures.local
-    (adds _ _ _ _ _ c.in_ok-arg-5.ensures c.format_flag.ensures.local
-    (adds _ _ _ _ _ c.in_ok-arg-4.ensures c.rounds_option.ensures.local
-    (adds _ _ _ _ _ c.in_ok-arg-3.ensures c.required_option-2.ensures.local
-    (adds _ _ _ _ _ c.in_ok-arg-2.ensures c.required_option.ensures.local
-    (adds _ _ _ _ _ c.in_ok-arg.ensures c.id_option.ensures.local c.described.ensures.app c.id_option.ensures.rule)
+    let id = added c in
+    let file = id.2 in
+    let http = file.2 in
+    let rounds = http.2 in
+    let format = rounds.2 in
+    let patience = format.2 in
+    let serving = patience.2 in
+    let address = serving.2 in
+    ap app_of (sym address.2) ∙ adds _ _ _ _ _ address.1 c.address_arguments.ensures.local
+    (adds _ _ _ _ _ serving.1 c.number_option-2.ensures.local
+    (adds _ _ _ _ _ patience.1 c.number_option.ensures.local
+    (adds _ _ _ _ _ format.1 c.format_flag.ensures.local
+    (adds _ _ _ _ _ rounds.1 c.rounds_option.ensures.local
+    (adds _ _ _ _ _ http.1 c.required_option-2.ensures.local
+    (adds _ _ _ _ _ file.1 c.required_option.ensures.local
+    (adds _ _ _ _ _ id.1 c.id_option.ensures.local c.described.ensures.app c.id_option.ensures.rule)
     c.required_option.ensures.rule)
     c.required_option-2.ensures.rule)
     c.rounds_option.ensures.rule)
