@@ -44,14 +44,23 @@ impl<'a> Rest<'a> {
         }
     }
 
+    /// The words of the first line before and behind a blank.
+    fn parted<'b>(self, words: &'b str) -> Result<(&'b str, &'b str), ReadFault>
+        ensures { IfErr result (λ e. e ≢ ReadFault.Old) }
+    {
+        words.split_once(' ').ok_or(ReadFault::Line(self.line))
+    }
+
     /// The number of a line that has a word before it.
     fn number(self, word: &str) -> Result<(u64, Rest<'a>), ReadFault>
         ensures { IfErr result (λ e. e ≢ ReadFault.Old) }
     {
         let (line, rest) = self.line()?;
-        match line.split_once(' ') {
-            Some((first, number)) if first == word => Ok((self.parsed(number)?, rest)),
-            _ => Err(ReadFault::Line(self.line)),
+        let (first, number) = self.parted(line)?;
+        if first == word {
+            Ok((self.parsed(number)?, rest))
+        } else {
+            Err(ReadFault::Line(self.line))
         }
     }
 
@@ -79,10 +88,12 @@ impl<'a> Rest<'a> {
         ))
     }
 
-    /// The release that the first line's numbers tell.
-    fn released(self, release: &str, time: &str, commands: &str) -> Result<Released, ReadFault>
+    /// The release that the numbers of the first line tell.
+    fn released(self, numbers: &str) -> Result<Released, ReadFault>
         ensures { IfErr result (λ e. e ≢ ReadFault.Old) }
     {
+        let (release, numbers) = self.parted(numbers)?;
+        let (time, commands) = self.parted(numbers)?;
         Ok(Released {
             release: self.parsed(release)?,
             time: self.parsed(time)?,
@@ -90,33 +101,29 @@ impl<'a> Rest<'a> {
         })
     }
 
-    /// The entry that the first line's words begin; the rest stands behind that line.
-    fn begun(self, words: &[&str], rest: Rest<'a>) -> Result<(Entry<'a>, Rest<'a>), ReadFault>
+    /// The command sent whose numbers stand in the first line; its text stands behind that.
+    fn sent(self, numbers: &str, rest: Rest<'a>) -> Result<(Entry<'a>, Rest<'a>), ReadFault>
         ensures { IfErr result (λ e. e ≢ ReadFault.Old) }
     {
-        match words {
-            ["released", release, time, commands] => {
-                let released = self.released(release, time, commands)?;
-                Ok((Entry::Released(released), rest))
-            }
-            ["has", length] => {
-                let (text, rest) = rest.counted(self.parsed(length)?)?;
-                Ok((Entry::Kept(text), rest))
-            }
-            ["sent", number, length] => {
-                let (text, rest) = rest.counted(self.parsed(length)?)?;
-                Ok((Entry::Sent(self.parsed(number)?, text), rest))
-            }
-            _ => Err(ReadFault::Line(self.line)),
-        }
+        let (number, length) = self.parted(numbers)?;
+        let (text, rest) = rest.counted(self.parsed(length)?)?;
+        Ok((Entry::Sent(self.parsed(number)?, text), rest))
     }
 
-    fn entry(self, alloc: Global) -> Result<(Entry<'a>, Rest<'a>), ReadFault>
+    /// The entry that the first line begins; the rest stands behind that line.
+    fn entry(self) -> Result<(Entry<'a>, Rest<'a>), ReadFault>
         ensures { IfErr result (λ e. e ≢ ReadFault.Old) }
     {
         let (line, rest) = self.line()?;
-        let words: Vec<&str> = line.split(' ').collect(alloc)?;
-        self.begun(words.as_slice(), rest)
+        match self.parted(line)? {
+            ("released", numbers) => Ok((Entry::Released(self.released(numbers)?), rest)),
+            ("has", length) => {
+                let (text, rest) = rest.counted(self.parsed(length)?)?;
+                Ok((Entry::Kept(text), rest))
+            }
+            ("sent", numbers) => self.sent(numbers, rest),
+            _ => Err(ReadFault::Line(self.line)),
+        }
     }
 }
 
@@ -144,7 +151,7 @@ impl Ledger {
             if rest.text.is_empty() {
                 return Ok(());
             }
-            let (entry, after) = rest.entry(alloc)?;
+            let (entry, after) = rest.entry()?;
             self.enter(alloc, entry)?;
             rest = after;
         }
