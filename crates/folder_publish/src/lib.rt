@@ -1,13 +1,15 @@
 //! A folder of a site becomes the next release of a group.
 //!
-//! `publishing.rt` has the way of a publication: the folder is read, the group is asked whether the file `published` is the newest, what changed is sent
-//! and released, and `comparing.rt` looks whether the release shows it. `taking_over.rt` tells what a first publication meets, `dry_run.rt` what one
-//! would send, and `telling.rt` writes a line. What is decided, `site_publish` says; `site_files` reads and saves, `group_client` asks and sends.
+//! `publishing.rt` reads the folder and its ledger; `publisher.rt` has the way from there: the group is asked whether the file `published` is the newest,
+//! what changed is sent and released, and `comparing.rt` looks whether the release shows it. `taking_over.rt` tells what a first publication meets,
+//! `dry_run.rt` what one would send, and `telling.rt` writes a line. What is decided, `site_publish` says; `site_files` reads and saves,
+//! `group_client` asks and sends.
 #![tactic(auto)]
 
 mod comparing;
 mod dry_run;
 mod made;
+mod publisher;
 mod publishing;
 mod taking_over;
 mod telling;

@@ -1,20 +1,16 @@
 //! A folder becomes the next release of a group.
-use crate::comparing::{Change, changes_of, changes_since, tell_differences};
 use crate::dry_run::tell_plan;
-use crate::made::{Made, commands_of, release_ticket, tell_made};
-use crate::taking_over::tell_taken_over;
+use crate::publisher::Publisher;
 use crate::telling::say_made;
-use editor_parts::{Halt, say};
-use group_client::{Group, Node, confirm, deliver, newest};
-use site_files::{Clean, new_editor, read_clean, read_ledger, save, texts_of};
-use site_ledger::{Ledger, Released};
-use site_publish::{Stage, advance};
+use editor_parts::Halt;
+use group_client::Group;
+use site_files::{Clean, new_editor, read_clean, read_ledger, texts_of};
+use site_ledger::Ledger;
 use std::alloc::{AllocError, Global};
 use std::io::Write;
 use std::net::{Net, TcpStream};
 use std::random::RandomSource;
 use std::rt::{Clock, Files};
-use std::time::{SystemTime, UNIX_EPOCH};
 
 /// How a folder is published.
 #[derive(Clone, Copy)]
@@ -61,222 +57,18 @@ fn ledger_of<R: Files + RandomSource + AllocGlobal>(
     }
 }
 
-/// Seconds since 1970.
-fn seconds<C: Clock>(clock: &C) -> Result<u64, Halt> {
-    match SystemTime::now(clock) {
-        Ok(now) => match now.duration_since(UNIX_EPOCH) {
-            Ok(passed) => Ok(passed.as_secs()),
-            Err(_) => Err(Halt::Clock),
-        },
-        Err(_) => Err(Halt::Clock),
-    }
-}
-
-/// Sends what is on its way, and saves what came of it, also where it came to no end.
-fn send<R: Files + Net<Stream = TcpStream> + Clock + AllocGlobal, E: Write>(
-    rt: &R,
-    err: &mut E,
-    group: &mut Group,
-    ledger: &mut Ledger,
-    how: &Publishing<'_>,
-) -> Result<(), Halt> {
-    save(rt, how.folder, ledger)?;
-    let sent = deliver(rt, err, group, ledger, how.patience);
-    save(rt, how.folder, ledger).and(sent)
-}
-
-fn untold(alloc: Global, url: &str) -> Result<Halt, AllocError> {
-    Ok(Halt::Stop(format!(in alloc; "{url}: does not tell its newest release")?))
-}
-
-/// The newest release of a node.
-fn newest_at<N: Net<Stream = TcpStream>>(net: &N, alloc: Global, node: &Node) -> Result<u64, Halt> {
-    match newest(net, alloc, node)? {
-        Some(release) => Ok(release),
-        None => Err(untold(alloc, node.url.as_str())?),
-    }
-}
-
-/// Keeps in the log that a release was made.
-fn note<R: Files + Clock + AllocGlobal>(
-    rt: &R,
-    folder: &str,
-    ledger: &mut Ledger,
-    made: Made,
-) -> Result<(), Halt> {
-    let time = seconds(rt)?;
-    let Made {
-        release,
-        commands,
-        ..
-    } = made;
-    ledger.note(Released {
-        release,
-        time,
-        commands,
-    })?;
-    save(rt, folder, ledger)
-}
-
-/// Sends the release that is on its way, which was planned now or by a run that was interrupted, and tells it in the log.
-fn release<R: Files + Net<Stream = TcpStream> + Clock + AllocGlobal, E: Write>(
-    rt: &R,
-    err: &mut E,
-    group: &mut Group,
-    ledger: &mut Ledger,
-    how: &Publishing<'_>,
-    ticket: u64,
-    fresh: bool,
-) -> Result<Made, Halt> {
-    let commands = commands_of(ledger, ticket);
-    let before = newest(rt, rt.alloc(), group.node()?)?;
-    send(rt, err, group, ledger, how)?;
-    let release = newest_at(rt, rt.alloc(), group.node()?)?;
-    let exact = fresh && before.map(|before| before.saturating_add(1)) == Some(release);
-    let made = Made {
-        release,
-        exact,
-        commands,
-    };
-    note(rt, how.folder, ledger, made)?;
-    Ok(made)
-}
-
-/// Sends what is on its way, commands or a release: the release, if it was one.
-fn send_planned<R: Files + Net<Stream = TcpStream> + Clock + AllocGlobal, E: Write>(
-    rt: &R,
-    err: &mut E,
-    group: &mut Group,
-    ledger: &mut Ledger,
-    how: &Publishing<'_>,
-    fresh: bool,
-) -> Result<Option<Made>, Halt> {
-    match release_ticket(ledger) {
-        Some(ticket) => Ok(Some(release(rt, err, group, ledger, how, ticket, fresh)?)),
-        None => {
-            send(rt, err, group, ledger, how)?;
-            Ok(None)
-        }
-    }
-}
-
-/// Brings a folder of these texts into the group, and releases it: the release that was made last, or nothing where nothing has changed.
-fn bring<R: Files + Net<Stream = TcpStream> + Clock + AllocGlobal, E: Write>(
-    rt: &R,
-    err: &mut E,
-    group: &mut Group,
-    ledger: &mut Ledger,
-    how: &Publishing<'_>,
-    wanted: &[&str],
-) -> Result<Option<Made>, Halt> {
-    let mut made = None;
-    let mut fresh = ledger.is_idle();
-    for _ in 0..u64::MAX {
-        match advance(rt.alloc(), ledger, wanted)? {
-            Stage::Done => break,
-            Stage::Sends => {
-                made = send_planned(rt, err, group, ledger, how, fresh)?.or(made);
-            }
-        }
-        fresh = true;
-    }
-    Ok(made)
-}
-
-/// The pages that a publication of these texts changes: all of them where one was interrupted, since what it changed is not known any more.
-fn changes_in(alloc: Global, ledger: &Ledger, wanted: &[&str]) -> Result<Vec<Change>, AllocError> {
-    if ledger.is_idle() && !ledger.has_unshown() {
-        changes_since(alloc, ledger, wanted)
-    } else {
-        changes_of(alloc, &[], wanted)
-    }
-}
-
-/// Tells that nothing has changed, once the group's newest release was seen to show the folder.
-fn tell_same<N: Net<Stream = TcpStream>, W: Write, E: Write>(
-    net: &N,
-    alloc: Global,
-    out: &mut W,
-    err: &mut E,
-    node: &Node,
-    wanted: &[&str],
-) -> Result<bool, Halt> {
-    let release = newest_at(net, alloc, node)?;
-    let pages = changes_of(alloc, &[], wanted)?;
-    let differs = tell_differences(net, alloc, err, node, release, &pages)?;
-    if !differs {
-        say(
-            out,
-            "nothing has changed since the last publication of this folder",
-        )?;
-    }
-    Ok(differs)
-}
-
-/// Tells the release that was made, if one was, and whether it shows the folder. Whether it does not is the answer.
-fn tell_end<N: Net<Stream = TcpStream>, W: Write, E: Write>(
-    net: &N,
-    alloc: Global,
-    out: &mut W,
-    err: &mut E,
-    node: &Node,
-    made: Option<Made>,
-    changes: &[Change],
-    wanted: &[&str],
-) -> Result<bool, Halt> {
-    match made {
-        Some(made) => {
-            tell_made(alloc, out, node.url.as_str(), made)?;
-            tell_differences(net, alloc, err, node, made.release, changes)
-        }
-        None => tell_same(net, alloc, out, err, node, wanted),
-    }
-}
-
-/// Publishes texts whose ledger the group confirmed. Whether they are not shown then is the answer.
-fn publish_texts<R: Files + Net<Stream = TcpStream> + Clock + AllocGlobal, W: Write, E: Write>(
-    rt: &R,
-    out: &mut W,
-    err: &mut E,
-    group: &mut Group,
-    ledger: &mut Ledger,
-    how: &Publishing<'_>,
-    wanted: &[&str],
-) -> Result<bool, Halt> {
-    let changes = changes_in(rt.alloc(), ledger, wanted)?;
-    let made = bring(rt, err, group, ledger, how, wanted)?;
-    let node = group.node()?;
-    tell_end(rt, rt.alloc(), out, err, node, made, &changes, wanted)
-}
-
-/// Publishes texts, once the group has confirmed their ledger.
-fn publish_confirmed<R: Files + Net<Stream = TcpStream> + Clock + AllocGlobal, W: Write, E: Write>(
-    rt: &R,
-    out: &mut W,
-    err: &mut E,
-    group: &mut Group,
-    ledger: &mut Ledger,
-    how: &Publishing<'_>,
-    wanted: &[&str],
-) -> Result<bool, Halt> {
-    confirm(rt, err, how.folder, group, ledger, how.patience)?;
-    if ledger.next() == 1 {
-        tell_taken_over(rt, rt.alloc(), err, group.node()?, wanted)?;
-    }
-    publish_texts(rt, out, err, group, ledger, how, wanted)
-}
-
 /// Publishes texts into the group of some addresses, or tells what would be.
 fn publish_wanted<
+    'a,
     R: Files + Net<Stream = TcpStream> + Clock + RandomSource + AllocGlobal,
     W: Write,
     E: Write,
 >(
-    rt: &R,
+    rt: &'a R,
     out: &mut W,
-    err: &mut E,
-    group: &mut Group,
-    how: &Publishing<'_>,
+    err: &'a mut E,
+    group: &'a mut Group,
+    how: &'a Publishing<'a>,
     wanted: &[&str],
 ) -> Result<bool, Halt> {
     let mut ledger = ledger_of(rt, how.folder, how.editor)?;
@@ -284,7 +76,14 @@ fn publish_wanted<
         tell_plan(rt.alloc(), out, &mut ledger, wanted)?;
         return Ok(false);
     }
-    publish_confirmed(rt, out, err, group, &mut ledger, how, wanted)
+    let mut publisher = Publisher {
+        rt,
+        err,
+        group,
+        ledger: &mut ledger,
+        how,
+    };
+    publisher.publish(out, wanted)
 }
 
 /// Tells that a folder has no page.
