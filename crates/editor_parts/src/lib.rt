@@ -7,4 +7,4 @@ mod telling;
 
 pub use halt::Halt;
 pub use patience::{now, passed, rest};
-pub use telling::say;
+pub use telling::{say, say_made};

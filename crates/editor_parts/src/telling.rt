@@ -1,4 +1,5 @@
 use crate::halt::Halt;
+use std::alloc::AllocError;
 use std::io::Write;
 
 /// Writes a line.
@@ -7,4 +8,9 @@ pub fn say<W: Write>(out: &mut W, line: &str) -> Result<(), Halt> {
         Ok(()) => Ok(()),
         Err(_) => Err(Halt::Write),
     }
+}
+
+/// Writes a line, where there was memory to make it.
+pub fn say_made<W: Write>(out: &mut W, line: Result<String, AllocError>) -> Result<(), Halt> {
+    say(out, line?.as_str())
 }

@@ -2,8 +2,7 @@
 //!
 //! Behind an interrupted run all pages are compared, else those that changed.
 
-use crate::telling::say_made;
-use editor_parts::Halt;
+use editor_parts::{Halt, say_made};
 use group_client::{Node, ask};
 use node_client::{Answer, Question};
 use site_folder::{View, path_in, views_of};

@@ -1,7 +1,6 @@
 //! What would be published.
 use crate::comparing::{Change, changes_since};
-use crate::telling::say_made;
-use editor_parts::{Halt, say};
+use editor_parts::{Halt, say, say_made};
 use site_ledger::{Ledger, Sent};
 use site_publish::{Stage, advance};
 use std::alloc::{AllocError, Global};

@@ -2,8 +2,7 @@
 //!
 //! `publishing.rt` reads the folder and its ledger; `publisher.rt` has the way from there: the group is asked whether the file `published` is the newest,
 //! what changed is sent and released, and `comparing.rt` looks whether the release shows it. `taking_over.rt` tells what a first publication meets,
-//! `dry_run.rt` what one would send, and `telling.rt` writes a line. What is decided, `site_publish` says; `site_files` reads and saves,
-//! `group_client` asks and sends.
+//! `dry_run.rt` what one would send. What is decided, `site_publish` says; `site_files` reads and saves, `group_client` asks and sends.
 #![tactic(auto)]
 
 mod comparing;
@@ -12,6 +11,5 @@ mod made;
 mod publisher;
 mod publishing;
 mod taking_over;
-mod telling;
 
 pub use publishing::{Publishing, publish};

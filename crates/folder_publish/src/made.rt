@@ -1,6 +1,5 @@
 //! The release that a publication made.
-use crate::telling::say_made;
-use editor_parts::Halt;
+use editor_parts::{Halt, say_made};
 use site_ledger::Ledger;
 use std::alloc::Global;
 use std::io::Write;

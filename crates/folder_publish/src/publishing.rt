@@ -1,8 +1,7 @@
 //! A folder becomes the next release of a group.
 use crate::dry_run::tell_plan;
 use crate::publisher::Publisher;
-use crate::telling::say_made;
-use editor_parts::Halt;
+use editor_parts::{Halt, say_made};
 use group_client::Group;
 use site_files::{Clean, new_editor, read_clean, read_ledger, texts_of};
 use site_ledger::Ledger;

@@ -1,6 +1,5 @@
 //! What a first publication takes over from those who have published in the group.
-use crate::telling::say_made;
-use editor_parts::Halt;
+use editor_parts::{Halt, say_made};
 use group_client::{Node, ask, newest};
 use node_client::{Answer, Question};
 use site_folder::path_in;

@@ -2,7 +2,7 @@
 use crate::asking::{ask, newest};
 use crate::group::Group;
 use crate::node::Node;
-use editor_parts::{Halt, now, passed, say};
+use editor_parts::{Halt, now, passed, say_made};
 use node_client::{Answer, Question};
 use std::alloc::{AllocError, Global};
 use std::io::Write;
@@ -92,11 +92,6 @@ fn are_same(page: Option<&Answer>, other: Option<&Answer>) -> bool {
         (Some(page), Some(other)) => page.status == other.status && page.body == other.body,
         _ => false,
     }
-}
-
-/// Writes a line, where there was memory to make it.
-fn say_made<W: Write>(out: &mut W, line: Result<String, AllocError>) -> Result<(), Halt> {
-    say(out, line?.as_str())
 }
 
 /// Writes that a node is silent.
