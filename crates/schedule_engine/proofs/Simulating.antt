@@ -1,6 +1,6 @@
 -- Steps of the simulator.
 use Rattle.std.proofs.Common.{◌≡◌, ◌==◌, ◌⊎◌, true, false, true≢false, append-nil, String, Global, string_bytes, ℕ, zero, suc, ◌<◌, ◌≤◌, ◌+◌, List, [], ◌∷◌, ◌++◌, length, Some, None, refl, sym, ap, ◌∙◌, subst, arith, append_assoc, Option, Bool, Result, Ok, Err, inl, inr}
-use Rattle.std.specs.Prelude.{IfOk, IfErr, IsErrOf}
+use Rattle.std.specs.Prelude.{IfOk, OnOk, IfErr, IsErrOf, ⊤}
 use Rattle.std.specs.List.{flat_map}
 use Rattle.std.proofs.lemmas.Bool.{ne_eqb}
 use Rattle.std.specs.Io.KnownBytes.{IsAtEnd}
@@ -294,6 +294,28 @@ plan_fault old new p sim.BadEvent r is (inr k) bad = cc
 plan_fault old new p sim.OutOfMemory r is k bad = rw is tt
 plan_fault old new p sim.Read r is (inl k) bad = cc
 plan_fault old new p sim.Read r is (inr k) bad = cc
+
+-- ---- lines that show nothing
+
+pub settle_ends : (old new : Simulation) (d : Result ⊤ SimFault) (r : Result (String Global) SimFault) → IfOk r (λ text. (string_bytes text ≡ []) × (d ≡ Ok tt)) → IfErr r (λ e. d ≡ Err e)
+    → OnOk d (length (messages_of new.world.sent.items) ≤ new.settled)
+    → OnOk d ((n : ℕ) (events : List Event) → IsMoment n (moment_of old events)
+    → (count : ℕ) × (new.settled ≡ old.settled + count) × Takes n (moment_of old events) (deliveries n old.settled count) (moment_of new (events ++ deliveries n old.settled count)))
+    → IfErr d (λ e. (e ≡ sim.BadEvent) ⊎ (e ≡ sim.OutOfMemory)) → (IsErrOf d sim.BadEvent → (n : ℕ) (events : List Event) → ¬ IsMoment n (moment_of old events)) → HappenEnds old new settle_line r
+settle_ends old new d (Ok text) said told all ok faults bad = happened_settle old new text said.0 (rw said.1 at all) (rw said.1 at ok)
+settle_ends old new d (Err e) said told all ok faults bad = settle_fault old new settle_line e (Err e) refl (rw told at faults) (λ is. bad (told ∙ ap Err is))
+
+pub quiet_ends : (old new : Simulation) (p : ℕ) (d : Result ⊤ SimFault) (r : Result (String Global) SimFault) → IfOk r (λ text. (string_bytes text ≡ []) × (d ≡ Ok tt)) → IfErr r (λ e. d ≡ Err e)
+    → OnOk d (IsNode old.world.cluster p × ((n : ℕ) (events : List Event) → IsMoment n (moment_of old events) → (later : List Event) × TakesPlan n (moment_of old events) p (moment_of new later)))
+    → IfErr d (λ e. (e ≡ sim.BadLine) ⊎ (e ≡ sim.OutOfMemory)) → (IsErrOf d sim.BadLine → ¬ IsNode old.world.cluster p) → HappenEnds old new (quiet_line p) r
+quiet_ends old new p d (Ok text) said told ok faults bad = let does = rw said.1 at ok in happened_plan old new p text said.0 does.0 does.1
+quiet_ends old new p d (Err e) said told ok faults bad = plan_fault old new p e (Err e) refl (rw told at faults) (λ is. bad (told ∙ ap Err is))
+
+pub event_ends : (old new : Simulation) (line : Line) (event : Event) (d : Result ⊤ SimFault) (r : Result (String Global) SimFault) → event_of line ≡ Some event → IfOk r (λ text. (string_bytes text ≡ []) × (d ≡ Ok tt)) → IfErr r (λ e. d ≡ Err e)
+    → new.settled ≡ old.settled → OnOk d ((n : ℕ) (events : List Event) → IsMoment n (moment_of old events) → Takes n (moment_of old events) (event ∷ []) (moment_of new (events ++ event ∷ [])))
+    → IfErr d (λ e. (e ≡ sim.BadEvent) ⊎ (e ≡ sim.OutOfMemory)) → (IsErrOf d sim.BadEvent → (w : World) → IsWorldOf old.world w → IsBad old.world.cluster w.sent event) → HappenEnds old new line r
+event_ends old new line event d (Ok text) has said told same ok faults bad = happened_one old new line event text has said.0 same (rw said.1 at ok)
+event_ends old new line event d (Err e) has said told same ok faults bad = take_fault old new line event e (Err e) refl has (rw told at faults) (λ is. bad (told ∙ ap Err is))
 
 -- ---- messages to all nodes
 

@@ -87,6 +87,10 @@ BeginEnds reader old new (Err sim.BadEvent) = ⊥
 BeginEnds reader old new (Err sim.OutOfMemory) = HasTaken reader
 BeginEnds reader old new (Err sim.Read) = HasTaken reader × HasFailed reader
 
+-- what follows an earlier part of a run, as that run's end
+abbrev pub behind : Option (List ℕ) → ℕ → End → End
+behind before failures later = record { before = before; after = later.after; failures = failures; failures_after = later.failures_after }
+
 -- the line that a fault at line k is told by; memory for it may be wanted
 abbrev pub IsSaid : ℕ → SimFault → List ℕ → Type 0
 IsSaid k sim.BadLine said = (said ≡ fault_at k (codes "bad line")) ⊎ (said ≡ codes "out of memory\n")

@@ -34,6 +34,25 @@ message_line (Nack p i b c) = codes "nack" ++ sender_words p i (codes " asked " 
 message_line (Ask p i) = codes "ask" ++ sender_words p i (codes "\n")
 message_line (Chosen p i v) = codes "chosen" ++ sender_words p i (codes " value " ++ (value_words v ++ codes "\n"))
 
+-- the line's first word, and what it tells behind the sender and the instance
+abbrev pub kind_word : Message → List ℕ
+kind_word (Prepare p i b k) = codes "prepare"
+kind_word (Promise p i b prior) = codes "promise"
+kind_word (Propose p i b v) = codes "propose"
+kind_word (Accepted p i b v) = codes "accepted"
+kind_word (Nack p i b c) = codes "nack"
+kind_word (Ask p i) = codes "ask"
+kind_word (Chosen p i v) = codes "chosen"
+
+abbrev pub own_words : Message → List ℕ
+own_words (Prepare p i b k) = codes " count " ++ (decimal k ++ (codes " ballot " ++ ballot_words b (codes "\n")))
+own_words (Promise p i b prior) = codes " ballot " ++ ballot_words b (prior_words prior)
+own_words (Propose p i b v) = codes " ballot " ++ ballot_words b (codes " value " ++ (value_words v ++ codes "\n"))
+own_words (Accepted p i b v) = codes " ballot " ++ ballot_words b (codes " value " ++ (value_words v ++ codes "\n"))
+own_words (Nack p i b c) = codes " asked " ++ ballot_words b (codes " promised " ++ ballot_words c (codes "\n"))
+own_words (Ask p i) = codes "\n"
+own_words (Chosen p i v) = codes " value " ++ (value_words v ++ codes "\n")
+
 -- of a message that may be missing
 abbrev pub line_or_nothing : Option Message → List ℕ
 line_or_nothing None = []

@@ -7,7 +7,7 @@ ghost use Rattle.std.specs.Prelude.{◌≡◌, ◌≢◌, ℕ, List, ◌∷◌, 
 ghost use Rattle.site_ids.specs.Ids.{IsNode, IsInstance};
 ghost use Rattle.engine_parts.specs.Cuts.{Lacks, IsCut};
 ghost use Rattle.site_ids.specs.declared.Ticket.{Ticket as AbstractTicket};
-ghost use Rattle.schedule_engine.specs.Schedule.{Line as AbstractLine, words, submit_words, Fits, IsPath, body, tell_line, arm_line, crash_line, get_line};
+ghost use Rattle.schedule_engine.specs.Schedule.{Line as AbstractLine, words, submit_words, Fits, IsPath, body, tick_line, widen_line, ask_line, tell_line, restart_line, deliver_line, arm_line, crash_line, quiet_line, show_line, get_line};
 ghost use Rattle.engine_parts.specs.Submissions.{joined, FitsSubmission};
 ghost use Rattle.schedule_engine.specs.ScheduleView.{line_view, submission_words, IsFound, IsFoundNodes};
 ghost use Rattle.engine_parts.specs.Submissions.{submission_fits};
@@ -137,10 +137,10 @@ fn getting(head: &[u8]) -> Option<(NodeId, u64, &str)>
     Some((node, release, path))
 }
 
-/// A line that is no submission, without its newline.
-fn plain_line(head: &[u8]) -> Option<Line<'_>>
-    requires { Lacks 10 head.now }
-    ensures { MatchOption result ((line : AbstractLine) → Fits line → body line ≡ [] → head.now ≢ joined (words line))
+/// A line of a word and a node.
+fn node_line(head: &[u8]) -> Option<Line<'_>>
+    ensures { MatchOption result ((p : ℕ) → IsNode 9 p → (head.now ≢ joined (words (tick_line p))) × (head.now ≢ joined (words (widen_line p))) × (head.now ≢ joined (words (ask_line p)))
+        × (head.now ≢ joined (words (restart_line p))) × (head.now ≢ joined (words (quiet_line p))) × (head.now ≢ joined (words (show_line p))))
         (λ l. Fits (line_view l) × (body (line_view l) ≡ []) × (head.now ≡ joined (words (line_view l)))) }
 {
     if let Some(node) = node_after(head, "tick ") {
@@ -158,9 +158,16 @@ fn plain_line(head: &[u8]) -> Option<Line<'_>>
     if let Some(node) = node_after(head, "quiet ") {
         return Some(Line::Quiet { node });
     }
-    if let Some(node) = node_after(head, "show ") {
-        return Some(Line::Show { node });
-    }
+    let node = node_after(head, "show ")?;
+    Some(Line::Show { node })
+}
+
+/// A line of a word, a node and a number.
+fn number_line(head: &[u8]) -> Option<Line<'_>>
+    ensures { MatchOption result (((p index : ℕ) → IsNode 9 p → index < 2 ^ 64 → head.now ≢ joined (words (deliver_line p index))) × ((p first : ℕ) → IsNode 9 p → IsInstance first → head.now ≢ joined (words (tell_line p first)))
+        × ((p calls : ℕ) → IsNode 9 p → calls < 2 ^ 32 → head.now ≢ joined (words (arm_line p calls))) × ((p choice : ℕ) → IsNode 9 p → choice < 2 ^ 8 → head.now ≢ joined (words (crash_line p choice))))
+        (λ l. Fits (line_view l) × (body (line_view l) ≡ []) × (head.now ≡ joined (words (line_view l)))) }
+{
     if let Some((node, index)) = number_at_node(head, "deliver ") {
         return Some(Line::Deliver { node, index });
     }
@@ -170,8 +177,21 @@ fn plain_line(head: &[u8]) -> Option<Line<'_>>
     if let Some((node, calls)) = arming(head) {
         return Some(Line::Arm { node, calls });
     }
-    if let Some((node, choice)) = crashing(head) {
-        return Some(Line::Crash { node, choice });
+    let (node, choice) = crashing(head)?;
+    Some(Line::Crash { node, choice })
+}
+
+/// A line that is no submission, without its newline.
+fn plain_line(head: &[u8]) -> Option<Line<'_>>
+    requires { Lacks 10 head.now }
+    ensures { MatchOption result ((line : AbstractLine) → Fits line → body line ≡ [] → head.now ≢ joined (words line))
+        (λ l. Fits (line_view l) × (body (line_view l) ≡ []) × (head.now ≡ joined (words (line_view l)))) }
+{
+    if let Some(line) = node_line(head) {
+        return Some(line);
+    }
+    if let Some(line) = number_line(head) {
+        return Some(line);
     }
     if let Some((node, release, path)) = getting(head) {
         return Some(Line::Get {

@@ -2,7 +2,7 @@
 //!
 //! A stopped `quiet` is `out of memory`.
 
-ghost use Rattle.std.specs.Prelude.{◌≡◌, ◌⊎◌, ℕ, List, [], ◌∷◌, ◌++◌, ◌<◌, ◌≤◌, ◌+◌, length, IfOk, OnOk, IfErr, IsErrOf, string_bytes, codes};
+ghost use Rattle.std.specs.Prelude.{◌≡◌, ◌⊎◌, ℕ, Option, List, [], ◌∷◌, ◌++◌, ◌<◌, ◌≤◌, ◌+◌, length, IfOk, OnOk, IfErr, IsErrOf, Ok, Err, string_bytes, codes};
 ghost use Rattle.engine_parts.specs.Faults.{fault_at};
 ghost use Rattle.http_read.specs.Bytes.{end_of, IsGiven};
 ghost use Rattle.node.specs.Effects.{messages_of};
@@ -10,7 +10,7 @@ ghost use Rattle.schedule_engine.specs.ScheduleView.{line_view};
 ghost use Rattle.schedule_engine.specs.Simulation.{Moment, IsMoment, Takes, TakesPlan, event_of, to_each, deliveries, state_word, IsShown, got, page_lines, IsPage, IsNoPage};
 ghost use Rattle.release.specs.Standing.{answer_view};
 ghost use Rattle.schedule_engine.specs.SimulationEnds.{IsStart, HasSimulated};
-ghost use Rattle.schedule_engine.specs.Stepping.{sim_fault, moment_of, HappenEnds, FillEnds, NextEnds, BeginEnds, IsSaid};
+ghost use Rattle.schedule_engine.specs.Stepping.{sim_fault, moment_of, HappenEnds, FillEnds, NextEnds, HasBegun, BeginEnds, behind, IsSaid};
 ghost use Rattle.site_ids.specs.Ids.{IsNode};
 ghost use Rattle.world.specs.declared.event.Event.{Event as AbstractEvent};
 ghost use Rattle.world.specs.declared.event.Event.TheVariants.{Deliver};
@@ -143,6 +143,17 @@ fn page_text(alloc: Global, answer: &Answer) -> Result<String, AllocError>
     format!(in alloc; "{status} {len}\n{body}")
 }
 
+/// The answer of a line that prints nothing.
+fn silent(alloc: Global, done: Result<(), SimFault>) -> Result<String, SimFault>
+    ensures ok { IfOk result (λ text. (string_bytes text ≡ []) × (done ≡ Ok tt)) }
+    ensures err { IfErr result (λ e. done ≡ Err e) }
+{
+    match done {
+        Ok(()) => Ok(String::new(alloc)),
+        Err(fault) => Err(fault),
+    }
+}
+
 impl Simulation {
     fn new(alloc: Global, cluster: Cluster) -> Result<Simulation, AllocError>
         ensures { IfOk result (λ s. IsStart cluster (moment_of s [])) }
@@ -247,14 +258,27 @@ impl Simulation {
         if self.world.cluster().size() < number {
             return Err(SimFault::BadLine);
         }
+        let page = self.page_or_none(alloc, node, release, path)?;
+        Ok(got_text(alloc, number, release, path, page.as_str())?)
+    }
+
+    /// The lines of the page that a node answers with, or that there is none.
+    fn page_or_none(
+        &self,
+        alloc: Global,
+        node: NodeId,
+        release: u64,
+        path: &str,
+    ) -> Result<String, AllocError>
+        requires { IsNode self.now.world.cluster node }
+        ensures { IfOk result (λ text. (n : ℕ) (events : List AbstractEvent) → IsMoment n (moment_of self.now events)
+            → IsPage (moment_of self.now events) node release path.now (got node release path.now (string_bytes text)) ⊎ IsNoPage (moment_of self.now events) node release path.now (got node release path.now (string_bytes text))) }
+    {
         match self.world.answer(node, release, path) {
-            Ok(answer) => {
-                let page = page_text(alloc, &answer)?;
-                Ok(got_text(alloc, number, release, path, page.as_str())?)
-            }
-            Err(AskFault::OutOfMemory) => Err(SimFault::OutOfMemory),
-            Err(AskFault::NoSuchRelease) => Ok(got_text(alloc, number, release, path, "none\n")?),
-            Err(AskFault::NotUp) => Ok(got_text(alloc, number, release, path, "none\n")?),
+            Ok(answer) => page_text(alloc, &answer),
+            Err(AskFault::OutOfMemory) => Err(AllocError),
+            Err(AskFault::NoSuchRelease) => format!(in alloc; "none\n"),
+            Err(AskFault::NotUp) => format!(in alloc; "none\n"),
         }
     }
 
@@ -269,20 +293,11 @@ impl Simulation {
                 release,
                 path,
             } => self.got(alloc, *node, *release, path),
-            Line::Settle => {
-                self.settle()?;
-                Ok(String::new(alloc))
-            }
-            Line::Quiet { node } => {
-                self.quiet(*node)?;
-                Ok(String::new(alloc))
-            }
+            Line::Settle => silent(alloc, self.settle()),
+            Line::Quiet { node } => silent(alloc, self.quiet(*node)),
             Line::Trace => Ok(traced(alloc, &self.world)?),
             _ => match event_in(alloc, line)? {
-                Some(event) => {
-                    self.take(event)?;
-                    Ok(String::new(alloc))
-                }
+                Some(event) => silent(alloc, self.take(event)),
                 None => unreachable!(),
             },
         }
@@ -378,22 +393,20 @@ fn say_fault<E: Write>(alloc: Global, err: &mut Counted<E>, k: u64, fault: SimFa
     }
 }
 
-/// Does a schedule line by line, and prints what its lines show.
-pub fn sitesim<R: Read, W: Write, E: Write>(
+/// Does the lines behind the first one, and prints what they show.
+fn run_lines<R: Read, W: Write, E: Write>(
     alloc: Global,
+    simulation: &mut Simulation,
+    feed: &mut Feed,
     reader: &mut Counted<R>,
     out: &mut Counted<W>,
     err: &mut Counted<E>,
 ) -> u8
-    ensures { HasSimulated (end_of R.remaining reader.old reader.new) (end_of W.contents out.old out.new) (end_of E.contents err.old err.new) result }
+    ensures { (before : Option (List ℕ)) (failures : ℕ) → HasBegun (behind before failures (end_of R.remaining reader.old reader.old)) simulation.old [] feed.old
+        → HasSimulated (behind before failures (end_of R.remaining reader.old reader.new)) (end_of W.contents out.old out.new) (end_of E.contents err.old err.new) result }
 {
-    let mut feed = Feed::new(alloc);
-    let mut simulation = match begin(alloc, &mut feed, reader) {
-        Ok(simulation) => simulation,
-        Err(fault) => return say_fault(alloc, err, 1, fault),
-    };
     for k in 2..u64::MAX {
-        match simulation.next(alloc, &mut feed, reader) {
+        match simulation.next(alloc, feed, reader) {
             Ok(None) => return 0,
             Ok(Some(text)) => {
                 if write_all(out, text.as_bytes()).is_err() {
@@ -404,4 +417,24 @@ pub fn sitesim<R: Read, W: Write, E: Write>(
         }
     }
     say(err, "out of memory\n")
+}
+
+/// Does a schedule line by line, and prints what its lines show.
+pub fn sitesim<R: Read, W: Write, E: Write>(
+    alloc: Global,
+    reader: &mut Counted<R>,
+    out: &mut Counted<W>,
+    err: &mut Counted<E>,
+) -> u8
+    ensures { HasSimulated (end_of R.remaining reader.old reader.new) (end_of W.contents out.old out.new) (end_of E.contents err.old err.new) result }
+{
+    let mut feed = Feed::new(alloc);
+    match begin(alloc, &mut feed, reader) {
+        Ok(mut simulation) => {
+            let status = run_lines(alloc, &mut simulation, &mut feed, reader, out, err);
+            drop(simulation);
+            status
+        }
+        Err(fault) => say_fault(alloc, err, 1, fault),
+    }
 }

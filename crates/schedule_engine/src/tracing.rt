@@ -1,13 +1,13 @@
 //! What `trace` prints.
-ghost use Rattle.std.specs.Prelude.{◌≡◌, ◌++◌, ◌≤◌, IfOk, codes, length, slice_get, string_bytes};
+ghost use Rattle.std.specs.Prelude.{◌≡◌, ◌++◌, ◌≤◌, IfOk, codes, decimal, length, slice_get, string_bytes};
 ghost use Rattle.std.specs.List.{flat_map};
 ghost use Rattle.site_ids.specs.declared.TheConstants.{TICKET_BYTES};
 ghost use Rattle.command.specs.Reading.{ticket_of};
 ghost use Rattle.node.specs.Effects.{messages_of};
-ghost use Rattle.schedule_engine.specs.Tracing.{ballot_words, value_words, prior_words, sender_words, message_line, line_or_nothing};
+ghost use Rattle.schedule_engine.specs.Tracing.{ballot_words, value_words, prior_words, kind_word, own_words, message_line, line_or_nothing};
 
 use byteorder::{BigEndian, ByteOrder};
-use site_ids::{Ballot, Instance, NodeId, TICKET_BYTES, Ticket, Value, Vote};
+use site_ids::{Ballot, TICKET_BYTES, Ticket, Value, Vote};
 use std::alloc::{AllocError, Global};
 use wire::Message;
 use world::World;
@@ -22,98 +22,118 @@ fn ticket(value: &[u8]) -> Ticket
     }
 }
 
+/// The value's ticket, to the line's end.
 fn value_words(alloc: Global, value: &Value) -> Result<String, AllocError>
-    ensures { IfOk result (λ text. string_bytes text ≡ value_words value.now) }
+    ensures { IfOk result (λ text. string_bytes text ≡ codes " value " ++ (value_words value.now ++ codes "\n")) }
 {
     let bytes = value.as_bytes();
     if TICKET_BYTES <= bytes.len() {
         let Ticket { editor, number } = ticket(bytes);
-        return format!(in alloc; "{editor} {number}");
+        return format!(in alloc; " value {editor} {number}\n");
     }
-    format!(in alloc; "none")
+    format!(in alloc; " value none\n")
+}
+
+/// A ballot between what comes before it and what follows.
+fn ballot_words(
+    alloc: Global,
+    before: &str,
+    ballot: Ballot,
+    rest: &str,
+) -> Result<String, AllocError>
+    ensures { IfOk result (λ text. string_bytes text ≡ before.now ++ ballot_words ballot rest.now) }
+{
+    let (round, node) = (ballot.round(), ballot.node().number());
+    format!(in alloc; "{before}{round} {node}{rest}")
+}
+
+/// The ballot and the value of a proposal, or of a vote.
+fn vote_words(
+    alloc: Global,
+    before: &str,
+    ballot: Ballot,
+    value: &Value,
+) -> Result<String, AllocError>
+    ensures { IfOk result (λ text. string_bytes text ≡ before.now ++ ballot_words ballot (codes " value " ++ (value_words value.now ++ codes "\n"))) }
+{
+    let value = value_words(alloc, value)?;
+    ballot_words(alloc, before, ballot, value.as_str())
 }
 
 fn prior_words(alloc: Global, prior: &Option<Vote>) -> Result<String, AllocError>
     ensures { IfOk result (λ text. string_bytes text ≡ prior_words prior.now) }
 {
-    let Some(vote) = prior else {
-        return format!(in alloc; " prior none\n");
-    };
-    let (round, node) = (vote.ballot.round(), vote.ballot.node().number());
-    let value = value_words(alloc, &vote.value)?;
-    format!(in alloc; " prior {round} {node} value {value}\n")
+    match prior {
+        Some(vote) => vote_words(alloc, " prior ", vote.ballot, &vote.value),
+        None => format!(in alloc; " prior none\n"),
+    }
 }
 
-/// The line of a proposal, or of a vote.
-fn voted_line(
-    alloc: Global,
-    kind: &str,
-    from: NodeId,
-    instance: Instance,
-    ballot: Ballot,
-    value: &Value,
-) -> Result<String, AllocError>
-    ensures { IfOk result (λ text. string_bytes text ≡ kind.now ++ sender_words from instance (codes " ballot " ++ ballot_words ballot (codes " value " ++ (value_words value.now ++ codes "\n")))) }
+fn prepare_words(alloc: Global, ballot: Ballot, count: u8) -> Result<String, AllocError>
+    ensures { IfOk result (λ text. string_bytes text ≡ codes " count " ++ (decimal count ++ (codes " ballot " ++ ballot_words ballot (codes "\n")))) }
 {
-    let (from, instance) = (from.number(), instance.number());
     let (round, node) = (ballot.round(), ballot.node().number());
-    let value = value_words(alloc, value)?;
-    format!(in alloc;
-        "{kind} from {from} instance {instance} ballot {round} {node} value {value}\n"
-    )
+    format!(in alloc; " count {count} ballot {round} {node}\n")
 }
 
-/// The ballot that a refusal tells of.
-fn promised_words(alloc: Global, promised: Ballot) -> Result<String, AllocError>
-    ensures { IfOk result (λ text. string_bytes text ≡ codes " promised " ++ ballot_words promised (codes "\n")) }
+fn promise_words(alloc: Global, ballot: Ballot, prior: &Option<Vote>) -> Result<String, AllocError>
+    ensures { IfOk result (λ text. string_bytes text ≡ codes " ballot " ++ ballot_words ballot (prior_words prior.now)) }
 {
-    let (round, node) = (promised.round(), promised.node().number());
-    format!(in alloc; " promised {round} {node}\n")
+    let prior = prior_words(alloc, prior)?;
+    ballot_words(alloc, " ballot ", ballot, prior.as_str())
+}
+
+/// The ballot that was asked for, and the one that stands against it.
+fn nack_words(alloc: Global, asked: Ballot, promised: Ballot) -> Result<String, AllocError>
+    ensures { IfOk result (λ text. string_bytes text ≡ codes " asked " ++ ballot_words asked (codes " promised " ++ ballot_words promised (codes "\n"))) }
+{
+    let promised = ballot_words(alloc, " promised ", promised, "\n")?;
+    ballot_words(alloc, " asked ", asked, promised.as_str())
+}
+
+fn kind_word(message: &Message) -> &'static str
+    ensures { result.now ≡ kind_word message.now }
+{
+    match message {
+        Message::Prepare { .. } => "prepare",
+        Message::Promise { .. } => "promise",
+        Message::Propose { .. } => "propose",
+        Message::Accepted { .. } => "accepted",
+        Message::Nack { .. } => "nack",
+        Message::Ask { .. } => "ask",
+        Message::Chosen { .. } => "chosen",
+    }
+}
+
+/// What the message's line tells behind its sender and instance.
+fn own_words(alloc: Global, message: &Message) -> Result<String, AllocError>
+    ensures { IfOk result (λ text. string_bytes text ≡ own_words message.now) }
+{
+    match message {
+        Message::Prepare { ballot, count, .. } => prepare_words(alloc, *ballot, *count),
+        Message::Promise { ballot, prior, .. } => promise_words(alloc, *ballot, prior),
+        Message::Propose { ballot, value, .. } | Message::Accepted { ballot, value, .. } =>
+            vote_words(alloc, " ballot ", *ballot, value),
+        Message::Nack {
+            asked,
+            promised,
+            ..
+        } => nack_words(alloc, *asked, *promised),
+        Message::Ask { .. } => format!(in alloc; "\n"),
+        Message::Chosen { value, .. } => value_words(alloc, value),
+    }
 }
 
 fn message_line(alloc: Global, message: &Message) -> Result<String, AllocError>
     ensures { IfOk result (λ text. string_bytes text ≡ message_line message.now) }
 {
-    let (sender, at) = (message.from().number(), message.instance().number());
-    match message {
-        Message::Prepare { ballot, count, .. } => {
-            let (round, node, count) = (ballot.round(), ballot.node().number(), *count);
-            format!(in alloc;
-                "prepare from {sender} instance {at} count {count} ballot {round} {node}\n"
-            )
-        }
-        Message::Promise { ballot, prior, .. } => {
-            let (round, node) = (ballot.round(), ballot.node().number());
-            let prior = prior_words(alloc, prior)?;
-            format!(in alloc; "promise from {sender} instance {at} ballot {round} {node}{prior}")
-        }
-        Message::Propose {
-            from,
-            instance,
-            ballot,
-            value,
-        } => voted_line(alloc, "propose", *from, *instance, *ballot, value),
-        Message::Accepted {
-            from,
-            instance,
-            ballot,
-            value,
-        } => voted_line(alloc, "accepted", *from, *instance, *ballot, value),
-        Message::Nack {
-            asked,
-            promised,
-            ..
-        } => {
-            let (round, node) = (asked.round(), asked.node().number());
-            let promised = promised_words(alloc, *promised)?;
-            format!(in alloc; "nack from {sender} instance {at} asked {round} {node}{promised}")
-        }
-        Message::Ask { .. } => format!(in alloc; "ask from {sender} instance {at}\n"),
-        Message::Chosen { value, .. } => {
-            let value = value_words(alloc, value)?;
-            format!(in alloc; "chosen from {sender} instance {at} value {value}\n")
-        }
-    }
+    let (kind, sender, at) = (
+        kind_word(message),
+        message.from().number(),
+        message.instance().number(),
+    );
+    let rest = own_words(alloc, message)?;
+    format!(in alloc; "{kind} from {sender} instance {at}{rest}")
 }
 
 /// The line of the message at an index, and nothing past the last.

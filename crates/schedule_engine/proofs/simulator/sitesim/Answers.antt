@@ -1,36 +1,7 @@
-use Rattle.std.proofs.Common.{refl, sym, subst, ◌∙◌}
-use Rattle.http_read.specs.Bytes.{end_of, IsSilent, IsGiven}
-use Rattle.schedule_engine.proofs.Simulated.{so_far_first, so_far_more, stepped, at_the_end, finished, stopped, endless, broken}
-use Rattle.engine_parts.proofs.Fed.{on_err, on_ok, silent}
+use Rattle.std.proofs.Common.{subst}
+use Rattle.http_read.specs.Bytes.{end_of}
+use Rattle.schedule_engine.specs.Stepping.{HasBegun}
 use Rattle.schedule_engine.proofs.simulator.sitesim.Goals as goal
 
-pub loop-k-init : goal.loop-k-init
-loop-k-init g c = (so_far_first _ _ _ _ _ _ c.in-Ok.simulation _ c.begin.new.feed c.new-feed.ensures c.in-Ok.ensures, refl)
-
-pub loop-k-preserved : goal.loop-k-preserved
-loop-k-preserved g c = (
-  so_far_more _ _ _ _ _ _ _ _ _ _ _ _ c.loop-k.k _ c.loop-k.simulation c.next.new.self c.loop-k.feed c.next.new.feed _ _ refl c.as_bytes.ensures.value c.loop-k.invariant.0
-      (stepped _ _ _ _ _ _ c.in-Ok-Some.text c.in-Ok-Some.field-0-is c.in-Ok-Some.ensures) (on_ok c.write_all.result _ c.write_all.ensures.ok (sym c.is_err.ensures.value ∙ c.if-is_err.false)),
-  c.loop-k.invariant.1,
-)
-
-pub returns-in-Ok-None : goal.returns-in-Ok-None
-returns-in-Ok-None g c =
-    let e = at_the_end _ _ _ _ _ _ c.in-Ok-None.field-0-is c.in-Ok-None.ensures in
-    finished _ _ _ _ _ _ _ _ c.loop-k.k c.loop-k.simulation c.next.new.self c.loop-k.feed c.loop-k.invariant.0 e.0 e.1 e.2 (subst (λ x. IsSilent (end_of g.E.Write.contents c.args.err.now x)) (sym c.loop-k.invariant.1) (silent _ _))
-
-pub returns-then-is_err : goal.returns-then-is_err
-returns-then-is_err g c =
-    broken _ _ _ _ _ _ _ _ _ _ _ _ _ c.loop-k.k _ c.loop-k.simulation c.next.new.self c.loop-k.feed c.next.new.feed _ _ c.as_bytes.ensures.value c.loop-k.invariant.0
-    (stepped _ _ _ _ _ _ c.in-Ok-Some.text c.in-Ok-Some.field-0-is c.in-Ok-Some.ensures) (on_err c.write_all.result _ c.write_all.ensures.err (sym c.is_err.ensures.value ∙ c.if-is_err.true))
-    (subst (λ x. IsGiven (end_of g.E.Write.contents x c.say.new.err) _) c.loop-k.invariant.1 c.say.ensures.said) c.say.ensures.status
-
-pub returns-in-Err-next : goal.returns-in-Err-next
-returns-in-Err-next g c =
-    let s = c.say_fault-in-Err-next.ensures.said in
-    stopped _ _ _ _ _ _ _ _ c.loop-k.k _ c.loop-k.simulation c.next.new.self c.loop-k.feed c.next.new.feed s.0 c.in-Err-next.fault c.loop-k.invariant.0 c.in-Err-next.ensures s.1
-    (subst (λ x. IsGiven (end_of g.E.Write.contents x c.say_fault-in-Err-next.new.err) s.0) c.loop-k.invariant.1 s.2) c.say_fault-in-Err-next.ensures.status
-
-pub returns : goal.returns
-returns g c =
-    endless _ _ _ _ _ _ c.loop-k.k _ c.loop-k.simulation c.loop-k.feed c.loop-k.invariant.0 (subst (λ x. IsGiven (end_of g.E.Write.contents x c.say-2.new.err) _) c.loop-k.invariant.1 c.say-2.ensures.said) c.say-2.ensures.status
+pub returns-in-Ok : goal.returns-in-Ok
+returns-in-Ok g c = c.run_lines-status.ensures _ _ (subst (λ held. HasBegun (end_of g.R.Read.remaining c.args.reader.now c.begin.new.reader) c.in-Ok.simulation held c.begin.new.feed) c.new-feed.ensures c.in-Ok.ensures)
