@@ -7,6 +7,7 @@ use folder_words::{begin, check, export, tell_log};
 use group_client::tell_status;
 use site_preview::preview;
 use std::env;
+use std::fmt::Display;
 use std::io::{self, Write};
 use std::net::{Net, TcpListener, TcpStream};
 use std::random::RandomSource;
@@ -15,8 +16,17 @@ use std::rt::{Clock, Env, Files};
 /// What a command line is refused with that is no UTF-8.
 const NOT_UTF8: &str = "error: invalid UTF-8 was detected in one or more arguments";
 
+/// What is told where memory is refused.
+const OUT_OF_MEMORY: &str = "out of memory";
+
 /// What `--version` prints: the heading of `docs/CHANGES.md` that this is of.
 const VERSION: &str = "sitepub 1.0";
+
+/// Writes a line, where that can be written, and gives the exit status that goes with it.
+fn tell<W: Write, L: Display>(out: &mut W, line: &L, status: u8) -> u8 {
+    let _ = writeln!(out, "{line}");
+    status
+}
 
 /// Does what a word says.
 fn done<
@@ -30,17 +40,17 @@ fn done<
     W: Write,
     E: Write,
 >(rt: &R, out: &mut W, err: &mut E, word: &Word<'_>) -> Result<u8, Halt> {
-    match word {
+    match *word {
         Word::New { folder } => begin(rt, out, err, folder),
-        Word::Check { folder, ignore } => check(rt, out, err, folder, *ignore),
+        Word::Check { folder, ignore } => check(rt, out, err, folder, ignore),
         Word::Export {
             folder,
             out: to,
             ignore,
-        } => export(rt, err, folder, to, *ignore),
+        } => export(rt, err, folder, to, ignore),
         Word::Publish {
             folder,
-            urls,
+            ref urls,
             editor,
             patience,
             dry_run,
@@ -51,20 +61,20 @@ fn done<
             err,
             Publishing {
                 folder,
-                urls: urls.as_slice(),
-                editor: *editor,
-                patience: *patience,
-                dry_run: *dry_run,
-                ignore: *ignore,
+                urls,
+                editor,
+                patience,
+                dry_run,
+                ignore,
             },
         ),
         Word::Preview {
             folder,
             http,
             ignore,
-        } => preview(rt, out, folder, http, *ignore),
+        } => preview(rt, out, folder, http, ignore),
         Word::Log { folder } => tell_log(rt, out, err, folder),
-        Word::Status { urls } => tell_status(rt, out, urls.as_slice()),
+        Word::Status { ref urls } => tell_status(rt, out, urls),
     }
 }
 
@@ -82,10 +92,7 @@ fn end_of<
 >(rt: &R, out: &mut W, err: &mut E, word: &Word<'_>) -> u8 {
     match done(rt, out, err, word) {
         Ok(status) => status,
-        Err(why) => {
-            let _ = writeln!(err, "{why}");
-            1
-        }
+        Err(why) => tell(err, &why, 1),
     }
 }
 
@@ -97,30 +104,20 @@ fn words_of<R: Env + AllocGlobal>(rt: &R) -> io::Result<Vec<String>> {
 /// Tells why there are no words, and gives the exit status.
 fn tell_no_words<E: Write>(err: &mut E, why: &io::Error) -> u8 {
     if why.kind() == io::ErrorKind::OutOfMemory {
-        let _ = writeln!(err, "out of memory");
-        return 1;
+        return tell(err, &OUT_OF_MEMORY, 1);
     }
-    let _ = writeln!(err, "{NOT_UTF8}");
-    2
+    tell(err, &NOT_UTF8, 2)
 }
 
 /// Tells why a command line is no word, help among it, and gives the exit status.
 fn tell_refusal<W: Write, E: Write>(out: &mut W, err: &mut E, refused: &clap::Error) -> u8 {
     if refused.kind() == ErrorKind::OutOfMemory {
-        let _ = writeln!(err, "out of memory");
-        return 1;
+        return tell(err, &OUT_OF_MEMORY, 1);
     }
     if refused.use_stderr() {
-        let _ = writeln!(err, "{refused}");
-        return 2;
+        return tell(err, refused, 2);
     }
-    let _ = writeln!(out, "{refused}");
-    0
-}
-
-fn tell_version<W: Write>(out: &mut W) -> u8 {
-    let _ = writeln!(out, "{VERSION}");
-    0
+    tell(out, refused, 0)
 }
 
 fn asks_version(words: &[String]) -> bool {
@@ -140,7 +137,7 @@ fn by_words<
     E: Write,
 >(rt: &R, out: &mut W, err: &mut E, words: &[String]) -> u8 {
     if asks_version(words) {
-        return tell_version(out);
+        return tell(out, &VERSION, 0);
     }
     match word_in(rt.alloc(), words) {
         Ok(Some(word)) => end_of(rt, out, err, &word),
