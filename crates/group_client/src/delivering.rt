@@ -2,7 +2,8 @@
 use crate::asking::ask;
 use crate::group::Group;
 use crate::node::Node;
-use editor_parts::{Halt, now, passed, rest, say};
+use crate::stop::stop;
+use editor_parts::{Halt, now, passed, rest, say_made};
 use node_client::{Answer, Question};
 use site_ids::Ticket;
 use site_ledger::Ledger;
@@ -76,7 +77,7 @@ fn hear(
     answer: &Answer,
 ) -> Result<(), Halt> {
     match flight.hear(ledger, ask, answer.status)? {
-        Heard::Refused => Err(Halt::Stop(refusal(alloc, url, ledger, ask, answer)?)),
+        Heard::Refused => Err(stop(refusal(alloc, url, ledger, ask, answer))),
         _ => Ok(()),
     }
 }
@@ -122,8 +123,7 @@ fn tell<E: Write>(
     if has / TELLING == had / TELLING {
         return Ok(());
     }
-    let line = format!(in alloc; "{has} of {all} commands")?;
-    say(err, line.as_str())
+    say_made(err, format!(in alloc; "{has} of {all} commands"))
 }
 
 /// One connection to the node that is spoken to, and what came of it.
@@ -132,12 +132,12 @@ fn bring<N: Net<Stream = TcpStream>, E: Write>(
     alloc: Global,
     err: &mut E,
     flight: &mut Flight,
-    node: &Node,
+    group: &Group,
     ledger: &mut Ledger,
     all: usize,
 ) -> Result<Came, Halt> {
     let before = ledger.sent().len();
-    let answered = exchange(net, alloc, flight, node, ledger)?;
+    let answered = exchange(net, alloc, flight, group.node()?, ledger)?;
     let after = ledger.sent().len();
     tell(alloc, err, all, before, after)?;
     Ok(match (answered, after < before) {
@@ -155,10 +155,11 @@ fn turn<C: Clock>(clock: &C, alloc: Global, flight: &mut Flight, group: &mut Gro
     }
 }
 
-fn too_slow(alloc: Global, patience: u64) -> Result<Halt, AllocError> {
-    Ok(Halt::Stop(format!(in alloc;
+/// Why nothing is sent any longer.
+fn too_slow(alloc: Global, patience: u64) -> Halt {
+    stop(format!(in alloc;
         "no progress in {patience} seconds: is a majority of the nodes running? Run it again, and it goes on"
-    )?))
+    ))
 }
 
 /// Sends, as the pace says, until nothing is on its way.
@@ -177,11 +178,11 @@ fn deliver_at<R: Net<Stream = TcpStream> + Clock + AllocGlobal, E: Write>(
         if ledger.is_idle() {
             return Ok(());
         }
-        let came = bring(rt, rt.alloc(), err, flight, group.node()?, ledger, all)?;
+        let came = bring(rt, rt.alloc(), err, flight, group, ledger, all)?;
         match pace.step(came, passed(rt, since)?, patience) {
             Step::Again(millis) => rest(rt, millis),
             Step::Next => turn(rt, rt.alloc(), flight, group),
-            Step::GiveUp => return Err(too_slow(rt.alloc(), patience)?),
+            Step::GiveUp => return Err(too_slow(rt.alloc(), patience)),
         }
     }
     Err(Halt::Clock)

@@ -1,5 +1,6 @@
 //! The nodes that are asked, and the one that is spoken to.
 use crate::node::{Node, node_in};
+use crate::stop::stop;
 use editor_parts::Halt;
 use std::alloc::Global;
 
@@ -14,9 +15,9 @@ pub struct Group {
 fn push_node(alloc: Global, nodes: &mut Vec<Node>, url: &str) -> Result<(), Halt> {
     match node_in(alloc, url)? {
         Some(node) => Ok(nodes.push(node)?),
-        None => Err(Halt::Stop(format!(in alloc;
+        None => Err(stop(format!(in alloc;
             "{url}: is no address of a node, as http://127.0.0.1:8001"
-        )?)),
+        ))),
     }
 }
 

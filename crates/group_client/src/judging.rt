@@ -2,7 +2,8 @@
 use crate::asking::{ask, unreached};
 use crate::group::Group;
 use crate::node::Node;
-use editor_parts::{Halt, now, passed, rest, say};
+use crate::stop::stop;
+use editor_parts::{Halt, now, passed, rest, say, say_made};
 use node_client::{Answer, Question};
 use site_ids::Ticket;
 use site_ledger::Ledger;
@@ -129,10 +130,10 @@ fn tell_silent<N: Net<Stream = TcpStream>, E: Write>(
 ) -> Result<(), Halt> {
     let url = node.url.as_str();
     let line = match unreached(net, node) {
-        Some(fault) => format!(in alloc; "{url}: {fault}")?,
-        None => format!(in alloc; "{url}: is no node, or too busy to answer")?,
+        Some(fault) => format!(in alloc; "{url}: {fault}"),
+        None => format!(in alloc; "{url}: is no node, or too busy to answer"),
     };
-    say(err, line.as_str())
+    say_made(err, line)
 }
 
 /// Tells why none of the nodes answers, where none does.
@@ -211,6 +212,6 @@ pub fn confirm<R: Net<Stream = TcpStream> + Clock + AllocGlobal, E: Write>(
     let claim = claim_of(ledger);
     match settled(rt, err, group, claim, patience)? {
         Standing::Newest => Ok(()),
-        found => Err(Halt::Stop(reason(rt.alloc(), folder, claim, found)?)),
+        found => Err(stop(reason(rt.alloc(), folder, claim, found))),
     }
 }

@@ -12,6 +12,7 @@ mod group;
 mod judging;
 mod node;
 mod status;
+mod stop;
 
 pub use asking::{ask, newest};
 pub use delivering::deliver;
