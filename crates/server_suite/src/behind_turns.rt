@@ -1,24 +1,24 @@
 //! What a server calls behind the turns of a batch.
-use site_drive::LastCall;
+use crate::comparing::same;
+use crate::written_clock::{Call, called};
 use site_ids::{Cluster, Instance, NodeId};
 use site_pace::Due;
-use std::process::Abort;
 
-/// What stands (fresh, a telling, a question, a tick, whether it yields), and what is called: the first of them that applies; a telling where none is given.
-const CALLS: [(bool, bool, bool, bool, bool, Option<LastCall>); 13] = [
-    (false, false, false, false, false, Some(LastCall::Widen)),
-    (false, false, false, true, false, Some(LastCall::TickOrAsk)),
-    (false, false, true, false, false, Some(LastCall::Ask)),
-    (false, false, true, true, false, Some(LastCall::Ask)),
-    (false, true, false, false, false, None),
-    (false, true, true, true, false, None),
-    (true, false, false, false, false, Some(LastCall::TickOrAsk)),
-    (true, false, true, true, false, Some(LastCall::TickOrAsk)),
-    (true, true, true, true, false, Some(LastCall::TickOrAsk)),
-    (false, false, false, false, true, Some(LastCall::Nothing)),
-    (false, false, false, true, true, Some(LastCall::TickOrAsk)),
-    (false, false, true, false, true, Some(LastCall::Ask)),
-    (false, true, false, false, true, None),
+/// What stands (fresh, a telling, a question, a tick, whether it yields), and what is called: the first of them that applies.
+const CALLS: &[(bool, bool, bool, bool, bool, Call)] = &[
+    (false, false, false, false, false, Call::Widen),
+    (false, false, false, true, false, Call::Tick),
+    (false, false, true, false, false, Call::Ask),
+    (false, false, true, true, false, Call::Ask),
+    (false, true, false, false, false, Call::Tell(2, 7)),
+    (false, true, true, true, false, Call::Tell(2, 7)),
+    (true, false, false, false, false, Call::Tick),
+    (true, false, true, true, false, Call::Tick),
+    (true, true, true, true, false, Call::Tick),
+    (false, false, false, false, true, Call::Nothing),
+    (false, false, false, true, true, Call::Tick),
+    (false, false, true, false, true, Call::Ask),
+    (false, true, false, false, true, Call::Tell(2, 7)),
 ];
 
 /// Node 2, and instance 7.
@@ -28,20 +28,17 @@ fn told() -> Option<(NodeId, Instance)> {
 
 #[test]
 fn one_call_is_due_behind_a_batch(rt: HostRuntime) {
-    let (to, first_told) = told().expect(&rt, "a node and an instance");
-    for (fresh, telling, question, tick, yields, call) in CALLS {
+    let (to, first) = told().expect(&rt, "a node and an instance");
+    for &(fresh, telling, question, tick, yields, call) in CALLS {
         let due = Due {
             fresh,
-            telling: telling.then_some((to, first_told)),
+            telling: telling.then_some((to, first)),
             question,
             tick,
             waits: yields,
             yields,
         };
-        let tell = LastCall::Tell {
-            to,
-            first: first_told,
-        };
-        assert_eq!(rt; due.last_call(), call.unwrap_or(tell), "{due:?}");
+        let row = (fresh, telling, question, tick, yields);
+        same(&rt, (row, called(&due.last_call())), (row, call));
     }
 }

@@ -26,6 +26,12 @@ impl Client {
         self.sent == 0 && self.got.is_empty()
     }
 
+    /// Whether what it got begins so and ends so.
+    pub(crate) fn got_from_to(&self, front: &[u8], end: &[u8]) -> bool {
+        let got = self.got();
+        got.starts_with(front) && got.ends_with(end)
+    }
+
     /// All that it got.
     pub(crate) fn got(&self) -> &[u8] {
         self.got.as_slice()

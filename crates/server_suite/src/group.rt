@@ -10,7 +10,7 @@ use site_drive::{Desk, Letter};
 use site_ids::{Cluster, NodeId};
 use site_pace::Times;
 use site_packets::Packet;
-use site_serve::{Served, Server, pack};
+use site_serve::{Halt, Mail, Seats, Served, Server, pack};
 use std::alloc::Global;
 use std::process::Abort;
 
@@ -65,6 +65,33 @@ pub(crate) fn reopened(
     served(alloc, cluster, me, disk)
 }
 
+/// A pass of a server: it hears its clients, takes a step, and tells them.
+pub(crate) fn turn(server: &mut Boxed, now: u64) -> Result<(), Halt> {
+    server.seats.hear(now)?;
+    server.step(now)?;
+    server.seats.tell(now);
+    Ok(())
+}
+
+/// A piece more.
+fn push_piece(rt: &impl Abort, alloc: Global, pieces: &mut Vec<Vec<u8>>, bytes: &[u8]) {
+    let piece = Vec::from_slice(alloc, bytes).expect(rt, "memory");
+    pieces.push(piece).expect(rt, "memory");
+}
+
+/// Whether a client that comes is seated.
+pub(crate) fn is_seated(
+    rt: &impl Abort,
+    seats: &mut Seats<Client>,
+    client: Client,
+    now: u64,
+) -> bool {
+    let gone = seats.admit(client, now).expect(rt, "memory");
+    let is = gone.is_none();
+    drop(gone);
+    is
+}
+
 /// The pieces in which these letters go to a node.
 fn packed(rt: &impl Abort, alloc: Global, letters: &[Letter], to: NodeId) -> Vec<Vec<u8>> {
     let mut packet = Packet::new(alloc).expect(rt, "memory");
@@ -73,14 +100,26 @@ fn packed(rt: &impl Abort, alloc: Global, letters: &[Letter], to: NodeId) -> Vec
     for _ in 0..letters.len() {
         let n = pack(rest, to, &mut packet).expect(rt, "memory");
         if !packet.is_empty() {
-            let piece = Vec::from_slice(alloc, packet.bytes());
-            pieces.push(piece.expect(rt, "memory")).expect(rt, "memory");
+            push_piece(rt, alloc, &mut pieces, packet.bytes());
         }
         let (_, behind) = rest.split_at(n);
         rest = behind;
     }
-    assert!(rt; rest.is_empty());
+    ensure(rt, rest.is_empty(), letters.len());
     pieces
+}
+
+/// Node so and so of so many.
+pub(crate) fn node_of(rt: &impl Abort, size: u8, number: u8) -> NodeId {
+    let cluster = Cluster::new(size).expect(rt, "a cluster");
+    cluster.node(number).expect(rt, "a node")
+}
+
+/// These pieces wait at a server.
+fn take_in(rt: &impl Abort, mail: &mut Mail, pieces: &[Vec<u8>]) {
+    for piece in pieces {
+        mail.take_in(piece.as_slice()).expect(rt, "memory");
+    }
 }
 
 impl Group {
@@ -116,28 +155,21 @@ impl Group {
         let client = Client::new(self.alloc, sends, piece).expect(rt, "memory");
         let now = self.now;
         let seats = &mut self.server(rt, number).seats;
-        assert!(rt; seats.admit(client, now).expect(rt, "memory").is_none());
+        ensure(rt, is_seated(rt, seats, client, now), number);
     }
 
     /// What the letters of one server have for another one.
     fn carry(&mut self, rt: &impl Abort, from: u8, to: u8) {
         let alloc = self.alloc;
-        let cluster = Cluster::new(self.size()).expect(rt, "a cluster");
-        let node = cluster.node(to).expect(rt, "a node");
+        let node = node_of(rt, self.size(), to);
         let pieces = packed(rt, alloc, self.server(rt, from).mail.letters(), node);
-        let mail = &mut self.server(rt, to).mail;
-        for piece in &pieces {
-            mail.take_in(piece.as_slice()).expect(rt, "memory");
-        }
+        take_in(rt, &mut self.server(rt, to).mail, pieces.as_slice());
     }
 
     /// A pass of one server, whose letters reach each other one but for that number; 0 is nobody.
     fn pass(&mut self, rt: &impl Abort, number: u8, away: u8) {
         let now = self.now;
-        let server = self.server(rt, number);
-        let _ = server.seats.hear(now).expect(rt, "memory");
-        assert!(rt; server.step(now).is_ok());
-        let _ = server.seats.tell(now);
+        ensure(rt, turn(self.server(rt, number), now).is_ok(), number);
         for to in 1..=self.size() {
             if to != number && to != away {
                 self.carry(rt, number, to);
@@ -173,10 +205,9 @@ impl Group {
     pub(crate) fn got(&mut self, rt: &impl Abort, number: u8, count: u8, front: &[u8], end: &[u8]) {
         for _ in 0..count {
             let client = self.leaves(rt, number).expect(rt, "a client");
-            let got = client.got();
-            ensure(rt, got.starts_with(front) && got.ends_with(end), number);
+            ensure(rt, client.got_from_to(front, end), number);
         }
-        assert!(rt; self.leaves(rt, number).is_none());
+        ensure(rt, self.leaves(rt, number).is_none(), number);
     }
 
     /// Each server is ended at once, and opened over what a crash by that choice leaves of its disk.

@@ -1,8 +1,8 @@
 //! What a server says of itself, and when.
 use crate::comparing::{ensure, same};
 use site_ids::Cluster;
-use site_notes::Notes;
-use std::alloc::{AllocError, Global};
+use site_notes::{Note, Notes};
+use std::alloc::Global;
 use std::process::Abort;
 
 /// The moment of a pass, in milliseconds; how many values are known; whose datagrams came; how many of them were no message, how many connections were closed for
@@ -114,18 +114,21 @@ const OF_ONE: &[Pass] = &[
     (100000, 1, NOBODY, FINE, &[]),
 ];
 
+/// A note reads so.
+fn reads(rt: &impl Abort, alloc: Global, note: Note, line: &str) {
+    let text = format!(in alloc; "{note}").expect(rt, "memory");
+    same(rt, text.as_str(), line);
+}
+
 /// A pass, and what is said behind it.
-fn pass(rt: &impl Abort, alloc: Global, notes: &mut Notes, pass: Pass) -> Result<(), AllocError> {
+fn pass(rt: &impl Abort, alloc: Global, notes: &mut Notes, pass: Pass) {
     let (now, known, heard, (malformed, displaced, full), lines) = pass;
     notes.hear(now, known, heard);
     notes.count(malformed, displaced, full);
     for &line in lines {
-        let note = notes.next(now, known).expect(rt, line);
-        let text = format!(in alloc; "{note}")?;
-        same(rt, text.as_str(), line);
+        reads(rt, alloc, notes.next(now, known).expect(rt, line), line);
     }
     ensure(rt, notes.next(now, known).is_none(), now);
-    Ok(())
 }
 
 fn passes(rt: &impl Abort, alloc: Global, size: u8, votes: u32, all: &[Pass]) {
@@ -133,7 +136,7 @@ fn passes(rt: &impl Abort, alloc: Global, size: u8, votes: u32, all: &[Pass]) {
     let me = cluster.node(1).expect(rt, "a node");
     let mut notes = Notes::new(cluster, me, votes);
     for &one in all {
-        pass(rt, alloc, &mut notes, one).expect(rt, "memory");
+        pass(rt, alloc, &mut notes, one);
     }
 }
 

@@ -245,8 +245,8 @@ fn a_step_rests_where_nothing_came(rt: HostRuntime) {
             empty,
         };
         let rest = resting.is_due().then_some(TIMES.rest_after(empty));
-        same(&rt, (resting, rest), (resting, micros));
-        same(&rt, (resting, resting.empty_after()), (resting, then));
+        let is = (rest, resting.empty_after());
+        same(&rt, (resting, is), (resting, (micros, then)));
     }
 }
 

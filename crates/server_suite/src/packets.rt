@@ -1,9 +1,9 @@
 //! Packets as tables: what is sent of datagrams, what comes of bytes, and which letters go together.
 use crate::comparing::{ensure, same};
-use crate::group::fresh;
+use crate::group::{Boxed, Group, node_of};
 use node::To;
 use site_drive::Letter;
-use site_ids::{Cluster, NodeId};
+use site_ids::NodeId;
 use site_packets::{Packet, first_frame, frames_in};
 use site_serve::pack;
 use std::alloc::Global;
@@ -23,17 +23,22 @@ const SENT: &[Sent] = &[
     ),
 ];
 
+/// The packet takes these datagrams, and holds no other ones.
+fn take(rt: &impl Abort, packet: &mut Packet, datagrams: &[&[u8]]) {
+    packet.clear();
+    for &datagram in datagrams {
+        ensure(rt, packet.has_room(datagram.len()), datagram);
+        packet.push(datagram).expect(rt, "memory");
+    }
+}
+
 #[test]
 fn datagrams_are_sent_as_one(rt: HostRuntime) {
     let mut packet = Packet::new(rt.alloc()).expect(&rt, "memory");
     for &(datagrams, sent) in SENT {
-        packet.clear();
-        for &datagram in datagrams {
-            assert!(rt; packet.has_room(datagram.len()));
-            packet.push(datagram).expect(&rt, "memory");
-        }
-        same(&rt, packet.is_empty(), datagrams.is_empty());
-        same(&rt, packet.bytes(), sent);
+        take(&rt, &mut packet, datagrams);
+        let is = (packet.is_empty(), packet.bytes());
+        same(&rt, is, (datagrams.is_empty(), sent));
     }
 }
 
@@ -101,61 +106,61 @@ fn bytes(rt: &impl Abort, alloc: Global, len: usize) -> Vec<u8> {
 fn a_packet_has_a_bound(rt: HostRuntime) {
     let mut packet = Packet::new(rt.alloc()).expect(&rt, "memory");
     for &(first, second, together) in ROOM {
-        packet.clear();
-        assert!(rt; packet.has_room(first));
-        packet
-            .push(bytes(&rt, rt.alloc(), first).as_slice())
-            .expect(&rt, "memory");
-        same(
-            &rt,
-            (first, second, packet.has_room(second)),
-            (first, second, together),
-        );
-        same(&rt, packet.bytes().len(), first);
+        let datagram = bytes(&rt, rt.alloc(), first);
+        take(&rt, &mut packet, &[datagram.as_slice()]);
+        let is = (packet.bytes().len(), second, packet.has_room(second));
+        same(&rt, is, (first, second, together));
     }
 }
 
-/// Letters: whom each is for, 0 for all, and of how many bytes; and how many letters go into the first packet for node 2, and the bytes of that.
-type Packing = (&'static [(u8, usize)], usize, usize);
+/// How many letters go into a packet, and its bytes; none of an empty one.
+type Packed = (usize, Option<usize>);
 
-const PACKINGS: &[Packing] = &[
-    (&[], 0, 0),
-    (&[(1, 9), (3, 9)], 2, 0),
-    (&[(2, 9)], 1, 9),
-    (&[(0, 9), (1, 9), (2, 9)], 3, 27),
-    (&[(1, 9), (0, 800), (2, 800), (0, 9)], 2, 800),
-    (&[(0, 700), (2, 686), (3, 9), (2, 9)], 3, 1395),
-    (&[(0, 32_790), (2, 9)], 1, 32_790),
+/// Letters: whom each is for, 0 for all, and of how many bytes; and what goes into the first packet for node 2.
+const PACKINGS: &[(&[(u8, usize)], Packed)] = &[
+    (&[], (0, None)),
+    (&[(1, 9), (3, 9)], (2, None)),
+    (&[(2, 9)], (1, Some(9))),
+    (&[(0, 9), (1, 9), (2, 9)], (3, Some(27))),
+    (&[(1, 9), (0, 800), (2, 800), (0, 9)], (2, Some(800))),
+    (&[(0, 700), (2, 686), (3, 9), (2, 9)], (3, Some(1395))),
+    (&[(0, 32_790), (2, 9)], (1, Some(32_790))),
 ];
 
-/// Whom a letter is for.
-fn addressee(rt: &impl Abort, cluster: Cluster, number: u8) -> To {
+/// Whom of three a letter is for.
+fn addressee(rt: &impl Abort, number: u8) -> To {
     match number {
         0 => To::All,
-        _ => To::One(cluster.node(number).expect(rt, "a node")),
+        _ => To::One(node_of(rt, 3, number)),
     }
+}
+
+/// Letters of such rows.
+fn written(rt: &impl Abort, alloc: Global, rows: &[(u8, usize)]) -> Vec<Letter> {
+    let mut letters = Vec::new(alloc);
+    for &(number, len) in rows {
+        let to = addressee(rt, number);
+        let bytes = bytes(rt, alloc, len);
+        letters.push(Letter { to, bytes }).expect(rt, "memory");
+    }
+    letters
+}
+
+/// What goes into a packet for that node.
+fn packed(rt: &impl Abort, packet: &mut Packet, letters: &[Letter], to: NodeId) -> Packed {
+    let count = pack(letters, to, packet).expect(rt, "memory");
+    let holds = !packet.is_empty();
+    (count, holds.then_some(packet.bytes().len()))
 }
 
 #[test]
 fn letters_for_a_node_go_together(rt: HostRuntime) {
-    let alloc = rt.alloc();
-    let cluster = Cluster::new(3).expect(&rt, "a cluster");
-    let to: NodeId = cluster.node(2).expect(&rt, "a node");
-    let mut packet = Packet::new(alloc).expect(&rt, "memory");
-    for &(rows, count, len) in PACKINGS {
-        let mut letters = Vec::new(alloc);
-        for &(number, len) in rows {
-            let letter = Letter {
-                to: addressee(&rt, cluster, number),
-                bytes: bytes(&rt, alloc, len),
-            };
-            letters.push(letter).expect(&rt, "memory");
-        }
-        let packed = pack(letters.as_slice(), to, &mut packet).expect(&rt, "memory");
-        same(&rt, (rows, packed), (rows, count));
-        let none = packet.is_empty();
-        same(&rt, (rows, none), (rows, len == 0));
-        ensure(&rt, none || packet.bytes().len() == len, rows);
+    let to = node_of(&rt, 3, 2);
+    let mut packet = Packet::new(rt.alloc()).expect(&rt, "memory");
+    for &(rows, wanted) in PACKINGS {
+        let letters = written(&rt, rt.alloc(), rows);
+        let is = packed(&rt, &mut packet, letters.as_slice(), to);
+        same(&rt, (rows, is), (rows, wanted));
     }
 }
 
@@ -173,16 +178,20 @@ const PIECES: &[(&[u8], u64)] = &[
     (&[3, 0, 0, 0, 9, 1, 6, 1, 0, 0, 0, 1], 1),
 ];
 
+/// A server takes in a piece, and a step of it tells how many datagrams spelled no message; none where it halts.
+fn malformed_in(rt: &impl Abort, server: &mut Boxed, piece: &[u8]) -> Option<u64> {
+    server.mail.take_in(piece).expect(rt, "memory");
+    match server.step(0) {
+        Ok(stepped) => Some(stepped.malformed),
+        Err(_) => None,
+    }
+}
+
 #[test]
 fn a_piece_waits_as_its_datagrams(rt: HostRuntime) {
-    let cluster = Cluster::new(1).expect(&rt, "a cluster");
-    let me = cluster.node(1).expect(&rt, "a node");
-    let mut server = fresh(rt.alloc(), cluster, me).expect(&rt, "memory");
+    let mut group = Group::new(&rt, rt.alloc(), 1);
     for &(piece, malformed) in PIECES {
-        server.mail.take_in(piece).expect(&rt, "memory");
-        match server.step(0) {
-            Ok(stepped) => same(&rt, (piece, stepped.malformed), (piece, malformed)),
-            Err(_) => assert!(rt; false, "{piece:?}"),
-        }
+        let is = malformed_in(&rt, group.server(&rt, 1), piece);
+        same(&rt, (piece, is), (piece, Some(malformed)));
     }
 }

@@ -1,7 +1,8 @@
 //! A server with one growth refused, as `tools/gate/refuse-growths` runs this: it comes to what it comes to without refusals, or ends for want of
 //! memory; then another one opens over its disk, and comes to it.
 use crate::client::Client;
-use crate::group::{Boxed, fresh, reopened};
+use crate::comparing::{ensure, same};
+use crate::group::{Boxed, fresh, reopened, turn};
 use site_ids::Cluster;
 use site_serve::Halt;
 use std::alloc::{AllocError, Global};
@@ -12,26 +13,30 @@ const POST: &[u8] = b"POST /_submit/1/1 HTTP/1.1\r\nHost: a\r\nContent-Length: 8
 /// A packet with a question of node 1 itself, and with no message.
 const CAME: &[u8] = &[3, 0, 0, 0, 7, 1, 6, 1, 0, 0, 0, 1, 0, 0, 0, 1, 255];
 
-/// A server takes a client and a packet, and goes on for so many milliseconds.
-fn goes_on(
-    rt: &impl Abort,
-    alloc: Global,
-    server: &mut Boxed,
-    millis: u64,
-) -> Result<(), AllocError> {
+/// A server takes a client and a packet.
+fn takes(alloc: Global, server: &mut Boxed) -> Result<(), AllocError> {
     let client = Client::new(alloc, POST, usize::MAX)?;
-    let _ = server.seats.admit(client, 0)?;
-    server.mail.take_in(CAME)?;
-    for now in 0..millis {
-        let _ = server.seats.hear(now)?;
-        if let Err(halt) = server.step(now) {
-            // (A disk in memory that finds none has failed.)
-            assert!(rt; matches!(halt, Halt::OutOfMemory | Halt::Stopped));
-            return Err(AllocError);
-        }
-        let _ = server.seats.tell(now);
+    drop(server.seats.admit(client, 0)?);
+    server.mail.take_in(CAME)
+}
+
+/// Whether that ended for want of memory. (A disk in memory that finds none has failed.)
+fn wants_memory(halt: &Halt) -> bool {
+    matches!(halt, Halt::OutOfMemory | Halt::Stopped)
+}
+
+/// It takes them, and goes on for so many milliseconds; or it was refused memory, and does not come so far.
+fn goes_on(rt: &impl Abort, alloc: Global, server: &mut Boxed, millis: u64) -> bool {
+    if takes(alloc, server).is_err() {
+        return false;
     }
-    Ok(())
+    for now in 0..millis {
+        if let Err(halt) = turn(server, now) {
+            ensure(rt, wants_memory(&halt), now);
+            return false;
+        }
+    }
+    true
 }
 
 /// Node 1 of one, over a record that was just made. Where memory was refused it is made once more.
@@ -49,10 +54,9 @@ fn steps(rt: HostRuntime) {
     let cluster = Cluster::new(1).expect(&rt, "a cluster");
     let me = cluster.node(1).expect(&rt, "a node");
     let mut server = first(&rt, alloc, cluster);
-    if goes_on(&rt, alloc, &mut server, 40).is_err() {
-        let mut again = reopened(alloc, cluster, me, server, None).expect(&rt, "memory");
-        assert!(rt; goes_on(&rt, alloc, &mut again, 40).is_ok());
-        server = again;
+    if !goes_on(&rt, alloc, &mut server, 40) {
+        server = reopened(alloc, cluster, me, server, None).expect(&rt, "memory");
+        ensure(&rt, goes_on(&rt, alloc, &mut server, 40), "again");
     }
-    assert!(rt; server.served.node.newest() == 1);
+    same(&rt, server.served.node.newest(), 1);
 }

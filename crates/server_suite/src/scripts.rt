@@ -1,11 +1,13 @@
 //! Groups of servers by scripts: posts at each node, a node that was away, a power cut, clients that send a byte at a time.
-use crate::comparing::same;
+use crate::comparing::{ensure, same};
 use crate::group::Group;
 use std::alloc::Global;
 use std::process::Abort;
 
 const QUEUED: &[u8] =
     b"HTTP/1.1 202 Accepted\r\nContent-Type: text/plain; charset=utf-8\r\nContent-Length: 7\r\n\r\nqueued\n";
+
+const NEWEST: &[u8] = b"GET /_newest HTTP/1.1\r\nHost: a\r\n\r\n";
 
 const HEAD: &[u8] = b"HTTP/1.1 200 OK\r\n";
 
@@ -48,9 +50,12 @@ fn a_node_that_was_away_comes_back(rt: HostRuntime) {
     group.stands(&rt, 3, 40, 40);
 }
 
+/// How much of what was not synced a power cut leaves.
+const CHOICES: &[u8] = &[0, 1, 7];
+
 #[test]
 fn a_power_cut_loses_nothing_that_is_known(rt: HostRuntime) {
-    for choice in [0, 1, 7] {
+    for &choice in CHOICES {
         let mut group = Group::new(&rt, rt.alloc(), 3);
         posts(&rt, &mut group, 1, 3, usize::MAX);
         group.goes_on(&rt, 200, 0);
@@ -68,12 +73,7 @@ fn a_power_cut_loses_nothing_that_is_known(rt: HostRuntime) {
 fn a_byte_at_a_time_is_one_submission_and_holds_nobody_up(rt: HostRuntime) {
     let mut group = Group::new(&rt, rt.alloc(), 1);
     posts(&rt, &mut group, 1, 2, 1);
-    group.comes(
-        &rt,
-        1,
-        b"GET /_newest HTTP/1.1\r\nHost: a\r\n\r\n",
-        usize::MAX,
-    );
+    group.comes(&rt, 1, NEWEST, usize::MAX);
     // The quick one is answered at once, while the slow ones still send.
     group.goes_on(&rt, 3, 0);
     group.stands(&rt, 1, 0, 0);
@@ -85,16 +85,11 @@ fn a_byte_at_a_time_is_one_submission_and_holds_nobody_up(rt: HostRuntime) {
 #[test]
 fn each_client_gets_its_own_response(rt: HostRuntime) {
     let mut group = Group::new(&rt, rt.alloc(), 1);
-    group.comes(
-        &rt,
-        1,
-        b"GET /_newest HTTP/1.1\r\nHost: a\r\n\r\n",
-        usize::MAX,
-    );
-    group.comes(&rt, 1, post(&rt, rt.alloc(), 1, 1).as_bytes(), usize::MAX);
+    group.comes(&rt, 1, NEWEST, usize::MAX);
+    posts(&rt, &mut group, 1, 1, usize::MAX);
     group.goes_on(&rt, 2, 0);
     let newest = group.leaves(&rt, 1).expect(&rt, "a client");
-    assert!(rt; newest.got().starts_with(HEAD) && newest.got().ends_with(b"\n0\n"));
+    ensure(&rt, newest.got_from_to(HEAD, b"\n0\n"), "newest");
     let posted = group.leaves(&rt, 1).expect(&rt, "a client");
     same(&rt, posted.got(), QUEUED);
 }

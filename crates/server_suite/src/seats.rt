@@ -1,6 +1,7 @@
 //! Seats: who goes for the 65th client, and how long a connection stays.
 use crate::client::Client;
-use crate::comparing::same;
+use crate::comparing::{ensure, same};
+use crate::group::is_seated;
 use site_pace::Times;
 use site_serve::{Seats, Stay};
 use std::alloc::Global;
@@ -25,15 +26,12 @@ const STAYS: &[(u64, Option<u64>, bool, bool)] = &[
 fn a_connection_stays_as_long_as_it_moves_and_its_request_may_take(rt: HostRuntime) {
     for &(still, busy, alone, limited) in STAYS {
         let stay = Stay { still, busy };
+        let is_alone = stay.is_too_long(Times::new(None, None));
+        let is_limited = stay.is_too_long(Times::new(None, Some(2_000)));
         same(
             &rt,
-            (still, busy, stay.is_too_long(Times::new(None, None))),
-            (still, busy, alone),
-        );
-        same(
-            &rt,
-            (still, busy, stay.is_too_long(Times::new(None, Some(2_000)))),
-            (still, busy, limited),
+            (still, busy, is_alone, is_limited),
+            (still, busy, alone, limited),
         );
     }
 }
@@ -46,10 +44,7 @@ fn comes(
     now: u64,
 ) -> bool {
     let client = Client::new(alloc, sends, usize::MAX).expect(rt, "memory");
-    let gone = seats.admit(client, now).expect(rt, "memory");
-    let is_seated = gone.is_none();
-    drop(gone);
-    is_seated
+    is_seated(rt, seats, client, now)
 }
 
 /// Whether nothing was heard of the client that goes, if one does.
@@ -66,7 +61,7 @@ fn full(rt: &impl Abort, alloc: Global, asking: u64) -> Seats<Client> {
     for k in 0..64 {
         let stay = seats.has_room() && was_silent(seats.make_room()).is_none();
         let sends: &[u8] = if k < asking { GET } else { b"" };
-        assert!(rt; stay && comes(rt, alloc, &mut seats, sends, k));
+        ensure(rt, stay && comes(rt, alloc, &mut seats, sends, k), k);
     }
     same(rt, seats.len(), 64);
     seats
@@ -75,11 +70,12 @@ fn full(rt: &impl Abort, alloc: Global, asking: u64) -> Seats<Client> {
 #[test]
 fn the_client_that_was_silent_longest_goes_for_another_one(rt: HostRuntime) {
     let mut seats = full(&rt, rt.alloc(), 2);
-    assert!(rt; !comes(&rt, rt.alloc(), &mut seats, GET, 64));
+    same(&rt, comes(&rt, rt.alloc(), &mut seats, GET, 64), false);
     // The first two send now, so the third was silent longest; it has sent nothing.
-    assert!(rt; seats.hear(100).expect(&rt, "memory"));
+    same(&rt, seats.hear(100), Ok(true));
     same(&rt, was_silent(seats.make_room()), Some(true));
-    assert!(rt; seats.len() == 63 && comes(&rt, rt.alloc(), &mut seats, GET, 101));
+    same(&rt, seats.len(), 63);
+    same(&rt, comes(&rt, rt.alloc(), &mut seats, GET, 101), true);
     drop(seats);
 }
 
@@ -96,7 +92,7 @@ const LEAVES: &[(u64, Option<bool>)] = &[
 #[test]
 fn connections_leave_in_their_time(rt: HostRuntime) {
     let mut seats = full(&rt, rt.alloc(), 1);
-    assert!(rt; seats.hear(64).expect(&rt, "memory"));
+    same(&rt, seats.hear(64), Ok(true));
     for &(now, leaves) in LEAVES {
         same(&rt, (now, was_silent(seats.leave(now))), (now, leaves));
     }

@@ -1,7 +1,7 @@
 //! A pace over a written clock, beside node 1 of three that hears what a row says.
 ghost use Rattle.site_ids.specs.Ids.{IsNode};
 
-use crate::comparing::same;
+use crate::comparing::{ensure, same};
 use command::write;
 use durable::Record;
 use node::{Node, Submitted};
@@ -14,7 +14,7 @@ use std::process::Abort;
 
 /// What is called: of a telling to whom it goes, and from which instance on.
 #[derive(Clone, Copy, Debug, PartialEq, Eq, Drop)]
-enum Call {
+pub(crate) enum Call {
     Widen,
     Tick,
     Ask,
@@ -144,7 +144,8 @@ struct Paced {
     pace: Pace,
 }
 
-fn called(last: &LastCall) -> Call {
+/// That call, as a row names it.
+pub(crate) fn called(last: &LastCall) -> Call {
     match last {
         LastCall::Widen => Call::Widen,
         LastCall::TickOrAsk => Call::Tick,
@@ -180,6 +181,14 @@ fn begun(rt: &impl Abort, alloc: Global) -> Paced {
     }
 }
 
+/// These datagrams come: so many.
+fn come(rt: &impl Abort, link: &mut MemLink, heard: &[&[u8]]) -> u32 {
+    for datagram in heard {
+        link.push(datagram).expect(rt, "a place");
+    }
+    u32::try_from(heard.len()).expect(rt, "few datagrams")
+}
+
 impl Paced {
     fn submit(&mut self, rt: &impl Abort) {
         let ticket = Ticket {
@@ -193,14 +202,11 @@ impl Paced {
 
     /// These datagrams and then that call; and what was delivered is heard.
     fn drive(&mut self, rt: &impl Abort, heard: &[&[u8]], last: LastCall) {
-        for datagram in heard {
-            self.link.push(datagram).expect(rt, "a place");
-        }
-        let turns = u32::try_from(heard.len()).expect(rt, "few datagrams");
+        let turns = come(rt, &mut self.link, heard);
         let driven = self
             .desk
             .drive_with(&mut self.node, &mut self.link, turns, last);
-        assert!(rt; driven.is_ok());
+        ensure(rt, driven.is_ok(), turns);
         self.pace.hear(self.node.cluster(), &self.desk.delivered());
     }
 

@@ -76,13 +76,8 @@ fn nodes_that_try_take_turns(rt: HostRuntime) {
             since,
         };
         let me = node(me).expect(&rt, "a node");
-        same(
-            &rt,
-            (yielding, me, yielding.waits(me)),
-            (yielding, me, waits),
-        );
-        let due = yielding.is_due(times, NOW, me);
-        same(&rt, (yielding, me, due), (yielding, me, yields));
+        let is = (yielding.waits(me), yielding.is_due(times, NOW, me));
+        same(&rt, (yielding, me, is), (yielding, me, (waits, yields)));
     }
 }
 

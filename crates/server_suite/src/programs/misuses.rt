@@ -18,18 +18,20 @@ fn refused_by<T: Drop>(outcome: Result<T, Error>) -> Misuse {
 }
 
 /// The status, and what was written.
-fn said(alloc: Global, why: &Misuse) -> (u8, Vec<u8>) {
+fn said(alloc: Global, why: Misuse) -> (u8, Vec<u8>) {
     let mut err = Counted::new(Vec::<u8>::new(alloc));
-    let status = refuse(alloc, &mut err, why);
+    let status = refuse(alloc, &mut err, &why);
     (status, err.into_inner())
 }
 
 const NOT_UTF8: &str = "error: invalid UTF-8 was detected in one or more arguments\n";
 
+const NO_MEMORY: &str = "out of memory\n";
+
 const NO_NUMBER: &str =
     "error: invalid value 'x' for '--release <N>': invalid digit found in string\n\nFor more information, try '--help'.\n";
 
-fn is_said(rt: &impl Abort, alloc: Global, why: &Misuse, status: u8, text: &str) {
+fn is_said(rt: &impl Abort, alloc: Global, why: Misuse, status: u8, text: &str) {
     let (is, told) = said(alloc, why);
     ensure(rt, is == status, text);
     ensure(rt, told.as_slice() == text.as_bytes(), text);
@@ -42,23 +44,24 @@ fn read_failed(kind: io::ErrorKind) -> Misuse {
 
 #[test]
 fn texts_and_statuses(rt: HostRuntime) {
-    is_said(&rt, rt.alloc(), &Misuse::NotUtf8, 2, NOT_UTF8);
-    is_said(&rt, rt.alloc(), &Misuse::OutOfMemory, 1, "out of memory\n");
+    is_said(&rt, rt.alloc(), Misuse::NotUtf8, 2, NOT_UTF8);
+    is_said(&rt, rt.alloc(), Misuse::OutOfMemory, 1, NO_MEMORY);
     let memory = read_failed(io::ErrorKind::OutOfMemory);
-    is_said(&rt, rt.alloc(), &memory, 1, "out of memory\n");
+    is_said(&rt, rt.alloc(), memory, 1, NO_MEMORY);
     let bytes = read_failed(io::ErrorKind::InvalidData);
-    is_said(&rt, rt.alloc(), &bytes, 2, NOT_UTF8);
+    is_said(&rt, rt.alloc(), bytes, 2, NOT_UTF8);
 }
 
 #[test]
 fn a_line_that_is_refused_says_why(rt: HostRuntime) {
     let words = words(&rt, rt.alloc(), "siterender --release x /");
     let why = refused_by(render_options(rt.alloc(), words.as_slice()));
-    is_said(&rt, rt.alloc(), &why, 2, NO_NUMBER);
+    is_said(&rt, rt.alloc(), why, 2, NO_NUMBER);
 }
 
-fn ends_as_refused(rt: &impl Abort, alloc: Global, why: &Misuse, example: &str) {
-    let (status, told) = said(alloc, why);
+/// What refuses a line ends by that example.
+fn helps<T: Drop>(rt: &impl Abort, alloc: Global, outcome: Result<T, Error>, example: &str) {
+    let (status, told) = said(alloc, refused_by(outcome));
     ensure(rt, status == 2, example);
     ensure(rt, told.as_slice().ends_with(example.as_bytes()), example);
 }
@@ -74,19 +77,15 @@ const CLUSTER_EXAMPLE: &str =
 const SITED_EXAMPLE: &str =
     " --record /var/lib/sited/1.record --format --http 127.0.0.1:8001 --rounds 4294967295 127.0.0.1:7001 127.0.0.1:7002 127.0.0.1:7003\n\n--version prints the program's version\n";
 
-fn helps(rt: &impl Abort, alloc: Global, words: &[String]) {
-    let why = refused_by(render_options(alloc, words));
-    ends_as_refused(rt, alloc, &why, RENDER_EXAMPLE);
-    let why = refused_by(sim_options(alloc, words));
-    ends_as_refused(rt, alloc, &why, SIM_EXAMPLE);
-    let why = refused_by(cluster_options(alloc, words));
-    ends_as_refused(rt, alloc, &why, CLUSTER_EXAMPLE);
-    let why = refused_by(sited_options(alloc, words));
-    ends_as_refused(rt, alloc, &why, SITED_EXAMPLE);
+fn each_helps(rt: &impl Abort, alloc: Global, words: &[String]) {
+    helps(rt, alloc, render_options(alloc, words), RENDER_EXAMPLE);
+    helps(rt, alloc, sim_options(alloc, words), SIM_EXAMPLE);
+    helps(rt, alloc, cluster_options(alloc, words), CLUSTER_EXAMPLE);
+    helps(rt, alloc, sited_options(alloc, words), SITED_EXAMPLE);
 }
 
 #[test]
 fn help_is_told_as_a_refusal(rt: HostRuntime) {
     let words = words(&rt, rt.alloc(), "program --help");
-    helps(&rt, rt.alloc(), words.as_slice());
+    each_helps(&rt, rt.alloc(), words.as_slice());
 }

@@ -2,19 +2,16 @@
 use crate::comparing::ensure;
 use clap::error::ErrorKind;
 use sitectl::render_options;
-use std::alloc::{AllocError, Global};
+use std::alloc::Global;
 use std::process::Abort;
 
-fn words_of(alloc: Global, line: &str) -> Result<Vec<String>, AllocError> {
+pub(super) fn words(rt: &impl Abort, alloc: Global, line: &str) -> Vec<String> {
     let mut words = Vec::new(alloc);
     for word in line.split(' ') {
-        words.push(String::from_str(alloc, word)?)?;
+        let word = String::from_str(alloc, word).expect(rt, "memory");
+        words.push(word).expect(rt, "memory");
     }
-    Ok(words)
-}
-
-pub(super) fn words(rt: &impl Abort, alloc: Global, line: &str) -> Vec<String> {
-    words_of(alloc, line).expect(rt, "memory")
+    words
 }
 
 /// Lines that name a page: its release and its path.

@@ -1,64 +1,39 @@
 //! Command lines of `sited` and `sitecluster`.
-use crate::comparing::ensure;
+use crate::comparing::{ensure, same};
 use crate::programs::options::words;
 use clap::error::ErrorKind;
 use sitectl::{ServeOptions, cluster_options, sited_options};
-use std::alloc::{AllocError, Global};
+use std::alloc::Global;
 use std::process::Abort;
 
-fn time_text(alloc: Global, millis: Option<u64>) -> Result<String, AllocError> {
-    match millis {
-        Some(n) => format!(in alloc; " {n}"),
-        None => String::from_str(alloc, " -"),
-    }
+/// What a line names.
+fn shown(rt: &impl Abort, alloc: Global, o: &ServeOptions<'_>) -> String {
+    let (id, rounds, format) = (o.id, o.rounds, o.format);
+    let (patience, serve, peers) = (o.patience, o.serve_ms, o.peers.as_slice());
+    format!(in alloc;
+        "{id} {} {} {rounds} {format} {patience:?} {serve:?} {peers:?}",
+        o.record, o.http
+    )
+    .expect(rt, "memory")
 }
 
-fn push_time(alloc: Global, text: &mut String, millis: Option<u64>) -> Result<(), AllocError> {
-    text.push_str(time_text(alloc, millis)?.as_str())
-}
-
-fn begun(alloc: Global, o: &ServeOptions<'_>) -> Result<String, AllocError> {
-    let id = o.id;
-    let rounds = o.rounds;
-    let format = o.format;
-    format!(in alloc; "{id} {} {} {rounds} {format}", o.record, o.http)
-}
-
-fn push_rest(alloc: Global, text: &mut String, o: &ServeOptions<'_>) -> Result<(), AllocError> {
-    push_time(alloc, text, o.patience)?;
-    push_time(alloc, text, o.serve_ms)?;
-    text.push_str(": ")?;
-    for peer in o.peers.as_slice() {
-        text.push_str(peer)?;
-        text.push_str(" ")?;
-    }
-    Ok(())
-}
-
-/// The fields of what a line names, with a space behind each address; `-` for a time that is not named.
-fn shown(alloc: Global, o: &ServeOptions<'_>) -> Result<String, AllocError> {
-    let mut text = begun(alloc, o)?;
-    push_rest(alloc, &mut text, o)?;
-    Ok(text)
-}
-
-/// Lines, and the fields of what each names; none where it is refused.
+/// Lines, and what each names; none where it is refused.
 const SERVERS: &[(&str, &str)] = &[
     (
         "sited --id 1 --record r --http h --rounds 2",
-        "1 r h 2 false - -: ",
+        "1 r h 2 false None None []",
     ),
     (
         "sited a:1 --format --id=+3 b:2 --record=/x --http 127.0.0.1:0 --rounds 4294967295 c:3",
-        "3 /x 127.0.0.1:0 4294967295 true - -: a:1 b:2 c:3 ",
+        "3 /x 127.0.0.1:0 4294967295 true None None [\"a:1\", \"b:2\", \"c:3\"]",
     ),
     (
         "other --rounds 00 --http h --record r --id 255 -- --format",
-        "255 r h 0 false - -: --format ",
+        "255 r h 0 false None None [\"--format\"]",
     ),
     (
         "sited --patience-ms 100 --id 1 --record r --http h --rounds 2 --serve-ms=+2000 a:1",
-        "1 r h 2 false 100 2000: a:1 ",
+        "1 r h 2 false Some(100) Some(2000) [\"a:1\"]",
     ),
     (
         "sited --id=-0 --record --http --http h --rounds 1 not-an-address",
@@ -68,7 +43,7 @@ const SERVERS: &[(&str, &str)] = &[
 
 fn given(rt: &impl Abort, alloc: Global, words: &[String]) -> String {
     match sited_options(alloc, words) {
-        Ok(options) => shown(alloc, &options).expect(rt, "memory"),
+        Ok(options) => shown(rt, alloc, &options),
         Err(_) => String::new(alloc),
     }
 }
@@ -78,7 +53,7 @@ fn lines_that_name_a_server(rt: HostRuntime) {
     for &(line, expected) in SERVERS {
         let words = words(&rt, rt.alloc(), line);
         let given = given(&rt, rt.alloc(), words.as_slice());
-        ensure(&rt, given.as_str() == expected, line);
+        same(&rt, (line, given.as_str()), (line, expected));
     }
 }
 
