@@ -73,7 +73,7 @@ pub(crate) fn turn(server: &mut Boxed, now: u64) -> Result<(), Halt> {
     Ok(())
 }
 
-/// A piece more.
+/// A piece of these bytes comes behind the others.
 fn push_piece(rt: &impl Abort, alloc: Global, pieces: &mut Vec<Vec<u8>>, bytes: &[u8]) {
     let piece = Vec::from_slice(alloc, bytes).expect(rt, "memory");
     pieces.push(piece).expect(rt, "memory");
@@ -109,7 +109,7 @@ fn packed(rt: &impl Abort, alloc: Global, letters: &[Letter], to: NodeId) -> Vec
     pieces
 }
 
-/// Node so and so of so many.
+/// The node of that number, in a cluster of so many.
 pub(crate) fn node_of(rt: &impl Abort, size: u8, number: u8) -> NodeId {
     let cluster = Cluster::new(size).expect(rt, "a cluster");
     cluster.node(number).expect(rt, "a node")
@@ -201,11 +201,16 @@ impl Group {
         self.server(rt, number).seats.leave(late)
     }
 
+    /// What the next client of that server got, whose connection ends, begins so and ends so.
+    pub(crate) fn next_got(&mut self, rt: &impl Abort, number: u8, front: &[u8], end: &[u8]) {
+        let client = self.leaves(rt, number).expect(rt, "a client");
+        ensure(rt, client.got_from_to(front, end), number);
+    }
+
     /// So many clients of that server are there still, and what each of them got begins so and ends so.
     pub(crate) fn got(&mut self, rt: &impl Abort, number: u8, count: u8, front: &[u8], end: &[u8]) {
         for _ in 0..count {
-            let client = self.leaves(rt, number).expect(rt, "a client");
-            ensure(rt, client.got_from_to(front, end), number);
+            self.next_got(rt, number, front, end);
         }
         ensure(rt, self.leaves(rt, number).is_none(), number);
     }

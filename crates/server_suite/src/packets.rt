@@ -23,20 +23,20 @@ const SENT: &[Sent] = &[
     ),
 ];
 
-/// The packet takes these datagrams, and holds no other ones.
-fn take(rt: &impl Abort, packet: &mut Packet, datagrams: &[&[u8]]) {
-    packet.clear();
-    for &datagram in datagrams {
-        ensure(rt, packet.has_room(datagram.len()), datagram);
-        packet.push(datagram).expect(rt, "memory");
-    }
+/// The packet takes a datagram more.
+fn take(rt: &impl Abort, packet: &mut Packet, datagram: &[u8]) {
+    ensure(rt, packet.has_room(datagram.len()), datagram);
+    packet.push(datagram).expect(rt, "memory");
 }
 
 #[test]
 fn datagrams_are_sent_as_one(rt: HostRuntime) {
     let mut packet = Packet::new(rt.alloc()).expect(&rt, "memory");
     for &(datagrams, sent) in SENT {
-        take(&rt, &mut packet, datagrams);
+        packet.clear();
+        for &datagram in datagrams {
+            take(&rt, &mut packet, datagram);
+        }
         let is = (packet.is_empty(), packet.bytes());
         same(&rt, is, (datagrams.is_empty(), sent));
     }
@@ -71,7 +71,7 @@ fn hold(rt: &impl Abort, frames: &[u8], datagrams: &[&[u8]]) {
         same(rt, first, datagram);
         rest = behind;
     }
-    assert!(rt; rest.is_empty());
+    ensure(rt, rest.is_empty(), frames);
 }
 
 #[test]
@@ -80,7 +80,7 @@ fn packets_that_came_are_opened(rt: HostRuntime) {
         match (frames_in(bytes), datagrams) {
             (Some(frames), Some(datagrams)) => hold(&rt, frames, datagrams),
             (None, None) => {}
-            _ => assert!(rt; false, "{bytes:?}"),
+            _ => ensure(&rt, false, bytes),
         }
     }
 }
@@ -106,8 +106,8 @@ fn bytes(rt: &impl Abort, alloc: Global, len: usize) -> Vec<u8> {
 fn a_packet_has_a_bound(rt: HostRuntime) {
     let mut packet = Packet::new(rt.alloc()).expect(&rt, "memory");
     for &(first, second, together) in ROOM {
-        let datagram = bytes(&rt, rt.alloc(), first);
-        take(&rt, &mut packet, &[datagram.as_slice()]);
+        packet.clear();
+        take(&rt, &mut packet, bytes(&rt, rt.alloc(), first).as_slice());
         let is = (packet.bytes().len(), second, packet.has_room(second));
         same(&rt, is, (first, second, together));
     }

@@ -1,5 +1,5 @@
 //! Groups of servers by scripts: posts at each node, a node that was away, a power cut, clients that send a byte at a time.
-use crate::comparing::{ensure, same};
+use crate::comparing::same;
 use crate::group::Group;
 use std::alloc::Global;
 use std::process::Abort;
@@ -88,8 +88,7 @@ fn each_client_gets_its_own_response(rt: HostRuntime) {
     group.comes(&rt, 1, NEWEST, usize::MAX);
     posts(&rt, &mut group, 1, 1, usize::MAX);
     group.goes_on(&rt, 2, 0);
-    let newest = group.leaves(&rt, 1).expect(&rt, "a client");
-    ensure(&rt, newest.got_from_to(HEAD, b"\n0\n"), "newest");
+    group.next_got(&rt, 1, HEAD, b"\n0\n");
     let posted = group.leaves(&rt, 1).expect(&rt, "a client");
     same(&rt, posted.got(), QUEUED);
 }

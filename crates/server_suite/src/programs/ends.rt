@@ -1,5 +1,5 @@
 //! Readers that end and fail in mid-stream, and writers that fail.
-use crate::comparing::same;
+use crate::comparing::{ensure, same};
 use crate::programs::runs::{GREETING, Printed, prints, run};
 use failing_ends::{Sink, trickle};
 use sitectl::{Counted, siterender};
@@ -18,9 +18,13 @@ const PAGE: &[u8] = b"Hello, world!\n";
 /// What is said where nothing is released.
 const LINE: &[u8] = b"no release\n";
 
+/// How it ends where a command is cut off.
+const FRAMING: &[u8] = b": framing\n";
+
 fn says_framing(rt: &impl Abort, printed: &Printed) {
-    assert!(rt; printed.status == 1 && printed.out.is_empty());
-    assert!(rt; printed.err.ends_with(b": framing\n"));
+    let err = printed.err.as_slice();
+    same(rt, (printed.status, printed.out.is_empty()), (1, true));
+    ensure(rt, err.ends_with(FRAMING), err);
 }
 
 /// Where a command ends.
@@ -147,7 +151,7 @@ fn flushed(rt: &impl Abort, alloc: Global) -> Vec<u8> {
     });
     let mut err = with_room(alloc, 1000);
     let status = siterender(alloc, &mut reader, &mut out, &mut err, None, "/");
-    assert!(rt; status == 0);
+    same(rt, status, 0);
     out.into_inner().shown
 }
 

@@ -1,5 +1,5 @@
 //! Command lines of `siterender`.
-use crate::comparing::ensure;
+use crate::comparing::{ensure, same};
 use clap::error::ErrorKind;
 use sitectl::render_options;
 use std::alloc::Global;
@@ -29,8 +29,7 @@ const PAGES: &[(&str, Option<u64>, &str)] = &[
 
 fn names_page(rt: &impl Abort, alloc: Global, words: &[String], release: Option<u64>, path: &str) {
     let options = render_options(alloc, words).expect(rt, "options");
-    assert!(rt; options.release == release);
-    ensure(rt, options.path == path, path);
+    same(rt, (options.release, options.path), (release, path));
 }
 
 #[test]

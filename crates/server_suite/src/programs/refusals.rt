@@ -1,5 +1,6 @@
 //! Each call with one growth refused, as `tools/gate/refuse-growths` runs this: it answers as ever, or that memory was refused, and then the next try
 //! answers as ever.
+use crate::comparing::ensure;
 use crate::programs::runs::{GREETING, Printed, run};
 use std::alloc::Global;
 use std::process::Abort;
@@ -25,7 +26,7 @@ fn shows(rt: &impl Abort, printed: &Printed, body: &str) -> bool {
     if is_page(printed, body) {
         return true;
     }
-    assert!(rt; is_refusal(printed));
+    ensure(rt, is_refusal(printed), body);
     false
 }
 
@@ -37,7 +38,7 @@ fn run_shows(rt: &impl Abort, alloc: Global, input: &str, body: &str) -> bool {
 fn engine(rt: &impl Abort, alloc: Global, input: &str, body: &str) {
     let first = run_shows(rt, alloc, input, body);
     let second = run_shows(rt, alloc, input, body);
-    assert!(rt; first || second);
+    ensure(rt, first || second, body);
 }
 
 #[test]

@@ -41,8 +41,9 @@ const SERVERS: &[(&str, &str)] = &[
     ),
 ];
 
-fn given(rt: &impl Abort, alloc: Global, words: &[String]) -> String {
-    match sited_options(alloc, words) {
+fn given(rt: &impl Abort, alloc: Global, line: &str) -> String {
+    let words = words(rt, alloc, line);
+    match sited_options(alloc, words.as_slice()) {
         Ok(options) => shown(rt, alloc, &options),
         Err(_) => String::new(alloc),
     }
@@ -51,8 +52,7 @@ fn given(rt: &impl Abort, alloc: Global, words: &[String]) -> String {
 #[test]
 fn lines_that_name_a_server(rt: HostRuntime) {
     for &(line, expected) in SERVERS {
-        let words = words(&rt, rt.alloc(), line);
-        let given = given(&rt, rt.alloc(), words.as_slice());
+        let given = given(&rt, rt.alloc(), line);
         same(&rt, (line, given.as_str()), (line, expected));
     }
 }

@@ -1,6 +1,6 @@
 //! What `--version` prints, and when it is asked for.
 
-use crate::comparing::ensure;
+use crate::comparing::{ensure, same};
 use crate::programs::options::words;
 use sitectl::{Counted, asks_version, tell_version};
 use std::alloc::Global;
@@ -24,14 +24,17 @@ fn a_version_is_asked_for_alone(rt: HostRuntime) {
     }
 }
 
-fn is_told(rt: &impl Abort, alloc: Global, out: &mut Counted<Vec<u8>>) {
-    let status = tell_version(alloc, out, "sitesim").expect(rt, "memory");
-    assert!(rt; status == 0);
+const TOLD: &[u8] = b"sitesim 1.0\n";
+
+/// The status, and what is told of a program.
+fn told(rt: &impl Abort, alloc: Global) -> (u8, Vec<u8>) {
+    let mut out = Counted::new(Vec::<u8>::new(alloc));
+    let status = tell_version(alloc, &mut out, "sitesim").expect(rt, "memory");
+    (status, out.into_inner())
 }
 
 #[test]
 fn a_version_is_a_name_and_a_heading(rt: HostRuntime) {
-    let mut out = Counted::new(Vec::<u8>::new(rt.alloc()));
-    is_told(&rt, rt.alloc(), &mut out);
-    assert!(rt; out.into_inner().as_slice() == b"sitesim 1.0\n".as_slice());
+    let (status, text) = told(&rt, rt.alloc());
+    same(&rt, (status, text.as_slice()), (0, TOLD));
 }
