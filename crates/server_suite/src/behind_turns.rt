@@ -1,7 +1,8 @@
 //! What a server calls behind the turns of a batch.
 use crate::comparing::same;
+use crate::group::node_of;
 use crate::written_clock::{Call, called};
-use site_ids::{Cluster, Instance, NodeId};
+use site_ids::Instance;
 use site_pace::Due;
 
 /// What stands (fresh, a telling, a question, a tick, whether it yields), and what is called: the first of them that applies.
@@ -21,14 +22,10 @@ const CALLS: &[(bool, bool, bool, bool, bool, Call)] = &[
     (false, true, false, false, true, Call::Tell(2, 7)),
 ];
 
-/// Node 2, and instance 7.
-fn told() -> Option<(NodeId, Instance)> {
-    Some((Cluster::new(3)?.node(2)?, Instance::new(7)?))
-}
-
 #[test]
 fn one_call_is_due_behind_a_batch(rt: HostRuntime) {
-    let (to, first) = told().expect(&rt, "a node and an instance");
+    let to = node_of(&rt, 3, 2);
+    let first = Instance::new(7).expect(&rt, "an instance");
     for &(fresh, telling, question, tick, yields, call) in CALLS {
         let due = Due {
             fresh,

@@ -1,6 +1,7 @@
 //! When a server ticks, whom it tells from where on, and how long it rests: each rule as a table.
 use crate::comparing::{ensure, same};
-use site_ids::{Cluster, Instance, NodeId};
+use crate::group::node_of;
+use site_ids::Instance;
 use site_pace::{LastQuestion, Pace, Resting, Seen, Ticking, Times, first_told, has_passed};
 use std::process::Abort;
 
@@ -264,15 +265,9 @@ const STEPS: &[(bool, bool, u32, Option<u64>)] = &[
     (false, false, 1, Some(10)),
 ];
 
-/// The node of a group of one.
-fn alone() -> Option<NodeId> {
-    Cluster::new(1)?.node(1)
-}
-
 #[test]
 fn a_server_begins_quiet_and_wakes_with_a_client(rt: HostRuntime) {
-    let me = alone().expect(&rt, "a node");
-    let mut pace = Pace::new(TIMES, me);
+    let mut pace = Pace::new(TIMES, node_of(&rt, 1, 1));
     for &(came, served, steps, micros) in STEPS {
         for step in 0..steps {
             same(

@@ -41,9 +41,8 @@ const SERVERS: &[(&str, &str)] = &[
     ),
 ];
 
-fn given(rt: &impl Abort, alloc: Global, line: &str) -> String {
-    let words = words(rt, alloc, line);
-    match sited_options(alloc, words.as_slice()) {
+fn given(rt: &impl Abort, alloc: Global, words: &[String]) -> String {
+    match sited_options(alloc, words) {
         Ok(options) => shown(rt, alloc, &options),
         Err(_) => String::new(alloc),
     }
@@ -52,7 +51,8 @@ fn given(rt: &impl Abort, alloc: Global, line: &str) -> String {
 #[test]
 fn lines_that_name_a_server(rt: HostRuntime) {
     for &(line, expected) in SERVERS {
-        let given = given(&rt, rt.alloc(), line);
+        let words = words(&rt, rt.alloc(), line);
+        let given = given(&rt, rt.alloc(), words.as_slice());
         same(&rt, (line, given.as_str()), (line, expected));
     }
 }

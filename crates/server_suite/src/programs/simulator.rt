@@ -24,16 +24,16 @@ fn trickled(alloc: Global, good: usize, room: usize) -> Printed {
 }
 
 /// It fails as a line says, behind a beginning of what is printed.
-fn is_begun(rt: &impl Abort, printed: Printed) {
+fn is_begun(rt: &impl Abort, printed: &Printed) {
     let begun = printed.out.as_slice();
-    prints(rt, &printed, (1, begun, b"read failed\n"));
+    prints(rt, printed, (1, begun, b"read failed\n"));
     ensure(rt, PRINTED.starts_with(begun), begun);
 }
 
 #[test]
 fn a_reader_fails_anywhere(rt: HostRuntime) {
     for good in 0..=SCHEDULE.len() {
-        is_begun(&rt, trickled(rt.alloc(), good, 1000));
+        is_begun(&rt, &trickled(rt.alloc(), good, 1000));
     }
     let whole = trickled(rt.alloc(), 1000, 1000);
     prints(&rt, &whole, (0, PRINTED, b""));
