@@ -6,9 +6,9 @@ use Rattle.std.proofs.Math.Seq.{take-append_seam}
 use Rattle.site_ids.specs.declared.Ticket.{Ticket}
 use Rattle.http_read.specs.Progress as reading
 use Rattle.http_serve.specs.Fronts.{AsksReceipt, Gets, GetsReceipt}
-use Rattle.http_serve.specs.Lines.{MayAnswer}
+use Rattle.http_serve.specs.ConnectionSteps.{MayAnswer}
 use Rattle.http_serve.specs.Paths.{IsTicketPath}
-use Rattle.http_serve.specs.declared.line.Line.{Line}
+use Rattle.http_serve.specs.declared.connection.Connection.{Connection}
 use Rattle.http_serve.proofs.OneResource.{one_ticket}
 use Rattle.http_serve.proofs.Slashes.{byte_there}
 
@@ -55,13 +55,13 @@ pub receipt_got : (bytes target : List ℕ) (found : Option Ticket) → Gets byt
 receipt_got bytes target None gets none = λ t r. none t (subst (λ z. IsTicketPath (codes "/_ticket/") z t) (one_target bytes r.target target r.gets gets) r.path)
 receipt_got bytes target (Some t) gets path = record { target = target; gets = gets; path = path }
 
--- and so of a line that may answer, and holds its request as it came
-pub line_asks : (line : Line) (bytes : List ℕ) (found : Option Ticket) → MayAnswer line → reading.awaited_of line.progress ≡ None → bytes ≡ line.inbox
+-- and so of a connection that may answer, and holds its request as it came
+pub connection_asks : (connection : Connection) (bytes : List ℕ) (found : Option Ticket) → MayAnswer connection → reading.awaited_of connection.progress ≡ None → bytes ≡ connection.inbox
     → MatchOption found ((t : Ticket) → ¬ (GetsReceipt bytes t)) (GetsReceipt bytes)
-    → MatchOption found ((t : Ticket) → ¬ (AsksReceipt line t)) (AsksReceipt line)
-line_asks line bytes None may unused is none = λ t asks. none t (subst (λ z. GetsReceipt z t) (sym is) asks.gets)
-line_asks line bytes (Some t) may unused is gets = record { may = may; unused = unused; gets = subst (λ z. GetsReceipt z t) is gets }
+    → MatchOption found ((t : Ticket) → ¬ (AsksReceipt connection t)) (AsksReceipt connection)
+connection_asks connection bytes None may unused is none = λ t asks. none t (subst (λ z. GetsReceipt z t) (sym is) asks.gets)
+connection_asks connection bytes (Some t) may unused is gets = record { may = may; unused = unused; gets = subst (λ z. GetsReceipt z t) is gets }
 
--- a line asks for one receipt
-pub one_asked : (line : Line) (t u : Ticket) → AsksReceipt line t → AsksReceipt line u → t ≡ u
-one_asked line t u one other = one_receipt line.inbox t u one.gets other.gets
+-- a connection asks for one receipt
+pub one_asked : (connection : Connection) (t u : Ticket) → AsksReceipt connection t → AsksReceipt connection u → t ≡ u
+one_asked connection t u one other = one_receipt connection.inbox t u one.gets other.gets

@@ -3,11 +3,11 @@ use Rattle.std.proofs.Common.{◌≡◌, ◌∙◌, ℕ, zero, suc, Bool, true, 
 use Rattle.http_read.specs.declared.progress.Progress.{Progress}
 use Rattle.http_read.specs.declared.progress.Progress.TheVariants.{Head}
 use Rattle.http_read.specs.Progress.{Resumes}
-use Rattle.http_serve.specs.declared.line.Line.{Line}
+use Rattle.http_serve.specs.declared.connection.Connection.{Connection}
 use Rattle.http_serve.specs.Connections.{IsExchange}
 use Rattle.http_serve.specs.Exchanges.{Responds}
-use Rattle.http_serve.specs.Lines.{IsNew, IsAnswered, Waits}
-use Rattle.http_serve.specs.LineTalks.{HasTalked, HasClosed, AreTalks}
+use Rattle.http_serve.specs.ConnectionSteps.{IsNew, IsAnswered, Waits}
+use Rattle.http_serve.specs.ConnectionTalks.{HasTalked, HasClosed, AreTalks}
 use Rattle.http_serve.specs.Services.{Offered}
 use Rattle.http_serve.specs.Talks.{IsOpenTalk, IsWholeTalk}
 use Rattle.http_serve.proofs.Connecting.{some_same}
@@ -20,20 +20,20 @@ nothing (x ∷ xs) none = absurd (omega (arith, none))
 none_made : {S : Type 0} (service : Offered S) → IsOpenTalk service [] [] [] zero
 none_made service = record { exchanges = []; are = (refl, refl); counted = refl }
 
-begins : {S : Type 0} (service : Offered S) (line : Line) → IsNew line → HasTalked service line [] []
-begins service line new = (
+begins : {S : Type 0} (service : Offered S) (connection : Connection) → IsNew connection → HasTalked service connection [] []
+begins service connection new = (
   [],
   new.unread,
-  subst (λ t. IsOpenTalk service [] [] t line.answered) (sym new.unwritten)
+  subst (λ t. IsOpenTalk service [] [] t connection.answered) (sym new.unwritten)
       (subst (λ n. IsOpenTalk service [] [] [] n) (sym new.none) (none_made service)),
 )
 
-heard : {S : Type 0} (service : Offered S) (line : Line) (came said more : List ℕ) → HasTalked service line came said
-    → HasTalked service (record line { inbox = line.inbox ++ more }) (came ++ more) said
-heard service line came said more (left, (used, resumes, is), talk) = (
+heard : {S : Type 0} (service : Offered S) (connection : Connection) (came said more : List ℕ) → HasTalked service connection came said
+    → HasTalked service (record connection { inbox = connection.inbox ++ more }) (came ++ more) said
+heard service connection came said more (left, (used, resumes, is), talk) = (
   left ++ more,
-  (used, resumes, ap (λ t. t ++ more) is ∙ append_assoc used line.inbox more),
-  talks_stand service came left (said ++ line.outbox) more line.answered talk,
+  (used, resumes, ap (λ t. t ++ more) is ∙ append_assoc used connection.inbox more),
+  talks_stand service came left (said ++ connection.outbox) more connection.answered talk,
 )
 
 -- a response that follows what was written whole
@@ -69,7 +69,7 @@ is_last service now after came said left response behind count false talk last s
   spelled = refl;
 }
 
-answered : {S : Type 0} (service : Offered S) (old new : Line) (now after : S) (came said : List ℕ) → length old.outbox ≡ 0 → HasTalked service old came said
+answered : {S : Type 0} (service : Offered S) (old new : Connection) (now after : S) (came said : List ℕ) → length old.outbox ≡ 0 → HasTalked service old came said
     → (a : IsAnswered service now after old new)
     → (a.stays ≡ true → HasTalked service new came said) × (a.stays ≡ false → HasClosed service new came said)
 answered service old new now after came said none (left, (used, resumes, is), talk) a =
@@ -80,7 +80,7 @@ answered service old new now after came said none (left, (used, resumes, is), ta
       λ so. is_last service now after came said left new.outbox new.inbox old.answered a.stays all one so,
     )
 
-waited : {S : Type 0} (service : Offered S) (old new : Line) (came said : List ℕ) → HasTalked service old came said → Waits old new → HasTalked service new came said
+waited : {S : Type 0} (service : Offered S) (old new : Connection) (came said : List ℕ) → HasTalked service old came said → Waits old new → HasTalked service new came said
 waited service old new came said (left, (used, resumes, is), talk) w =
     let goes : (front : List ℕ) × (old.inbox ≡ front ++ new.inbox) × Resumes new.progress (used ++ front) = w.waits.advances used resumes in (
       left,
@@ -92,19 +92,19 @@ waited service old new came said (left, (used, resumes, is), talk) w =
 moved : (said waits front rest : List ℕ) → waits ≡ front ++ rest → said ++ waits ≡ (said ++ front) ++ rest
 moved said waits front rest is = ap (λ t. said ++ t) is ∙ sym (append_assoc said front rest)
 
-told : {S : Type 0} (service : Offered S) (old : Line) (came said front rest : List ℕ) → old.outbox ≡ front ++ rest → HasTalked service old came said
+told : {S : Type 0} (service : Offered S) (old : Connection) (came said front rest : List ℕ) → old.outbox ≡ front ++ rest → HasTalked service old came said
     → HasTalked service (record old { outbox = rest }) came (said ++ front)
 told service old came said front rest is (left, has, talk) =
     (left, has, subst (λ t. IsOpenTalk service came left t old.answered) (moved said old.outbox front rest is) talk)
 
-told_last : {S : Type 0} (service : Offered S) (old : Line) (came said front rest : List ℕ) → old.outbox ≡ front ++ rest → HasClosed service old came said
+told_last : {S : Type 0} (service : Offered S) (old : Connection) (came said front rest : List ℕ) → old.outbox ≡ front ++ rest → HasClosed service old came said
     → HasClosed service (record old { outbox = rest }) came (said ++ front)
 told_last service old came said front rest is talk = subst (λ t. IsWholeTalk service came t) (moved said old.outbox front rest is) talk
 
 pub are_talks : {S : Type 0} (service : Offered S) → AreTalks service
 are_talks service = record {
-  begins = λ line new. begins service line new;
-  heard = λ line came said more talked. heard service line came said more talked;
+  begins = λ connection new. begins service connection new;
+  heard = λ connection came said more talked. heard service connection came said more talked;
   answered = λ old new now after came said none talked a. answered service old new now after came said none talked a;
   waited = λ old new came said talked w. waited service old new came said talked w;
   told = λ old came said front rest is talked. told service old came said front rest is talked;

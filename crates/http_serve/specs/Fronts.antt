@@ -3,9 +3,9 @@ use Rattle.std.specs.Prelude.{◌≡◌, ◌≢◌, ℕ, ◌<◌, List, ◌++◌
 use Rattle.std.specs.List.{ends_with}
 use Rattle.site_ids.specs.declared.Ticket.{Ticket}
 use Rattle.http_read.specs.Progress as reading
-use Rattle.http_serve.specs.Lines.{MayAnswer}
+use Rattle.http_serve.specs.ConnectionSteps.{MayAnswer}
 use Rattle.http_serve.specs.Paths.{IsTicketPath}
-use Rattle.http_serve.specs.declared.line.Line.{Line}
+use Rattle.http_serve.specs.declared.connection.Connection.{Connection}
 
 -- between its method, GET, and the next space stands this target
 pub record Gets (bytes target : List ℕ) : Type 0 where
@@ -20,11 +20,11 @@ pub record GetsReceipt (bytes : List ℕ) (ticket : Ticket) : Type 0 where
   pub path : IsTicketPath (codes "/_ticket/") target ticket
 
 -- the next request may be answered, is held as it came, and asks for this receipt
-pub record AsksReceipt (line : Line) (ticket : Ticket) : Type 0 where
-  pub may : MayAnswer line
-  pub unused : reading.awaited_of line.progress ≡ None
-  pub gets : GetsReceipt line.inbox ticket
+pub record AsksReceipt (connection : Connection) (ticket : Ticket) : Type 0 where
+  pub may : MayAnswer connection
+  pub unused : reading.awaited_of connection.progress ≡ None
+  pub gets : GetsReceipt connection.inbox ticket
 
 -- and all of it seems to be there: a blank line ends what came
-abbrev pub HasAsked : Line → Type 0
-HasAsked line = IsTrue (ends_with nat_eq line.inbox (codes "\r\n\r\n")) × ((ticket : Ticket) × AsksReceipt line ticket)
+abbrev pub HasAsked : Connection → Type 0
+HasAsked connection = IsTrue (ends_with nat_eq connection.inbox (codes "\r\n\r\n")) × ((ticket : Ticket) × AsksReceipt connection ticket)

@@ -10,6 +10,6 @@ pub mod Faults
 pub mod Laws
 pub mod Fixed
 pub mod Talks
-pub mod Lines
+pub mod ConnectionSteps
 pub mod Fronts
-pub mod LineTalks
+pub mod ConnectionTalks

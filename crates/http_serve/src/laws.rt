@@ -1,6 +1,6 @@
 //! Facts about the definitions, for their readers.
 ghost use Rattle.http_serve.specs.Laws.{NamesOne, AreConnection};
-ghost use Rattle.http_serve.specs.LineTalks.{AreTalks};
+ghost use Rattle.http_serve.specs.ConnectionTalks.{AreTalks};
 ghost use Rattle.http_serve.specs.Talks.{TalksStand, OneMore, AloneIsServed, FarewellStands};
 
 use crate::service::Service;
@@ -35,7 +35,7 @@ pub fn farewells_stand<S: Service>(_service: &S)
     ensures { FarewellStands S.offered }
 {}
 
-/// What the calls do to a `Line`, over all that came on it and all that was written.
-pub fn lines_are_talks<S: Service>(_service: &S)
+/// What the calls do to a `Connection`, over all that came on it and all that was written.
+pub fn connections_are_talks<S: Service>(_service: &S)
     ensures { AreTalks S.offered }
 {}

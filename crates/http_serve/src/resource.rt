@@ -3,7 +3,7 @@ ghost use Rattle.std.specs.Prelude.{◌≡◌, ◌≢◌, ℕ, ◌+◌, ◌<◌,
 ghost use Rattle.http_serve.specs.Paths.{Resource as Meant, Names, IsOwn};
 ghost use Rattle.http_serve.specs.Resources.{resource_shown};
 
-use engine_parts::read_number;
+use engine_common::read_number;
 use site_ids::Ticket;
 
 /// What a path names; the rest of a release's path is lent.

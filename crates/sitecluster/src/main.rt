@@ -1,9 +1,9 @@
 //! `sitecluster`: three servers on the loopback, done line by line as a script on standard input says.
 #![tactic(auto)]
 
-use command_lines::{Misuse, asks_version, cluster_options, command_line, refuse, tell_version};
+use engine_options::{Misuse, asks_version, cluster_options, command_line, refuse, tell_version};
+use engine_script::sitecluster;
 use http_read::Counted;
-use script_engine::sitecluster;
 use std::io::Write;
 use std::process::ExitCode;
 

@@ -18,8 +18,8 @@ use Rattle.node.specs.Standing.{ending_by}
 use Rattle.site_drive.specs.declared.last_call.LastCall.{LastCall}
 use Rattle.site_drive.specs.declared.last_call.LastCall.TheVariants.{TickOrAsk, Widen, Ask, Tell, Nothing}
 use Rattle.site_drive.specs.Drives.{Heard, Takes, TakesAll, datagrams, Begin, Widens, TicksAndWidens, EndsLast, EndsTurns, BreaksOff}
-use Rattle.site_seats.specs.Served.{ComesTo}
-use Rattle.site_serve.specs.Passes.{MayTake, MayTakeMany}
+use Rattle.server_clients.specs.Served.{ComesTo}
+use Rattle.server.specs.Passes.{MayTake, MayTakeMany}
 use Rattle.world.specs.Batches.{AllEnd}
 use Rattle.sitectl.specs.Passes.{AreCalls}
 

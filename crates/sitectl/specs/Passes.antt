@@ -13,7 +13,7 @@ use Rattle.node.specs.Standing.{IsEither}
 use Rattle.site_drive.specs.declared.last_call.LastCall.{LastCall}
 use Rattle.site_drive.specs.Batches.{HasWorked, GivesUpBatch}
 use Rattle.site_drive.specs.Posting.{spelled_of}
-use Rattle.site_serve.specs.Passes.{TakesStep}
+use Rattle.server.specs.Passes.{TakesStep}
 use Rattle.world.specs.declared.event.Event.{Event}
 use Rattle.world.specs.Worlds.{World}
 use Rattle.world.specs.Batches.{AllEnd, IsBatch, LeadTo, IsLeft}

@@ -1,9 +1,9 @@
 //! `sited --id P --record FILE --http ADDRESS --rounds R [--format] ADDRESS..`: one node of a group, over UDP and HTTP.
 #![tactic(auto)]
 
-use command_lines::{Misuse, asks_version, command_line, refuse, sited_options, tell_version};
+use engine_options::{Misuse, asks_version, command_line, refuse, sited_options, tell_version};
 use http_read::Counted;
-use site_serve::sited;
+use server::sited;
 use std::io::Write;
 use std::process::ExitCode;
 

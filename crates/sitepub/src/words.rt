@@ -1,11 +1,11 @@
 //! What the words do.
 use clap::error::ErrorKind;
-use editor_line::{Word, word_in};
-use editor_parts::Halt;
-use folder_publish::{Publishing, publish};
-use folder_words::{begin, check, export, tell_log};
-use group_client::tell_status;
-use site_preview::preview;
+use editor_common::EditorFault;
+use editor_group::tell_status;
+use editor_options::{Word, word_in};
+use editor_preview::preview;
+use editor_publish::{Publishing, publish};
+use editor_words::{begin, check, export, tell_log};
 use std::env;
 use std::fmt::Display;
 use std::io::{self, Write};
@@ -39,7 +39,7 @@ fn done<
         + Drop,
     W: Write,
     E: Write,
->(rt: &R, out: &mut W, err: &mut E, word: &Word<'_>) -> Result<u8, Halt> {
+>(rt: &R, out: &mut W, err: &mut E, word: &Word<'_>) -> Result<u8, EditorFault> {
     match *word {
         Word::New { folder } => begin(rt, out, err, folder),
         Word::Check { folder, ignore } => check(rt, out, err, folder, ignore),

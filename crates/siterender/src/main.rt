@@ -1,9 +1,9 @@
 //! `siterender [--release N] PATH`: the page for a path, from framed commands on standard input.
 #![tactic(auto)]
 
-use command_lines::{Misuse, asks_version, command_line, refuse, render_options, tell_version};
+use engine_options::{Misuse, asks_version, command_line, refuse, render_options, tell_version};
+use engine_page::siterender;
 use http_read::Counted;
-use page_engine::siterender;
 use std::io::Write;
 use std::process::ExitCode;
 

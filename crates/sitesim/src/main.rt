@@ -1,9 +1,9 @@
 //! `sitesim FILE`: a schedule of a cluster's events, done line by line, and what its nodes show.
 #![tactic(auto)]
 
-use command_lines::{Misuse, asks_version, command_line, refuse, sim_options, tell_version};
+use engine_options::{Misuse, asks_version, command_line, refuse, sim_options, tell_version};
+use engine_schedule::sitesim;
 use http_read::Counted;
-use schedule_engine::sitesim;
 use std::fs::File;
 use std::io::Write;
 use std::process::ExitCode;

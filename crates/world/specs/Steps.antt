@@ -9,8 +9,8 @@ use Rattle.world.specs.declared.event.Event.{Event}
 use Rattle.world.specs.declared.event.Event.TheVariants.{Restart}
 use Rattle.world.specs.declared.fault.WorldFault.{WorldFault}
 use Rattle.world.specs.declared.fault.WorldFault.TheVariants.{OutOfMemory, BadEvent}
-use Rattle.world.specs.declared.halt.Halt.{Halt}
-use Rattle.world.specs.declared.halt.Halt.TheVariants.{Wanted, Unpublished, Bad}
+use Rattle.world.specs.declared.run_stop.RunStop.{RunStop}
+use Rattle.world.specs.declared.run_stop.RunStop.TheVariants.{Wanted, Unpublished, Bad}
 use Rattle.world.specs.declared.world.World.{World as Code}
 use Rattle.world.specs.Worlds.{World, Runs, start}
 use Rattle.world.specs.Taking.{node_of, Takes, TakesAll, IsBad, IsRefused, IsLast, EndsWanting, WantsMemory, MeetsBadEvent}
@@ -38,7 +38,7 @@ abbrev pub KeepsPublished : Code → Code → Event → World → World → Type
 KeepsPublished old new event w after = (q : ℕ) → q ≢ node_of event → IsPublishedAt old w q → IsPublishedAt new after q
 
 -- one event: taken, with its node published or not, or not taken
-abbrev pub StepEnds : Code → Code → Event → Result (Unit {0}) Halt → Type 0
+abbrev pub StepEnds : Code → Code → Event → Result (Unit {0}) RunStop → Type 0
 StepEnds old new event (Ok x) = LeadsTo old new (λ w after. Takes old.cluster w event after × KeepsPublished old new event w after × IsPublishedAt new after (node_of event))
 StepEnds old new event (Err Unpublished) = LeadsTo old new (λ w after. Takes old.cluster w event after × KeepsPublished old new event w after × IsUnpublishedAt new after (node_of event))
 StepEnds old new event (Err Wanted) = LeadsTo old new (λ w after. IsRefused old.cluster w event after × StayPublished old new w after)

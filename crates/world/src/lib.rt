@@ -5,7 +5,6 @@ mod batches;
 mod bid;
 mod event;
 mod fault;
-mod halt;
 mod laws;
 mod machine;
 mod node_state;
@@ -13,6 +12,7 @@ mod passing;
 mod plan;
 mod queries;
 mod quiet;
+mod run_stop;
 mod world;
 
 pub use batches::batches_are_runs;

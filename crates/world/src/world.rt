@@ -4,8 +4,8 @@
 
 ghost use Rattle.std.specs.Prelude.{◌≡◌, length};
 
-use crate::halt::Halt;
 use crate::machine::Machine;
+use crate::run_stop::RunStop;
 use crate::{Event, WorldFault};
 use node::Outbox;
 use site_ids::Cluster;
@@ -66,26 +66,26 @@ impl World {
         while let Some(event) = events.get(taken) {
             match self.step(event) {
                 Ok(()) => taken += 1,
-                Err(Halt::Wanted) => return Err(WorldFault::OutOfMemory(taken)),
-                Err(Halt::Unpublished) => return Err(WorldFault::OutOfMemory(taken + 1)),
-                Err(Halt::Bad) => return Err(WorldFault::BadEvent(taken)),
+                Err(RunStop::Wanted) => return Err(WorldFault::OutOfMemory(taken)),
+                Err(RunStop::Unpublished) => return Err(WorldFault::OutOfMemory(taken + 1)),
+                Err(RunStop::Bad) => return Err(WorldFault::BadEvent(taken)),
             }
         }
         Ok(())
     }
 
     // Takes an event, and has its node publish.
-    fn step(&mut self, event: &Event) -> Result<(), Halt>
+    fn step(&mut self, event: &Event) -> Result<(), RunStop>
         ensures ends { StepEnds self.old self.new event.now result }
         ensures grows { OnlyGrows self.old.sent.items self.new.sent.items }
         ensures whose { self.new.cluster ≡ self.old.cluster }
     {
         let me = event.node();
         if self.cluster.size() < me.number() {
-            return Err(Halt::Bad);
+            return Err(RunStop::Bad);
         }
         if event.is_unsent(self.sent.len()) {
-            return Err(Halt::Bad);
+            return Err(RunStop::Bad);
         }
         let at = (me.number() - 1) as usize;
         let machine = &mut self.machines[at];
@@ -93,10 +93,10 @@ impl World {
             .happen(self.alloc, self.cluster, event, &mut self.sent)
             .is_err()
         {
-            return Err(Halt::Wanted);
+            return Err(RunStop::Wanted);
         }
         if machine.publish().is_err() {
-            return Err(Halt::Unpublished);
+            return Err(RunStop::Unpublished);
         }
         Ok(())
     }

@@ -1,6 +1,6 @@
 use Rattle.std.proofs.Common.{ℕ, ◌+◌, Ok, Err, arith, refl, subst, ◌∙◌}
 use Rattle.world.specs.declared.fault.WorldFault.TheVariants.{OutOfMemory, BadEvent}
-use Rattle.world.specs.declared.halt.Halt.{Halt}
+use Rattle.world.specs.declared.run_stop.RunStop.{RunStop}
 use Rattle.world.specs.Steps.{StepEnds, RunEnds}
 use Rattle.world.proofs.Moving.{got_at}
 use Rattle.world.proofs.Answering.{run_follows}
@@ -29,7 +29,7 @@ returns-in-Err-Wanted-clause-ends c =
     let k = c.loop-event.taken in
     let events = c.args.events.now in
     let below = below_of _ _ c.in-Some.ensures.lookup.0 in
-    follow_wanted c.args.self.now c.loop-event.self c.step.new.self events k c.in-Some.event.now (got_at events k c.in-Some.event.now below c.in-Some.ensures.lookup.1) below c.loop-event.invariant.whose c.loop-event.invariant.ends (subst (λ (h : Halt). StepEnds c.loop-event.self c.step.new.self c.in-Some.event.now (Err h)) c.in-Err-Wanted.field-0-is c.in-Err-Wanted.ensures.ends)
+    follow_wanted c.args.self.now c.loop-event.self c.step.new.self events k c.in-Some.event.now (got_at events k c.in-Some.event.now below c.in-Some.ensures.lookup.1) below c.loop-event.invariant.whose c.loop-event.invariant.ends (subst (λ (h : RunStop). StepEnds c.loop-event.self c.step.new.self c.in-Some.event.now (Err h)) c.in-Err-Wanted.field-0-is c.in-Err-Wanted.ensures.ends)
 
 pub returns-in-Err-Wanted-clause-reached : goal.returns-in-Err-Wanted-clause-reached
 returns-in-Err-Wanted-clause-reached c =
@@ -43,7 +43,7 @@ returns-in-Err-Unpublished-clause-ends c =
     let k = c.loop-event.taken in
     let events = c.args.events.now in
     let below = below_of _ _ c.in-Some.ensures.lookup.0 in
-    subst (λ (j : ℕ). RunEnds c.args.self.now c.step.new.self events (Err (OutOfMemory j))) (one_more k) (follow_unpublished c.args.self.now c.loop-event.self c.step.new.self events k c.in-Some.event.now (got_at events k c.in-Some.event.now below c.in-Some.ensures.lookup.1) below c.loop-event.invariant.whose c.loop-event.invariant.ends (subst (λ (h : Halt). StepEnds c.loop-event.self c.step.new.self c.in-Some.event.now (Err h)) c.in-Err-Unpublished.field-0-is c.in-Err-Unpublished.ensures.ends))
+    subst (λ (j : ℕ). RunEnds c.args.self.now c.step.new.self events (Err (OutOfMemory j))) (one_more k) (follow_unpublished c.args.self.now c.loop-event.self c.step.new.self events k c.in-Some.event.now (got_at events k c.in-Some.event.now below c.in-Some.ensures.lookup.1) below c.loop-event.invariant.whose c.loop-event.invariant.ends (subst (λ (h : RunStop). StepEnds c.loop-event.self c.step.new.self c.in-Some.event.now (Err h)) c.in-Err-Unpublished.field-0-is c.in-Err-Unpublished.ensures.ends))
 
 pub returns-in-Err-Unpublished-clause-reached : goal.returns-in-Err-Unpublished-clause-reached
 returns-in-Err-Unpublished-clause-reached c =
@@ -57,7 +57,7 @@ returns-in-Err-Bad-clause-ends c =
     let k = c.loop-event.taken in
     let events = c.args.events.now in
     let below = below_of _ _ c.in-Some.ensures.lookup.0 in
-    follow_bad c.args.self.now c.loop-event.self c.step.new.self events k c.in-Some.event.now (got_at events k c.in-Some.event.now below c.in-Some.ensures.lookup.1) below c.loop-event.invariant.whose c.loop-event.invariant.ends (subst (λ (h : Halt). StepEnds c.loop-event.self c.step.new.self c.in-Some.event.now (Err h)) c.in-Err-Bad.field-0-is c.in-Err-Bad.ensures.ends)
+    follow_bad c.args.self.now c.loop-event.self c.step.new.self events k c.in-Some.event.now (got_at events k c.in-Some.event.now below c.in-Some.ensures.lookup.1) below c.loop-event.invariant.whose c.loop-event.invariant.ends (subst (λ (h : RunStop). StepEnds c.loop-event.self c.step.new.self c.in-Some.event.now (Err h)) c.in-Err-Bad.field-0-is c.in-Err-Bad.ensures.ends)
 
 pub returns-in-Err-Bad-clause-reached : goal.returns-in-Err-Bad-clause-reached
 returns-in-Err-Bad-clause-reached c =

@@ -1,0 +1,63 @@
+use editor_ledger::LedgerFault;
+use std::alloc::{AllocError, AllocFailed, Global};
+use std::io;
+use thiserror::Error;
+
+/// Why a word came to no end.
+#[derive(Debug, Drop, Error)]
+pub enum EditorFault {
+    /// A file or a folder, and what the system says of it.
+    #[error("{0}: {1}")]
+    File(String, io::Error),
+    #[error("more than 10,000 folders: a link may lead back")]
+    ManyFolders,
+    #[error("standard output could not be written")]
+    Write,
+    /// Why a group or a ledger lets nothing go on, and what to do.
+    #[error("{0}")]
+    Stop(String),
+    #[error("the editor has no tickets left: remove the file published, and publish as a new editor")]
+    NoTickets,
+    #[error("no node is named: give the address of one, as http://127.0.0.1:8001")]
+    NoNodes,
+    #[error("the clock can't be read")]
+    Clock,
+    #[error("the system gives no random bytes")]
+    Random,
+    #[error("out of memory")]
+    OutOfMemory,
+}
+
+impl From<AllocError> for EditorFault {
+    fn from(_refused: AllocError) -> EditorFault {
+        EditorFault::OutOfMemory
+    }
+}
+
+impl<T: Drop> From<AllocFailed<T>> for EditorFault {
+    fn from(_refused: AllocFailed<T>) -> EditorFault {
+        EditorFault::OutOfMemory
+    }
+}
+
+impl From<LedgerFault> for EditorFault {
+    fn from(fault: LedgerFault) -> EditorFault {
+        match fault {
+            LedgerFault::NoTickets => EditorFault::NoTickets,
+            LedgerFault::OutOfMemory => EditorFault::OutOfMemory,
+        }
+    }
+}
+
+impl EditorFault {
+    /// That of a file or a folder: what the system says of it.
+    pub fn at_path(alloc: Global, path: &str, fault: io::Error) -> EditorFault {
+        if fault.kind() == io::ErrorKind::OutOfMemory {
+            return EditorFault::OutOfMemory;
+        }
+        match String::from_str(alloc, path) {
+            Ok(path) => EditorFault::File(path, fault),
+            Err(_) => EditorFault::OutOfMemory,
+        }
+    }
+}

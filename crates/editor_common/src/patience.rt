@@ -1,0 +1,26 @@
+//! How long something is waited for.
+use crate::editor_fault::EditorFault;
+use std::rt::Clock;
+use std::thread;
+use std::time::{Duration, Instant};
+
+/// The time now.
+pub fn now<C: Clock>(clock: &C) -> Result<Instant, EditorFault> {
+    match Instant::now(clock) {
+        Ok(now) => Ok(now),
+        Err(_) => Err(EditorFault::Clock),
+    }
+}
+
+/// How many milliseconds passed since then.
+pub fn passed<C: Clock>(clock: &C, since: Instant) -> Result<u64, EditorFault> {
+    match since.elapsed(clock) {
+        Ok(passed) => Ok(u64::try_from(passed.as_millis()).unwrap_or(u64::MAX)),
+        Err(_) => Err(EditorFault::Clock),
+    }
+}
+
+/// Rests for so many milliseconds.
+pub fn rest<C: Clock>(clock: &C, millis: u64) {
+    thread::sleep(clock, Duration::from_millis(millis));
+}

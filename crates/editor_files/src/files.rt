@@ -1,0 +1,251 @@
+//! The files of a folder, read; and files that are written.
+use editor_common::EditorFault;
+use editor_folder::{SiteFile, is_of_site, is_part, is_passed_over};
+use std::alloc::{AllocError, Global};
+use std::collections::BTreeMap;
+use std::rt::Files;
+use std::{fs, io};
+
+/// So many folders are looked into, and no more: a link may lead back.
+const MAX_FOLDERS: u32 = 10_000;
+
+/// What an editor's program keeps in a folder beside the site's files.
+const KEPT: &str = "published";
+
+/// The files of a folder, in the order of their paths, and how many files and folders were passed over.
+#[derive(Drop)]
+pub(crate) struct Found {
+    pub files: Vec<SiteFile>,
+    pub passed_over: usize,
+}
+
+/// A folder while it is gone through.
+#[derive(Drop)]
+struct Search {
+    /// Files by their paths.
+    files: BTreeMap<String, Vec<u8>>,
+    /// Folders that are still to be looked into.
+    pending: Vec<String>,
+    passed_over: usize,
+    /// Whether files that are no part of a site are passed over.
+    ignore: bool,
+}
+
+/// What stands at a path below a folder.
+#[derive(Clone, Copy)]
+enum Kind {
+    /// A folder of a site's files.
+    Part,
+    /// A file of a site.
+    Site,
+    /// Neither.
+    Other,
+}
+
+/// A path and a name below it, where either may be empty.
+pub fn below(alloc: Global, path: &str, name: &str) -> Result<String, AllocError> {
+    if path.is_empty() {
+        return String::from_str(alloc, name);
+    }
+    if name.is_empty() {
+        return String::from_str(alloc, path);
+    }
+    format!(in alloc; "{path}/{name}")
+}
+
+/// What the system gave of a path, or what it says of that.
+pub(crate) fn at<T>(alloc: Global, path: &str, given: io::Result<T>) -> Result<T, EditorFault> {
+    match given {
+        Ok(given) => Ok(given),
+        Err(fault) => Err(EditorFault::at_path(alloc, path, fault)),
+    }
+}
+
+/// What a folder or a file at a path below the folder is to a site.
+fn kind_at(is_folder: bool, path: &str) -> Kind {
+    if is_folder {
+        if is_part(path) {
+            Kind::Part
+        } else {
+            Kind::Other
+        }
+    } else if is_of_site(path) {
+        Kind::Site
+    } else {
+        Kind::Other
+    }
+}
+
+fn kind_of<R: Files + AllocGlobal>(rt: &R, whole: &str, path: &str) -> Result<Kind, EditorFault> {
+    let found = at(rt.alloc(), whole, fs::metadata(rt, whole))?;
+    Ok(kind_at(found.is_dir(), path))
+}
+
+/// The names in a folder.
+fn list<R: Files + AllocGlobal + Clone + Drop>(rt: &R, whole: &str) -> io::Result<Vec<String>> {
+    let mut names = Vec::new(rt.alloc());
+    for entry in fs::read_dir(rt, whole)? {
+        names.push(String::from_str(rt.alloc(), entry?.file_name())?)?;
+    }
+    Ok(names)
+}
+
+impl Search {
+    fn pass_over(&mut self) {
+        self.passed_over = self.passed_over.saturating_add(1);
+    }
+
+    fn put_off(&mut self, alloc: Global, path: &str) -> Result<(), AllocError> {
+        self.pending.push(String::from_str(alloc, path)?)?;
+        Ok(())
+    }
+
+    fn put(&mut self, alloc: Global, path: &str, bytes: Vec<u8>) -> Result<(), AllocError> {
+        drop(self.files.insert(String::from_str(alloc, path)?, bytes)?);
+        Ok(())
+    }
+}
+
+/// Takes what stands at a path below the folder; that is it as a whole.
+fn take_at<R: Files + AllocGlobal>(
+    rt: &R,
+    whole: &str,
+    path: &str,
+    search: &mut Search,
+) -> Result<(), EditorFault> {
+    let alloc = rt.alloc();
+    match kind_of(rt, whole, path)? {
+        Kind::Part => search.put_off(alloc, path)?,
+        Kind::Site => search.put(alloc, path, at(alloc, whole, fs::read(rt, whole))?)?,
+        Kind::Other if search.ignore => search.pass_over(),
+        Kind::Other => search.put(alloc, path, Vec::new(alloc))?,
+    }
+    Ok(())
+}
+
+/// Takes what stands at a path below the folder.
+fn take<R: Files + AllocGlobal>(
+    rt: &R,
+    root: &str,
+    path: &str,
+    search: &mut Search,
+) -> Result<(), EditorFault> {
+    if path == KEPT {
+        return Ok(());
+    }
+    if is_passed_over(path) {
+        search.pass_over();
+        return Ok(());
+    }
+    let whole = below(rt.alloc(), root, path)?;
+    take_at(rt, whole.as_str(), path, search)
+}
+
+/// Takes what has these names in a folder below the site's.
+fn take_names<R: Files + AllocGlobal>(
+    rt: &R,
+    root: &str,
+    folder: &str,
+    names: &[String],
+    search: &mut Search,
+) -> Result<(), EditorFault> {
+    for name in names {
+        let path = below(rt.alloc(), folder, name.as_str())?;
+        take(rt, root, path.as_str(), search)?;
+    }
+    Ok(())
+}
+
+/// Looks into a folder below the site's.
+fn look_in<R: Files + AllocGlobal + Clone + Drop>(
+    rt: &R,
+    root: &str,
+    folder: &str,
+    search: &mut Search,
+) -> Result<(), EditorFault> {
+    let whole = below(rt.alloc(), root, folder)?;
+    let names = at(rt.alloc(), whole.as_str(), list(rt, whole.as_str()))?;
+    take_names(rt, root, folder, &names, search)
+}
+
+/// Looks into all folders of a site's.
+fn look_around<R: Files + AllocGlobal + Clone + Drop>(
+    rt: &R,
+    root: &str,
+    search: &mut Search,
+) -> Result<(), EditorFault> {
+    look_in(rt, root, "", search)?;
+    for _ in 0..MAX_FOLDERS {
+        match search.pending.pop() {
+            Some(folder) => look_in(rt, root, folder.as_str(), search)?,
+            None => return Ok(()),
+        }
+    }
+    if search.pending.is_empty() {
+        return Ok(());
+    }
+    Err(EditorFault::ManyFolders)
+}
+
+/// Reads the files of a folder.
+pub(crate) fn files_of<R: Files + AllocGlobal + Clone + Drop>(
+    rt: &R,
+    root: &str,
+    ignore: bool,
+) -> Result<Found, EditorFault> {
+    let alloc = rt.alloc();
+    let mut search = Search {
+        files: BTreeMap::new(alloc),
+        pending: Vec::new(alloc),
+        passed_over: 0,
+        ignore,
+    };
+    look_around(rt, root, &mut search)?;
+    found_in(alloc, search)
+}
+
+/// What was found.
+fn found_in(alloc: Global, search: Search) -> Result<Found, EditorFault> {
+    let Search {
+        files,
+        passed_over,
+        ..
+    } = search;
+    Ok(Found {
+        files: files
+            .into_iter()
+            .map(|(path, bytes)| SiteFile { path, bytes })
+            .collect(alloc)?,
+        passed_over,
+    })
+}
+
+/// Whether a folder is absent or empty.
+pub fn is_free<R: Files + AllocGlobal + Clone + Drop>(
+    rt: &R,
+    folder: &str,
+) -> Result<bool, EditorFault> {
+    match list(rt, folder) {
+        Ok(names) => Ok(names.is_empty()),
+        Err(fault) if fault.kind() == io::ErrorKind::NotFound => Ok(true),
+        Err(fault) => Err(EditorFault::at_path(rt.alloc(), folder, fault)),
+    }
+}
+
+/// Makes the folders that a file stands in.
+fn make_folders<R: Files + AllocGlobal>(rt: &R, path: &str) -> Result<(), EditorFault> {
+    let Some((folder, _)) = path.rsplit_once('/') else {
+        return Ok(());
+    };
+    at(rt.alloc(), folder, fs::create_dir_all(rt, folder))
+}
+
+/// Writes a file, and makes the folders that it stands in.
+pub fn write_file<R: Files + AllocGlobal>(
+    rt: &R,
+    path: &str,
+    text: &str,
+) -> Result<(), EditorFault> {
+    make_folders(rt, path)?;
+    at(rt.alloc(), path, fs::write(rt, path, text))
+}

@@ -1,0 +1,13 @@
+//! The files of a site's folder, read and written: what an editor's program has from a disk.
+//!
+//! `files.rt` reads the files of a folder and writes some, `reading.rt` tells what is wrong with them, as `editor_folder` says, and `saving.rt` keeps the
+//! file `published`. What a real file gives and takes is tested, not proved.
+#![tactic(auto)]
+
+mod files;
+mod reading;
+mod saving;
+
+pub use files::{below, is_free, write_file};
+pub use reading::{Clean, read_clean, texts_of};
+pub use saving::{new_editor, read_ledger, save};

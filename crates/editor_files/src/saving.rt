@@ -1,0 +1,78 @@
+//! The file `published` of a folder.
+use crate::files::{at, below};
+use editor_common::EditorFault;
+use editor_ledger::{Ledger, LedgerReadFault};
+use std::alloc::{AllocError, Global};
+use std::fs::{self, File, OpenFile};
+use std::io::{self, Write};
+use std::random::RandomSource;
+use std::rt::Files;
+
+/// Where a folder's file is.
+fn ledger_path(alloc: Global, folder: &str) -> Result<String, AllocError> {
+    below(alloc, folder, "published")
+}
+
+/// The ledger that a text spells, as it is written now or as the script `tools/publish` wrote it.
+fn ledger_in(alloc: Global, path: &str, text: &str) -> Result<Ledger, EditorFault> {
+    let read = match Ledger::read(alloc, text) {
+        Err(LedgerReadFault::Old) => Ledger::read_old(alloc, text),
+        read => read,
+    };
+    match read {
+        Ok(ledger) => Ok(ledger),
+        Err(LedgerReadFault::OutOfMemory) => Err(EditorFault::OutOfMemory),
+        Err(fault) => Err(EditorFault::Stop(format!(in alloc; "{path}: {fault}")?)),
+    }
+}
+
+/// Reads a folder's ledger; nothing where it has none.
+pub fn read_ledger<R: Files + AllocGlobal>(
+    rt: &R,
+    folder: &str,
+) -> Result<Option<Ledger>, EditorFault> {
+    let alloc = rt.alloc();
+    let path = ledger_path(alloc, folder)?;
+    let text = match fs::read_to_string(rt, path.as_str()) {
+        Ok(text) => text,
+        Err(fault) if fault.kind() == io::ErrorKind::NotFound => return Ok(None),
+        Err(fault) => return Err(EditorFault::at_path(alloc, path.as_str(), fault)),
+    };
+    Ok(Some(ledger_in(alloc, path.as_str(), text.as_str())?))
+}
+
+/// A number for a new editor, at random.
+pub fn new_editor<R: RandomSource>(rt: &R) -> Result<u32, EditorFault> {
+    let mut bytes = [0; 4];
+    match rt.fill_bytes(&mut bytes) {
+        Ok(()) => Ok(u32::from_be_bytes(bytes)),
+        Err(_) => Err(EditorFault::Random),
+    }
+}
+
+fn write_whole<R: Files>(rt: &R, path: &str, text: &str) -> io::Result<()> {
+    let mut file = File::create(rt, path)?;
+    file.write_all(text.as_bytes())?;
+    file.sync_all()
+}
+
+/// Replaces a file of a folder by another one with this text, which is on disk then under that name.
+fn replace<R: Files>(rt: &R, folder: &str, fresh: &str, path: &str, text: &str) -> io::Result<()> {
+    write_whole(rt, fresh, text)?;
+    fs::rename(rt, fresh, path)?;
+    File::open(rt, folder)?.sync_all()
+}
+
+/// Saves a folder's ledger: the file is the one before, or the whole of this one, whenever it is interrupted, and this one once it is saved.
+pub fn save<R: Files + AllocGlobal>(
+    rt: &R,
+    folder: &str,
+    ledger: &Ledger,
+) -> Result<(), EditorFault> {
+    let alloc = rt.alloc();
+    let text = ledger.spelled(alloc)?;
+    let path = ledger_path(alloc, folder)?;
+    let fresh = below(alloc, folder, ".published.new")?;
+    let (fresh, path) = (fresh.as_str(), path.as_str());
+    at(alloc, path, replace(rt, folder, fresh, path, text.as_str()))
+}

@@ -1,0 +1,29 @@
+//! The file of a page that moved, in a static copy.
+ghost use Rattle.std.specs.Prelude.{◌≡◌, IfOk, string_bytes};
+ghost use Rattle.editor_folder.specs.Moved.{moved_page};
+
+use percent_encoding::{AsciiSet, NON_ALPHANUMERIC, ascii_set, utf8_percent_encode};
+use render::escape_into;
+use std::alloc::{AllocError, Global};
+
+/// What an address escapes, as a node does in a `Location` line: each byte but letters, digits and these marks (RFC 3986, section 2.3), and the slash.
+pub(crate) const ESCAPED: AsciiSet = ascii_set!(
+    NON_ALPHANUMERIC
+        .remove(b'-')
+        .remove(b'.')
+        .remove(b'_')
+        .remove(b'~')
+        .remove(b'/')
+);
+
+/// A page that leads on to a target, at once and by a link.
+pub(crate) fn moved_page(alloc: Global, target: &str) -> Result<String, AllocError>
+    ensures { IfOk result (λ page. string_bytes page ≡ moved_page target.now) }
+{
+    let url = utf8_percent_encode(target, ESCAPED);
+    let mut name = String::new(alloc);
+    escape_into(target, &mut name)?;
+    format!(in alloc;
+        "<!DOCTYPE html>\n<meta charset=\"utf-8\">\n<meta http-equiv=\"refresh\" content=\"0; url={url}\">\n<title>Moved</title>\n<p>Moved to <a href=\"{url}\">{name}</a></p>\n"
+    )
+}

@@ -1,0 +1,185 @@
+//! Questions to a node over one connection.
+use crate::address::Address;
+use editor_http::{NodeAnswer, NodeAnswerFault, Question, read_answer};
+use engine_common::Feed;
+use http_read::{Counted, write_all};
+use std::alloc::{AllocError, Global};
+use std::io;
+use std::net::{Net, SocketAddr, TcpStream, ToSocketAddrs};
+use std::time::Duration;
+
+/// How many seconds a connection may take to come about.
+const CONNECTING: u64 = 3;
+
+/// How many seconds a call of a connection may wait: a node that is busy with others answers late.
+const WAITING: u64 = 10;
+
+/// The most questions of a connection: a node closes one behind a hundred.
+const QUESTIONS: usize = 100;
+
+/// Has what is written sent at once, and calls wait for so long.
+fn set_waiting(stream: &TcpStream) -> io::Result<()> {
+    let wait = Some(Duration::from_secs(WAITING));
+    stream.set_nodelay(true)?;
+    stream.set_read_timeout(wait)?;
+    stream.set_write_timeout(wait)
+}
+
+fn connect_to<N: Net<Stream = TcpStream>>(net: &N, address: &SocketAddr) -> io::Result<TcpStream> {
+    let stream = TcpStream::connect_timeout(net, address, Duration::from_secs(CONNECTING))?;
+    set_waiting(&stream)?;
+    Ok(stream)
+}
+
+/// A connection to the first address of a host that takes one.
+fn connect<N: Net<Stream = TcpStream>>(net: &N, host: &str) -> io::Result<TcpStream> {
+    let mut tried = Err(io::Error::from(io::ErrorKind::NotFound));
+    for address in host.to_socket_addrs(net)? {
+        tried = connect_to(net, &address);
+        if tried.is_ok() {
+            break;
+        }
+    }
+    tried
+}
+
+/// Writes a question: whether it was written.
+fn write_question(
+    alloc: Global,
+    stream: &TcpStream,
+    host: &str,
+    question: &Question<'_>,
+    last: bool,
+) -> Result<bool, AllocError> {
+    let request = question.spelled(alloc, host, last)?;
+    Ok(write_all(&mut Counted::new(stream), request.as_bytes()).is_ok())
+}
+
+/// Writes questions, the last of which ends the connection, as far as they can be written.
+fn write_questions(
+    alloc: Global,
+    stream: &TcpStream,
+    host: &str,
+    questions: &[Question<'_>],
+) -> Result<(), AllocError> {
+    let last = questions.len().saturating_sub(1);
+    for (i, question) in questions.iter().enumerate() {
+        if !write_question(alloc, stream, host, question, i == last)? {
+            break;
+        }
+    }
+    Ok(())
+}
+
+/// The next answer of a connection; nothing where none comes.
+fn next_answer(
+    alloc: Global,
+    reader: &mut Counted<&TcpStream>,
+    feed: &mut Feed,
+) -> Result<Option<NodeAnswer>, AllocError> {
+    match read_answer(alloc, reader, feed) {
+        Ok(answer) => Ok(Some(answer)),
+        Err(NodeAnswerFault::OutOfMemory) => Err(AllocError),
+        Err(_) => Ok(None),
+    }
+}
+
+/// Reads the answers to so many questions: as many as come.
+fn read_answers(
+    alloc: Global,
+    stream: &TcpStream,
+    count: usize,
+    answers: &mut Vec<NodeAnswer>,
+) -> Result<(), AllocError> {
+    let mut reader = Counted::new(stream);
+    let mut feed = Feed::new(alloc);
+    for _ in 0..count {
+        match next_answer(alloc, &mut reader, &mut feed)? {
+            Some(answer) => answers.push(answer)?,
+            None => break,
+        }
+    }
+    Ok(())
+}
+
+/// Asks over a connection. What was written is answered also where the rest could not be written.
+fn converse(
+    alloc: Global,
+    stream: &TcpStream,
+    host: &str,
+    questions: &[Question<'_>],
+    answers: &mut Vec<NodeAnswer>,
+) -> Result<(), AllocError> {
+    write_questions(alloc, stream, host, questions)?;
+    read_answers(alloc, stream, questions.len(), answers)
+}
+
+/// Asks a node all at once over a connection, and reads its answers, which come in the same order: as many as come before the connection fails or
+/// ends. Behind them the connection is closed, since a node does nothing else while it serves one.
+fn ask_once<N: Net<Stream = TcpStream>>(
+    net: &N,
+    alloc: Global,
+    host: &str,
+    questions: &[Question<'_>],
+    answers: &mut Vec<NodeAnswer>,
+) -> Result<(), AllocError> {
+    match connect(net, host) {
+        Ok(stream) => converse(alloc, &stream, host, questions, answers),
+        Err(fault) if fault.kind() == io::ErrorKind::OutOfMemory => Err(AllocError),
+        Err(_) => Ok(()),
+    }
+}
+
+/// Asks a node, and adds its answers.
+fn ask_all<N: Net<Stream = TcpStream>>(
+    net: &N,
+    alloc: Global,
+    host: &str,
+    questions: &[Question<'_>],
+    answers: &mut Vec<NodeAnswer>,
+) -> Result<(), AllocError> {
+    let mut asked: usize = 0;
+    for some in questions.chunks(QUESTIONS) {
+        ask_once(net, alloc, host, some, answers)?;
+        asked = some.len().saturating_add(asked);
+        if answers.len() < asked {
+            break;
+        }
+    }
+    Ok(())
+}
+
+/// The answers of a node to questions, in their order: fewer than these where it falls silent.
+pub fn ask<N: Net<Stream = TcpStream>>(
+    net: &N,
+    alloc: Global,
+    node: &Address,
+    questions: &[Question<'_>],
+) -> Result<Vec<NodeAnswer>, AllocError> {
+    let mut answers = Vec::new(alloc);
+    ask_all(net, alloc, node.host.as_str(), questions, &mut answers)?;
+    Ok(answers)
+}
+
+/// Why a node can't be connected to; nothing where it can.
+pub(crate) fn unreached<N: Net<Stream = TcpStream>>(net: &N, node: &Address) -> Option<io::Error> {
+    connect(net, node.host.as_str()).err()
+}
+
+/// The number that a node answers.
+fn number_in(answer: &NodeAnswer) -> Option<u64> {
+    if answer.status != 200 {
+        return None;
+    }
+    str::from_utf8(&answer.body).ok()?.trim_end().parse().ok()
+}
+
+/// The number of a node's newest release; nothing where it doesn't say.
+pub fn newest<N: Net<Stream = TcpStream>>(
+    net: &N,
+    alloc: Global,
+    node: &Address,
+) -> Result<Option<u64>, AllocError> {
+    let answers = ask(net, alloc, node, &[Question::Newest])?;
+    Ok(answers.first().and_then(number_in))
+}

@@ -1,0 +1,203 @@
+//! What is on its way is sent until each has its receipt.
+use crate::address::Address;
+use crate::asking::ask;
+use crate::group::Group;
+use crate::stop::stop;
+use editor_common::{EditorFault, now, passed, rest, say_made};
+use editor_http::{NodeAnswer, Question};
+use editor_ledger::Ledger;
+use editor_plan::{Ask, Came, DeliveryClock, Flight, Heard, LONGEST_REST, Step};
+use site_ids::Ticket;
+use std::alloc::{AllocError, Global};
+use std::io::Write;
+use std::net::{Net, TcpStream};
+use std::rt::Clock;
+use std::time::Instant;
+
+/// Progress is told behind so many commands.
+const TELLING: usize = 100;
+
+/// The text that is on its way under a number.
+fn text_under(ledger: &Ledger, number: u64) -> &str {
+    match ledger.sent().iter().find(|sent| sent.number == number) {
+        Some(sent) => sent.text.as_str(),
+        None => "",
+    }
+}
+
+fn question(ledger: &Ledger, ask: Ask) -> Question<'_> {
+    let editor = ledger.editor();
+    match ask {
+        Ask::Receipt(number) => Question::Receipt(Ticket { editor, number }),
+        Ask::Submit(number) => {
+            Question::Submit(Ticket { editor, number }, text_under(ledger, number))
+        }
+    }
+}
+
+/// The answers of a node to what is asked of it.
+fn answers_of<N: Net<Stream = TcpStream>>(
+    net: &N,
+    alloc: Global,
+    node: &Address,
+    ledger: &Ledger,
+    asks: &[Ask],
+) -> Result<Vec<NodeAnswer>, AllocError> {
+    let questions: Vec<Question<'_>> = asks
+        .iter()
+        .map(|ask| question(ledger, *ask))
+        .collect(alloc)?;
+    ask(net, alloc, node, &questions)
+}
+
+/// What a node refused, and its words.
+fn refusal(
+    alloc: Global,
+    url: &str,
+    ledger: &Ledger,
+    ask: Ask,
+    answer: &NodeAnswer,
+) -> Result<String, AllocError> {
+    let head = match ask {
+        Ask::Submit(number) => text_under(ledger, number).lines().next().unwrap_or(""),
+        Ask::Receipt(_) => "",
+    };
+    let status = answer.status;
+    let said = str::from_utf8(&answer.body).unwrap_or("").trim_end();
+    format!(in alloc; "{url}: {head}: answered {status} {said}")
+}
+
+/// Hears an answer. A refusal ends the publication.
+fn hear(
+    alloc: Global,
+    flight: &mut Flight,
+    url: &str,
+    ledger: &mut Ledger,
+    ask: Ask,
+    answer: &NodeAnswer,
+) -> Result<(), EditorFault> {
+    match flight.hear(ledger, ask, answer.status)? {
+        Heard::Refused => Err(stop(refusal(alloc, url, ledger, ask, answer))),
+        _ => Ok(()),
+    }
+}
+
+/// Hears answers, which come in the order of what was asked.
+fn hear_all(
+    alloc: Global,
+    flight: &mut Flight,
+    url: &str,
+    ledger: &mut Ledger,
+    asks: &[Ask],
+    answers: &[NodeAnswer],
+) -> Result<(), EditorFault> {
+    for (ask, answer) in asks.iter().zip(answers) {
+        hear(alloc, flight, url, ledger, *ask, answer)?;
+    }
+    Ok(())
+}
+
+/// One connection to a node: whether it answered.
+fn exchange<N: Net<Stream = TcpStream>>(
+    net: &N,
+    alloc: Global,
+    flight: &mut Flight,
+    node: &Address,
+    ledger: &mut Ledger,
+) -> Result<bool, EditorFault> {
+    let asks = flight.asks(alloc, ledger.sent())?;
+    let answers = answers_of(net, alloc, node, ledger, &asks)?;
+    hear_all(alloc, flight, node.url.as_str(), ledger, &asks, &answers)?;
+    Ok(!answers.is_empty())
+}
+
+/// Tells each hundred receipts of so many commands, of which so many were left and are.
+fn tell<E: Write>(
+    alloc: Global,
+    err: &mut E,
+    all: usize,
+    before: usize,
+    after: usize,
+) -> Result<(), EditorFault> {
+    let (had, has) = (all.saturating_sub(before), all.saturating_sub(after));
+    if has / TELLING == had / TELLING {
+        return Ok(());
+    }
+    say_made(err, format!(in alloc; "{has} of {all} commands"))
+}
+
+/// One connection to the node that is spoken to, and what came of it.
+fn bring<N: Net<Stream = TcpStream>, E: Write>(
+    net: &N,
+    alloc: Global,
+    err: &mut E,
+    flight: &mut Flight,
+    group: &Group,
+    ledger: &mut Ledger,
+    all: usize,
+) -> Result<Came, EditorFault> {
+    let before = ledger.sent().len();
+    let answered = exchange(net, alloc, flight, group.node()?, ledger)?;
+    let after = ledger.sent().len();
+    tell(alloc, err, all, before, after)?;
+    Ok(match (answered, after < before) {
+        (_, true) => Came::Receipt,
+        (true, false) => Came::Answers,
+        (false, false) => Came::Silence,
+    })
+}
+
+/// Speaks to the next node, which has taken nothing. Once each was spoken to it rests.
+fn turn<C: Clock>(clock: &C, alloc: Global, flight: &mut Flight, group: &mut Group) {
+    *flight = Flight::new(alloc);
+    if group.next() {
+        rest(clock, LONGEST_REST);
+    }
+}
+
+/// Why nothing is sent any longer.
+fn too_slow(alloc: Global, patience: u64) -> EditorFault {
+    stop(format!(in alloc;
+        "no progress in {patience} seconds: is a majority of the nodes running? Run it again, and it goes on"
+    ))
+}
+
+/// Sends, as the clock says, until nothing is on its way.
+fn deliver_at<R: Net<Stream = TcpStream> + Clock + AllocGlobal, E: Write>(
+    rt: &R,
+    err: &mut E,
+    group: &mut Group,
+    ledger: &mut Ledger,
+    flight: &mut Flight,
+    since: Instant,
+    patience: u64,
+) -> Result<(), EditorFault> {
+    let all = ledger.sent().len();
+    let mut clock = DeliveryClock::new();
+    for _ in 0..u64::MAX {
+        if ledger.is_idle() {
+            return Ok(());
+        }
+        let came = bring(rt, rt.alloc(), err, flight, group, ledger, all)?;
+        match clock.step(came, passed(rt, since)?, patience) {
+            Step::Again(millis) => rest(rt, millis),
+            Step::Next => turn(rt, rt.alloc(), flight, group),
+            Step::GiveUp => return Err(too_slow(rt.alloc(), patience)),
+        }
+    }
+    Err(EditorFault::Clock)
+}
+
+/// Sends what is on its way in a ledger until each has its receipt. It stays with a node while receipts come there, and gives up where none came for so
+/// many seconds.
+pub fn deliver<R: Net<Stream = TcpStream> + Clock + AllocGlobal, E: Write>(
+    rt: &R,
+    err: &mut E,
+    group: &mut Group,
+    ledger: &mut Ledger,
+    patience: u64,
+) -> Result<(), EditorFault> {
+    let mut flight = Flight::new(rt.alloc());
+    let since = now(rt)?;
+    deliver_at(rt, err, group, ledger, &mut flight, since, patience)
+}

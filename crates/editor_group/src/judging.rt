@@ -1,0 +1,217 @@
+//! Whether a ledger is the newest of its editor, as the group says.
+use crate::address::Address;
+use crate::asking::{ask, unreached};
+use crate::group::Group;
+use crate::stop::stop;
+use editor_common::{EditorFault, now, passed, rest, say, say_made};
+use editor_http::{NodeAnswer, Question};
+use editor_ledger::Ledger;
+use editor_plan::{Standing, Told, Witness, last_ticket, standing_of, told_by};
+use site_ids::Ticket;
+use std::alloc::{AllocError, Global};
+use std::io::Write;
+use std::net::{Net, TcpStream};
+use std::rt::Clock;
+use std::time::Instant;
+
+/// How many milliseconds lie between two times that all nodes are asked.
+const AGAIN: u64 = 500;
+
+/// An editor, the last ticket that has its receipt by a ledger, and the next one.
+#[derive(Clone, Copy)]
+struct Claim {
+    editor: u32,
+    last: u64,
+    next: u64,
+}
+
+fn claim_of(ledger: &Ledger) -> Claim {
+    Claim {
+        editor: ledger.editor(),
+        last: last_ticket(ledger),
+        next: ledger.next(),
+    }
+}
+
+fn told(answer: Option<&NodeAnswer>) -> Told {
+    told_by(answer.map(|answer| answer.status))
+}
+
+/// What a node says of two tickets.
+fn witness<N: Net<Stream = TcpStream>>(
+    net: &N,
+    alloc: Global,
+    node: &Address,
+    claim: Claim,
+) -> Result<Witness, AllocError> {
+    let Claim { editor, last, next } = claim;
+    let questions = [
+        Question::Receipt(Ticket {
+            editor,
+            number: next,
+        }),
+        Question::Receipt(Ticket {
+            editor,
+            number: last,
+        }),
+    ];
+    let answers = ask(net, alloc, node, &questions)?;
+    Ok(Witness {
+        next: told(answers.get(0)),
+        last: told(answers.get(1)),
+    })
+}
+
+/// What each node says now of a ledger's last ticket and its next one.
+fn witnesses_now<N: Net<Stream = TcpStream>>(
+    net: &N,
+    alloc: Global,
+    group: &Group,
+    claim: Claim,
+) -> Result<Vec<Witness>, AllocError> {
+    let mut witnesses = Vec::new(alloc);
+    for node in group.nodes() {
+        witnesses.push(witness(net, alloc, node, claim)?)?;
+    }
+    Ok(witnesses)
+}
+
+/// Which node is the first that confirms a ledger.
+fn confirming(last: u64, witnesses: &[Witness]) -> Option<usize> {
+    witnesses.iter().position(|witness| standing_of(last, &[*witness]) == Standing::Newest)
+}
+
+/// Asks all nodes, and speaks to the first that confirms a ledger, if one does.
+fn ask_group<N: Net<Stream = TcpStream>>(
+    net: &N,
+    alloc: Global,
+    group: &mut Group,
+    claim: Claim,
+) -> Result<Standing, AllocError> {
+    let witnesses = witnesses_now(net, alloc, group, claim)?;
+    let found = standing_of(claim.last, &witnesses);
+    if found == Standing::Newest {
+        group.speak_to(confirming(claim.last, &witnesses));
+    }
+    Ok(found)
+}
+
+/// Why a ledger is refused that is none of the newest.
+fn reason(
+    alloc: Global,
+    folder: &str,
+    claim: Claim,
+    found: Standing,
+) -> Result<String, AllocError> {
+    let Claim { editor, last, next } = claim;
+    match found {
+        Standing::Older => {
+            format!(in alloc;
+                "{folder}/published: is older than what the group has of editor {editor}: ticket {next} was given. Another copy of this folder has published, or this file went back.\nTake the newest copy of the file and publish again. Or remove it and publish as a new editor: what the folder has no more is then to be listed in its file removes"
+            )
+        }
+        Standing::Elsewhere => {
+            format!(in alloc;
+                "{folder}/published: no node that answers knows ticket {last} of editor {editor}, so nothing was sent. Nodes that were down need a majority to learn what they had: see that one runs, and publish again. Where this is another group, remove the file to publish there as a new editor"
+            )
+        }
+        Standing::Unanswered | Standing::Newest => {
+            String::from_str(alloc, "no node answers: nothing was sent")
+        }
+    }
+}
+
+/// Tells why a node is silent.
+fn tell_silent<N: Net<Stream = TcpStream>, E: Write>(
+    net: &N,
+    alloc: Global,
+    err: &mut E,
+    node: &Address,
+) -> Result<(), EditorFault> {
+    let url = node.url.as_str();
+    let line = match unreached(net, node) {
+        Some(fault) => format!(in alloc; "{url}: {fault}"),
+        None => format!(in alloc; "{url}: is no node, or too busy to answer"),
+    };
+    say_made(err, line)
+}
+
+/// Tells why none of the nodes answers, where none does.
+fn tell_unanswered<N: Net<Stream = TcpStream>, E: Write>(
+    net: &N,
+    alloc: Global,
+    err: &mut E,
+    nodes: &[Address],
+    found: Standing,
+) -> Result<(), EditorFault> {
+    if found == Standing::Unanswered {
+        for node in nodes {
+            tell_silent(net, alloc, err, node)?;
+        }
+    }
+    Ok(())
+}
+
+/// What is told while it waits for a standing to change.
+fn waiting(found: Standing) -> &'static str {
+    match found {
+        Standing::Elsewhere => "no node knows the last ticket yet: waiting",
+        _ => "no node answers: waiting",
+    }
+}
+
+/// Whether a standing is one that is not waited for any longer.
+fn is_final<C: Clock>(
+    clock: &C,
+    since: Instant,
+    patience: u64,
+    found: Standing,
+) -> Result<bool, EditorFault> {
+    Ok(
+        found == Standing::Newest
+            || found == Standing::Older
+            || passed(clock, since)? / 1000 >= patience,
+    )
+}
+
+/// How a ledger stands to a group once it is confirmed or refused, or so many seconds have passed.
+fn settled<R: Net<Stream = TcpStream> + Clock + AllocGlobal, E: Write>(
+    rt: &R,
+    err: &mut E,
+    group: &mut Group,
+    claim: Claim,
+    patience: u64,
+) -> Result<Standing, EditorFault> {
+    let since = now(rt)?;
+    for tries in 0..u64::MAX {
+        let found = ask_group(rt, rt.alloc(), group, claim)?;
+        if tries == 0 {
+            tell_unanswered(rt, rt.alloc(), err, group.nodes(), found)?;
+        }
+        if is_final(rt, since, patience, found)? {
+            return Ok(found);
+        }
+        if tries == 0 {
+            say(err, waiting(found))?;
+        }
+        rest(rt, AGAIN);
+    }
+    Err(EditorFault::Clock)
+}
+
+/// Asks until a node confirms that a folder's ledger is the newest of its editor, which is spoken to from then on; or one says that there is a newer one,
+/// or so many seconds have passed: then it is refused.
+pub fn confirm<R: Net<Stream = TcpStream> + Clock + AllocGlobal, E: Write>(
+    rt: &R,
+    err: &mut E,
+    folder: &str,
+    group: &mut Group,
+    ledger: &Ledger,
+    patience: u64,
+) -> Result<(), EditorFault> {
+    let claim = claim_of(ledger);
+    match settled(rt, err, group, claim, patience)? {
+        Standing::Newest => Ok(()),
+        found => Err(stop(reason(rt.alloc(), folder, claim, found))),
+    }
+}

@@ -1,0 +1,22 @@
+//! A group of nodes, spoken to over sockets: what a publication asks of it and sends.
+//!
+//! `node.rt` reads addresses, `group.rt` says which node is spoken to, `asking.rt` asks one over a connection, with the bytes of `editor_http`.
+//! `judging.rt` asks the group whether a ledger is the newest, and `delivering.rt` sends what is on its way until each command has its receipt; what is
+//! asked next and what answers mean, `editor_plan` says. `status.rt` writes what each node says of itself. What real
+//! sockets give and take is tested, not proved.
+#![tactic(auto)]
+
+mod address;
+mod asking;
+mod delivering;
+mod group;
+mod judging;
+mod status;
+mod stop;
+
+pub use address::Address;
+pub use asking::{ask, newest};
+pub use delivering::deliver;
+pub use group::Group;
+pub use judging::confirm;
+pub use status::tell_status;

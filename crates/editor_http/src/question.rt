@@ -1,0 +1,97 @@
+//! What can be asked of a node, as the bytes of a request.
+ghost use Rattle.std.specs.Prelude.{◌≡◌, Bool, true, false, IfOk, string_bytes};
+ghost use Rattle.editor_http.specs.Requests.{closing, receipt_target, page_target, submit_request, get_request, request_of};
+
+use percent_encoding::{AsciiSet, NON_ALPHANUMERIC, ascii_set, utf8_percent_encode};
+use site_ids::Ticket;
+use std::alloc::{AllocError, Global};
+
+/// What a target escapes of a path: each byte but letters, digits and these marks (RFC 3986, section 2.3), and the slash.
+pub(crate) const ESCAPED: AsciiSet = ascii_set!(
+    NON_ALPHANUMERIC
+        .remove(b'-')
+        .remove(b'.')
+        .remove(b'_')
+        .remove(b'~')
+        .remove(b'/')
+);
+
+/// What can be asked of a node.
+#[derive(Clone, Copy)]
+pub enum Question<'a> {
+    /// To take a command text under a ticket.
+    Submit(Ticket, &'a str),
+    /// The instance at which a ticket's command is known.
+    Receipt(Ticket),
+    /// The number of the newest release.
+    Newest,
+    /// The page of a release for a path.
+    Page(u64, &'a str),
+}
+
+/// The line that ends a connection.
+fn closing(last: bool) -> &'static str
+    ensures { result.now ≡ closing last }
+{
+    if last { "Connection: close\r\n" } else { "" }
+}
+
+/// A submission.
+fn submit_request(
+    alloc: Global,
+    host: &str,
+    last: bool,
+    ticket: Ticket,
+    text: &str,
+) -> Result<String, AllocError>
+    ensures { IfOk result (λ request. string_bytes request ≡ submit_request host.now last ticket text.now) }
+{
+    let Ticket { editor, number } = ticket;
+    let closing = closing(last);
+    let length = text.len();
+    format!(in alloc;
+        "POST /_submit/{editor}/{number} HTTP/1.1\r\nHost: {host}\r\n{closing}Content-Length: {length}\r\n\r\n{text}"
+    )
+}
+
+/// A request for a target.
+fn get_request(alloc: Global, host: &str, last: bool, target: &str) -> Result<String, AllocError>
+    ensures { IfOk result (λ request. string_bytes request ≡ get_request host.now last target.now) }
+{
+    let closing = closing(last);
+    format!(in alloc; "GET {target} HTTP/1.1\r\nHost: {host}\r\n{closing}\r\n")
+}
+
+fn receipt_target(alloc: Global, ticket: Ticket) -> Result<String, AllocError>
+    ensures { IfOk result (λ target. string_bytes target ≡ receipt_target ticket) }
+{
+    let Ticket { editor, number } = ticket;
+    format!(in alloc; "/_ticket/{editor}/{number}")
+}
+
+fn page_target(alloc: Global, release: u64, path: &str) -> Result<String, AllocError>
+    ensures { IfOk result (λ target. string_bytes target ≡ page_target release path.now) }
+{
+    let address = utf8_percent_encode(path, ESCAPED);
+    format!(in alloc; "/@{release}{address}")
+}
+
+impl Question<'_> {
+    /// The bytes of the request to a host. Behind the last one of a connection the node closes it.
+    pub fn spelled(&self, alloc: Global, host: &str, last: bool) -> Result<String, AllocError>
+        ensures { IfOk result (λ request. string_bytes request ≡ request_of host.now last self.now) }
+    {
+        match self {
+            Question::Submit(ticket, text) => submit_request(alloc, host, last, *ticket, text),
+            Question::Receipt(ticket) => {
+                let target = receipt_target(alloc, *ticket)?;
+                get_request(alloc, host, last, target.as_str())
+            }
+            Question::Newest => get_request(alloc, host, last, "/_newest"),
+            Question::Page(release, path) => {
+                let target = page_target(alloc, *release, path)?;
+                get_request(alloc, host, last, target.as_str())
+            }
+        }
+    }
+}

@@ -1,0 +1,25 @@
+use Rattle.std.proofs.Common.{◌≡◌, ℕ, List, ◌++◌, string_bytes, ap, ◌∙◌, append_assoc}
+use Rattle.std.specs.List.{flat_map}
+use Rattle.editor_ledger.specs.Spelling.{front_lines, released_line, kept_entry, sent_entry}
+use Rattle.editor_ledger.proofs.ledger.Ledger.spelled.Goals as goal
+
+one_after_the_other : (front log kept sent first second third : List ℕ) → first ≡ front ++ log → second ≡ first ++ kept → third ≡ second ++ sent → third ≡ front ++ (log ++ (kept ++ sent))
+one_after_the_other front log kept sent first second third one two three =
+    three ∙ ap (λ t. t ++ sent) (two ∙ ap (λ t. t ++ kept) one) ∙ simp append_assoc
+
+front : (e e' n n' l l' : ℕ) → e ≡ e' → n ≡ n' → l ≡ l' → front_lines e n l ≡ front_lines e' n' l'
+front e e' n n' l l' same_e same_n same_l = ap (λ (k : ℕ). front_lines k n l) same_e ∙ ap (λ (k : ℕ). front_lines e' k l) same_n ∙ ap (λ (k : ℕ). front_lines e' n' k) same_l
+
+pub returns : goal.returns
+returns c =
+    let begun : string_bytes c.in_ok-text.text ≡ front_lines c.args.self.now.editor c.args.self.now.next c.args.self.now.last_release =
+    c.in_ok-text.ensures ∙ front _ _ _ _ _ _ c.editor.ensures c.next.ensures c.last_release.ensures in
+    let log : c.as_str.result.now ≡ flat_map released_line c.args.self.now.log = c.as_str.ensures.value ∙ c.in_ok-log_lines.ensures ∙ ap (flat_map released_line) c.log.ensures in
+    let kept : c.as_str-2.result.now ≡ flat_map kept_entry c.args.self.now.kept = c.as_str-2.ensures.value ∙ c.in_ok-kept_entries.ensures ∙ ap (flat_map kept_entry) c.kept.ensures in
+    let sent : c.as_str-3.result.now ≡ flat_map sent_entry c.args.self.now.sent = c.as_str-3.ensures.value ∙ c.in_ok-sent_entries.ensures ∙ ap (flat_map sent_entry) c.sent.ensures in
+    one_after_the_other (front_lines c.args.self.now.editor c.args.self.now.next c.args.self.now.last_release)
+    (flat_map released_line c.args.self.now.log) (flat_map kept_entry c.args.self.now.kept) (flat_map sent_entry c.args.self.now.sent)
+    (string_bytes c.push_str.new.self) (string_bytes c.push_str-2.new.self) (string_bytes c.push_str-3.new.self)
+    (c.in_ok-push_str.ensures.bytes ∙ ap (λ t. t ++ c.as_str.result.now) begun ∙ ap (λ t. front_lines c.args.self.now.editor c.args.self.now.next c.args.self.now.last_release ++ t) log)
+    (c.in_ok-push_str-2.ensures.bytes ∙ ap (λ t. string_bytes c.push_str.new.self ++ t) kept)
+    (c.in_ok-push_str-3.ensures.bytes ∙ ap (λ t. string_bytes c.push_str-2.new.self ++ t) sent)

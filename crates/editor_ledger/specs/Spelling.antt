@@ -1,0 +1,29 @@
+-- A ledger as the text of a file.
+use Rattle.std.specs.Prelude.{ℕ, List, [], ◌∷◌, ◌++◌, length, codes, decimal}
+use Rattle.std.specs.List.{flat_map}
+use Rattle.editor_ledger.specs.Books.{Given, Book}
+use Rattle.editor_ledger.specs.declared.released.Released.{Released}
+
+abbrev pub released_line : Released → List ℕ
+released_line r = codes "released " ++ (decimal r.release ++ (32 ∷ (decimal r.time ++ (32 ∷ (decimal r.commands ++ (10 ∷ []))))))
+
+-- a text behind the line of its length, and a newline
+abbrev pub kept_entry : List ℕ → List ℕ
+kept_entry text = codes "has " ++ (decimal (length text) ++ (10 ∷ (text ++ (10 ∷ []))))
+
+abbrev pub sent_entry : Given → List ℕ
+sent_entry g = codes "sent " ++ (decimal g.number ++ (32 ∷ (decimal (length g.text) ++ (10 ∷ (g.text ++ (10 ∷ []))))))
+
+abbrev pub front_lines : ℕ → ℕ → ℕ → List ℕ
+front_lines editor next last_release =
+    codes "published 2\neditor "
+    ++ (decimal editor
+    ++ (codes "\nnext "
+    ++ (decimal next
+    ++ (codes "\nlast_release "
+    ++ (decimal last_release ++ (10 ∷ []))))))
+
+abbrev pub spelled : Book → List ℕ
+spelled book =
+    front_lines book.editor book.next book.last_release
+    ++ (flat_map released_line book.log ++ (flat_map kept_entry book.kept ++ flat_map sent_entry book.sent))

@@ -1,0 +1,68 @@
+use std::alloc::{AllocError, AllocFailed};
+use thiserror::Error;
+
+/// Why nothing was planned.
+#[derive(Clone, Copy, Debug, Drop, PartialEq, Eq, Error)]
+pub enum LedgerFault {
+    #[error("the editor has no tickets left: publish as another editor")]
+    NoTickets,
+    #[error("out of memory")]
+    OutOfMemory,
+}
+
+impl From<AllocError> for LedgerFault {
+    ghost use Rattle.std.specs.Prelude.{◌≡◌};
+    ghost use Rattle.editor_ledger.specs.declared.fault.LedgerFault.TheVariants.{OutOfMemory};
+
+    ghost from_gives = { λ _ e. e ≡ OutOfMemory };
+
+    fn from(_refused: AllocError) -> LedgerFault {
+        LedgerFault::OutOfMemory
+    }
+}
+
+impl<T: Drop> From<AllocFailed<T>> for LedgerFault {
+    ghost use Rattle.std.specs.Prelude.{◌≡◌};
+    ghost use Rattle.editor_ledger.specs.declared.fault.LedgerFault.TheVariants.{OutOfMemory};
+
+    ghost from_gives = { λ _ e. e ≡ OutOfMemory };
+
+    fn from(_refused: AllocFailed<T>) -> LedgerFault {
+        LedgerFault::OutOfMemory
+    }
+}
+
+/// Why a text is no ledger.
+#[derive(Clone, Copy, Debug, Drop, PartialEq, Eq, Error)]
+pub enum LedgerReadFault {
+    /// It is what the script `tools/publish` kept; to `read_old`, with something on its way.
+    #[error("the script tools/publish was interrupted here: publish with that script once more, until it says that nothing has changed, and then with sitepub")]
+    Old,
+    /// The line of that number, from 1, is the first that no ledger has.
+    #[error("line {0} is none that sitepub wrote: take the file as it was, or remove it and publish as a new editor")]
+    Line(usize),
+    #[error("out of memory")]
+    OutOfMemory,
+}
+
+impl From<AllocError> for LedgerReadFault {
+    ghost use Rattle.std.specs.Prelude.{◌≡◌};
+    ghost use Rattle.editor_ledger.specs.declared.fault.LedgerReadFault.TheVariants.{OutOfMemory};
+
+    ghost from_gives = { λ _ e. e ≡ OutOfMemory };
+
+    fn from(_refused: AllocError) -> LedgerReadFault {
+        LedgerReadFault::OutOfMemory
+    }
+}
+
+impl<T: Drop> From<AllocFailed<T>> for LedgerReadFault {
+    ghost use Rattle.std.specs.Prelude.{◌≡◌};
+    ghost use Rattle.editor_ledger.specs.declared.fault.LedgerReadFault.TheVariants.{OutOfMemory};
+
+    ghost from_gives = { λ _ e. e ≡ OutOfMemory };
+
+    fn from(_refused: AllocFailed<T>) -> LedgerReadFault {
+        LedgerReadFault::OutOfMemory
+    }
+}

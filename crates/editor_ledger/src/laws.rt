@@ -1,0 +1,16 @@
+ghost use Rattle.editor_ledger.specs.Laws.{EachTicketHasOneText, PlanTurns, SpellsOne};
+
+/// A ticket has one text, for every interruption and continuation.
+pub fn each_ticket_has_one_text()
+    ensures { EachTicketHasOneText }
+{}
+
+/// Once a plan has its receipts, what was published from the folder is the folder.
+pub fn plans_turn_sites()
+    ensures { PlanTurns }
+{}
+
+/// What is read back is what was written.
+pub fn files_keep_ledgers()
+    ensures { SpellsOne }
+{}

@@ -1,0 +1,223 @@
+//! What an editor keeps of its publications.
+ghost use Rattle.std.specs.Prelude.{◌≡◌, ◌≤◌, ◌+◌, ◌^◌, length, map, true, Err, OnOk, OnErr, string_bytes};
+ghost use Rattle.editor_ledger.specs.Steps.{with_text};
+ghost use Rattle.editor_ledger.specs.View.{given_view};
+
+use crate::fault::LedgerFault;
+use crate::head::are_about_one;
+use crate::planning::plan_of;
+use crate::released::Released;
+use crate::sent::{Sent, drop_under, numbered, under};
+use std::alloc::{AllocError, Global};
+use std::marker::Model;
+
+/// The command that makes a release.
+const RELEASE: &str = "release\n";
+
+/// What the group has of an editor's folder, and what is on its way.
+#[derive(Drop)]
+pub struct Ledger {
+    pub(crate) editor: u32,
+    /// The number of the next ticket; the first is 1.
+    pub(crate) next: u64,
+    /// The ticket of the last release that has its receipt; 0 for none.
+    pub(crate) last_release: u64,
+    /// The last text about each kind and name, as the receipts came.
+    pub(crate) kept: Vec<String>,
+    /// What is on its way, in the order of the tickets.
+    pub(crate) sent: Vec<Sent>,
+    /// The releases, the oldest first.
+    pub(crate) log: Vec<Released>,
+}
+
+impl Model for Ledger {
+    ghost use Rattle.std.specs.Prelude.{map, string_bytes};
+    ghost use Rattle.editor_ledger.specs.Books.{Book};
+
+    ghost Value = { Book };
+
+    ghost use Rattle.editor_ledger.specs.View.{given_view};
+
+    ghost view = { λ l. record { editor = l.editor; next = l.next; last_release = l.last_release; kept = map string_bytes l.kept.items; sent = map given_view l.sent.items; log = l.log.items } };
+}
+
+/// Keeps one more text: of each kind and name the last.
+fn keep(kept: &mut Vec<String>, text: String) -> Result<(), AllocError>
+    ensures ok { OnOk result (map string_bytes kept.new.items ≡ with_text (string_bytes text) (map string_bytes kept.old.items)) }
+    ensures err { OnErr result (kept.new.items ≡ kept.old.items) }
+{
+    kept.reserve(1)?;
+    kept.retain(|had| !are_about_one(text.as_str(), had.as_str()));
+    kept.push_reserved(text);
+    Ok(())
+}
+
+impl Ledger {
+    ghost use Rattle.editor_ledger.specs.Books.{fresh};
+    ghost use Rattle.editor_ledger.specs.Steps.{is_idle, has_unshown, with_tickets, planned, release_planned, noted, received, released_again, logged};
+    ghost use Rattle.editor_ledger.specs.Plans.{plan_of};
+
+    /// Of an editor that has published nothing.
+    pub fn new(alloc: Global, editor: u32) -> Ledger
+        ensures { result ≡ fresh editor }
+    {
+        Ledger {
+            editor,
+            next: 1,
+            last_release: 0,
+            kept: Vec::new(alloc),
+            sent: Vec::new(alloc),
+            log: Vec::new(alloc),
+        }
+    }
+
+    pub fn editor(&self) -> u32
+        ensures { result ≡ self.now.editor }
+    {
+        self.editor
+    }
+
+    /// The number of the next ticket.
+    pub fn next(&self) -> u64
+        ensures { result ≡ self.now.next }
+    {
+        self.next
+    }
+
+    /// The ticket of the last release that has its receipt; 0 for none.
+    pub fn last_release(&self) -> u64
+        ensures { result ≡ self.now.last_release }
+    {
+        self.last_release
+    }
+
+    /// The last text that the group has about each kind and name.
+    pub fn kept(&self) -> &[String]
+        ensures { map string_bytes result.now ≡ self.now.kept }
+    {
+        self.kept.as_slice()
+    }
+
+    /// What is on its way, in the order of the tickets.
+    pub fn sent(&self) -> &[Sent]
+        ensures { map given_view result.now ≡ self.now.sent }
+    {
+        self.sent.as_slice()
+    }
+
+    /// The releases, the oldest first.
+    pub fn log(&self) -> &[Released]
+        ensures { result.now ≡ self.now.log }
+    {
+        self.log.as_slice()
+    }
+
+    /// Whether nothing is on its way.
+    pub fn is_idle(&self) -> bool
+        ensures { result ≡ is_idle self.now }
+    {
+        self.sent.is_empty()
+    }
+
+    /// Whether tickets were given since the last release.
+    pub fn has_unshown(&self) -> bool
+        ensures { result ≡ has_unshown self.now }
+    {
+        self.next.saturating_sub(self.last_release) > 1
+    }
+
+    /// Gives each text a ticket that none had.
+    fn give(&mut self, alloc: Global, texts: Vec<String>) -> Result<(), LedgerFault>
+        ensures ok { OnOk result (self.new ≡ with_tickets (map string_bytes texts.items) self.old) }
+        ensures err { OnErr result (self.new ≡ self.old) }
+        ensures tickets { result ≡ Err LedgerFault.NoTickets → 2 ^ 64 ≤ self.old.next + length texts.items }
+    {
+        let Some(next) = self.next.checked_add(texts.len() as u64) else {
+            return Err(LedgerFault::NoTickets);
+        };
+        self.sent = numbered(alloc, self.next, texts)?;
+        self.next = next;
+        Ok(())
+    }
+
+    /// Plans what turns the texts that the group has into the wanted ones, each about another kind and name.
+    pub fn plan(&mut self, alloc: Global, wanted: &[&str]) -> Result<(), LedgerFault>
+        requires { is_idle self.old ≡ true }
+        ensures ok { OnOk result (self.new ≡ planned (map (λ t. t.now) wanted.now) self.old) }
+        ensures err { OnErr result (self.new ≡ self.old) }
+        ensures tickets { result ≡ Err LedgerFault.NoTickets → 2 ^ 64 ≤ self.old.next + length (plan_of self.old.kept (map (λ t. t.now) wanted.now)) }
+    {
+        let texts = plan_of(alloc, &self.kept, wanted)?;
+        self.give(alloc, texts)
+    }
+
+    /// Plans the release of what the group has, where tickets were given since the last one.
+    pub fn plan_release(&mut self, alloc: Global) -> Result<(), LedgerFault>
+        requires { is_idle self.old ≡ true }
+        ensures ok { OnOk result (self.new ≡ release_planned self.old) }
+        ensures err { OnErr result (self.new ≡ self.old) }
+        ensures tickets { result ≡ Err LedgerFault.NoTickets → 2 ^ 64 ≤ self.old.next + 1 }
+    {
+        if !self.has_unshown() {
+            return Ok(());
+        }
+        let mut texts = Vec::with_capacity(alloc, 1)?;
+        texts.push(String::from_str(alloc, RELEASE)?)?;
+        self.give(alloc, texts)
+    }
+
+    /// Puts the last release on its way once more, under its own ticket, where there is one: nodes that were all down learn their log once
+    /// something is decided, and a ticket that was given does no harm.
+    pub fn release_again(&mut self, alloc: Global) -> Result<(), AllocError>
+        requires { is_idle self.old ≡ true }
+        ensures ok { OnOk result (self.new ≡ released_again self.old) }
+        ensures err { OnErr result (self.new ≡ self.old) }
+    {
+        if self.last_release == 0 {
+            return Ok(());
+        }
+        let mut sent = Vec::with_capacity(alloc, 1)?;
+        sent.push(Sent {
+            number: self.last_release,
+            text: String::from_str(alloc, RELEASE)?,
+        })?;
+        self.sent = sent;
+        Ok(())
+    }
+
+    /// The group has the text of the ticket.
+    fn hold(&mut self, number: u64, text: String) -> Result<(), AllocError>
+        ensures ok { OnOk result (self.new ≡ noted (record { number = number; text = string_bytes text }) self.old) }
+        ensures err { OnErr result (self.new ≡ self.old) }
+    {
+        if text.as_str() == RELEASE {
+            self.last_release = number;
+            Ok(())
+        } else {
+            keep(&mut self.kept, text)
+        }
+    }
+
+    /// Notes that the command of a ticket has its receipt.
+    pub fn receive(&mut self, number: u64) -> Result<(), AllocError>
+        ensures ok { OnOk result (self.new ≡ received number self.old) }
+        ensures err { OnErr result (self.new ≡ self.old) }
+    {
+        let Some(found) = under(&self.sent, number) else {
+            return Ok(());
+        };
+        let text = found.text.clone()?;
+        self.hold(number, text)?;
+        drop_under(&mut self.sent, number);
+        Ok(())
+    }
+
+    /// Adds a release to the log.
+    pub fn note(&mut self, released: Released) -> Result<(), AllocError>
+        ensures ok { OnOk result (self.new ≡ logged released self.old) }
+        ensures err { OnErr result (self.new ≡ self.old) }
+    {
+        self.log.push(released)?;
+        Ok(())
+    }
+}

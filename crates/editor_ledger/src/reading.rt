@@ -1,0 +1,245 @@
+//! A ledger, read back from the text of a file.
+ghost use Rattle.std.specs.Prelude.{◌≡◌, ◌≢◌, ◌↔◌, true, nat_eq, codes, Err, IfOk, IfErr};
+ghost use Rattle.std.specs.List.{starts_with};
+ghost use Rattle.editor_ledger.specs.Spelling.{spelled};
+
+use crate::fault::LedgerReadFault;
+use crate::ledger::Ledger;
+use crate::released::Released;
+use crate::sent::Sent;
+use std::alloc::Global;
+
+/// The version of the file.
+const VERSION: u64 = 2;
+
+/// What is left of a text, and the number of its first line.
+#[derive(Clone, Copy)]
+struct Rest<'a> {
+    text: &'a str,
+    line: usize,
+}
+
+/// What stands behind the front lines.
+#[derive(Clone, Copy)]
+enum Entry<'a> {
+    Released(Released),
+    Kept(&'a str),
+    Sent(u64, &'a str),
+}
+
+impl<'a> Rest<'a> {
+    /// The first line, and what follows it.
+    fn line(self) -> Result<(&'a str, Rest<'a>), LedgerReadFault>
+        ensures { IfErr result (λ e. e ≢ LedgerReadFault.Old) }
+    {
+        match self.text.split_once('\n') {
+            Some((line, text)) => Ok((
+                line,
+                Rest {
+                    text,
+                    line: self.line.saturating_add(1),
+                },
+            )),
+            None => Err(LedgerReadFault::Line(self.line)),
+        }
+    }
+
+    /// The words of the first line before and behind a blank.
+    fn parted<'b>(self, words: &'b str) -> Result<(&'b str, &'b str), LedgerReadFault>
+        ensures { IfErr result (λ e. e ≢ LedgerReadFault.Old) }
+    {
+        words
+            .split_once(' ')
+            .ok_or(LedgerReadFault::Line(self.line))
+    }
+
+    /// The number of a line that has a word before it.
+    fn number(self, word: &str) -> Result<(u64, Rest<'a>), LedgerReadFault>
+        ensures { IfErr result (λ e. e ≢ LedgerReadFault.Old) }
+    {
+        let (line, rest) = self.line()?;
+        let (first, number) = self.parted(line)?;
+        if first == word {
+            Ok((self.parsed(number)?, rest))
+        } else {
+            Err(LedgerReadFault::Line(self.line))
+        }
+    }
+
+    /// A number of the first line.
+    fn parsed(self, number: &str) -> Result<u64, LedgerReadFault>
+        ensures { IfErr result (λ e. e ≢ LedgerReadFault.Old) }
+    {
+        number.parse().map_err(|_| LedgerReadFault::Line(self.line))
+    }
+
+    /// A text of so many bytes, and a newline behind it.
+    fn counted(self, length: u64) -> Result<(&'a str, Rest<'a>), LedgerReadFault>
+        ensures { IfErr result (λ e. e ≢ LedgerReadFault.Old) }
+    {
+        let fault = LedgerReadFault::Line(self.line);
+        let (text, after) = self.text.split_at_checked(length as usize).ok_or(fault)?;
+        let after = after.strip_prefix('\n').ok_or(fault)?;
+        let lines = text.as_bytes().iter().filter(|b| **b == b'\n').count();
+        Ok((
+            text,
+            Rest {
+                text: after,
+                line: self.line.saturating_add(lines).saturating_add(1),
+            },
+        ))
+    }
+
+    /// The release that the numbers of the first line tell.
+    fn released(self, numbers: &str) -> Result<Released, LedgerReadFault>
+        ensures { IfErr result (λ e. e ≢ LedgerReadFault.Old) }
+    {
+        let (release, numbers) = self.parted(numbers)?;
+        let (time, commands) = self.parted(numbers)?;
+        Ok(Released {
+            release: self.parsed(release)?,
+            time: self.parsed(time)?,
+            commands: self.parsed(commands)?,
+        })
+    }
+
+    /// The command sent whose numbers stand in the first line; its text stands behind that.
+    fn sent(self, numbers: &str, rest: Rest<'a>) -> Result<(Entry<'a>, Rest<'a>), LedgerReadFault>
+        ensures { IfErr result (λ e. e ≢ LedgerReadFault.Old) }
+    {
+        let (number, length) = self.parted(numbers)?;
+        let (text, rest) = rest.counted(self.parsed(length)?)?;
+        Ok((Entry::Sent(self.parsed(number)?, text), rest))
+    }
+
+    /// The entry that the first line begins; the rest stands behind that line.
+    fn entry(self) -> Result<(Entry<'a>, Rest<'a>), LedgerReadFault>
+        ensures { IfErr result (λ e. e ≢ LedgerReadFault.Old) }
+    {
+        let (line, rest) = self.line()?;
+        match self.parted(line)? {
+            ("released", numbers) => Ok((Entry::Released(self.released(numbers)?), rest)),
+            ("has", length) => {
+                let (text, rest) = rest.counted(self.parsed(length)?)?;
+                Ok((Entry::Kept(text), rest))
+            }
+            ("sent", numbers) => self.sent(numbers, rest),
+            _ => Err(LedgerReadFault::Line(self.line)),
+        }
+    }
+}
+
+impl Ledger {
+    fn enter(&mut self, alloc: Global, entry: Entry<'_>) -> Result<(), LedgerReadFault>
+        ensures { IfErr result (λ e. e ≢ LedgerReadFault.Old) }
+    {
+        match entry {
+            Entry::Released(released) => self.log.push(released)?,
+            Entry::Kept(text) => self.kept.push(String::from_str(alloc, text)?)?,
+            Entry::Sent(number, text) => {
+                let text = String::from_str(alloc, text)?;
+                self.sent.push(Sent { number, text })?;
+            }
+        }
+        Ok(())
+    }
+
+    /// Enters all that is left of a text; an entry takes a byte or more.
+    fn enter_all(&mut self, alloc: Global, behind: Rest<'_>) -> Result<(), LedgerReadFault>
+        ensures { IfErr result (λ e. e ≢ LedgerReadFault.Old) }
+    {
+        let mut rest = behind;
+        for _ in 0..behind.text.len() {
+            if rest.text.is_empty() {
+                return Ok(());
+            }
+            let (entry, after) = rest.entry()?;
+            self.enter(alloc, entry)?;
+            rest = after;
+        }
+        Ok(())
+    }
+}
+
+/// What the front lines tell.
+#[derive(Clone, Copy)]
+struct Front {
+    editor: u32,
+    next: u64,
+    last_release: u64,
+}
+
+/// The front lines of a text, and what stands behind them.
+fn front_of(text: &str) -> Result<(Front, Rest<'_>), LedgerReadFault>
+    ensures { IfErr result (λ e. e ≢ LedgerReadFault.Old) }
+{
+    let (version, rest) = Rest { text, line: 1 }.number("published")?;
+    let (editor, rest) = rest.number("editor")?;
+    let (next, rest) = rest.number("next")?;
+    let (last_release, rest) = rest.number("last_release")?;
+    let Ok(editor) = u32::try_from(editor) else {
+        return Err(LedgerReadFault::Line(2));
+    };
+    if version != VERSION {
+        return Err(LedgerReadFault::Line(1));
+    }
+    let front = Front {
+        editor,
+        next,
+        last_release,
+    };
+    Ok((front, rest))
+}
+
+/// The ledger that a text looks like.
+fn parsed(alloc: Global, text: &str) -> Result<Ledger, LedgerReadFault>
+    ensures { IfErr result (λ e. e ≢ LedgerReadFault.Old) }
+{
+    let (front, rest) = front_of(text)?;
+    let mut ledger = Ledger::new(alloc, front.editor);
+    ledger.next = front.next;
+    ledger.last_release = front.last_release;
+    ledger.enter_all(alloc, rest)?;
+    Ok(ledger)
+}
+
+/// The number of the first line in which two texts differ.
+fn first_difference(text: &str, other: &str) -> usize {
+    let same = text
+        .as_bytes()
+        .iter()
+        .zip(other.as_bytes())
+        .take_while(|(a, b)| a == b)
+        .filter(|(a, _)| **a == b'\n')
+        .count();
+    same.saturating_add(1)
+}
+
+impl Ledger {
+    /// That text spells the ledger, or differs from what does in a line.
+    fn is_spelled(&self, alloc: Global, text: &str) -> Result<(), LedgerReadFault>
+        ensures ok { IfOk result (λ done. spelled self.now ≡ text.now) }
+        ensures err { IfErr result (λ e. e ≢ LedgerReadFault.Old) }
+    {
+        let again = self.spelled(alloc)?;
+        if again.as_str() == text {
+            Ok(())
+        } else {
+            Err(LedgerReadFault::Line(first_difference(text, again.as_str())))
+        }
+    }
+
+    /// Reads the text of a file back. What it reads is spelled by that very text, so that another spelling of a number, or entries in another order,
+    /// are a fault in the first line that a ledger would spell otherwise.
+    pub fn read(alloc: Global, text: &str) -> Result<Ledger, LedgerReadFault>
+        ensures ok { IfOk result (λ ledger. spelled ledger ≡ text.now) }
+        ensures old { result ≡ Err LedgerReadFault.Old ↔ starts_with nat_eq text.now (codes "editor ") ≡ true }
+    {
+        if text.starts_with("editor ") {
+            return Err(LedgerReadFault::Old);
+        }
+        let ledger = parsed(alloc, text)?;
+        ledger.is_spelled(alloc, text)?;
+        Ok(ledger)
+    }
+}

@@ -1,0 +1,6 @@
+pub mod Courses
+pub mod Flights
+pub mod Laws
+pub mod Moves
+pub mod DeliveryClocks
+pub mod Standings

@@ -1,0 +1,25 @@
+-- What happens to a ledger in publications, one after the other, whatever is interrupted in between: an interruption leaves the ledger that was saved last.
+use Rattle.std.specs.Prelude.{ℕ, List, [], ◌∷◌}
+use Rattle.editor_ledger.specs.Books.{Book}
+use Rattle.editor_ledger.specs.Steps.{logged}
+use Rattle.editor_ledger.specs.declared.released.Released.{Released}
+use Rattle.editor_plan.specs.Courses.{advanced}
+use Rattle.editor_plan.specs.Flights.{after_hearing}
+use Rattle.editor_plan.specs.declared.flight.Ask.{Ask}
+
+pub data Move : Type 0 where
+  -- a folder of these texts goes on
+  advances : List (List ℕ) → Move
+  -- an answer with that status is heard
+  hears : Ask → ℕ → Move
+  -- a release is told in the log
+  notes : Released → Move
+
+abbrev pub moved : Move → Book → Book
+moved (advances wanted) book = advanced wanted book
+moved (hears ask status) book = after_hearing ask status book
+moved (notes released) book = logged released book
+
+abbrev pub moved_all : List Move → Book → Book
+moved_all [] book = book
+moved_all (move ∷ later) book = moved_all later (moved move book)

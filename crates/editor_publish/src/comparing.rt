@@ -1,0 +1,156 @@
+//! Which pages a publication changes, and whether its release shows them.
+//!
+//! Behind an interrupted run all pages are compared, else those that changed.
+
+use editor_common::{EditorFault, say_made};
+use editor_folder::{View, path_in, views_of};
+use editor_group::{Address, ask};
+use editor_http::{Answer, Question};
+use editor_ledger::Ledger;
+use std::alloc::{AllocError, Global};
+use std::collections::BTreeSet;
+use std::io::Write;
+use std::net::{Net, TcpStream};
+
+/// A page that changes: what was shown before, as far as the ledger knows, and what is shown then.
+#[derive(Drop)]
+pub(crate) struct Change {
+    pub before: u16,
+    pub view: View,
+}
+
+/// Adds the paths that texts are about.
+fn add_paths(
+    alloc: Global,
+    paths: &mut BTreeSet<String>,
+    texts: &[&str],
+) -> Result<(), AllocError> {
+    for text in texts {
+        if let Some(path) = path_in(text) {
+            let _ = paths.insert(String::from_str(alloc, path)?)?;
+        }
+    }
+    Ok(())
+}
+
+/// The paths that either texts are about, each once.
+fn paths_of(alloc: Global, texts: &[&str], others: &[&str]) -> Result<Vec<String>, AllocError> {
+    let mut paths = BTreeSet::new(alloc);
+    add_paths(alloc, &mut paths, texts)?;
+    add_paths(alloc, &mut paths, others)?;
+    paths.into_iter().collect(alloc)
+}
+
+/// The views that differ from those before, which are of the same paths.
+fn differing(alloc: Global, olds: &[View], news: Vec<View>) -> Result<Vec<Change>, AllocError> {
+    let mut changes = Vec::new(alloc);
+    for (old, view) in olds.iter().zip(news) {
+        if old.status != view.status || old.body != view.body {
+            changes.push(Change {
+                before: old.status,
+                view,
+            })?;
+        }
+    }
+    Ok(changes)
+}
+
+/// The pages that differ between the texts before and those after.
+pub(crate) fn changes_of(
+    alloc: Global,
+    before: &[&str],
+    after: &[&str],
+) -> Result<Vec<Change>, AllocError> {
+    let paths = paths_of(alloc, before, after)?;
+    let olds = views_of(alloc, before, &paths)?;
+    let news = views_of(alloc, after, &paths)?;
+    differing(alloc, &olds, news)
+}
+
+/// The pages that differ between what a ledger says that the group has and the texts after.
+pub(crate) fn changes_since(
+    alloc: Global,
+    ledger: &Ledger,
+    after: &[&str],
+) -> Result<Vec<Change>, AllocError> {
+    let kept: Vec<&str> = ledger
+        .kept()
+        .iter()
+        .map(|text| text.as_str())
+        .collect(alloc)?;
+    changes_of(alloc, &kept, after)
+}
+
+fn is_shown(answer: Option<&Answer>, view: &View) -> bool {
+    match answer {
+        Some(answer) => {
+            answer.status == view.status && answer.body.as_slice() == view.body.as_bytes()
+        }
+        None => false,
+    }
+}
+
+/// Tells that a page is not shown, and why that may be.
+fn tell_difference<E: Write>(
+    alloc: Global,
+    err: &mut E,
+    url: &str,
+    release: u64,
+    path: &str,
+    answered: bool,
+) -> Result<(), EditorFault> {
+    let why = if answered {
+        "is not what this folder renders: another editor has put a name that it uses, or another copy of this folder was published at the same time. To put all of it again remove its file published, and publish as a new editor"
+    } else {
+        "was not answered"
+    };
+    say_made(err, format!(in alloc; "{url}/@{release}{path}: {why}"))
+}
+
+/// Tells each page that was not answered as it is wanted. Whether there is one is the answer.
+fn tell_all<E: Write>(
+    alloc: Global,
+    err: &mut E,
+    url: &str,
+    release: u64,
+    changes: &[Change],
+    answers: &[Answer],
+) -> Result<bool, EditorFault> {
+    let mut bad = false;
+    for (i, change) in changes.iter().enumerate() {
+        if !is_shown(answers.get(i), &change.view) {
+            bad = true;
+            let path = change.view.path.as_str();
+            tell_difference(alloc, err, url, release, path, i < answers.len())?;
+        }
+    }
+    Ok(bad)
+}
+
+/// The answers of a node for the pages of a release that change.
+fn pages_at<N: Net<Stream = TcpStream>>(
+    net: &N,
+    alloc: Global,
+    node: &Address,
+    release: u64,
+    changes: &[Change],
+) -> Result<Vec<Answer>, AllocError> {
+    let questions: Vec<Question<'_>> = changes
+        .iter()
+        .map(|change| Question::Page(release, change.view.path.as_str()))
+        .collect(alloc)?;
+    ask(net, alloc, node, &questions)
+}
+
+/// Tells each page of a release that is not as the folder renders it. Whether there is one is the answer.
+pub(crate) fn tell_differences<N: Net<Stream = TcpStream>, E: Write>(
+    net: &N,
+    alloc: Global,
+    err: &mut E,
+    node: &Address,
+    release: u64,
+    changes: &[Change],
+) -> Result<bool, EditorFault> {
+    let answers = pages_at(net, alloc, node, release, changes)?;
+    tell_all(alloc, err, node.url.as_str(), release, changes, &answers)
+}

@@ -1,0 +1,52 @@
+//! The release that a publication made.
+use editor_common::{EditorFault, say_made};
+use editor_ledger::Ledger;
+use std::alloc::Global;
+use std::io::Write;
+
+/// A release that was made: its number, or one above it where others released as well, and how many commands it shows that none showed before.
+#[derive(Clone, Copy)]
+pub(crate) struct Made {
+    pub release: u64,
+    pub exact: bool,
+    pub commands: u64,
+}
+
+/// The ticket of the release that is on its way, if it is one.
+pub(crate) fn release_ticket(ledger: &Ledger) -> Option<u64> {
+    match ledger.sent() {
+        [sent] if sent.text.as_str() == "release\n" => Some(sent.number),
+        _ => None,
+    }
+}
+
+/// How many commands the release of a ticket shows that none showed before.
+pub(crate) fn commands_of(ledger: &Ledger, ticket: u64) -> u64 {
+    ticket
+        .saturating_sub(ledger.last_release())
+        .saturating_sub(1)
+}
+
+/// Writes which release was made.
+pub(crate) fn tell_made<W: Write>(
+    alloc: Global,
+    out: &mut W,
+    url: &str,
+    made: Made,
+) -> Result<(), EditorFault> {
+    let Made {
+        release,
+        exact,
+        commands,
+    } = made;
+    let whose = if exact {
+        ""
+    } else {
+        " or one shortly before it (another editor released as well)"
+    };
+    let noun = if commands == 1 { "command" } else { "commands" };
+    say_made(
+        out,
+        format!(in alloc; "release {release}{whose}, of {commands} {noun}: {url}/@{release}/"),
+    )
+}

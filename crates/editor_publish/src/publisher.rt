@@ -1,0 +1,186 @@
+//! A publication under way.
+use crate::comparing::{Change, changes_of, changes_since, tell_differences};
+use crate::made::{Made, commands_of, release_ticket, tell_made};
+use crate::publishing::Publishing;
+use crate::taking_over::tell_taken_over;
+use editor_common::{EditorFault, say};
+use editor_files::save;
+use editor_group::{Group, confirm, deliver, newest};
+use editor_ledger::{Ledger, Released};
+use editor_plan::{Stage, advance};
+use std::alloc::{AllocError, Global};
+use std::io::Write;
+use std::net::{Net, TcpStream};
+use std::rt::{Clock, Files};
+use std::time::{SystemTime, UNIX_EPOCH};
+
+/// A publication under way: the group that it goes to, and the ledger that it is kept in, which is saved as it changes. Causes are told to `err`.
+#[derive(Drop)]
+pub(crate) struct Publisher<'a, R, E> {
+    pub rt: &'a R,
+    pub err: &'a mut E,
+    pub group: &'a mut Group,
+    pub ledger: &'a mut Ledger,
+    pub how: &'a Publishing<'a>,
+}
+
+/// Seconds since 1970.
+fn seconds<C: Clock>(clock: &C) -> Result<u64, EditorFault> {
+    match SystemTime::now(clock) {
+        Ok(now) => match now.duration_since(UNIX_EPOCH) {
+            Ok(passed) => Ok(passed.as_secs()),
+            Err(_) => Err(EditorFault::Clock),
+        },
+        Err(_) => Err(EditorFault::Clock),
+    }
+}
+
+fn untold(alloc: Global, url: &str) -> Result<EditorFault, AllocError> {
+    Ok(EditorFault::Stop(format!(in alloc; "{url}: does not tell its newest release")?))
+}
+
+impl<R: Files + Net<Stream = TcpStream> + Clock + AllocGlobal, E: Write> Publisher<'_, R, E> {
+    fn save(&self) -> Result<(), EditorFault> {
+        save(self.rt, self.how.folder, self.ledger)
+    }
+
+    /// Sends what is on its way, and saves what came of it, also where it came to no end.
+    fn send(&mut self) -> Result<(), EditorFault> {
+        self.save()?;
+        let patience = self.how.patience;
+        let sent = deliver(self.rt, self.err, self.group, self.ledger, patience);
+        self.save().and(sent)
+    }
+
+    /// The newest release of the node that is spoken to.
+    fn newest(&self) -> Result<u64, EditorFault> {
+        let node = self.group.node()?;
+        match newest(self.rt, self.rt.alloc(), node)? {
+            Some(release) => Ok(release),
+            None => Err(untold(self.rt.alloc(), node.url.as_str())?),
+        }
+    }
+
+    /// The number that a release made now has if nobody else makes one, where the node that is spoken to tells it.
+    fn next(&self) -> Result<Option<u64>, EditorFault> {
+        let newest = newest(self.rt, self.rt.alloc(), self.group.node()?)?;
+        Ok(newest.map(|release| release.saturating_add(1)))
+    }
+
+    /// Keeps in the log that a release was made.
+    fn note(&mut self, made: Made) -> Result<(), EditorFault> {
+        let time = seconds(self.rt)?;
+        self.ledger.note(Released {
+            release: made.release,
+            time,
+            commands: made.commands,
+        })?;
+        self.save()
+    }
+
+    /// Sends the release that is on its way, which was planned now or by a run that was interrupted, and tells it in the log.
+    fn release(&mut self, ticket: u64, fresh: bool) -> Result<Made, EditorFault> {
+        let commands = commands_of(self.ledger, ticket);
+        let next = self.next()?;
+        self.send()?;
+        let release = self.newest()?;
+        let made = Made {
+            release,
+            exact: fresh && next == Some(release),
+            commands,
+        };
+        self.note(made)?;
+        Ok(made)
+    }
+
+    /// Sends what is on its way, commands or a release: the release, if it was one.
+    fn send_planned(&mut self, fresh: bool) -> Result<Option<Made>, EditorFault> {
+        match release_ticket(self.ledger) {
+            Some(ticket) => Ok(Some(self.release(ticket, fresh)?)),
+            None => {
+                self.send()?;
+                Ok(None)
+            }
+        }
+    }
+
+    /// Brings a folder of these texts into the group, and releases it: the release that was made last, or nothing where nothing has changed.
+    fn bring(&mut self, wanted: &[&str]) -> Result<Option<Made>, EditorFault> {
+        let mut made = None;
+        let mut fresh = self.ledger.is_idle();
+        for _ in 0..u64::MAX {
+            match advance(self.rt.alloc(), self.ledger, wanted)? {
+                Stage::Done => break,
+                Stage::Sends => made = self.send_planned(fresh)?.or(made),
+            }
+            fresh = true;
+        }
+        Ok(made)
+    }
+
+    /// The pages that a publication of these texts changes: all of them where one was interrupted, since what it changed is not known any more.
+    fn changes(&self, wanted: &[&str]) -> Result<Vec<Change>, AllocError> {
+        let alloc = self.rt.alloc();
+        if self.ledger.is_idle() && !self.ledger.has_unshown() {
+            changes_since(alloc, self.ledger, wanted)
+        } else {
+            changes_of(alloc, &[], wanted)
+        }
+    }
+
+    /// Tells where a release does not show what changed. Whether it does not is the answer.
+    fn differs(&mut self, release: u64, changes: &[Change]) -> Result<bool, EditorFault> {
+        let node = self.group.node()?;
+        tell_differences(self.rt, self.rt.alloc(), self.err, node, release, changes)
+    }
+
+    /// Tells that nothing has changed, once the group's newest release was seen to show the folder.
+    fn tell_same<W: Write>(&mut self, out: &mut W, wanted: &[&str]) -> Result<bool, EditorFault> {
+        let release = self.newest()?;
+        let pages = changes_of(self.rt.alloc(), &[], wanted)?;
+        let differs = self.differs(release, &pages)?;
+        if !differs {
+            say(
+                out,
+                "nothing has changed since the last publication of this folder",
+            )?;
+        }
+        Ok(differs)
+    }
+
+    /// Publishes texts whose ledger the group confirmed, and tells the release that was made, if one was. Whether they are not shown then is the answer.
+    fn publish_texts<W: Write>(
+        &mut self,
+        out: &mut W,
+        wanted: &[&str],
+    ) -> Result<bool, EditorFault> {
+        let changes = self.changes(wanted)?;
+        match self.bring(wanted)? {
+            Some(made) => {
+                tell_made(self.rt.alloc(), out, self.group.node()?.url.as_str(), made)?;
+                self.differs(made.release, &changes)
+            }
+            None => self.tell_same(out, wanted),
+        }
+    }
+
+    /// Tells what a first publication takes over.
+    fn tell_taken_over(&mut self, wanted: &[&str]) -> Result<(), EditorFault> {
+        let node = self.group.node()?;
+        tell_taken_over(self.rt, self.rt.alloc(), self.err, node, wanted)
+    }
+
+    /// Publishes texts, once the group has confirmed their ledger.
+    pub(crate) fn publish<W: Write>(
+        &mut self,
+        out: &mut W,
+        wanted: &[&str],
+    ) -> Result<bool, EditorFault> {
+        let (folder, patience) = (self.how.folder, self.how.patience);
+        confirm(self.rt, self.err, folder, self.group, self.ledger, patience)?;
+        if self.ledger.next() == 1 {
+            self.tell_taken_over(wanted)?;
+        }
+        self.publish_texts(out, wanted)
+    }
+}

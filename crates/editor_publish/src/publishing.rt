@@ -1,0 +1,152 @@
+//! A folder becomes the next release of a group.
+use crate::dry_run::tell_plan;
+use crate::publisher::Publisher;
+use editor_common::{EditorFault, say_made};
+use editor_files::{Clean, new_editor, read_clean, read_ledger, texts_of};
+use editor_group::Group;
+use editor_ledger::Ledger;
+use std::alloc::{AllocError, Global};
+use std::io::Write;
+use std::net::{Net, TcpStream};
+use std::random::RandomSource;
+use std::rt::{Clock, Files};
+
+/// How a folder is published.
+#[derive(Clone, Copy)]
+pub struct Publishing<'a> {
+    pub folder: &'a str,
+    pub urls: &'a [&'a str],
+    /// The editor's number; without one it is that of the file `published`, or picked at random.
+    pub editor: Option<u32>,
+    /// How many seconds may pass without progress.
+    pub patience: u64,
+    /// Nothing is sent: what would be is told.
+    pub dry_run: bool,
+    /// Files that are no part of a site are passed over.
+    pub ignore: bool,
+}
+
+/// Why a ledger is not that of the editor who is named.
+fn belongs(alloc: Global, folder: &str, editor: u32) -> Result<EditorFault, AllocError> {
+    Ok(EditorFault::Stop(format!(in alloc; "{folder}/published: belongs to editor {editor}")?))
+}
+
+fn new_ledger<R: RandomSource + AllocGlobal>(
+    rt: &R,
+    editor: Option<u32>,
+) -> Result<Ledger, EditorFault> {
+    match editor {
+        Some(editor) => Ok(Ledger::new(rt.alloc(), editor)),
+        None => Ok(Ledger::new(rt.alloc(), new_editor(rt)?)),
+    }
+}
+
+/// The ledger of a folder, or a new one.
+fn ledger_of<R: Files + RandomSource + AllocGlobal>(
+    rt: &R,
+    folder: &str,
+    editor: Option<u32>,
+) -> Result<Ledger, EditorFault> {
+    match read_ledger(rt, folder)? {
+        Some(ledger) => {
+            let owner = ledger.editor();
+            if owner != editor.unwrap_or(owner) {
+                return Err(belongs(rt.alloc(), folder, owner)?);
+            }
+            Ok(ledger)
+        }
+        None => new_ledger(rt, editor),
+    }
+}
+
+/// Publishes texts into the group of some addresses, or tells what would be.
+fn publish_wanted<
+    'a,
+    R: Files + Net<Stream = TcpStream> + Clock + RandomSource + AllocGlobal,
+    W: Write,
+    E: Write,
+>(
+    rt: &'a R,
+    out: &mut W,
+    err: &'a mut E,
+    group: &'a mut Group,
+    how: &'a Publishing<'a>,
+    wanted: &[&str],
+) -> Result<bool, EditorFault> {
+    let mut ledger = ledger_of(rt, how.folder, how.editor)?;
+    if how.dry_run {
+        tell_plan(rt.alloc(), out, &mut ledger, wanted)?;
+        return Ok(false);
+    }
+    let mut publisher = Publisher {
+        rt,
+        err,
+        group,
+        ledger: &mut ledger,
+        how,
+    };
+    publisher.publish(out, wanted)
+}
+
+/// Tells that a folder has no page.
+fn tell_no_page<E: Write>(alloc: Global, err: &mut E, folder: &str) -> Result<(), EditorFault> {
+    say_made(
+        err,
+        format!(in alloc;
+            "{folder}: no page, so nothing was sent: a site has a file routes; a folder of what changed is for tools/editors/frame"
+        ),
+    )
+}
+
+/// Publishes a folder without a fault.
+fn publish_clean<
+    R: Files + Net<Stream = TcpStream> + Clock + RandomSource + AllocGlobal,
+    W: Write,
+    E: Write,
+>(
+    rt: &R,
+    out: &mut W,
+    err: &mut E,
+    group: &mut Group,
+    how: &Publishing<'_>,
+    clean: &Clean,
+) -> Result<bool, EditorFault> {
+    if clean.pages.is_empty() {
+        tell_no_page(rt.alloc(), err, how.folder)?;
+        return Ok(true);
+    }
+    let wanted = texts_of(rt.alloc(), &clean.folder)?;
+    publish_wanted(rt, out, err, group, how, &wanted)
+}
+
+/// Reads a folder, and publishes it where it has no fault: whether it had one, or is not shown then.
+fn publish_folder<
+    R: Files + Net<Stream = TcpStream> + Clock + RandomSource + AllocGlobal + Clone + Drop,
+    W: Write,
+    E: Write,
+>(
+    rt: &R,
+    out: &mut W,
+    err: &mut E,
+    group: &mut Group,
+    how: &Publishing<'_>,
+) -> Result<bool, EditorFault> {
+    match read_clean(rt, err, how.folder, how.ignore)? {
+        Some(clean) => publish_clean(rt, out, err, group, how, &clean),
+        None => Ok(true),
+    }
+}
+
+/// Publishes a folder. Status 1 where it has a fault, or is not shown then.
+pub fn publish<
+    R: Files + Net<Stream = TcpStream> + Clock + RandomSource + AllocGlobal + Clone + Drop,
+    W: Write,
+    E: Write,
+>(rt: &R, out: &mut W, err: &mut E, how: Publishing<'_>) -> Result<u8, EditorFault> {
+    if how.urls.is_empty() && !how.dry_run {
+        return Err(EditorFault::NoNodes);
+    }
+    let mut group = Group::of(rt.alloc(), how.urls)?;
+    let bad = publish_folder(rt, out, err, &mut group, &how)?;
+    Ok(if bad { 1 } else { 0 })
+}

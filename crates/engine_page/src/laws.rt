@@ -1,0 +1,12 @@
+//! What holds of the definitions alone.
+ghost use Rattle.engine_page.specs.Laws.{OneFrame, OneSplit, OneReading, SomeReading, OneVerdict, SomeVerdict};
+
+/// Bytes are framed commands in at most one way, so an input has one reading and one verdict, and each has some.
+pub fn an_input_has_one_verdict()
+    ensures frame { OneFrame }
+    ensures split { OneSplit }
+    ensures reading { OneReading }
+    ensures some_reading { SomeReading }
+    ensures verdict { OneVerdict }
+    ensures some_verdict { SomeVerdict }
+{}

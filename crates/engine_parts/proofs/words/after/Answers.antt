@@ -1,5 +1,0 @@
-use Rattle.engine_parts.proofs.LineLemmas.{strips_front}
-use Rattle.engine_parts.proofs.words.after.Goals as goal
-
-pub returns : goal.returns
-returns c = strips_front c.args.front.now c.args.bytes.now c.strip_prefix.result (rw c.as_bytes.ensures.value at c.strip_prefix.ensures.cases)

@@ -1,0 +1,41 @@
+-- What the code's lines stand for.
+use Rattle.std.specs.Prelude.{ℕ, ◌≡◌, List, ◌++◌}
+use Rattle.site_ids.specs.Ids.{IsNode}
+use Rattle.engine_schedule.specs.declared.schedule.Line.{Line as Code}
+use Rattle.engine_schedule.specs.declared.schedule.Line.TheVariants as code
+use Rattle.engine_schedule.specs.declared.schedule.Found.{Found}
+use Rattle.engine_schedule.specs.declared.schedule.Found.TheVariants as found
+use Rattle.engine_schedule.specs.declared.schedule.FoundNodes.{FoundNodes}
+use Rattle.engine_schedule.specs.declared.schedule.FoundNodes.TheVariants as found_nodes
+use Rattle.engine_common.specs.declared.words.Submission.{Submission}
+use Rattle.engine_schedule.specs.Schedule.{Line, submit_line, tick_line, widen_line, ask_line, tell_line, restart_line, deliver_line, arm_line, crash_line, settle_line, quiet_line, show_line, get_line, trace_line, submit_words, Fits, spelled, HasNoLine, GetsNoLine, spelled_nodes, HasNoNodes, GetsNoNodes}
+
+abbrev pub line_view : Code → Line
+line_view (code.Submit node ticket text) = submit_line node ticket text.now
+line_view (code.Tick node) = tick_line node
+line_view (code.Widen node) = widen_line node
+line_view (code.Ask node) = ask_line node
+line_view (code.Tell node first) = tell_line node first
+line_view (code.Restart node) = restart_line node
+line_view (code.Deliver node index) = deliver_line node index
+line_view (code.Arm node calls) = arm_line node calls
+line_view (code.Crash node choice) = crash_line node choice
+line_view code.Settle = settle_line
+line_view (code.Quiet node) = quiet_line node
+line_view (code.Show node) = show_line node
+line_view (code.Get node release path) = get_line node release path.now
+line_view code.Trace = trace_line
+
+abbrev pub submission_words : Submission → List (List ℕ)
+submission_words s = submit_words s.node s.ticket s.text_len
+
+-- a line stands at the front, or none does yet, or none ever will
+abbrev pub IsFound : List ℕ → Found → Type 0
+IsFound bytes (found.Line line rest) = Fits (line_view line) × (bytes ≡ spelled (line_view line) ++ rest.now)
+IsFound bytes found.Short = HasNoLine bytes
+IsFound bytes found.Bad = GetsNoLine bytes
+
+abbrev pub IsFoundNodes : List ℕ → FoundNodes → Type 0
+IsFoundNodes bytes (found_nodes.Nodes n rest) = IsNode 9 n × (bytes ≡ spelled_nodes n ++ rest.now)
+IsFoundNodes bytes found_nodes.Short = HasNoNodes bytes
+IsFoundNodes bytes found_nodes.Bad = GetsNoNodes bytes

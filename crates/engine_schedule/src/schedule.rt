@@ -1,0 +1,263 @@
+//! The lines of a schedule.
+//!
+//! A bad line is told as soon as nothing mends it; so are an empty file, a last line without its newline and a submission cut short. A fault's number counts
+//! lines; an index has 64 bits.
+
+ghost use Rattle.std.specs.Prelude.{◌≡◌, ◌≢◌, ℕ, List, ◌∷◌, ◌++◌, ◌<◌, ◌≤◌, ◌^◌, MatchOption, codes, decimal, [], Some, None};
+ghost use Rattle.site_ids.specs.Ids.{IsNode, IsInstance};
+ghost use Rattle.engine_common.specs.Cuts.{Lacks, IsCut};
+ghost use Rattle.site_ids.specs.declared.Ticket.{Ticket as AbstractTicket};
+ghost use Rattle.engine_schedule.specs.Schedule.{Line as AbstractLine, words, submit_words, Fits, IsPath, body, tick_line, widen_line, ask_line, tell_line, restart_line, deliver_line, arm_line, crash_line, quiet_line, show_line, get_line};
+ghost use Rattle.engine_common.specs.Submissions.{joined, FitsSubmission};
+ghost use Rattle.engine_schedule.specs.ScheduleView.{line_view, submission_words, IsFound, IsFoundNodes};
+ghost use Rattle.engine_common.specs.Submissions.{submission_fits};
+
+use engine_common::{
+    Body, Submission, after, body_in, cut, number_at_node, read_node, read_number,
+    submission_after, word_after,
+};
+use site_ids::{Cluster, Instance, NodeId, Ticket};
+
+/// A line behind the first, with the words of it that vary. A node of it need not be one of the schedule's nodes.
+#[derive(Clone, Copy)]
+pub(crate) enum Line<'a> {
+    Submit {
+        node: NodeId,
+        ticket: Ticket,
+        text: &'a [u8],
+    },
+    Tick {
+        node: NodeId,
+    },
+    Widen {
+        node: NodeId,
+    },
+    Ask {
+        node: NodeId,
+    },
+    Tell {
+        node: NodeId,
+        first: Instance,
+    },
+    Restart {
+        node: NodeId,
+    },
+    Deliver {
+        node: NodeId,
+        index: u64,
+    },
+    Arm {
+        node: NodeId,
+        calls: u32,
+    },
+    Crash {
+        node: NodeId,
+        choice: u8,
+    },
+    Settle,
+    Quiet {
+        node: NodeId,
+    },
+    Show {
+        node: NodeId,
+    },
+    Get {
+        node: NodeId,
+        release: u64,
+        path: &'a str,
+    },
+    Trace,
+}
+
+/// What stands at the front of the bytes that were read so far.
+#[derive(Clone, Copy)]
+pub(crate) enum Found<'a> {
+    /// A line, and what follows it.
+    Line(Line<'a>, &'a [u8]),
+    /// No line yet.
+    Short,
+    /// No line, whatever follows.
+    Bad,
+}
+
+/// The same for the first line.
+#[derive(Clone, Copy)]
+pub(crate) enum FoundNodes<'a> {
+    Nodes(Cluster, &'a [u8]),
+    Short,
+    Bad,
+}
+
+/// The node of a line of two words.
+fn node_after(head: &[u8], front: &str) -> Option<NodeId>
+    ensures { MatchOption result ((p : ℕ) → IsNode 9 p → head.now ≢ front.now ++ decimal p) (λ p. IsNode 9 p × (head.now ≡ front.now ++ decimal p)) }
+{
+    read_node(after(head, front)?)
+}
+
+fn arming(head: &[u8]) -> Option<(NodeId, u32)>
+    ensures { MatchOption result ((p calls : ℕ) → IsNode 9 p → calls < 2 ^ 32 → head.now ≢ joined (words (arm_line p calls)))
+        (λ r. IsNode 9 r.0 × (r.1 < 2 ^ 32) × (head.now ≡ joined (words (arm_line r.0 r.1)))) }
+{
+    let (node, calls) = number_at_node(head, "arm ")?;
+    Some((node, u32::try_from(calls).ok()?))
+}
+
+fn telling(head: &[u8]) -> Option<(NodeId, Instance)>
+    ensures { MatchOption result ((p first : ℕ) → IsNode 9 p → IsInstance first → head.now ≢ joined (words (tell_line p first)))
+        (λ r. IsNode 9 r.0 × IsInstance r.1 × (head.now ≡ joined (words (tell_line r.0 r.1)))) }
+{
+    let (node, first) = number_at_node(head, "tell ")?;
+    Some((node, Instance::new(u32::try_from(first).ok()?)?))
+}
+
+fn crashing(head: &[u8]) -> Option<(NodeId, u8)>
+    ensures { MatchOption result ((p choice : ℕ) → IsNode 9 p → choice < 2 ^ 8 → head.now ≢ joined (words (crash_line p choice)))
+        (λ r. IsNode 9 r.0 × (r.1 < 2 ^ 8) × (head.now ≡ joined (words (crash_line r.0 r.1)))) }
+{
+    let (node, choice) = number_at_node(head, "crash ")?;
+    Some((node, u8::try_from(choice).ok()?))
+}
+
+fn getting(head: &[u8]) -> Option<(NodeId, u64, &str)>
+    requires { Lacks 10 head.now }
+    ensures { MatchOption result ((p n : ℕ) (path : List ℕ) → IsNode 9 p → n < 2 ^ 64 → IsPath path → head.now ≢ joined (words (get_line p n path)))
+        (λ r. IsNode 9 r.0 × (r.1 < 2 ^ 64) × IsPath r.2.now × (head.now ≡ joined (words (get_line r.0 r.1 r.2.now)))) }
+{
+    let (word, rest) = word_after(head, "get ")?;
+    let (number, path) = cut(rest, b' ')?;
+    let node = read_node(word)?;
+    let release = read_number(number)?;
+    if cut(path, b' ').is_some() {
+        return None;
+    }
+    let Ok(path) = str::from_utf8(path) else {
+        return None;
+    };
+    Some((node, release, path))
+}
+
+/// A line of a word and a node.
+fn node_line(head: &[u8]) -> Option<Line<'_>>
+    ensures { MatchOption result ((p : ℕ) → IsNode 9 p → (head.now ≢ joined (words (tick_line p))) × (head.now ≢ joined (words (widen_line p))) × (head.now ≢ joined (words (ask_line p)))
+        × (head.now ≢ joined (words (restart_line p))) × (head.now ≢ joined (words (quiet_line p))) × (head.now ≢ joined (words (show_line p))))
+        (λ l. Fits (line_view l) × (body (line_view l) ≡ []) × (head.now ≡ joined (words (line_view l)))) }
+{
+    if let Some(node) = node_after(head, "tick ") {
+        return Some(Line::Tick { node });
+    }
+    if let Some(node) = node_after(head, "widen ") {
+        return Some(Line::Widen { node });
+    }
+    if let Some(node) = node_after(head, "ask ") {
+        return Some(Line::Ask { node });
+    }
+    if let Some(node) = node_after(head, "restart ") {
+        return Some(Line::Restart { node });
+    }
+    if let Some(node) = node_after(head, "quiet ") {
+        return Some(Line::Quiet { node });
+    }
+    let node = node_after(head, "show ")?;
+    Some(Line::Show { node })
+}
+
+/// A line of a word, a node and a number.
+fn number_line(head: &[u8]) -> Option<Line<'_>>
+    ensures { MatchOption result (((p index : ℕ) → IsNode 9 p → index < 2 ^ 64 → head.now ≢ joined (words (deliver_line p index))) × ((p first : ℕ) → IsNode 9 p → IsInstance first → head.now ≢ joined (words (tell_line p first)))
+        × ((p calls : ℕ) → IsNode 9 p → calls < 2 ^ 32 → head.now ≢ joined (words (arm_line p calls))) × ((p choice : ℕ) → IsNode 9 p → choice < 2 ^ 8 → head.now ≢ joined (words (crash_line p choice))))
+        (λ l. Fits (line_view l) × (body (line_view l) ≡ []) × (head.now ≡ joined (words (line_view l)))) }
+{
+    if let Some((node, index)) = number_at_node(head, "deliver ") {
+        return Some(Line::Deliver { node, index });
+    }
+    if let Some((node, first)) = telling(head) {
+        return Some(Line::Tell { node, first });
+    }
+    if let Some((node, calls)) = arming(head) {
+        return Some(Line::Arm { node, calls });
+    }
+    let (node, choice) = crashing(head)?;
+    Some(Line::Crash { node, choice })
+}
+
+/// A line that is no submission, without its newline.
+fn plain_line(head: &[u8]) -> Option<Line<'_>>
+    requires { Lacks 10 head.now }
+    ensures { MatchOption result ((line : AbstractLine) → Fits line → body line ≡ [] → head.now ≢ joined (words line))
+        (λ l. Fits (line_view l) × (body (line_view l) ≡ []) × (head.now ≡ joined (words (line_view l)))) }
+{
+    if let Some(line) = node_line(head) {
+        return Some(line);
+    }
+    if let Some(line) = number_line(head) {
+        return Some(line);
+    }
+    if let Some((node, release, path)) = getting(head) {
+        return Some(Line::Get {
+            node,
+            release,
+            path,
+        });
+    }
+    if head == b"settle".as_slice() {
+        return Some(Line::Settle);
+    }
+    if head == b"trace".as_slice() {
+        return Some(Line::Trace);
+    }
+    None
+}
+
+/// The submission, by what follows the newline behind its words.
+fn submitted(submission: Submission, after: &[u8]) -> Found<'_>
+    requires { submission_fits submission }
+    ensures { IsFound (joined (submission_words submission) ++ (10 ∷ after.now)) result }
+{
+    let Submission {
+        node,
+        ticket,
+        text_len,
+    } = submission;
+    match body_in(after, text_len) {
+        Body::Text(text, rest) => Found::Line(Line::Submit { node, ticket, text }, rest),
+        Body::Short => Found::Short,
+        Body::Bad => Found::Bad,
+    }
+}
+
+/// The line at the front of the bytes.
+pub(crate) fn line_in(bytes: &[u8]) -> Found<'_>
+    ensures { IsFound bytes.now result }
+{
+    let Some((head, after)) = cut(bytes, b'\n') else {
+        return Found::Short;
+    };
+    if let Some(submission) = submission_after(head, "submit ") {
+        return submitted(submission, after);
+    }
+    match plain_line(head) {
+        Some(line) => Found::Line(line, after),
+        None => Found::Bad,
+    }
+}
+
+fn cluster_in(head: &[u8]) -> Option<Cluster>
+    ensures { MatchOption result ((n : ℕ) → IsNode 9 n → head.now ≢ codes "nodes " ++ decimal n) (λ n. IsNode 9 n × (head.now ≡ codes "nodes " ++ decimal n)) }
+{
+    let number = u8::try_from(read_number(after(head, "nodes ")?)?).ok()?;
+    Cluster::new(number)
+}
+
+/// The first line of a schedule.
+pub(crate) fn nodes_in(bytes: &[u8]) -> FoundNodes<'_>
+    ensures { IsFoundNodes bytes.now result }
+{
+    let Some((head, after)) = cut(bytes, b'\n') else {
+        return FoundNodes::Short;
+    };
+    match cluster_in(head) {
+        Some(cluster) => FoundNodes::Nodes(cluster, after),
+        None => FoundNodes::Bad,
+    }
+}

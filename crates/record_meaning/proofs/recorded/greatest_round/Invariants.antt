@@ -1,8 +1,0 @@
-use Rattle.std.proofs.Common.{◌≡◌, max, drop}
-use Rattle.durable.specs.Entries.{greatest_round}
-use Rattle.record_meaning.specs.Meaning.{meanings}
-use Rattle.record_meaning.proofs.recorded.greatest_round.Given as goal
-
--- the greatest round so far, and the entries that are left
-abbrev pub invariant-loop-entry : goal.invariant-loop-entry
-invariant-loop-entry l = max l.greatest (greatest_round (meanings (drop l.entry-index l.entries))) ≡ greatest_round (meanings l.entries)

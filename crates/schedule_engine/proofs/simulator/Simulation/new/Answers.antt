@@ -1,6 +1,0 @@
-use Rattle.std.proofs.Common.{refl}
-use Rattle.schedule_engine.proofs.Simulating.{begun}
-use Rattle.schedule_engine.proofs.simulator.Simulation.new.Goals as goal
-
-pub returns : goal.returns
-returns c = begun c.args.cluster _ c.in_ok-world.ensures.whose c.in_ok-world.ensures.reached refl

@@ -1,7 +1,0 @@
-//! What holds of the definitions alone.
-ghost use Rattle.schedule_engine.specs.Laws.{OneLine};
-
-/// Bytes have one line of a schedule at their front, and one rest behind it.
-pub fn a_schedule_has_one_reading()
-    ensures { OneLine }
-{}

@@ -1,0 +1,42 @@
+use Rattle.std.proofs.Common.{◌≡◌, ◌++◌, ◌∷◌, [], ◌<◌, ◌^◌, ℕ, List, length, sym, ap, ◌∙◌, append_assoc, append-nil, arith}
+use Rattle.server_packets.specs.Packets.{framed, framed_all}
+use Rattle.server_packets.proofs.FrameLemmas.{first_is_shorter, frames_behind, none_left}
+use Rattle.server.specs.Mailing.{waiting_of}
+use Rattle.server.proofs.mail.Mail.take_frames.Goals as goal
+
+-- these datagrams are what was taken and what is left
+abbrev IsTaken : List (List ℕ) → List ℕ → List (List ℕ) → List (List ℕ) → Type 0
+IsTaken ds rest before now = (done left : List (List ℕ)) × (ds ≡ done ++ left) × (rest ≡ framed_all left) × (now ≡ before ++ done)
+
+-- one more is taken
+one_more : (ds : List (List ℕ)) (rest d behind : List ℕ) (before mid now : List (List ℕ)) → length rest < 2 ^ 32 → rest ≡ framed d ++ behind → now ≡ mid ++ d ∷ [] → IsTaken ds rest before mid → IsTaken ds behind before now
+one_more ds rest d behind before mid now short is more (done, left, all, frames, waits) =
+    let l = ap length is in
+    let f = frames_behind d behind left (omega (arith, l, short)) (sym is ∙ frames) in (
+      done ++ d ∷ [],
+      f.0,
+      all ∙ ap (λ x. done ++ x) f.1 ∙ sym (append_assoc done (d ∷ []) f.0),
+      f.2,
+      more ∙ ap (λ x. x ++ d ∷ []) waits ∙ append_assoc before done (d ∷ []),
+    )
+
+pub loop-datagram-preserved : goal.loop-datagram-preserved
+loop-datagram-preserved c =
+    let i = c.loop-datagram.invariant in
+    let d = c.in-Some.datagram.now in
+    let behind = c.in-Some.behind.now in
+    let m = first_is_shorter d behind in
+    let l = ap length c.in-Some.ensures.found in
+    record {
+      taken = λ ds e. one_more ds c.loop-datagram.rest.now d behind (waiting_of c.args.self.now) (waiting_of c.loop-datagram.self) (waiting_of c.push.new.self) (omega (arith, c.requires, i.short)) c.in-Some.ensures.found c.in_ok-push.ensures.came (i.taken ds e);
+      letters = c.push.ensures.same ∙ i.letters;
+      short = omega (arith, i.short);
+    }
+
+-- where none is left, all of them were taken
+pub returns-clause-came : goal.returns-clause-came
+returns-clause-came c = λ ds e.
+    let i = c.loop-datagram.invariant in
+    let t = i.taken ds e in
+    let none = none_left c.loop-datagram.rest.now t.1 c.in_default.ensures.none (omega (arith, c.requires, i.short)) t.3 in
+    t.4 ∙ ap (λ x. waiting_of c.args.self.now ++ x) (sym (t.2 ∙ ap (λ x. t.0 ++ x) none ∙ append-nil t.0))

@@ -1,0 +1,24 @@
+-- Datagrams that wait for a step, and letters that one handed out.
+use Rattle.std.specs.Prelude.{ℕ, nat_eq, Bool, true, if◌then◌else◌, List, [], ◌∷◌}
+use Rattle.node.specs.declared.to.To.{To}
+use Rattle.node.specs.declared.to.To.TheVariants.{One, All}
+use Rattle.site_drive.specs.Posting.{bytes_of, letters_of}
+use Rattle.server.specs.declared.mail.Mail.{Mail}
+
+-- what came and waits, in order
+abbrev pub waiting_of : Mail → List (List ℕ)
+waiting_of mail = bytes_of mail.came.items
+
+-- what is to be sent: to whom, and the bytes
+abbrev pub posted_of : Mail → List (To × List ℕ)
+posted_of mail = letters_of mail.letters.items
+
+-- whether a letter is for node p: one for all is too
+abbrev pub is_for : ℕ → To → Bool
+is_for p (One q) = nat_eq q p
+is_for p All = true
+
+-- what these letters have for node p
+abbrev pub own_of : ℕ → List (To × List ℕ) → List (List ℕ)
+own_of p [] = []
+own_of p (x ∷ xs) = if is_for p x.0 then x.1 ∷ own_of p xs else own_of p xs

@@ -1,0 +1,128 @@
+-- What a server does with its node: passes, each a batch of what came, and then requests of clients.
+use Rattle.std.specs.Prelude.{◌≡◌, ◌≢◌, ◌⊎◌, ℕ, zero, suc, ◌+◌, ◌*◌, ◌<◌, ◌≤◌, List, [], ◌∷◌, length, ⊤}
+use Rattle.site_ids.specs.declared.Ticket.{Ticket}
+use Rattle.wire.specs.declared.message.Message.{Message}
+use Rattle.command.specs.Written.{value_of}
+use Rattle.http_serve.specs.Services.{Outcome}
+use Rattle.site_disk.specs.Model.{DiskState}
+use Rattle.node.specs.declared.fault.NodeFault.{NodeFault}
+use Rattle.node.specs.declared.node.Node.{Node as Running}
+use Rattle.node.specs.declared.to.To.{To}
+use Rattle.node.specs.Nodes.{Node, IsKnownPrefix}
+use Rattle.node.specs.Standing.{IsNodeOf}
+use Rattle.site_drive.specs.Batches.{LeadsSealed, TakesBatch, GivesUpBatch, LosesBatch}
+use Rattle.site_drive.specs.Leading.{KeepsRecord}
+use Rattle.site_drive.specs.Posting.{spelled_of}
+use Rattle.site_drive.specs.declared.last_call.LastCall.{LastCall}
+use Rattle.server_faults.specs.ServerFaults.{of_node}
+use Rattle.server_clients.specs.Served.{ComesTo}
+use Rattle.server_faults.specs.declared.server_fault.ServerFault.{ServerFault}
+use Rattle.server_faults.specs.declared.server_fault.ServerFault.TheVariants as server_fault
+
+-- ---- requests
+
+-- a request is answered at node p of n: nothing is done, or one submission, of a ticket and a text
+abbrev pub MayTake : ℕ → ℕ → Node → Node → Type 0
+MayTake n p s next = (next ≡ s) ⊎ ((ticket : Ticket) × (text : List ℕ) × (done : Outcome) × ComesTo n p s (value_of ticket text) done next)
+
+-- so many requests are, one after another
+abbrev pub MayTakeMany : ℕ → ℕ → ℕ → Node → Node → Type 0
+MayTakeMany n p zero s next = next ≡ s
+MayTakeMany n p (suc k) s next = (mid : Node) × MayTakeMany n p k s mid × MayTake n p mid next
+
+-- ---- a step
+
+-- A step: these datagrams are one batch, behind which these values are published, and these letters are what it handed out, each message once; then
+-- requests are answered, 64 at most
+pub record TakesStep (n p : ℕ) (came : List (List ℕ)) (letters : List (To × List ℕ)) (fed : List (List ℕ)) (s next : Node) : Type 0 where
+  pub last : LastCall
+  pub malformed : ℕ
+  pub out : List (To × Message)
+  pub mid : Node
+  pub batch : TakesBatch last n p came malformed out fed s mid
+  pub letters_are : letters ≡ spelled_of out
+  pub requests : ℕ
+  pub few : requests ≤ 64
+  pub takes : MayTakeMany n p requests mid next
+
+-- a step that ends its server: its batch is given up; or that is whole, and memory was wanted to spell what it hands out, or to answer a request
+abbrev pub BreaksStep : ℕ → ℕ → List (List ℕ) → ServerFault → Node → Node → Type 0
+BreaksStep n p came why s next =
+    ((last : LastCall) × (fault : NodeFault) × (why ≡ of_node fault) × GivesUpBatch last n p came fault s next)
+    ⊎ ((why ≡ server_fault.OutOfMemory) × ((letters : List (To × List ℕ)) × (fed : List (List ℕ)) × TakesStep n p came letters fed s next))
+
+-- a pass: one step, over what came by then
+abbrev pub TakesPass : ℕ → ℕ → List (List ℕ) → Node → Node → Type 0
+TakesPass n p fed s next = (came : List (List ℕ)) × (letters : List (To × List ℕ)) × TakesStep n p came letters fed s next
+
+-- a pass that ends its server: in its step, or as memory is wanted before it, for what came
+abbrev pub BreaksPass : ℕ → ℕ → ServerFault → Node → Node → Type 0
+BreaksPass n p why s next = ((came : List (List ℕ)) × BreaksStep n p came why s next) ⊎ ((why ≡ server_fault.OutOfMemory) × (next ≡ s))
+
+-- ---- many
+
+-- a step leads to each of these nodes from the one before it
+abbrev pub AreSteps : (Node → Node → Type 0) → Node → List Node → Type 0
+AreSteps Step s [] = ⊤
+AreSteps Step s (x ∷ xs) = Step s x × AreSteps Step x xs
+
+-- the node behind all of them
+abbrev pub last_of : Node → List Node → Node
+last_of s [] = s
+last_of s (x ∷ xs) = last_of x xs
+
+-- so many passes, one after another; behind the last, all that is known without a gap is published
+pub record TakesPasses (n p count : ℕ) (fed : List (List ℕ)) (s next : Node) : Type 0 where
+  pub nodes : List Node
+  pub as_many : length nodes ≡ count
+  pub each : AreSteps (λ x y. (then : List (List ℕ)) × TakesPass n p then x y) s nodes
+  pub last : next ≡ last_of s nodes
+  pub fed_is : count ≢ 0 → IsKnownPrefix next fed
+
+-- whole passes, fewer than so many, and then one that ends the server
+pub record BreaksPasses (n p count : ℕ) (why : ServerFault) (s next : Node) : Type 0 where
+  pub whole : ℕ
+  pub fewer : whole < count
+  pub mid : Node
+  pub fed : List (List ℕ)
+  pub taken : TakesPasses n p whole fed s mid
+  pub breaks : BreaksPass n p why mid next
+
+-- a lap of node p has 40 + 10 p passes
+abbrev pub passes_of : ℕ → ℕ → ℕ
+passes_of p rounds = rounds * (40 + 10 * p)
+
+-- a server's work that isn't done: it can't say that it is ready, and takes no pass; or it halts in one; or it can't write that they are done
+abbrev pub BreaksWork : ℕ → ℕ → ℕ → ServerFault → Node → Node → Type 0
+BreaksWork n p count why s next =
+    (((why ≡ server_fault.OutOfMemory) ⊎ (why ≡ server_fault.Write)) × (next ≡ s))
+    ⊎ BreaksPasses n p count why s next
+    ⊎ ((why ≡ server_fault.Write) × (fed : List (List ℕ)) × TakesPasses n p count fed s next)
+
+-- ---- over a node of the code
+
+-- From each node that the old value stands for this leads to one that the new value stands for, and what the disk keeps of the one it keeps of the other
+pub record Led {D : Type 0} (stands_for : D → DiskState → Type 0) (old new : Running D) (How : Node → Node → Type 0) : Type 0 where
+  pub leads : (s : Node) → IsNodeOf old s → (next : Node) × How s next × IsNodeOf new next × KeepsRecord stands_for old new s next
+
+-- a batch over this mail, of which so many spelled no message, is whole, and these are the letters of what it handed out
+abbrev pub IsBatched : {D : Type 0} → (D → DiskState → Type 0) → List (List ℕ) → ℕ → List (To × List ℕ) → Running D → Running D → Type 0
+IsBatched stands_for came malformed letters old new = (last : LastCall) × (out : List (To × Message))
+    × LeadsSealed stands_for old new (λ s next. TakesBatch last old.cluster old.me came malformed out new.releases s next × (letters ≡ spelled_of out))
+
+-- the device failed in a step
+abbrev pub LosesStep : {D : Type 0} → (D → DiskState → Type 0) → List (List ℕ) → Running D → Running D → ServerFault → Type 0
+LosesStep stands_for came old new why = (why ≡ server_fault.Stopped) × ((last : LastCall) × LosesBatch stands_for last came old new)
+
+-- in a pass
+abbrev pub LosesPass : {D : Type 0} → (D → DiskState → Type 0) → Running D → Running D → ServerFault → Type 0
+LosesPass stands_for old new why = (came : List (List ℕ)) × LosesStep stands_for came old new why
+
+-- whole passes, fewer than so many, and then one in which the device failed
+pub record LosesPasses {D : Type 0} (stands_for : D → DiskState → Type 0) (old new : Running D) (count : ℕ) (why : ServerFault) : Type 0 where
+  pub whole : ℕ
+  pub fewer : whole < count
+  pub mid : Running D
+  pub fed : List (List ℕ)
+  pub taken : Led stands_for old mid (TakesPasses old.cluster old.me whole fed)
+  pub loses : LosesPass stands_for mid new why

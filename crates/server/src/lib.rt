@@ -1,0 +1,24 @@
+//! A server: one node on UDP and TCP, and its clients (`server_clients`), for so many laps.
+#![tactic(auto)]
+
+mod addresses;
+mod engine;
+mod mail;
+mod openings;
+mod packing;
+mod passes;
+mod saying;
+mod server;
+mod shell;
+mod sockets;
+mod watch;
+
+pub use engine::sited;
+pub use http_read::Counted;
+pub use mail::Mail;
+pub use packing::pack;
+pub use server::{Server, Stepped};
+pub use server_clients::{Seats, Served, Stay, serve_requests};
+pub use server_faults::{ServeOptions, ServerFault};
+pub use shell::close;
+pub use sockets::datagrams;

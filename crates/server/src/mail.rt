@@ -1,0 +1,164 @@
+//! Datagrams between a node and who carries them, in memory.
+
+ghost use Rattle.std.specs.Prelude.{◌≡◌, ◌++◌, ◌∷◌, [], ◌↔◌, ◌<◌, ◌≤◌, ℕ, List, length, IsTrue, OnOk, OnErr, vec_len};
+ghost use Rattle.site_drive.specs.Posting.{bytes_of, letters_of};
+ghost use Rattle.server_packets.specs.Packets.{Holds, framed_all};
+ghost use Rattle.server_packets.specs.declared.TheConstants.{MAX_PACKET};
+ghost use Rattle.server.specs.Mailing.{waiting_of, posted_of, own_of, is_for};
+
+use node::To;
+use server_packets::{first_frame, frames_in};
+use site_drive::Letter;
+use site_ids::NodeId;
+use std::alloc::{AllocError, Global};
+
+/// How many datagrams wait at most.
+const DATAGRAMS: usize = 256;
+
+/// Where so many bytes wait, some 1 MB, no further datagram is received.
+const BYTES: usize = 1_000_000;
+
+/// Datagrams that came and wait for the next step, and letters that the last one handed out.
+///
+/// Who carries them has it take in what came, and sends each letter to whom it is for, one for all to each other node (`pack`). What is for this node itself never leaves it: it
+/// waits for the next step, before all that comes until then.
+#[derive(Drop)]
+pub struct Mail {
+    alloc: Global,
+    pub(crate) came: Vec<Vec<u8>>,
+    // how many bytes of datagrams were pushed since the last step, as far as they are counted
+    bytes: usize,
+    pub(crate) letters: Vec<Letter>,
+}
+
+/// Whether a letter is for a node.
+pub(crate) fn reaches(to: To, node: NodeId) -> bool
+    ensures { result ≡ is_for node to }
+{
+    match to {
+        To::All => true,
+        To::One(one) => one.number() == node.number(),
+    }
+}
+
+/// A letter is one more datagram where it is for that node.
+fn put_own(
+    alloc: Global,
+    letter: &Letter,
+    me: NodeId,
+    came: &mut Vec<Vec<u8>>,
+) -> Result<(), AllocError>
+    ensures { OnOk result (bytes_of came.new.items ≡ bytes_of came.old.items ++ own_of me (letters_of (letter.now ∷ []))) }
+{
+    if reaches(letter.to, me) {
+        came.push(Vec::from_slice(alloc, letter.bytes.as_slice())?)?;
+    }
+    Ok(())
+}
+
+/// So are these.
+fn put_each(
+    alloc: Global,
+    letters: &[Letter],
+    me: NodeId,
+    came: &mut Vec<Vec<u8>>,
+) -> Result<(), AllocError>
+    ensures { OnOk result (bytes_of came.new.items ≡ bytes_of came.old.items ++ own_of me (letters_of letters.now)) }
+{
+    for letter in letters {
+        put_own(alloc, letter, me, came)?;
+    }
+    Ok(())
+}
+
+impl Mail {
+    /// Nothing waits, and nothing is to be sent.
+    pub fn new(alloc: Global) -> Mail
+        ensures { (waiting_of result ≡ []) × (posted_of result ≡ []) }
+    {
+        Mail {
+            alloc,
+            came: Vec::new(alloc),
+            bytes: 0,
+            letters: Vec::new(alloc),
+        }
+    }
+
+    /// Whether a datagram may be received before the next step.
+    pub fn has_room(&self) -> bool
+        ensures { IsTrue result ↔ ((vec_len self.now.came < DATAGRAMS) × (self.now.bytes < BYTES)) }
+    {
+        self.came.len() < DATAGRAMS && self.bytes < BYTES
+    }
+
+    /// Whether nothing waits.
+    pub fn is_empty(&self) -> bool
+        ensures { IsTrue result ↔ (waiting_of self.now ≡ []) }
+    {
+        self.came.is_empty()
+    }
+
+    /// A datagram came: it waits behind the others.
+    pub fn push(&mut self, datagram: &[u8]) -> Result<(), AllocError>
+        ensures came { OnOk result (waiting_of self.new ≡ waiting_of self.old ++ datagram.now ∷ []) }
+        ensures refused { OnErr result (waiting_of self.new ≡ waiting_of self.old) }
+        ensures same { self.new.letters ≡ self.old.letters }
+    {
+        let datagram = Vec::from_slice(self.alloc, datagram)?;
+        self.bytes = self.bytes.saturating_add(datagram.len());
+        self.came.push(datagram)?;
+        Ok(())
+    }
+
+    /// What came in one piece: each datagram that it holds waits behind the others. Where memory is refused the first of them may.
+    pub fn take_in(&mut self, piece: &[u8]) -> Result<(), AllocError>
+        ensures came { OnOk result ((ds : List (List ℕ)) × Holds piece.now ds × (waiting_of self.new ≡ waiting_of self.old ++ ds)) }
+        ensures refused { OnErr result ((done left : List (List ℕ)) × Holds piece.now (done ++ left) × (waiting_of self.new ≡ waiting_of self.old ++ done)) }
+        ensures same { self.new.letters ≡ self.old.letters }
+    {
+        match frames_in(piece) {
+            Some(frames) => self.take_frames(frames),
+            None => self.push(piece),
+        }
+    }
+
+    /// What stands behind the mark of a packet.
+    fn take_frames(&mut self, frames: &[u8]) -> Result<(), AllocError>
+        requires { length frames.now ≤ MAX_PACKET }
+        ensures came { OnOk result ((ds : List (List ℕ)) → frames.now ≡ framed_all ds → waiting_of self.new ≡ waiting_of self.old ++ ds) }
+        ensures refused { OnErr result ((ds : List (List ℕ)) → frames.now ≡ framed_all ds → (done left : List (List ℕ)) × (ds ≡ done ++ left) × (waiting_of self.new ≡ waiting_of self.old ++ done)) }
+        ensures same { self.new.letters ≡ self.old.letters }
+    {
+        let mut rest = frames;
+        while let Some((datagram, behind)) = first_frame(rest) {
+            self.push(datagram)?;
+            rest = behind;
+        }
+        Ok(())
+    }
+
+    /// The datagram that waits behind all others; no bytes where none waits.
+    pub(crate) fn newest(&self) -> &[u8] {
+        match self.came.last() {
+            Some(datagram) => datagram.as_slice(),
+            None => &[],
+        }
+    }
+
+    /// What is to be sent.
+    pub fn letters(&self) -> &[Letter]
+        ensures { result.now ≡ self.now.letters.items }
+    {
+        self.letters.as_slice()
+    }
+
+    /// What waited was taken: what waits now is what these letters have for this node.
+    pub(crate) fn keep_own(&mut self, me: NodeId) -> Result<(), AllocError>
+        ensures own { OnOk result (waiting_of self.new ≡ own_of me (posted_of self.old)) }
+        ensures same { self.new.letters ≡ self.old.letters }
+    {
+        self.came.clear();
+        self.bytes = 0;
+        put_each(self.alloc, self.letters.as_slice(), me, &mut self.came)
+    }
+}

@@ -1,0 +1,155 @@
+//! Opens a node over a record's file.
+//!
+//! Votes are counted once, at the start, over all instances, since a node that was away has gaps: some milliseconds.
+
+ghost use Rattle.std.specs.Prelude.{IfOk, IfErr};
+ghost use Rattle.site_ids.specs.Ids.{IsNode};
+ghost use Rattle.server_faults.specs.ServerFaults.{EndsOpening};
+ghost use Rattle.server.specs.Runs.{IsOpened};
+
+use durable::{Record, RecordFault};
+use node::Node;
+use server_clients::Served;
+use server_faults::{Cause, ServerFault};
+use site_disk::{Disk, FileDisk};
+use site_ids::{Cluster, Instance, MAX_INSTANCE, NodeId};
+use std::alloc::Global;
+use std::fs::{File, OpenOptions, TryLockError};
+use std::io;
+use std::path::Path;
+use std::rt::Files;
+
+/// The file, once it is this process's alone.
+fn lock(file: File, cause: &mut Cause) -> Result<File, ServerFault>
+    ensures { IfErr result EndsOpening }
+{
+    match file.try_lock() {
+        Ok(()) => Ok(file),
+        Err(TryLockError::WouldBlock) => {
+            cause.locked = true;
+            Err(ServerFault::Record(RecordFault::Device))
+        }
+        Err(TryLockError::Error(e)) => {
+            cause.error = Some(e);
+            Err(ServerFault::Record(RecordFault::Device))
+        }
+    }
+}
+
+/// The record's file, made where it is absent and that was asked. It is this process's alone as long as it runs: two that write one record would damage it.
+fn file<R: Files<File = File>>(
+    rt: &R,
+    path: &str,
+    make: bool,
+    cause: &mut Cause,
+) -> Result<File, ServerFault>
+    ensures { IfErr result EndsOpening }
+{
+    let opened = OpenOptions::new()
+        .read(true)
+        .write(true)
+        .create(make)
+        .open(rt, path);
+    match opened {
+        Ok(file) => lock(file, cause),
+        Err(e) if e.kind() == io::ErrorKind::OutOfMemory => Err(ServerFault::OutOfMemory),
+        Err(e) => {
+            cause.error = Some(e);
+            Err(ServerFault::Record(RecordFault::Device))
+        }
+    }
+}
+
+/// Syncs the folder of a file, so that a crash leaves the file in it.
+fn sync_folder<R: Files<File = File>>(
+    rt: &R,
+    path: &str,
+    cause: &mut Cause,
+) -> Result<(), ServerFault>
+    ensures { IfErr result EndsOpening }
+{
+    let folder = match Path::new(path).parent() {
+        Some(folder) if !folder.as_str().is_empty() => folder.as_str(),
+        _ => ".",
+    };
+    match File::open(rt, folder).and_then(|folder| folder.sync_all()) {
+        Ok(()) => Ok(()),
+        Err(e) => {
+            cause.error = Some(e);
+            Err(ServerFault::Record(RecordFault::Device))
+        }
+    }
+}
+
+/// Makes an empty file an empty record.
+fn format_empty(cluster: Cluster, me: NodeId, disk: &mut FileDisk) -> Result<bool, RecordFault> {
+    let empty = disk.len()? == 0;
+    if empty {
+        Record::format(cluster, me, disk)?;
+    }
+    Ok(empty)
+}
+
+/// The disk of a record at a path. Where that is asked, an empty or absent file becomes an empty record first.
+fn open_disk<R: Files<File = File>>(
+    rt: &R,
+    cluster: Cluster,
+    me: NodeId,
+    path: &str,
+    format: bool,
+    cause: &mut Cause,
+) -> Result<FileDisk, ServerFault>
+    ensures { IfErr result EndsOpening }
+{
+    let mut disk = FileDisk::new(file(rt, path, format, cause)?);
+    if !format {
+        return Ok(disk);
+    }
+    match format_empty(cluster, me, &mut disk) {
+        Ok(true) => sync_folder(rt, path, cause)?,
+        Ok(false) => {}
+        Err(fault) => {
+            cause.error = disk.last_failure();
+            return Err(fault.into());
+        }
+    }
+    Ok(disk)
+}
+
+/// Opens a node over the record at a path. Where that is asked, an empty or absent file becomes an empty record first.
+pub(crate) fn open_node<R: Files<File = File>>(
+    rt: &R,
+    alloc: Global,
+    cluster: Cluster,
+    me: NodeId,
+    path: &str,
+    format: bool,
+    cause: &mut Cause,
+) -> Result<Served<FileDisk>, ServerFault>
+    requires { IsNode cluster me }
+    ensures opened { IfOk result (λ served. IsOpened ⟦<FileDisk as Disk>⟧.stands_for cluster me served.node) }
+    ensures fault { IfErr result EndsOpening }
+{
+    let disk = open_disk(rt, cluster, me, path, format, cause)?;
+    match Node::open(alloc, cluster, me, disk) {
+        Ok(node) => Ok(Served { node }),
+        Err((fault, disk)) => {
+            cause.error = disk.last_failure();
+            Err(fault.into())
+        }
+    }
+}
+
+/// At how many instances a node's record has a vote.
+pub(crate) fn count_votes<D: Disk>(node: &Node<D>) -> u32 {
+    let mut votes: u32 = 0;
+    for number in 1..=MAX_INSTANCE {
+        let Some(instance) = Instance::new(number) else {
+            return votes;
+        };
+        if node.slot(instance).vote.is_some() {
+            votes = votes.saturating_add(1);
+        }
+    }
+    votes
+}

@@ -1,0 +1,81 @@
+//! The passes of a server's laps: what has come is taken in one step, and what goes out is sent.
+//!
+//! Laps count no failure of the device unless they end as stopped, as a node that was stopped before ends by the same word.
+
+ghost use Rattle.std.specs.Prelude.{◌≡◌, ◌⊎◌, IfErr, OnOk};
+ghost use Rattle.http_read.specs.Bytes.{end_of};
+ghost use Rattle.site_drive.specs.Leading.{StaysWhose};
+ghost use Rattle.server_faults.specs.ServerFaults.{CountsNone, EndsLaps};
+ghost use Rattle.server.specs.Noted.{HasNoted};
+ghost use Rattle.server.specs.Passes.{Led, TakesPass, TakesPasses, BreaksPass, BreaksPasses, LosesPass, LosesPasses};
+
+use crate::saying::tell_notes;
+use crate::server::{Server, Stepped};
+use crate::shell::Shell;
+use http_read::Counted;
+use server_faults::ServerFault;
+use site_disk::Disk;
+use std::alloc::Global;
+use std::io::Write;
+use std::net::TcpStream;
+use std::rt::Clock;
+
+/// Rests behind a step, where it is to.
+fn rest_behind<D: Disk + Drop, C: Clock>(
+    clock: &C,
+    shell: &mut Shell,
+    server: &mut Server<D, TcpStream>,
+    stepped: Stepped,
+    moved: bool,
+)
+    ensures { server.new.served ≡ server.old.served }
+{
+    if let Some(rest) = server.rest(stepped, moved) {
+        shell.rest(clock, rest, &mut server.mail);
+    }
+}
+
+/// One pass. Where nothing came and nothing went, it rests.
+fn take_pass<D: Disk + Drop, C: Clock>(
+    clock: &C,
+    shell: &mut Shell,
+    server: &mut Server<D, TcpStream>,
+) -> Result<(), ServerFault>
+    ensures ok { OnOk result (Led D.stands_for server.old.served.node server.new.served.node (TakesPass server.old.served.node.cluster server.old.served.node.me server.new.served.node.releases)) }
+    ensures fault { IfErr result (λ why. Led D.stands_for server.old.served.node server.new.served.node (BreaksPass server.old.served.node.cluster server.old.served.node.me why) ⊎ LosesPass D.stands_for server.old.served.node server.new.served.node why) }
+    ensures ends { IfErr result EndsLaps }
+    ensures whose { StaysWhose server.old.served.node server.new.served.node }
+    ensures counts { CountsNone result (D.failed server.old.served.node.store.disk) (D.failed server.new.served.node.store.disk) }
+{
+    let now = shell.now(clock);
+    let heard = shell.take_in(&mut server.mail, &mut server.seats, now)?;
+    let stepped = server.step(now)?;
+    let told = shell.give_out(server.mail.letters(), &mut server.seats, now);
+    let known = server.served.node.known();
+    shell.watch.pass(now, known, stepped.malformed);
+    rest_behind(clock, shell, server, stepped, heard || told);
+    Ok(())
+}
+
+/// So many passes, and what is to be said behind each.
+pub(crate) fn take_passes<D: Disk + Drop, C: Clock, E: Write>(
+    clock: &C,
+    alloc: Global,
+    err: &mut Counted<E>,
+    shell: &mut Shell,
+    server: &mut Server<D, TcpStream>,
+    count: u64,
+) -> Result<(), ServerFault>
+    ensures ok { OnOk result (Led D.stands_for server.old.served.node server.new.served.node (TakesPasses server.old.served.node.cluster server.old.served.node.me count server.new.served.node.releases)) }
+    ensures fault { IfErr result (λ why. Led D.stands_for server.old.served.node server.new.served.node (BreaksPasses server.old.served.node.cluster server.old.served.node.me count why) ⊎ LosesPasses D.stands_for server.old.served.node server.new.served.node count why) }
+    ensures ends { IfErr result EndsLaps }
+    ensures whose { StaysWhose server.old.served.node server.new.served.node }
+    ensures counts { CountsNone result (D.failed server.old.served.node.store.disk) (D.failed server.new.served.node.store.disk) }
+    ensures noted { HasNoted (end_of E.contents err.old err.new) }
+{
+    for _ in 0..count {
+        take_pass(clock, shell, server)?;
+        tell_notes(alloc, err, &mut shell.watch);
+    }
+    Ok(())
+}

@@ -1,0 +1,68 @@
+//! What a server says of its work.
+
+ghost use Rattle.std.specs.Prelude.{◌≡◌, ℕ, List, ◌++◌, IfOk, string_bytes, codes};
+ghost use Rattle.http_read.specs.Bytes.{end_of, IsGiven};
+ghost use Rattle.server_notes.specs.Lines.{line_of_note};
+ghost use Rattle.server.specs.Noted.{HasNoted};
+ghost use Rattle.server.specs.Running.{ReadyEnds, DoneEnds};
+
+use crate::watch::Watch;
+use engine_common::give;
+use http_read::{Counted, write_all};
+use server_faults::ServerFault;
+use server_notes::Note;
+use std::alloc::{AllocError, Global};
+use std::io::Write;
+
+/// The line of a note.
+fn note_line(alloc: Global, note: &Note) -> Result<String, AllocError>
+    ensures { IfOk result (λ text. string_bytes text ≡ line_of_note note.now) }
+{
+    format!(in alloc; "{note}\n")
+}
+
+/// Writes the line of a note. Where that fails, or memory is wanted for it, it is passed over.
+fn tell_note<E: Write>(alloc: Global, err: &mut Counted<E>, note: &Note)
+    ensures { HasNoted (end_of E.contents err.old err.new) }
+{
+    if let Ok(line) = note_line(alloc, note) {
+        give(err, line.as_str());
+    }
+}
+
+/// Writes all that is to be said behind a pass: of each of the nine kinds a line at most.
+pub(crate) fn tell_notes<E: Write>(alloc: Global, err: &mut Counted<E>, watch: &mut Watch)
+    ensures { HasNoted (end_of E.contents err.old err.new) }
+{
+    for _ in 0..9 {
+        match watch.next() {
+            Some(note) => tell_note(alloc, err, &note),
+            None => return,
+        }
+    }
+}
+
+/// Says that the node is ready.
+pub(crate) fn say_ready<W: Write>(
+    alloc: Global,
+    out: &mut Counted<W>,
+    node: u8,
+) -> Result<(), ServerFault>
+    ensures { ReadyEnds (end_of W.contents out.old out.new) node result }
+{
+    let line = format!(in alloc; "node {node} ready\n")?;
+    match write_all(out, line.as_bytes()) {
+        Ok(()) => Ok(()),
+        Err(_) => Err(ServerFault::Write),
+    }
+}
+
+/// Says that all laps are done.
+pub(crate) fn say_done<W: Write>(out: &mut Counted<W>) -> Result<(), ServerFault>
+    ensures { DoneEnds (end_of W.contents out.old out.new) result }
+{
+    match write_all(out, b"rounds done\n") {
+        Ok(()) => Ok(()),
+        Err(_) => Err(ServerFault::Write),
+    }
+}

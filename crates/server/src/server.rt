@@ -1,0 +1,137 @@
+//! A server without sockets and clock.
+
+ghost use Rattle.std.specs.Prelude.{◌≡◌, ◌⊎◌, ◌↔◌, [], ℕ, IfOk, IfErr, IsFalse, OnOk, length};
+ghost use Rattle.node.specs.Standing.{KeepsOthers};
+ghost use Rattle.site_drive.specs.Batches.{TakesBatch, LeadsSealed};
+ghost use Rattle.site_drive.specs.Leading.{StaysWhose};
+ghost use Rattle.site_drive.specs.Posting.{spelled_of};
+ghost use Rattle.site_drive.specs.declared.last_call.LastCall.{LastCall};
+ghost use Rattle.server_clients.specs.Answering.{AreAnswered, TellsAnswered};
+ghost use Rattle.server_faults.specs.ServerFaults.{CountsNone, EndsLaps};
+ghost use Rattle.server.specs.Mailing.{waiting_of, posted_of, own_of};
+ghost use Rattle.server.specs.Passes.{Led, TakesStep, BreaksStep, LosesStep, IsBatched};
+ghost use Rattle.server_clients.specs.Served.{offered};
+ghost use Rattle.server_clients.specs.declared.served.Served.{Served};
+
+use crate::mail::Mail;
+use server_clients::{Seats, Served};
+use server_faults::ServerFault;
+use server_pace::{Pace, Times};
+use site_disk::Disk;
+use site_drive::Desk;
+use site_ids::NodeId;
+use std::alloc::Global;
+
+/// A server without sockets and clock: a node, its mail, its clients, and when it tries and asks.
+///
+/// Who has the sockets puts datagrams into the mail and clients on seats, has the seats hear, takes a step, sends the mail's letters, has the seats tell, and closes
+/// the connections that leave. S is what a client's bytes come and go by.
+#[derive(Drop)]
+pub struct Server<D, S> {
+    me: NodeId,
+    pub served: Served<D>,
+    pub mail: Mail,
+    pub seats: Seats<S>,
+    desk: Desk,
+    pace: Pace,
+}
+
+/// What a step came to.
+#[derive(Clone, Copy, Debug, PartialEq, Eq, Drop)]
+pub struct Stepped {
+    /// Datagrams waited for it.
+    pub came: bool,
+    /// So many of them spelled no message.
+    pub malformed: u64,
+    /// Requests were answered.
+    pub answered: bool,
+}
+
+impl<D: Disk + Drop, S: Drop> Server<D, S> {
+    /// This node serves nobody yet, and has heard nothing. The desk is an empty one.
+    pub fn new(
+        alloc: Global,
+        me: NodeId,
+        served: Served<D>,
+        desk: Desk,
+        times: Times,
+    ) -> Server<D, S>
+        requires { me ≡ served.node.me }
+        ensures { (result.served ≡ served) × (result.me ≡ me) }
+    {
+        Server {
+            me,
+            served,
+            mail: Mail::new(alloc),
+            seats: Seats::new(alloc, times),
+            desk,
+            pace: Pace::new(times, me),
+        }
+    }
+
+    /// The batch of a step: all that waits, and the call that is due behind it. What that hands out is posted. The answer is how many datagrams spelled no message.
+    fn take_batch(&mut self, now: u64) -> Result<u64, ServerFault>
+        ensures ok { IfOk result (λ malformed. IsBatched D.stands_for (waiting_of self.old.mail) malformed (posted_of self.new.mail) self.old.served.node self.new.served.node) }
+        ensures own { OnOk result (waiting_of self.new.mail ≡ own_of self.old.me (posted_of self.new.mail)) }
+        ensures seats { self.new.seats ≡ self.old.seats }
+        ensures fault { IfErr result (λ why. Led D.stands_for self.old.served.node self.new.served.node (BreaksStep self.old.served.node.cluster self.old.served.node.me (waiting_of self.old.mail) why)
+            ⊎ LosesStep D.stands_for (waiting_of self.old.mail) self.old.served.node self.new.served.node why) }
+        ensures ends { IfErr result EndsLaps }
+        ensures whose { StaysWhose self.old.served.node self.new.served.node }
+        ensures counts { CountsNone result (D.failed self.old.served.node.store.disk) (D.failed self.new.served.node.store.disk) }
+    {
+        let drained = self.mail.has_room();
+        let last = self.pace.due(now, &self.served.node, drained);
+        self.mail.letters.clear();
+        let came = self.mail.came.as_slice();
+        let malformed = self.desk.take_batch(&mut self.served.node, came, last)?;
+        let delivered = self.desk.delivered();
+        self.pace.hear(self.served.node.cluster(), &delivered);
+        self.desk.post(&mut self.mail.letters)?;
+        self.mail.keep_own(self.me)?;
+        Ok(malformed as u64)
+    }
+
+    /// One step, so many milliseconds after the server began, and never less than before: all that waits is one batch, behind which the node publishes, and what that
+    /// hands out are the mail's letters; then requests are answered, but for those that are left.
+    pub fn step(&mut self, now: u64) -> Result<Stepped, ServerFault>
+        ensures clients { IfOk result (λ stepped. (mid : Served D) × IsBatched D.stands_for (waiting_of self.old.mail) stepped.malformed (posted_of self.new.mail) self.old.served.node mid.node
+            × AreAnswered offered self.old.seats.times now mid self.new.served self.old.seats.seats.items self.new.seats.seats.items) }
+        ensures came { IfOk result (λ stepped. IsFalse stepped.came ↔ (waiting_of self.old.mail ≡ [])) }
+        ensures answered { IfOk result (λ stepped. TellsAnswered stepped.answered (length self.old.seats.seats.items) self.old.seats.seats.items self.new.seats.seats.items) }
+        ensures ok { OnOk result (Led D.stands_for self.old.served.node self.new.served.node (TakesStep self.old.served.node.cluster self.old.served.node.me (waiting_of self.old.mail) (posted_of self.new.mail) self.new.served.node.releases)) }
+        ensures own { OnOk result (waiting_of self.new.mail ≡ own_of self.old.me (posted_of self.new.mail)) }
+        ensures fault { IfErr result (λ why. Led D.stands_for self.old.served.node self.new.served.node (BreaksStep self.old.served.node.cluster self.old.served.node.me (waiting_of self.old.mail) why)
+            ⊎ LosesStep D.stands_for (waiting_of self.old.mail) self.old.served.node self.new.served.node why) }
+        ensures ends { IfErr result EndsLaps }
+        ensures whose { StaysWhose self.old.served.node self.new.served.node }
+        ensures counts { CountsNone result (D.failed self.old.served.node.store.disk) (D.failed self.new.served.node.store.disk) }
+    {
+        let came = !self.mail.is_empty();
+        let malformed = self.take_batch(now)?;
+        let answered = self.seats.answer_each(&mut self.served, now)?;
+        Ok(Stepped {
+            came,
+            malformed,
+            answered,
+        })
+    }
+
+    /// The node, without all else.
+    pub fn into_served(self) -> Served<D>
+        ensures { result ≡ self.served }
+    {
+        let Server { served, .. } = self;
+        served
+    }
+
+    /// How many microseconds to rest behind a step, where it came to this, and bytes of clients moved or none.
+    pub fn rest(&mut self, stepped: Stepped, moved: bool) -> Option<u64>
+        ensures { self.new.served ≡ self.old.served }
+    {
+        self.pace.rest(
+            stepped.came || !self.mail.is_empty(),
+            moved || stepped.answered,
+        )
+    }
+}

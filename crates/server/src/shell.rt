@@ -1,0 +1,245 @@
+//! What carries a server's bytes: its sockets and its clock. It is read: nothing is proved of it but that it is safe and returns.
+//!
+//! What it sends a node in a pass goes as packets (`server_packets`): each call that sends costs some microseconds, as much as a message.
+//!
+//! A rest of 10 ms or more waits for a datagram and ends with it; a shorter one sleeps, as the system counts such waits in steps of some milliseconds.
+
+use crate::addresses::Addresses;
+use crate::mail::Mail;
+use crate::packing::pack;
+use crate::watch::Watch;
+use server_clients::Seats;
+use server_notes::Notes;
+use server_packets::Packet;
+use site_drive::Letter;
+use site_ids::{MAX_NODES, NodeId};
+use std::alloc::{AllocError, Global};
+use std::io::{ErrorKind, Read};
+use std::net::{Shutdown, SocketAddr, TcpListener, TcpStream, UdpSocket};
+use std::rt::Clock;
+use std::time::{Duration, Instant};
+use std::{io, thread};
+use wire::MAX_MESSAGE;
+
+/// How many datagrams, and how many clients, a pass takes at most.
+const RECEIVED: u32 = 256;
+
+const ACCEPTED: u32 = 64;
+
+/// So many microseconds or more are a long rest, which a datagram ends. The system counts such a wait in milliseconds, so a shorter one sleeps.
+const LONG: u64 = 10_000;
+
+/// How many reads of what a client still sends come before its connection is closed, each of at most 4,096 bytes.
+const LINGER: u32 = 16;
+
+/// The sockets, none of which waits, and the time.
+#[derive(Drop)]
+pub(crate) struct Shell {
+    socket: UdpSocket,
+    // the other nodes
+    others: Vec<(NodeId, SocketAddr)>,
+    listener: TcpListener,
+    // room for the longest datagram and a byte more, so that one that was cut spells nothing
+    datagram: Vec<u8>,
+    packet: Packet,
+    start: Option<Instant>,
+    now: u64,
+    pub(crate) watch: Watch,
+}
+
+/// Closes a connection whose client may have sent more than was read: where that is left unread, the system resets the connection, and the client
+/// may lose its response.
+pub fn close(stream: TcpStream) {
+    if stream.shutdown(Shutdown::Write).is_err() || stream.set_nonblocking(true).is_err() {
+        return;
+    }
+    let mut buffer = [0; 4096];
+    for _ in 0..LINGER {
+        match (&stream).read(&mut buffer) {
+            Ok(n) if n > 0 => {}
+            _ => return,
+        }
+    }
+}
+
+/// Where the other nodes are: node p has the p-th address.
+fn others_of(
+    alloc: Global,
+    addresses: &Addresses,
+) -> Result<Vec<(NodeId, SocketAddr)>, AllocError> {
+    let mut others = Vec::new(alloc);
+    for (number, at) in (1..=MAX_NODES).zip(addresses.peers.iter()) {
+        match addresses.cluster.node(number) {
+            Some(node) if node != addresses.me => others.push((node, *at))?,
+            _ => {}
+        }
+    }
+    Ok(others)
+}
+
+/// Sends a node what these letters have for it. A failure is a loss, and so is want of memory.
+fn send_to(
+    socket: &UdpSocket,
+    packet: &mut Packet,
+    letters: &[Letter],
+    to: NodeId,
+    at: SocketAddr,
+) {
+    let mut rest = letters;
+    for _ in 0..letters.len() {
+        let Ok(n) = pack(rest, to, packet) else {
+            return;
+        };
+        if !packet.is_empty() {
+            let _ = socket.send_to(packet.bytes(), at);
+        }
+        let (_, behind) = rest.split_at(n);
+        rest = behind;
+        if rest.is_empty() {
+            return;
+        }
+    }
+}
+
+impl Shell {
+    /// Both sockets are there, and do not wait.
+    pub(crate) fn new<C: Clock>(
+        clock: &C,
+        alloc: Global,
+        addresses: &Addresses,
+        socket: UdpSocket,
+        listener: TcpListener,
+        notes: Notes,
+    ) -> Result<Shell, AllocError> {
+        let mut datagram = Vec::new(alloc);
+        datagram.resize(MAX_MESSAGE + 1, 0)?;
+        Ok(Shell {
+            socket,
+            others: others_of(alloc, addresses)?,
+            listener,
+            datagram,
+            packet: Packet::new(alloc)?,
+            start: Instant::now(clock).ok(),
+            now: 0,
+            watch: Watch::new(notes),
+        })
+    }
+
+    /// How many milliseconds have passed since it began, and never less than before. Where the clock can't tell, one more than before.
+    pub(crate) fn now<C: Clock>(&mut self, clock: &C) -> u64 {
+        let passed = match self.start {
+            Some(start) => start.elapsed(clock).ok(),
+            None => None,
+        };
+        let now = match passed {
+            Some(passed) => u64::try_from(passed.as_millis()).unwrap_or(u64::MAX),
+            None => self.now.saturating_add(1),
+        };
+        self.now = now.max(self.now);
+        self.now
+    }
+
+    /// Takes in what has come, of other nodes and of clients: whether a client sent any.
+    pub(crate) fn take_in(
+        &mut self,
+        mail: &mut Mail,
+        seats: &mut Seats<TcpStream>,
+        now: u64,
+    ) -> Result<bool, AllocError> {
+        self.receive(mail)?;
+        self.accept(seats, now)?;
+        seats.read_each(now)
+    }
+
+    /// Sends the letters and what clients are owed, and closes the connections that leave: whether anything went to a client.
+    pub(crate) fn give_out(
+        &mut self,
+        letters: &[Letter],
+        seats: &mut Seats<TcpStream>,
+        now: u64,
+    ) -> bool {
+        self.send(letters);
+        let told = seats.write_each(now);
+        self.part(seats, now);
+        told
+    }
+
+    /// Receives what has come, as far as the mail has room. A failure is a loss.
+    fn receive(&mut self, mail: &mut Mail) -> Result<(), AllocError> {
+        for _ in 0..RECEIVED {
+            if !mail.has_room() {
+                return Ok(());
+            }
+            match self.socket.recv_from(self.datagram.as_mut_slice()) {
+                Ok((n, _from)) => {
+                    mail.take_in(&self.datagram[..n])?;
+                    self.watch.hear(mail.newest());
+                }
+                Err(e) if e.kind() == ErrorKind::WouldBlock => return Ok(()),
+                Err(_) => {}
+            }
+        }
+        Ok(())
+    }
+
+    /// Seats the clients that have come, each perhaps for one that was silent for long. One that fails at once is passed over.
+    fn accept(&mut self, seats: &mut Seats<TcpStream>, now: u64) -> Result<(), AllocError> {
+        for _ in 0..ACCEPTED {
+            if !seats.has_room() {
+                self.watch.fill();
+                return Ok(());
+            }
+            let Ok((stream, _from)) = self.listener.accept() else {
+                return Ok(());
+            };
+            if stream.set_nonblocking(true).is_err() {
+                continue;
+            }
+            let _ = stream.set_nodelay(true);
+            if let Some(gone) = seats.make_room() {
+                close(gone);
+                self.watch.displace();
+            }
+            let _ = seats.admit(stream, now)?;
+        }
+        Ok(())
+    }
+
+    /// Rests for so many microseconds, a long rest until a datagram comes. One that finds no memory is a loss.
+    pub(crate) fn rest<C: Clock>(&mut self, clock: &C, micros: u64, mail: &mut Mail) {
+        let length = Duration::from_micros(micros);
+        if micros < LONG || self.may_wait(length).is_err() {
+            thread::sleep(clock, length);
+            return;
+        }
+        let came = self.socket.recv_from(self.datagram.as_mut_slice());
+        let _ = self.socket.set_nonblocking(true);
+        if let Ok((n, _from)) = came {
+            let _ = mail.take_in(&self.datagram[..n]);
+            self.watch.hear(mail.newest());
+        }
+    }
+
+    /// From now on a receive waits so long. Where it can't, none waits.
+    fn may_wait(&self, length: Duration) -> io::Result<()> {
+        self.socket.set_read_timeout(Some(length))?;
+        self.socket.set_nonblocking(false)
+    }
+
+    /// Sends each other node what these letters have for it.
+    fn send(&mut self, letters: &[Letter]) {
+        for (node, at) in &self.others {
+            send_to(&self.socket, &mut self.packet, letters, *node, *at);
+        }
+    }
+
+    /// Closes the connections that leave.
+    fn part(&self, seats: &mut Seats<TcpStream>, now: u64) {
+        for _ in 0..ACCEPTED {
+            match seats.leave(now) {
+                Some(stream) => close(stream),
+                None => return,
+            }
+        }
+    }
+}

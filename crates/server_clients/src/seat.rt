@@ -1,0 +1,146 @@
+//! A client's connection, with what carries its bytes.
+
+ghost use Rattle.std.specs.Prelude.{◌↔◌, IfOk, OnOk, IsTrue};
+ghost use Rattle.http_serve.specs.Services.{MaySubmit};
+ghost use Rattle.server_clients.specs.Answering.{CountsAnswered, IsLeft, IsTurn};
+ghost use Rattle.server_clients.specs.Served.{offered};
+
+use crate::served::Served;
+use crate::stay::Stay;
+use http_read::Counted;
+use http_serve::{Connection, ReadOutcome, Service, WriteOutcome};
+use httparse::spans::HeaderSpan;
+use server_times::{Times, has_passed};
+use site_disk::Disk;
+use std::alloc::{AllocError, Global};
+use std::io::{Read, Write};
+
+/// A connection and its stream: who gives one away gives the other. Times are milliseconds since the server began.
+#[derive(Drop)]
+pub struct Seat<S> {
+    stream: Counted<S>,
+    connection: Connection,
+    // when bytes last came or went
+    moved: u64,
+    // when bytes last came
+    came: u64,
+    // when the request began that is being read or answered, if one is
+    begun: Option<u64>,
+}
+
+impl<S> Seat<S> {
+    /// A client came.
+    pub(crate) fn new(alloc: Global, stream: S, now: u64) -> Seat<S> {
+        Seat {
+            stream: Counted::new(stream),
+            connection: Connection::new(alloc),
+            moved: now,
+            came: now,
+            begun: None,
+        }
+    }
+
+    /// What it does, and for how long.
+    fn stay(&self, now: u64) -> Stay {
+        Stay {
+            still: now.saturating_sub(self.moved),
+            busy: match self.begun {
+                Some(begun) => Some(now.saturating_sub(begun)),
+                None => None,
+            },
+        }
+    }
+
+    /// Whether it is to be closed: all is done, a call failed, or it stays too long.
+    pub(crate) fn is_over(&self, times: Times, now: u64) -> bool {
+        self.connection.is_done() || self.stay(now).is_too_long(times)
+    }
+
+    /// Since when nothing moved, where it owes no response: then it may be given up for another client.
+    pub(crate) fn idle_since(&self) -> Option<u64> {
+        if self.connection.owes() {
+            None
+        } else {
+            Some(self.moved)
+        }
+    }
+
+    /// Whether its next request is left, as it asks for a receipt that is not there yet.
+    fn is_left<D: Disk>(&self, served: &Served<D>, times: Times, now: u64) -> bool
+        ensures { IsTrue result ↔ IsLeft offered times now served.now self.now }
+    {
+        match self.connection.asks_receipt() {
+            Some(ticket) => {
+                !has_passed(Some(self.came), now, times.receipts)
+                    && served.receipt(ticket).is_none()
+            }
+            None => false,
+        }
+    }
+
+    /// Its turn: one request is answered at most, and none that is left.
+    pub(crate) fn answer<D: Disk>(
+        &mut self,
+        alloc: Global,
+        served: &mut Served<D>,
+        spans: &mut Vec<HeaderSpan>,
+        times: Times,
+        now: u64,
+    ) -> Result<bool, AllocError>
+        ensures turn { OnOk result (IsTurn offered times now served.old served.new self.old self.new) }
+        ensures counts { IfOk result (λ did. CountsAnswered did self.old self.new) }
+        ensures taken { MaySubmit offered served.old served.new }
+    {
+        if self.is_left(served, times, now) {
+            return Ok(false);
+        }
+        self.connection.advance(alloc, served, spans)
+    }
+
+    /// The stream, which is to be closed.
+    pub(crate) fn into_stream(self) -> S {
+        let Seat { stream, .. } = self;
+        stream.into_inner()
+    }
+}
+
+impl<S: Read> Seat<S> {
+    /// Reads once, if it may, and its client may have more to say than the request that is left: whether anything came.
+    pub(crate) fn read(&mut self, now: u64) -> Result<bool, AllocError> {
+        if !self.connection.may_read() || self.connection.has_asked() {
+            return Ok(false);
+        }
+        match self.connection.read_from(&mut self.stream)? {
+            ReadOutcome::Nothing => Ok(false),
+            ReadOutcome::Came => {
+                self.moved = now;
+                self.came = now;
+                if self.begun.is_none() {
+                    self.begun = Some(now);
+                }
+                Ok(true)
+            }
+            ReadOutcome::Ended | ReadOutcome::Failed => Ok(true),
+        }
+    }
+}
+
+impl<S: Write> Seat<S> {
+    /// Writes once, if something waits: whether anything went.
+    pub(crate) fn write(&mut self, now: u64) -> bool {
+        if !self.connection.owes() {
+            return false;
+        }
+        match self.connection.write_to(&mut self.stream) {
+            WriteOutcome::Nothing => false,
+            WriteOutcome::Written => {
+                self.moved = now;
+                if !self.connection.owes() {
+                    self.begun = self.connection.has_begun().then_some(now);
+                }
+                true
+            }
+            WriteOutcome::Failed => true,
+        }
+    }
+}

@@ -1,0 +1,144 @@
+//! The clients of a server.
+
+ghost use Rattle.std.specs.Prelude.{◌≤◌, ◌<◌, ℕ, length, vec_len, IfOk, IfSome, OnOk};
+ghost use Rattle.http_serve.specs.Services.{MaySubmitMany};
+ghost use Rattle.server_clients.specs.Answering.{AreAnswered, TellsAnswered};
+ghost use Rattle.server_clients.specs.Served.{offered};
+
+use crate::seat::Seat;
+use crate::served::Served;
+use httparse::spans::HeaderSpan;
+use server_times::Times;
+use site_disk::Disk;
+use std::alloc::{AllocError, Global};
+use std::io::{Read, Write};
+
+/// How many clients have a seat at most.
+const SEATS: usize = 64;
+
+/// The clients that are connected, 64 at most.
+#[derive(Drop)]
+pub struct Seats<S> {
+    alloc: Global,
+    times: Times,
+    seats: Vec<Seat<S>>,
+    // room to read heads, for all of them
+    spans: Vec<HeaderSpan>,
+    ghost within: { vec_len seats ≤ 64 },
+}
+
+impl<S: Drop> Seats<S> {
+    /// Nobody came yet.
+    pub fn new(alloc: Global, times: Times) -> Seats<S> {
+        Seats {
+            alloc,
+            times,
+            seats: Vec::new(alloc),
+            spans: Vec::new(alloc),
+        }
+    }
+
+    /// How many clients are there.
+    pub fn len(&self) -> usize {
+        self.seats.len()
+    }
+
+    /// The seat of the client that was silent longest and is owed nothing.
+    fn first_to_go(&self) -> Option<usize>
+        ensures { IfSome result (λ i. i < vec_len self.now.seats) }
+    {
+        let mut first = None;
+        let mut least = u64::MAX;
+        for (i, seat) in self.seats.iter().enumerate() {
+            if let Some(since) = seat.idle_since() {
+                if since < least {
+                    least = since;
+                    first = Some(i);
+                }
+            }
+        }
+        first
+    }
+
+    /// The stream of the client that goes for another one, where all seats are taken: whoever was silent longest, unless a response is owed to it.
+    pub fn make_room(&mut self) -> Option<S> {
+        if self.seats.len() < SEATS {
+            return None;
+        }
+        let first = self.first_to_go()?;
+        Some(self.seats.swap_remove(first).into_stream())
+    }
+
+    /// Whether a client may be seated, perhaps for another one.
+    pub fn has_room(&self) -> bool {
+        self.seats.len() < SEATS || self.first_to_go().is_some()
+    }
+
+    /// A client takes a seat, where one is free. Otherwise its stream is given back.
+    pub fn admit(&mut self, stream: S, now: u64) -> Result<Option<S>, AllocError> {
+        if self.seats.len() >= SEATS {
+            return Ok(Some(stream));
+        }
+        self.seats.push(Seat::new(self.alloc, stream, now))?;
+        Ok(None)
+    }
+
+    /// The stream of a client whose connection is to be closed, if there is one.
+    pub fn leave(&mut self, now: u64) -> Option<S> {
+        let mut i = 0;
+        while i < self.seats.len() {
+            if self.seats[i].is_over(self.times, now) {
+                return Some(self.seats.swap_remove(i).into_stream());
+            }
+            i += 1;
+        }
+        None
+    }
+
+    /// Answers one request of each client that sent a whole one and read the response before it, but for one that is left: whether there was one.
+    pub fn answer_each<D: Disk>(
+        &mut self,
+        served: &mut Served<D>,
+        now: u64,
+    ) -> Result<bool, AllocError>
+        ensures each { OnOk result (AreAnswered offered self.old.times now served.old served.new self.old.seats.items self.new.seats.items) }
+        ensures tells { IfOk result (λ answered. TellsAnswered answered (length self.old.seats.items) self.old.seats.items self.new.seats.items) }
+        ensures taken { (n : ℕ) × (n ≤ 64) × MaySubmitMany offered n served.old served.new }
+    {
+        let times = self.times;
+        let mut answered = false;
+        let mut i = 0;
+        while i < self.seats.len() {
+            let seat = &mut self.seats[i];
+            answered |= seat.answer(self.alloc, served, &mut self.spans, times, now)?;
+            i += 1;
+        }
+        Ok(answered)
+    }
+}
+
+impl<S: Read + Drop> Seats<S> {
+    /// Reads once from each client: whether anything came.
+    pub fn read_each(&mut self, now: u64) -> Result<bool, AllocError> {
+        let mut came = false;
+        let mut i = 0;
+        while i < self.seats.len() {
+            came |= self.seats[i].read(now)?;
+            i += 1;
+        }
+        Ok(came)
+    }
+}
+
+impl<S: Write + Drop> Seats<S> {
+    /// Writes once to each client that is owed something: whether anything went.
+    pub fn write_each(&mut self, now: u64) -> bool {
+        let mut went = false;
+        let mut i = 0;
+        while i < self.seats.len() {
+            went |= self.seats[i].write(now);
+            i += 1;
+        }
+        went
+    }
+}

@@ -1,0 +1,2 @@
+pub mod ServerFaults
+pub mod Why

@@ -1,0 +1,38 @@
+-- The line behind that of a fault, which says why it was.
+use Rattle.std.specs.Prelude.{◌≡◌, ◌⊎◌, ℕ, List, ◌++◌, codes, Option}
+use Rattle.http_read.specs.Bytes.{End, IsGiven}
+use Rattle.server_faults.specs.declared.server_fault.ServerFault.{ServerFault}
+use Rattle.server_faults.specs.declared.server_fault.ServerFault.TheVariants as server_fault
+use Rattle.server_faults.specs.declared.serve_options.ServeOptions.{ServeOptions}
+
+-- what was done with a writer up to a moment, at which it held this and so many calls had failed, and what from it on
+abbrev pub up_to : End → Option (List ℕ) → ℕ → End
+up_to e held failures = record e { after = held; failures_after = failures }
+
+abbrev pub behind : End → Option (List ℕ) → ℕ → End
+behind e held failures = record e { before = held; failures = failures }
+
+-- nothing was
+abbrev pub GivesNone : End → Type 0
+GivesNone e = (e.after ≡ e.before) × (e.failures_after ≡ e.failures)
+
+-- what it is about, which one, and the cause
+abbrev pub why_line : List ℕ → List ℕ → List ℕ → List ℕ
+why_line what which cause = what ++ (which ++ (codes ": " ++ (cause ++ codes "\n")))
+
+-- such a line was given, or none
+abbrev pub GivesWhy : End → List ℕ → List ℕ → Type 0
+GivesWhy e what which = GivesNone e ⊎ ((cause : List ℕ) × IsGiven e (why_line what which cause))
+
+-- Of a fault of the record it is about the record that was named, of one of a socket about an address, of one of the command line about a word; behind
+-- any other fault there is none. Of the cause nothing is claimed
+abbrev pub SaysWhy : End → ServeOptions → ServerFault → Type 0
+SaysWhy e o server_fault.BadAddress = (word : List ℕ) × GivesWhy e (codes "bad address ") word
+SaysWhy e o (server_fault.Record _) = GivesWhy e (codes "record ") o.record.now
+SaysWhy e o server_fault.Stopped = GivesWhy e (codes "record ") o.record.now
+SaysWhy e o server_fault.Socket = (word : List ℕ) × GivesWhy e (codes "address ") word
+SaysWhy e o _ = GivesNone e
+
+-- a line, and what is said behind it
+abbrev pub GivesFault : End → ServeOptions → ServerFault → List ℕ → Type 0
+GivesFault e o why said = (held : Option (List ℕ)) × (failures : ℕ) × IsGiven (up_to e held failures) said × SaysWhy (behind e held failures) o why

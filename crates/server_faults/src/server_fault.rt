@@ -1,0 +1,70 @@
+//! Why a server ends.
+
+use durable::RecordFault;
+use node::NodeFault;
+use std::alloc::AllocError;
+use thiserror::Error;
+
+/// Why a server ends before its laps are done.
+#[derive(Clone, Copy, Debug, Drop, PartialEq, Eq, Error)]
+pub enum ServerFault {
+    #[error("bad address")]
+    BadAddress,
+    #[error("the record was refused: {0}")]
+    Record(RecordFault),
+    #[error("a socket failed")]
+    Socket,
+    #[error("out of memory")]
+    OutOfMemory,
+    /// The record's device failed.
+    #[error("stopped")]
+    Stopped,
+    #[error("rounds used up")]
+    RoundsUsedUp,
+    #[error("another value is known")]
+    Conflict,
+    #[error("the writer failed")]
+    Write,
+}
+
+impl From<AllocError> for ServerFault {
+    ghost use Rattle.std.specs.Prelude.{◌≡◌};
+    ghost use Rattle.server_faults.specs.declared.server_fault.ServerFault.TheVariants.{OutOfMemory};
+
+    ghost from_gives = { λ _ h. h ≡ OutOfMemory };
+
+    fn from(_refused: AllocError) -> ServerFault {
+        ServerFault::OutOfMemory
+    }
+}
+
+impl From<RecordFault> for ServerFault {
+    ghost use Rattle.std.specs.Prelude.{◌≡◌};
+    ghost use Rattle.server_faults.specs.ServerFaults.{of_record};
+
+    ghost from_gives = { λ fault h. h ≡ of_record fault };
+
+    fn from(fault: RecordFault) -> ServerFault {
+        match fault {
+            RecordFault::OutOfMemory => ServerFault::OutOfMemory,
+            _ => ServerFault::Record(fault),
+        }
+    }
+}
+
+/// A drive ends by no other fault of a node than these.
+impl From<NodeFault> for ServerFault {
+    ghost use Rattle.std.specs.Prelude.{◌≡◌};
+    ghost use Rattle.server_faults.specs.ServerFaults.{of_node};
+
+    ghost from_gives = { λ fault h. h ≡ of_node fault };
+
+    fn from(fault: NodeFault) -> ServerFault {
+        match fault {
+            NodeFault::Device | NodeFault::Stopped => ServerFault::Stopped,
+            NodeFault::RoundsUsedUp => ServerFault::RoundsUsedUp,
+            NodeFault::Conflict => ServerFault::Conflict,
+            _ => ServerFault::OutOfMemory,
+        }
+    }
+}

@@ -1,0 +1,149 @@
+//! Why a server halted: a line behind that of the fault.
+//!
+//! Why stands in a line of its own, so that each line of a fault stays as it is.
+
+ghost use Rattle.std.specs.Prelude.{◌≡◌, ℕ, List, IfOk, string_bytes};
+ghost use Rattle.http_read.specs.Bytes.{end_of};
+ghost use Rattle.server_faults.specs.Why.{why_line, GivesWhy, SaysWhy};
+
+use crate::{Cause, ServeOptions, ServerFault};
+use durable::RecordFault;
+use engine_common::give;
+use http_read::Counted;
+use site_ids::MAX_NODES;
+use std::alloc::{AllocError, Global};
+use std::io;
+use std::io::Write;
+use std::net::SocketAddr;
+
+/// The line: what it is about, which one, and the cause.
+fn line(alloc: Global, what: &str, which: &str, cause: &str) -> Result<String, AllocError>
+    ensures { IfOk result (λ text. string_bytes text ≡ why_line what.now which.now cause.now) }
+{
+    format!(in alloc; "{what}{which}: {cause}\n")
+}
+
+/// Writes it. Where memory is wanted for it, it is left out.
+fn tell<E: Write>(alloc: Global, err: &mut Counted<E>, what: &str, which: &str, cause: &str)
+    ensures { GivesWhy (end_of E.contents err.old err.new) what.now which.now }
+{
+    if let Ok(line) = line(alloc, what, which, cause) {
+        give(err, line.as_str());
+    }
+}
+
+/// In the words of the system.
+fn words(alloc: Global, error: io::Error) -> Result<String, AllocError> {
+    format!(in alloc; "{error}")
+}
+
+/// The same where the system said something, and else in these words.
+fn tell_cause<E: Write>(
+    alloc: Global,
+    err: &mut Counted<E>,
+    what: &str,
+    which: &str,
+    error: Option<io::Error>,
+    other: &str,
+)
+    ensures { GivesWhy (end_of E.contents err.old err.new) what.now which.now }
+{
+    match error {
+        Some(error) => {
+            if let Ok(text) = words(alloc, error) {
+                tell(alloc, err, what, which, text.as_str());
+            }
+        }
+        None => tell(alloc, err, what, which, other),
+    }
+}
+
+/// What is wrong with a record of which the system said nothing.
+fn wrong_with(fault: RecordFault, cause: &Cause) -> &'static str {
+    match fault {
+        RecordFault::NotARecord => "empty, or another file",
+        RecordFault::WrongNode => "of another node, or of another number of nodes",
+        RecordFault::Damaged => "it has bytes that no node wrote",
+        _ if cause.locked => "another process has it",
+        _ => "a call failed",
+    }
+}
+
+/// The address that could not be bound.
+fn address_of<'a>(options: &ServeOptions<'a>, cause: &Cause) -> &'a str {
+    let own = usize::from(options.id).saturating_sub(1);
+    match options.peers.get(own) {
+        Some(own) if cause.datagrams => own,
+        _ => options.http,
+    }
+}
+
+/// The first word that is no address.
+fn first_bad<'a>(options: &ServeOptions<'a>) -> &'a str {
+    for peer in options.peers.as_slice() {
+        if peer.parse::<SocketAddr>().is_err() {
+            return peer;
+        }
+    }
+    options.http
+}
+
+/// Which word of the command line is none, and why.
+fn bad_word<'a>(options: &ServeOptions<'a>) -> (&'a str, &'static str) {
+    let size = options.peers.len();
+    if size == 0 || size > MAX_NODES as usize {
+        return ("ADDRESS..", "those of one to nine nodes are wanted");
+    }
+    if options.id == 0 || usize::from(options.id) > size {
+        return (
+            "--id",
+            "none of the nodes, which the addresses number from 1",
+        );
+    }
+    (
+        first_bad(options),
+        "an IP address and a port are wanted, and names are not resolved",
+    )
+}
+
+/// Says why it halted so, where that is more than its line says.
+pub fn say_why<E: Write>(
+    alloc: Global,
+    err: &mut Counted<E>,
+    options: &ServeOptions<'_>,
+    fault: ServerFault,
+    cause: &Cause,
+)
+    ensures { SaysWhy (end_of E.contents err.old err.new) options.now fault }
+{
+    match fault {
+        ServerFault::BadAddress => {
+            let (word, why) = bad_word(options);
+            tell(alloc, err, "bad address ", word, why);
+        }
+        ServerFault::Record(fault) => {
+            let other = wrong_with(fault, cause);
+            tell_cause(alloc, err, "record ", options.record, cause.error, other);
+        }
+        ServerFault::Stopped => tell_cause(
+            alloc,
+            err,
+            "record ",
+            options.record,
+            cause.error,
+            "a write or a sync failed",
+        ),
+        ServerFault::Socket => {
+            let address = address_of(options, cause);
+            tell_cause(
+                alloc,
+                err,
+                "address ",
+                address,
+                cause.error,
+                "a call failed",
+            );
+        }
+        _ => {}
+    }
+}

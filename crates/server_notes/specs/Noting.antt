@@ -1,0 +1,45 @@
+-- When a server says what. Moments are milliseconds since it began.
+use Rattle.std.specs.Prelude.{ℕ, ◌-◌, ◌/◌, Bool, false, ◌&&◌, nat_eq, nat_le, if◌then◌else◌}
+use Rattle.server_notes.specs.declared.catching.Catching.{Catching}
+use Rattle.server_notes.specs.declared.catching.Catching.TheVariants.{Alone, Since}
+use Rattle.server_notes.specs.declared.silence.Silence.{Silence}
+use Rattle.server_notes.specs.declared.catching.TheConstants.{SETTLING, MANY}
+use Rattle.server_notes.specs.declared.silence.TheConstants.{LONG}
+
+-- ---- how long somebody was not heard
+
+abbrev pub no_silence : Silence
+no_silence = record { heard = 0; told = 0; ended = 0 }
+
+abbrev pub silence_of : Silence → ℕ → ℕ
+silence_of s now = now - s.heard
+
+-- a silence that was told has ended
+abbrev pub heard_at : Silence → ℕ → Silence
+heard_at s now = record { heard = now; told = 0; ended = if nat_eq s.told 0 then s.ended else silence_of s now }
+
+-- five seconds, and twice as long as was told last
+abbrev pub is_long : Silence → ℕ → Bool
+is_long s now = nat_le LONG (silence_of s now) && nat_le s.told (silence_of s now / 2)
+
+abbrev pub told_at : Silence → ℕ → Silence
+told_at s now = record s { told = silence_of s now }
+
+abbrev pub ended_told : Silence → Silence
+ended_told s = record s { ended = 0 }
+
+-- ---- whether it has caught up
+
+abbrev pub joined_at : Catching → ℕ → ℕ → Catching
+joined_at Alone now known = Since now known
+joined_at c now known = c
+
+-- the time begins anew with each 64 values that became known
+abbrev pub learned_at : Catching → ℕ → ℕ → Catching
+learned_at (Since at before) now known = if nat_le MANY (known - before) then Since now known else Since at before
+learned_at c now known = c
+
+-- for two seconds it hears a majority, and fewer than 64 values became known
+abbrev pub has_settled : Catching → ℕ → Bool
+has_settled (Since at known) now = nat_le SETTLING (now - at)
+has_settled c now = false

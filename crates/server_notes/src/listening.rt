@@ -1,0 +1,147 @@
+//! Whom a server hears.
+
+ghost use Rattle.std.specs.Prelude.{◌≡◌, ◌-◌, set, true, ◌||◌, if◌then◌else◌};
+ghost use Rattle.server_notes.specs.Listening.{count_of, first_listening, silence_at, AreHeard, AreGathered, FindsEnded, FindsSilent, Hears};
+ghost use Rattle.server_notes.specs.Noting.{told_at, ended_told};
+
+use crate::silence::Silence;
+use site_ids::{Cluster, NodeId};
+
+/// Of each node how long it was not heard, and of a majority, which is heard each time that so many different nodes were. A server hears itself.
+#[derive(Clone, Copy, Drop)]
+pub struct Listening {
+    cluster: Cluster,
+    me: NodeId,
+    pub(crate) silences: [Silence; 9],
+    // those that were heard since a majority was
+    gathered: [bool; 9],
+    pub(crate) majority: Silence,
+}
+
+/// These nodes, and the server itself.
+fn with_own(me: NodeId, heard: [bool; 9]) -> [bool; 9]
+    ensures { result ≡ set heard (me - 1) true }
+{
+    let mut all = heard;
+    all[usize::from(me.number()) - 1] = true;
+    all
+}
+
+/// The silences of these nodes end.
+fn hear_each(silences: [Silence; 9], heard: [bool; 9], now: u64) -> [Silence; 9]
+    ensures { AreHeard silences heard now result }
+{
+    let mut after = silences;
+    for i in 0..9 {
+        after[i] = silences[i].passed(heard[i], now);
+    }
+    after
+}
+
+fn either(a: bool, b: bool) -> bool
+    ensures { result ≡ (a || b) }
+{
+    a || b
+}
+
+/// Those and these.
+fn gather(gathered: [bool; 9], heard: [bool; 9]) -> [bool; 9]
+    ensures { AreGathered gathered heard result }
+{
+    let mut all = gathered;
+    for i in 0..9 {
+        all[i] = either(heard[i], gathered[i]);
+    }
+    all
+}
+
+fn one(is: bool) -> usize
+    ensures { result ≡ (if is then 1 else 0) }
+{
+    if is { 1 } else { 0 }
+}
+
+/// How many they are.
+fn count(gathered: [bool; 9]) -> usize
+    ensures { result ≡ count_of gathered }
+{
+    let mut count = 0;
+    for i in 0..9 {
+        count += one(gathered[i]);
+    }
+    count
+}
+
+impl Listening {
+    /// The server of that number begins, in a group of so many.
+    pub fn new(cluster: Cluster, me: NodeId) -> Listening
+        ensures { result ≡ first_listening cluster me }
+    {
+        Listening {
+            cluster,
+            me,
+            silences: [Silence::new(); 9],
+            gathered: [false; 9],
+            majority: Silence::new(),
+        }
+    }
+
+    /// Something came of these nodes: whether a majority is heard by that.
+    pub fn hear(&mut self, now: u64, heard: [bool; 9]) -> bool
+        ensures { Hears self.old now heard result self.new }
+    {
+        let heard = with_own(self.me, heard);
+        self.silences = hear_each(self.silences, heard, now);
+        self.gathered = gather(self.gathered, heard);
+        if count(self.gathered) < usize::from(self.cluster.quorum()) {
+            return false;
+        }
+        self.majority = self.majority.heard(now);
+        self.gathered = [false; 9];
+        true
+    }
+
+    /// The first node whose silence is to be told, and how many milliseconds it is long.
+    pub fn first_silent(&self, now: u64) -> Option<(NodeId, u64)>
+        ensures { FindsSilent self.now now result }
+    {
+        for number in 1..=self.cluster.size() {
+            let node = self.cluster.node(number)?;
+            let silence = self.silences[usize::from(number) - 1];
+            if silence.is_long(now) {
+                return Some((node, silence.length(now)));
+            }
+        }
+        None
+    }
+
+    /// The first node the end of whose silence is to be told, and how many milliseconds it was long.
+    pub fn first_ended(&self) -> Option<(NodeId, u64)>
+        ensures { FindsEnded self.now result }
+    {
+        for number in 1..=self.cluster.size() {
+            let node = self.cluster.node(number)?;
+            let silence = self.silences[usize::from(number) - 1];
+            if silence.ended != 0 {
+                return Some((node, silence.ended));
+            }
+        }
+        None
+    }
+
+    /// The silence of that node is told.
+    pub(crate) fn tell_silent(&mut self, node: NodeId, now: u64)
+        ensures { self.new ≡ record self.old { silences = set self.old.silences (node - 1) (told_at (silence_at self.old.silences (node - 1)) now) } }
+    {
+        let at = usize::from(node.number()) - 1;
+        self.silences[at] = self.silences[at].told(now);
+    }
+
+    /// The end of that node's silence is told.
+    pub(crate) fn tell_ended(&mut self, node: NodeId)
+        ensures { self.new ≡ record self.old { silences = set self.old.silences (node - 1) (ended_told (silence_at self.old.silences (node - 1))) } }
+    {
+        let at = usize::from(node.number()) - 1;
+        self.silences[at] = self.silences[at].ended_told();
+    }
+}

@@ -1,0 +1,58 @@
+//! What a server says on standard error.
+
+use site_ids::NodeId;
+use std::fmt;
+
+/// An event that matters to who runs a server. Its `Display` is its line, without the newline.
+#[derive(Clone, Copy, Debug, PartialEq, Eq, Drop)]
+pub enum Note {
+    /// The server is ready, and its record has so many votes.
+    Opened { votes: u32 },
+    /// Behind a start or an absence: it knows all values up to this instance, and little more comes.
+    CaughtUp { instance: u32 },
+    /// For so long no majority was heard, itself included.
+    NoMajority { seconds: u64 },
+    /// A majority is heard, as it was not for so long.
+    Majority { seconds: u64 },
+    /// For so long this node was not heard.
+    Silent { node: NodeId, seconds: u64 },
+    /// This node is heard, as it was not for so long.
+    Heard { node: NodeId, seconds: u64 },
+    /// So many datagrams came that spell no message.
+    Malformed { count: u64 },
+    /// So many connections, each the one that was silent longest, were closed for further clients.
+    Displaced { count: u64 },
+    /// A response is owed on each connection, so that further clients wait.
+    Full,
+}
+
+impl fmt::Display for Note {
+    ghost use Rattle.std.specs.Prelude.{Some};
+    ghost use Rattle.server_notes.specs.Lines.{text_of};
+
+    ghost output = { λ note. Some (text_of note) };
+
+    fn fmt<W: fmt::Write>(&self, f: &mut fmt::Formatter<W>) -> fmt::Result {
+        match self {
+            Note::Opened { votes } => write!(f, "opened: votes on record: {votes}"),
+            Note::CaughtUp { instance } => write!(f, "caught up to instance {instance}"),
+            Note::NoMajority { seconds } => write!(f, "no majority heard for {seconds} s"),
+            Note::Majority { seconds } => write!(f, "a majority is heard again, after {seconds} s"),
+            Note::Silent { node, seconds } => {
+                let number = node.number();
+                write!(f, "node {number} not heard for {seconds} s")
+            }
+            Note::Heard { node, seconds } => {
+                let number = node.number();
+                write!(f, "node {number} is heard again, after {seconds} s")
+            }
+            Note::Malformed { count } => write!(f, "datagrams that are no message: {count}"),
+            Note::Displaced { count } => {
+                write!(f, "silent connections closed for other clients: {count}")
+            }
+            Note::Full => f.write_str(
+                "all 64 connections wait for a response: further clients wait",
+            ),
+        }
+    }
+}

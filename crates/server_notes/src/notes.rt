@@ -1,0 +1,194 @@
+//! What a server has to say.
+//!
+//! Kinds have an order, and each its second, so that a flood of one keeps no other from being said.
+
+ghost use Rattle.std.specs.Prelude.{◌≡◌, ◌+◌, ◌^◌, ◌-◌, min, Bool, None, if◌then◌else◌, ◌||◌};
+ghost use Rattle.server_notes.specs.Due.{counted, due_if, due_notes, first_notes, following, heard_of, is_free, opened_of, settled, silent_of, Says, SaysOf};
+ghost use Rattle.server_notes.specs.Listening.{Hears};
+
+use crate::catching::Catching;
+use crate::listening::Listening;
+use crate::note::Note;
+use site_ids::{Cluster, NodeId};
+
+/// Milliseconds between two lines of one kind, at least.
+pub const EACH: u64 = 1000;
+
+/// What a server heard of whom, what it counted, and what it said last, and when. Moments are milliseconds since it began, none of them less than the one before.
+#[derive(Clone, Copy, Drop)]
+pub struct Notes {
+    // of the record, until that is said
+    votes: Option<u32>,
+    catching: Catching,
+    listening: Listening,
+    malformed: u64,
+    displaced: u64,
+    full: bool,
+    // when a line of each kind was said last, in the order of the kinds of `Note`
+    said: [Option<u64>; 9],
+}
+
+impl Notes {
+    /// The server begins, over a record with so many votes.
+    pub fn new(cluster: Cluster, me: NodeId, votes: u32) -> Notes
+        ensures { result ≡ first_notes cluster me votes }
+    {
+        Notes {
+            votes: Some(votes),
+            catching: Catching::Alone,
+            listening: Listening::new(cluster, me),
+            malformed: 0,
+            displaced: 0,
+            full: false,
+            said: [None; 9],
+        }
+    }
+
+    /// Something came of these nodes, the first of them at the place 0; and so many values are known.
+    pub fn hear(&mut self, now: u64, known: u32, heard: [bool; 9])
+        ensures { (majority : Bool) × Hears self.old.listening now heard majority self.new.listening × (self.new ≡ record self.old { listening = self.new.listening; catching = following self.old.catching majority now known }) }
+    {
+        if self.listening.hear(now, heard) {
+            self.catching = self.catching.joined(now, known);
+        }
+        self.catching = self.catching.learned(now, known);
+    }
+
+    /// So many datagrams spelled no message, so many connections were closed for further clients, and whether further clients found no place.
+    pub fn count(&mut self, malformed: u64, displaced: u64, full: bool)
+        ensures { self.new ≡ record self.old { malformed = min (self.old.malformed + malformed) (2 ^ 64 - 1); displaced = min (self.old.displaced + displaced) (2 ^ 64 - 1); full = self.old.full || full } }
+    {
+        self.malformed = self.malformed.saturating_add(malformed);
+        self.displaced = self.displaced.saturating_add(displaced);
+        self.full = self.full || full;
+    }
+
+    /// What is due, of each kind in its place, where these nodes are silent and heard again.
+    fn due(
+        &self,
+        now: u64,
+        known: u32,
+        silent: Option<(NodeId, u64)>,
+        ended: Option<(NodeId, u64)>,
+    ) -> [Option<Note>; 9]
+        ensures { result ≡ due_notes self.now now known silent ended }
+    {
+        let majority = self.listening.majority;
+        let (alone, again) = (majority.length(now) / 1000, majority.ended / 1000);
+        let (malformed, displaced) = (self.malformed, self.displaced);
+        [
+            opened(self.votes),
+            due_if(
+                self.catching.has_settled(now),
+                Note::CaughtUp { instance: known },
+            ),
+            due_if(majority.is_long(now), Note::NoMajority { seconds: alone }),
+            counted(majority.ended, Note::Majority { seconds: again }),
+            silence(silent),
+            hearing(ended),
+            counted(malformed, Note::Malformed { count: malformed }),
+            counted(displaced, Note::Displaced { count: displaced }),
+            due_if(self.full, Note::Full),
+        ]
+    }
+
+    /// This is said of a node, a majority or a start.
+    fn settle(&mut self, now: u64, note: &Note)
+        ensures { self.new ≡ settled self.old now note.now }
+    {
+        match *note {
+            Note::Opened { .. } => self.votes = None,
+            Note::CaughtUp { .. } => self.catching = Catching::Done,
+            Note::NoMajority { .. } => {
+                self.catching = Catching::Alone;
+                self.listening.majority = self.listening.majority.told(now);
+            }
+            Note::Majority { .. } => {
+                self.listening.majority = self.listening.majority.ended_told();
+            }
+            Note::Silent { node, .. } => self.listening.tell_silent(node, now),
+            Note::Heard { node, .. } => self.listening.tell_ended(node),
+            Note::Malformed { .. } => self.malformed = 0,
+            Note::Displaced { .. } => self.displaced = 0,
+            Note::Full => self.full = false,
+        }
+    }
+
+    /// What of this is said next, if anything. It is due no more then.
+    fn say(&mut self, now: u64, due: [Option<Note>; 9]) -> Option<Note>
+        ensures { SaysOf self.old now due result self.new }
+    {
+        for kind in 0..9 {
+            if let Some(note) = may_say(self.said[kind], now, due[kind]) {
+                self.settle(now, &note);
+                self.said[kind] = Some(now);
+                return Some(note);
+            }
+        }
+        None
+    }
+
+    /// What is said next, if anything: at most one line of each kind in a second. It is due no more then.
+    pub fn next(&mut self, now: u64, known: u32) -> Option<Note>
+        ensures { Says self.old now known result self.new }
+    {
+        let silent = self.listening.first_silent(now);
+        let ended = self.listening.first_ended();
+        self.say(now, self.due(now, known, silent, ended))
+    }
+}
+
+/// Where a line of its kind was said last then, or never, and a second has passed since.
+fn may_say(said: Option<u64>, now: u64, due: Option<Note>) -> Option<Note>
+    ensures { result ≡ (if is_free said now then due else None) }
+{
+    match said {
+        Some(said) if now.saturating_sub(said) < EACH => None,
+        _ => due,
+    }
+}
+
+fn opened(votes: Option<u32>) -> Option<Note>
+    ensures { result ≡ opened_of votes }
+{
+    match votes {
+        Some(votes) => Some(Note::Opened { votes }),
+        None => None,
+    }
+}
+
+fn due_if(is: bool, note: Note) -> Option<Note>
+    ensures { result ≡ due_if is note }
+{
+    if is { Some(note) } else { None }
+}
+
+fn counted(count: u64, note: Note) -> Option<Note>
+    ensures { result ≡ counted count note }
+{
+    if count == 0 { None } else { Some(note) }
+}
+
+fn silence(silent: Option<(NodeId, u64)>) -> Option<Note>
+    ensures { result ≡ silent_of silent }
+{
+    match silent {
+        Some((node, millis)) => Some(Note::Silent {
+            node,
+            seconds: millis / 1000,
+        }),
+        None => None,
+    }
+}
+
+fn hearing(ended: Option<(NodeId, u64)>) -> Option<Note>
+    ensures { result ≡ heard_of ended }
+{
+    match ended {
+        Some((node, millis)) => Some(Note::Heard {
+            node,
+            seconds: millis / 1000,
+        }),
+        None => None,
+    }
+}

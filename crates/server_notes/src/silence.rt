@@ -1,0 +1,85 @@
+//! How long somebody was not heard.
+
+ghost use Rattle.std.specs.Prelude.{◌≡◌, if◌then◌else◌};
+ghost use Rattle.server_notes.specs.Noting.{no_silence, heard_at, told_at, ended_told, silence_of, is_long};
+
+/// Milliseconds of silence behind which it is told first.
+pub const LONG: u64 = 5000;
+
+/// When somebody was heard last, and what was told of it. Moments and lengths are milliseconds, moments since the server began.
+#[derive(Clone, Copy, Drop)]
+pub struct Silence {
+    /// When it was heard last: at the beginning, where it never was.
+    pub heard: u64,
+    /// So long a silence was told last, 0 where none was told since it was heard.
+    pub told: u64,
+    /// So long was a silence that was told and has ended, 0 where there is none or its end was told.
+    pub ended: u64,
+}
+
+impl Silence {
+    /// The server begins.
+    pub fn new() -> Silence
+        ensures { result ≡ no_silence }
+    {
+        Silence {
+            heard: 0,
+            told: 0,
+            ended: 0,
+        }
+    }
+
+    /// How long it was not heard.
+    pub fn length(self, now: u64) -> u64
+        ensures { result ≡ silence_of self now }
+    {
+        now.saturating_sub(self.heard)
+    }
+
+    /// It is heard: a silence that was told has ended.
+    pub fn heard(self, now: u64) -> Silence
+        ensures { result ≡ heard_at self now }
+    {
+        Silence {
+            heard: now,
+            told: 0,
+            ended: if self.told == 0 {
+                self.ended
+            } else {
+                self.length(now)
+            },
+        }
+    }
+
+    /// It is heard, or not.
+    pub(crate) fn passed(self, heard: bool, now: u64) -> Silence
+        ensures { result ≡ (if heard then heard_at self now else self) }
+    {
+        if heard { self.heard(now) } else { self }
+    }
+
+    /// Whether its silence is to be told: behind 5 seconds, and then each time that it is twice as long as was told last.
+    pub fn is_long(self, now: u64) -> bool
+        ensures { result ≡ is_long self now }
+    {
+        let length = self.length(now);
+        length >= LONG && length / 2 >= self.told
+    }
+
+    /// Its silence is told.
+    pub fn told(self, now: u64) -> Silence
+        ensures { result ≡ told_at self now }
+    {
+        Silence {
+            told: self.length(now),
+            ..self
+        }
+    }
+
+    /// The end of its silence is told.
+    pub fn ended_told(self) -> Silence
+        ensures { result ≡ ended_told self }
+    {
+        Silence { ended: 0, ..self }
+    }
+}

@@ -1,0 +1,235 @@
+-- When a server tries again, asks and tells, and how long it rests. Times are milliseconds since it began, rests microseconds.
+use Rattle.std.specs.Prelude.{◌≡◌, ◌≢◌, ◌⊎◌, ℕ, suc, ◌+◌, ◌-◌, ◌*◌, ◌^◌, ◌<◌, ◌≤◌, min, List, length, replicate, get_or, set, Bool, true, false, not, ◌||◌, nat_eq, nat_le, nat_lt, if◌then◌else◌, Option, Some, None, is_none, unwrap_or, IsTrue, ◌↔◌}
+use Rattle.site_ids.specs.declared.TheConstants.{MAX_INSTANCE}
+use Rattle.site_ids.specs.Ids.{BallotOf, IsInstance}
+use Rattle.durable.specs.Entries.{last_vote, IsPromise}
+use Rattle.node.specs.Nodes.{Node, Value, IsKnownPrefix, WantsTick}
+use Rattle.node.specs.declared.TheConstants.{MAX_TOLD}
+use Rattle.server_pace.specs.declared.asking.Asking.{Asking}
+use Rattle.server_pace.specs.declared.asking.Telling.{Telling}
+use Rattle.server_pace.specs.declared.due.Due.{Due}
+use Rattle.site_drive.specs.declared.last_call.LastCall.{LastCall}
+use Rattle.site_drive.specs.declared.last_call.LastCall.TheVariants.{Ask, TickOrAsk}
+use Rattle.server_pace.specs.declared.last_question.LastQuestion.{LastQuestion}
+use Rattle.server_pace.specs.declared.pace.Pace.{Pace}
+use Rattle.server_pace.specs.declared.questions.Questions.{Questions}
+use Rattle.server_pace.specs.declared.resting.Resting.{Resting}
+use Rattle.server_pace.specs.declared.seen.Seen.{Seen}
+use Rattle.server_pace.specs.declared.ticking.Ticking.{Ticking}
+use Rattle.server_pace.specs.declared.yielding.Yielding.{Yielding}
+use Rattle.server_times.specs.Timing.{asks_after, passed, patience_of}
+use Rattle.server_times.specs.declared.times.Times.{Times}
+
+-- ---- ticks
+
+-- a value was just submitted, and nobody tries one: a tick begins to be wanted, and the last batch stirred nothing
+abbrev pub IsFresh : Ticking → Bool → Bool → Type 0
+IsFresh t wanted stirred = (wanted ≡ true) × (t.since ≡ None) × (stirred ≡ false)
+
+-- a tick is waited for since it began to be wanted, or something became known
+abbrev pub noted : Ticking → ℕ → Bool → ℕ → Ticking
+noted t now false known = record { since = None; known = known; ticks = 0 }
+noted t now true known =
+    if is_none t.since || not (nat_eq known t.known)
+    then record { since = Some now; known = known; ticks = 0 }
+    else t
+
+-- the patience has passed, and behind each tick once more, up to growth times in all
+abbrev pub Ticks : Ticking → ℕ → ℕ → ℕ → Type 0
+Ticks t now patience growth = (since : ℕ) × (t.since ≡ Some since) × (patience * min (t.ticks + 1) growth ≤ now - since)
+
+abbrev pub ticked : Ticking → ℕ → Ticking
+ticked t now = record { since = Some now; known = t.known; ticks = min (t.ticks + 1) (2 ^ 32 - 1) }
+
+-- ---- yields: nodes take turns at the first unknown instance, by their numbers, with 1 behind 9
+
+-- how many places behind a number another one comes; behind itself 9
+abbrev pub places_behind : ℕ → ℕ → ℕ
+places_behind last number = if nat_lt last number then number - last else number + 9 - last
+
+-- it saw no attempt
+abbrev pub first_yielding : Yielding
+first_yielding = record { tried = replicate 9 false; tries = None; last = None; stands = None; free = None; took = 0; since = None }
+
+-- how long attempts stood, where they do no more
+abbrev pub took_by : Option ℕ → ℕ → ℕ → ℕ
+took_by None now took = took
+took_by (Some stands) now took = now - stands
+
+abbrev pub ended : Yielding → ℕ → Yielding
+ended y now = record y { stands = None; took = took_by y.stands now y.took }
+
+abbrev pub stood_by : Option ℕ → ℕ → Bool
+stood_by None q = false
+stood_by (Some p) q = nat_eq p q
+
+-- the first unknown instance is promised to a node, or to none: those of another one stand no more
+abbrev pub noted_tries : Yielding → ℕ → Option ℕ → Yielding
+noted_tries y now None = record (ended y now) { tries = None; free = Some (unwrap_or y.free now) }
+noted_tries y now (Some q) =
+    let stood = if stood_by y.tries q then y else ended y now in
+    record stood { tried = set y.tried (q - 1) true; tries = Some q; last = Some q; stands = Some (unwrap_or stood.stands now); free = None }
+
+-- one that tried comes before this server, behind the one that tried last
+pub record IsBehind (y : Yielding) (me : ℕ) : Type 0 where
+  pub last : ℕ
+  pub node : ℕ
+  pub is_last : y.last ≡ Some last
+  pub range : (1 ≤ node) × (node ≤ 9)
+  pub tried : get_or y.tried (node - 1) false ≡ true
+  pub before : places_behind last node < places_behind last me
+
+-- another one's attempt stands at the first unknown instance, or it is another one's turn
+abbrev pub Waits : Yielding → ℕ → Type 0
+Waits y me = ((q : ℕ) × (y.tries ≡ Some q) × (q ≢ me)) ⊎ IsBehind y me
+
+-- none has stood there for longer than those of the last node did, and a millisecond more
+abbrev pub IsSoon : Yielding → ℕ → Type 0
+IsSoon y now = (free : ℕ) × (y.free ≡ Some free) × (now - free ≤ y.took + 1)
+
+-- a stretch of so many milliseconds may go on: the bound on it has not passed, nor six times as long as the last attempts stood, and a millisecond more
+abbrev pub MayGoOn : Yielding → Times → ℕ → Type 0
+MayGoOn y times millis = (millis < times.yielding) × (millis < 6 * (y.took + 1))
+
+-- so it waits: as long in a stretch as that may go on, and for an attempt that begins hardly longer than the last ones stood
+abbrev pub Yields : Yielding → Times → ℕ → ℕ → Type 0
+Yields y times now me =
+    Waits y me
+    × MayGoOn y times (now - unwrap_or y.since now)
+    × ((y.tries ≢ None) ⊎ IsSoon y now)
+
+-- where it waited in vain, nobody's turn is before its own until one tries again
+abbrev pub yielding_after : Yielding → ℕ → Bool → Bool → Yielding
+yielding_after y now waits true = record y { since = Some (unwrap_or y.since now) }
+yielding_after y now waits false = record y { tried = if waits then replicate 9 false else y.tried; since = None }
+
+-- ---- questions and tellings
+
+-- its time has passed; or the last one brought a whole telling in no time; or it brought anything, all of that came, and nobody tries a value
+abbrev pub Asks : Asking → Type 0
+Asks a =
+    (a.passed ≡ true)
+    ⊎ ((MAX_TOLD ≤ a.learned) × (a.quick ≡ true))
+    ⊎ ((a.learned ≢ 0) × (a.drained ≡ true) × (a.calm ≡ true))
+
+-- what stands since the last question
+abbrev pub asking_of : LastQuestion → Times → ℕ → Seen → ℕ → Asking
+asking_of last times now seen empty = record {
+  learned = seen.known - last.known;
+  quick = not (passed last.at now times.quick);
+  drained = seen.drained;
+  calm = not last.tried;
+  passed = passed last.at now (asks_after times empty);
+}
+
+-- it is of all its instances; or its time has passed, and nobody tries a value
+abbrev pub Tells : Telling → Type 0
+Tells t = (t.full ≡ true) ⊎ ((t.calm ≡ true) × (t.passed ≡ true))
+
+-- it begins behind the instance that was asked for, where its value is known, since the answer tells that
+abbrev pub told_from : ℕ → ℕ → ℕ
+told_from known asked = if nat_le asked known then asked + 1 else asked
+
+-- a node that knows so many values without a gap knows the one of the last instance of a telling, or voted there
+abbrev pub IsFull : Node → ℕ → ℕ → Type 0
+IsFull s known first =
+    let final = first + (MAX_TOLD - 1) in
+    (final ≤ MAX_INSTANCE) × ((final ≤ known) ⊎ (last_vote final s.entries ≢ None))
+
+-- the first of the nodes whose question waits, by their numbers
+abbrev pub IsFirstAsked : List (Option ℕ) → ℕ → ℕ → Type 0
+IsFirstAsked asked p i =
+    (get_or asked (p - 1) None ≡ Some i)
+    × ((q : ℕ) → 1 ≤ q → q < p → get_or asked (q - 1) None ≡ None)
+
+-- node p is told from instance i on, with so many values known: its question was the first, and i is where its telling begins
+abbrev pub IsToldOf : List (Option ℕ) → ℕ → ℕ → ℕ → Type 0
+IsToldOf asked known p i = (instance : ℕ) × IsFirstAsked asked p instance × (i ≡ told_from known instance)
+
+-- ---- rests
+
+-- nothing came and nothing was served
+abbrev pub Rests : Resting → Type 0
+Rests r = (r.came ≡ false) × (r.served ≡ false) × (r.stirred ≡ false)
+
+-- a response, or a message that is no question, wakes a server; what else came does not count as an empty step
+abbrev pub empty_after : Resting → ℕ
+empty_after r =
+    if r.served || r.stirred then 0
+    else (if r.came then r.empty else min (r.empty + 1) (2 ^ 32 - 1))
+
+abbrev pub resting_of : Pace → Bool → Bool → Resting
+resting_of p came served = record { came = came; served = served; stirred = p.stirred; empty = p.empty }
+
+-- ---- a pace, and what is due
+
+-- behind a batch that delivered so many messages of attempts, and so many that are no questions
+abbrev pub heard : Pace → ℕ → ℕ → Pace
+heard p attempts stirs = record p {
+  last = record p.last { tried = p.last.tried || nat_lt 0 attempts };
+  stirred = p.stirred || nat_lt 0 stirs;
+}
+
+-- the instance is promised to a ballot of that node, or to none
+abbrev pub IsTriedBy : Node → ℕ → Option ℕ → Type 0
+IsTriedBy s i None = IsInstance i → IsPromise s.entries i None
+IsTriedBy s i (Some q) = IsInstance i × ((b : BallotOf) × IsPromise s.entries i (Some b) × (b.node ≡ q))
+
+-- nobody tries a value: the first unknown instance is promised to none
+abbrev pub IsUntried : Node → Type 0
+IsUntried s = (values : List Value) → IsKnownPrefix s values → IsPromise s.entries (suc (length values)) None
+
+-- what a node shows: how many values it knows without a gap, and whether it wants a tick
+pub record IsSeen (s : Node) (drained : Bool) (seen : Seen) : Type 0 where
+  pub known : (values : List Value) × IsKnownPrefix s values × (seen.known ≡ length values)
+  pub wanted : IsTrue seen.wanted ↔ WantsTick s
+  pub drained_is : seen.drained ≡ drained
+
+abbrev pub no_questions : Questions
+no_questions = record { asked = replicate 9 None; told = replicate 9 None }
+
+-- a server begins quiet; it never asked, and no tick is wanted
+abbrev pub first_pace : Times → ℕ → Pace
+first_pace times node = record {
+  times = times;
+  patience = patience_of times node;
+  ticking = record { since = None; known = 0; ticks = 0 };
+  last = record { at = None; known = 0; tried = false };
+  questions = no_questions;
+  stirred = false;
+  empty = times.quiet;
+  me = node;
+  yielding = first_yielding;
+}
+
+-- a tick that was due is one of those behind which more patience is had; one for a value that is fresh is not
+abbrev pub ticking_after : Ticking → ℕ → Bool → LastCall → Ticking
+ticking_after t now false TickOrAsk = ticked t now
+ticking_after t now fresh last = t
+
+-- what came since is counted anew from a question on
+abbrev pub question_after : LastQuestion → ℕ → ℕ → LastCall → LastQuestion
+question_after q now known Ask = record { at = Some now; known = known; tried = false }
+question_after q now known last = q
+
+-- it yields where the first unknown instance is promised so
+abbrev pub IsYielding : Pace → ℕ → Option ℕ → Type 0
+IsYielding p now tries = Yields (noted_tries p.yielding now tries) p.times now p.me
+
+-- once that is called
+abbrev pub pace_after : Pace → ℕ → Seen → Option ℕ → Due → LastCall → Pace
+pace_after p now seen tries due last = record p {
+  ticking = ticking_after (noted p.ticking now seen.wanted seen.known) now due.fresh last;
+  last = question_after p.last now seen.known last;
+  stirred = false;
+  yielding = yielding_after (noted_tries p.yielding now tries) now due.waits due.yields;
+}
+
+-- as a batch begins
+pub record IsDue (p : Pace) (now : ℕ) (seen : Seen) (tries : Option ℕ) (telling : Option (ℕ × ℕ)) (due : Due) : Type 0 where
+  pub fresh : IsTrue due.fresh ↔ (IsFresh p.ticking seen.wanted p.stirred × (due.yields ≡ false))
+  pub told : due.telling ≡ telling
+  pub question : IsTrue due.question ↔ Asks (asking_of p.last p.times now seen p.empty)
+  pub tick : IsTrue due.tick ↔ Ticks (noted p.ticking now seen.wanted seen.known) now p.patience p.times.growth
+  pub waits : IsTrue due.waits ↔ Waits (noted_tries p.yielding now tries) p.me
+  pub yields : IsTrue due.yields ↔ IsYielding p now tries

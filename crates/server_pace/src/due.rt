@@ -1,0 +1,49 @@
+//! What a server calls behind the turns of a batch.
+
+ghost use Rattle.std.specs.Prelude.{◌≡◌};
+ghost use Rattle.server_pace.specs.Turns.{call_behind};
+
+use site_drive::LastCall;
+use site_ids::{Instance, NodeId};
+
+/// What stands as a batch begins.
+#[derive(Clone, Copy, Debug, PartialEq, Eq, Drop)]
+pub struct Due {
+    /// A value was just submitted, and it does not yield.
+    pub fresh: bool,
+    /// Whom to tell, and from which instance on, where a telling is due.
+    pub telling: Option<(NodeId, Instance)>,
+    /// A question is due.
+    pub question: bool,
+    /// A tick is due.
+    pub tick: bool,
+    /// Another one's attempt stands at the first unknown instance, or it is another one's turn.
+    pub waits: bool,
+    /// So it yields: its time to do so has not passed.
+    pub yields: bool,
+}
+
+impl Due {
+    /// A tick at once for a value that is fresh; else a telling, a question or a tick that is due; else nothing where it yields, and
+    /// else widenings, so that the values that came since the last batch share a prepare.
+    pub fn last_call(self) -> LastCall
+        ensures { result ≡ call_behind self }
+    {
+        if self.fresh {
+            return LastCall::TickOrAsk;
+        }
+        if let Some((to, first)) = self.telling {
+            return LastCall::Tell { to, first };
+        }
+        if self.question {
+            return LastCall::Ask;
+        }
+        if self.tick {
+            return LastCall::TickOrAsk;
+        }
+        if self.yields {
+            return LastCall::Nothing;
+        }
+        LastCall::Widen
+    }
+}

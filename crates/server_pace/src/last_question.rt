@@ -1,0 +1,45 @@
+//! The last question of a server, and what came since.
+
+ghost use Rattle.std.specs.Prelude.{◌≡◌, None, false};
+ghost use Rattle.server_pace.specs.Pacing.{asking_of};
+
+use crate::asking::Asking;
+use crate::seen::Seen;
+use server_times::{Times, has_passed};
+
+/// When a server asked last, and what it knew then.
+#[derive(Clone, Copy, Debug, PartialEq, Eq, Drop)]
+pub struct LastQuestion {
+    /// In milliseconds since it began, unless it never asked.
+    pub at: Option<u64>,
+    /// So many values were known.
+    pub known: u32,
+    /// Somebody was seen to try a value since.
+    pub tried: bool,
+}
+
+impl LastQuestion {
+    /// It never asked.
+    pub fn never() -> LastQuestion
+        ensures { result ≡ record { at = None; known = 0; tried = false } }
+    {
+        LastQuestion {
+            at: None,
+            known: 0,
+            tried: false,
+        }
+    }
+
+    /// What stands where it may ask again, after so many steps in which nothing came.
+    pub fn asking(self, times: Times, now: u64, seen: Seen, empty: u32) -> Asking
+        ensures { result ≡ asking_of self times now seen empty }
+    {
+        Asking {
+            learned: seen.known.saturating_sub(self.known),
+            quick: !has_passed(self.at, now, times.quick),
+            drained: seen.drained,
+            calm: !self.tried,
+            passed: has_passed(self.at, now, times.asks_after(empty)),
+        }
+    }
+}

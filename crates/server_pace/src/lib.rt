@@ -1,0 +1,23 @@
+//! When a server tries again, asks, tells and rests, by a moment in milliseconds: data and pure functions, without a clock.
+#![tactic(auto)]
+
+mod asking;
+mod due;
+mod last_question;
+mod pace;
+mod questions;
+mod resting;
+mod seen;
+mod ticking;
+mod yielding;
+
+pub use asking::{Asking, Telling};
+pub use due::Due;
+pub use last_question::LastQuestion;
+pub use pace::Pace;
+pub use questions::first_told;
+pub use resting::Resting;
+pub use seen::Seen;
+pub use server_times::{Times, has_passed};
+pub use ticking::Ticking;
+pub use yielding::Yielding;

@@ -1,0 +1,188 @@
+//! When a server tries again, when it asks and tells, and how long it rests: all of it numbers.
+
+ghost use Rattle.std.specs.Prelude.{◌≡◌, ◌↔◌, ◌⊎◌, ◌<◌, ℕ, suc, Option, IsSome, IsTrue, IfSome, Some, None, true, false, if◌then◌else◌};
+ghost use Rattle.node.specs.Nodes.{Node as AbstractNode, WantsTick};
+ghost use Rattle.node.specs.Standing.{IsNodeOf};
+ghost use Rattle.server_pace.specs.declared.due.Due.{Due};
+ghost use Rattle.server_pace.specs.declared.seen.Seen.{Seen};
+ghost use Rattle.site_drive.specs.declared.last_call.LastCall.TheVariants.{Ask, TickOrAsk};
+ghost use Rattle.server_pace.specs.Pacing.{empty_after, first_pace, heard, pace_after, question_after, resting_of, ticking_after, IsDue, IsFresh, IsSeen, IsToldOf, IsTriedBy, IsUntried, IsYielding};
+ghost use Rattle.server_times.specs.Timing.{rest_after};
+ghost use Rattle.server_pace.specs.Turns.{call_behind};
+
+use crate::due::Due;
+use crate::last_question::LastQuestion;
+use crate::questions::Questions;
+use crate::resting::Resting;
+use crate::seen::{Seen, first_tried_by};
+use crate::ticking::Ticking;
+use crate::yielding::Yielding;
+use node::Node;
+use server_times::Times;
+use site_disk::Disk;
+use site_drive::{Delivered, LastCall};
+use site_ids::{Cluster, Instance, NodeId};
+
+/// What was tried, asked, heard and told, by whom and when.
+///
+/// A step calls `due`, then `hear` behind its batch, and then `rest`. Its moments are milliseconds since the server began, none of them less than the one before.
+#[derive(Clone, Copy, Drop)]
+pub struct Pace {
+    times: Times,
+    // what this server waits before its first try
+    patience: u64,
+    ticking: Ticking,
+    last: LastQuestion,
+    // those of other nodes
+    questions: Questions,
+    // whether messages that are no questions came since what is due was asked for
+    stirred: bool,
+    // how many steps went by in which nothing came, questions aside
+    empty: u32,
+    me: NodeId,
+    yielding: Yielding,
+}
+
+impl Pace {
+    /// That of a server which begins: it is quiet.
+    pub fn new(times: Times, me: NodeId) -> Pace
+        ensures { result ≡ first_pace times me }
+    {
+        Pace {
+            times,
+            patience: times.patience_of(me.number()),
+            ticking: Ticking::new(),
+            last: LastQuestion::never(),
+            questions: Questions::new(),
+            stirred: false,
+            empty: times.quiet,
+            me,
+            yielding: Yielding::new(),
+        }
+    }
+
+    /// Behind a batch: what it delivered.
+    pub fn hear(&mut self, cluster: Cluster, delivered: &Delivered)
+        ensures { self.new ≡ record (heard self.old delivered.now.attempts delivered.now.stirs) { questions = self.new.questions } }
+    {
+        self.questions.hear(cluster, delivered);
+        self.note(delivered.attempts(), delivered.stirs());
+    }
+
+    /// So many messages of an attempt came, and so many that are no questions.
+    fn note(&mut self, attempts: u32, stirs: u32)
+        ensures { self.new ≡ heard self.old attempts stirs }
+    {
+        self.last.tried |= attempts != 0;
+        self.stirred |= stirs != 0;
+    }
+
+    /// What is called behind the turns of the next batch, which begins now, where all that had come was taken in by the last one, or not. What is called
+    /// counts from now on. A value that was just submitted is tried at once where nobody tries one and it is no other server's turn.
+    pub fn due<D: Disk>(&mut self, now: u64, node: &Node<D>, drained: bool) -> LastCall
+        ensures fresh { (s : AbstractNode) → IsNodeOf node.now s → WantsTick s → IsUntried s → ¬ IsYielding self.old now None → self.old.ticking.since ≡ None → self.old.stirred ≡ false → result ≡ TickOrAsk }
+        ensures due { (s : AbstractNode) → IsNodeOf node.now s → (seen : Seen) × (tries : Option ℕ) × (telling : Option (ℕ × ℕ)) × (due : Due) × IsSeen s drained seen × IsTriedBy s (suc seen.known) tries × IfSome telling (λ x. IsToldOf self.old.questions.asked seen.known x.0 x.1) × IsDue self.old now seen tries telling due × (result ≡ call_behind due)
+            × (self.new ≡ record (pace_after self.old now seen tries due result) { questions = self.new.questions }) }
+    {
+        let seen = Seen::of(node, drained);
+        let telling = self.next_telling(now, node, seen);
+        let tries = first_tried_by(node, seen.known);
+        self.call(now, seen, tries, telling)
+    }
+
+    /// The next telling, unless a value is fresh: then it waits.
+    fn next_telling<D: Disk>(
+        &mut self,
+        now: u64,
+        node: &Node<D>,
+        seen: Seen,
+    ) -> Option<(NodeId, Instance)>
+        ensures told { IfSome result (λ x. IsToldOf self.old.questions.asked seen.known x.0 x.1) }
+        ensures same { self.new ≡ record self.old { questions = self.new.questions } }
+        ensures waits { IsFresh self.old.ticking seen.wanted self.old.stirred → (result ≡ None) × (self.new ≡ self.old) }
+    {
+        if self.ticking.is_fresh(seen.wanted, self.stirred) {
+            return None;
+        }
+        let calm = !self.last.tried;
+        self.questions.next(self.times, now, node, seen.known, calm)
+    }
+
+    /// Whether a value was just submitted that is tried at once: it does not yield to another server.
+    fn is_fresh(&self, wanted: bool, yields: bool) -> bool
+        ensures { IsTrue result ↔ (IsFresh self.now.ticking wanted self.now.stirred × (yields ≡ false)) }
+    {
+        !yields && self.ticking.is_fresh(wanted, self.stirred)
+    }
+
+    /// What is called behind the turns of the next batch, where so much is seen and this telling is due. What is called counts from now on.
+    fn call(
+        &mut self,
+        now: u64,
+        seen: Seen,
+        tries: Option<NodeId>,
+        telling: Option<(NodeId, Instance)>,
+    ) -> LastCall
+        ensures due { (due : Due) × IsDue self.old now seen tries telling due × (result ≡ call_behind due) × (self.new ≡ pace_after self.old now seen tries due result) }
+        ensures fresh { IsFresh self.old.ticking seen.wanted self.old.stirred → ¬ IsYielding self.old now tries → result ≡ TickOrAsk }
+        ensures news { ¬ IsFresh self.old.ticking seen.wanted self.old.stirred → telling ≡ None → self.old.last.known < seen.known → seen.drained ≡ true → self.old.last.tried ≡ false → result ≡ Ask }
+    {
+        let (me, times) = (self.me, self.times);
+        self.yielding.note(now, tries);
+        let waits = self.yielding.waits(me);
+        let yields = self.yielding.is_due(times, now, me);
+        let fresh = self.is_fresh(seen.wanted, yields);
+        self.yielding.pass(now, waits, yields);
+        let asking = self.last.asking(self.times, now, seen, self.empty);
+        self.ticking = self.ticking.noted(now, seen.wanted, seen.known);
+        let due = Due {
+            fresh,
+            telling,
+            question: asking.is_due(),
+            tick: self.ticking.is_due(now, self.patience, self.times.growth),
+            waits,
+            yields,
+        };
+        let last = due.last_call();
+        self.begin(now, seen.known, fresh, &last);
+        self.stirred = false;
+        last
+    }
+
+    /// A question, or a tick that was due, counts from now on.
+    fn begin(&mut self, now: u64, known: u32, fresh: bool, last: &LastCall)
+        ensures { self.new ≡ record self.old { ticking = ticking_after self.old.ticking now fresh last.now; last = question_after self.old.last now known last.now } }
+    {
+        match last {
+            LastCall::Ask => {
+                self.last = LastQuestion {
+                    at: Some(now),
+                    known,
+                    tried: false,
+                };
+            }
+            LastCall::TickOrAsk if !fresh => {
+                self.ticking = self.ticking.ticked(now);
+            }
+            _ => {}
+        }
+    }
+
+    /// How many microseconds are rested behind a step: none while something came. It is told whether datagrams came or bytes of clients, and whether a response
+    /// was written.
+    pub fn rest(&mut self, came: bool, served: bool) -> Option<u64>
+        ensures rests { IsSome result ↔ (came ≡ false) × (served ≡ false) × (self.old.stirred ≡ false) }
+        ensures long { IfSome result (λ micros. micros ≡ rest_after self.old.times self.old.empty) }
+        ensures counts { self.new ≡ record self.old { empty = empty_after (resting_of self.old came served) } }
+    {
+        let resting = Resting {
+            came,
+            served,
+            stirred: self.stirred,
+            empty: self.empty,
+        };
+        let micros = self.times.rest_after(self.empty);
+        self.empty = resting.empty_after();
+        resting.is_due().then_some(micros)
+    }
+}

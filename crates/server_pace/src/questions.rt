@@ -1,0 +1,125 @@
+//! Questions that were heard, and whom to tell what.
+
+ghost use Rattle.std.specs.Prelude.{◌≡◌, ◌↔◌, ◌⊎◌, ◌-◌, ◌&&◌, ℕ, true, not, get_or, set, MatchOption, IsSome, IfSome, IfNone, IsTrue, if◌then◌else◌};
+ghost use Rattle.node.specs.Nodes.{Node as AbstractNode};
+ghost use Rattle.node.specs.Standing.{IsNodeOf};
+ghost use Rattle.site_ids.specs.Ids.{IsInstance, IsNode};
+ghost use Rattle.server_pace.specs.Pacing.{no_questions, told_from, IsFirstAsked, IsFull, IsToldOf, Tells};
+ghost use Rattle.server_times.specs.Timing.{passed};
+
+use crate::asking::Telling;
+use node::{MAX_TOLD, Node};
+use server_times::{Times, has_passed};
+use site_disk::Disk;
+use site_drive::Delivered;
+use site_ids::{Cluster, Instance, NodeId};
+
+/// For each node the instance that it asked for and was not told of yet, and when it was told less than it may be at once.
+#[derive(Clone, Copy, Drop)]
+pub struct Questions {
+    asked: [Option<Instance>; 9],
+    told: [Option<u64>; 9],
+}
+
+/// From which instance on is told behind an answer, with so many values known: from the one behind it, where its value is known, and else from it. None
+/// where that would be past the last one.
+pub fn first_told(known: u32, asked: Instance) -> Option<Instance>
+    ensures { MatchOption result (¬ IsInstance (told_from known asked)) (λ first. (first ≡ told_from known asked) × IsInstance first) }
+{
+    if asked.number() <= known {
+        Instance::new(asked.number() + 1)
+    } else {
+        Some(asked)
+    }
+}
+
+/// Whether there is something to tell of the last instance of a telling, by a node that knows so many values.
+fn is_full<D: Disk>(node: &Node<D>, known: u32, first: Instance) -> bool
+    ensures { (s : AbstractNode) → IsNodeOf node.now s → IsTrue result ↔ IsFull s known first }
+{
+    match Instance::new(first.number() + (MAX_TOLD - 1)) {
+        Some(last) => last.number() <= known || node.slot(last).vote.is_some(),
+        None => false,
+    }
+}
+
+impl Questions {
+    /// None was heard.
+    pub(crate) fn new() -> Questions
+        ensures { result ≡ no_questions }
+    {
+        Questions {
+            asked: [None; 9],
+            told: [None; 9],
+        }
+    }
+
+    /// Those that were delivered. Each takes the place of that node's last one.
+    pub(crate) fn hear(&mut self, cluster: Cluster, delivered: &Delivered)
+        ensures { self.new.told ≡ self.old.told }
+    {
+        for number in 1..=cluster.size() {
+            let Some(node) = cluster.node(number) else {
+                return;
+            };
+            if let Some(instance) = delivered.question_of(node) {
+                self.asked[usize::from(number) - 1] = Some(instance);
+            }
+        }
+    }
+
+    /// The first node whose question waits, and the instance that it was for. By that it is forgotten.
+    fn take_first(&mut self, cluster: Cluster) -> Option<(NodeId, Instance)>
+        ensures some { IfSome result (λ x. IsNode cluster x.0 × IsFirstAsked self.old.asked x.0 x.1 × (self.new.asked ≡ set self.old.asked (x.0 - 1) None)) }
+        ensures none { IfNone result ((self.new ≡ self.old) × ((p : ℕ) → IsNode cluster p → get_or self.old.asked (p - 1) None ≡ None)) }
+        ensures told { self.new.told ≡ self.old.told }
+    {
+        for number in 1..=cluster.size() {
+            let to = cluster.node(number)?;
+            let at = usize::from(number) - 1;
+            if let Some(asked) = self.asked[at] {
+                self.asked[at] = None;
+                return Some((to, asked));
+            }
+        }
+        None
+    }
+
+    /// Whom a node that knows so many values tells, and from which instance on: the first one whose question waits. By that it is forgotten, whether its
+    /// telling is due or not.
+    pub(crate) fn next<D: Disk>(
+        &mut self,
+        times: Times,
+        now: u64,
+        node: &Node<D>,
+        known: u32,
+        calm: bool,
+    ) -> Option<(NodeId, Instance)>
+        ensures forgets { (p i : ℕ) → IsNode node.now.cluster p → IsFirstAsked self.old.asked p i → self.new.asked ≡ set self.old.asked (p - 1) None }
+        ensures told { IfSome result (λ x. IsToldOf self.old.asked known x.0 x.1) }
+        ensures due { (p i : ℕ) → IsNode node.now.cluster p → IsFirstAsked self.old.asked p i → IsInstance (told_from known i) → (s : AbstractNode) → IsNodeOf node.now s →
+            IsSome result ↔ (IsFull s known (told_from known i) ⊎ ((calm ≡ true) × (passed (get_or self.old.told (p - 1) None) now times.telling ≡ true))) }
+    {
+        let (to, asked) = self.take_first(node.cluster())?;
+        let first = first_told(known, asked)?;
+        let full = is_full(node, known, first);
+        self.tells(times, now, to, full, calm)
+            .then_some((to, first))
+    }
+
+    /// Whether a telling to a node is due, which is of all 64 instances or less, while nobody tries a value or somebody does. The time of one that is of less
+    /// counts from now on.
+    fn tells(&mut self, times: Times, now: u64, to: NodeId, full: bool, calm: bool) -> bool
+        ensures due { IsTrue result ↔ Tells (record { full = full; calm = calm; passed = passed (get_or self.old.told (to - 1) None) now times.telling }) }
+        ensures counts { self.new ≡ record self.old { told = if result && not full then set self.old.told (to - 1) (Some now) else self.old.told } }
+    {
+        let at = usize::from(to.number()) - 1;
+        let passed = has_passed(self.told[at], now, times.telling);
+        let telling = Telling { full, calm, passed };
+        let due = telling.is_due();
+        if due && !full {
+            self.told[at] = Some(now);
+        }
+        due
+    }
+}

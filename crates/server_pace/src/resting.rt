@@ -1,0 +1,41 @@
+//! When a server rests.
+//!
+//! Rests grow behind 200 empty passes and 2,000: at 1.5 ms throughout quiet nodes cost 4.3 to 6.9% of a core, so 1.6 to 2.0.
+
+ghost use Rattle.std.specs.Prelude.{◌≡◌, ◌↔◌, IsTrue, false};
+ghost use Rattle.server_pace.specs.Pacing.{empty_after};
+
+/// What a step came to, and how many empty ones lie before it.
+#[derive(Clone, Copy, Debug, PartialEq, Eq, Drop)]
+pub struct Resting {
+    /// Datagrams came, or bytes of clients.
+    pub came: bool,
+    /// A response was written.
+    pub served: bool,
+    /// Messages came that were no questions.
+    pub stirred: bool,
+    /// So many steps went by in which nothing came, questions aside.
+    pub empty: u32,
+}
+
+impl Resting {
+    /// Whether it rests: never while something came.
+    pub fn is_due(self) -> bool
+        ensures { IsTrue result ↔ (self.came ≡ false) × (self.served ≡ false) × (self.stirred ≡ false) }
+    {
+        !self.came && !self.served && !self.stirred
+    }
+
+    /// How many empty steps lie before the next one. Questions, and parts of requests, do not count, and wake nobody up.
+    pub fn empty_after(self) -> u32
+        ensures { result ≡ empty_after self }
+    {
+        if self.served || self.stirred {
+            0
+        } else if self.came {
+            self.empty
+        } else {
+            self.empty.saturating_add(1)
+        }
+    }
+}

@@ -1,0 +1,167 @@
+//! When a server yields to another one that tries.
+
+ghost use Rattle.std.specs.Prelude.{◌≡◌, ◌↔◌, ◌<◌, ◌≤◌, ◌-◌, IsTrue, unwrap_or};
+ghost use Rattle.server_pace.specs.Pacing.{ended, first_yielding, noted_tries, places_behind, stood_by, yielding_after, IsBehind, IsSoon, MayGoOn, Waits, Yields};
+
+use server_times::Times;
+use site_ids::NodeId;
+
+/// In a stretch it yields for less than so many times as long as the last attempts stood, and a millisecond more: turns of six others.
+const TURNS: u64 = 6;
+
+/// Whose attempts this server saw at its first unknown instance, and since when it yields.
+#[derive(Clone, Copy, Debug, PartialEq, Eq, Drop)]
+pub struct Yielding {
+    /// Those that tried since it last waited in vain, node 1 at the place 0.
+    pub tried: [bool; 9],
+    /// Whose attempt stands there now.
+    pub tries: Option<NodeId>,
+    /// Whose attempt stood there last.
+    pub last: Option<NodeId>,
+    /// Since when that node's attempts stand there, in milliseconds since the server began; never where none does.
+    pub stands: Option<u64>,
+    /// Since when none does.
+    pub free: Option<u64>,
+    /// For how many milliseconds those of the node before stood there.
+    pub took: u64,
+    /// Since when it yields.
+    pub since: Option<u64>,
+}
+
+/// How many places behind a node a number comes, from 1 to 9 and round again: behind itself 9.
+fn places_behind(last: NodeId, number: u8) -> u8
+    requires { number ≤ 9 }
+    ensures { result ≡ places_behind last number }
+{
+    if last.number() < number {
+        number - last.number()
+    } else {
+        number + 9 - last.number()
+    }
+}
+
+impl Yielding {
+    /// It saw none.
+    pub fn new() -> Yielding
+        ensures { result ≡ first_yielding }
+    {
+        Yielding {
+            tried: [false; 9],
+            tries: None,
+            last: None,
+            stands: None,
+            free: None,
+            took: 0,
+            since: None,
+        }
+    }
+
+    /// Whether that node's attempt stood there last.
+    fn is_of(&self, node: NodeId) -> bool
+        ensures { result ≡ stood_by self.now.tries node }
+    {
+        match self.tries {
+            Some(tries) => tries.number() == node.number(),
+            None => false,
+        }
+    }
+
+    /// The attempts that stood there do no more.
+    fn end(&mut self, now: u64)
+        ensures { self.new ≡ ended self.old now }
+    {
+        if let Some(stands) = self.stands {
+            self.took = now.saturating_sub(stands);
+        }
+        self.stands = None;
+    }
+
+    /// The first unknown instance is promised to a node now, or to none.
+    pub fn note(&mut self, now: u64, tries: Option<NodeId>)
+        ensures { self.new ≡ noted_tries self.old now tries }
+    {
+        let Some(node) = tries else {
+            self.end(now);
+            self.tries = None;
+            self.free = Some(self.free.unwrap_or(now));
+            return;
+        };
+        if !self.is_of(node) {
+            self.end(now);
+        }
+        self.tries = Some(node);
+        self.tried[usize::from(node.number()) - 1] = true;
+        self.last = Some(node);
+        self.stands = Some(self.stands.unwrap_or(now));
+        self.free = None;
+    }
+
+    /// Whether one that tried comes before this server, behind the one that tried last.
+    fn is_behind(&self, me: NodeId) -> bool
+        ensures { IsTrue result ↔ IsBehind self.now me }
+    {
+        let Some(last) = self.last else {
+            return false;
+        };
+        for number in 1..=9 {
+            if self.tried[usize::from(number) - 1]
+                && places_behind(last, number) < places_behind(last, me.number())
+            {
+                return true;
+            }
+        }
+        false
+    }
+
+    /// Whether another one's attempt stands at the first unknown instance, or it is another one's turn.
+    pub fn waits(&self, me: NodeId) -> bool
+        ensures { IsTrue result ↔ Waits self.now me }
+    {
+        match self.tries {
+            Some(node) if node != me => true,
+            _ => self.is_behind(me),
+        }
+    }
+
+    /// Whether no attempt has stood there for longer than those of the last node did, and a millisecond more: a clock that counts milliseconds may have taken
+    /// one for none.
+    fn is_soon(&self, now: u64) -> bool
+        ensures { IsTrue result ↔ IsSoon self.now now }
+    {
+        match self.free {
+            Some(free) => now.saturating_sub(free).saturating_sub(1) <= self.took,
+            None => false,
+        }
+    }
+
+    /// Whether it may have yielded for so many milliseconds in a stretch, and yield on.
+    fn may_go_on(&self, times: Times, millis: u64) -> bool
+        ensures { IsTrue result ↔ MayGoOn self.now times millis }
+    {
+        millis < times.yielding && millis / TURNS <= self.took
+    }
+
+    /// Whether it begins no attempt of its own: it waits, for a time that has not passed.
+    pub fn is_due(&self, times: Times, now: u64, me: NodeId) -> bool
+        ensures due { IsTrue result ↔ Yields self.now times now me }
+        ensures bound { IsTrue result → now - unwrap_or self.now.since now < times.yielding }
+    {
+        let stretch = now.saturating_sub(self.since.unwrap_or(now));
+        let soon = self.tries.is_some() || self.is_soon(now);
+        self.may_go_on(times, stretch) && soon && self.waits(me)
+    }
+
+    /// It yields now, or does not. Where it waited in vain, nobody's turn is before its own until one tries again.
+    pub fn pass(&mut self, now: u64, waits: bool, yields: bool)
+        ensures { self.new ≡ yielding_after self.old now waits yields }
+    {
+        if yields {
+            self.since = Some(self.since.unwrap_or(now));
+            return;
+        }
+        self.since = None;
+        if waits {
+            self.tried = [false; 9];
+        }
+    }
+}

@@ -1,0 +1,22 @@
+-- What a server waits for, by its times. Times are milliseconds since it began, rests microseconds.
+use Rattle.std.specs.Prelude.{ℕ, ◌+◌, ◌-◌, ◌*◌, ◌/◌, ◌^◌, min, Bool, true, nat_le, nat_lt, if◌then◌else◌, Option, Some, None}
+use Rattle.server_times.specs.declared.times.Times.{Times}
+
+-- so many milliseconds have passed since then; since never they have
+abbrev pub passed : Option ℕ → ℕ → ℕ → Bool
+passed None now millis = true
+passed (Some since) now millis = nat_le millis (now - since)
+
+-- before its first try a server waits half the patience, and half of it more for each number up to its own
+abbrev pub patience_of : Times → ℕ → ℕ
+patience_of times node = min (times.patience * (node + 1)) (2 ^ 64 - 1) / 2
+
+-- behind a question that brought nothing; empty is how many steps went by in which nothing came
+abbrev pub asks_after : Times → ℕ → ℕ
+asks_after times empty = if nat_lt empty times.quiet then times.asking else times.quiet_asking
+
+-- in microseconds
+abbrev pub rest_after : Times → ℕ → ℕ
+rest_after times empty =
+    if nat_lt empty times.idle then times.rest
+    else (if nat_lt empty times.quiet then times.idle_rest else times.quiet_rest)

@@ -1,0 +1,121 @@
+//! All times of a server.
+
+ghost use Rattle.std.specs.Prelude.{◌≡◌, ◌↔◌, ℕ, ◌-◌, ◌≤◌, IfSome, IsTrue, Some, None, unwrap_or};
+ghost use Rattle.server_times.specs.Timing.{asks_after, passed, patience_of, rest_after};
+ghost use Rattle.server_times.specs.declared.times.TheConstants.{STANDARD};
+
+/// All that a server waits for, in one place.
+#[derive(Clone, Copy, Debug, PartialEq, Eq, Drop)]
+pub struct Times {
+    /// Milliseconds without news behind which it tries a value again, at least: more at greater numbers (`Pace`). An option of the command line; the servers
+    /// of a group may have different ones.
+    pub patience: u64,
+    /// The patience grows with the tries that brought no news, up to so many times (`Ticking`).
+    pub growth: u32,
+    /// Milliseconds between two questions to the others of which the first brought nothing (`LastQuestion`).
+    pub asking: u64,
+    /// The same where it is quiet.
+    pub quiet_asking: u64,
+    /// Milliseconds in which 64 values that were on record come as answers to one question: what is decided meanwhile takes longer (`LastQuestion`).
+    pub quick: u64,
+    /// Milliseconds between two tellings to one server of less than 64 instances (`Questions`).
+    pub telling: u64,
+    /// Milliseconds in a stretch for which it yields to others that try, at most (`Yielding`).
+    pub yielding: u64,
+    /// Behind so many steps in which nothing came it is idle: more than a client takes to come again (`Pace::rest`).
+    pub idle: u32,
+    /// Behind so many it is quiet: some three seconds (`Pace::rest`).
+    pub quiet: u32,
+    /// Microseconds that it rests behind a step in which nothing came, while it is busy (`Pace::rest`).
+    pub rest: u64,
+    /// The same where it is idle.
+    pub idle_rest: u64,
+    /// The same where it is quiet.
+    pub quiet_rest: u64,
+    /// Milliseconds that a connection is kept open between requests: nothing of the next one came, and nothing is left to write. RFC 9112, section 9.5,
+    /// permits to close one at any time.
+    pub between_requests: u64,
+    /// Milliseconds that a request which has begun, or a response which its client does not read, is given without a byte that moves.
+    pub without_progress: u64,
+    /// Milliseconds for which a request for a receipt that is not there yet is left, behind the last bytes that its client sent: most values are known by
+    /// then, and a client asks once.
+    pub receipts: u64,
+    /// Milliseconds that a request is given, from its first byte to the last of its response, where that is limited. An option of the command line.
+    pub serve_ms: Option<u64>,
+}
+
+/// Those of a command line that names none.
+const STANDARD: Times = Times {
+    patience: 100,
+    growth: 3,
+    asking: 400,
+    quiet_asking: 800,
+    quick: 20,
+    telling: 400,
+    yielding: 50,
+    idle: 200,
+    quiet: 2000,
+    rest: 10,
+    idle_rest: 1500,
+    quiet_rest: 20_000,
+    between_requests: 5000,
+    without_progress: 1000,
+    receipts: 100,
+    serve_ms: None,
+};
+
+/// Whether so many milliseconds have passed since then, by a clock in milliseconds that never goes back: since never they have.
+pub fn has_passed(since: Option<u64>, now: u64, millis: u64) -> bool
+    ensures is { result ≡ passed since now millis }
+    ensures rule { IsTrue result ↔ IfSome since (λ then. millis ≤ now - then) }
+{
+    match since {
+        Some(since) => now.saturating_sub(since) >= millis,
+        None => true,
+    }
+}
+
+impl Times {
+    /// Those of a command line that may name a patience and a limit for connections.
+    pub fn new(patience: Option<u64>, serve_ms: Option<u64>) -> Times
+        ensures { result ≡ record STANDARD { patience = unwrap_or patience STANDARD.patience; serve_ms = serve_ms } }
+    {
+        Times {
+            patience: patience.unwrap_or(STANDARD.patience),
+            serve_ms,
+            ..STANDARD
+        }
+    }
+
+    /// How many milliseconds the server of that number waits before its first try: longer at greater numbers, so that two do not try as one.
+    pub fn patience_of(self, node: u8) -> u64
+        ensures { result ≡ patience_of self node }
+    {
+        self.patience.saturating_mul(u64::from(node) + 1) / 2
+    }
+
+    /// How many milliseconds behind a question that brought nothing the next one comes, after so many steps in which nothing came.
+    pub fn asks_after(self, empty: u32) -> u64
+        ensures { result ≡ asks_after self empty }
+    {
+        if empty < self.quiet {
+            self.asking
+        } else {
+            self.quiet_asking
+        }
+    }
+
+    /// How many microseconds it rests behind a step in which nothing came, after so many others: the longer the more there were.
+    pub fn rest_after(self, empty: u32) -> u64
+        ensures is { result ≡ rest_after self empty }
+        ensures longer { (fewer : ℕ) → fewer ≤ empty → self.rest ≤ self.idle_rest → self.idle_rest ≤ self.quiet_rest → rest_after self fewer ≤ result }
+    {
+        if empty < self.idle {
+            self.rest
+        } else if empty < self.quiet {
+            self.idle_rest
+        } else {
+            self.quiet_rest
+        }
+    }
+}

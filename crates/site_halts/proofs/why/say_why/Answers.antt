@@ -1,7 +1,0 @@
-use Rattle.std.proofs.Common.{sym, subst}
-use Rattle.http_read.specs.Bytes.{end_of}
-use Rattle.site_halts.specs.Why.{SaysWhy}
-use Rattle.site_halts.proofs.why.say_why.Goals as goal
-
-pub returns-in-BadAddress : goal.returns-in-BadAddress
-returns-in-BadAddress g c = subst (SaysWhy (end_of g.E.Write.contents c.args.err.now c.tell.new.err) c.args.options.now) (sym c.in-BadAddress.is) (c.bad_word.result.0.now, c.tell.ensures)

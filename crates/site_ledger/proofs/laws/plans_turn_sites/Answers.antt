@@ -1,5 +1,0 @@
-use Rattle.site_ledger.proofs.Turning.{plan_turns}
-use Rattle.site_ledger.proofs.laws.plans_turn_sites.Goals as goal
-
-pub returns : goal.returns
-returns c = plan_turns

@@ -1,5 +1,0 @@
-use Rattle.std.proofs.Common.{rules}
-use Rattle.site_pace.proofs.resting.Resting.is_due.Goals as goal
-
-pub returns-then-not-self-2 : goal.returns-then-not-self-2
-returns-then-not-self-2 c = search rules

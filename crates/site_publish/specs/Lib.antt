@@ -1,6 +1,0 @@
-pub mod Courses
-pub mod Flights
-pub mod Laws
-pub mod Moves
-pub mod Paces
-pub mod Standings

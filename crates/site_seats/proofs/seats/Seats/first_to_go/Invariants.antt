@@ -1,6 +1,0 @@
-use Rattle.std.proofs.Common.{◌<◌, IfSome}
-use Rattle.std.specs.Vec.{vec_len}
-use Rattle.site_seats.proofs.seats.Seats.first_to_go.Given as goal
-
-abbrev pub invariant-loop-i : goal.invariant-loop-i
-invariant-loop-i g l = IfSome l.first (λ i. i < vec_len l.self.seats)

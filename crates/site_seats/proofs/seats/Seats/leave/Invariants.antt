@@ -1,6 +1,0 @@
-use Rattle.std.proofs.Common.{◌-◌}
-use Rattle.std.specs.Vec.{vec_len}
-use Rattle.site_seats.proofs.seats.Seats.leave.Given as goal
-
-abbrev pub decreases-loop-i : goal.decreases-loop-i
-decreases-loop-i g l = vec_len l.self.seats - l.i

@@ -1,6 +1,0 @@
-use Rattle.std.proofs.Common.{◌≡◌, length, take}
-use Rattle.site_serve.specs.Placing.{AreAddresses}
-use Rattle.site_serve.proofs.addresses.all.Given as goal
-
-abbrev pub invariant-loop-text : goal.invariant-loop-text
-invariant-loop-text l = (length l.found.items ≡ l.text-index) × AreAddresses (take l.text-index l.texts) (λ t. t.now)

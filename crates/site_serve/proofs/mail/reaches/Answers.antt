@@ -1,5 +1,0 @@
-use Rattle.std.proofs.Common.{rules}
-use Rattle.site_serve.proofs.mail.reaches.Goals as goal
-
-pub returns-in-All : goal.returns-in-All
-returns-in-All c = search rules

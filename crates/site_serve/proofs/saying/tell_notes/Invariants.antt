@@ -1,6 +1,0 @@
-use Rattle.http_read.specs.Bytes.{end_of}
-use Rattle.site_serve.specs.Noted.{HasNoted}
-use Rattle.site_serve.proofs.saying.tell_notes.Given as goal
-
-abbrev pub invariant-loop : goal.invariant-loop
-invariant-loop g l = HasNoted (end_of g.E.Write.contents l.fn.err l.err)

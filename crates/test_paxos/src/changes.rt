@@ -1,0 +1,208 @@
+//! The entries that are spelled as another one but for one byte.
+//!
+//! An entry is spelled by its length, its kind, numbers of fixed lengths and, of a vote, its value. Where the byte stands in the length, the
+//! other entry is a vote for a beginning of the value, since nothing stands behind the last one; in the kind, it is the other one of a promise
+//! and a vote for the empty value, or a vote for one byte in place of a span's promise; and else in a number or the value. No record here has a
+//! vote for one byte.
+use crate::samples::value;
+use site_ids::{Ballot, Cluster, Instance, Vote};
+use std::alloc::Global;
+use std::process::Abort;
+use test_record::entry::Entry;
+
+/// Puts a byte at a place, if there is one.
+pub fn put_byte(bytes: &mut [u8], place: usize, byte: u8) {
+    if place < bytes.len() {
+        bytes[place] = byte;
+    }
+}
+
+/// The bytes with this one at a place.
+pub fn with_byte(rt: &impl Abort, alloc: Global, bytes: &[u8], place: usize, byte: u8) -> Vec<u8> {
+    let mut bytes = Vec::from_slice(alloc, bytes).expect(rt, "memory");
+    put_byte(&mut bytes, place, byte);
+    bytes
+}
+
+fn number(number: u32, place: usize, byte: u8) -> u32 {
+    let mut bytes = number.to_be_bytes();
+    put_byte(&mut bytes, place, byte);
+    u32::from_be_bytes(bytes)
+}
+
+/// Four bytes are the instance's, four the round's, and the next is the node.
+fn ballot(
+    cluster: Cluster,
+    instance: Instance,
+    ballot: Ballot,
+    place: usize,
+    byte: u8,
+) -> Option<(Instance, Ballot)> {
+    let instance = Instance::new(number(instance.number(), place, byte))?;
+    let round = number(ballot.round(), place.wrapping_sub(4), byte);
+    let node = if place == 8 {
+        byte
+    } else {
+        ballot.node().number()
+    };
+    Some((instance, Ballot::new(round, cluster.node(node)?)?))
+}
+
+/// A vote for these bytes.
+fn vote_for(
+    rt: &impl Abort,
+    alloc: Global,
+    instance: Instance,
+    ballot: Ballot,
+    bytes: &[u8],
+) -> Entry {
+    let value = value(rt, alloc, bytes);
+    Entry::Voted(instance, Vote { ballot, value })
+}
+
+/// A vote for the bytes with one of them changed, if it is there.
+fn vote_with(
+    rt: &impl Abort,
+    alloc: Global,
+    instance: Instance,
+    vote: &Vote,
+    place: usize,
+    byte: u8,
+) -> Entry {
+    let bytes = with_byte(rt, alloc, vote.value.as_bytes(), place, byte);
+    vote_for(rt, alloc, instance, vote.ballot, &bytes)
+}
+
+/// Nine bytes are the instance's and the ballot's, and then come the value's.
+fn vote(
+    rt: &impl Abort,
+    alloc: Global,
+    cluster: Cluster,
+    instance: Instance,
+    vote: &Vote,
+    place: usize,
+    byte: u8,
+) -> Option<Entry> {
+    if place >= 9 {
+        return Some(vote_with(rt, alloc, instance, vote, place - 9, byte));
+    }
+    let (instance, ballot) = ballot(cluster, instance, vote.ballot, place, byte)?;
+    let bytes = vote.value.as_bytes();
+    Some(vote_for(rt, alloc, instance, ballot, bytes))
+}
+
+/// Four bytes are the first instance's, the next is the count.
+fn span(
+    cluster: Cluster,
+    first: Instance,
+    count: u8,
+    promised: Ballot,
+    place: usize,
+    byte: u8,
+) -> Option<Entry> {
+    if place == 4 {
+        return Some(Entry::PromisedSpan(first, byte, promised));
+    }
+    let place = if place < 4 { place } else { place - 1 };
+    let (first, promised) = ballot(cluster, first, promised, place, byte)?;
+    Some(Entry::PromisedSpan(first, count, promised))
+}
+
+/// How many bytes an entry has behind its kind.
+pub fn places(entry: &Entry) -> usize {
+    match entry {
+        Entry::Round(_) => 4,
+        Entry::Promised(..) => 9,
+        Entry::PromisedSpan(..) => 10,
+        Entry::Voted(_, vote) => vote.value.as_bytes().len().saturating_add(9),
+    }
+}
+
+fn promise(
+    cluster: Cluster,
+    instance: Instance,
+    promised: Ballot,
+    place: usize,
+    byte: u8,
+) -> Option<Entry> {
+    let (instance, promised) = ballot(cluster, instance, promised, place, byte)?;
+    Some(Entry::Promised(instance, promised))
+}
+
+/// The entry with this byte at a place behind its kind, where that is an entry.
+pub fn changed(
+    rt: &impl Abort,
+    alloc: Global,
+    cluster: Cluster,
+    entry: &Entry,
+    place: usize,
+    byte: u8,
+) -> Option<Entry> {
+    match entry {
+        Entry::Round(round) => Some(Entry::Round(number(*round, place, byte))),
+        Entry::Promised(instance, promised) => {
+            promise(cluster, *instance, *promised, place, byte)
+        }
+        Entry::PromisedSpan(first, count, promised) => {
+            span(cluster, *first, *count, *promised, place, byte)
+        }
+        Entry::Voted(instance, voted) => vote(rt, alloc, cluster, *instance, voted, place, byte),
+    }
+}
+
+/// The vote for one byte that is spelled as the promise of a span but for its kind: the count is the first byte of its round, the last byte of
+/// the promised round its node, and the promised node its value.
+fn vote_in_span(
+    rt: &impl Abort,
+    alloc: Global,
+    cluster: Cluster,
+    first: Instance,
+    count: u8,
+    promised: Ballot,
+) -> Option<Entry> {
+    let [a, b, c, d] = promised.round().to_be_bytes();
+    let node = cluster.node(d)?;
+    let ballot = Ballot::new(u32::from_be_bytes([count, a, b, c]), node)?;
+    let value = [promised.node().number()];
+    Some(vote_for(rt, alloc, first, ballot, &value))
+}
+
+/// Votes for the beginnings of a vote's value, shortest first, and then a promise in place of it.
+fn other_of_vote(
+    rt: &impl Abort,
+    alloc: Global,
+    instance: Instance,
+    vote: &Vote,
+    number: usize,
+) -> Option<Entry> {
+    let bytes = vote.value.as_bytes();
+    if number < bytes.len() {
+        let beginning = &bytes[..number];
+        Some(vote_for(rt, alloc, instance, vote.ballot, beginning))
+    } else if number == bytes.len() {
+        Some(Entry::Promised(instance, vote.ballot))
+    } else {
+        None
+    }
+}
+
+/// The entries that take an entry's place with another length or kind, by number from 0 on: of a vote those above, of a promise the vote for the
+/// empty value, of a span's a vote for one byte.
+pub fn other(
+    rt: &impl Abort,
+    alloc: Global,
+    cluster: Cluster,
+    entry: &Entry,
+    number: usize,
+) -> Option<Entry> {
+    match entry {
+        Entry::Voted(instance, vote) => other_of_vote(rt, alloc, *instance, vote, number),
+        Entry::Promised(instance, ballot) if number == 0 => {
+            Some(vote_for(rt, alloc, *instance, *ballot, b""))
+        }
+        Entry::PromisedSpan(first, count, ballot) if number == 0 => {
+            vote_in_span(rt, alloc, cluster, *first, *count, *ballot)
+        }
+        _ => None,
+    }
+}

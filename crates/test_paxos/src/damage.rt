@@ -1,0 +1,245 @@
+//! A record cut at each byte, and with each byte changed. What these bytes come to is computed from the definition of a record.
+use crate::changes::with_byte;
+use crate::comparing::{ensure, same};
+use crate::listed::{Listed, RECORD, SPANNED, entries, spanned};
+use crate::samples::{instance, is_bytes, is_text};
+use crate::stored::{one_of_three, read_bytes};
+use durable::{Record, RecordFault};
+use site_disk::MemDisk;
+use site_ids::Instance;
+use std::alloc::Global;
+use std::process::Abort;
+use test_record::entry::Entry;
+use test_record::recorded::{greatest_round, is_slot, last_round, last_vote};
+use test_record::standing::{refusal, stands_for};
+
+/// Worked out by hand: a place, a byte there, and of the history for which the record then stands, if it does, how many entries it has, the
+/// last round, and the value that is voted for at instance 1.
+const LISTED: &[(usize, u8, Option<(usize, u32, &str)>)] = &[
+    (9, 0, None),
+    (11, 1, None),
+    (16, 1, Some((3, 16_777_217, "ab"))),
+    (19, 0, None),
+    (25, 3, Some((3, 1, "ab"))),
+    (33, 3, None),
+    (39, 10, Some((3, 1, ""))),
+    (39, 11, Some((3, 1, "a"))),
+    (39, 13, None),
+    (51, 0, Some((3, 1, "a\0"))),
+    (52, 1, None),
+    (52, 2, Some((3, 1, "ab"))),
+];
+
+/// How many histories are listed, worked out by hand too. At each of the four gates each byte but 1; in a number each byte but its own, less
+/// those with which it is 0 or an instance above 1,000,000; and a promise's ballot only up to that of the vote behind it.
+const COUNT: usize = 4 * 255
+    // The round; the promise's kind, instance and ballot.
+    + (3 * 255 + 254)
+    + 1
+    + (15 + 255 + 254)
+    + (1 + 2)
+    // The vote's length, instance, round, node and value.
+    + 2
+    + (15 + 255 + 254)
+    + (3 * 255 + 254)
+    + 2
+    + 2 * 255;
+
+/// And with the record of a span. At its two gates each byte but 1; in the kind the one of a vote for a byte; each count from 2 to 64 but its own.
+const SPANNED_COUNT: usize = 2 * 255
+    // The kind, the first instance, the count, the ballot.
+    + 1
+    + (15 + 255 + 254)
+    + 62
+    + (3 * 255 + 254)
+    + 2;
+
+fn is_slot_of(record: &Record<MemDisk>, history: &[Entry], instance: Instance) -> bool {
+    is_slot(history, instance, record.slot(instance))
+}
+
+/// Whether the record tells the slots of so many instances, from one on, as far as there are any.
+fn tells_span(record: &Record<MemDisk>, history: &[Entry], first: Instance, count: u8) -> bool {
+    for past in 0..count {
+        if let Some(instance) = Instance::new(first.number() + past as u32) {
+            if !is_slot_of(record, history, instance) {
+                return false;
+            }
+        }
+    }
+    true
+}
+
+/// Whether the record tells the slots of the instances that a history names, and of the one behind a span.
+fn tells_named(record: &Record<MemDisk>, history: &[Entry]) -> bool {
+    for entry in history {
+        let told = match entry {
+            Entry::Round(_) => true,
+            Entry::Promised(instance, _) | Entry::Voted(instance, _) => {
+                is_slot_of(record, history, *instance)
+            }
+            Entry::PromisedSpan(first, count, _) => {
+                tells_span(record, history, *first, count.saturating_add(1))
+            }
+        };
+        if !told {
+            return false;
+        }
+    }
+    true
+}
+
+/// Whether the record tells the rounds, the slots of the first three instances, of which a history here names two at most, and those that it names.
+fn tells(rt: &impl Abort, record: &Record<MemDisk>, history: &[Entry]) -> bool {
+    record.round() == last_round(history)
+        && record.greatest_round() == greatest_round(history)
+        && tells_span(record, history, instance(rt, 1), 3)
+        && tells_named(record, history)
+}
+
+/// Node 2 of three opens the bytes, which stand for this history, or refuses them where there is none.
+fn comes_to(rt: &impl Abort, alloc: Global, bytes: &[u8], history: Option<&[Entry]>) -> bool {
+    match read_bytes(rt, alloc, 2, bytes) {
+        Ok(record) => is_told(rt, alloc, record, bytes, history),
+        Err(fault) => history.is_none() && is_refusal(rt, bytes, fault),
+    }
+}
+
+/// Whether that is why node 2 refuses the bytes.
+fn is_refusal(rt: &impl Abort, bytes: &[u8], fault: RecordFault) -> bool {
+    let (cluster, node) = one_of_three(rt, 2);
+    refusal(cluster, node, bytes) == fault
+}
+
+/// The record is of these bytes, and tells that history.
+fn is_told(
+    rt: &impl Abort,
+    alloc: Global,
+    record: Record<MemDisk>,
+    bytes: &[u8],
+    history: Option<&[Entry]>,
+) -> bool {
+    let is_told = match history {
+        Some(history) => is_of(rt, alloc, bytes, history) && tells(rt, &record, history),
+        None => false,
+    };
+    drop(record);
+    is_told
+}
+
+/// Whether node 2's record of these bytes stands for that history.
+pub fn is_of(rt: &impl Abort, alloc: Global, bytes: &[u8], history: &[Entry]) -> bool {
+    let (cluster, node) = one_of_three(rt, 2);
+    stands_for(alloc, cluster, node, bytes, history).expect(rt, "memory")
+}
+
+/// The beginning of the entries that the bytes stand for.
+fn beginning<'a>(
+    rt: &impl Abort,
+    alloc: Global,
+    bytes: &[u8],
+    entries: &'a [Entry],
+) -> Option<&'a [Entry]> {
+    for count in 0..=entries.len() {
+        if is_of(rt, alloc, bytes, &entries[..count]) {
+            return Some(&entries[..count]);
+        }
+    }
+    None
+}
+
+fn cut_at_each_byte(rt: &impl Abort, alloc: Global, bytes: &[u8], entries: &[Entry]) {
+    for len in 0..=bytes.len() {
+        let history = beginning(rt, alloc, &bytes[..len], entries);
+        ensure(rt, comes_to(rt, alloc, &bytes[..len], history), len);
+    }
+}
+
+/// As a put of the last entry that was torn leaves it, a batch of the last two, one of all three, and whole.
+const GATES: &[(usize, u8)] = &[(35, 0), (20, 0), (10, 0), (35, 1)];
+
+/// What stands behind a closed gate isn't read, however many entries it is.
+#[test]
+fn a_record_cut_at_each_byte(rt: HostRuntime) {
+    let alloc = rt.alloc();
+    let entries = entries(&rt, alloc);
+    for &(place, gate) in GATES {
+        let bytes = with_byte(&rt, alloc, &RECORD, place, gate);
+        cut_at_each_byte(&rt, alloc, &bytes, &entries);
+    }
+    drop(entries);
+}
+
+/// A record with this byte at a place comes to what is listed, if that changes it.
+fn changes(rt: &impl Abort, alloc: Global, listed: &Listed<'_>, place: usize, byte: u8) -> bool {
+    let bytes = with_byte(rt, alloc, listed.record(), place, byte);
+    is_bytes(&bytes, listed.record()) || comes_to(rt, alloc, &bytes, listed.at(place, byte))
+}
+
+/// The record with each other byte at a place, among so many, comes to what is listed.
+fn change_byte(rt: &impl Abort, alloc: Global, listed: &Listed<'_>, place: usize, of: usize) {
+    for byte in 0..=255 {
+        ensure(
+            rt,
+            changes(rt, alloc, listed, place, byte),
+            (byte, place, of),
+        );
+    }
+}
+
+fn change_each_byte(rt: &impl Abort, alloc: Global, listed: Listed<'_>) {
+    let len = listed.record().len();
+    for place in 0..len {
+        change_byte(rt, alloc, &listed, place, len);
+    }
+    drop(listed);
+}
+
+#[test]
+fn a_record_with_each_byte_changed(rt: HostRuntime) {
+    let alloc = rt.alloc();
+    let listed = Listed::of(&rt, alloc, &RECORD, entries(&rt, alloc));
+    change_each_byte(&rt, alloc, listed);
+    let listed = Listed::of(&rt, alloc, &SPANNED, spanned(&rt, alloc));
+    change_each_byte(&rt, alloc, listed);
+}
+
+fn is_voted_for(rt: &impl Abort, history: &[Entry], text: &str) -> bool {
+    match last_vote(history, instance(rt, 1)) {
+        Some(vote) => is_text(&vote.value, text),
+        None => false,
+    }
+}
+
+/// Whether a history has so many entries, this last round, and a vote for this value at instance 1.
+fn is_such(rt: &impl Abort, history: &[Entry], wanted: (usize, u32, &str)) -> bool {
+    let (count, round, text) = wanted;
+    history.len() == count && last_round(history) == round && is_voted_for(rt, history, text)
+}
+
+/// Whether that is listed, or nothing is.
+fn is_right(rt: &impl Abort, listed: Option<&[Entry]>, wanted: Option<(usize, u32, &str)>) -> bool {
+    match listed {
+        Some(history) => matches!(wanted, Some(wanted) if is_such(rt, history, wanted)),
+        None => wanted.is_none(),
+    }
+}
+
+fn check_rows(rt: &impl Abort, listed: &Listed<'_>) {
+    for &(place, byte, wanted) in LISTED {
+        let is_right = is_right(rt, listed.at(place, byte), wanted);
+        ensure(rt, is_right, (place, byte));
+    }
+}
+
+#[test]
+fn the_list_has_what_is_worked_out(rt: HostRuntime) {
+    let alloc = rt.alloc();
+    let listed = Listed::of(&rt, alloc, &RECORD, entries(&rt, alloc));
+    same(&rt, listed.len(), COUNT);
+    check_rows(&rt, &listed);
+    drop(listed);
+    let listed = Listed::of(&rt, alloc, &SPANNED, spanned(&rt, alloc));
+    same(&rt, listed.len(), SPANNED_COUNT);
+    drop(listed);
+}

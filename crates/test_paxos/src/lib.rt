@@ -1,0 +1,41 @@
+//! Rows of the protocol: messages as datagrams, the verdicts of an acceptor, attempts, votes told and chosen values. Records that keep them: files byte by
+//! byte, cut and damaged; crashes after each call, calls that fail, batches, a real file. What damaged bytes come to is computed: the functions that decide it
+//! (`test_record`) are proved to be the definition of a record. Each growth refused.
+#![tactic(auto)]
+
+#[cfg(test)]
+mod attempts;
+#[cfg(test)]
+mod batches;
+#[cfg(test)]
+mod changes;
+#[cfg(test)]
+mod comparing;
+#[cfg(test)]
+mod crashes;
+#[cfg(test)]
+mod damage;
+#[cfg(test)]
+mod disks;
+#[cfg(test)]
+mod failures;
+#[cfg(test)]
+mod files;
+#[cfg(test)]
+mod listed;
+#[cfg(test)]
+mod member;
+#[cfg(test)]
+mod messages;
+#[cfg(test)]
+mod records;
+#[cfg(test)]
+mod refusals;
+#[cfg(test)]
+mod samples;
+#[cfg(test)]
+mod spans;
+#[cfg(test)]
+mod steps;
+#[cfg(test)]
+mod stored;

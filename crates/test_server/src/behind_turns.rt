@@ -1,0 +1,41 @@
+//! What a server calls behind the turns of a batch.
+use crate::comparing::same;
+use crate::group::node_of;
+use crate::written_clock::{Call, called};
+use server_pace::Due;
+use site_ids::Instance;
+
+/// What stands (fresh, a telling, a question, a tick, whether it yields), and what is called: the first of them that applies.
+const CALLS: &[(bool, bool, bool, bool, bool, Call)] = &[
+    (false, false, false, false, false, Call::Widen),
+    (false, false, false, true, false, Call::Tick),
+    (false, false, true, false, false, Call::Ask),
+    (false, false, true, true, false, Call::Ask),
+    (false, true, false, false, false, Call::Tell(2, 7)),
+    (false, true, true, true, false, Call::Tell(2, 7)),
+    (true, false, false, false, false, Call::Tick),
+    (true, false, true, true, false, Call::Tick),
+    (true, true, true, true, false, Call::Tick),
+    (false, false, false, false, true, Call::Nothing),
+    (false, false, false, true, true, Call::Tick),
+    (false, false, true, false, true, Call::Ask),
+    (false, true, false, false, true, Call::Tell(2, 7)),
+];
+
+#[test]
+fn one_call_is_due_behind_a_batch(rt: HostRuntime) {
+    let to = node_of(&rt, 3, 2);
+    let first = Instance::new(7).expect(&rt, "an instance");
+    for &(fresh, telling, question, tick, yields, call) in CALLS {
+        let due = Due {
+            fresh,
+            telling: telling.then_some((to, first)),
+            question,
+            tick,
+            waits: yields,
+            yields,
+        };
+        let row = (fresh, telling, question, tick, yields);
+        same(&rt, (row, called(&due.last_call())), (row, call));
+    }
+}

@@ -1,0 +1,233 @@
+//! Servers joined in memory, by a written clock.
+ghost use Rattle.site_ids.specs.Ids.{IsNode};
+
+use crate::client::Client;
+use crate::comparing::ensure;
+use durable::Record;
+use node::Node;
+use server::{Mail, Seats, Served, Server, ServerFault, pack};
+use server_pace::Times;
+use server_packets::Packet;
+use site_disk::MemDisk;
+use site_drive::{Desk, Letter};
+use site_ids::{Cluster, NodeId};
+use std::alloc::Global;
+use std::process::Abort;
+
+/// A server, boxed: what owns one is proved to let it go, and a box is let go of in one step.
+pub(crate) type Boxed = Box<Server<MemDisk, Client>>;
+
+/// The servers of a group, and the moment in milliseconds.
+#[derive(Drop)]
+pub(crate) struct Group {
+    pub alloc: Global,
+    pub servers: Vec<Boxed>,
+    pub now: u64,
+}
+
+/// A server over a node of that disk. None where memory was refused.
+fn served(alloc: Global, cluster: Cluster, me: NodeId, disk: MemDisk) -> Option<Boxed>
+    requires { IsNode cluster me }
+{
+    let desk = Desk::new(alloc).ok()?;
+    let Ok(node) = Node::open(alloc, cluster, me, disk) else {
+        return None;
+    };
+    let times = Times::new(None, None);
+    Box::new(alloc, Server::new(alloc, me, Served { node }, desk, times)).ok()
+}
+
+/// One over a record that was just made. None where memory was refused.
+pub(crate) fn fresh(alloc: Global, cluster: Cluster, me: NodeId) -> Option<Boxed>
+    requires { IsNode cluster me }
+{
+    let mut disk = MemDisk::new(alloc);
+    if Record::format(cluster, me, &mut disk).is_err() {
+        return None;
+    }
+    served(alloc, cluster, me, disk)
+}
+
+/// Another one over its disk, behind a crash by that choice or without one. None where memory was refused.
+pub(crate) fn reopened(
+    alloc: Global,
+    cluster: Cluster,
+    me: NodeId,
+    server: Boxed,
+    crash: Option<u8>,
+) -> Option<Boxed>
+    requires { IsNode cluster me }
+{
+    let mut disk = Box::into_inner(server).into_served().node.close();
+    if let Some(choice) = crash {
+        disk.crash(choice);
+    }
+    served(alloc, cluster, me, disk)
+}
+
+/// A pass of a server: it hears its clients, takes a step, and tells them.
+pub(crate) fn turn(server: &mut Boxed, now: u64) -> Result<(), ServerFault> {
+    server.seats.read_each(now)?;
+    server.step(now)?;
+    server.seats.write_each(now);
+    Ok(())
+}
+
+/// A piece of these bytes comes behind the others.
+fn push_piece(rt: &impl Abort, alloc: Global, pieces: &mut Vec<Vec<u8>>, bytes: &[u8]) {
+    let piece = Vec::from_slice(alloc, bytes).expect(rt, "memory");
+    pieces.push(piece).expect(rt, "memory");
+}
+
+/// Whether a client that comes is seated.
+pub(crate) fn is_seated(
+    rt: &impl Abort,
+    seats: &mut Seats<Client>,
+    client: Client,
+    now: u64,
+) -> bool {
+    let gone = seats.admit(client, now).expect(rt, "memory");
+    let is = gone.is_none();
+    drop(gone);
+    is
+}
+
+/// The pieces in which these letters go to a node.
+fn packed(rt: &impl Abort, alloc: Global, letters: &[Letter], to: NodeId) -> Vec<Vec<u8>> {
+    let mut packet = Packet::new(alloc).expect(rt, "memory");
+    let mut pieces = Vec::new(alloc);
+    let mut rest = letters;
+    for _ in 0..letters.len() {
+        let n = pack(rest, to, &mut packet).expect(rt, "memory");
+        if !packet.is_empty() {
+            push_piece(rt, alloc, &mut pieces, packet.bytes());
+        }
+        let (_, behind) = rest.split_at(n);
+        rest = behind;
+    }
+    ensure(rt, rest.is_empty(), letters.len());
+    pieces
+}
+
+/// The node of that number, in a cluster of so many.
+pub(crate) fn node_of(rt: &impl Abort, size: u8, number: u8) -> NodeId {
+    let cluster = Cluster::new(size).expect(rt, "a cluster");
+    cluster.node(number).expect(rt, "a node")
+}
+
+/// These pieces wait at a server.
+fn take_in(rt: &impl Abort, mail: &mut Mail, pieces: &[Vec<u8>]) {
+    for piece in pieces {
+        mail.take_in(piece.as_slice()).expect(rt, "memory");
+    }
+}
+
+impl Group {
+    /// So many, each over a record that was just made.
+    pub(crate) fn new(rt: &impl Abort, alloc: Global, size: u8) -> Group {
+        let cluster = Cluster::new(size).expect(rt, "a cluster");
+        let mut servers = Vec::new(alloc);
+        for number in 1..=size {
+            let me = cluster.node(number).expect(rt, "a node");
+            let server = fresh(alloc, cluster, me).expect(rt, "memory");
+            servers.push(server).expect(rt, "memory");
+        }
+        Group {
+            alloc,
+            servers,
+            now: 0,
+        }
+    }
+
+    /// How many servers there are.
+    fn size(&self) -> u8 {
+        u8::try_from(self.servers.len()).unwrap_or(u8::MAX)
+    }
+
+    /// The server of that number.
+    pub(crate) fn server(&mut self, rt: &impl Abort, number: u8) -> &mut Boxed {
+        let index = usize::from(number).saturating_sub(1);
+        self.servers.get_mut(index).expect(rt, "a server")
+    }
+
+    /// A client comes to the server of that number.
+    pub(crate) fn comes(&mut self, rt: &impl Abort, number: u8, sends: &[u8], piece: usize) {
+        let client = Client::new(self.alloc, sends, piece).expect(rt, "memory");
+        let now = self.now;
+        let seats = &mut self.server(rt, number).seats;
+        ensure(rt, is_seated(rt, seats, client, now), number);
+    }
+
+    /// What the letters of one server have for another one.
+    fn carry(&mut self, rt: &impl Abort, from: u8, to: u8) {
+        let alloc = self.alloc;
+        let node = node_of(rt, self.size(), to);
+        let pieces = packed(rt, alloc, self.server(rt, from).mail.letters(), node);
+        take_in(rt, &mut self.server(rt, to).mail, pieces.as_slice());
+    }
+
+    /// A pass of one server, whose letters reach each other one but for that number; 0 is nobody.
+    fn pass(&mut self, rt: &impl Abort, number: u8, away: u8) {
+        let now = self.now;
+        ensure(rt, turn(self.server(rt, number), now).is_ok(), number);
+        for to in 1..=self.size() {
+            if to != number && to != away {
+                self.carry(rt, number, to);
+            }
+        }
+    }
+
+    /// So many milliseconds, with a pass of each server in each of them; the server of that number is away, if it is not 0.
+    pub(crate) fn goes_on(&mut self, rt: &impl Abort, millis: u64, away: u8) {
+        for _ in 0..millis {
+            self.now = self.now.saturating_add(1);
+            for number in 1..=self.size() {
+                if number != away {
+                    self.pass(rt, number, away);
+                }
+            }
+        }
+    }
+
+    /// The server of that number knows so many values, and shows so many releases.
+    pub(crate) fn stands(&mut self, rt: &impl Abort, number: u8, known: u32, newest: u64) {
+        let node = &self.server(rt, number).served.node;
+        ensure(rt, node.known() == known && node.newest() == newest, number);
+    }
+
+    /// The next client of that server whose connection ends, long after all that was done.
+    pub(crate) fn leaves(&mut self, rt: &impl Abort, number: u8) -> Option<Client> {
+        let late = self.now.saturating_add(60_000);
+        self.server(rt, number).seats.leave(late)
+    }
+
+    /// What the next client of that server got, whose connection ends, begins so and ends so.
+    pub(crate) fn next_got(&mut self, rt: &impl Abort, number: u8, front: &[u8], end: &[u8]) {
+        let client = self.leaves(rt, number).expect(rt, "a client");
+        ensure(rt, client.got_from_to(front, end), number);
+    }
+
+    /// So many clients of that server are there still, and what each of them got begins so and ends so.
+    pub(crate) fn got(&mut self, rt: &impl Abort, number: u8, count: u8, front: &[u8], end: &[u8]) {
+        for _ in 0..count {
+            self.next_got(rt, number, front, end);
+        }
+        ensure(rt, self.leaves(rt, number).is_none(), number);
+    }
+
+    /// Each server is ended at once, and opened over what a crash by that choice leaves of its disk.
+    pub(crate) fn crash(&mut self, rt: &impl Abort, choice: u8) {
+        let cluster = Cluster::new(self.size()).expect(rt, "a cluster");
+        let mut servers = Vec::new(self.alloc);
+        for number in (1..=self.size()).rev() {
+            let server = self.servers.pop().expect(rt, "a server");
+            let me = cluster.node(number).expect(rt, "a node");
+            let again = reopened(self.alloc, cluster, me, server, Some(choice));
+            servers
+                .push(again.expect(rt, "memory"))
+                .expect(rt, "memory");
+        }
+        servers.reverse();
+        self.servers = servers;
+    }
+}

@@ -1,0 +1,151 @@
+//! What a server says of itself, and when.
+use crate::comparing::{ensure, same};
+use server_notes::{Note, Notes};
+use site_ids::Cluster;
+use std::alloc::Global;
+use std::process::Abort;
+
+/// The moment of a pass, in milliseconds; how many values are known; whose datagrams came; how many of them were no message, how many connections were closed for
+/// others, and whether clients wait; and what is said.
+type Pass = (
+    u64,
+    u32,
+    [bool; 9],
+    (u64, u64, bool),
+    &'static [&'static str],
+);
+
+const NOBODY: [bool; 9] = [false; 9];
+
+const TWO: [bool; 9] = [false, true, false, false, false, false, false, false, false];
+
+const BOTH: [bool; 9] = [false, true, true, false, false, false, false, false, false];
+
+const FINE: (u64, u64, bool) = (0, 0, false);
+
+/// Of node 1 of three, over a record of seven votes.
+const OF_THREE: &[Pass] = &[
+    (0, 0, NOBODY, FINE, &["opened: votes on record: 7"]),
+    (10, 0, BOTH, FINE, &[]),
+    // a whole telling came: two seconds begin anew
+    (1000, 64, TWO, FINE, &[]),
+    (2500, 70, TWO, FINE, &[]),
+    (3000, 70, TWO, FINE, &["caught up to instance 70"]),
+    (
+        3000,
+        70,
+        TWO,
+        (2, 0, false),
+        &["datagrams that are no message: 2"],
+    ),
+    (3100, 70, TWO, (1, 0, false), &[]),
+    (3999, 70, TWO, (4, 0, false), &[]),
+    (4000, 70, TWO, FINE, &["datagrams that are no message: 5"]),
+    (5009, 70, TWO, FINE, &[]),
+    (5010, 70, TWO, FINE, &["node 3 not heard for 5 s"]),
+    (10009, 70, TWO, FINE, &[]),
+    (10010, 70, TWO, FINE, &["node 3 not heard for 10 s"]),
+    (15009, 70, NOBODY, FINE, &[]),
+    (
+        15010,
+        70,
+        NOBODY,
+        FINE,
+        &["no majority heard for 5 s", "node 2 not heard for 5 s"],
+    ),
+    (
+        20010,
+        70,
+        NOBODY,
+        FINE,
+        &["no majority heard for 10 s", "node 2 not heard for 10 s"],
+    ),
+    (20500, 70, NOBODY, FINE, &[]),
+    (21010, 70, NOBODY, FINE, &["node 3 not heard for 21 s"]),
+    (
+        22010,
+        71,
+        BOTH,
+        FINE,
+        &[
+            "a majority is heard again, after 12 s",
+            "node 2 is heard again, after 12 s",
+        ],
+    ),
+    (23009, 72, BOTH, FINE, &[]),
+    (
+        23010,
+        72,
+        BOTH,
+        FINE,
+        &["node 3 is heard again, after 22 s"],
+    ),
+    (24010, 72, BOTH, FINE, &["caught up to instance 72"]),
+    (
+        25000,
+        72,
+        BOTH,
+        (0, 3, true),
+        &[
+            "silent connections closed for other clients: 3",
+            "all 64 connections wait for a response: further clients wait",
+        ],
+    ),
+    (25500, 72, BOTH, (0, 1, true), &[]),
+    (
+        26000,
+        72,
+        BOTH,
+        FINE,
+        &[
+            "silent connections closed for other clients: 1",
+            "all 64 connections wait for a response: further clients wait",
+        ],
+    ),
+    (60000, 72, BOTH, FINE, &[]),
+];
+
+/// Of node 1 of one, over a new record: it is a majority.
+const OF_ONE: &[Pass] = &[
+    (0, 0, NOBODY, FINE, &["opened: votes on record: 0"]),
+    (1999, 1, NOBODY, FINE, &[]),
+    (2000, 1, NOBODY, FINE, &["caught up to instance 1"]),
+    (2001, 1, NOBODY, FINE, &[]),
+    (100000, 1, NOBODY, FINE, &[]),
+];
+
+/// A note reads so.
+fn reads(rt: &impl Abort, alloc: Global, note: Note, line: &str) {
+    let text = format!(in alloc; "{note}").expect(rt, "memory");
+    same(rt, text.as_str(), line);
+}
+
+/// A pass, and what is said behind it.
+fn pass(rt: &impl Abort, alloc: Global, notes: &mut Notes, pass: Pass) {
+    let (now, known, heard, (malformed, displaced, full), lines) = pass;
+    notes.hear(now, known, heard);
+    notes.count(malformed, displaced, full);
+    for &line in lines {
+        reads(rt, alloc, notes.next(now, known).expect(rt, line), line);
+    }
+    ensure(rt, notes.next(now, known).is_none(), now);
+}
+
+fn passes(rt: &impl Abort, alloc: Global, size: u8, votes: u32, all: &[Pass]) {
+    let cluster = Cluster::new(size).expect(rt, "a cluster");
+    let me = cluster.node(1).expect(rt, "a node");
+    let mut notes = Notes::new(cluster, me, votes);
+    for &one in all {
+        pass(rt, alloc, &mut notes, one);
+    }
+}
+
+#[test]
+fn each_kind_has_a_line_a_second_at_most(rt: HostRuntime) {
+    passes(&rt, rt.alloc(), 3, 7, OF_THREE);
+}
+
+#[test]
+fn a_node_alone_is_a_majority(rt: HostRuntime) {
+    passes(&rt, rt.alloc(), 1, 0, OF_ONE);
+}

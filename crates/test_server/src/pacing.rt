@@ -1,0 +1,280 @@
+//! When a server ticks, whom it tells from where on, and how long it rests: each rule as a table.
+use crate::comparing::{ensure, same};
+use crate::group::node_of;
+use server_pace::{LastQuestion, Pace, Resting, Seen, Ticking, Times, first_told, has_passed};
+use site_ids::Instance;
+use std::process::Abort;
+
+/// Those of a server whose command line names none.
+const TIMES: Times = Times {
+    patience: 100,
+    growth: 3,
+    asking: 400,
+    quiet_asking: 800,
+    quick: 20,
+    telling: 400,
+    yielding: 50,
+    idle: 200,
+    quiet: 2000,
+    rest: 10,
+    idle_rest: 1500,
+    quiet_rest: 20_000,
+    between_requests: 5000,
+    without_progress: 1000,
+    receipts: 100,
+    serve_ms: None,
+};
+
+#[test]
+fn a_command_line_names_two_times(rt: HostRuntime) {
+    same(&rt, Times::new(None, None), TIMES);
+    let named = Times {
+        patience: 250,
+        serve_ms: Some(2000),
+        ..TIMES
+    };
+    same(&rt, Times::new(Some(250), Some(2000)), named);
+}
+
+/// Since when, the moment, so many milliseconds, and whether they have passed.
+const PASSED: &[(Option<u64>, u64, u64, bool)] = &[
+    (None, 0, 400, true),
+    (Some(0), 0, 0, true),
+    (Some(0), 399, 400, false),
+    (Some(0), 400, 400, true),
+    (Some(1000), 1399, 400, false),
+    (Some(1000), 1400, 400, true),
+    (Some(1000), 999, 1, false),
+];
+
+#[test]
+fn time_passes(rt: HostRuntime) {
+    for &(since, now, millis, passed) in PASSED {
+        same(
+            &rt,
+            (since, now, millis, has_passed(since, now, millis)),
+            (since, now, millis, passed),
+        );
+    }
+}
+
+/// A patience, a server's number, and what it waits before its first try.
+const PATIENCES: &[(u64, u8, u64)] = &[
+    (100, 1, 100),
+    (100, 2, 150),
+    (100, 3, 200),
+    (100, 9, 500),
+    (0, 9, 0),
+    (u64::MAX, 1, u64::MAX / 2),
+];
+
+#[test]
+fn greater_numbers_wait_longer(rt: HostRuntime) {
+    for &(patience, node, millis) in PATIENCES {
+        let times = Times::new(Some(patience), None);
+        same(
+            &rt,
+            (patience, node, times.patience_of(node)),
+            (patience, node, millis),
+        );
+    }
+}
+
+/// Whether a tick is wanted, since when it was, whether anything but questions came, and whether a value is fresh.
+const FRESH: &[(bool, Option<u64>, bool, bool)] = &[
+    (true, None, false, true),
+    (true, None, true, false),
+    (true, Some(5), false, false),
+    (false, None, false, false),
+    (false, Some(5), false, false),
+];
+
+#[test]
+fn a_value_that_nobody_tries_is_fresh(rt: HostRuntime) {
+    for &(wanted, since, stirred, fresh) in FRESH {
+        let ticking = Ticking {
+            since,
+            known: 7,
+            ticks: 0,
+        };
+        same(
+            &rt,
+            (wanted, since, stirred, ticking.is_fresh(wanted, stirred)),
+            (wanted, since, stirred, fresh),
+        );
+    }
+}
+
+/// What stood at known 7, since 5 and with two ticks or with none wanted; whether a tick is wanted at 9, how many are known; and what stands then.
+const NOTED: &[(Option<u64>, bool, u32, Option<u64>, u32)] = &[
+    (Some(5), true, 7, Some(5), 2),
+    (Some(5), true, 8, Some(9), 0),
+    (Some(5), false, 7, None, 0),
+    (None, true, 7, Some(9), 0),
+    (None, false, 8, None, 0),
+];
+
+#[test]
+fn news_begin_the_patience_anew(rt: HostRuntime) {
+    for &(since, wanted, known, then, ticks) in NOTED {
+        let ticking = Ticking {
+            since,
+            known: 7,
+            ticks: 2,
+        };
+        let noted = Ticking {
+            since: then,
+            known,
+            ticks,
+        };
+        same(
+            &rt,
+            (since, wanted, known, ticking.noted(9, wanted, known)),
+            (since, wanted, known, noted),
+        );
+    }
+}
+
+/// Since when a tick is wanted, how many were made, the moment, and whether one is due of a patience of 150 milliseconds that grows three times.
+const TICKS: &[(Option<u64>, u32, u64, bool)] = &[
+    (None, 0, 1_000_000, false),
+    (Some(1000), 0, 1149, false),
+    (Some(1000), 0, 1150, true),
+    (Some(1000), 1, 1299, false),
+    (Some(1000), 1, 1300, true),
+    (Some(1000), 2, 1449, false),
+    (Some(1000), 2, 1450, true),
+    (Some(1000), 3, 1450, true),
+    (Some(1000), u32::MAX, 1450, true),
+];
+
+#[test]
+fn the_patience_grows(rt: HostRuntime) {
+    for &(since, ticks, now, due) in TICKS {
+        let ticking = Ticking {
+            since,
+            known: 7,
+            ticks,
+        };
+        same(
+            &rt,
+            (ticking, now, ticking.is_due(now, 150, 3)),
+            (ticking, now, due),
+        );
+        ensure(&rt, !ticking.is_due(now, u64::MAX, 3), ticking);
+    }
+}
+
+/// When it asked at known 7, the moment, empty steps, how many are known, whether all came, whether somebody tried a value; and whether it asks.
+const ASKS: &[(Option<u64>, u64, u32, u32, bool, bool, bool)] = &[
+    (None, 0, 2000, 0, false, true, true),
+    (Some(1000), 1000, 0, 7, true, false, false),
+    (Some(1000), 1399, 0, 7, true, false, false),
+    (Some(1000), 1400, 1999, 7, false, true, true),
+    (Some(1000), 1400, 2000, 7, false, true, false),
+    (Some(1000), 1800, 2000, 7, false, true, true),
+    (Some(1000), 1001, 0, 8, true, false, true),
+    (Some(1000), 1001, 0, 8, true, true, false),
+    (Some(1000), 1001, 0, 8, false, false, false),
+    (Some(1000), 1019, 0, 71, false, true, true),
+    (Some(1000), 1020, 0, 71, false, true, false),
+    (Some(1000), 1019, 0, 70, false, true, false),
+];
+
+#[test]
+fn a_server_asks_in_its_time_and_behind_news(rt: HostRuntime) {
+    for &(at, now, empty, known, drained, tried, asks) in ASKS {
+        let last = LastQuestion {
+            at,
+            known: 7,
+            tried,
+        };
+        let seen = Seen {
+            known,
+            wanted: false,
+            drained,
+        };
+        let asking = last.asking(TIMES, now, seen, empty);
+        same(
+            &rt,
+            (last, now, empty, seen, asking.is_due()),
+            (last, now, empty, seen, asks),
+        );
+    }
+}
+
+/// How many values are known, the instance that was asked for, and from which on is told.
+const TOLD: &[(u32, u32, Option<u32>)] = &[
+    (0, 1, Some(1)),
+    (1, 1, Some(2)),
+    (1, 2, Some(2)),
+    (200, 7, Some(8)),
+    (1_000_000, 999_999, Some(1_000_000)),
+    (1_000_000, 1_000_000, None),
+];
+
+#[test]
+fn a_telling_begins_behind_the_answer(rt: HostRuntime) {
+    for &(known, asked, first) in TOLD {
+        let asked = Instance::new(asked).expect(&rt, "an instance");
+        let told = first_told(known, asked).map(Instance::number);
+        same(&rt, (known, asked, told), (known, asked, first));
+    }
+}
+
+/// What came (anything, a response, messages that are no questions), empty steps, how many microseconds are rested, and empty steps then.
+const RESTS: &[(bool, bool, bool, u32, Option<u64>, u32)] = &[
+    (false, false, false, 0, Some(10), 1),
+    (false, false, false, 199, Some(10), 200),
+    (false, false, false, 200, Some(1500), 201),
+    (false, false, false, 1999, Some(1500), 2000),
+    (false, false, false, 2000, Some(20_000), 2001),
+    (false, false, false, u32::MAX, Some(20_000), u32::MAX),
+    (true, false, false, 300, None, 300),
+    (true, false, true, 300, None, 0),
+    (false, true, false, 300, None, 0),
+    (true, true, true, 300, None, 0),
+];
+
+#[test]
+fn a_step_rests_where_nothing_came(rt: HostRuntime) {
+    for &(came, served, stirred, empty, micros, then) in RESTS {
+        let resting = Resting {
+            came,
+            served,
+            stirred,
+            empty,
+        };
+        let rest = resting.is_due().then_some(TIMES.rest_after(empty));
+        let is = (rest, resting.empty_after());
+        same(&rt, (resting, is), (resting, (micros, then)));
+    }
+}
+
+/// Whether anything came, whether a response was written, how many such steps follow one another, and what each of them rests.
+const STEPS: &[(bool, bool, u32, Option<u64>)] = &[
+    (false, false, 3, Some(20_000)),
+    (true, false, 2, None),
+    (false, false, 1, Some(20_000)),
+    (true, true, 1, None),
+    (false, false, 200, Some(10)),
+    (true, false, 5, None),
+    (false, false, 1800, Some(1500)),
+    (false, false, 9, Some(20_000)),
+    (false, true, 1, None),
+    (false, false, 1, Some(10)),
+];
+
+#[test]
+fn a_server_begins_quiet_and_wakes_with_a_client(rt: HostRuntime) {
+    let mut pace = Pace::new(TIMES, node_of(&rt, 1, 1));
+    for &(came, served, steps, micros) in STEPS {
+        for step in 0..steps {
+            same(
+                &rt,
+                (came, served, step, pace.rest(came, served)),
+                (came, served, step, micros),
+            );
+        }
+    }
+}

@@ -1,0 +1,62 @@
+//! A server with one growth refused, as `tools/gate/refuse-growths` runs this: it comes to what it comes to without refusals, or ends for want of
+//! memory; then another one opens over its disk, and comes to it.
+use crate::client::Client;
+use crate::comparing::{ensure, same};
+use crate::group::{Boxed, fresh, reopened, turn};
+use server::ServerFault;
+use site_ids::Cluster;
+use std::alloc::{AllocError, Global};
+use std::process::Abort;
+
+const POST: &[u8] = b"POST /_submit/1/1 HTTP/1.1\r\nHost: a\r\nContent-Length: 8\r\n\r\nrelease\n";
+
+/// A packet with a question of node 1 itself, and with no message.
+const CAME: &[u8] = &[3, 0, 0, 0, 7, 1, 6, 1, 0, 0, 0, 1, 0, 0, 0, 1, 255];
+
+/// A server takes a client and a packet.
+fn takes(alloc: Global, server: &mut Boxed) -> Result<(), AllocError> {
+    let client = Client::new(alloc, POST, usize::MAX)?;
+    drop(server.seats.admit(client, 0)?);
+    server.mail.take_in(CAME)
+}
+
+/// Whether that ended for want of memory. (A disk in memory that finds none has failed.)
+fn wants_memory(fault: &ServerFault) -> bool {
+    matches!(fault, ServerFault::OutOfMemory | ServerFault::Stopped)
+}
+
+/// It takes them, and goes on for so many milliseconds; or it was refused memory, and does not come so far.
+fn goes_on(rt: &impl Abort, alloc: Global, server: &mut Boxed, millis: u64) -> bool {
+    if takes(alloc, server).is_err() {
+        return false;
+    }
+    for now in 0..millis {
+        if let Err(fault) = turn(server, now) {
+            ensure(rt, wants_memory(&fault), now);
+            return false;
+        }
+    }
+    true
+}
+
+/// Node 1 of one, over a record that was just made. Where memory was refused it is made once more.
+fn first(rt: &impl Abort, alloc: Global, cluster: Cluster) -> Boxed {
+    let me = cluster.node(1).expect(rt, "a node");
+    match fresh(alloc, cluster, me) {
+        Some(server) => server,
+        None => fresh(alloc, cluster, me).expect(rt, "memory"),
+    }
+}
+
+#[test]
+fn steps(rt: HostRuntime) {
+    let alloc = rt.alloc();
+    let cluster = Cluster::new(1).expect(&rt, "a cluster");
+    let me = cluster.node(1).expect(&rt, "a node");
+    let mut server = first(&rt, alloc, cluster);
+    if !goes_on(&rt, alloc, &mut server, 40) {
+        server = reopened(alloc, cluster, me, server, None).expect(&rt, "memory");
+        ensure(&rt, goes_on(&rt, alloc, &mut server, 40), "again");
+    }
+    same(&rt, server.served.node.newest(), 1);
+}

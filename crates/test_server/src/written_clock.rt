@@ -1,0 +1,258 @@
+//! A pace over a written clock, beside node 1 of three that hears what a row says.
+ghost use Rattle.site_ids.specs.Ids.{IsNode};
+
+use crate::comparing::{ensure, same};
+use command::write;
+use durable::Record;
+use node::{Node, Submitted};
+use server_pace::{Pace, Times};
+use site_disk::MemDisk;
+use site_drive::{Desk, LastCall, MemLink};
+use site_ids::{Cluster, NodeId, Ticket, Value};
+use std::alloc::Global;
+use std::process::Abort;
+
+/// What is called: of a telling to whom it goes, and from which instance on.
+#[derive(Clone, Copy, Debug, PartialEq, Eq, Drop)]
+pub(crate) enum Call {
+    Widen,
+    Tick,
+    Ask,
+    Tell(u8, u32),
+    Nothing,
+}
+
+/// A step: the moment, whether a value is submitted before it, whether all that had come was taken in; what is called; and the datagrams that its batch
+/// takes in.
+type Step = (u64, bool, bool, Call, &'static [&'static [u8]]);
+
+/// A question of node 2 for the first instance, and one of node 3.
+const SECOND_ASKS: &[u8] = &[1, 6, 2, 0, 0, 0, 1];
+
+const THIRD_ASKS: &[u8] = &[1, 6, 3, 0, 0, 0, 1];
+
+/// A prepare of node 2 at the first instance.
+const PREPARE: &[u8] = &[1, 1, 2, 0, 0, 0, 1, 0, 0, 0, 1, 2];
+
+/// One of node 3 there, and a higher one of node 2.
+const THIRD_PREPARE: &[u8] = &[1, 1, 3, 0, 0, 0, 1, 0, 0, 0, 1, 3];
+
+const HIGHER_PREPARE: &[u8] = &[1, 1, 2, 0, 0, 0, 1, 0, 0, 0, 2, 2];
+
+/// The values of the first two instances, as node 3 knows them.
+const FIRST_KNOWN: &[u8] = &[1, 7, 3, 0, 0, 0, 1, 0, 0, 0, 1, 7];
+
+const SECOND_KNOWN: &[u8] = &[1, 7, 3, 0, 0, 0, 2, 0, 0, 0, 1, 7];
+
+/// A value is submitted to a quiet group, and nothing answers.
+const ALONE: &[Step] = &[
+    (0, false, true, Call::Ask, &[]),
+    (1, false, true, Call::Widen, &[]),
+    (5, true, true, Call::Tick, &[]),
+    (6, false, true, Call::Widen, &[]),
+    (104, false, true, Call::Widen, &[]),
+    (105, false, true, Call::Tick, &[]),
+    (304, false, true, Call::Widen, &[]),
+    (305, false, true, Call::Tick, &[]),
+    (604, false, true, Call::Widen, &[]),
+    (605, false, true, Call::Tick, &[]),
+    (799, false, true, Call::Widen, &[]),
+    (800, false, true, Call::Ask, &[]),
+    (904, false, true, Call::Widen, &[]),
+    (905, false, true, Call::Tick, &[]),
+    // A question and a tick are due at once: the tick comes next.
+    (1600, false, true, Call::Ask, &[]),
+    (1600, false, true, Call::Tick, &[]),
+    (1600, false, true, Call::Widen, &[]),
+];
+
+/// Two nodes ask, and then one of them tries a value.
+const ASKED: &[Step] = &[
+    (0, false, true, Call::Ask, &[SECOND_ASKS]),
+    (1, false, true, Call::Tell(2, 1), &[SECOND_ASKS, THIRD_ASKS]),
+    // Node 2 was told just now.
+    (2, false, true, Call::Widen, &[]),
+    (3, false, true, Call::Tell(3, 1), &[]),
+    (4, false, true, Call::Widen, &[SECOND_ASKS]),
+    (400, false, true, Call::Widen, &[SECOND_ASKS]),
+    (401, false, true, Call::Tell(2, 1), &[PREPARE, THIRD_ASKS]),
+    (403, false, true, Call::Nothing, &[THIRD_ASKS]),
+    (900, false, true, Call::Ask, &[]),
+];
+
+/// Values become known, while nobody tries one and while somebody does, and one is submitted among them.
+const NEWS: &[Step] = &[
+    (0, false, true, Call::Ask, &[FIRST_KNOWN, THIRD_ASKS]),
+    // Something came that was no question: who submits now waits for its patience.
+    (1, true, false, Call::Tell(3, 2), &[]),
+    (2, false, false, Call::Widen, &[]),
+    (3, false, true, Call::Ask, &[]),
+    (100, false, true, Call::Widen, &[]),
+    (101, false, true, Call::Tick, &[PREPARE, SECOND_KNOWN]),
+    // The news begin the patience anew, and are no answer to a question.
+    (301, false, true, Call::Widen, &[]),
+    (400, false, true, Call::Widen, &[]),
+    (401, false, true, Call::Tick, &[]),
+    (803, false, true, Call::Ask, &[]),
+];
+
+/// A value is submitted while node 2 tries one, of which nothing more is heard; and then it becomes known.
+const YIELDS: &[Step] = &[
+    (0, false, true, Call::Ask, &[PREPARE]),
+    (1, true, true, Call::Nothing, &[]),
+    (6, false, true, Call::Nothing, &[]),
+    (7, false, true, Call::Widen, &[]),
+    // It waited in vain, and does so once more.
+    (8, false, true, Call::Nothing, &[]),
+    // The patience is what it would be.
+    (100, false, true, Call::Widen, &[]),
+    (101, false, true, Call::Tick, &[FIRST_KNOWN]),
+    // Node 2 tried last: this one comes next.
+    (102, false, true, Call::Widen, &[]),
+];
+
+/// Nodes 2 and 3 tried, and node 3 comes next.
+const TURNS: &[Step] = &[
+    (0, false, true, Call::Ask, &[THIRD_PREPARE]),
+    (1, false, true, Call::Nothing, &[HIGHER_PREPARE]),
+    (2, false, true, Call::Nothing, &[FIRST_KNOWN]),
+    (3, false, true, Call::Nothing, &[]),
+    // Node 2's attempt stood for a millisecond: so long the next one is waited for, and one more.
+    (5, false, true, Call::Nothing, &[]),
+    (6, false, true, Call::Widen, &[]),
+    (7, false, true, Call::Widen, &[]),
+];
+
+/// So does it here, as a value is submitted that nobody tries: that waits too.
+const SUBMITTED: &[Step] = &[
+    (0, false, true, Call::Ask, &[THIRD_PREPARE]),
+    (1, false, true, Call::Nothing, &[HIGHER_PREPARE]),
+    (2, false, true, Call::Nothing, &[FIRST_KNOWN]),
+    (3, false, true, Call::Nothing, &[]),
+    (4, true, true, Call::Nothing, &[]),
+    (5, false, true, Call::Nothing, &[]),
+    (6, false, true, Call::Widen, &[]),
+];
+
+/// A node with its link, a desk and a pace.
+#[derive(Drop)]
+struct Paced {
+    alloc: Global,
+    node: Box<Node<MemDisk>>,
+    link: MemLink,
+    desk: Desk,
+    pace: Pace,
+}
+
+/// That call, as a row names it.
+pub(crate) fn called(last: &LastCall) -> Call {
+    match last {
+        LastCall::Widen => Call::Widen,
+        LastCall::TickOrAsk => Call::Tick,
+        LastCall::Ask => Call::Ask,
+        LastCall::Tell { to, first } => Call::Tell(to.number(), first.number()),
+        LastCall::Nothing => Call::Nothing,
+    }
+}
+
+/// A node over a record that was just made. None where memory was refused.
+fn fresh(alloc: Global, cluster: Cluster, me: NodeId) -> Option<Box<Node<MemDisk>>>
+    requires { IsNode cluster me }
+{
+    let mut disk = MemDisk::new(alloc);
+    if Record::format(cluster, me, &mut disk).is_err() {
+        return None;
+    }
+    match Node::open(alloc, cluster, me, disk) {
+        Ok(node) => Box::new(alloc, node).ok(),
+        Err(_) => None,
+    }
+}
+
+fn begun(rt: &impl Abort, alloc: Global) -> Paced {
+    let cluster = Cluster::new(3).expect(rt, "a cluster");
+    let me = cluster.node(1).expect(rt, "a node");
+    Paced {
+        alloc,
+        node: fresh(alloc, cluster, me).expect(rt, "memory"),
+        link: MemLink::new(alloc),
+        desk: Desk::new(alloc).expect(rt, "memory"),
+        pace: Pace::new(Times::new(None, None), me),
+    }
+}
+
+/// These datagrams come: so many.
+fn come(rt: &impl Abort, link: &mut MemLink, heard: &[&[u8]]) -> u32 {
+    for datagram in heard {
+        link.push(datagram).expect(rt, "a place");
+    }
+    u32::try_from(heard.len()).expect(rt, "few datagrams")
+}
+
+impl Paced {
+    fn submit(&mut self, rt: &impl Abort) {
+        let ticket = Ticket {
+            editor: 1,
+            number: 1,
+        };
+        let bytes = write(self.alloc, ticket, b"release\n").expect(rt, "a command");
+        let value = Value::from_bytes(bytes).expect(rt, "a value");
+        same(rt, self.node.submit(&value), Ok(Submitted::Queued));
+    }
+
+    /// These datagrams and then that call; and what was delivered is heard.
+    fn drive(&mut self, rt: &impl Abort, heard: &[&[u8]], last: LastCall) {
+        let turns = come(rt, &mut self.link, heard);
+        let driven = self
+            .desk
+            .drive_with(&mut self.node, &mut self.link, turns, last);
+        ensure(rt, driven.is_ok(), turns);
+        self.pace.hear(self.node.cluster(), &self.desk.delivered());
+    }
+
+    fn take(&mut self, rt: &impl Abort, &(now, submits, drained, call, heard): &Step) {
+        if submits {
+            self.submit(rt);
+        }
+        let last = self.pace.due(now, &self.node, drained);
+        same(rt, (now, called(&last)), (now, call));
+        self.drive(rt, heard, last);
+    }
+}
+
+fn run(rt: &impl Abort, alloc: Global, steps: &[Step]) {
+    let mut paced = begun(rt, alloc);
+    for step in steps {
+        paced.take(rt, step);
+    }
+}
+
+#[test]
+fn a_value_that_nobody_answers_is_tried_again(rt: HostRuntime) {
+    run(&rt, rt.alloc(), ALONE);
+}
+
+#[test]
+fn who_asks_is_told_in_turn(rt: HostRuntime) {
+    run(&rt, rt.alloc(), ASKED);
+}
+
+#[test]
+fn news_is_followed_by_a_question(rt: HostRuntime) {
+    run(&rt, rt.alloc(), NEWS);
+}
+
+#[test]
+fn a_server_yields_to_one_that_tries(rt: HostRuntime) {
+    run(&rt, rt.alloc(), YIELDS);
+}
+
+#[test]
+fn the_next_one_is_waited_for(rt: HostRuntime) {
+    run(&rt, rt.alloc(), TURNS);
+}
+
+#[test]
+fn a_value_just_submitted_waits_its_turn(rt: HostRuntime) {
+    run(&rt, rt.alloc(), SUBMITTED);
+}

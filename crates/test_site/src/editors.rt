@@ -1,0 +1,20 @@
+//! What an editor works with, as tables: folders, their faults, pages and static copies; files of ledgers and plans; what is asked of nodes, answers in
+//! pieces, paces, standings; publications (`interruptions` of a ledger, `flights` into a group) that are cut off and go on with another folder; each
+//! growth refused.
+
+mod answers;
+mod copies;
+mod delivery_clocks;
+mod flights;
+mod folder_faults;
+mod folders;
+mod interruptions;
+mod ledger_files;
+mod ledgers;
+mod old_files;
+mod places;
+mod plans;
+mod questions;
+mod refusals;
+mod standings;
+mod tickets;

@@ -1,0 +1,66 @@
+//! How a delivery goes on, as a table.
+use crate::comparing::ensure;
+use editor_plan::{Came, DeliveryClock, Step};
+use std::process::Abort;
+
+/// What exchanges came to, when each ended, and how it goes on, where a minute may pass without a receipt.
+const STEPS: &[(Came, u64, Step)] = &[
+    (Came::Answers, 1, Step::Again(2)),
+    (Came::Answers, 4, Step::Again(4)),
+    (Came::Answers, 9, Step::Again(8)),
+    (Came::Receipt, 12, Step::Again(0)),
+    (Came::Receipt, 13, Step::Again(0)),
+    (Came::Answers, 14, Step::Again(2)),
+    (Came::Answers, 17, Step::Again(4)),
+    (Came::Answers, 22, Step::Again(8)),
+    (Came::Answers, 31, Step::Again(16)),
+    (Came::Answers, 48, Step::Again(32)),
+    (Came::Answers, 81, Step::Again(64)),
+    (Came::Answers, 146, Step::Again(128)),
+    (Came::Answers, 275, Step::Again(250)),
+    // Five seconds without a receipt, counted from the last one, and then from the turn.
+    (Came::Answers, 5_012, Step::Again(250)),
+    (Came::Answers, 5_013, Step::Next),
+    (Came::Answers, 10_012, Step::Again(2)),
+    (Came::Silence, 10_014, Step::Next),
+    (Came::Silence, 60_012, Step::Next),
+    (Came::Silence, 60_013, Step::GiveUp),
+];
+
+fn steps(
+    rt: &impl Abort,
+    clock: &mut DeliveryClock,
+    came: (Came, u64),
+    patience: u64,
+    wanted: Step,
+) {
+    let (came, now) = came;
+    ensure(rt, clock.step(came, now, patience) == wanted, now);
+}
+
+#[test]
+fn delivery_clocks(rt: HostRuntime) {
+    let mut clock = DeliveryClock::new();
+    for &(came, now, wanted) in STEPS {
+        steps(&rt, &mut clock, (came, now), 60, wanted);
+    }
+}
+
+/// With no patience it gives up behind the first exchange that brought nothing.
+#[test]
+fn no_patience(rt: HostRuntime) {
+    steps(
+        &rt,
+        &mut DeliveryClock::new(),
+        (Came::Receipt, 0),
+        0,
+        Step::Again(0),
+    );
+    steps(
+        &rt,
+        &mut DeliveryClock::new(),
+        (Came::Answers, 0),
+        0,
+        Step::GiveUp,
+    );
+}

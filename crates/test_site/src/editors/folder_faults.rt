@@ -1,0 +1,218 @@
+//! What is told of a folder's faults: the file, the place, why and what to do, and the line of the formats.
+use crate::comparing::ensure;
+use crate::editors::folders::{folder, is_told};
+use editor_folder::Folder;
+use std::alloc::Global;
+use std::process::Abort;
+
+/// A file and its text, and the lines that it is told by.
+const FILES: &[(&str, &[u8], &str)] = &[
+    (
+        "templates/a.mustache",
+        b"a\n\xc3\xa4 {{#x}}\n{{/y}}\n",
+        "templates/a.mustache:3:1: `{{/y}}` ends nothing: `{{#x}}` of line 2 is open, and ends with `{{/x}}` [5 Template 6 WrongEnd at 12]\n",
+    ),
+    (
+        "templates/a.mustache",
+        b"\xc3\xa4 {{#x}}\n",
+        "templates/a.mustache:1:3: `{{#x}}` has no end: write `{{/x}}` where it ends [5 Template 7 UnclosedSection at 3]\n",
+    ),
+    (
+        "partials/a.mustache",
+        b"{{/x}}",
+        "partials/a.mustache:1:1: `{{/x}}` ends nothing: no section is open [5 Template 5 NoSection at 0]\n",
+    ),
+    (
+        "partials/a.mustache",
+        b"<h1>{{title</h1>",
+        "partials/a.mustache:1:5: the tag has no end: write `}}` behind its name [5 Template 1 UnclosedTag at 4]\n",
+    ),
+    (
+        "partials/a.mustache",
+        b"{{}}",
+        "partials/a.mustache:1:1: the tag has no name [5 Template 2 EmptyName at 0]\n",
+    ),
+    (
+        "partials/a.mustache",
+        b"{{a b}}",
+        "partials/a.mustache:1:1: a name has no blank within, and no empty part between dots [5 Template 3 BadName at 0]\n",
+    ),
+    (
+        "partials/a.mustache",
+        b"{{=a=}}",
+        "partials/a.mustache:1:1: the tag has to name two delimiters: `{{=<% %>=}}` [5 Template 4 BadDelimiters at 0]\n",
+    ),
+    (
+        "data/a.json",
+        b"{\"a\":1\n \"b\":2}",
+        "data/a.json:2:2: no JSON: a comma is missing before this, or a colon behind a key [6 Data 1 NotJson]\n",
+    ),
+    (
+        "data/a.json",
+        b"{\"a\":1,\n}",
+        "data/a.json:2:1: no JSON: the comma before this has to go [6 Data 1 NotJson]\n",
+    ),
+    (
+        "data/a.json",
+        b"[1,,2]",
+        "data/a.json:1:4: no JSON: one comma too many [6 Data 1 NotJson]\n",
+    ),
+    (
+        "data/a.json",
+        b"\xef\xbb\xbf{}",
+        "data/a.json:1:1: the file begins with a byte order mark: save it as UTF-8 without one [6 Data 1 NotJson]\n",
+    ),
+    (
+        "data/a.json",
+        b"{\"a\": 'x'}",
+        "data/a.json:1:7: no JSON: texts and keys stand between double quotes [6 Data 1 NotJson]\n",
+    ),
+    (
+        "data/a.json",
+        b"{} // x",
+        "data/a.json:1:4: no JSON: there are no comments [6 Data 1 NotJson]\n",
+    ),
+    (
+        "data/a.json",
+        b"{\"a\":[1",
+        "data/a.json:1:8: no JSON: the file ends too early: a `}`, a `]` or a double quote is missing [6 Data 1 NotJson]\n",
+    ),
+    (
+        "data/a.json",
+        b"{\"a\" 1}",
+        "data/a.json:1:6: no JSON: a comma is missing before this, or a colon behind a key [6 Data 1 NotJson]\n",
+    ),
+    (
+        "data/a.json",
+        b"[=]",
+        "data/a.json:1:2: no JSON: `=` can't stand here [6 Data 1 NotJson]\n",
+    ),
+    (
+        "data/a.json",
+        b"{\"v 2.5\": 1,\n \"price\": 1.50}",
+        "data/a.json:2:11: the number 1.50 is not whole, or too large: write it as a text, \"1.50\" [6 Data 2 NotWhole]\n",
+    ),
+    (
+        "data/a.json",
+        b"[18446744073709551615, true, 18446744073709551616]",
+        "data/a.json:1:30: the number 18446744073709551616 is not whole, or too large: write it as a text, \"18446744073709551616\" [6 Data 2 NotWhole]\n",
+    ),
+    (
+        "data/a.json",
+        b"{\"a\":\"\xe4\"}",
+        "data/a.json:1:7: no UTF-8 from here on: save the file as UTF-8\n",
+    ),
+    (
+        "data/two words.json",
+        b"{}",
+        "data/two words.json: rename the file: a name is 1 to 64 of the letters a to z and A to Z, digits, _ - . and / [2 Form]\n",
+    ),
+    (
+        "data/a!.json",
+        b"{}",
+        "data/a!.json: rename the file: a name is 1 to 64 of the letters a to z and A to Z, digits, _ - . and / [3 Name]\n",
+    ),
+    (
+        "data/a.txt",
+        b"",
+        "data/a.txt: is no .json file: rename it, or move it out of the folder\n",
+    ),
+    (
+        "photo.png",
+        b"",
+        "photo.png: is no part of a site (templates, partials, data, routes, redirects, removes): move it out of the folder, or --ignore\n",
+    ),
+    (
+        "routes",
+        b"/ t\na t d\n/a! t! d\n/a t d e\n",
+        "routes:1:1: a line is PATH TEMPLATE DATA, three words\nroutes:2:1: a path begins with /, with neither /_ nor /@, has 200 bytes at most, and no blank\nroutes:3:1: a name is 1 to 64 of the letters a to z and A to Z, digits, _ - . and /\nroutes:4:1: a line is PATH TEMPLATE DATA, three words\n",
+    ),
+    (
+        "redirects",
+        b"/a\n/a b\n/a //b\n/@a /b\n/a /a\n/a /b c\n/a /c\n",
+        "redirects:1:1: a line is PATH TARGET, two words\nredirects:2:1: a path and its target begin with /, with neither /_ nor /@, have 200 bytes at most, and no blank; a target begins with one / alone\nredirects:3:1: a path and its target begin with /, with neither /_ nor /@, have 200 bytes at most, and no blank; a target begins with one / alone\nredirects:4:1: a path and its target begin with /, with neither /_ nor /@, have 200 bytes at most, and no blank; a target begins with one / alone\nredirects:6:1: a line is PATH TARGET, two words\nredirects:7:1: the redirect /a stands in line 5 already\nredirects:5:1: warning: no route of this folder has the path /a\nredirects:7:1: warning: no route of this folder has the path /c\n",
+    ),
+    (
+        "removes",
+        b"page a\ntemplate\nroute a\ndata !\n",
+        "removes:1:1: a line is KIND NAME, two words, KIND one of template, partial, data, route and redirect\nremoves:2:1: a line is KIND NAME, two words, KIND one of template, partial, data, route and redirect\nremoves:3:1: a path begins with /, with neither /_ nor /@, has 200 bytes at most, and no blank\nremoves:4:1: a name is 1 to 64 of the letters a to z and A to Z, digits, _ - . and /\n",
+    ),
+];
+
+#[test]
+fn files_by_themselves(rt: HostRuntime) {
+    for &(path, text, lines) in FILES {
+        let folder = folder(&rt, rt.alloc(), &[(path, text)]);
+        is_told(&rt, rt.alloc(), &folder, lines);
+    }
+}
+
+/// Files that are passed over.
+const PASSED: &[&str] = &[
+    ".DS_Store",
+    ".git/config",
+    "README.md",
+    "templates/page.mustache~",
+    "data/.hidden.json",
+];
+
+fn is_empty(folder: &Folder) -> bool {
+    folder.findings.is_empty() && folder.commands.is_empty()
+}
+
+#[test]
+fn files_that_are_passed_over(rt: HostRuntime) {
+    for &path in PASSED {
+        let folder = folder(&rt, rt.alloc(), &[(path, b"\xff")]);
+        ensure(&rt, is_empty(&folder), path);
+    }
+}
+
+/// Files with faults of every sort, and the lines that they are told by.
+const FAULTY: &[(&str, &[u8])] = &[
+    ("data/b.json", b"[1,]"),
+    ("data/c.json", b"{}"),
+    ("partials/q.mustache", b"{{>p}}\n {{>q}}{{>p}}"),
+    ("routes", b"/ t b\n/a u c\n/a/ u c\n/ u d\n"),
+    ("templates/t.mustache", b"{{/x}}"),
+];
+
+const TOLD: &str =
+    "templates/t.mustache:1:1: `{{/x}}` ends nothing: no section is open [5 Template 5 NoSection at 0]
+data/b.json:1:4: no JSON: the comma before this has to go [6 Data 1 NotJson]
+routes:4:1: the route / stands in line 1 already
+routes:2:1: there is no templates/u.mustache
+routes:3:1: there is no templates/u.mustache
+routes:4:1: there is no templates/u.mustache
+routes:4:1: there is no data/d.json
+routes:3:1: warning: /a/ and /a are two paths, which readers take for one
+partials/q.mustache:1:1: warning: there is no partials/p.mustache, so nothing is printed here
+partials/q.mustache:2:8: warning: there is no partials/p.mustache, so nothing is printed here
+";
+
+#[test]
+fn all_faults_of_all_files(rt: HostRuntime) {
+    is_told(&rt, rt.alloc(), &folder(&rt, rt.alloc(), FAULTY), TOLD);
+}
+
+/// How many bytes a template has, and how that is told.
+const LENGTHS: &[(usize, &str)] = &[
+    (
+        32_768,
+        "templates/t.mustache: the file has 32768 bytes, and may have 32741: part it [1 TooLong]\n",
+    ),
+    (32_741, ""),
+];
+
+fn long(rt: &impl Abort, alloc: Global, length: usize, lines: &str) {
+    let text = vec![in alloc; b'x'; length].expect(rt, "memory");
+    let folder = folder(rt, alloc, &[("templates/t.mustache", text.as_slice())]);
+    is_told(rt, alloc, &folder, lines);
+}
+
+#[test]
+fn a_file_that_is_too_long(rt: HostRuntime) {
+    for &(length, lines) in LENGTHS {
+        long(&rt, rt.alloc(), length, lines);
+    }
+}

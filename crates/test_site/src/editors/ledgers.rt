@@ -1,0 +1,118 @@
+//! Commands by a letter each, and ledgers told by those.
+use crate::comparing::{ensure, same};
+use editor_ledger::{Ledger, Sent};
+use std::alloc::{AllocError, Global};
+use std::process::Abort;
+
+/// The letters of commands: a capital puts, and the small one removes what it put.
+const LETTERS: &str = "TABRtar!";
+
+/// The command of a letter.
+fn command_of(letter: char) -> &'static str {
+    match letter {
+        'T' => "put template t\nx",
+        'A' => "put data a\n1\n",
+        'B' => "put data a\n2\n",
+        'R' => "put route /a t a\n",
+        't' => "remove template t\n",
+        'a' => "remove data a\n",
+        'r' => "remove route /a\n",
+        '!' => "release\n",
+        _ => "",
+    }
+}
+
+/// The letter of a command.
+fn letter_of(text: &str) -> char {
+    for letter in LETTERS.chars() {
+        if command_of(letter) == text {
+            return letter;
+        }
+    }
+    '?'
+}
+
+/// The commands of a word's letters.
+pub fn commands(alloc: Global, letters: &str) -> Result<Vec<&'static str>, AllocError> {
+    let mut texts = Vec::new(alloc);
+    for letter in letters.chars() {
+        texts.push(command_of(letter))?;
+    }
+    Ok(texts)
+}
+
+// Below, a ledger's steps, where memory is not refused.
+
+pub fn plan_texts(rt: &impl Abort, alloc: Global, ledger: &mut Ledger, wanted: &[&str]) {
+    let is_planned = ledger.is_idle() && ledger.plan(alloc, wanted).is_ok();
+    ensure(rt, is_planned, ledger.next());
+}
+
+/// Plans the commands of a word's letters.
+pub fn plan(rt: &impl Abort, alloc: Global, ledger: &mut Ledger, letters: &str) {
+    let wanted = commands(alloc, letters).expect(rt, "memory");
+    plan_texts(rt, alloc, ledger, wanted.as_slice());
+}
+
+pub fn plan_release(rt: &impl Abort, alloc: Global, ledger: &mut Ledger) {
+    let is_planned = ledger.is_idle() && ledger.plan_release(alloc).is_ok();
+    ensure(rt, is_planned, ledger.next());
+}
+
+pub fn receive(rt: &impl Abort, ledger: &mut Ledger, number: u64) {
+    ensure(rt, ledger.receive(number).is_ok(), number);
+}
+
+pub fn spelled(rt: &impl Abort, alloc: Global, ledger: &Ledger) -> String {
+    ledger.spelled(alloc).expect(rt, "memory")
+}
+
+/// Keeps it in the file.
+pub fn save(rt: &impl Abort, alloc: Global, ledger: &Ledger, file: &mut String) {
+    *file = spelled(rt, alloc, ledger);
+}
+
+pub fn is_spelled(rt: &impl Abort, alloc: Global, ledger: &Ledger, wanted: &str) {
+    same(rt, spelled(rt, alloc, ledger).as_str(), wanted);
+}
+
+pub fn read(rt: &impl Abort, alloc: Global, file: &str) -> Ledger {
+    Ledger::read(alloc, file).expect(rt, "a ledger")
+}
+
+/// The file of an editor that has published nothing.
+pub fn new_file(rt: &impl Abort, alloc: Global) -> String {
+    spelled(rt, alloc, &Ledger::new(alloc, 7))
+}
+
+/// The letters of what the group has.
+pub fn kept(alloc: Global, ledger: &Ledger) -> Result<String, AllocError> {
+    let mut letters = String::new(alloc);
+    for text in ledger.kept() {
+        letters.push(letter_of(text.as_str()))?;
+    }
+    Ok(letters)
+}
+
+/// What is on its way: its number and its letter.
+fn push_sent(alloc: Global, line: &mut String, sent: &Sent) -> Result<(), AllocError> {
+    let number = sent.number;
+    let letter = letter_of(sent.text.as_str());
+    line.push_str(format!(in alloc; " {number}{letter}")?.as_str())
+}
+
+fn begun(alloc: Global, ledger: &Ledger) -> Result<String, AllocError> {
+    let next = ledger.next();
+    let last = ledger.last_release();
+    let has = kept(alloc, ledger)?;
+    format!(in alloc; "{next} {last} {has}")
+}
+
+/// A ledger in a line: the next ticket's number, that of the last release, what the group has, what is on its way.
+pub fn told(alloc: Global, ledger: &Ledger) -> Result<String, AllocError> {
+    let mut line = begun(alloc, ledger)?;
+    for sent in ledger.sent() {
+        push_sent(alloc, &mut line, sent)?;
+    }
+    Ok(line)
+}

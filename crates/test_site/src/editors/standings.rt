@@ -1,0 +1,71 @@
+//! How a ledger stands to a group, by what nodes answer.
+use crate::comparing::ensure;
+use editor_ledger::Ledger;
+use editor_plan::{Standing, Witness, last_ticket, standing_of, told_by};
+use std::alloc::Global;
+use std::process::Abort;
+
+/// Of each of three nodes the statuses for two tickets.
+type Codes = ((u16, u16), (u16, u16), (u16, u16));
+
+/// The last ticket; of each of three nodes the statuses for the last and for the next, 0 for silence; and how the ledger stands.
+const STANDINGS: &[(u64, Codes, Standing)] = &[
+    (0, ((404, 404), (0, 0), (0, 0)), Standing::Newest),
+    (0, ((0, 0), (0, 0), (0, 0)), Standing::Unanswered),
+    (0, ((404, 404), (404, 404), (404, 200)), Standing::Older),
+    (5, ((200, 404), (0, 0), (0, 0)), Standing::Newest),
+    (5, ((404, 404), (404, 404), (200, 404)), Standing::Newest),
+    (5, ((200, 404), (200, 404), (200, 200)), Standing::Older),
+    (5, ((404, 200), (0, 0), (0, 0)), Standing::Older),
+    (5, ((404, 404), (404, 404), (0, 0)), Standing::Elsewhere),
+    (5, ((503, 503), (500, 500), (0, 0)), Standing::Unanswered),
+    // A node that says nothing of the next ticket confirms nothing.
+    (5, ((200, 0), (0, 0), (0, 0)), Standing::Unanswered),
+    (5, ((200, 503), (404, 404), (0, 0)), Standing::Elsewhere),
+    (5, ((200, 503), (0, 0), (200, 404)), Standing::Newest),
+];
+
+fn status(code: u16) -> Option<u16> {
+    if code == 0 { None } else { Some(code) }
+}
+
+fn witness(codes: (u16, u16)) -> Witness {
+    Witness {
+        last: told_by(status(codes.0)),
+        next: told_by(status(codes.1)),
+    }
+}
+
+fn stands(rt: &impl Abort, last: u64, nodes: Codes, wanted: Standing) {
+    let witnesses = [witness(nodes.0), witness(nodes.1), witness(nodes.2)];
+    ensure(rt, standing_of(last, &witnesses) == wanted, last);
+}
+
+#[test]
+fn standings(rt: HostRuntime) {
+    for &(last, nodes, wanted) in STANDINGS {
+        stands(&rt, last, nodes, wanted);
+    }
+}
+
+/// The file of a ledger, and the ticket whose receipt has to stand.
+const LAST: &[(&str, u64)] = &[
+    ("published 2\neditor 7\nnext 1\nlast_release 0\n", 0),
+    ("published 2\neditor 7\nnext 9\nlast_release 8\n", 8),
+    ("published 2\neditor 7\nnext 10\nlast_release 8\n", 9),
+    (
+        "published 2\neditor 7\nnext 10\nlast_release 8\nsent 9 8\nrelease\n\n",
+        8,
+    ),
+];
+
+fn last_of(rt: &impl Abort, alloc: Global, file: &str) -> u64 {
+    last_ticket(&Ledger::read(alloc, file).expect(rt, "a ledger"))
+}
+
+#[test]
+fn last(rt: HostRuntime) {
+    for &(file, wanted) in LAST {
+        ensure(&rt, last_of(&rt, rt.alloc(), file) == wanted, file);
+    }
+}
