@@ -5,7 +5,7 @@
 use editor_common::{EditorFault, say_made};
 use editor_folder::{View, path_in, views_of};
 use editor_group::{Address, ask};
-use editor_http::{Answer, Question};
+use editor_http::{NodeAnswer, Question};
 use editor_ledger::Ledger;
 use std::alloc::{AllocError, Global};
 use std::collections::BTreeSet;
@@ -81,7 +81,7 @@ pub(crate) fn changes_since(
     changes_of(alloc, &kept, after)
 }
 
-fn is_shown(answer: Option<&Answer>, view: &View) -> bool {
+fn is_shown(answer: Option<&NodeAnswer>, view: &View) -> bool {
     match answer {
         Some(answer) => {
             answer.status == view.status && answer.body.as_slice() == view.body.as_bytes()
@@ -114,7 +114,7 @@ fn tell_all<E: Write>(
     url: &str,
     release: u64,
     changes: &[Change],
-    answers: &[Answer],
+    answers: &[NodeAnswer],
 ) -> Result<bool, EditorFault> {
     let mut bad = false;
     for (i, change) in changes.iter().enumerate() {
@@ -134,7 +134,7 @@ fn pages_at<N: Net<Stream = TcpStream>>(
     node: &Address,
     release: u64,
     changes: &[Change],
-) -> Result<Vec<Answer>, AllocError> {
+) -> Result<Vec<NodeAnswer>, AllocError> {
     let questions: Vec<Question<'_>> = changes
         .iter()
         .map(|change| Question::Page(release, change.view.path.as_str()))

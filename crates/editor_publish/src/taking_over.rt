@@ -2,7 +2,7 @@
 use editor_common::{EditorFault, say_made};
 use editor_folder::path_in;
 use editor_group::{Address, ask, newest};
-use editor_http::{Answer, Question};
+use editor_http::{NodeAnswer, Question};
 use std::alloc::{AllocError, Global};
 use std::io::Write;
 use std::net::{Net, TcpStream};
@@ -26,7 +26,7 @@ fn tell_path<E: Write>(alloc: Global, err: &mut E, path: &str) -> Result<(), Edi
 }
 
 /// Whether the group has a page at a path that it was asked for.
-fn is_there(answer: Option<&Answer>) -> bool {
+fn is_there(answer: Option<&NodeAnswer>) -> bool {
     match answer {
         Some(answer) => answer.status != 404,
         None => false,
@@ -38,7 +38,7 @@ fn tell_paths<E: Write>(
     alloc: Global,
     err: &mut E,
     paths: &[&str],
-    answers: &[Answer],
+    answers: &[NodeAnswer],
 ) -> Result<(), EditorFault> {
     for (i, path) in paths.iter().enumerate() {
         if is_there(answers.get(i)) {
@@ -55,7 +55,7 @@ fn answers_at<N: Net<Stream = TcpStream>>(
     node: &Address,
     release: u64,
     paths: &[&str],
-) -> Result<Vec<Answer>, AllocError> {
+) -> Result<Vec<NodeAnswer>, AllocError> {
     let questions: Vec<Question<'_>> = paths
         .iter()
         .map(|path| Question::Page(release, path))

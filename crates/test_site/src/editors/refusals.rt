@@ -4,7 +4,7 @@ use crate::comparing::{ensure, same};
 use crate::editors::folders::{SITE, files, lines_of};
 use crate::editors::ledgers::{commands, told};
 use editor_folder::{Folder, folder_of, pages_of};
-use editor_http::{AnswerFault, NodeAnswer, Question, read_answer};
+use editor_http::{NodeAnswer, NodeAnswerFault, Question, read_answer};
 use editor_ledger::{Ledger, LedgerFault};
 use editor_plan::{Ask, Flight, Heard, Stage, advance};
 use engine_common::Feed;
@@ -124,17 +124,17 @@ fn request(rt: &impl Abort, alloc: Global) -> String {
 
 const REQUEST: &str = "GET /@7/a%20b HTTP/1.1\r\nHost: a:80\r\nConnection: close\r\n";
 
-fn read_one(alloc: Global) -> Result<Answer, AnswerFault> {
+fn read_one(alloc: Global) -> Result<NodeAnswer, NodeAnswerFault> {
     let bytes = b"HTTP/1.1 200\r\nContent-Length: 2\r\n\r\n7\n";
     let mut reader = Counted::new(bytes.as_slice());
     read_answer(alloc, &mut reader, &mut Feed::new(alloc))
 }
 
-fn answer(rt: &impl Abort, alloc: Global) -> Answer {
+fn answer(rt: &impl Abort, alloc: Global) -> NodeAnswer {
     match read_one(alloc) {
         Ok(answer) => answer,
         Err(fault) => {
-            same(rt, fault, AnswerFault::OutOfMemory);
+            same(rt, fault, NodeAnswerFault::OutOfMemory);
             read_one(alloc).expect(rt, "an answer")
         }
     }
