@@ -7,7 +7,7 @@ use Rattle.engine_schedule.specs.declared.schedule.Found.{Found}
 use Rattle.engine_schedule.specs.declared.schedule.Found.TheVariants as found
 use Rattle.engine_schedule.specs.declared.schedule.FoundNodes.{FoundNodes}
 use Rattle.engine_schedule.specs.declared.schedule.FoundNodes.TheVariants as found_nodes
-use Rattle.engine_common.specs.declared.words.Submission.{Submission}
+use Rattle.engine_common.specs.declared.words.SubmissionLine.{SubmissionLine}
 use Rattle.engine_schedule.specs.Schedule.{Line, submit_line, tick_line, widen_line, ask_line, tell_line, restart_line, deliver_line, arm_line, crash_line, settle_line, quiet_line, show_line, get_line, trace_line, submit_words, Fits, spelled, HasNoLine, GetsNoLine, spelled_nodes, HasNoNodes, GetsNoNodes}
 
 abbrev pub line_view : Code → Line
@@ -26,7 +26,7 @@ line_view (code.Show node) = show_line node
 line_view (code.Get node release path) = get_line node release path.now
 line_view code.Trace = trace_line
 
-abbrev pub submission_words : Submission → List (List ℕ)
+abbrev pub submission_words : SubmissionLine → List (List ℕ)
 submission_words s = submit_words s.node s.ticket s.text_len
 
 -- a line stands at the front, or none does yet, or none ever will

@@ -13,7 +13,7 @@ ghost use Rattle.engine_schedule.specs.ScheduleView.{line_view, submission_words
 ghost use Rattle.engine_common.specs.Submissions.{submission_fits};
 
 use engine_common::{
-    Body, Submission, after, body_in, cut, number_at_node, read_node, read_number,
+    Body, SubmissionLine, after, body_in, cut, number_at_node, read_node, read_number,
     submission_after, word_after,
 };
 use site_ids::{Cluster, Instance, NodeId, Ticket};
@@ -210,11 +210,11 @@ fn plain_line(head: &[u8]) -> Option<Line<'_>>
 }
 
 /// The submission, by what follows the newline behind its words.
-fn submitted(submission: Submission, after: &[u8]) -> Found<'_>
+fn submitted(submission: SubmissionLine, after: &[u8]) -> Found<'_>
     requires { submission_fits submission }
     ensures { IsFound (joined (submission_words submission) ++ (10 ∷ after.now)) result }
 {
-    let Submission {
+    let SubmissionLine {
         node,
         ticket,
         text_len,

@@ -4,7 +4,7 @@ use Rattle.engine_script.specs.declared.script.Line.{Line as Code}
 use Rattle.engine_script.specs.declared.script.Line.TheVariants as code
 use Rattle.engine_script.specs.declared.script.Found.{Found}
 use Rattle.engine_script.specs.declared.script.Found.TheVariants as found
-use Rattle.engine_common.specs.declared.words.Submission.{Submission}
+use Rattle.engine_common.specs.declared.words.SubmissionLine.{SubmissionLine}
 use Rattle.engine_script.specs.Script.{Line, post_line, get_line, turns_line, drive_line, post_words, FitsPost, Fits, spelled, HasNoLine, GetsNoLine}
 
 abbrev pub line_view : Code → Line
@@ -13,10 +13,10 @@ line_view (code.Get node target) = get_line node target.now
 line_view (code.Turns count) = turns_line count
 line_view (code.Drive node turns) = drive_line node turns
 
-abbrev pub posted_words : Submission → List (List ℕ)
+abbrev pub posted_words : SubmissionLine → List (List ℕ)
 posted_words s = post_words s.node s.ticket s.text_len
 
-abbrev pub post_fits : Submission → Type 0
+abbrev pub post_fits : SubmissionLine → Type 0
 post_fits s = FitsPost s.node s.ticket s.text_len
 
 -- a line stands at the front, or none does yet, or none ever will

@@ -8,7 +8,7 @@ ghost use Rattle.engine_script.specs.Script.{Line as AbstractLine, words, post_w
 ghost use Rattle.engine_script.specs.ScriptView.{line_view, post_fits, posted_words, IsFound};
 
 use engine_common::{
-    Body, Submission, after, body_in, cut, number_at_node, read_node, read_number,
+    Body, SubmissionLine, after, body_in, cut, number_at_node, read_node, read_number,
     submission_after, word_after,
 };
 use site_ids::{NodeId, Ticket};
@@ -55,7 +55,7 @@ pub(crate) enum Found<'a> {
 }
 
 /// The words of a post.
-fn post_in(head: &[u8]) -> Option<Submission>
+fn post_in(head: &[u8]) -> Option<SubmissionLine>
     ensures { MatchOption result ((p : ℕ) (ticket : AbstractTicket) (len : ℕ) → FitsPost p ticket len → head.now ≢ joined (post_words p ticket len))
         (λ s. post_fits s × (head.now ≡ joined (posted_words s))) }
 {
@@ -119,11 +119,11 @@ fn plain_line(head: &[u8]) -> Option<Line<'_>>
 }
 
 /// The post, by what follows the newline behind its words.
-fn posted(post: Submission, after: &[u8]) -> Found<'_>
+fn posted(post: SubmissionLine, after: &[u8]) -> Found<'_>
     requires { post_fits post }
     ensures { IsFound (joined (posted_words post) ++ (10 ∷ after.now)) result }
 {
-    let Submission {
+    let SubmissionLine {
         node,
         ticket,
         text_len,
