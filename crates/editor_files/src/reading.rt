@@ -1,7 +1,7 @@
 //! A folder read, and what is wrong with it told.
 use crate::files::files_of;
 use editor_common::{EditorFault, say};
-use editor_folder::{Finding, Folder, Page, Weight, folder_of, pages_of};
+use editor_folder::{Finding, Folder, Page, Weight, folder_of, page_faults, pages_of};
 use std::alloc::{AllocError, Global};
 use std::io::Write;
 use std::rt::Files;
@@ -17,7 +17,7 @@ fn tell<E: Write>(
     say(err, line.as_str())
 }
 
-/// Writes all that is wrong with a folder. Whether a fault is among it is the answer.
+/// Writes all that is wrong with a folder, or with its pages. Whether a fault is among it is the answer.
 fn tell_all<E: Write>(
     alloc: Global,
     err: &mut E,
@@ -28,23 +28,6 @@ fn tell_all<E: Write>(
     for finding in findings {
         tell(alloc, err, folder, finding)?;
         bad = bad || finding.weight == Weight::Fault;
-    }
-    Ok(bad)
-}
-
-/// Writes the faults of pages. Whether there is one is the answer.
-fn tell_pages<E: Write>(
-    alloc: Global,
-    err: &mut E,
-    folder: &str,
-    pages: &[Page],
-) -> Result<bool, EditorFault> {
-    let mut bad = false;
-    for page in pages {
-        if let Some(fault) = page.fault(alloc)? {
-            tell(alloc, err, folder, &fault)?;
-            bad = true;
-        }
     }
     Ok(bad)
 }
@@ -100,7 +83,8 @@ fn clean_pages<E: Write>(
         return Ok(None);
     }
     let pages = pages_of(alloc, folder)?;
-    if tell_pages(alloc, err, name, &pages)? {
+    let faults = page_faults(alloc, folder, &pages)?;
+    if tell_all(alloc, err, name, &faults)? {
         return Ok(None);
     }
     Ok(Some(pages))

@@ -2,8 +2,9 @@
 //!
 //! Nothing here reads a file: `editor_files` does. `folder.rt` goes over the files, `judging.rt` asks `command` whether a text is a command, and
 //! where it is none `template_reasons.rt`, `data_reasons.rt` and `reasons.rt` say why, for people: the place, and what to do. `lines.rt` reads
-//! `routes`, `redirects` and `removes`. `checks.rt` looks for what is named and isn't there. `pages.rt` renders each route, as a node would, `moved.rt`
-//! makes the file of a page that moved, and `copies.rt` says which file of a static copy a page is. `views.rt` says what a node shows of any texts. `beginning.rt` has a small site to start from.
+//! `routes`, `redirects` and `removes`. `checks.rt` looks for what is named and isn't there. `pages.rt` renders each route, as a node would, `limits.rt` says
+//! which limit one passes, `moved.rt` makes the file of a page that moved, and `copies.rt` says which file of a static copy a page is. `views.rt` says
+//! what a node shows of any texts. `beginning.rt` has a small site to start from.
 #![tactic(auto)]
 
 mod beginning;
@@ -14,6 +15,7 @@ mod file;
 mod finding;
 mod folder;
 mod judging;
+mod limits;
 mod lines;
 mod moved;
 mod pages;
@@ -28,7 +30,7 @@ pub use copies::{Copies, NoCopy};
 pub use file::SiteFile;
 pub use finding::{Finding, Weight};
 pub use folder::{Folder, FolderCommand, Redirect, Route, folder_of};
-pub use pages::{Page, pages_of, release_of};
+pub use pages::{Page, page_faults, pages_of, release_of};
 pub use place::{Place, place_of};
 pub use roles::{is_of_site, is_part, is_passed_over};
 pub use views::{View, path_in, views_of};

@@ -1,12 +1,16 @@
 //! The pages of a folder, as a node shows them; those that moved as files that lead on.
 use crate::finding::Finding;
 use crate::folder::{Folder, Redirect, Route};
+use crate::limits::Nesting;
 use crate::moved::moved_page;
 use crate::reasons::line_fault;
 use command::write;
 use release::{Answer, AnswerFault, Releases};
 use site_ids::{MAX_INSTANCE, Ticket};
 use std::alloc::{AllocError, Global};
+
+/// What a node says of a page that is over limit.
+const OVER_LIMIT: &str = "page over limit";
 
 /// A page: its path, its line of `routes` or `redirects`, its status and its text.
 #[derive(Drop)]
@@ -146,14 +150,68 @@ pub fn pages_of(alloc: Global, folder: &Folder) -> Result<Vec<Page>, AllocError>
 }
 
 impl Page {
-    /// What is wrong with the page, if it is none: neither shown nor moved.
-    pub fn fault(&self, alloc: Global) -> Result<Option<Finding>, AllocError> {
-        if self.status == 200 || self.status == 301 {
-            return Ok(None);
-        }
-        let path = self.path.as_str();
-        let why = self.body.as_str().trim_end();
-        let reason = format!(in alloc; "{path}: {why}")?;
-        Ok(Some(line_fault(alloc, self.file, self.line, reason)?))
+    /// Whether there is a page at the path, be it one that leads on.
+    fn is_shown(&self) -> bool {
+        self.status == 200 || self.status == 301
     }
+
+    /// Why a node shows no page here, in its words.
+    fn refusal(&self) -> &str {
+        self.body.as_str().trim_end()
+    }
+}
+
+/// The template of a page.
+fn template_of<'a>(folder: &'a Folder, page: &Page) -> &'a str {
+    for route in folder.routes.iter() {
+        if route.line == page.line {
+            return route.template.as_str();
+        }
+    }
+    ""
+}
+
+/// Why a page is none: in a node's words, and behind a limit which one it is.
+fn page_reason(
+    alloc: Global,
+    folder: &Folder,
+    nesting: &Nesting<'_>,
+    page: &Page,
+) -> Result<String, AllocError> {
+    let (path, refusal) = (page.path.as_str(), page.refusal());
+    if refusal != OVER_LIMIT {
+        return format!(in alloc; "{path}: {refusal}");
+    }
+    let reason = nesting.reason(alloc, template_of(folder, page))?;
+    format!(in alloc; "{path}: {refusal}: {reason}")
+}
+
+/// Adds what is wrong with each page that is none.
+fn push_faults(
+    alloc: Global,
+    folder: &Folder,
+    pages: &[Page],
+    faults: &mut Vec<Finding>,
+) -> Result<(), AllocError> {
+    let nesting = Nesting::of(alloc, folder)?;
+    for page in pages {
+        if !page.is_shown() {
+            let reason = page_reason(alloc, folder, &nesting, page)?;
+            faults.push(line_fault(alloc, page.file, page.line, reason)?)?;
+        }
+    }
+    Ok(())
+}
+
+/// What is wrong with those of a folder's pages that are none: neither shown nor moved.
+pub fn page_faults(
+    alloc: Global,
+    folder: &Folder,
+    pages: &[Page],
+) -> Result<Vec<Finding>, AllocError> {
+    let mut faults = Vec::new(alloc);
+    if !pages.iter().all(|page| page.is_shown()) {
+        push_faults(alloc, folder, pages, &mut faults)?;
+    }
+    Ok(faults)
 }

@@ -115,7 +115,7 @@ fn converse(
 }
 
 /// Asks a node all at once over a connection, and reads its answers, which come in the same order: as many as come before the connection fails or
-/// ends. Behind them the connection is closed, since a node does nothing else while it serves one.
+/// ends. Then the connection is closed, since it holds one of the node's 64 seats.
 fn ask_once<N: Net<Stream = TcpStream>>(
     net: &N,
     alloc: Global,

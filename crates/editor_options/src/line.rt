@@ -5,6 +5,9 @@ use std::alloc::{AllocError, Global};
 /// How many seconds may pass without progress, where none are given.
 const PATIENCE: u64 = 60;
 
+/// The editor in whose tickets commands are framed, where none is given.
+const FRAMER: u32 = 1;
+
 /// Where a preview answers, where nothing else is said.
 const PREVIEW: &str = "127.0.0.1:8000";
 
@@ -24,6 +27,12 @@ pub enum Word<'a> {
     Export {
         folder: &'a str,
         out: &'a str,
+        ignore: bool,
+    },
+    /// Writes a folder's commands as `siterender` reads them.
+    Frame {
+        folder: &'a str,
+        editor: u32,
         ignore: bool,
     },
     /// Makes a folder the next release of a group.
@@ -163,14 +172,18 @@ fn urls_argument<'a>(alloc: Global) -> Arg<'a> {
     .action(ArgAction::Append)
 }
 
-fn editor_option<'a>(alloc: Global) -> Arg<'a> {
-    option(
+fn editor_option<'a>(alloc: Global, help: &'static str) -> Arg<'a> {
+    option(alloc, "editor", "E", help).value_parser(clap::value_parser!(u32))
+}
+
+fn frame_word<'a>(alloc: Global) -> Result<Command<'a>, AllocError> {
+    let about = "Writes a folder's commands, and a release, as siterender reads them";
+    let editor = editor_option(
         alloc,
-        "editor",
-        "E",
-        "The editor's number; by default that of FOLDER/published, at first one at random",
-    )
-    .value_parser(clap::value_parser!(u32))
+        "The editor's number, 1 by default; of one input each folder has its own",
+    );
+    let word = taking(site_word(alloc, "frame", about), editor);
+    taking(word, ignore_flag(alloc))
 }
 
 fn patience_option<'a>(alloc: Global) -> Arg<'a> {
@@ -195,7 +208,11 @@ fn publish_word<'a>(alloc: Global) -> Result<Command<'a>, AllocError> {
     let about = "Makes a folder the next release of a group, and goes on where it was interrupted";
     let word = site_word(alloc, "publish", about);
     let word = taking(word, urls_argument(alloc));
-    let word = taking(word, editor_option(alloc));
+    let editor = editor_option(
+        alloc,
+        "The editor's number; by default that of FOLDER/published, at first one at random",
+    );
+    let word = taking(word, editor);
     let word = taking(word, patience_option(alloc));
     let word = taking(word, dry_run_flag(alloc));
     taking(word, ignore_flag(alloc))
@@ -264,6 +281,7 @@ fn command<'a>(alloc: Global) -> Result<Command<'a>, AllocError> {
     let command = with_word(Ok(command), new_word(alloc));
     let command = with_word(command, check_word(alloc));
     let command = with_word(command, export_word(alloc));
+    let command = with_word(command, frame_word(alloc));
     let command = with_word(command, preview_word(alloc));
     let command = with_word(command, publish_word(alloc));
     let command = with_word(command, log_word(alloc));
@@ -314,6 +332,14 @@ fn export_in<'a>(found: &ArgMatches<'a>) -> Word<'a> {
     }
 }
 
+fn frame_in<'a>(found: &ArgMatches<'a>) -> Word<'a> {
+    Word::Frame {
+        folder: text(found, "folder"),
+        editor: found.get_one::<u32>("editor").unwrap_or(FRAMER),
+        ignore: found.get_flag("ignore"),
+    }
+}
+
 /// The word of that name, as it was found.
 fn word_of<'a>(
     alloc: Global,
@@ -329,6 +355,7 @@ fn word_of<'a>(
             ignore: found.get_flag("ignore"),
         },
         "export" => export_in(found),
+        "frame" => frame_in(found),
         "publish" => publish_in(alloc, found)?,
         "preview" => preview_in(found),
         "log" => Word::Log {

@@ -93,7 +93,7 @@ fn tell_no_page<E: Write>(alloc: Global, err: &mut E, folder: &str) -> Result<()
     say_made(
         err,
         format!(in alloc;
-            "{folder}: no page, so nothing was sent: a site has a file routes; a folder of what changed is for tools/editors/frame"
+            "{folder}: no page, so nothing was sent: a site has a file routes"
         ),
     )
 }

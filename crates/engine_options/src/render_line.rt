@@ -27,7 +27,7 @@ fn render_matches<'a>(alloc: Global, words: &'a [String]) -> Result<ArgMatches<'
     let does =
         "Prints the page for a path, of the newest release of a site that comes on standard input as framed commands";
     let example =
-        "Example:\n  tools/editors/frame examples/status/1 | siterender /status\n\n--version prints the program's version";
+        "Example:\n  sitepub frame examples/status/1 | siterender /status\n\n--version prints the program's version";
     let command = described(alloc, "siterender", does, example)
         .arg(number_option(
             alloc,

@@ -1,4 +1,5 @@
-//! The clients of a server: what each sent and is owed, on 64 seats, and a node that answers them.
+//! The clients of a server: what each sent and is owed, on 64 seats, and a node that answers them. It
+//! stands apart from `server` so that it is proved beside `server_pace`.
 #![tactic(auto)]
 
 mod requests;

@@ -1,4 +1,5 @@
-//! The engines of the programs, and their command lines.
+//! All programs' engines and command lines in one place, for tests that run programs without a process (`test_server`);
+//! and the one law that knows servers and worlds: what a server does with its node is a schedule's (`passes.rt`).
 #![tactic(auto)]
 
 mod passes;

@@ -5,7 +5,7 @@ use editor_group::tell_status;
 use editor_options::{Word, word_in};
 use editor_preview::preview;
 use editor_publish::{Publishing, publish};
-use editor_words::{begin, check, export, tell_log};
+use editor_words::{begin, check, export, frame, tell_log};
 use std::env;
 use std::fmt::Display;
 use std::io::{self, Write};
@@ -48,6 +48,11 @@ fn done<
             out: to,
             ignore,
         } => export(rt, err, folder, to, ignore),
+        Word::Frame {
+            folder,
+            editor,
+            ignore,
+        } => frame(rt, out, err, folder, editor, ignore),
         Word::Publish {
             folder,
             ref urls,

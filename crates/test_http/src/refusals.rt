@@ -1,5 +1,8 @@
-//! Requests and connections with one growth refused, as `tools/gate/refuse-growths` runs this: a call answers as ever, or memory was refused, nothing
+//! Requests and connections with one growth refused: a call answers as ever, or memory was refused, nothing
 //! was written and nothing taken, and then another connection with the same bytes is answered as ever.
+//!
+//! All is tried twice, since a second program, `tools/gate/refuse-growths`, runs each test once for each growth of
+//! its memory and refuses that one: the first try meets it, the second does not. Alone a test is refused nothing.
 use crate::comparing::{ensure, same};
 use crate::desk::{Desk, open_desk, took};
 use crate::ends::{Connection, served};

@@ -1,5 +1,8 @@
-//! Each call with one growth refused, as `tools/gate/refuse-growths` runs this: it answers as ever, or memory was refused, nothing has changed, and the
+//! Each call with one growth refused: it answers as ever, or memory was refused, nothing has changed, and the
 //! next try answers as ever.
+//!
+//! All is tried twice, since a second program, `tools/gate/refuse-growths`, runs each test once for each growth of
+//! its memory and refuses that one: the first try meets it, the second does not. Alone a test is refused nothing.
 use crate::comparing::{ensure, same};
 use crate::member::{Member, Sent, is_made, is_resent, is_sent, three_values};
 use crate::messages::is_written;

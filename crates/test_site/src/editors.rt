@@ -11,6 +11,7 @@ mod folders;
 mod interruptions;
 mod ledger_files;
 mod ledgers;
+mod limits;
 mod old_files;
 mod places;
 mod plans;

@@ -1,7 +1,10 @@
-//! A drive with one growth refused, turn by turn and as one batch, as `tools/gate/refuse-growths` runs this: it ends as ever, or by the fault that
+//! A drive with one growth refused, turn by turn and as one batch: it ends as ever, or by the fault that
 //! memory was wanted, or by that of the device where the disk in memory found none, and then the node is opened again. Where the link found none it
 //! counts a failure. Either way what was heard may be lost, as a datagram may; so it comes once more, and then the node is where it is without
 //! refusals.
+//!
+//! All is tried twice, since a second program, `tools/gate/refuse-growths`, runs each test once for each growth of
+//! its memory and refuses that one: the first try meets it, the second does not. Alone a test is refused nothing.
 use crate::comparing::{ensure, same};
 use crate::driven::driven_node::{DrivenNode, bytes, reopened};
 use node::NodeFault;

@@ -67,7 +67,7 @@ fn helps<T: Drop>(rt: &impl Abort, alloc: Global, outcome: Result<T, Error>, exa
 }
 
 const RENDER_EXAMPLE: &str =
-    "\n\nExample:\n  tools/editors/frame examples/status/1 | siterender /status\n\n--version prints the program's version\n";
+    "\n\nExample:\n  sitepub frame examples/status/1 | siterender /status\n\n--version prints the program's version\n";
 
 const SIM_EXAMPLE: &str = "  settle\n  show 3\n\n--version prints the program's version\n";
 

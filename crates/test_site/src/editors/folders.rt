@@ -1,6 +1,8 @@
 //! Folders by their files.
 use crate::comparing::{ensure, same};
-use editor_folder::{BEGINNING, Finding, Folder, Page, SiteFile, Weight, folder_of, pages_of};
+use editor_folder::{
+    BEGINNING, Finding, Folder, Page, SiteFile, Weight, folder_of, page_faults, pages_of,
+};
 use std::alloc::{AllocError, Global};
 use std::process::Abort;
 
@@ -11,7 +13,7 @@ fn file(alloc: Global, path: &str, bytes: &[u8]) -> Result<SiteFile, AllocError>
     })
 }
 
-fn push_file(
+pub(crate) fn push_file(
     alloc: Global,
     files: &mut Vec<SiteFile>,
     path: &str,
@@ -34,10 +36,10 @@ fn line(alloc: Global, finding: &Finding) -> Result<String, AllocError> {
     format!(in alloc; "{finding}\n")
 }
 
-/// All that is wrong with a folder, a line each.
-pub(crate) fn lines_of(alloc: Global, folder: &Folder) -> Result<String, AllocError> {
+/// What is wrong, a line each.
+pub(crate) fn lines_of(alloc: Global, findings: &[Finding]) -> Result<String, AllocError> {
     let mut lines = String::new(alloc);
-    for finding in folder.findings.iter() {
+    for finding in findings {
         lines.push_str(line(alloc, finding)?.as_str())?;
     }
     Ok(lines)
@@ -55,8 +57,15 @@ pub(crate) fn folder(rt: &impl Abort, alloc: Global, rows: &[(&str, &[u8])]) -> 
 
 /// All that is wrong with a folder is told by these lines.
 pub(crate) fn is_told(rt: &impl Abort, alloc: Global, folder: &Folder, lines: &str) {
-    let found = lines_of(alloc, folder).expect(rt, "memory");
+    let found = lines_of(alloc, &folder.findings).expect(rt, "memory");
     same(rt, found.as_str(), lines);
+}
+
+/// All that is wrong with the pages of a folder.
+pub(crate) fn page_lines(alloc: Global, folder: &Folder) -> Result<String, AllocError> {
+    let pages = pages_of(alloc, folder)?;
+    let faults = page_faults(alloc, folder, &pages)?;
+    lines_of(alloc, &faults)
 }
 
 fn pages(rt: &impl Abort, alloc: Global, folder: &Folder) -> Vec<Page> {
@@ -128,29 +137,31 @@ const PAGES: &[PageRow] = &[
     ),
 ];
 
-fn is_fault(rt: &impl Abort, alloc: Global, page: &Page) -> bool {
-    page.fault(alloc).expect(rt, "memory").is_some()
-}
-
-fn is_page(rt: &impl Abort, alloc: Global, page: &Page, wanted: PageRow) {
+fn is_page(rt: &impl Abort, page: &Page, wanted: PageRow) {
     let (path, at, status, body) = wanted;
     same(rt, (page.path.as_str(), page.status), (path, status));
     same(rt, (page.file, page.line), at);
     same(rt, page.body.as_str(), body);
-    ensure(rt, !is_fault(rt, alloc, page), page.line);
 }
 
-fn are_pages(rt: &impl Abort, alloc: Global, pages: &[Page]) {
+fn are_pages(rt: &impl Abort, pages: &[Page]) {
     same(rt, pages.len(), PAGES.len());
     for (page, wanted) in pages.iter().zip(PAGES) {
-        is_page(rt, alloc, page, *wanted);
+        is_page(rt, page, *wanted);
     }
+}
+
+/// What is wrong with the pages of a folder is told by these lines.
+pub(crate) fn are_told(rt: &impl Abort, alloc: Global, folder: &Folder, lines: &str) {
+    let found = page_lines(alloc, folder).expect(rt, "memory");
+    same(rt, found.as_str(), lines);
 }
 
 #[test]
 fn the_pages_of_a_folder(rt: HostRuntime) {
-    let pages = pages(&rt, rt.alloc(), &folder(&rt, rt.alloc(), SITE));
-    are_pages(&rt, rt.alloc(), pages.as_slice());
+    let folder = folder(&rt, rt.alloc(), SITE);
+    are_pages(&rt, pages(&rt, rt.alloc(), &folder).as_slice());
+    are_told(&rt, rt.alloc(), &folder, "");
 }
 
 /// The pages of the small site to start from, each with what stands between its head and its foot.
@@ -202,18 +213,11 @@ fn a_small_site_to_start_from(rt: HostRuntime) {
     are_begun(&rt, pages(&rt, rt.alloc(), &folder).as_slice());
 }
 
-/// A site that calls a partial which it has not, and one that has it: that calls itself.
+/// A site that calls a partial which it has not.
 const WITHOUT: &[(&str, &[u8])] = &[
     ("data/a.json", b"{}"),
     ("routes", b"\n/ t a\n"),
     ("templates/t.mustache", b"{{>t2}}"),
-];
-
-const ENDLESS: &[(&str, &[u8])] = &[
-    ("data/a.json", b"{}"),
-    ("partials/p.mustache", b"{{>p}}"),
-    ("routes", b"\n/ t a\n"),
-    ("templates/t.mustache", b"{{>p}}"),
 ];
 
 fn warns_alone(rt: &impl Abort, folder: &Folder) {
@@ -222,28 +226,9 @@ fn warns_alone(rt: &impl Abort, folder: &Folder) {
     }
 }
 
-fn are_shown(rt: &impl Abort, pages: &[Page]) {
-    for page in pages {
-        same(rt, page.status, 200);
-    }
-}
-
-/// The line that tells why a page is none.
-fn fault_line(rt: &impl Abort, alloc: Global, page: &Page) -> String {
-    let fault = page.fault(alloc).expect(rt, "memory").expect(rt, "a fault");
-    format!(in alloc; "{fault}").expect(rt, "memory")
-}
-
-fn is_endless(rt: &impl Abort, alloc: Global, pages: &[Page]) {
-    let line = fault_line(rt, alloc, pages.first().expect(rt, "a page"));
-    same(rt, line.as_str(), "routes:2:1: /: page over limit");
-}
-
 #[test]
-fn a_page_that_is_none(rt: HostRuntime) {
+fn a_partial_that_is_not_there(rt: HostRuntime) {
     let without = folder(&rt, rt.alloc(), WITHOUT);
     warns_alone(&rt, &without);
-    are_shown(&rt, pages(&rt, rt.alloc(), &without).as_slice());
-    let endless = pages(&rt, rt.alloc(), &folder(&rt, rt.alloc(), ENDLESS));
-    is_endless(&rt, rt.alloc(), endless.as_slice());
+    are_told(&rt, rt.alloc(), &without, "");
 }

@@ -1,8 +1,12 @@
-//! Each step with one growth refused, as `tools/gate/refuse-growths` runs this: it is taken as ever, or memory was refused, nothing has changed, and the
+//! Each step with one growth refused: it is taken as ever, or memory was refused, nothing has changed, and the
 //! next try takes it.
+//!
+//! All is tried twice, since a second program, `tools/gate/refuse-growths`, runs each test once for each growth of
+//! its memory and refuses that one: the first try meets it, the second does not. Alone a test is refused nothing.
 use crate::comparing::{ensure, same};
-use crate::editors::folders::{SITE, files, lines_of};
+use crate::editors::folders::{SITE, files, lines_of, page_lines};
 use crate::editors::ledgers::{commands, told};
+use crate::editors::limits::ENDLESS;
 use editor_folder::{Folder, folder_of, pages_of};
 use editor_http::{NodeAnswer, NodeAnswerFault, Question, read_answer};
 use editor_ledger::{Ledger, LedgerFault};
@@ -12,32 +16,41 @@ use http_read::Counted;
 use std::alloc::{AllocError, Global};
 use std::process::Abort;
 
-/// How many commands and pages a folder has, and how many bytes tell what is wrong with it.
-type Counts = (usize, usize, usize);
+/// How many commands and pages a folder has, and how many bytes tell what is wrong with it and with its pages.
+type Counts = (usize, usize, usize, usize);
 
 fn counts(alloc: Global, folder: &Folder) -> Result<Counts, AllocError> {
     let pages = pages_of(alloc, folder)?.len();
-    let lines = lines_of(alloc, folder)?.len();
-    Ok((folder.commands.len(), pages, lines))
+    let lines = lines_of(alloc, &folder.findings)?.len();
+    let faults = page_lines(alloc, folder)?.len();
+    Ok((folder.commands.len(), pages, lines, faults))
 }
 
-fn read_folder(alloc: Global) -> Result<Folder, AllocError> {
-    let found = files(alloc, SITE)?;
+fn read_folder(alloc: Global, rows: &[(&str, &[u8])]) -> Result<Folder, AllocError> {
+    let found = files(alloc, rows)?;
     folder_of(alloc, &found)
 }
 
-fn read_counts(alloc: Global) -> Result<Counts, AllocError> {
-    let folder = read_folder(alloc)?;
+fn read_counts(alloc: Global, rows: &[(&str, &[u8])]) -> Result<Counts, AllocError> {
+    let folder = read_folder(alloc, rows)?;
     counts(alloc, &folder)
+}
+
+/// Folders, and what is counted of each.
+const FOLDERS: &[(&[(&str, &[u8])], Counts)] = &[(SITE, (9, 3, 105, 0)), (ENDLESS, (4, 1, 0, 317))];
+
+fn counted(rt: &impl Abort, alloc: Global, rows: &[(&str, &[u8])]) -> Counts {
+    match read_counts(alloc, rows) {
+        Ok(found) => found,
+        Err(_) => read_counts(alloc, rows).expect(rt, "memory"),
+    }
 }
 
 #[test]
 fn folders(rt: HostRuntime) {
-    let found = match read_counts(rt.alloc()) {
-        Ok(found) => found,
-        Err(_) => read_counts(rt.alloc()).expect(&rt, "memory"),
-    };
-    same(&rt, found, (9, 3, 105));
+    for &(rows, wanted) in FOLDERS {
+        same(&rt, counted(&rt, rt.alloc(), rows), wanted);
+    }
 }
 
 fn step(alloc: Global, ledger: &mut Ledger, wanted: &[&str]) -> Result<bool, LedgerFault> {
