@@ -12,14 +12,16 @@ use std::alloc::{AllocError, Global};
 /// A route's template isn't there.
 fn missing_template(alloc: Global, route: &Route) -> Result<Finding, AllocError> {
     let name = route.template.as_str();
-    let reason = format!(in alloc; "there is no templates/{name}.mustache")?;
+    let reason = format!(in alloc;
+        "there is no templates/{name}.mustache: make it, or name another"
+    )?;
     line_fault(alloc, "routes", route.line, reason)
 }
 
 /// A route's data aren't there.
 fn missing_data(alloc: Global, route: &Route) -> Result<Finding, AllocError> {
     let name = route.page_data.as_str();
-    let reason = format!(in alloc; "there is no data/{name}.json")?;
+    let reason = format!(in alloc; "there is no data/{name}.json: make it, or name another")?;
     line_fault(alloc, "routes", route.line, reason)
 }
 

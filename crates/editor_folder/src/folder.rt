@@ -282,7 +282,7 @@ impl Reading {
         if let Some(before) = self.found.insert(key, line)? {
             let word = kind_word(kind);
             let reason = format!(in self.alloc;
-                "the {word} {path} stands in line {before} already"
+                "the {word} {path} stands in line {before} already: take one of both away"
             )?;
             return self.line_fault(file, line, reason.as_str());
         }
@@ -337,7 +337,7 @@ impl Reading {
         if let Some(before) = self.removed.insert(key, line)? {
             let word = kind_word(kind);
             let reason = format!(in self.alloc;
-                "the {word} {name} is removed in line {before} already"
+                "the {word} {name} is removed in line {before} already: take one of both away"
             )?;
             return self.line_fault("removes", line, reason.as_str());
         }

@@ -50,7 +50,9 @@ fn wrong_end(
                 "`{tag}` ends nothing: `{section}` of line {line} is open, and ends with `{{{{/{name}}}}}`"
             )
         }
-        None => format!(in alloc; "`{tag}` ends nothing: no section is open"),
+        None => format!(in alloc;
+            "`{tag}` ends nothing: no section is open: take it away, or open one before it"
+        ),
     }
 }
 
@@ -88,7 +90,7 @@ pub(crate) fn template_reason(
 ) -> Result<String, AllocError> {
     let reason = match fault.kind {
         FaultKind::UnclosedTag => "the tag has no end: write `}}` behind its name",
-        FaultKind::EmptyName => "the tag has no name",
+        FaultKind::EmptyName => "the tag has no name: write one into it, or take it away",
         FaultKind::BadName => "a name has no blank within, and no empty part between dots",
         FaultKind::BadDelimiters => "the tag has to name two delimiters: `{{=<% %>=}}`",
         FaultKind::OutOfMemory => return Err(AllocError),

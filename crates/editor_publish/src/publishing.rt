@@ -92,9 +92,7 @@ fn publish_wanted<
 fn tell_no_page<E: Write>(alloc: Global, err: &mut E, folder: &str) -> Result<(), EditorFault> {
     say_made(
         err,
-        format!(in alloc;
-            "{folder}: no page, so nothing was sent: a site has a file routes"
-        ),
+        format!(in alloc; "{folder}: no page, so nothing was sent: a site has a file routes"),
     )
 }
 

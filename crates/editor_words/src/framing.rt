@@ -1,9 +1,9 @@
 //! The commands of a folder as `siterender` reads them, for who has no group.
-ghost use Rattle.std.specs.Prelude.{◌≡◌, ◌++◌, OnOk};
+ghost use Rattle.std.specs.Prelude.{◌≡◌, IfOk, string_bytes};
 ghost use Rattle.engine_page.specs.Framed.{frame as framed};
 
 use editor_common::EditorFault;
-use editor_files::read_clean;
+use editor_files::{read_clean, texts_of};
 use editor_folder::Folder;
 use site_ids::Ticket;
 use std::alloc::{AllocError, Global};
@@ -11,34 +11,33 @@ use std::io::Write;
 use std::rt::Files;
 
 /// What makes a folder's commands one release.
-const RELEASE: &[u8] = b"release\n";
+const RELEASE: &str = "release\n";
 
-/// Adds the frame of a command.
-fn add_frame(
-    alloc: Global,
-    input: &mut Vec<u8>,
-    ticket: Ticket,
-    text: &[u8],
-) -> Result<(), AllocError>
-    ensures { OnOk result (input.new.items ≡ input.old.items ++ framed (record { ticket = ticket; text = text.now })) }
+/// A command's text in its frame.
+fn frame_of(alloc: Global, ticket: Ticket, text: &str) -> Result<String, AllocError>
+    ensures { IfOk result (λ f. string_bytes f ≡ framed (record { ticket = ticket; text = text.now })) }
 {
     let (editor, number, length) = (ticket.editor, ticket.number, text.len());
-    let line = format!(in alloc; "{editor} {number} {length}\n")?;
-    input.extend_from_slice(line.as_bytes())?;
-    input.extend_from_slice(text)?;
-    Ok(())
+    format!(in alloc; "{editor} {number} {length}\n{text}")
 }
 
-/// The frames of a folder's commands and of a release, under an editor's tickets from 1 on.
-fn input_of(alloc: Global, editor: u32, folder: &Folder) -> Result<Vec<u8>, AllocError> {
-    let mut input = Vec::new(alloc);
+/// The frames of texts, under an editor's tickets from 1 on.
+fn frames_of(alloc: Global, editor: u32, texts: &[&str]) -> Result<String, AllocError> {
+    let mut frames = String::new(alloc);
     let mut number = 1u64;
-    for command in folder.commands.iter() {
-        add_frame(alloc, &mut input, Ticket { editor, number }, &command.text)?;
+    for text in texts {
+        let frame = frame_of(alloc, Ticket { editor, number }, text)?;
+        frames.push_str(frame.as_str())?;
         number = number.saturating_add(1);
     }
-    add_frame(alloc, &mut input, Ticket { editor, number }, RELEASE)?;
-    Ok(input)
+    Ok(frames)
+}
+
+/// The frames of a folder's commands, and of a release behind them.
+fn input_of(alloc: Global, editor: u32, folder: &Folder) -> Result<String, AllocError> {
+    let mut texts = texts_of(alloc, folder)?;
+    texts.push(RELEASE)?;
+    frames_of(alloc, editor, &texts)
 }
 
 fn write_input<W: Write>(
@@ -48,7 +47,7 @@ fn write_input<W: Write>(
     folder: &Folder,
 ) -> Result<u8, EditorFault> {
     let input = input_of(alloc, editor, folder)?;
-    match out.write_all(&input) {
+    match out.write_all(input.as_bytes()) {
         Ok(()) => Ok(0),
         Err(_) => Err(EditorFault::Write),
     }

@@ -20,7 +20,7 @@ const FILES: &[(&str, &[u8], &str)] = &[
     (
         "partials/a.mustache",
         b"{{/x}}",
-        "partials/a.mustache:1:1: `{{/x}}` ends nothing: no section is open [5 Template 5 NoSection at 0]\n",
+        "partials/a.mustache:1:1: `{{/x}}` ends nothing: no section is open: take it away, or open one before it [5 Template 5 NoSection at 0]\n",
     ),
     (
         "partials/a.mustache",
@@ -30,7 +30,7 @@ const FILES: &[(&str, &[u8], &str)] = &[
     (
         "partials/a.mustache",
         b"{{}}",
-        "partials/a.mustache:1:1: the tag has no name [5 Template 2 EmptyName at 0]\n",
+        "partials/a.mustache:1:1: the tag has no name: write one into it, or take it away [5 Template 2 EmptyName at 0]\n",
     ),
     (
         "partials/a.mustache",
@@ -130,7 +130,7 @@ const FILES: &[(&str, &[u8], &str)] = &[
     (
         "redirects",
         b"/a\n/a b\n/a //b\n/@a /b\n/a /a\n/a /b c\n/a /c\n",
-        "redirects:1:1: a line is PATH TARGET, two words\nredirects:2:1: a path and its target begin with /, with neither /_ nor /@, have 200 bytes at most, and no blank; a target begins with one / alone\nredirects:3:1: a path and its target begin with /, with neither /_ nor /@, have 200 bytes at most, and no blank; a target begins with one / alone\nredirects:4:1: a path and its target begin with /, with neither /_ nor /@, have 200 bytes at most, and no blank; a target begins with one / alone\nredirects:6:1: a line is PATH TARGET, two words\nredirects:7:1: the redirect /a stands in line 5 already\nredirects:5:1: warning: no route of this folder has the path /a\nredirects:7:1: warning: no route of this folder has the path /c\n",
+        "redirects:1:1: a line is PATH TARGET, two words\nredirects:2:1: a path and its target begin with /, with neither /_ nor /@, have 200 bytes at most, and no blank; a target begins with one / alone\nredirects:3:1: a path and its target begin with /, with neither /_ nor /@, have 200 bytes at most, and no blank; a target begins with one / alone\nredirects:4:1: a path and its target begin with /, with neither /_ nor /@, have 200 bytes at most, and no blank; a target begins with one / alone\nredirects:6:1: a line is PATH TARGET, two words\nredirects:7:1: the redirect /a stands in line 5 already: take one of both away\nredirects:5:1: warning: no route of this folder has the path /a\nredirects:7:1: warning: no route of this folder has the path /c\n",
     ),
     (
         "removes",
@@ -178,13 +178,13 @@ const FAULTY: &[(&str, &[u8])] = &[
 ];
 
 const TOLD: &str =
-    "templates/t.mustache:1:1: `{{/x}}` ends nothing: no section is open [5 Template 5 NoSection at 0]
+    "templates/t.mustache:1:1: `{{/x}}` ends nothing: no section is open: take it away, or open one before it [5 Template 5 NoSection at 0]
 data/b.json:1:4: no JSON: the comma before this has to go [6 Data 1 NotJson]
-routes:4:1: the route / stands in line 1 already
-routes:2:1: there is no templates/u.mustache
-routes:3:1: there is no templates/u.mustache
-routes:4:1: there is no templates/u.mustache
-routes:4:1: there is no data/d.json
+routes:4:1: the route / stands in line 1 already: take one of both away
+routes:2:1: there is no templates/u.mustache: make it, or name another
+routes:3:1: there is no templates/u.mustache: make it, or name another
+routes:4:1: there is no templates/u.mustache: make it, or name another
+routes:4:1: there is no data/d.json: make it, or name another
 routes:3:1: warning: /a/ and /a are two paths, which readers take for one
 partials/q.mustache:1:1: warning: there is no partials/p.mustache, so nothing is printed here
 partials/q.mustache:2:8: warning: there is no partials/p.mustache, so nothing is printed here

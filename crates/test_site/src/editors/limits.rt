@@ -26,13 +26,19 @@ const ROUND: &[(&str, &[u8])] = &[
 const DEAR: &[(&str, &[u8])] = &[
     ("data/a.json", b"{\"x\":[1,2,3,4,5,6,7,8,9,10]}"),
     ("partials/endless.mustache", b"{{>endless}}"),
-    ("partials/p.mustache", b"{{#x}}{{#x}}{{#x}}{{.}}{{/x}}{{/x}}{{/x}}"),
+    (
+        "partials/p.mustache",
+        b"{{#x}}{{#x}}{{#x}}{{.}}{{/x}}{{/x}}{{/x}}",
+    ),
     ("routes", b"/ t a\n/p u a\n/x v a\n"),
     (
         "templates/t.mustache",
         b"{{#x}}{{#x}}{{#x}}{{#x}}{{#x}}{{#x}}{{.}}{{/x}}{{/x}}{{/x}}{{/x}}{{/x}}{{/x}}",
     ),
-    ("templates/u.mustache", b"{{#x}}{{#x}}{{#x}}{{>p}}{{/x}}{{/x}}{{/x}}"),
+    (
+        "templates/u.mustache",
+        b"{{#x}}{{#x}}{{#x}}{{>p}}{{/x}}{{/x}}{{/x}}",
+    ),
     ("templates/v.mustache", b"{{>p}}"),
 ];
 
