@@ -8,6 +8,9 @@ use std::process::Abort;
 /// Of each of three nodes the statuses for two tickets.
 type Codes = ((u16, u16), (u16, u16), (u16, u16));
 
+/// The newest release of each of three nodes, where it says so.
+type Newest = (Option<u64>, Option<u64>, Option<u64>);
+
 /// The last ticket; of each of three nodes the statuses for the last and for the next, 0 for silence; and how the ledger stands.
 const STANDINGS: &[(u64, Codes, Standing)] = &[
     (0, ((404, 404), (0, 0), (0, 0)), Standing::Newest),
@@ -38,23 +41,17 @@ fn witness(codes: (u16, u16), newest: Option<u64>) -> Witness {
 }
 
 /// Of nodes that show these releases, where the folder's last one is 4.
-fn stands_showing(
-    rt: &impl Abort,
-    last: u64,
-    nodes: Codes,
-    newest: [Option<u64>; 3],
-    wanted: Standing,
-) {
+fn stands_showing(rt: &impl Abort, last: u64, nodes: Codes, newest: Newest, wanted: Standing) {
     let witnesses = [
-        witness(nodes.0, newest[0]),
-        witness(nodes.1, newest[1]),
-        witness(nodes.2, newest[2]),
+        witness(nodes.0, newest.0),
+        witness(nodes.1, newest.1),
+        witness(nodes.2, newest.2),
     ];
     ensure(rt, standing_of(last, 4, &witnesses) == wanted, last);
 }
 
 fn stands(rt: &impl Abort, last: u64, nodes: Codes, wanted: Standing) {
-    stands_showing(rt, last, nodes, [None, Some(4), Some(5)], wanted);
+    stands_showing(rt, last, nodes, (None, Some(4), Some(5)), wanted);
 }
 
 #[test]
@@ -65,12 +62,12 @@ fn standings(rt: HostRuntime) {
 }
 
 /// The newest releases of three nodes that answer, where the folder's last one is 4, and none knows ticket 5; and how the ledger stands.
-const SHOWING: &[([Option<u64>; 3], Standing)] = &[
-    ([Some(0), Some(0), Some(0)], Standing::Returning),
-    ([Some(3), Some(0), Some(2)], Standing::Returning),
-    ([Some(3), Some(4), Some(2)], Standing::Elsewhere),
-    ([Some(9), Some(4), Some(7)], Standing::Elsewhere),
-    ([Some(3), None, Some(2)], Standing::Elsewhere),
+const SHOWING: &[(Newest, Standing)] = &[
+    ((Some(0), Some(0), Some(0)), Standing::Returning),
+    ((Some(3), Some(0), Some(2)), Standing::Returning),
+    ((Some(3), Some(4), Some(2)), Standing::Elsewhere),
+    ((Some(9), Some(4), Some(7)), Standing::Elsewhere),
+    ((Some(3), None, Some(2)), Standing::Elsewhere),
 ];
 
 #[test]
