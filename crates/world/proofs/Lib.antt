@@ -53,3 +53,6 @@ mod Batching
 mod BatchesOnDisk
 mod Senders
 mod BatchWorked
+pub mod Counting
+mod Together
+mod KeptWorked
