@@ -1,21 +1,41 @@
 -- What a node keeps of what it learned, proved.
-use Rattle.std.proofs.Common.{◌≡◌, ◌≢◌, ◌⊎◌, inl, inr, ⊎_elim, ℕ, Option, Some, None, [], ◌∷◌, refl, sym, ap, subst, ◌∙◌, arith}
+use Rattle.std.proofs.Common.{◌≡◌, ◌≢◌, ◌⊎◌, inl, inr, ⊎_elim, ℕ, ◌≤◌, length, Option, Some, None, [], ◌∷◌, refl, sym, ap, subst, ◌∙◌, arith}
 use Rattle.std.specs.Prelude.{nat_eq, true, false}
 use Rattle.std.proofs.lemmas.Bool.Decides.{nat_tests}
+use Rattle.site_ids.specs.declared.TheConstants.{MAX_VALUE}
 use Rattle.site_ids.specs.declared.value.Vote.{Vote}
 use Rattle.durable.specs.Entries.{Learned, learned_at, last_vote}
 use Rattle.durable.specs.Histories.{IsHistory}
 use Rattle.durable.proofs.Push.{learned_at-new, history-push}
 use Rattle.node.specs.Nodes.{Value, Node}
 use Rattle.node.specs.Effects.{Effect, quiet, recorded}
-use Rattle.node.specs.Calls.{KeepsOne, IsOwnVote, MayKeep}
+use Rattle.node.specs.Calls.{KeepsOne, IsVoteFor, IsOwnVote, IsUnkept, MayKeep}
 use Rattle.node.specs.Kept.{KeepLeavesNone, KnownIsOnRecord, KeepStaysHistory}
 
-no_such : {X : Type 0} (a : X) → ◌≡◌ {A = Option X} None (Some a) → ⊥
+pub no_such : {X : Type 0} (a : X) → ◌≡◌ {A = Option X} None (Some a) → ⊥
 no_such a e = cc
 
-inside : {X : Type 0} (a b : X) → Some a ≡ Some b → a ≡ b
+pub inside : {X : Type 0} (a b : X) → Some a ≡ Some b → a ≡ b
 inside a b e = cc
+
+-- what is not known isn't kept
+pub unknown_unkept : (s : Node) (i : ℕ) → s.known i ≡ None → ¬ MayKeep s i
+unknown_unkept s i unknown may = no_such may.0 (sym unknown ∙ may.1.known)
+
+-- ---- by what the record keeps in memory of the instance
+
+module _ (s : Node) (i : ℕ) (v : Value) (learned : Option Value) (vote : Option Vote) (learned_is : learned ≡ learned_at i s.entries) (vote_is : vote ≡ last_vote i s.entries) (known : s.known i ≡ Some v) where
+  -- what it lacks is kept
+  pub lacked : (learned ≡ None) × (¬ IsVoteFor vote v) × (length v ≤ MAX_VALUE) → IsUnkept s i v
+  lacked lacks = record { known = known; unlearned = sym learned_is ∙ lacks.0; unvoted = λ own. lacks.1 (own.0, vote_is ∙ own.1, own.2) }
+
+  -- and no more
+  pub not_lacked : length v ≤ MAX_VALUE → ¬ ((learned ≡ None) × (¬ IsVoteFor vote v) × (length v ≤ MAX_VALUE)) → ¬ MayKeep s i
+  not_lacked short has may =
+      let same : v ≡ may.0 = inside v may.0 (sym known ∙ may.1.known) in
+      has (learned_is ∙ may.1.unlearned, (λ own. may.1.unvoted (own.0, sym vote_is ∙ own.1, own.2 ∙ same)), short)
+
+-- ---- laws
 
 pub keep_leaves_none : KeepLeavesNone
 keep_leaves_none n p i s new out ends =

@@ -8,12 +8,13 @@ use site_disk::Disk;
 use site_ids::{Instance, Value};
 use std::alloc::AllocError;
 
-/// The value, by the bytes that a slot has of it where its vote is for that value, so that both are kept once.
-fn kept_by<'a>(slot: &'a Slot, value: &'a Value) -> &'a Value
+/// The value, by the bytes that a slot's vote or what was learned has of it, where that is this value, so that both are kept once.
+fn kept_by<'a>(slot: &'a Slot, learned: Option<&'a Value>, value: &'a Value) -> &'a Value
     ensures { result.now ≡ value.now }
 {
-    match &slot.vote {
-        Some(vote) if vote.value.as_bytes() == value.as_bytes() => &vote.value,
+    match (&slot.vote, learned) {
+        (Some(vote), _) if vote.value.as_bytes() == value.as_bytes() => &vote.value,
+        (_, Some(learned)) if learned.as_bytes() == value.as_bytes() => learned,
         _ => value,
     }
 }
@@ -32,7 +33,8 @@ impl<D: Disk> Node<D> {
         ensures same { (self.new.reached ≡ self.old.reached) × (self.new.store ≡ self.old.store) }
         ensures others { KeepsOthers self.old self.new }
     {
-        let value = kept_by(self.store.slot(instance), value).try_clone()?;
+        let slot = self.store.slot(instance);
+        let value = kept_by(slot, self.store.learned(instance), value).try_clone()?;
         let ticket = self.known.learn(self.alloc, instance, value)?;
         self.learner.forget(instance);
         self.proposer.abandon(instance);
