@@ -54,5 +54,5 @@ mod BatchesOnDisk
 mod Senders
 mod BatchWorked
 pub mod Counting
-mod Together
-mod KeptWorked
+pub mod Together
+pub mod KeptWorked
