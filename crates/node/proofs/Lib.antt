@@ -1,5 +1,5 @@
 pub mod Knowing
-pub mod Keeping
+pub mod KeptValues
 pub mod Sharing
 pub mod Windows
 pub mod OnRecord

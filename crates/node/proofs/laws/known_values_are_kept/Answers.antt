@@ -1,4 +1,4 @@
-use Rattle.node.proofs.Keeping.{keep_leaves_none, known_is_on_record, keep_stays_history}
+use Rattle.node.proofs.KeptValues.{keep_leaves_none, known_is_on_record, keep_stays_history}
 use Rattle.node.proofs.laws.known_values_are_kept.Goals as goal
 
 pub returns : goal.returns

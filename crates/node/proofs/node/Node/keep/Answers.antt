@@ -4,7 +4,7 @@ use Rattle.durable.specs.Slots.{slot_at, value_at}
 use Rattle.node.specs.Nodes.{Value, Node}
 use Rattle.node.specs.Calls.{keep as keeping}
 use Rattle.node.specs.Effects.{quiet}
-use Rattle.node.proofs.Keeping.{unknown_unkept, lacked, not_lacked}
+use Rattle.node.proofs.KeptValues.{unknown_unkept, lacked, not_lacked}
 use Rattle.node.proofs.Stepping.{is_up, same_store, stays_there, whole, refused_stopped, rest_with, put_record, put_stays, put_fails}
 use Rattle.node.proofs.DeviceCounts.{counts_none, counts_ok, counts_put}
 use Rattle.node.proofs.node.Node.keep.Goals as goal
