@@ -15,7 +15,7 @@ impl<D: Disk> Node<D> {
     /// Puts the value known at an instance on record as learned, if none is learned there on record and the node's own
     /// last vote there isn't for it. It raises nothing, and hands out nothing.
     ///
-    /// So nodes that start anew tell one another what a majority of them had learned, and nothing is decided again.
+    /// So nodes that start anew tell one another what one of them had learned, and it need not be decided again.
     pub fn keep(&mut self, instance: Instance) -> Result<(), NodeFault>
         ensures event { IsEvent D.stands_for self.old self.new (keeping instance) (ending_of result) [] [] }
         ensures counts { CountsDevice result (D.failed self.old.store.disk) (D.failed self.new.store.disk) }
