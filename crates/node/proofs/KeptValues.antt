@@ -1,8 +1,7 @@
 -- What a node keeps of what it learned, proved.
-use Rattle.std.proofs.Common.{◌≡◌, ◌≢◌, ◌⊎◌, inl, inr, ⊎_elim, ℕ, ◌≤◌, length, Option, Some, None, [], ◌∷◌, refl, sym, ap, subst, ◌∙◌, arith}
+use Rattle.std.proofs.Common.{◌≡◌, ◌≢◌, ◌⊎◌, inl, inr, ⊎_elim, ℕ, Option, Some, None, [], ◌∷◌, refl, sym, ap, subst, ◌∙◌, arith}
 use Rattle.std.specs.Prelude.{nat_eq, true, false}
 use Rattle.std.proofs.lemmas.Bool.Decides.{nat_tests}
-use Rattle.site_ids.specs.declared.TheConstants.{MAX_VALUE}
 use Rattle.site_ids.specs.declared.value.Vote.{Vote}
 use Rattle.durable.specs.Entries.{Learned, learned_at, last_vote}
 use Rattle.durable.specs.Histories.{IsHistory}
@@ -18,22 +17,23 @@ no_such a e = cc
 pub inside : {X : Type 0} (a b : X) → Some a ≡ Some b → a ≡ b
 inside a b e = cc
 
--- what is not known isn't kept
-pub unknown_unkept : (s : Node) (i : ℕ) → s.known i ≡ None → ¬ MayKeep s i
-unknown_unkept s i unknown may = no_such may.0 (sym unknown ∙ may.1.known)
+-- ---- by what is kept of the instance in memory
 
--- ---- by what the record keeps in memory of the instance
+module _ (s : Node) (i : ℕ) (v : Value) (known : s.known i ≡ Some v) where
+  -- what the record lacks is to be kept
+  pub lacked : (learned : Option Value) (vote : Option Vote) → learned ≡ learned_at i s.entries → vote ≡ last_vote i s.entries → learned ≡ None → ¬ IsVoteFor vote v → IsUnkept s i v
+  lacked learned vote learned_is vote_is none other = record { known = known; unlearned = sym learned_is ∙ none; unvoted = λ own. other (own.0, vote_is ∙ own.1, own.2) }
 
-module _ (s : Node) (i : ℕ) (v : Value) (learned : Option Value) (vote : Option Vote) (learned_is : learned ≡ learned_at i s.entries) (vote_is : vote ≡ last_vote i s.entries) (known : s.known i ≡ Some v) where
-  -- what it lacks is kept
-  pub lacked : (learned ≡ None) × (¬ IsVoteFor vote v) × (length v ≤ MAX_VALUE) → IsUnkept s i v
-  lacked lacks = record { known = known; unlearned = sym learned_is ∙ lacks.0; unvoted = λ own. lacks.1 (own.0, vote_is ∙ own.1, own.2) }
+  -- what it has isn't
+  pub not_learned : (learned : Option Value) → learned ≡ learned_at i s.entries → learned ≢ None → ¬ MayKeep s i
+  not_learned learned learned_is some may = some (learned_is ∙ may.1.unlearned)
 
-  -- and no more
-  pub not_lacked : length v ≤ MAX_VALUE → ¬ ((learned ≡ None) × (¬ IsVoteFor vote v) × (length v ≤ MAX_VALUE)) → ¬ MayKeep s i
-  not_lacked short has may =
-      let same : v ≡ may.0 = inside v may.0 (sym known ∙ may.1.known) in
-      has (learned_is ∙ may.1.unlearned, (λ own. may.1.unvoted (own.0, sym vote_is ∙ own.1, own.2 ∙ same)), short)
+  pub not_voted : (vote : Option Vote) → vote ≡ last_vote i s.entries → IsVoteFor vote v → ¬ MayKeep s i
+  not_voted vote vote_is own may = may.1.unvoted (own.0, sym vote_is ∙ own.1, own.2 ∙ inside v may.0 (sym known ∙ may.1.known))
+
+-- what is not known isn't
+pub not_known : (s : Node) (i : ℕ) → s.known i ≡ None → ¬ MayKeep s i
+not_known s i unknown may = no_such may.0 (sym unknown ∙ may.1.known)
 
 -- ---- laws
 

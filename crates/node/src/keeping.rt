@@ -1,16 +1,30 @@
 //! A value that is known goes on record as learned.
 
-ghost use Rattle.std.specs.Prelude.{◌≡◌, ◌↔◌, ◌≤◌, [], None, false, length};
+ghost use Rattle.std.specs.Prelude.{◌≡◌, ◌↔◌, ◌≤◌, [], None, IsTrue, IfOk, IfSome, OnErr, MatchOption, length};
 ghost use Rattle.site_ids.specs.declared.TheConstants.{MAX_VALUE as longest};
-ghost use Rattle.durable.specs.Slots.{slot_at, value_at};
+ghost use Rattle.durable.specs.Slots.{value_at};
+ghost use Rattle.node.specs.Calls.{IsVoteFor};
 
 use crate::{Node, NodeFault};
+use acceptor::Slot;
 use site_disk::Disk;
 use site_ids::{Instance, MAX_VALUE, Value};
+use std::alloc::AllocError;
+
+/// The last vote there is for the value.
+fn is_vote_for(slot: &Slot, value: &Value) -> bool
+    ensures { IsTrue result ↔ IsVoteFor slot.now.vote value.now }
+{
+    match &slot.vote {
+        Some(vote) => vote.value.as_bytes() == value.as_bytes(),
+        None => false,
+    }
+}
 
 impl<D: Disk> Node<D> {
-    ghost use Rattle.node.specs.Calls.{keep as keeping, IsVoteFor};
-    ghost use Rattle.node.specs.Standing.{IsEvent, KeepsOthers, CountsDevice, ending_of};
+    ghost use Rattle.node.specs.Nodes.{Node as AbstractNode};
+    ghost use Rattle.node.specs.Calls.{keep as keeping, IsUnkept, MayKeep};
+    ghost use Rattle.node.specs.Standing.{IsNodeOf, IsEvent, KeepsOthers, CountsDevice, ending_of};
 
     /// Puts the value known at an instance on record as learned, if none is learned there on record and the node's own
     /// last vote there isn't for it. It raises nothing, and hands out nothing.
@@ -24,27 +38,32 @@ impl<D: Disk> Node<D> {
         if self.store.is_stopped() {
             return Err(NodeFault::Stopped);
         }
-        let Some(value) = self.known.log.get(instance) else {
+        let Some(value) = self.unkept(instance)? else {
             return Ok(());
         };
-        if self.has_kept(instance, value) {
-            return Ok(());
-        }
-        self.store.put_learned(instance, value)?;
+        self.store.put_learned(instance, &value)?;
         Ok(())
     }
 
-    /// A value is learned at the instance on record, or the last vote there is for this one. One that is too long for an entry
-    /// counts as kept; none that is known is.
-    fn has_kept(&self, instance: Instance, value: &Value) -> bool
-        ensures { (result ≡ false) ↔ ((value_at self.now.store.recorded.slots instance ≡ None) × (¬ IsVoteFor (slot_at self.now.store.recorded.slots instance).vote value.now) × (length value.now ≤ longest)) }
+    /// A copy of the value that is to be kept at an instance, if there is one. A known value is never too long for an entry.
+    fn unkept(&self, instance: Instance) -> Result<Option<Value>, AllocError>
+        ensures unkept { IfOk result (λ value. (s : AbstractNode) → IsNodeOf self.now s → MatchOption value (¬ MayKeep s instance) (λ v. IsUnkept s instance v)) }
+        ensures new { IfOk result (λ value. IfSome value (λ v. value_at self.now.store.recorded.slots instance ≡ None)) }
+        ensures fits { IfOk result (λ value. IfSome value (λ v. length v ≤ longest)) }
+        ensures wanted { OnErr result ((s : AbstractNode) → IsNodeOf self.now s → MayKeep s instance) }
     {
-        if self.store.learned(instance).is_some() || MAX_VALUE < value.as_bytes().len() {
-            return true;
+        let Some(value) = self.known.log.get(instance) else {
+            return Ok(None);
+        };
+        if self.store.learned(instance).is_some() {
+            return Ok(None);
         }
-        match &self.store.slot(instance).vote {
-            Some(vote) => vote.value.as_bytes() == value.as_bytes(),
-            None => false,
+        if is_vote_for(self.store.slot(instance), value) {
+            return Ok(None);
         }
+        if MAX_VALUE < value.as_bytes().len() {
+            return Ok(None);
+        }
+        Ok(Some(value.try_clone()?))
     }
 }
