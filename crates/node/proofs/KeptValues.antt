@@ -25,8 +25,8 @@ module _ (s : Node) (i : ℕ) (v : Value) (known : s.known i ≡ Some v) where
   lacked learned vote learned_is vote_is none other = record { known = known; unlearned = sym learned_is ∙ none; unvoted = λ own. other (own.0, vote_is ∙ own.1, own.2) }
 
   -- what it has isn't
-  pub not_learned : (learned : Option Value) → learned ≡ learned_at i s.entries → learned ≢ None → ¬ MayKeep s i
-  not_learned learned learned_is some may = some (learned_is ∙ may.1.unlearned)
+  pub not_learned : (learned : Option Value) → learned ≡ learned_at i s.entries → (u : Value) × (learned ≡ Some u) → ¬ MayKeep s i
+  not_learned learned learned_is some may = no_such some.0 (sym may.1.unlearned ∙ sym learned_is ∙ some.1)
 
   pub not_voted : (vote : Option Vote) → vote ≡ last_vote i s.entries → IsVoteFor vote v → ¬ MayKeep s i
   not_voted vote vote_is own may = may.1.unvoted (own.0, sym vote_is ∙ own.1, own.2 ∙ inside v may.0 (sym known ∙ may.1.known))
