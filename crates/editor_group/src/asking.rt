@@ -167,7 +167,7 @@ pub(crate) fn unreached<N: Net<Stream = TcpStream>>(net: &N, node: &Address) -> 
 }
 
 /// The number that a node answers.
-fn number_in(answer: &NodeAnswer) -> Option<u64> {
+pub(crate) fn number_in(answer: &NodeAnswer) -> Option<u64> {
     if answer.status != 200 {
         return None;
     }

@@ -1,12 +1,12 @@
 //! Whether a ledger is the newest of its editor, as the group says.
 use crate::address::Address;
-use crate::asking::{ask, unreached};
+use crate::asking::{ask, number_in, unreached};
 use crate::group::Group;
 use crate::stop::stop;
 use editor_common::{EditorFault, now, passed, rest, say, say_made};
 use editor_http::{NodeAnswer, Question};
 use editor_ledger::Ledger;
-use editor_plan::{Standing, Told, Witness, last_ticket, standing_of, told_by};
+use editor_plan::{Standing, Told, Witness, last_shown, last_ticket, standing_of, told_by};
 use site_ids::Ticket;
 use std::alloc::{AllocError, Global};
 use std::io::Write;
@@ -17,12 +17,13 @@ use std::time::Instant;
 /// How many milliseconds lie between two times that all nodes are asked.
 const AGAIN: u64 = 500;
 
-/// An editor, the last ticket that has its receipt by a ledger, and the next one.
+/// An editor, the last ticket that has its receipt by a ledger, and the next one; and the newest release that the group has shown of the folder.
 #[derive(Clone, Copy)]
 struct Claim {
     editor: u32,
     last: u64,
     next: u64,
+    shown: u64,
 }
 
 fn claim_of(ledger: &Ledger) -> Claim {
@@ -30,6 +31,7 @@ fn claim_of(ledger: &Ledger) -> Claim {
         editor: ledger.editor(),
         last: last_ticket(ledger),
         next: ledger.next(),
+        shown: last_shown(ledger),
     }
 }
 
@@ -37,14 +39,19 @@ fn told(answer: Option<&NodeAnswer>) -> Told {
     told_by(answer.map(|answer| answer.status))
 }
 
-/// What a node says of two tickets.
+/// What a node says of two tickets, and which release it shows.
 fn witness<N: Net<Stream = TcpStream>>(
     net: &N,
     alloc: Global,
     node: &Address,
     claim: Claim,
 ) -> Result<Witness, AllocError> {
-    let Claim { editor, last, next } = claim;
+    let Claim {
+        editor,
+        last,
+        next,
+        ..
+    } = claim;
     let questions = [
         Question::Receipt(Ticket {
             editor,
@@ -54,15 +61,17 @@ fn witness<N: Net<Stream = TcpStream>>(
             editor,
             number: last,
         }),
+        Question::Newest,
     ];
     let answers = ask(net, alloc, node, &questions)?;
     Ok(Witness {
         next: told(answers.get(0)),
         last: told(answers.get(1)),
+        newest: answers.get(2).and_then(number_in),
     })
 }
 
-/// What each node says now of a ledger's last ticket and its next one.
+/// What each node says now of a ledger's last ticket and its next one, and shows.
 fn witnesses_now<N: Net<Stream = TcpStream>>(
     net: &N,
     alloc: Global,
@@ -77,8 +86,9 @@ fn witnesses_now<N: Net<Stream = TcpStream>>(
 }
 
 /// Which node is the first that confirms a ledger.
-fn confirming(last: u64, witnesses: &[Witness]) -> Option<usize> {
-    witnesses.iter().position(|witness| standing_of(last, &[*witness]) == Standing::Newest)
+fn confirming(claim: Claim, witnesses: &[Witness]) -> Option<usize> {
+    witnesses.iter().position(|witness| standing_of(claim.last, claim.shown, &[*witness])
+        == Standing::Newest)
 }
 
 /// Asks all nodes, and speaks to the first that confirms a ledger, if one does.
@@ -89,9 +99,9 @@ fn ask_group<N: Net<Stream = TcpStream>>(
     claim: Claim,
 ) -> Result<Standing, AllocError> {
     let witnesses = witnesses_now(net, alloc, group, claim)?;
-    let found = standing_of(claim.last, &witnesses);
+    let found = standing_of(claim.last, claim.shown, &witnesses);
     if found == Standing::Newest {
-        group.speak_to(confirming(claim.last, &witnesses));
+        group.speak_to(confirming(claim, &witnesses));
     }
     Ok(found)
 }
@@ -103,7 +113,12 @@ fn reason(
     claim: Claim,
     found: Standing,
 ) -> Result<String, AllocError> {
-    let Claim { editor, last, next } = claim;
+    let Claim {
+        editor,
+        last,
+        next,
+        shown,
+    } = claim;
     match found {
         Standing::Older => {
             format!(in alloc;
@@ -113,6 +128,11 @@ fn reason(
         Standing::Elsewhere => {
             format!(in alloc;
                 "{folder}/published: no node that answers knows ticket {last} of editor {editor}, so nothing was sent. Nodes that were down need a majority to learn what they had: see that one runs, and publish again. Where this is another group, remove the file to publish there as a new editor"
+            )
+        }
+        Standing::Returning => {
+            format!(in alloc;
+                "{folder}: the group is still coming back: its nodes show older releases than {shown}, which this folder made. Nothing was sent. See that a majority of its nodes runs (sitepub status), and publish again"
             )
         }
         Standing::Unanswered | Standing::Newest => {
@@ -155,6 +175,7 @@ fn tell_unanswered<N: Net<Stream = TcpStream>, E: Write>(
 /// What is told while it waits for a standing to change.
 fn waiting(found: Standing) -> &'static str {
     match found {
+        Standing::Returning => "the group is still coming back: waiting",
         Standing::Elsewhere => "no node knows the last ticket yet: waiting",
         _ => "no node answers: waiting",
     }

@@ -169,27 +169,50 @@ fn tell_all<W: Write>(
     Ok(well)
 }
 
+/// Writes that no node shows a folder's last release, where that is so of those that answer. Whether all is well is the answer.
+fn tell_returning<W: Write>(
+    alloc: Global,
+    out: &mut W,
+    last: u64,
+    shown: u64,
+) -> Result<bool, EditorFault> {
+    if last >= shown {
+        return Ok(true);
+    }
+    say_made(
+        out,
+        format!(in alloc;
+            "release {shown} of the folder is shown by no node: the group is still coming back, or is another one"
+        ),
+    )?;
+    Ok(false)
+}
+
 fn tell_nodes<R: Net<Stream = TcpStream> + Clock + AllocGlobal, W: Write>(
     rt: &R,
     out: &mut W,
     nodes: &[Address],
+    shown: u64,
 ) -> Result<bool, EditorFault> {
     let mut reports = reports_of(rt, nodes)?;
     let range = range_of(&reports);
     if range.common > 0 {
         ask_pages(rt, rt.alloc(), nodes, reports.as_mut_slice(), range.common)?;
     }
-    tell_all(rt.alloc(), out, nodes, &reports, range)
+    let well = tell_all(rt.alloc(), out, nodes, &reports, range)?;
+    Ok(tell_returning(rt.alloc(), out, range.last, shown)? && well)
 }
 
 /// Writes a table of nodes: URL, milliseconds to an answer, newest release, how many releases it is behind, and whether its start page in the newest
-/// release that all have is that of the others. Status 1 where one is silent, behind or differs.
+/// release that all have is that of the others. Status 1 where one is silent, behind or differs, or where no node shows a release that a folder made, 0 for
+/// none.
 pub fn tell_status<R: Net<Stream = TcpStream> + Clock + AllocGlobal, W: Write>(
     rt: &R,
     out: &mut W,
     urls: &[&str],
+    shown: u64,
 ) -> Result<u8, EditorFault> {
     let group = Group::of(rt.alloc(), urls)?;
-    let well = tell_nodes(rt, out, group.nodes())?;
+    let well = tell_nodes(rt, out, group.nodes(), shown)?;
     Ok(if well { 0 } else { 1 })
 }

@@ -54,8 +54,9 @@ pub enum Word<'a> {
     Log {
         folder: &'a str,
     },
-    /// Tells what each node says of itself.
+    /// Tells what each node says of itself, and whether the group shows what a folder made.
     Status {
+        folder: Option<&'a str>,
         urls: Vec<&'a str>,
     },
 }
@@ -242,12 +243,22 @@ fn log_word<'a>(alloc: Global) -> Result<Command<'a>, AllocError> {
     )
 }
 
+fn of_option<'a>(alloc: Global) -> Arg<'a> {
+    option(
+        alloc,
+        "of",
+        "FOLDER",
+        "A folder that was published there: status 1 too where no node shows its last release",
+    )
+}
+
 fn status_word<'a>(alloc: Global) -> Result<Command<'a>, AllocError> {
-    Command::new(alloc, "status")
+    let word = Command::new(alloc, "status")
         .about(
             "Tells of each node whether it answers, its newest release, and whether it shows the same; status 1 where one is silent, behind or differs",
         )
-        .arg(urls_argument(alloc).required(true))
+        .arg(urls_argument(alloc).required(true));
+    taking(word, of_option(alloc))
 }
 
 /// A command that has one word more, where both could be made.
@@ -362,6 +373,7 @@ fn word_of<'a>(
             folder: text(found, "folder"),
         },
         "status" => Word::Status {
+            folder: found.get_str("of"),
             urls: urls(alloc, found)?,
         },
         _ => return Ok(None),

@@ -1,12 +1,13 @@
 -- How a ledger stands to a group, by what nodes say.
-use Rattle.std.specs.Prelude.{ℕ, ◌-◌, ◌==◌, List, Bool, true, false, ◌&&◌, ◌||◌, if◌then◌else◌, Option, Some, None}
+use Rattle.std.specs.Prelude.{ℕ, ◌-◌, ◌==◌, List, length, slice_get, Bool, true, false, not, ◌&&◌, ◌||◌, nat_lt, if◌then◌else◌, Option, Some, None}
 use Rattle.std.specs.List.{list_any}
 use Rattle.editor_ledger.specs.Books.{Book}
 use Rattle.editor_ledger.specs.Steps.{is_idle}
+use Rattle.editor_ledger.specs.declared.released.Released.{Released}
 use Rattle.editor_plan.specs.declared.told.Told.{Told}
 use Rattle.editor_plan.specs.declared.told.Told.TheVariants.{Given, Unknown, Nothing}
 use Rattle.editor_plan.specs.declared.standing.Standing.{Standing}
-use Rattle.editor_plan.specs.declared.standing.Standing.TheVariants.{Newest, Older, Elsewhere, Unanswered}
+use Rattle.editor_plan.specs.declared.standing.Standing.TheVariants.{Newest, Older, Elsewhere, Returning, Unanswered}
 use Rattle.editor_plan.specs.declared.standing.Witness.{Witness}
 
 abbrev pub told_by : Option ℕ → Told
@@ -27,13 +28,31 @@ is_unknown Nothing = false
 abbrev pub last_ticket : Book → ℕ
 last_ticket book = if is_idle book then book.next - 1 else book.last_release
 
+abbrev release_of : Option Released → ℕ
+release_of None = 0
+release_of (Some released) = released.release
+
+-- the newest release that the group has shown of this folder, 0 for none
+abbrev pub last_shown : Book → ℕ
+last_shown book = release_of (slice_get book.log (length book.log - 1))
+
+-- the node shows an older release than that: it has not learned again what it had
+abbrev pub is_behind : ℕ → Option ℕ → Bool
+is_behind shown None = false
+is_behind shown (Some newest) = nat_lt newest shown
+
 -- the node knows the last ticket, where there is one, and not the next
 abbrev pub confirms : ℕ → Witness → Bool
 confirms last w = is_unknown w.next && (last == 0 || is_given w.last)
 
--- newest is what a node confirms, and no node knows more
-abbrev pub standing_of : ℕ → List Witness → Standing
-standing_of last ws =
+-- the node answers, and is not behind
+abbrev pub is_elsewhere : ℕ → Witness → Bool
+is_elsewhere shown w = is_unknown w.next && not (is_behind shown w.newest)
+
+-- newest is what a node confirms, and no node knows more; where all that answer are behind, the group is still coming back
+abbrev pub standing_of : ℕ → ℕ → List Witness → Standing
+standing_of last shown ws =
     if list_any (λ w. is_given w.next) ws then Older
     else (if list_any (confirms last) ws then Newest
-    else (if list_any (λ w. is_unknown w.next) ws then Elsewhere else Unanswered))
+    else (if list_any (is_elsewhere shown) ws then Elsewhere
+    else (if list_any (λ w. is_unknown w.next) ws then Returning else Unanswered)))

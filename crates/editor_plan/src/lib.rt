@@ -1,6 +1,6 @@
 //! The decisions of a publication: whether a file of publications is the newest, what is planned and sent next, and what an answer means.
 //!
-//! `standing.rt` judges a ledger by what nodes say of two tickets. `course.rt` plans: first the commands, then their release. `flight.rt` says what is
+//! `standing.rt` judges a ledger by what nodes say of two tickets and show. `course.rt` plans: first the commands, then their release. `flight.rt` says what is
 //! asked of a node next, and hears its answers: the ledger moves by receipts alone. `delivery_clock.rt` says how long a
 //! node is stayed with and waited for. `laws.rt` says what follows, for every interruption and
 //! continuation. Nothing here sends, waits or saves: `editor_group` and `editor_publish` do, and save a plan before any of it is sent.
@@ -17,5 +17,5 @@ pub use course::{Stage, advance};
 pub use delivery_clock::{Came, DeliveryClock, LONGEST_REST, Step};
 pub use flight::{Ask, Flight, Heard};
 pub use laws::{done_is_the_folder, tickets_have_one_text};
-pub use standing::{Standing, Witness, last_ticket, standing_of};
+pub use standing::{Standing, Witness, last_shown, last_ticket, standing_of};
 pub use told::{Told, told_by};

@@ -1,8 +1,10 @@
 //! What the words do.
 use clap::error::ErrorKind;
 use editor_common::EditorFault;
+use editor_files::read_ledger;
 use editor_group::tell_status;
 use editor_options::{Word, word_in};
+use editor_plan::last_shown;
 use editor_preview::preview;
 use editor_publish::{Publishing, publish};
 use editor_words::{begin, check, export, frame, tell_log};
@@ -26,6 +28,20 @@ const VERSION: &str = "sitepub 1.0";
 fn tell<W: Write, L: Display>(out: &mut W, line: &L, status: u8) -> u8 {
     let _ = writeln!(out, "{line}");
     status
+}
+
+/// The last release of a folder, by its ledger; 0 for none.
+fn last_release_of<R: Files + AllocGlobal>(
+    rt: &R,
+    folder: Option<&str>,
+) -> Result<u64, EditorFault> {
+    let Some(folder) = folder else {
+        return Ok(0);
+    };
+    match read_ledger(rt, folder)? {
+        Some(ledger) => Ok(last_shown(&ledger)),
+        None => Ok(0),
+    }
 }
 
 /// Does what a word says.
@@ -79,7 +95,12 @@ fn done<
             ignore,
         } => preview(rt, out, folder, http, ignore),
         Word::Log { folder } => tell_log(rt, out, err, folder),
-        Word::Status { ref urls } => tell_status(rt, out, urls),
+        Word::Status { folder, ref urls } => tell_status(
+            rt,
+            out,
+            urls,
+            last_release_of(rt, folder)?,
+        ),
     }
 }
 

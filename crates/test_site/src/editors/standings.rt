@@ -1,7 +1,7 @@
 //! How a ledger stands to a group, by what nodes answer.
 use crate::comparing::ensure;
 use editor_ledger::Ledger;
-use editor_plan::{Standing, Witness, last_ticket, standing_of, told_by};
+use editor_plan::{Standing, Witness, last_shown, last_ticket, standing_of, told_by};
 use std::alloc::Global;
 use std::process::Abort;
 
@@ -29,16 +29,32 @@ fn status(code: u16) -> Option<u16> {
     if code == 0 { None } else { Some(code) }
 }
 
-fn witness(codes: (u16, u16)) -> Witness {
+fn witness(codes: (u16, u16), newest: Option<u64>) -> Witness {
     Witness {
         last: told_by(status(codes.0)),
         next: told_by(status(codes.1)),
+        newest,
     }
 }
 
+/// Of nodes that show these releases, where the folder's last one is 4.
+fn stands_showing(
+    rt: &impl Abort,
+    last: u64,
+    nodes: Codes,
+    newest: [Option<u64>; 3],
+    wanted: Standing,
+) {
+    let witnesses = [
+        witness(nodes.0, newest[0]),
+        witness(nodes.1, newest[1]),
+        witness(nodes.2, newest[2]),
+    ];
+    ensure(rt, standing_of(last, 4, &witnesses) == wanted, last);
+}
+
 fn stands(rt: &impl Abort, last: u64, nodes: Codes, wanted: Standing) {
-    let witnesses = [witness(nodes.0), witness(nodes.1), witness(nodes.2)];
-    ensure(rt, standing_of(last, &witnesses) == wanted, last);
+    stands_showing(rt, last, nodes, [None, Some(4), Some(5)], wanted);
 }
 
 #[test]
@@ -48,24 +64,48 @@ fn standings(rt: HostRuntime) {
     }
 }
 
-/// The file of a ledger, and the ticket whose receipt has to stand.
-const LAST: &[(&str, u64)] = &[
-    ("published 2\neditor 7\nnext 1\nlast_release 0\n", 0),
-    ("published 2\neditor 7\nnext 9\nlast_release 8\n", 8),
-    ("published 2\neditor 7\nnext 10\nlast_release 8\n", 9),
+/// The newest releases of three nodes that answer, where the folder's last one is 4, and none knows ticket 5; and how the ledger stands.
+const SHOWING: &[([Option<u64>; 3], Standing)] = &[
+    ([Some(0), Some(0), Some(0)], Standing::Returning),
+    ([Some(3), Some(0), Some(2)], Standing::Returning),
+    ([Some(3), Some(4), Some(2)], Standing::Elsewhere),
+    ([Some(9), Some(4), Some(7)], Standing::Elsewhere),
+    ([Some(3), None, Some(2)], Standing::Elsewhere),
+];
+
+#[test]
+fn nodes_that_are_behind(rt: HostRuntime) {
+    let unknown = ((404, 404), (404, 404), (404, 404));
+    for &(newest, wanted) in SHOWING {
+        stands_showing(&rt, 5, unknown, newest, wanted);
+    }
+}
+
+/// The file of a ledger, the ticket whose receipt has to stand, and the last release that was shown.
+const LAST: &[(&str, u64, u64)] = &[
+    ("published 2\neditor 7\nnext 1\nlast_release 0\n", 0, 0),
+    ("published 2\neditor 7\nnext 9\nlast_release 8\n", 8, 0),
+    ("published 2\neditor 7\nnext 10\nlast_release 8\n", 9, 0),
     (
         "published 2\neditor 7\nnext 10\nlast_release 8\nsent 9 8\nrelease\n\n",
         8,
+        0,
+    ),
+    (
+        "published 2\neditor 7\nnext 9\nlast_release 8\nreleased 3 1700000000 5\nreleased 11 1700000009 2\n",
+        8,
+        11,
     ),
 ];
 
-fn last_of(rt: &impl Abort, alloc: Global, file: &str) -> u64 {
-    last_ticket(&Ledger::read(alloc, file).expect(rt, "a ledger"))
+fn last_of(rt: &impl Abort, alloc: Global, file: &str) -> (u64, u64) {
+    let ledger = Ledger::read(alloc, file).expect(rt, "a ledger");
+    (last_ticket(&ledger), last_shown(&ledger))
 }
 
 #[test]
 fn last(rt: HostRuntime) {
-    for &(file, wanted) in LAST {
-        ensure(&rt, last_of(&rt, rt.alloc(), file) == wanted, file);
+    for &(file, last, shown) in LAST {
+        ensure(&rt, last_of(&rt, rt.alloc(), file) == (last, shown), file);
     }
 }
