@@ -1,6 +1,6 @@
 //! The clients of a server.
 
-ghost use Rattle.std.specs.Prelude.{◌≤◌, ◌<◌, ℕ, length, vec_len, IfOk, IfSome, OnOk};
+ghost use Rattle.std.specs.Prelude.{◌≡◌, [], ◌≤◌, ◌<◌, ℕ, length, vec_len, IfOk, IfSome, OnOk};
 ghost use Rattle.http_serve.specs.Services.{MaySubmitMany};
 ghost use Rattle.server_clients.specs.Answering.{AreAnswered, TellsAnswered};
 ghost use Rattle.server_clients.specs.Served.{offered};
@@ -29,7 +29,9 @@ pub struct Seats<S> {
 
 impl<S: Drop> Seats<S> {
     /// Nobody came yet.
-    pub fn new(alloc: Global, times: Times) -> Seats<S> {
+    pub fn new(alloc: Global, times: Times) -> Seats<S>
+        ensures { (result.seats.items ≡ []) × (result.times ≡ times) }
+    {
         Seats {
             alloc,
             times,
