@@ -1,9 +1,12 @@
 //! The clients of a server.
 
-ghost use Rattle.std.specs.Prelude.{◌≡◌, [], ◌≤◌, ◌<◌, ℕ, length, vec_len, IfOk, IfSome, OnOk};
+ghost use Rattle.std.specs.Prelude.{◌≡◌, ◌⊎◌, ◌↔◌, [], ◌≤◌, ◌<◌, ℕ, Bool, length, get_or, vec_len, IfOk, IsTrue, MatchOption, OnErr, OnOk};
 ghost use Rattle.http_serve.specs.Services.{MaySubmitMany};
 ghost use Rattle.server_clients.specs.Answering.{AreAnswered, TellsAnswered};
+ghost use Rattle.server_clients.specs.Moving.{AreDone, IsReadOnce, IsWrittenOnce};
+ghost use Rattle.server_clients.specs.Seating.{IsAdmitted, IsFirstToGo, Leaves, MakesRoom, MayGo};
 ghost use Rattle.server_clients.specs.Served.{offered};
+ghost use Rattle.server_clients.specs.declared.seat.Seat.{Seat as AbstractSeat};
 
 use crate::seat::Seat;
 use crate::served::Served;
@@ -41,13 +44,15 @@ impl<S: Drop> Seats<S> {
     }
 
     /// How many clients are there.
-    pub fn len(&self) -> usize {
+    pub fn len(&self) -> usize
+        ensures { result ≡ length self.now.seats.items }
+    {
         self.seats.len()
     }
 
     /// The seat of the client that was silent longest and is owed nothing.
     fn first_to_go(&self) -> Option<usize>
-        ensures { IfSome result (λ i. i < vec_len self.now.seats) }
+        ensures { MatchOption result ((i : ℕ) → i < length self.now.seats.items → (none : AbstractSeat S) → ¬ (MayGo (get_or self.now.seats.items i none))) (IsFirstToGo self.now.seats.items) }
     {
         let mut first = None;
         let mut least = u64::MAX;
@@ -63,7 +68,10 @@ impl<S: Drop> Seats<S> {
     }
 
     /// The stream of the client that goes for another one, where all seats are taken: whoever was silent longest, unless a response is owed to it.
-    pub fn make_room(&mut self) -> Option<S> {
+    pub fn make_room(&mut self) -> Option<S>
+        ensures room { MakesRoom self.old.seats.items self.new.seats.items result }
+        ensures same { self.new ≡ record self.old { seats = self.new.seats } }
+    {
         if self.seats.len() < SEATS {
             return None;
         }
@@ -72,12 +80,18 @@ impl<S: Drop> Seats<S> {
     }
 
     /// Whether a client may be seated, perhaps for another one.
-    pub fn has_room(&self) -> bool {
+    pub fn has_room(&self) -> bool
+        ensures { IsTrue result ↔ ((length self.now.seats.items < 64) ⊎ ((i : ℕ) × IsFirstToGo self.now.seats.items i)) }
+    {
         self.seats.len() < SEATS || self.first_to_go().is_some()
     }
 
     /// A client takes a seat, where one is free. Otherwise its stream is given back.
-    pub fn admit(&mut self, stream: S, now: u64) -> Result<Option<S>, AllocError> {
+    pub fn admit(&mut self, stream: S, now: u64) -> Result<Option<S>, AllocError>
+        ensures admitted { IfOk result (IsAdmitted stream now self.old.seats.items self.new.seats.items) }
+        ensures memory { OnErr result (self.new.seats.items ≡ self.old.seats.items) }
+        ensures same { self.new ≡ record self.old { seats = self.new.seats } }
+    {
         if self.seats.len() >= SEATS {
             return Ok(Some(stream));
         }
@@ -86,7 +100,10 @@ impl<S: Drop> Seats<S> {
     }
 
     /// The stream of a client whose connection is to be closed, if there is one.
-    pub fn leave(&mut self, now: u64) -> Option<S> {
+    pub fn leave(&mut self, now: u64) -> Option<S>
+        ensures leaves { Leaves self.old.times now self.old.seats.items self.new.seats.items result }
+        ensures same { self.new ≡ record self.old { seats = self.new.seats } }
+    {
         let mut i = 0;
         while i < self.seats.len() {
             if self.seats[i].is_over(self.times, now) {
@@ -121,7 +138,11 @@ impl<S: Drop> Seats<S> {
 
 impl<S: Read + Drop> Seats<S> {
     /// Reads once from each client: whether anything came.
-    pub fn read_each(&mut self, now: u64) -> Result<bool, AllocError> {
+    pub fn read_each(&mut self, now: u64) -> Result<bool, AllocError>
+        ensures read { IfOk result (λ came. AreDone (IsReadOnce S.remaining now) (length self.old.seats.items) came self.old.seats.items self.new.seats.items) }
+        ensures memory { OnErr result ((k : ℕ) × (came : Bool) × (k < length self.old.seats.items) × AreDone (IsReadOnce S.remaining now) k came self.old.seats.items self.new.seats.items) }
+        ensures same { self.new ≡ record self.old { seats = self.new.seats } }
+    {
         let mut came = false;
         let mut i = 0;
         while i < self.seats.len() {
@@ -134,7 +155,10 @@ impl<S: Read + Drop> Seats<S> {
 
 impl<S: Write + Drop> Seats<S> {
     /// Writes once to each client that is owed something: whether anything went.
-    pub fn write_each(&mut self, now: u64) -> bool {
+    pub fn write_each(&mut self, now: u64) -> bool
+        ensures written { AreDone (IsWrittenOnce S.contents now) (length self.old.seats.items) result self.old.seats.items self.new.seats.items }
+        ensures same { self.new ≡ record self.old { seats = self.new.seats } }
+    {
         let mut went = false;
         let mut i = 0;
         while i < self.seats.len() {

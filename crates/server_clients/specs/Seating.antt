@@ -1,0 +1,61 @@
+-- Who takes a seat, who leaves, and who goes for another. Moments are milliseconds since the server began.
+use Rattle.std.specs.Prelude.{◌≡◌, ◌⊎◌, ◌<◌, ◌≤◌, ◌-◌, ℕ, List, [], ◌∷◌, ◌++◌, length, get_or, swap_remove, Option, Some, None}
+use Rattle.http_read.specs.Counted.{inside}
+use Rattle.http_serve.specs.ConnectionSteps.{owed, IsNew, IsDone}
+use Rattle.server_times.specs.declared.times.Times.{Times}
+use Rattle.server_clients.specs.Staying.{IsTooLong}
+use Rattle.server_clients.specs.declared.seat.Seat.{Seat}
+use Rattle.server_clients.specs.declared.stay.Stay.{Stay}
+
+-- a client that has just come, by this stream
+pub record IsFresh {T : Type 0} (stream : T) (now : ℕ) (seat : Seat T) : Type 0 where
+  pub stream_is : inside seat.stream ≡ stream
+  pub new : IsNew seat.connection
+  pub moved : seat.moved ≡ now
+  pub came : seat.came ≡ now
+  pub begun : seat.begun ≡ None
+
+-- what it does, and for how long
+abbrev busy_of : ℕ → Option ℕ → Option ℕ
+busy_of now None = None
+busy_of now (Some begun) = Some (now - begun)
+
+abbrev pub stay_of : {T : Type 0} → ℕ → Seat T → Stay
+stay_of now seat = record { still = now - seat.moved; busy = busy_of now seat.begun }
+
+-- it is to be closed: its connection is done, or it stays too long
+abbrev pub IsLeaving : {T : Type 0} → Times → ℕ → Seat T → Type 0
+IsLeaving times now seat = IsDone seat.connection ⊎ IsTooLong (stay_of now seat) times
+
+-- it may go for another client: it is owed nothing
+abbrev pub MayGo : {T : Type 0} → Seat T → Type 0
+MayGo seat = length (owed seat.connection) ≡ 0
+
+-- the seat that goes first: it may go, none that may was silent for longer, and it is the first of these
+pub record IsFirstToGo {T : Type 0} (seats : List (Seat T)) (i : ℕ) : Type 0 where
+  pub below : i < length seats
+  pub may : (none : Seat T) → MayGo (get_or seats i none)
+  pub longest : (j : ℕ) → j < length seats → (none : Seat T) → MayGo (get_or seats j none) → (get_or seats i none).moved ≤ (get_or seats j none).moved
+
+-- seat i is given up, and its stream handed out: the last seat takes its place
+pub record HandsOut {T : Type 0} (old new : List (Seat T)) (i : ℕ) (stream : T) : Type 0 where
+  pub seat : Seat T
+  pub is : get_or old i seat ≡ seat
+  pub stream_is : stream ≡ inside seat.stream
+  pub left : new ≡ swap_remove old i seat
+
+-- A client takes a seat where one is free: the last one. Otherwise its stream is given back
+abbrev pub IsAdmitted : {T : Type 0} → T → ℕ → List (Seat T) → List (Seat T) → Option T → Type 0
+IsAdmitted {T} stream now old new None = (length old < 64) × (seat : Seat T) × IsFresh stream now seat × (new ≡ old ++ seat ∷ [])
+IsAdmitted stream now old new (Some back) = (64 ≤ length old) × (back ≡ stream) × (new ≡ old)
+
+-- Where all seats are taken, the one that goes first is given up; nobody goes where one is free, or where all are owed something
+abbrev pub MakesRoom : {T : Type 0} → List (Seat T) → List (Seat T) → Option T → Type 0
+MakesRoom old new (Some stream) = (64 ≤ length old) × (i : ℕ) × IsFirstToGo old i × HandsOut old new i stream
+MakesRoom {T} old new None = (new ≡ old) × ((length old < 64) ⊎ ((i : ℕ) → i < length old → (none : Seat T) → ¬ (MayGo (get_or old i none))))
+
+-- The first seat that is to be closed is given up; none is where none is to be closed
+abbrev pub Leaves : {T : Type 0} → Times → ℕ → List (Seat T) → List (Seat T) → Option T → Type 0
+Leaves {T} times now old new (Some stream) = (i : ℕ) × (i < length old) × ((none : Seat T) → IsLeaving times now (get_or old i none))
+    × ((j : ℕ) → j < i → (none : Seat T) → ¬ (IsLeaving times now (get_or old j none))) × HandsOut old new i stream
+Leaves {T} times now old new None = (new ≡ old) × ((i : ℕ) → i < length old → (none : Seat T) → ¬ (IsLeaving times now (get_or old i none)))
