@@ -1,5 +1,5 @@
 -- Who takes a seat, who leaves, and who goes for another. Moments are milliseconds since the server began.
-use Rattle.std.specs.Prelude.{◌≡◌, ◌⊎◌, ◌<◌, ◌≤◌, ◌-◌, ℕ, List, [], ◌∷◌, ◌++◌, length, get_or, swap_remove, Option, Some, None}
+use Rattle.std.specs.Prelude.{◌≡◌, ◌⊎◌, ◌<◌, ◌≤◌, ◌-◌, ℕ, List, [], ◌∷◌, ◌++◌, length, get_or, swap_remove, nat_le, if◌then◌else◌, Option, Some, None}
 use Rattle.http_read.specs.Counted.{inside}
 use Rattle.http_serve.specs.ConnectionSteps.{owed, IsNew, IsDone}
 use Rattle.server_times.specs.declared.times.Times.{Times}
@@ -30,6 +30,12 @@ IsLeaving times now seat = IsDone seat.connection ⊎ IsTooLong (stay_of now sea
 -- it may go for another client: it is owed nothing
 abbrev pub MayGo : {T : Type 0} → Seat T → Type 0
 MayGo seat = length (owed seat.connection) ≡ 0
+
+-- of a seat found so far, with the moment since when it was silent, and the next one, whichever was silent for longer; of two the one found
+abbrev pub earlier : Option (ℕ × ℕ) → ℕ → Option ℕ → Option (ℕ × ℕ)
+earlier found i None = found
+earlier None i (Some since) = Some (i, since)
+earlier (Some (at, least)) i (Some since) = if nat_le least since then Some (at, least) else Some (i, since)
 
 -- the seat that goes first: it may go, none that may was silent for longer, and it is the first of these
 pub record IsFirstToGo {T : Type 0} (seats : List (Seat T)) (i : ℕ) : Type 0 where

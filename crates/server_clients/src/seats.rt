@@ -4,7 +4,7 @@ ghost use Rattle.std.specs.Prelude.{◌≡◌, ◌⊎◌, ◌↔◌, [], ◌≤�
 ghost use Rattle.http_serve.specs.Services.{MaySubmitMany};
 ghost use Rattle.server_clients.specs.Answering.{AreAnswered, TellsAnswered};
 ghost use Rattle.server_clients.specs.Moving.{AreDone, IsReadOnce, IsWrittenOnce};
-ghost use Rattle.server_clients.specs.Seating.{IsAdmitted, IsFirstToGo, Leaves, MakesRoom, MayGo};
+ghost use Rattle.server_clients.specs.Seating.{earlier, IsAdmitted, IsFirstToGo, Leaves, MakesRoom, MayGo};
 ghost use Rattle.server_clients.specs.Served.{offered};
 ghost use Rattle.server_clients.specs.declared.seat.Seat.{Seat as AbstractSeat};
 
@@ -28,6 +28,17 @@ pub struct Seats<S> {
     // room to read heads, for all of them
     spans: Vec<HeaderSpan>,
     ghost within: { vec_len seats ≤ 64 },
+}
+
+/// Of a seat found so far, with the moment since when it was silent, and the next one, whichever was silent for longer; of two the one found.
+fn earlier(found: Option<(usize, u64)>, i: usize, since: Option<u64>) -> Option<(usize, u64)>
+    ensures { result ≡ earlier found i since }
+{
+    match (found, since) {
+        (Some((at, least)), Some(since)) if least <= since => Some((at, least)),
+        (_, Some(since)) => Some((i, since)),
+        (found, None) => found,
+    }
 }
 
 impl<S: Drop> Seats<S> {
@@ -55,16 +66,16 @@ impl<S: Drop> Seats<S> {
         ensures { MatchOption result ((i : ℕ) → i < length self.now.seats.items → (none : AbstractSeat S) → ¬ (MayGo (get_or self.now.seats.items i none))) (IsFirstToGo self.now.seats.items) }
     {
         let mut first = None;
-        let mut least = u64::MAX;
-        for (i, seat) in self.seats.iter().enumerate() {
-            if let Some(since) = seat.idle_since() {
-                if since < least {
-                    least = since;
-                    first = Some(i);
-                }
-            }
+        let mut i = 0;
+        while i < self.seats.len() {
+            let since = self.seats[i].idle_since();
+            first = earlier(first, i, since);
+            i += 1;
         }
-        first
+        match first {
+            Some((at, _)) => Some(at),
+            None => None,
+        }
     }
 
     /// The stream of the client that goes for another one, where all seats are taken: whoever was silent longest, unless a response is owed to it.
@@ -146,7 +157,8 @@ impl<S: Read + Drop> Seats<S> {
         let mut came = false;
         let mut i = 0;
         while i < self.seats.len() {
-            came |= self.seats[i].read(now)?;
+            let one = &mut self.seats[i];
+            came |= one.read(now)?;
             i += 1;
         }
         Ok(came)
@@ -162,7 +174,8 @@ impl<S: Write + Drop> Seats<S> {
         let mut went = false;
         let mut i = 0;
         while i < self.seats.len() {
-            went |= self.seats[i].write(now);
+            let one = &mut self.seats[i];
+            went |= one.write(now);
             i += 1;
         }
         went
