@@ -1,6 +1,6 @@
 -- Which seat goes first, of the first k seats.
 use Rattle.std.proofs.Common.{◌≡◌, ◌≢◌, ◌⊎◌, ◌+◌, ◌≤◌, ◌<◌, ℕ, Bool, true, false, List, length, get_or, inl, inr, arith, below_more, refl, sym, subst, absurd, ◌∙◌}
-use Rattle.std.specs.Prelude.{Option, Some, None, nat_le, if◌then◌else◌}
+use Rattle.std.specs.Prelude.{Option, Some, None, MatchOption, nat_le, if◌then◌else◌}
 use Rattle.std.proofs.lemmas.Bool.Decides.{leb_tells}
 use Rattle.server_clients.specs.Seating.{earlier, IsFirstToGo, MayGo}
 use Rattle.server_clients.specs.declared.seat.Seat.{Seat}
@@ -14,8 +14,7 @@ module _ {T : Type 0} (seats : List (Seat T)) where
 
   -- what the next one says of itself
   abbrev pub SaysIdle : Seat T → Option ℕ → Type 0
-  SaysIdle x None = ¬ (MayGo x)
-  SaysIdle x (Some since) = MayGo x × (since ≡ x.moved)
+  SaysIdle x since = MatchOption since (¬ (MayGo x)) (λ s. MayGo x × (s ≡ x.moved))
 
   later : (k at least since : ℕ) (x : Seat T) → ((none : Seat T) → get_or seats k none ≡ x) → IsFirstOf k (Some (at, least)) → MayGo x → since ≡ x.moved → (b : Bool) → nat_le least since ≡ b
       → IsFirstOf (k + 1) (if b then Some (at, least) else Some (k, since))
