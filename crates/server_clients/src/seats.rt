@@ -34,10 +34,18 @@ pub struct Seats<S> {
 fn earlier(found: Option<(usize, u64)>, i: usize, since: Option<u64>) -> Option<(usize, u64)>
     ensures { result ≡ earlier found i since }
 {
-    match (found, since) {
-        (Some((at, least)), Some(since)) if least <= since => Some((at, least)),
-        (_, Some(since)) => Some((i, since)),
-        (found, None) => found,
+    let Some(since) = since else {
+        return found;
+    };
+    match found {
+        Some((at, least)) => {
+            if least <= since {
+                Some((at, least))
+            } else {
+                Some((i, since))
+            }
+        }
+        None => Some((i, since)),
     }
 }
 
