@@ -49,6 +49,32 @@ url() { echo "http://${http[$1 - 1]}"; }
 # where a node finds the nodes, itself among them: P
 peers_of() { echo "${udp[@]}"; }
 
+# from now on each node finds the others behind a bad or long network (relay.c): N SEED LOSS REPEAT DELAY [WAY]
+start_relay() {
+    local p q n=$1
+    shift
+    by=()
+    for ((p = 1; p <= n; p++)); do for ((q = 1; q <= n; q++)); do by+=("$(free_port)"); done; done
+    # node P sends to node Q by a port of the relay
+    peers_of() {
+        local q
+        for ((q = 1; q <= ${#udp[@]}; q++)); do if [ "$q" = "$1" ]; then echo "${udp[q - 1]}"; else echo "127.0.0.1:${by[($1 - 1) * ${#udp[@]} + q - 1]}"; fi; done
+    }
+    for ((p = 1; p <= n; p++)); do
+        for ((q = 1; q <= n; q++)); do [ "$p" = "$q" ] || echo "${by[(p - 1) * n + q - 1]} ${udp[q - 1]##*:}"; done
+    done > "$group/pairs"
+    cc -O2 -o "$group/relay" tools/parts/relay.c
+    "$group/relay" "$@" < "$group/pairs" > "$group/relayed" &
+    relay=$!
+}
+
+# within ten seconds the network says that it is ready
+is_relayed() {
+    local k
+    for ((k = 0; k < 100; k++)); do if grep -qs '^ready' "$group/relayed"; then return 0; fi; sleep 0.1; done
+    return 1
+}
+
 # the number of a node's process: P
 process() { cat "$group/$1.pid"; }
 

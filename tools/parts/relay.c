@@ -1,6 +1,6 @@
-/* A bad network between UDP sockets on loopback: `relay SEED LOSS REPEAT DELAY < pairs`, each line of standard input `FROM TO`, two ports.
-   What comes in at port FROM goes out to port TO: LOSS of 100 datagrams not at all, REPEAT of 100 twice, and each after 0 to DELAY milliseconds, so
-   that datagrams overtake one another. It prints `ready`, and runs until SIGTERM; then it prints how many came, were lost, repeated and sent. */
+/* A bad or long network between UDP sockets on loopback: `relay SEED LOSS REPEAT DELAY [WAY] < pairs`, each line of standard input `FROM TO`, two ports.
+   What comes in at port FROM goes out to port TO: LOSS of 100 datagrams not at all, REPEAT of 100 twice, and each after WAY milliseconds, if any, and 0 to
+   DELAY more, so that datagrams overtake one another. It prints `ready`, and runs until SIGTERM; then it prints how many came, were lost, repeated and sent. */
 #include <arpa/inet.h>
 #include <poll.h>
 #include <signal.h>
@@ -42,8 +42,8 @@ static uint64_t random_below(uint64_t below) {
 
 static void swap(int a, int b) { struct datagram d = heap[a]; heap[a] = heap[b]; heap[b] = d; }
 
-static void put(int pair, const char *bytes, size_t length, int delay) {
-    struct datagram d = {now() + random_below(delay + 1), pair, length, malloc(length + 1)};
+static void put(int pair, const char *bytes, size_t length, int way, int delay) {
+    struct datagram d = {now() + way + random_below(delay + 1), pair, length, malloc(length + 1)};
     if (!d.bytes || waiting == WAITING) { free(d.bytes); lost++; return; }
     memcpy(d.bytes, bytes, length);
     heap[waiting] = d;
@@ -68,10 +68,10 @@ static struct sockaddr_in at(int port) {
 }
 
 int main(int count, char **words) {
-    if (count != 5) { fputs("usage: relay SEED LOSS REPEAT DELAY < pairs\n", stderr); return 2; }
+    if (count != 5 && count != 6) { fputs("usage: relay SEED LOSS REPEAT DELAY [WAY] < pairs\n", stderr); return 2; }
     state = strtoull(words[1], 0, 10);
     const uint64_t loss = strtoull(words[2], 0, 10), repeat = strtoull(words[3], 0, 10);
-    const int delay = atoi(words[4]);
+    const int delay = atoi(words[4]), way = count == 6 ? atoi(words[5]) : 0;
     for (int from, to; scanf("%d %d", &from, &to) == 2; pairs++) {
         const struct sockaddr_in here = at(from);
         if (pairs == PAIRS) { fputs("relay: too many pairs\n", stderr); return 1; }
@@ -93,8 +93,8 @@ int main(int count, char **words) {
             for (ssize_t length; ready[i].revents & POLLIN && (length = recv(sockets[i], bytes, sizeof bytes, 0)) >= 0;) {
                 came++;
                 if (random_below(100) < loss) { lost++; continue; }
-                put(i, bytes, length, delay);
-                if (random_below(100) < repeat) { repeated++; put(i, bytes, length, delay); }
+                put(i, bytes, length, way, delay);
+                if (random_below(100) < repeat) { repeated++; put(i, bytes, length, way, delay); }
             }
         while (waiting && heap[0].due <= now()) send_first();
     }

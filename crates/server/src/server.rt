@@ -59,13 +59,14 @@ impl<D: Disk + Drop, S: Drop> Server<D, S> {
         requires { me ≡ served.node.me }
         ensures { (result.served ≡ served) × (result.me ≡ me) }
     {
+        let pace = Pace::new(times, served.node.cluster(), me);
         Server {
             me,
             served,
             mail: Mail::new(alloc),
             seats: Seats::new(alloc, times),
             desk,
-            pace: Pace::new(times, me),
+            pace,
         }
     }
 
@@ -86,7 +87,7 @@ impl<D: Disk + Drop, S: Drop> Server<D, S> {
         let came = self.mail.came.as_slice();
         let malformed = self.desk.take_batch(&mut self.served.node, came, last)?;
         let delivered = self.desk.delivered();
-        self.pace.hear(self.served.node.cluster(), &delivered);
+        self.pace.hear(&delivered);
         self.desk.post(&mut self.mail.letters)?;
         self.mail.keep_own(self.me)?;
         Ok(malformed as u64)

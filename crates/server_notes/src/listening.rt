@@ -1,9 +1,10 @@
 //! Whom a server hears.
 
-ghost use Rattle.std.specs.Prelude.{◌≡◌, ◌-◌, set, true, ◌||◌, if◌then◌else◌};
-ghost use Rattle.server_notes.specs.Listening.{count_of, first_listening, silence_at, AreHeard, AreGathered, FindsEnded, FindsSilent, Hears};
+ghost use Rattle.std.specs.Prelude.{◌≡◌, ◌-◌, set, true};
+ghost use Rattle.server_notes.specs.Listening.{first_listening, AreHeard, FindsEnded, FindsSilent, Hears};
 ghost use Rattle.server_notes.specs.Noting.{told_at, ended_told};
 
+use crate::gathered::{count, gather};
 use crate::silence::Silence;
 use site_ids::{Cluster, NodeId};
 
@@ -36,40 +37,6 @@ fn hear_each(silences: [Silence; 9], heard: [bool; 9], now: u64) -> [Silence; 9]
         after[i] = silences[i].passed(heard[i], now);
     }
     after
-}
-
-fn either(a: bool, b: bool) -> bool
-    ensures { result ≡ (a || b) }
-{
-    a || b
-}
-
-/// Those and these.
-fn gather(gathered: [bool; 9], heard: [bool; 9]) -> [bool; 9]
-    ensures { AreGathered gathered heard result }
-{
-    let mut all = gathered;
-    for i in 0..9 {
-        all[i] = either(heard[i], gathered[i]);
-    }
-    all
-}
-
-fn one(is: bool) -> usize
-    ensures { result ≡ (if is then 1 else 0) }
-{
-    if is { 1 } else { 0 }
-}
-
-/// How many they are.
-fn count(gathered: [bool; 9]) -> usize
-    ensures { result ≡ count_of gathered }
-{
-    let mut count = 0;
-    for i in 0..9 {
-        count += one(gathered[i]);
-    }
-    count
 }
 
 impl Listening {

@@ -1,5 +1,5 @@
 -- When a server tries again, asks and tells, and how long it rests. Times are milliseconds since it began, rests microseconds.
-use Rattle.std.specs.Prelude.{◌≡◌, ◌≢◌, ◌⊎◌, ℕ, suc, ◌+◌, ◌-◌, ◌*◌, ◌^◌, ◌<◌, ◌≤◌, min, List, length, replicate, get_or, set, Bool, true, false, not, ◌||◌, nat_eq, nat_le, nat_lt, if◌then◌else◌, Option, Some, None, is_none, unwrap_or, IsTrue, ◌↔◌}
+use Rattle.std.specs.Prelude.{◌≡◌, ◌≢◌, ◌⊎◌, ℕ, suc, ◌+◌, ◌-◌, ◌*◌, ◌/◌, ◌^◌, ◌<◌, ◌≤◌, min, max, List, length, replicate, get_or, set, Bool, true, false, not, ◌||◌, nat_eq, nat_le, nat_lt, if◌then◌else◌, Option, Some, None, is_none, unwrap_or, IsTrue, ◌↔◌}
 use Rattle.site_ids.specs.declared.TheConstants.{MAX_INSTANCE}
 use Rattle.site_ids.specs.Ids.{BallotOf, IsInstance}
 use Rattle.durable.specs.Entries.{last_vote, IsPromise}
@@ -17,6 +17,7 @@ use Rattle.server_pace.specs.declared.resting.Resting.{Resting}
 use Rattle.server_pace.specs.declared.seen.Seen.{Seen}
 use Rattle.server_pace.specs.declared.ticking.Ticking.{Ticking}
 use Rattle.server_pace.specs.declared.yielding.Yielding.{Yielding}
+use Rattle.server_notes.specs.Listening.{count_of}
 use Rattle.server_times.specs.Timing.{asks_after, passed, patience_of}
 use Rattle.server_times.specs.declared.times.Times.{Times}
 
@@ -26,20 +27,29 @@ use Rattle.server_times.specs.declared.times.Times.{Times}
 abbrev pub IsFresh : Ticking → Bool → Bool → Type 0
 IsFresh t wanted stirred = (wanted ≡ true) × (t.since ≡ None) × (stirred ≡ false)
 
--- a tick is waited for since it began to be wanted, or something became known
+-- a tick is waited for since it began to be wanted, or something became known; ticks in vain are forgotten where that came without one
 abbrev pub noted : Ticking → ℕ → Bool → ℕ → Ticking
-noted t now false known = record { since = None; known = known; ticks = 0 }
-noted t now true known =
-    if is_none t.since || not (nat_eq known t.known)
-    then record { since = Some now; known = known; ticks = 0 }
-    else t
+noted t now wanted known =
+    if nat_eq known t.known
+    then record t { since = if wanted then Some (unwrap_or t.since now) else None }
+    else record { since = if wanted then Some now else None; known = known; ticks = 0; vain = if nat_eq t.ticks 0 then 0 else t.vain }
 
--- the patience has passed, and behind each tick once more, up to growth times in all
+-- how many times the patience: behind each tick once more, up to growth times in all; or behind each one in vain ten times more
+abbrev pub waited : Ticking → ℕ → ℕ
+waited t growth = max (min (t.ticks + 1) growth) (t.vain * 10 + 1)
+
+-- the patience has passed so many times
 abbrev pub Ticks : Ticking → ℕ → ℕ → ℕ → Type 0
-Ticks t now patience growth = (since : ℕ) × (t.since ≡ Some since) × (patience * min (t.ticks + 1) growth ≤ now - since)
+Ticks t now patience growth = (since : ℕ) × (t.since ≡ Some since) × (patience * waited t growth ≤ now - since)
 
-abbrev pub ticked : Ticking → ℕ → Ticking
-ticked t now = record { since = Some now; known = t.known; ticks = min (t.ticks + 1) (2 ^ 32 - 1) }
+-- A tick was in vain where a majority answered since, and nothing became known before the next one. One that no majority answered ends the row
+abbrev pub vain_after : Ticking → Bool → ℕ
+vain_after t answered =
+    if not answered then 0
+    else (if nat_eq t.ticks 0 then t.vain else min (t.vain + 1) (2 ^ 32 - 1))
+
+abbrev pub ticked : Ticking → ℕ → Bool → Ticking
+ticked t now answered = record { since = Some now; known = t.known; ticks = min (t.ticks + 1) (2 ^ 32 - 1); vain = vain_after t answered }
 
 -- ---- yields: nodes take turns at the first unknown instance, by their numbers, with 1 behind 9
 
@@ -188,12 +198,14 @@ pub record IsSeen (s : Node) (drained : Bool) (seen : Seen) : Type 0 where
 abbrev pub no_questions : Questions
 no_questions = record { asked = replicate 9 None; told = replicate 9 None }
 
--- a server begins quiet; it never asked, and no tick is wanted
-abbrev pub first_pace : Times → ℕ → Pace
-first_pace times node = record {
+-- a server of n begins quiet; it never asked, and no tick is wanted
+abbrev pub first_pace : Times → ℕ → ℕ → Pace
+first_pace times n node = record {
   times = times;
+  cluster = n;
   patience = patience_of times node;
-  ticking = record { since = None; known = 0; ticks = 0 };
+  ticking = record { since = None; known = 0; ticks = 0; vain = 0 };
+  answered = replicate 9 false;
   last = record { at = None; known = 0; tried = false };
   questions = no_questions;
   stirred = false;
@@ -202,10 +214,19 @@ first_pace times node = record {
   yielding = first_yielding;
 }
 
+-- more than half of the nodes answered since the last tick, itself included
+abbrev pub IsAnswered : Pace → Type 0
+IsAnswered p = p.cluster / 2 + 1 ≤ count_of p.answered
+
 -- a tick that was due is one of those behind which more patience is had; one for a value that is fresh is not
-abbrev pub ticking_after : Ticking → ℕ → Bool → LastCall → Ticking
-ticking_after t now false TickOrAsk = ticked t now
-ticking_after t now fresh last = t
+abbrev pub ticking_after : Ticking → ℕ → Due → LastCall → Ticking
+ticking_after t now due TickOrAsk = if due.fresh then t else ticked t now due.answered
+ticking_after t now due last = t
+
+-- who answered is counted anew from a tick on
+abbrev pub answers_after : List Bool → LastCall → List Bool
+answers_after answered TickOrAsk = replicate 9 false
+answers_after answered last = answered
 
 -- what came since is counted anew from a question on
 abbrev pub question_after : LastQuestion → ℕ → ℕ → LastCall → LastQuestion
@@ -219,7 +240,8 @@ IsYielding p now tries = Yields (noted_tries p.yielding now tries) p.times now p
 -- once that is called
 abbrev pub pace_after : Pace → ℕ → Seen → Option ℕ → Due → LastCall → Pace
 pace_after p now seen tries due last = record p {
-  ticking = ticking_after (noted p.ticking now seen.wanted seen.known) now due.fresh last;
+  ticking = ticking_after (noted p.ticking now seen.wanted seen.known) now due last;
+  answered = answers_after p.answered last;
   last = question_after p.last now seen.known last;
   stirred = false;
   yielding = yielding_after (noted_tries p.yielding now tries) now due.waits due.yields;
@@ -231,5 +253,6 @@ pub record IsDue (p : Pace) (now : ℕ) (seen : Seen) (tries : Option ℕ) (tell
   pub told : due.telling ≡ telling
   pub question : IsTrue due.question ↔ Asks (asking_of p.last p.times now seen p.empty)
   pub tick : IsTrue due.tick ↔ Ticks (noted p.ticking now seen.wanted seen.known) now p.patience p.times.growth
+  pub answered : IsTrue due.answered ↔ IsAnswered p
   pub waits : IsTrue due.waits ↔ Waits (noted_tries p.yielding now tries) p.me
   pub yields : IsTrue due.yields ↔ IsYielding p now tries

@@ -17,6 +17,8 @@ pub struct Due {
     pub question: bool,
     /// A tick is due.
     pub tick: bool,
+    /// A majority answered since the last one.
+    pub answered: bool,
     /// Another one's attempt stands at the first unknown instance, or it is another one's turn.
     pub waits: bool,
     /// So it yields: its time to do so has not passed.

@@ -6,7 +6,8 @@ ghost use Rattle.node.specs.Standing.{IsNodeOf};
 ghost use Rattle.server_pace.specs.declared.due.Due.{Due};
 ghost use Rattle.server_pace.specs.declared.seen.Seen.{Seen};
 ghost use Rattle.site_drive.specs.declared.last_call.LastCall.TheVariants.{Ask, TickOrAsk};
-ghost use Rattle.server_pace.specs.Pacing.{empty_after, first_pace, heard, pace_after, question_after, resting_of, ticking_after, IsDue, IsFresh, IsSeen, IsToldOf, IsTriedBy, IsUntried, IsYielding};
+ghost use Rattle.server_notes.specs.Listening.{AreGathered};
+ghost use Rattle.server_pace.specs.Pacing.{answers_after, empty_after, first_pace, heard, pace_after, question_after, resting_of, ticking_after, IsAnswered, IsDue, IsFresh, IsSeen, IsToldOf, IsTriedBy, IsUntried, IsYielding};
 ghost use Rattle.server_times.specs.Timing.{rest_after};
 ghost use Rattle.server_pace.specs.Turns.{call_behind};
 
@@ -18,6 +19,7 @@ use crate::seen::{Seen, first_tried_by};
 use crate::ticking::Ticking;
 use crate::yielding::Yielding;
 use node::Node;
+use server_notes::{count, gather};
 use server_times::Times;
 use site_disk::Disk;
 use site_drive::{Delivered, LastCall};
@@ -29,9 +31,12 @@ use site_ids::{Cluster, Instance, NodeId};
 #[derive(Clone, Copy, Drop)]
 pub struct Pace {
     times: Times,
+    cluster: Cluster,
     // what this server waits before its first try
     patience: u64,
     ticking: Ticking,
+    // those that promised or refused something since its last tick, node p at the place p - 1
+    answered: [bool; 9],
     last: LastQuestion,
     // those of other nodes
     questions: Questions,
@@ -45,13 +50,15 @@ pub struct Pace {
 
 impl Pace {
     /// That of a server which begins: it is quiet.
-    pub fn new(times: Times, me: NodeId) -> Pace
-        ensures { result ≡ first_pace times me }
+    pub fn new(times: Times, cluster: Cluster, me: NodeId) -> Pace
+        ensures { result ≡ first_pace times cluster me }
     {
         Pace {
             times,
+            cluster,
             patience: times.patience_of(me.number()),
             ticking: Ticking::new(),
+            answered: [false; 9],
             last: LastQuestion::never(),
             questions: Questions::new(),
             stirred: false,
@@ -62,10 +69,12 @@ impl Pace {
     }
 
     /// Behind a batch: what it delivered.
-    pub fn hear(&mut self, cluster: Cluster, delivered: &Delivered)
-        ensures { self.new ≡ record (heard self.old delivered.now.attempts delivered.now.stirs) { questions = self.new.questions } }
+    pub fn hear(&mut self, delivered: &Delivered)
+        ensures is { self.new ≡ record (heard self.old delivered.now.attempts delivered.now.stirs) { questions = self.new.questions; answered = self.new.answered } }
+        ensures answered { AreGathered self.old.answered delivered.now.answered self.new.answered }
     {
-        self.questions.hear(cluster, delivered);
+        self.questions.hear(self.cluster, delivered);
+        self.answered = gather(self.answered, delivered.answered());
         self.note(delivered.attempts(), delivered.stirs());
     }
 
@@ -115,6 +124,13 @@ impl Pace {
         !yields && self.ticking.is_fresh(wanted, self.stirred)
     }
 
+    /// Whether a majority answered since the last tick.
+    fn is_answered(&self) -> bool
+        ensures { IsTrue result ↔ IsAnswered self.now }
+    {
+        count(self.answered) >= usize::from(self.cluster.quorum())
+    }
+
     /// What is called behind the turns of the next batch, where so much is seen and this telling is due. What is called counts from now on.
     fn call(
         &mut self,
@@ -140,18 +156,19 @@ impl Pace {
             telling,
             question: asking.is_due(),
             tick: self.ticking.is_due(now, self.patience, self.times.growth),
+            answered: self.is_answered(),
             waits,
             yields,
         };
         let last = due.last_call();
-        self.begin(now, seen.known, fresh, &last);
+        self.begin(now, seen.known, due, &last);
         self.stirred = false;
         last
     }
 
-    /// A question, or a tick that was due, counts from now on.
-    fn begin(&mut self, now: u64, known: u32, fresh: bool, last: &LastCall)
-        ensures { self.new ≡ record self.old { ticking = ticking_after self.old.ticking now fresh last.now; last = question_after self.old.last now known last.now } }
+    /// A question, or a tick, counts from now on.
+    fn begin(&mut self, now: u64, known: u32, due: Due, last: &LastCall)
+        ensures { self.new ≡ record self.old { ticking = ticking_after self.old.ticking now due last.now; answered = answers_after self.old.answered last.now; last = question_after self.old.last now known last.now } }
     {
         match last {
             LastCall::Ask => {
@@ -161,8 +178,11 @@ impl Pace {
                     tried: false,
                 };
             }
-            LastCall::TickOrAsk if !fresh => {
-                self.ticking = self.ticking.ticked(now);
+            LastCall::TickOrAsk => {
+                self.answered = [false; 9];
+                if !due.fresh {
+                    self.ticking = self.ticking.ticked(now, due.answered);
+                }
             }
             _ => {}
         }

@@ -6,3 +6,4 @@ pub mod Leading
 pub mod Ending
 pub mod Batches
 pub mod Posting
+pub mod Delivering

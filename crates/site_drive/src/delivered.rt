@@ -1,14 +1,16 @@
 //! What a drive delivered, by kinds.
 
-ghost use Rattle.std.specs.Prelude.{◌≡◌};
+ghost use Rattle.std.specs.Prelude.{◌≡◌, ◌-◌, set, true};
+ghost use Rattle.site_drive.specs.Delivering.{answered_by};
 
 use site_ids::{Instance, NodeId};
 use wire::Message;
 
-/// The messages that a drive delivered: of each node its last question, and how many were of an attempt or no questions.
+/// The messages that a drive delivered: of each node its last question and whether it answered an attempt, and how many were of an attempt or no questions.
 #[derive(Clone, Copy, Debug, PartialEq, Eq, Drop)]
 pub struct Delivered {
     questions: [Option<Instance>; 9],
+    answered: [bool; 9],
     attempts: u32,
     stirs: u32,
 }
@@ -18,25 +20,60 @@ impl Delivered {
     pub(crate) fn none() -> Delivered {
         Delivered {
             questions: [None; 9],
+            answered: [false; 9],
             attempts: 0,
             stirs: 0,
         }
     }
 
     /// One message more.
-    pub(crate) fn note(&mut self, message: &Message) {
+    pub(crate) fn note(&mut self, message: &Message)
+        ensures { self.new.answered ≡ answered_by message.now self.old.answered }
+    {
         match message {
             Message::Ask { from, instance } => {
                 self.questions[usize::from(from.number()) - 1] = Some(*instance);
             }
-            Message::Prepare { .. } | Message::Promise { .. } | Message::Propose { .. } => {
-                self.attempts = self.attempts.saturating_add(1);
-                self.stirs = self.stirs.saturating_add(1);
+            Message::Promise { from, .. } => {
+                self.note_answer(*from);
+                self.note_attempt();
             }
-            Message::Accepted { .. } | Message::Nack { .. } | Message::Chosen { .. } => {
-                self.stirs = self.stirs.saturating_add(1);
+            Message::Prepare { .. } | Message::Propose { .. } => self.note_attempt(),
+            Message::Nack { from, .. } => {
+                self.note_answer(*from);
+                self.note_stir();
             }
+            Message::Accepted { .. } | Message::Chosen { .. } => self.note_stir(),
         }
+    }
+
+    /// It promised, or refused.
+    fn note_answer(&mut self, from: NodeId)
+        ensures { self.new ≡ record self.old { answered = set self.old.answered (from - 1) true } }
+    {
+        self.answered[usize::from(from.number()) - 1] = true;
+    }
+
+    /// One of an attempt more.
+    fn note_attempt(&mut self)
+        ensures { self.new.answered ≡ self.old.answered }
+    {
+        self.attempts = self.attempts.saturating_add(1);
+        self.note_stir();
+    }
+
+    /// One more that is no question.
+    fn note_stir(&mut self)
+        ensures { self.new.answered ≡ self.old.answered }
+    {
+        self.stirs = self.stirs.saturating_add(1);
+    }
+
+    /// The nodes, node p at the place p - 1, from which a promise or a refusal came.
+    pub fn answered(&self) -> [bool; 9]
+        ensures { result ≡ self.now.answered }
+    {
+        self.answered
     }
 
     /// The instance that the node's last question was for, if it asked.

@@ -32,6 +32,7 @@ fn one_call_is_due_behind_a_batch(rt: HostRuntime) {
             telling: telling.then_some((to, first)),
             question,
             tick,
+            answered: tick,
             waits: yields,
             yields,
         };

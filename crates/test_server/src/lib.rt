@@ -11,6 +11,8 @@ mod client;
 #[cfg(test)]
 mod comparing;
 #[cfg(test)]
+mod far;
+#[cfg(test)]
 mod group;
 #[cfg(test)]
 mod notes;

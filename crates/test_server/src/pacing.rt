@@ -2,7 +2,7 @@
 use crate::comparing::{ensure, same};
 use crate::group::node_of;
 use server_pace::{LastQuestion, Pace, Resting, Seen, Ticking, Times, first_told, has_passed};
-use site_ids::Instance;
+use site_ids::{Cluster, Instance};
 use std::process::Abort;
 
 /// Those of a server whose command line names none.
@@ -95,7 +95,7 @@ fn a_value_that_nobody_tries_is_fresh(rt: HostRuntime) {
         let ticking = Ticking {
             since,
             known: 7,
-            ticks: 0,
+            ..Ticking::new()
         };
         same(
             &rt,
@@ -105,56 +105,72 @@ fn a_value_that_nobody_tries_is_fresh(rt: HostRuntime) {
     }
 }
 
-/// What stood at known 7, since 5 and with two ticks or with none wanted; whether a tick is wanted at 9, how many are known; and what stands then.
-const NOTED: &[(Option<u64>, bool, u32, Option<u64>, u32)] = &[
-    (Some(5), true, 7, Some(5), 2),
-    (Some(5), true, 8, Some(9), 0),
-    (Some(5), false, 7, None, 0),
-    (None, true, 7, Some(9), 0),
-    (None, false, 8, None, 0),
+/// What stood at known 7 with two ticks in vain: since when a tick is wanted, how many were due. Whether one is wanted at 9, how many are known; and since
+/// when then, how many were due, how many were in vain.
+type Noted = (Option<u64>, u32, bool, u32, Option<u64>, u32, u32);
+
+const NOTED: &[Noted] = &[
+    (Some(5), 4, true, 7, Some(5), 4, 2),
+    (Some(5), 4, true, 8, Some(9), 0, 2),
+    (Some(5), 1, true, 8, Some(9), 0, 2),
+    (Some(5), 0, true, 8, Some(9), 0, 0),
+    (Some(5), 4, false, 8, None, 0, 2),
+    (Some(5), 4, false, 7, None, 4, 2),
+    (None, 0, true, 7, Some(9), 0, 2),
+    (None, 0, false, 8, None, 0, 0),
 ];
 
 #[test]
 fn news_begin_the_patience_anew(rt: HostRuntime) {
-    for &(since, wanted, known, then, ticks) in NOTED {
+    for &(since, ticks, wanted, known, then, due, vain) in NOTED {
         let ticking = Ticking {
             since,
             known: 7,
-            ticks: 2,
+            ticks,
+            vain: 2,
         };
         let noted = Ticking {
             since: then,
             known,
-            ticks,
+            ticks: due,
+            vain,
         };
         same(
             &rt,
-            (since, wanted, known, ticking.noted(9, wanted, known)),
-            (since, wanted, known, noted),
+            (ticking, wanted, ticking.noted(9, wanted, known)),
+            (ticking, wanted, noted),
         );
     }
 }
 
-/// Since when a tick is wanted, how many were made, the moment, and whether one is due of a patience of 150 milliseconds that grows three times.
-const TICKS: &[(Option<u64>, u32, u64, bool)] = &[
-    (None, 0, 1_000_000, false),
-    (Some(1000), 0, 1149, false),
-    (Some(1000), 0, 1150, true),
-    (Some(1000), 1, 1299, false),
-    (Some(1000), 1, 1300, true),
-    (Some(1000), 2, 1449, false),
-    (Some(1000), 2, 1450, true),
-    (Some(1000), 3, 1450, true),
-    (Some(1000), u32::MAX, 1450, true),
+/// Since when a tick is wanted, how many were due and in vain, the moment, and whether one is due of a patience of 150 milliseconds that grows three times.
+const TICKS: &[(Option<u64>, u32, u32, u64, bool)] = &[
+    (None, 0, 0, 1_000_000, false),
+    (Some(1000), 0, 0, 1149, false),
+    (Some(1000), 0, 0, 1150, true),
+    (Some(1000), 1, 0, 1299, false),
+    (Some(1000), 1, 0, 1300, true),
+    (Some(1000), 2, 0, 1449, false),
+    (Some(1000), 2, 0, 1450, true),
+    (Some(1000), 3, 0, 1450, true),
+    (Some(1000), u32::MAX, 0, 1450, true),
+    (Some(1000), 2, 1, 2649, false),
+    (Some(1000), 2, 1, 2650, true),
+    (Some(1000), 0, 1, 2649, false),
+    (Some(1000), 9, 7, 11_649, false),
+    (Some(1000), 9, 7, 11_650, true),
+    (Some(1000), 9, u32::MAX, 6_000_000_000_000, false),
+    (Some(1000), 9, u32::MAX, 7_000_000_000_000, true),
 ];
 
 #[test]
 fn the_patience_grows(rt: HostRuntime) {
-    for &(since, ticks, now, due) in TICKS {
+    for &(since, ticks, vain, now, due) in TICKS {
         let ticking = Ticking {
             since,
             known: 7,
             ticks,
+            vain,
         };
         same(
             &rt,
@@ -162,6 +178,41 @@ fn the_patience_grows(rt: HostRuntime) {
             (ticking, now, due),
         );
         ensure(&rt, !ticking.is_due(now, u64::MAX, 3), ticking);
+    }
+}
+
+/// How many ticks were due and how many in vain, whether a majority answered since the last, and how many of either there are then.
+const TICKED: &[(u32, u32, bool, u32, u32)] = &[
+    (0, 0, true, 1, 0),
+    (1, 0, true, 2, 1),
+    (7, 3, true, 8, 4),
+    // The last one was not in vain: news came.
+    (0, 3, true, 1, 3),
+    (7, 3, false, 8, 0),
+    (0, 3, false, 1, 0),
+    (u32::MAX, u32::MAX, true, u32::MAX, u32::MAX),
+];
+
+#[test]
+fn a_tick_that_a_majority_answers_in_vain_is_counted(rt: HostRuntime) {
+    for &(ticks, vain, answered, due, then) in TICKED {
+        let ticking = Ticking {
+            since: Some(5),
+            known: 7,
+            ticks,
+            vain,
+        };
+        let ticked = Ticking {
+            since: Some(9),
+            known: 7,
+            ticks: due,
+            vain: then,
+        };
+        same(
+            &rt,
+            (ticking, answered, ticking.ticked(9, answered)),
+            (ticking, answered, ticked),
+        );
     }
 }
 
@@ -267,7 +318,8 @@ const STEPS: &[(bool, bool, u32, Option<u64>)] = &[
 
 #[test]
 fn a_server_begins_quiet_and_wakes_with_a_client(rt: HostRuntime) {
-    let mut pace = Pace::new(TIMES, node_of(&rt, 1, 1));
+    let cluster = Cluster::new(1).expect(&rt, "a cluster");
+    let mut pace = Pace::new(TIMES, cluster, node_of(&rt, 1, 1));
     for &(came, served, steps, micros) in STEPS {
         for step in 0..steps {
             same(

@@ -39,6 +39,11 @@ const THIRD_PREPARE: &[u8] = &[1, 1, 3, 0, 0, 0, 1, 0, 0, 0, 1, 3];
 
 const HIGHER_PREPARE: &[u8] = &[1, 1, 2, 0, 0, 0, 1, 0, 0, 0, 2, 2];
 
+/// What two nodes say to a prepare of node 1 there: node 2 refuses it, and node 3 promises.
+const REFUSAL: &[u8] = &[1, 5, 2, 0, 0, 0, 1, 0, 0, 0, 1, 1, 0, 0, 0, 1, 2];
+
+const PROMISE: &[u8] = &[1, 2, 3, 0, 0, 0, 1, 0, 0, 0, 1, 1, 0];
+
 /// The values of the first two instances, as node 3 knows them.
 const FIRST_KNOWN: &[u8] = &[1, 7, 3, 0, 0, 0, 1, 0, 0, 0, 1, 7];
 
@@ -64,6 +69,30 @@ const ALONE: &[Step] = &[
     (1600, false, true, Call::Ask, &[]),
     (1600, false, true, Call::Tick, &[]),
     (1600, false, true, Call::Widen, &[]),
+];
+
+/// A majority answers one tick after the other, and nothing becomes known.
+const IN_VAIN: &[Step] = &[
+    (0, false, true, Call::Ask, &[]),
+    (5, true, true, Call::Tick, &[REFUSAL, PROMISE]),
+    (104, false, true, Call::Widen, &[]),
+    (105, false, true, Call::Tick, &[REFUSAL]),
+    (106, false, true, Call::Widen, &[PROMISE]),
+    (304, false, true, Call::Widen, &[]),
+    // The one before was in vain: ten times the patience more.
+    (305, false, true, Call::Tick, &[REFUSAL, PROMISE]),
+    (800, false, true, Call::Ask, &[]),
+    (1404, false, true, Call::Widen, &[]),
+    // So was this one; and then node 3 alone answers.
+    (1405, false, true, Call::Tick, &[PROMISE, PROMISE]),
+    (1600, false, true, Call::Ask, &[]),
+    (2400, false, true, Call::Ask, &[]),
+    (3200, false, true, Call::Ask, &[]),
+    (3504, false, true, Call::Widen, &[]),
+    (3505, false, true, Call::Tick, &[]),
+    // That is no majority of three: what was in vain is forgotten.
+    (3804, false, true, Call::Widen, &[]),
+    (3805, false, true, Call::Tick, &[]),
 ];
 
 /// Two nodes ask, and then one of them tries a value.
@@ -177,7 +206,7 @@ fn begun(rt: &impl Abort, alloc: Global) -> Paced {
         node: fresh(alloc, cluster, me).expect(rt, "memory"),
         link: MemLink::new(alloc),
         desk: Desk::new(alloc).expect(rt, "memory"),
-        pace: Pace::new(Times::new(None, None), me),
+        pace: Pace::new(Times::new(None, None), cluster, me),
     }
 }
 
@@ -207,7 +236,7 @@ impl Paced {
             .desk
             .drive_with(&mut self.node, &mut self.link, turns, last);
         ensure(rt, driven.is_ok(), turns);
-        self.pace.hear(self.node.cluster(), &self.desk.delivered());
+        self.pace.hear(&self.desk.delivered());
     }
 
     fn take(&mut self, rt: &impl Abort, &(now, submits, drained, call, heard): &Step) {
@@ -230,6 +259,11 @@ fn run(rt: &impl Abort, alloc: Global, steps: &[Step]) {
 #[test]
 fn a_value_that_nobody_answers_is_tried_again(rt: HostRuntime) {
     run(&rt, rt.alloc(), ALONE);
+}
+
+#[test]
+fn a_tick_in_vain_makes_the_patience_longer(rt: HostRuntime) {
+    run(&rt, rt.alloc(), IN_VAIN);
 }
 
 #[test]

@@ -1,5 +1,5 @@
 use Rattle.std.proofs.Common.{◌≡◌, ℕ, length, ◌<◌, ◌≤◌, get_or, false, ◌||◌}
-use Rattle.server_notes.proofs.listening.gather.Given as goal
+use Rattle.server_notes.proofs.gathered.gather.Given as goal
 
 -- those so far are as they are to be, the others as they were
 abbrev pub invariant-loop-i : goal.invariant-loop-i

@@ -1,6 +1,6 @@
 use Rattle.std.proofs.Common.{rules, arith, get_or, false}
 use Rattle.server_notes.proofs.Places.{count_next, one_at_most}
-use Rattle.server_notes.proofs.listening.count.Goals as goal
+use Rattle.server_notes.proofs.gathered.count.Goals as goal
 
 pub loop-i-preserved : goal.loop-i-preserved
 loop-i-preserved c =

@@ -1,6 +1,6 @@
 use Rattle.std.proofs.Common.{rules, get_or, false, ◌||◌}
 use Rattle.server_notes.proofs.Places.{set_next}
-use Rattle.server_notes.proofs.listening.gather.Goals as goal
+use Rattle.server_notes.proofs.gathered.gather.Goals as goal
 
 pub loop-i-preserved : goal.loop-i-preserved
 loop-i-preserved c = (

@@ -1,0 +1,146 @@
+//! Servers far apart: each letter takes so many milliseconds.
+use crate::comparing::{ensure, same};
+use crate::group::{Group, node_of, packed, turn};
+use command::write;
+use node::Submitted;
+use site_ids::{Ticket, Value};
+use std::alloc::Global;
+use std::collections::VecDeque;
+use std::process::Abort;
+
+/// A piece on its way: when it comes, and to whom.
+#[derive(Drop)]
+struct Flight {
+    at: u64,
+    to: u8,
+    piece: Vec<u8>,
+}
+
+/// A group, how long a letter takes, and those on their way, the first to come first.
+#[derive(Drop)]
+struct Far {
+    group: Group,
+    takes: u64,
+    flights: VecDeque<Flight>,
+}
+
+/// A release that an editor of that number submits.
+fn release(rt: &impl Abort, alloc: Global, editor: u8) -> Value {
+    let ticket = Ticket {
+        editor: u32::from(editor),
+        number: 1,
+    };
+    let bytes = write(alloc, ticket, b"release\n").expect(rt, "a command");
+    Value::from_bytes(bytes).expect(rt, "a value")
+}
+
+impl Far {
+    /// It is submitted to the server of that number.
+    fn submit(&mut self, rt: &impl Abort, number: u8, value: &Value) {
+        let done = self.group.server(rt, number).served.node.submit(value);
+        same(rt, (number, done), (number, Ok(Submitted::Queued)));
+    }
+
+    /// What comes by now waits at its server.
+    fn arrive(&mut self, rt: &impl Abort) {
+        for _ in 0..self.flights.len() {
+            let now = self.group.now;
+            if self.flights.front().is_some_and(|flight| flight.at > now) {
+                return;
+            }
+            let flight = self.flights.pop_front().expect(rt, "a flight");
+            let mail = &mut self.group.server(rt, flight.to).mail;
+            mail.take_in(flight.piece.as_slice()).expect(rt, "memory");
+        }
+    }
+
+    /// What the letters of one server have for another one sets out.
+    fn set_out(&mut self, rt: &impl Abort, from: u8, to: u8, size: u8) {
+        let at = self.group.now.saturating_add(self.takes);
+        let node = node_of(rt, size, to);
+        let alloc = self.group.alloc;
+        let pieces = packed(rt, alloc, self.group.server(rt, from).mail.letters(), node);
+        for piece in pieces {
+            let flight = Flight { at, to, piece };
+            self.flights.push_back(flight).expect(rt, "memory");
+        }
+    }
+
+    /// A pass of one server.
+    fn pass(&mut self, rt: &impl Abort, number: u8, size: u8) {
+        let now = self.group.now;
+        ensure(rt, turn(self.group.server(rt, number), now).is_ok(), number);
+        for to in 1..=size {
+            if to != number {
+                self.set_out(rt, number, to, size);
+            }
+        }
+    }
+
+    /// A millisecond, with a pass of each of so many servers.
+    fn goes_on(&mut self, rt: &impl Abort, size: u8) {
+        self.group.now = self.group.now.saturating_add(1);
+        self.arrive(rt);
+        for number in 1..=size {
+            self.pass(rt, number, size);
+        }
+    }
+
+    /// How many releases the server shows that shows the fewest.
+    fn fewest(&mut self, rt: &impl Abort, size: u8) -> u64 {
+        let mut fewest = u64::MAX;
+        for number in 1..=size {
+            fewest = fewest.min(self.group.server(rt, number).served.node.newest());
+        }
+        fewest
+    }
+}
+
+/// How many servers there are, how many milliseconds a letter takes, which of them are submitted a value, how many milliseconds one after the other; and
+/// how many later each shows them all, at most.
+type Row = (u8, u64, &'static [u8], u64, u64);
+
+const ROWS: &[Row] = &[
+    (2, 10, &[1], 0, 60),
+    (3, 10, &[1, 2, 3], 0, 150),
+    (3, 160, &[1], 0, 2_000),
+    (3, 160, &[2], 0, 2_000),
+    (3, 160, &[1, 2], 80, 5_000),
+    (3, 160, &[2, 1], 0, 5_000),
+    (2, 160, &[1, 2], 80, 5_000),
+    (5, 125, &[1, 2, 3, 4, 5], 0, 6_000),
+    (9, 160, &[1, 9], 333, 5_000),
+    (3, 400, &[1], 0, 5_000),
+    (3, 400, &[2], 0, 5_000),
+    (2, 400, &[1, 2], 80, 15_000),
+    (3, 400, &[1, 2], 80, 15_000),
+    (2, 800, &[1], 0, 10_000),
+    (3, 800, &[3, 1], 37, 25_000),
+];
+
+fn check(rt: &impl Abort, alloc: Global, &(size, takes, at, apart, bound): &Row) {
+    let mut far = Far {
+        group: Group::new(rt, alloc, size),
+        takes,
+        flights: VecDeque::new(alloc),
+    };
+    for &number in at {
+        let value = release(rt, alloc, number);
+        far.submit(rt, number, &value);
+        for _ in 0..apart {
+            far.goes_on(rt, size);
+        }
+    }
+    for _ in 0..bound {
+        far.goes_on(rt, size);
+    }
+    let shown = far.fewest(rt, size);
+    same(rt, (size, takes, shown), (size, takes, at.len() as u64));
+}
+
+#[test]
+fn servers_far_apart_show_all_in_time(rt: HostRuntime) {
+    for row in ROWS {
+        check(&rt, rt.alloc(), row);
+    }
+}
