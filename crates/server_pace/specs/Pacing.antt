@@ -136,25 +136,17 @@ asking_of last times now seen empty = record {
 abbrev pub Tells : Telling → Type 0
 Tells t = (t.full ≡ true) ⊎ ((t.calm ≡ true) × (t.passed ≡ true))
 
--- it begins behind the instance that was asked for, where its value is known, since the answer tells that
-abbrev pub told_from : ℕ → ℕ → ℕ
-told_from known asked = if nat_le asked known then asked + 1 else asked
-
 -- a node that knows so many values without a gap knows the one of the last instance of a telling, or voted there
 abbrev pub IsFull : Node → ℕ → ℕ → Type 0
 IsFull s known first =
     let final = first + (MAX_TOLD - 1) in
     (final ≤ MAX_INSTANCE) × ((final ≤ known) ⊎ (last_vote final s.entries ≢ None))
 
--- the first of the nodes whose question waits, by their numbers
+-- node p is the first whose question waits, by their numbers, and is told from there on: from instance i, for which it asked
 abbrev pub IsFirstAsked : List (Option ℕ) → ℕ → ℕ → Type 0
 IsFirstAsked asked p i =
     (get_or asked (p - 1) None ≡ Some i)
     × ((q : ℕ) → 1 ≤ q → q < p → get_or asked (q - 1) None ≡ None)
-
--- node p is told from instance i on, with so many values known: its question was the first, and i is where its telling begins
-abbrev pub IsToldOf : List (Option ℕ) → ℕ → ℕ → ℕ → Type 0
-IsToldOf asked known p i = (instance : ℕ) × IsFirstAsked asked p instance × (i ≡ told_from known instance)
 
 -- ---- rests
 

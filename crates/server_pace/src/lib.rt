@@ -15,7 +15,6 @@ pub use asking::{Asking, Telling};
 pub use due::Due;
 pub use last_question::LastQuestion;
 pub use pace::Pace;
-pub use questions::first_told;
 pub use resting::Resting;
 pub use seen::Seen;
 pub use server_times::{Times, has_passed};

@@ -7,7 +7,7 @@ ghost use Rattle.server_pace.specs.declared.due.Due.{Due};
 ghost use Rattle.server_pace.specs.declared.seen.Seen.{Seen};
 ghost use Rattle.site_drive.specs.declared.last_call.LastCall.TheVariants.{Ask, TickOrAsk};
 ghost use Rattle.server_notes.specs.Listening.{AreGathered};
-ghost use Rattle.server_pace.specs.Pacing.{answers_after, empty_after, first_pace, heard, pace_after, question_after, resting_of, ticking_after, IsAnswered, IsDue, IsFresh, IsSeen, IsToldOf, IsTriedBy, IsUntried, IsYielding};
+ghost use Rattle.server_pace.specs.Pacing.{answers_after, empty_after, first_pace, heard, pace_after, question_after, resting_of, ticking_after, IsAnswered, IsDue, IsFirstAsked, IsFresh, IsSeen, IsTriedBy, IsUntried, IsYielding};
 ghost use Rattle.server_times.specs.Timing.{rest_after};
 ghost use Rattle.server_pace.specs.Turns.{call_behind};
 
@@ -90,7 +90,7 @@ impl Pace {
     /// counts from now on. A value that was just submitted is tried at once where nobody tries one and it is no other server's turn.
     pub fn due<D: Disk>(&mut self, now: u64, node: &Node<D>, drained: bool) -> LastCall
         ensures fresh { (s : AbstractNode) → IsNodeOf node.now s → WantsTick s → IsUntried s → ¬ IsYielding self.old now None → self.old.ticking.since ≡ None → self.old.stirred ≡ false → result ≡ TickOrAsk }
-        ensures due { (s : AbstractNode) → IsNodeOf node.now s → (seen : Seen) × (tries : Option ℕ) × (telling : Option (ℕ × ℕ)) × (due : Due) × IsSeen s drained seen × IsTriedBy s (suc seen.known) tries × IfSome telling (λ x. IsToldOf self.old.questions.asked seen.known x.0 x.1) × IsDue self.old now seen tries telling due × (result ≡ call_behind due)
+        ensures due { (s : AbstractNode) → IsNodeOf node.now s → (seen : Seen) × (tries : Option ℕ) × (telling : Option (ℕ × ℕ)) × (due : Due) × IsSeen s drained seen × IsTriedBy s (suc seen.known) tries × IfSome telling (λ x. IsFirstAsked self.old.questions.asked x.0 x.1) × IsDue self.old now seen tries telling due × (result ≡ call_behind due)
             × (self.new ≡ record (pace_after self.old now seen tries due result) { questions = self.new.questions }) }
     {
         let seen = Seen::of(node, drained);
@@ -106,7 +106,7 @@ impl Pace {
         node: &Node<D>,
         seen: Seen,
     ) -> Option<(NodeId, Instance)>
-        ensures told { IfSome result (λ x. IsToldOf self.old.questions.asked seen.known x.0 x.1) }
+        ensures told { IfSome result (λ x. IsFirstAsked self.old.questions.asked x.0 x.1) }
         ensures same { self.new ≡ record self.old { questions = self.new.questions } }
         ensures waits { IsFresh self.old.ticking seen.wanted self.old.stirred → (result ≡ None) × (self.new ≡ self.old) }
     {

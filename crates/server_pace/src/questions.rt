@@ -1,10 +1,10 @@
 //! Questions that were heard, and whom to tell what.
 
-ghost use Rattle.std.specs.Prelude.{◌≡◌, ◌↔◌, ◌⊎◌, ◌-◌, ◌&&◌, ℕ, true, not, get_or, set, MatchOption, IsSome, IfSome, IfNone, IsTrue, if◌then◌else◌};
+ghost use Rattle.std.specs.Prelude.{◌≡◌, ◌↔◌, ◌⊎◌, ◌-◌, ◌&&◌, ℕ, true, not, get_or, set, IsSome, IfSome, IfNone, IsTrue, if◌then◌else◌};
 ghost use Rattle.node.specs.Nodes.{Node as AbstractNode};
 ghost use Rattle.node.specs.Standing.{IsNodeOf};
-ghost use Rattle.site_ids.specs.Ids.{IsInstance, IsNode};
-ghost use Rattle.server_pace.specs.Pacing.{no_questions, told_from, IsFirstAsked, IsFull, IsToldOf, Tells};
+ghost use Rattle.site_ids.specs.Ids.{IsNode};
+ghost use Rattle.server_pace.specs.Pacing.{no_questions, IsFirstAsked, IsFull, Tells};
 ghost use Rattle.server_times.specs.Timing.{passed};
 
 use crate::asking::Telling;
@@ -19,18 +19,6 @@ use site_ids::{Cluster, Instance, NodeId};
 pub struct Questions {
     asked: [Option<Instance>; 9],
     told: [Option<u64>; 9],
-}
-
-/// From which instance on is told behind an answer, with so many values known: from the one behind it, where its value is known, and else from it. None
-/// where that would be past the last one.
-pub fn first_told(known: u32, asked: Instance) -> Option<Instance>
-    ensures { MatchOption result (¬ IsInstance (told_from known asked)) (λ first. (first ≡ told_from known asked) × IsInstance first) }
-{
-    if asked.number() <= known {
-        Instance::new(asked.number() + 1)
-    } else {
-        Some(asked)
-    }
 }
 
 /// Whether there is something to tell of the last instance of a telling, by a node that knows so many values.
@@ -85,8 +73,8 @@ impl Questions {
         None
     }
 
-    /// Whom a node that knows so many values tells, and from which instance on: the first one whose question waits. By that it is forgotten, whether its
-    /// telling is due or not.
+    /// Whom a node that knows so many values tells, and from which instance on: the first one whose question waits, from what it asked for on, which may have
+    /// become known behind its question. By that it is forgotten, whether its telling is due or not.
     pub(crate) fn next<D: Disk>(
         &mut self,
         times: Times,
@@ -96,12 +84,11 @@ impl Questions {
         calm: bool,
     ) -> Option<(NodeId, Instance)>
         ensures forgets { (p i : ℕ) → IsNode node.now.cluster p → IsFirstAsked self.old.asked p i → self.new.asked ≡ set self.old.asked (p - 1) None }
-        ensures told { IfSome result (λ x. IsToldOf self.old.asked known x.0 x.1) }
-        ensures due { (p i : ℕ) → IsNode node.now.cluster p → IsFirstAsked self.old.asked p i → IsInstance (told_from known i) → (s : AbstractNode) → IsNodeOf node.now s →
-            IsSome result ↔ (IsFull s known (told_from known i) ⊎ ((calm ≡ true) × (passed (get_or self.old.told (p - 1) None) now times.telling ≡ true))) }
+        ensures told { IfSome result (λ x. IsFirstAsked self.old.asked x.0 x.1) }
+        ensures due { (p i : ℕ) → IsNode node.now.cluster p → IsFirstAsked self.old.asked p i → (s : AbstractNode) → IsNodeOf node.now s →
+            IsSome result ↔ (IsFull s known i ⊎ ((calm ≡ true) × (passed (get_or self.old.told (p - 1) None) now times.telling ≡ true))) }
     {
-        let (to, asked) = self.take_first(node.cluster())?;
-        let first = first_told(known, asked)?;
+        let (to, first) = self.take_first(node.cluster())?;
         let full = is_full(node, known, first);
         self.tells(times, now, to, full, calm)
             .then_some((to, first))

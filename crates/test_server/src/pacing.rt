@@ -1,8 +1,8 @@
-//! When a server ticks, whom it tells from where on, and how long it rests: each rule as a table.
+//! When a server ticks and asks, and how long it rests: each rule as a table.
 use crate::comparing::{ensure, same};
 use crate::group::node_of;
-use server_pace::{LastQuestion, Pace, Resting, Seen, Ticking, Times, first_told, has_passed};
-use site_ids::{Cluster, Instance};
+use server_pace::{LastQuestion, Pace, Resting, Seen, Ticking, Times, has_passed};
+use site_ids::Cluster;
 use std::process::Abort;
 
 /// Those of a server whose command line names none.
@@ -251,25 +251,6 @@ fn a_server_asks_in_its_time_and_behind_news(rt: HostRuntime) {
             (last, now, empty, seen, asking.is_due()),
             (last, now, empty, seen, asks),
         );
-    }
-}
-
-/// How many values are known, the instance that was asked for, and from which on is told.
-const TOLD: &[(u32, u32, Option<u32>)] = &[
-    (0, 1, Some(1)),
-    (1, 1, Some(2)),
-    (1, 2, Some(2)),
-    (200, 7, Some(8)),
-    (1_000_000, 999_999, Some(1_000_000)),
-    (1_000_000, 1_000_000, None),
-];
-
-#[test]
-fn a_telling_begins_behind_the_answer(rt: HostRuntime) {
-    for &(known, asked, first) in TOLD {
-        let asked = Instance::new(asked).expect(&rt, "an instance");
-        let told = first_told(known, asked).map(Instance::number);
-        same(&rt, (known, asked, told), (known, asked, first));
     }
 }
 

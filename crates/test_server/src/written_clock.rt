@@ -109,11 +109,17 @@ const ASKED: &[Step] = &[
     (900, false, true, Call::Ask, &[]),
 ];
 
+/// What node 3 asks for becomes known behind its question, in the same batch: no answer told it.
+const KNOWN_BEHIND: &[Step] = &[
+    (0, false, true, Call::Ask, &[THIRD_ASKS, FIRST_KNOWN]),
+    (1, false, true, Call::Tell(3, 1), &[]),
+];
+
 /// Values become known, while nobody tries one and while somebody does, and one is submitted among them.
 const NEWS: &[Step] = &[
     (0, false, true, Call::Ask, &[FIRST_KNOWN, THIRD_ASKS]),
     // Something came that was no question: who submits now waits for its patience.
-    (1, true, false, Call::Tell(3, 2), &[]),
+    (1, true, false, Call::Tell(3, 1), &[]),
     (2, false, false, Call::Widen, &[]),
     (3, false, true, Call::Ask, &[]),
     (100, false, true, Call::Widen, &[]),
@@ -269,6 +275,11 @@ fn a_tick_in_vain_makes_the_patience_longer(rt: HostRuntime) {
 #[test]
 fn who_asks_is_told_in_turn(rt: HostRuntime) {
     run(&rt, rt.alloc(), ASKED);
+}
+
+#[test]
+fn what_became_known_behind_a_question_is_told(rt: HostRuntime) {
+    run(&rt, rt.alloc(), KNOWN_BEHIND);
 }
 
 #[test]

@@ -1,6 +1,6 @@
 use Rattle.std.proofs.Common.{rules, arith, ◌≡◌, ◌↔◌, ◌⊎◌, ◌-◌, ◌<◌, ◌≤◌, ℕ, true, get_or, IsSome, List, Option, None, sym, ◌∙◌, ap, subst}
 use Rattle.std.proofs.lemmas.Option.{none-some, same_Some}
-use Rattle.server_pace.specs.Pacing.{told_from, IsFirstAsked, IsFull}
+use Rattle.server_pace.specs.Pacing.{IsFirstAsked, IsFull}
 use Rattle.server_times.specs.Timing.{passed}
 use Rattle.server_pace.proofs.questions.Questions.next.Goals as goal
 
@@ -16,10 +16,10 @@ one_first asked p q i j hp hq fp fq =
 
 -- the question that was taken is the one of which it is said
 pub returns-clause-due : goal.returns-clause-due
-returns-clause-due g c = λ p i node first range s h.
+returns-clause-due g c = λ p i node first s h.
     let is = c.in_ok-to.ensures.some in
-    let same = one_first c.args.self.now.asked c.in_ok-to.to p c.in_ok-to.asked i is.0.0 node.0 is.1 first in
+    let same = one_first c.args.self.now.asked c.in_ok-to.to p c.in_ok-to.first i is.0.0 node.0 is.1 first in
     let full = c.is_full-full.ensures s h in
-    let due : IsSome c.then_some.result ↔ (IsFull s c.args.known (told_from c.args.known c.in_ok-to.asked) ⊎ ((c.args.calm ≡ true) × (passed (get_or c.args.self.now.told (c.in_ok-to.to - 1) None) c.args.now c.args.times.telling ≡ true))) = search rules in
-    subst (λ q. IsSome c.then_some.result ↔ (IsFull s c.args.known (told_from c.args.known i) ⊎ ((c.args.calm ≡ true) × (passed (get_or c.args.self.now.told (q - 1) None) c.args.now c.args.times.telling ≡ true)))) same.0
-    (subst (λ j. IsSome c.then_some.result ↔ (IsFull s c.args.known (told_from c.args.known j) ⊎ ((c.args.calm ≡ true) × (passed (get_or c.args.self.now.told (c.in_ok-to.to - 1) None) c.args.now c.args.times.telling ≡ true)))) same.1 due)
+    let due : IsSome c.then_some.result ↔ (IsFull s c.args.known c.in_ok-to.first ⊎ ((c.args.calm ≡ true) × (passed (get_or c.args.self.now.told (c.in_ok-to.to - 1) None) c.args.now c.args.times.telling ≡ true))) = search rules in
+    subst (λ q. IsSome c.then_some.result ↔ (IsFull s c.args.known i ⊎ ((c.args.calm ≡ true) × (passed (get_or c.args.self.now.told (q - 1) None) c.args.now c.args.times.telling ≡ true)))) same.0
+    (subst (λ j. IsSome c.then_some.result ↔ (IsFull s c.args.known j ⊎ ((c.args.calm ≡ true) × (passed (get_or c.args.self.now.told (c.in_ok-to.to - 1) None) c.args.now c.args.times.telling ≡ true)))) same.1 due)
