@@ -1,7 +1,7 @@
 //! Whom a server hears.
 
 ghost use Rattle.std.specs.Prelude.{◌≡◌, ◌-◌, set, true};
-ghost use Rattle.server_notes.specs.Listening.{first_listening, AreHeard, FindsEnded, FindsSilent, Hears};
+ghost use Rattle.server_notes.specs.Listening.{first_listening, silence_at, AreHeard, FindsEnded, FindsSilent, Hears};
 ghost use Rattle.server_notes.specs.Noting.{told_at, ended_told};
 
 use crate::gathered::{count, gather};

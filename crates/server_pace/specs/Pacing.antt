@@ -1,7 +1,8 @@
 -- When a server tries again, asks and tells, and how long it rests. Times are milliseconds since it began, rests microseconds.
-use Rattle.std.specs.Prelude.{◌≡◌, ◌≢◌, ◌⊎◌, ℕ, suc, ◌+◌, ◌-◌, ◌*◌, ◌/◌, ◌^◌, ◌<◌, ◌≤◌, min, max, List, length, replicate, get_or, set, Bool, true, false, not, ◌||◌, nat_eq, nat_le, nat_lt, if◌then◌else◌, Option, Some, None, is_none, unwrap_or, IsTrue, ◌↔◌}
+use Rattle.std.specs.Prelude.{◌≡◌, ◌≢◌, ◌⊎◌, ℕ, suc, ◌+◌, ◌-◌, ◌*◌, ◌/◌, ◌^◌, ◌<◌, ◌≤◌, min, max, List, length, replicate, get_or, set, Bool, true, false, not, ◌||◌, ◌&&◌, nat_eq, nat_lt, if◌then◌else◌, Option, Some, None, unwrap_or, IsSome, IsTrue, ◌↔◌}
 use Rattle.site_ids.specs.declared.TheConstants.{MAX_INSTANCE}
 use Rattle.site_ids.specs.Ids.{BallotOf, IsInstance}
+use Rattle.site_ids.specs.declared.value.Vote.{Vote}
 use Rattle.durable.specs.Entries.{last_vote, IsPromise}
 use Rattle.node.specs.Nodes.{Node, Value, IsKnownPrefix, WantsTick}
 use Rattle.node.specs.declared.TheConstants.{MAX_TOLD}
@@ -27,12 +28,32 @@ use Rattle.server_times.specs.declared.times.Times.{Times}
 abbrev pub IsFresh : Ticking → Bool → Bool → Type 0
 IsFresh t wanted stirred = (wanted ≡ true) × (t.since ≡ None) × (stirred ≡ false)
 
--- a tick is waited for since it began to be wanted, or something became known; ticks in vain are forgotten where that came without one
-abbrev pub noted : Ticking → ℕ → Bool → ℕ → Ticking
-noted t now wanted known =
-    if nat_eq known t.known
-    then record t { since = if wanted then Some (unwrap_or t.since now) else None }
-    else record { since = if wanted then Some now else None; known = known; ticks = 0; vain = if nat_eq t.ticks 0 then 0 else t.vain }
+abbrev pub is_one_more : Option ℕ → ℕ → Bool
+is_one_more None known = false
+is_one_more (Some at) known = nat_eq known (at + 1)
+
+-- A tick is waited for since it began to be wanted, or something became known. Ticks in vain are forgotten where that came without one; and where it was one
+-- value more than at the last tick, of an own attempt, the next instance is tried at once
+abbrev pub noted : Ticking → ℕ → Seen → Ticking
+noted t now seen =
+    if nat_eq seen.known t.known
+    then record t { since = if seen.wanted then Some (unwrap_or t.since now) else None }
+    else record {
+      since = if seen.wanted then Some now else None;
+      known = seen.known;
+      ticks = 0;
+      vain = if nat_eq t.ticks 0 then 0 else t.vain;
+      at = t.at;
+      resumes = seen.resumes && is_one_more t.at seen.known;
+    }
+
+-- the next tick is due at once and not a patience later
+abbrev pub GoesOn : Ticking → Type 0
+GoesOn t = (t.resumes ≡ true) × IsSome t.since
+
+-- it ticks
+abbrev pub begun : Ticking → Ticking
+begun t = record t { at = Some t.known; resumes = false }
 
 -- how many times the patience: behind each tick once more, up to growth times in all; or behind each one in vain ten times more
 abbrev pub waited : Ticking → ℕ → ℕ
@@ -49,7 +70,7 @@ vain_after t answered =
     else (if nat_eq t.ticks 0 then t.vain else min (t.vain + 1) (2 ^ 32 - 1))
 
 abbrev pub ticked : Ticking → ℕ → Bool → Ticking
-ticked t now answered = record { since = Some now; known = t.known; ticks = min (t.ticks + 1) (2 ^ 32 - 1); vain = vain_after t answered }
+ticked t now answered = record (begun t) { since = Some now; ticks = min (t.ticks + 1) (2 ^ 32 - 1); vain = vain_after t answered }
 
 -- ---- yields: nodes take turns at the first unknown instance, by their numbers, with 1 behind 9
 
@@ -181,11 +202,27 @@ IsTriedBy s i (Some q) = IsInstance i × ((b : BallotOf) × IsPromise s.entries 
 abbrev pub IsUntried : Node → Type 0
 IsUntried s = (values : List Value) → IsKnownPrefix s values → IsPromise s.entries (suc (length values)) None
 
--- what a node shows: how many values it knows without a gap, and whether it wants a tick
-pub record IsSeen (s : Node) (drained : Bool) (seen : Seen) : Type 0 where
+-- its last vote at the instance is at a ballot of node p
+abbrev pub IsVotedBy : Node → ℕ → ℕ → Type 0
+IsVotedBy s i p = (vote : Vote) × (last_vote i s.entries ≡ Some vote) × (vote.ballot.node ≡ p)
+
+-- it has no attempt open
+abbrev pub IsIdle : Node → Type 0
+IsIdle s = (i : ℕ) → s.attempts i ≡ None
+
+-- where so many values are known: it voted for the last of them at an own ballot, and for some value at the next instance; and it has no attempt open
+pub record Resumes (s : Node) (me known : ℕ) : Type 0 where
+  pub range : IsInstance known × IsInstance (suc known)
+  pub own : IsVotedBy s known me
+  pub next : last_vote (suc known) s.entries ≢ None
+  pub idle : IsIdle s
+
+-- what node p shows: how many values it knows without a gap, whether it wants a tick, and whether it decides again what is on its record
+pub record IsSeen (s : Node) (p : ℕ) (drained : Bool) (seen : Seen) : Type 0 where
   pub known : (values : List Value) × IsKnownPrefix s values × (seen.known ≡ length values)
   pub wanted : IsTrue seen.wanted ↔ WantsTick s
   pub drained_is : seen.drained ≡ drained
+  pub resumes : IsTrue seen.resumes ↔ Resumes s p seen.known
 
 abbrev pub no_questions : Questions
 no_questions = record { asked = replicate 9 None; told = replicate 9 None }
@@ -196,7 +233,7 @@ first_pace times n node = record {
   times = times;
   cluster = n;
   patience = patience_of times node;
-  ticking = record { since = None; known = 0; ticks = 0; vain = 0 };
+  ticking = record { since = None; known = 0; ticks = 0; vain = 0; at = None; resumes = false };
   answered = replicate 9 false;
   last = record { at = None; known = 0; tried = false };
   questions = no_questions;
@@ -210,9 +247,9 @@ first_pace times n node = record {
 abbrev pub IsAnswered : Pace → Type 0
 IsAnswered p = p.cluster / 2 + 1 ≤ count_of p.answered
 
--- a tick that was due is one of those behind which more patience is had; one for a value that is fresh is not
+-- a tick that was due is one of those behind which more patience is had; one for a value that is fresh, or at once, is not
 abbrev pub ticking_after : Ticking → ℕ → Due → LastCall → Ticking
-ticking_after t now due TickOrAsk = if due.fresh then t else ticked t now due.answered
+ticking_after t now due TickOrAsk = if due.fresh || not due.tick then begun t else ticked t now due.answered
 ticking_after t now due last = t
 
 -- who answered is counted anew from a tick on
@@ -232,7 +269,7 @@ IsYielding p now tries = Yields (noted_tries p.yielding now tries) p.times now p
 -- once that is called
 abbrev pub pace_after : Pace → ℕ → Seen → Option ℕ → Due → LastCall → Pace
 pace_after p now seen tries due last = record p {
-  ticking = ticking_after (noted p.ticking now seen.wanted seen.known) now due last;
+  ticking = ticking_after (noted p.ticking now seen) now due last;
   answered = answers_after p.answered last;
   last = question_after p.last now seen.known last;
   stirred = false;
@@ -244,7 +281,8 @@ pub record IsDue (p : Pace) (now : ℕ) (seen : Seen) (tries : Option ℕ) (tell
   pub fresh : IsTrue due.fresh ↔ (IsFresh p.ticking seen.wanted p.stirred × (due.yields ≡ false))
   pub told : due.telling ≡ telling
   pub question : IsTrue due.question ↔ Asks (asking_of p.last p.times now seen p.empty)
-  pub tick : IsTrue due.tick ↔ Ticks (noted p.ticking now seen.wanted seen.known) now p.patience p.times.growth
+  pub tick : IsTrue due.tick ↔ Ticks (noted p.ticking now seen) now p.patience p.times.growth
   pub answered : IsTrue due.answered ↔ IsAnswered p
+  pub goes_on : IsTrue due.goes_on ↔ (GoesOn (noted p.ticking now seen) × (due.yields ≡ false))
   pub waits : IsTrue due.waits ↔ Waits (noted_tries p.yielding now tries) p.me
   pub yields : IsTrue due.yields ↔ IsYielding p now tries

@@ -1,5 +1,5 @@
 -- Which call a server makes behind the turns of a batch.
-use Rattle.std.specs.Prelude.{ℕ, Option, Some, None, if◌then◌else◌}
+use Rattle.std.specs.Prelude.{ℕ, ◌||◌, Option, Some, None, if◌then◌else◌}
 use Rattle.site_drive.specs.declared.last_call.LastCall.{LastCall}
 use Rattle.site_drive.specs.declared.last_call.LastCall.TheVariants.{TickOrAsk, Widen, Ask, Tell, Nothing}
 use Rattle.server_pace.specs.declared.due.Due.{Due}
@@ -13,4 +13,4 @@ telling_or (Some x) last = Tell x.0 x.1
 abbrev pub call_behind : Due → LastCall
 call_behind due =
     if due.fresh then TickOrAsk
-    else telling_or due.telling (if due.question then Ask else (if due.tick then TickOrAsk else (if due.yields then Nothing else Widen)))
+    else telling_or due.telling (if due.question then Ask else (if due.tick || due.goes_on then TickOrAsk else (if due.yields then Nothing else Widen)))

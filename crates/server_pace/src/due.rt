@@ -19,6 +19,8 @@ pub struct Due {
     pub tick: bool,
     /// A majority answered since the last one.
     pub answered: bool,
+    /// One is due at once, for the next of those instances that are on its record, and it does not yield.
+    pub goes_on: bool,
     /// Another one's attempt stands at the first unknown instance, or it is another one's turn.
     pub waits: bool,
     /// So it yields: its time to do so has not passed.
@@ -40,7 +42,7 @@ impl Due {
         if self.question {
             return LastCall::Ask;
         }
-        if self.tick {
+        if self.tick || self.goes_on {
             return LastCall::TickOrAsk;
         }
         if self.yields {

@@ -7,7 +7,7 @@ ghost use Rattle.server_pace.specs.declared.due.Due.{Due};
 ghost use Rattle.server_pace.specs.declared.seen.Seen.{Seen};
 ghost use Rattle.site_drive.specs.declared.last_call.LastCall.TheVariants.{Ask, TickOrAsk};
 ghost use Rattle.server_notes.specs.Listening.{AreGathered};
-ghost use Rattle.server_pace.specs.Pacing.{answers_after, empty_after, first_pace, heard, pace_after, question_after, resting_of, ticking_after, IsAnswered, IsDue, IsFirstAsked, IsFresh, IsSeen, IsTriedBy, IsUntried, IsYielding};
+ghost use Rattle.server_pace.specs.Pacing.{answers_after, empty_after, first_pace, heard, pace_after, question_after, resting_of, ticking_after, GoesOn, IsAnswered, IsDue, IsFirstAsked, IsFresh, IsSeen, IsTriedBy, IsUntried, IsYielding};
 ghost use Rattle.server_times.specs.Timing.{rest_after};
 ghost use Rattle.server_pace.specs.Turns.{call_behind};
 
@@ -90,10 +90,10 @@ impl Pace {
     /// counts from now on. A value that was just submitted is tried at once where nobody tries one and it is no other server's turn.
     pub fn due<D: Disk>(&mut self, now: u64, node: &Node<D>, drained: bool) -> LastCall
         ensures fresh { (s : AbstractNode) → IsNodeOf node.now s → WantsTick s → IsUntried s → ¬ IsYielding self.old now None → self.old.ticking.since ≡ None → self.old.stirred ≡ false → result ≡ TickOrAsk }
-        ensures due { (s : AbstractNode) → IsNodeOf node.now s → (seen : Seen) × (tries : Option ℕ) × (telling : Option (ℕ × ℕ)) × (due : Due) × IsSeen s drained seen × IsTriedBy s (suc seen.known) tries × IfSome telling (λ x. IsFirstAsked self.old.questions.asked x.0 x.1) × IsDue self.old now seen tries telling due × (result ≡ call_behind due)
+        ensures due { (s : AbstractNode) → IsNodeOf node.now s → (seen : Seen) × (tries : Option ℕ) × (telling : Option (ℕ × ℕ)) × (due : Due) × IsSeen s self.old.me drained seen × IsTriedBy s (suc seen.known) tries × IfSome telling (λ x. IsFirstAsked self.old.questions.asked x.0 x.1) × IsDue self.old now seen tries telling due × (result ≡ call_behind due)
             × (self.new ≡ record (pace_after self.old now seen tries due result) { questions = self.new.questions }) }
     {
-        let seen = Seen::of(node, drained);
+        let seen = Seen::of(node, self.me, drained);
         let telling = self.next_telling(now, node, seen);
         let tries = first_tried_by(node, seen.known);
         self.call(now, seen, tries, telling)
@@ -124,6 +124,13 @@ impl Pace {
         !yields && self.ticking.is_fresh(wanted, self.stirred)
     }
 
+    /// Whether the next tick is due at once, and it does not yield.
+    fn goes_on(&self, yields: bool) -> bool
+        ensures { IsTrue result ↔ (GoesOn self.now.ticking × (yields ≡ false)) }
+    {
+        !yields && self.ticking.goes_on()
+    }
+
     /// Whether a majority answered since the last tick.
     fn is_answered(&self) -> bool
         ensures { IsTrue result ↔ IsAnswered self.now }
@@ -150,13 +157,14 @@ impl Pace {
         let fresh = self.is_fresh(seen.wanted, yields);
         self.yielding.pass(now, waits, yields);
         let asking = self.last.asking(self.times, now, seen, self.empty);
-        self.ticking = self.ticking.noted(now, seen.wanted, seen.known);
+        self.ticking = self.ticking.noted(now, seen);
         let due = Due {
             fresh,
             telling,
             question: asking.is_due(),
             tick: self.ticking.is_due(now, self.patience, self.times.growth),
             answered: self.is_answered(),
+            goes_on: self.goes_on(yields),
             waits,
             yields,
         };
@@ -180,9 +188,11 @@ impl Pace {
             }
             LastCall::TickOrAsk => {
                 self.answered = [false; 9];
-                if !due.fresh {
-                    self.ticking = self.ticking.ticked(now, due.answered);
-                }
+                self.ticking = if due.fresh || !due.tick {
+                    self.ticking.begun()
+                } else {
+                    self.ticking.ticked(now, due.answered)
+                };
             }
             _ => {}
         }

@@ -1,9 +1,9 @@
 //! What a server sees of its node.
 
-ghost use Rattle.std.specs.Prelude.{suc};
+ghost use Rattle.std.specs.Prelude.{◌↔◌, suc, IsTrue};
 ghost use Rattle.node.specs.Nodes.{Node as AbstractNode};
 ghost use Rattle.node.specs.Standing.{IsNodeOf};
-ghost use Rattle.server_pace.specs.Pacing.{IsSeen, IsTriedBy};
+ghost use Rattle.server_pace.specs.Pacing.{IsIdle, IsSeen, IsTriedBy, IsVotedBy, Resumes};
 
 use node::Node;
 use site_disk::Disk;
@@ -18,6 +18,8 @@ pub struct Seen {
     pub wanted: bool,
     /// All that had come was taken in.
     pub drained: bool,
+    /// Its own ballot made the last of them known, it voted at the next instance, and it has no attempt open.
+    pub resumes: bool,
 }
 
 /// The node to whose ballot the first unknown instance is promised, if it is, where so many values are known.
@@ -29,15 +31,47 @@ pub(crate) fn first_tried_by<D: Disk>(node: &Node<D>, known: u32) -> Option<Node
     Some(ballot.node())
 }
 
+/// Whether a node's last vote at the instance is at a ballot of that one.
+fn is_voted_by<D: Disk>(node: &Node<D>, instance: Instance, by: NodeId) -> bool
+    ensures { (s : AbstractNode) → IsNodeOf node.now s → IsTrue result ↔ IsVotedBy s instance by }
+{
+    match &node.slot(instance).vote {
+        Some(vote) => vote.ballot.node().number() == by.number(),
+        None => false,
+    }
+}
+
+/// Whether it has no attempt open.
+fn is_idle<D: Disk>(node: &Node<D>) -> bool
+    ensures { (s : AbstractNode) → IsNodeOf node.now s → IsTrue result ↔ IsIdle s }
+{
+    node.attempts() == 0
+}
+
+/// Whether it is about to decide again what is on its record, where so many values are known.
+fn resumes<D: Disk>(node: &Node<D>, me: NodeId, known: u32) -> bool
+    ensures { (s : AbstractNode) → IsNodeOf node.now s → IsTrue result ↔ Resumes s me known }
+{
+    let Some(last) = Instance::new(known) else {
+        return false;
+    };
+    let Some(next) = Instance::new(known.saturating_add(1)) else {
+        return false;
+    };
+    is_voted_by(node, last, me) && node.slot(next).vote.is_some() && is_idle(node)
+}
+
 impl Seen {
-    /// What is seen of a node, behind a batch that took in all that had come, or not.
-    pub(crate) fn of<D: Disk>(node: &Node<D>, drained: bool) -> Seen
-        ensures { (s : AbstractNode) → IsNodeOf node.now s → IsSeen s drained result }
+    /// What is seen of this node, behind a batch that took in all that had come, or not.
+    pub(crate) fn of<D: Disk>(node: &Node<D>, me: NodeId, drained: bool) -> Seen
+        ensures { (s : AbstractNode) → IsNodeOf node.now s → IsSeen s me drained result }
     {
+        let known = node.known();
         Seen {
-            known: node.known(),
+            known,
             wanted: node.wants_tick(),
             drained,
+            resumes: resumes(node, me, known),
         }
     }
 }

@@ -1,7 +1,9 @@
 //! When a server ticks.
 
 ghost use Rattle.std.specs.Prelude.{◌≡◌, ◌↔◌, IsTrue, None, true, false};
-ghost use Rattle.server_pace.specs.Pacing.{noted, ticked, vain_after, waited, Ticks};
+ghost use Rattle.server_pace.specs.Pacing.{begun, is_one_more, noted, ticked, vain_after, waited, GoesOn, Ticks};
+
+use crate::seen::Seen;
 
 /// A tick that a majority answered in vain makes the patience longer by so many of it.
 const LONGER: u64 = 10;
@@ -17,18 +19,24 @@ pub struct Ticking {
     pub ticks: u32,
     /// Ticks in a row that a majority answered in vain: no news came before the next. So servers far apart outbid one another, or themselves.
     pub vain: u32,
+    /// So many values were known as it ticked last, if it did: where it was due, or a value fresh, or at once.
+    pub at: Option<u32>,
+    /// Its last tick made one instance known, and it voted at the next: what it has on record is decided again.
+    pub resumes: bool,
 }
 
 impl Ticking {
     /// None was wanted.
     pub fn new() -> Ticking
-        ensures { result ≡ record { since = None; known = 0; ticks = 0; vain = 0 } }
+        ensures { result ≡ record { since = None; known = 0; ticks = 0; vain = 0; at = None; resumes = false } }
     {
         Ticking {
             since: None,
             known: 0,
             ticks: 0,
             vain: 0,
+            at: None,
+            resumes: false,
         }
     }
 
@@ -39,22 +47,33 @@ impl Ticking {
         wanted && self.since.is_none() && !stirred
     }
 
-    /// What stands now that a tick is wanted or not, and so many values are known. The patience begins anew with news, and what was in vain is forgotten with
-    /// such as came without a tick.
-    pub fn noted(self, now: u64, wanted: bool, known: u32) -> Ticking
-        ensures { result ≡ noted self now wanted known }
+    /// Whether one value more is known than at its last tick.
+    fn is_one_more(self, known: u32) -> bool
+        ensures { result ≡ is_one_more self.at known }
     {
-        if known == self.known {
+        match self.at {
+            Some(at) => known > at && known - at == 1,
+            None => false,
+        }
+    }
+
+    /// What stands now that so much is seen. The patience begins anew with news, and what was in vain is forgotten with such as came without a tick.
+    pub fn noted(self, now: u64, seen: Seen) -> Ticking
+        ensures { result ≡ noted self now seen }
+    {
+        if seen.known == self.known {
             return Ticking {
-                since: wanted.then_some(self.since.unwrap_or(now)),
+                since: seen.wanted.then_some(self.since.unwrap_or(now)),
                 ..self
             };
         }
         Ticking {
-            since: wanted.then_some(now),
-            known,
+            since: seen.wanted.then_some(now),
+            known: seen.known,
             ticks: 0,
             vain: if self.ticks == 0 { 0 } else { self.vain },
+            at: self.at,
+            resumes: seen.resumes && self.is_one_more(seen.known),
         }
     }
 
@@ -76,6 +95,24 @@ impl Ticking {
         }
     }
 
+    /// Whether the next tick is due at once and not a patience later.
+    pub fn goes_on(self) -> bool
+        ensures { IsTrue result ↔ GoesOn self }
+    {
+        self.resumes && self.since.is_some()
+    }
+
+    /// It ticks, be it due or not.
+    pub fn begun(self) -> Ticking
+        ensures { result ≡ begun self }
+    {
+        Ticking {
+            at: Some(self.known),
+            resumes: false,
+            ..self
+        }
+    }
+
     /// How many ticks in a row were in vain, where a majority answered since the last one, or not.
     fn vain_after(self, answered: bool) -> u32
         ensures { result ≡ vain_after self answered }
@@ -89,15 +126,15 @@ impl Ticking {
         }
     }
 
-    /// It ticked, and a majority answered since the last tick, or not.
+    /// It ticks as that is due, and a majority answered since the last tick, or not.
     pub fn ticked(self, now: u64, answered: bool) -> Ticking
         ensures { result ≡ ticked self now answered }
     {
         Ticking {
             since: Some(now),
-            known: self.known,
             ticks: self.ticks.saturating_add(1),
             vain: self.vain_after(answered),
+            ..self.begun()
         }
     }
 }

@@ -5,7 +5,8 @@ use crate::written_clock::{Call, called};
 use server_pace::Due;
 use site_ids::Instance;
 
-/// What stands (fresh, a telling, a question, a tick, whether it yields), and what is called: the first of them that applies.
+/// What stands (fresh, a telling, a question, a tick, whether it yields), and what is called: the first of them that applies. A tick is due behind the
+/// patience, or at once.
 const CALLS: &[(bool, bool, bool, bool, bool, Call)] = &[
     (false, false, false, false, false, Call::Widen),
     (false, false, false, true, false, Call::Tick),
@@ -27,16 +28,19 @@ fn one_call_is_due_behind_a_batch(rt: HostRuntime) {
     let to = node_of(&rt, 3, 2);
     let first = Instance::new(7).expect(&rt, "an instance");
     for &(fresh, telling, question, tick, yields, call) in CALLS {
-        let due = Due {
-            fresh,
-            telling: telling.then_some((to, first)),
-            question,
-            tick,
-            answered: tick,
-            waits: yields,
-            yields,
-        };
-        let row = (fresh, telling, question, tick, yields);
-        same(&rt, (row, called(&due.last_call())), (row, call));
+        for at_once in [false, true] {
+            let due = Due {
+                fresh,
+                telling: telling.then_some((to, first)),
+                question,
+                tick: tick && !at_once,
+                answered: tick,
+                goes_on: tick && at_once,
+                waits: yields,
+                yields,
+            };
+            let row = (fresh, telling, question, tick, yields);
+            same(&rt, (row, called(&due.last_call())), (row, call));
+        }
     }
 }

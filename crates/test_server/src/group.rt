@@ -93,7 +93,12 @@ pub(crate) fn is_seated(
 }
 
 /// The pieces in which these letters go to a node.
-pub(crate) fn packed(rt: &impl Abort, alloc: Global, letters: &[Letter], to: NodeId) -> Vec<Vec<u8>> {
+pub(crate) fn packed(
+    rt: &impl Abort,
+    alloc: Global,
+    letters: &[Letter],
+    to: NodeId,
+) -> Vec<Vec<u8>> {
     let mut packet = Packet::new(alloc).expect(rt, "memory");
     let mut pieces = Vec::new(alloc);
     let mut rest = letters;

@@ -120,6 +120,16 @@ const NOTED: &[Noted] = &[
     (None, 0, false, 8, None, 0, 0),
 ];
 
+/// So many values are known, and a tick is wanted, or not.
+fn seen(known: u32, wanted: bool, resumes: bool) -> Seen {
+    Seen {
+        known,
+        wanted,
+        drained: true,
+        resumes,
+    }
+}
+
 #[test]
 fn news_begin_the_patience_anew(rt: HostRuntime) {
     for &(since, ticks, wanted, known, then, due, vain) in NOTED {
@@ -128,18 +138,54 @@ fn news_begin_the_patience_anew(rt: HostRuntime) {
             known: 7,
             ticks,
             vain: 2,
+            ..Ticking::new()
         };
         let noted = Ticking {
             since: then,
             known,
             ticks: due,
             vain,
+            ..Ticking::new()
         };
-        same(
-            &rt,
-            (ticking, wanted, ticking.noted(9, wanted, known)),
-            (ticking, wanted, noted),
-        );
+        let is = ticking.noted(9, seen(known, wanted, false));
+        same(&rt, (ticking, wanted, is), (ticking, wanted, noted));
+    }
+}
+
+/// How many values were known as it ticked last, how many were noted; whether a tick is wanted, how many are known, whether its own ballot made the last of
+/// them known and it voted at the next; and whether the next tick is due at once.
+const GOES_ON: &[(Option<u32>, u32, bool, u32, bool, bool)] = &[
+    (Some(7), 7, true, 8, true, true),
+    (Some(7), 7, false, 8, true, false),
+    (Some(7), 7, true, 8, false, false),
+    // Nothing became known, or more than one, or without a tick of its own.
+    (Some(7), 7, true, 7, true, false),
+    (Some(7), 7, true, 9, true, false),
+    (Some(7), 8, true, 9, true, false),
+    (Some(6), 7, true, 8, true, false),
+    (Some(9), 7, true, 8, true, false),
+    (None, 0, true, 1, true, false),
+    (Some(0), 0, true, 1, true, true),
+    (Some(u32::MAX), 7, true, 0, true, false),
+];
+
+#[test]
+fn a_server_that_decides_again_goes_on_at_once(rt: HostRuntime) {
+    for &(at, noted, wanted, known, resumes, goes_on) in GOES_ON {
+        let ticking = Ticking {
+            at,
+            known: noted,
+            ..Ticking::new()
+        };
+        let then = ticking.noted(9, seen(known, wanted, resumes));
+        same(&rt, (ticking, then.goes_on()), (ticking, goes_on));
+        // It stays so until it ticks.
+        let later = then.noted(99, seen(known, wanted, false));
+        same(&rt, (then, later.goes_on()), (then, goes_on));
+        let ticked = [then.begun(), then.ticked(9, true)];
+        for after in ticked {
+            same(&rt, (after.at, after.goes_on()), (Some(known), false));
+        }
     }
 }
 
@@ -171,6 +217,7 @@ fn the_patience_grows(rt: HostRuntime) {
             known: 7,
             ticks,
             vain,
+            ..Ticking::new()
         };
         same(
             &rt,
@@ -201,12 +248,15 @@ fn a_tick_that_a_majority_answers_in_vain_is_counted(rt: HostRuntime) {
             known: 7,
             ticks,
             vain,
+            ..Ticking::new()
         };
         let ticked = Ticking {
             since: Some(9),
             known: 7,
             ticks: due,
             vain: then,
+            at: Some(7),
+            resumes: false,
         };
         same(
             &rt,
@@ -244,6 +294,7 @@ fn a_server_asks_in_its_time_and_behind_news(rt: HostRuntime) {
             known,
             wanted: false,
             drained,
+            resumes: false,
         };
         let asking = last.asking(TIMES, now, seen, empty);
         same(

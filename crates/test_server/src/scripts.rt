@@ -50,6 +50,21 @@ fn a_node_that_was_away_comes_back(rt: HostRuntime) {
     group.stands(&rt, 3, 40, 40);
 }
 
+#[test]
+fn a_majority_that_is_back_decides_all_again_in_a_row(rt: HostRuntime) {
+    let mut group = Group::new(&rt, rt.alloc(), 3);
+    posts(&rt, &mut group, 1, 40, usize::MAX);
+    group.goes_on(&rt, 500, 3);
+    // Node 3 is told all of it, and votes for nothing.
+    group.goes_on(&rt, 1_000, 0);
+    group.stands(&rt, 3, 40, 40);
+    group.crash(&rt, 0);
+    // An instance each 150 milliseconds would take six seconds.
+    group.goes_on(&rt, 2_500, 1);
+    group.stands(&rt, 2, 40, 40);
+    group.stands(&rt, 3, 40, 40);
+}
+
 /// How much of what was not synced a power cut leaves.
 const CHOICES: &[u8] = &[0, 1, 7];
 

@@ -9,13 +9,14 @@ not_true false h = refl
 -- due is what the calls answered, of what was noted first
 pub returns-clause-due : goal.returns-clause-due
 returns-clause-due c = (
-  record { fresh = c.is_fresh-fresh.result; telling = c.args.telling; question = c.is_due.result; tick = c.is_due-2.result; answered = c.is_answered.result; waits = c.waits-waits.result; yields = c.is_due-yields.result },
+  record { fresh = c.is_fresh-fresh.result; telling = c.args.telling; question = c.is_due.result; tick = c.is_due-2.result; answered = c.is_answered.result; goes_on = c.goes_on.result; waits = c.waits-waits.result; yields = c.is_due-yields.result },
   record {
     fresh = c.is_fresh-fresh.ensures;
     told = search rules;
     question = search rules;
     tick = search rules;
     answered = search rules;
+    goes_on = search rules;
     waits = subst (λ y. IsTrue c.waits-waits.result ↔ Waits y c.args.self.now.me) c.note.ensures c.waits-waits.ensures;
     yields = subst (λ y. IsTrue c.is_due-yields.result ↔ Yields y c.args.self.now.times c.args.now c.args.self.now.me) c.note.ensures c.is_due-yields.ensures.due;
   },

@@ -16,7 +16,7 @@ returns-clause-due g c = λ s h.
       c.of-seen.ensures s h,
       c.first_tried_by-tries.ensures s h,
       c.next_telling-telling.ensures.told,
-      record { fresh = is.fresh; told = is.told; question = is.question; tick = is.tick; answered = is.answered; waits = is.waits; yields = is.yields },
+      record { fresh = is.fresh; told = is.told; question = is.question; tick = is.tick; answered = is.answered; goes_on = is.goes_on; waits = is.waits; yields = is.yields },
       due.2,
       search rules,
     )
