@@ -30,7 +30,7 @@ IsFresh t wanted stirred = (wanted ≡ true) × (t.since ≡ None) × (stirred �
 
 abbrev pub is_one_more : Option ℕ → ℕ → Bool
 is_one_more None known = false
-is_one_more (Some at) known = nat_eq known (at + 1)
+is_one_more (Some at) known = nat_eq known (min (at + 1) (2 ^ 32 - 1))
 
 -- A tick is waited for since it began to be wanted, or something became known. Ticks in vain are forgotten where that came without one; and where it was one
 -- value more than at the last tick, of an own attempt, the next instance is tried at once

@@ -174,6 +174,16 @@ impl Pace {
         last
     }
 
+    /// What stands of ticks behind one: for a value that is fresh, or at once, or as it was due.
+    fn ticked(&self, now: u64, due: Due) -> Ticking
+        ensures { result ≡ ticking_after self.now.ticking now due TickOrAsk }
+    {
+        if due.fresh || !due.tick {
+            return self.ticking.begun();
+        }
+        self.ticking.ticked(now, due.answered)
+    }
+
     /// A question, or a tick, counts from now on.
     fn begin(&mut self, now: u64, known: u32, due: Due, last: &LastCall)
         ensures { self.new ≡ record self.old { ticking = ticking_after self.old.ticking now due last.now; answered = answers_after self.old.answered last.now; last = question_after self.old.last now known last.now } }
@@ -188,11 +198,7 @@ impl Pace {
             }
             LastCall::TickOrAsk => {
                 self.answered = [false; 9];
-                self.ticking = if due.fresh || !due.tick {
-                    self.ticking.begun()
-                } else {
-                    self.ticking.ticked(now, due.answered)
-                };
+                self.ticking = self.ticked(now, due);
             }
             _ => {}
         }

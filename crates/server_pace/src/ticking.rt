@@ -52,7 +52,7 @@ impl Ticking {
         ensures { result ≡ is_one_more self.at known }
     {
         match self.at {
-            Some(at) => known > at && known - at == 1,
+            Some(at) => known == at.saturating_add(1),
             None => false,
         }
     }
