@@ -169,14 +169,14 @@ impl Pace {
             yields,
         };
         let last = due.last_call();
-        self.begin(now, seen.known, due, &last);
+        self.begin(now, seen.known, &due, &last);
         self.stirred = false;
         last
     }
 
     /// What stands of ticks behind one: for a value that is fresh, or at once, or as it was due.
-    fn ticked(&self, now: u64, due: Due) -> Ticking
-        ensures { result ≡ ticking_after self.now.ticking now due TickOrAsk }
+    fn ticked(&self, now: u64, due: &Due) -> Ticking
+        ensures { result ≡ ticking_after self.now.ticking now due.now TickOrAsk }
     {
         if due.fresh || !due.tick {
             return self.ticking.begun();
@@ -185,8 +185,8 @@ impl Pace {
     }
 
     /// A question, or a tick, counts from now on.
-    fn begin(&mut self, now: u64, known: u32, due: Due, last: &LastCall)
-        ensures { self.new ≡ record self.old { ticking = ticking_after self.old.ticking now due last.now; answered = answers_after self.old.answered last.now; last = question_after self.old.last now known last.now } }
+    fn begin(&mut self, now: u64, known: u32, due: &Due, last: &LastCall)
+        ensures { self.new ≡ record self.old { ticking = ticking_after self.old.ticking now due.now last.now; answered = answers_after self.old.answered last.now; last = question_after self.old.last now known last.now } }
     {
         match last {
             LastCall::Ask => {
