@@ -1,14 +1,17 @@
-use Rattle.std.proofs.Common.{rules, subst, sym, refl, ◌≡◌, ℕ, suc, Option, Some, None}
+use Rattle.std.proofs.Common.{rules, subst, sym, refl, ap, ◌≡◌, ℕ, suc, Option, Some, None}
 use Rattle.durable.specs.Entries.{IsPromise}
 use Rattle.node.specs.Nodes.{Node}
-use Rattle.server_pace.specs.Pacing.{IsDue, IsFresh, IsTriedBy, IsYielding}
+use Rattle.server_pace.specs.Pacing.{pace_after, IsDue, IsFresh, IsTriedBy, IsYielding}
+use Rattle.server_pace.specs.declared.pace.Pace.{Pace}
 use Rattle.server_pace.proofs.pace.Pace.due.Goals as goal
 
 -- it is what `call` answered; that the questions moved on before changes nothing else
 pub returns-clause-due : goal.returns-clause-due
 returns-clause-due g c = λ s h.
     let due = c.call.ensures.due in
-    let is = subst (λ p. IsDue p c.args.now c.of-seen.result c.first_tried_by-tries.result c.next_telling-telling.result due.0) c.next_telling-telling.ensures.same due.1 in (
+    let is = subst (λ p. IsDue p c.args.now c.of-seen.result c.first_tried_by-tries.result c.next_telling-telling.result due.0) c.next_telling-telling.ensures.same due.1 in
+    let after = subst (λ (p : Pace). c.call.new.self ≡ pace_after p c.args.now c.of-seen.result c.first_tried_by-tries.result due.0 c.call.result) c.next_telling-telling.ensures.same due.3 in
+    let asked = ap (λ (p : Pace). p.questions) after in (
       c.of-seen.result,
       c.first_tried_by-tries.result,
       c.next_telling-telling.result,
@@ -18,7 +21,7 @@ returns-clause-due g c = λ s h.
       c.next_telling-telling.ensures.told,
       record { fresh = is.fresh; told = is.told; question = is.question; tick = is.tick; answered = is.answered; goes_on = is.goes_on; waits = is.waits; yields = is.yields },
       due.2,
-      search rules,
+      subst (λ q. c.call.new.self ≡ record (pace_after c.args.self.now c.args.now c.of-seen.result c.first_tried_by-tries.result due.0 c.call.result) { questions = q }) (sym asked) after,
     )
 
 -- what is promised to none, nobody tries
