@@ -24,16 +24,22 @@ use Rattle.server_times.specs.declared.times.Times.{Times}
 
 -- ---- ticks
 
+-- none was wanted
+abbrev pub first_ticking : Ticking
+first_ticking = record { since = None; known = 0; ticks = 0; longer = 0; at = None; resumes = false }
+
 -- a value was just submitted, and nobody tries one: a tick begins to be wanted, and the last batch stirred nothing
 abbrev pub IsFresh : Ticking → Bool → Bool → Type 0
 IsFresh t wanted stirred = (wanted ≡ true) × (t.since ≡ None) × (stirred ≡ false)
 
+-- one value more is known than at the last tick
 abbrev pub is_one_more : Option ℕ → ℕ → Bool
 is_one_more None known = false
 is_one_more (Some at) known = nat_eq known (min (at + 1) (2 ^ 32 - 1))
 
--- A tick is waited for since it began to be wanted, or something became known. Ticks in vain are forgotten where that came without one; and where it was one
--- value more than at the last tick, of an own attempt, the next instance is tried at once
+-- A tick is waited for since it began to be wanted, or something became known. Ticks in vain are forgotten
+-- where that came without a tick that was due; and where it is one value more than at the last tick, of an
+-- own attempt, the next instance is tried at once
 abbrev pub noted : Ticking → ℕ → Seen → Ticking
 noted t now seen =
     if nat_eq seen.known t.known
@@ -42,7 +48,7 @@ noted t now seen =
       since = if seen.wanted then Some now else None;
       known = seen.known;
       ticks = 0;
-      vain = if nat_eq t.ticks 0 then 0 else t.vain;
+      longer = if nat_eq t.ticks 0 then 0 else t.longer;
       at = t.at;
       resumes = seen.resumes && is_one_more t.at seen.known;
     }
@@ -55,22 +61,29 @@ GoesOn t = (t.resumes ≡ true) × IsSome t.since
 abbrev pub begun : Ticking → Ticking
 begun t = record t { at = Some t.known; resumes = false }
 
--- how many times the patience: behind each tick once more, up to growth times in all; or behind each one in vain ten times more
+-- how many times the patience: behind each tick once more, up to growth times in all; or longer, behind ticks
+-- in vain
 abbrev pub waited : Ticking → ℕ → ℕ
-waited t growth = max (min (t.ticks + 1) growth) (t.vain * 10 + 1)
+waited t growth = max (min (t.ticks + 1) growth) (t.longer + 1)
 
 -- the patience has passed so many times
 abbrev pub Ticks : Ticking → ℕ → ℕ → ℕ → Type 0
-Ticks t now patience growth = (since : ℕ) × (t.since ≡ Some since) × (patience * waited t growth ≤ now - since)
+Ticks t now patience growth =
+    (since : ℕ) × (t.since ≡ Some since) × (patience * waited t growth ≤ now - since)
 
--- A tick was in vain where a majority answered since, and nothing became known before the next one. One that no majority answered ends the row
-abbrev pub vain_after : Ticking → Bool → ℕ
-vain_after t answered =
+-- A tick was in vain where a majority answered since, and nothing became known before the next one: behind
+-- each of a row it waits longer. One that no majority answered ends the row
+abbrev pub longer_after : Ticking → Times → Bool → ℕ
+longer_after t times answered =
     if not answered then 0
-    else (if nat_eq t.ticks 0 then t.vain else min (t.vain + 1) (2 ^ 32 - 1))
+    else (if nat_eq t.ticks 0 then t.longer else min (t.longer + times.longer) (2 ^ 32 - 1))
 
-abbrev pub ticked : Ticking → ℕ → Bool → Ticking
-ticked t now answered = record (begun t) { since = Some now; ticks = min (t.ticks + 1) (2 ^ 32 - 1); vain = vain_after t answered }
+abbrev pub ticked : Ticking → Times → ℕ → Bool → Ticking
+ticked t times now answered = record (begun t) {
+  since = Some now;
+  ticks = min (t.ticks + 1) (2 ^ 32 - 1);
+  longer = longer_after t times answered;
+}
 
 -- ---- yields: nodes take turns at the first unknown instance, by their numbers, with 1 behind 9
 
@@ -163,7 +176,8 @@ IsFull s known first =
     let final = first + (MAX_TOLD - 1) in
     (final ≤ MAX_INSTANCE) × ((final ≤ known) ⊎ (last_vote final s.entries ≢ None))
 
--- node p is the first whose question waits, by their numbers, and is told from there on: from instance i, for which it asked
+-- node p is the first whose question waits, by their numbers, and it asked for instance i: from there on it
+-- is told
 abbrev pub IsFirstAsked : List (Option ℕ) → ℕ → ℕ → Type 0
 IsFirstAsked asked p i =
     (get_or asked (p - 1) None ≡ Some i)
@@ -210,14 +224,16 @@ IsVotedBy s i p = (vote : Vote) × (last_vote i s.entries ≡ Some vote) × (vot
 abbrev pub IsIdle : Node → Type 0
 IsIdle s = (i : ℕ) → s.attempts i ≡ None
 
--- where so many values are known: it voted for the last of them at an own ballot, and for some value at the next instance; and it has no attempt open
+-- where so many values are known: it voted for the last of them at an own ballot, and at the next instance at
+-- any; and it has no attempt open
 pub record Resumes (s : Node) (me known : ℕ) : Type 0 where
   pub range : IsInstance known × IsInstance (suc known)
   pub own : IsVotedBy s known me
   pub next : last_vote (suc known) s.entries ≢ None
   pub idle : IsIdle s
 
--- what node p shows: how many values it knows without a gap, whether it wants a tick, and whether it decides again what is on its record
+-- what node p shows: how many values it knows without a gap, whether it wants a tick, and whether it decides
+-- again what is on its record
 pub record IsSeen (s : Node) (p : ℕ) (drained : Bool) (seen : Seen) : Type 0 where
   pub known : (values : List Value) × IsKnownPrefix s values × (seen.known ≡ length values)
   pub wanted : IsTrue seen.wanted ↔ WantsTick s
@@ -233,7 +249,7 @@ first_pace times n node = record {
   times = times;
   cluster = n;
   patience = patience_of times node;
-  ticking = record { since = None; known = 0; ticks = 0; vain = 0; at = None; resumes = false };
+  ticking = first_ticking;
   answered = replicate 9 false;
   last = record { at = None; known = 0; tried = false };
   questions = no_questions;
@@ -243,14 +259,16 @@ first_pace times n node = record {
   yielding = first_yielding;
 }
 
--- more than half of the nodes answered since the last tick, itself included
+-- more than half of the nodes promised or refused something since the last tick, itself included
 abbrev pub IsAnswered : Pace → Type 0
 IsAnswered p = p.cluster / 2 + 1 ≤ count_of p.answered
 
--- a tick that was due is one of those behind which more patience is had; one for a value that is fresh, or at once, is not
-abbrev pub ticking_after : Ticking → ℕ → Due → LastCall → Ticking
-ticking_after t now due TickOrAsk = if due.fresh || not due.tick then begun t else ticked t now due.answered
-ticking_after t now due last = t
+-- a tick that was due is one of those behind which more patience is had; one for a value that is fresh, or at
+-- once, is not
+abbrev pub ticking_after : Times → Ticking → ℕ → Due → LastCall → Ticking
+ticking_after times t now due TickOrAsk =
+    if due.fresh || not due.tick then begun t else ticked t times now due.answered
+ticking_after times t now due last = t
 
 -- who answered is counted anew from a tick on
 abbrev pub answers_after : List Bool → LastCall → List Bool
@@ -269,7 +287,7 @@ IsYielding p now tries = Yields (noted_tries p.yielding now tries) p.times now p
 -- once that is called
 abbrev pub pace_after : Pace → ℕ → Seen → Option ℕ → Due → LastCall → Pace
 pace_after p now seen tries due last = record p {
-  ticking = ticking_after (noted p.ticking now seen) now due last;
+  ticking = ticking_after p.times (noted p.ticking now seen) now due last;
   answered = answers_after p.answered last;
   last = question_after p.last now seen.known last;
   stirred = false;

@@ -13,4 +13,7 @@ telling_or (Some x) last = Tell x.0 x.1
 abbrev pub call_behind : Due → LastCall
 call_behind due =
     if due.fresh then TickOrAsk
-    else telling_or due.telling (if due.question then Ask else (if due.tick || due.goes_on then TickOrAsk else (if due.yields then Nothing else Widen)))
+    else telling_or due.telling
+        (if due.question then Ask
+        else (if due.tick || due.goes_on then TickOrAsk
+        else (if due.yields then Nothing else Widen)))

@@ -70,7 +70,8 @@ impl Pace {
 
     /// Behind a batch: what it delivered.
     pub fn hear(&mut self, delivered: &Delivered)
-        ensures is { self.new ≡ record (heard self.old delivered.now.attempts delivered.now.stirs) { questions = self.new.questions; answered = self.new.answered } }
+        ensures is { self.new ≡ record (heard self.old delivered.now.attempts delivered.now.stirs) {
+            questions = self.new.questions; answered = self.new.answered } }
         ensures answered { AreGathered self.old.answered delivered.now.answered self.new.answered }
     {
         self.questions.hear(self.cluster, delivered);
@@ -90,7 +91,11 @@ impl Pace {
     /// counts from now on. A value that was just submitted is tried at once where nobody tries one and it is no other server's turn.
     pub fn due<D: Disk>(&mut self, now: u64, node: &Node<D>, drained: bool) -> LastCall
         ensures fresh { (s : AbstractNode) → IsNodeOf node.now s → WantsTick s → IsUntried s → ¬ IsYielding self.old now None → self.old.ticking.since ≡ None → self.old.stirred ≡ false → result ≡ TickOrAsk }
-        ensures due { (s : AbstractNode) → IsNodeOf node.now s → (seen : Seen) × (tries : Option ℕ) × (telling : Option (ℕ × ℕ)) × (due : Due) × IsSeen s self.old.me drained seen × IsTriedBy s (suc seen.known) tries × IfSome telling (λ x. IsFirstAsked self.old.questions.asked x.0 x.1) × IsDue self.old now seen tries telling due × (result ≡ call_behind due)
+        ensures due { (s : AbstractNode) → IsNodeOf node.now s →
+            (seen : Seen) × (tries : Option ℕ) × (telling : Option (ℕ × ℕ)) × (due : Due)
+            × IsSeen s self.old.me drained seen × IsTriedBy s (suc seen.known) tries
+            × IfSome telling (λ x. IsFirstAsked self.old.questions.asked x.0 x.1)
+            × IsDue self.old now seen tries telling due × (result ≡ call_behind due)
             × (self.new ≡ record (pace_after self.old now seen tries due result) { questions = self.new.questions }) }
     {
         let seen = Seen::of(node, self.me, drained);
@@ -176,17 +181,20 @@ impl Pace {
 
     /// What stands of ticks behind one: for a value that is fresh, or at once, or as it was due.
     fn ticked(&self, now: u64, due: &Due) -> Ticking
-        ensures { result ≡ ticking_after self.now.ticking now due.now TickOrAsk }
+        ensures { result ≡ ticking_after self.now.times self.now.ticking now due.now TickOrAsk }
     {
         if due.fresh || !due.tick {
             return self.ticking.begun();
         }
-        self.ticking.ticked(now, due.answered)
+        self.ticking.ticked(self.times, now, due.answered)
     }
 
     /// A question, or a tick, counts from now on.
     fn begin(&mut self, now: u64, known: u32, due: &Due, last: &LastCall)
-        ensures { self.new ≡ record self.old { ticking = ticking_after self.old.ticking now due.now last.now; answered = answers_after self.old.answered last.now; last = question_after self.old.last now known last.now } }
+        ensures { self.new ≡ record self.old {
+            ticking = ticking_after self.old.times self.old.ticking now due.now last.now;
+            answered = answers_after self.old.answered last.now;
+            last = question_after self.old.last now known last.now } }
     {
         match last {
             LastCall::Ask => {

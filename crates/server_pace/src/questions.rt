@@ -73,8 +73,9 @@ impl Questions {
         None
     }
 
-    /// Whom a node that knows so many values tells, and from which instance on: the first one whose question waits, from what it asked for on, which may have
-    /// become known behind its question. By that it is forgotten, whether its telling is due or not.
+    /// Whom a node that knows so many values tells, and from which instance on: the first one whose question
+    /// waits, from what it asked for on. That may have become known behind the question, and then no answer
+    /// told it. By that the question is forgotten, whether its telling is due or not.
     pub(crate) fn next<D: Disk>(
         &mut self,
         times: Times,
@@ -85,8 +86,10 @@ impl Questions {
     ) -> Option<(NodeId, Instance)>
         ensures forgets { (p i : ℕ) → IsNode node.now.cluster p → IsFirstAsked self.old.asked p i → self.new.asked ≡ set self.old.asked (p - 1) None }
         ensures told { IfSome result (λ x. IsFirstAsked self.old.asked x.0 x.1) }
-        ensures due { (p i : ℕ) → IsNode node.now.cluster p → IsFirstAsked self.old.asked p i → (s : AbstractNode) → IsNodeOf node.now s →
-            IsSome result ↔ (IsFull s known i ⊎ ((calm ≡ true) × (passed (get_or self.old.told (p - 1) None) now times.telling ≡ true))) }
+        ensures due { (p i : ℕ) → IsNode node.now.cluster p → IsFirstAsked self.old.asked p i →
+            (s : AbstractNode) → IsNodeOf node.now s →
+            IsSome result ↔ (IsFull s known i
+                ⊎ ((calm ≡ true) × (passed (get_or self.old.told (p - 1) None) now times.telling ≡ true))) }
     {
         let (to, first) = self.take_first(node.cluster())?;
         let full = is_full(node, known, first);

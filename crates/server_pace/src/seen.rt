@@ -18,7 +18,8 @@ pub struct Seen {
     pub wanted: bool,
     /// All that had come was taken in.
     pub drained: bool,
-    /// Its own ballot made the last of them known, it voted at the next instance, and it has no attempt open.
+    /// It voted for the last of them at an own ballot, and at the next instance at any; and it has no attempt
+    /// open.
     pub resumes: bool,
 }
 
@@ -48,7 +49,7 @@ fn is_idle<D: Disk>(node: &Node<D>) -> bool
     node.attempts() == 0
 }
 
-/// Whether it is about to decide again what is on its record, where so many values are known.
+/// Whether it decides again what is on its record, where so many values are known.
 fn resumes<D: Disk>(node: &Node<D>, me: NodeId, known: u32) -> bool
     ensures { (s : AbstractNode) → IsNodeOf node.now s → IsTrue result ↔ Resumes s me known }
 {

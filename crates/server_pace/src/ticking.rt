@@ -1,12 +1,10 @@
 //! When a server ticks.
 
-ghost use Rattle.std.specs.Prelude.{◌≡◌, ◌↔◌, IsTrue, None, true, false};
-ghost use Rattle.server_pace.specs.Pacing.{begun, is_one_more, noted, ticked, vain_after, waited, GoesOn, Ticks};
+ghost use Rattle.std.specs.Prelude.{◌≡◌, ◌↔◌, IsTrue};
+ghost use Rattle.server_pace.specs.Pacing.{begun, first_ticking, is_one_more, longer_after, noted, ticked, waited, GoesOn, Ticks};
 
 use crate::seen::Seen;
-
-/// A tick that a majority answered in vain makes the patience longer by so many of it.
-const LONGER: u64 = 10;
+use server_times::Times;
 
 /// Since when a tick is wanted and nothing became known, and how often it ticked since.
 #[derive(Clone, Copy, Debug, PartialEq, Eq, Drop)]
@@ -17,24 +15,26 @@ pub struct Ticking {
     pub known: u32,
     /// Ticks that were due since the last news.
     pub ticks: u32,
-    /// Ticks in a row that a majority answered in vain: no news came before the next. So servers far apart outbid one another, or themselves.
-    pub vain: u32,
-    /// So many values were known as it ticked last, if it did: where it was due, or a value fresh, or at once.
+    /// It waits so many patiences longer, for ticks in a row that were in vain: a majority answered, and no
+    /// news came before the next one.
+    pub longer: u32,
+    /// So many values were known as it ticked last, if it did: as that was due, for a value that was fresh,
+    /// or at once.
     pub at: Option<u32>,
-    /// Its last tick made one instance known, and it voted at the next: what it has on record is decided again.
+    /// One instance became known behind its last tick, by its own ballot, and it voted at the next one.
     pub resumes: bool,
 }
 
 impl Ticking {
     /// None was wanted.
     pub fn new() -> Ticking
-        ensures { result ≡ record { since = None; known = 0; ticks = 0; vain = 0; at = None; resumes = false } }
+        ensures { result ≡ first_ticking }
     {
         Ticking {
             since: None,
             known: 0,
             ticks: 0,
-            vain: 0,
+            longer: 0,
             at: None,
             resumes: false,
         }
@@ -57,7 +57,8 @@ impl Ticking {
         }
     }
 
-    /// What stands now that so much is seen. The patience begins anew with news, and what was in vain is forgotten with such as came without a tick.
+    /// What stands now that so much is seen. The patience begins anew with news; ticks in vain are forgotten
+    /// where news came without a tick that was due.
     pub fn noted(self, now: u64, seen: Seen) -> Ticking
         ensures { result ≡ noted self now seen }
     {
@@ -71,18 +72,19 @@ impl Ticking {
             since: seen.wanted.then_some(now),
             known: seen.known,
             ticks: 0,
-            vain: if self.ticks == 0 { 0 } else { self.vain },
+            longer: if self.ticks == 0 { 0 } else { self.longer },
             at: self.at,
             resumes: seen.resumes && self.is_one_more(seen.known),
         }
     }
 
-    /// How many times the patience is waited: once more behind each tick, up to a number of times; or longer, without a bound, behind ticks in vain.
+    /// How many times the patience is waited: once more behind each tick, up to a number of times; or longer,
+    /// without a bound, behind ticks in vain.
     fn waited(self, growth: u32) -> u64
         ensures { result ≡ waited self growth }
     {
         let tries = u64::from(self.ticks.saturating_add(1).min(growth));
-        tries.max(u64::from(self.vain) * LONGER + 1)
+        tries.max(u64::from(self.longer) + 1)
     }
 
     /// Whether a tick has been wanted for so long that it is due: so many times this patience.
@@ -113,27 +115,28 @@ impl Ticking {
         }
     }
 
-    /// How many ticks in a row were in vain, where a majority answered since the last one, or not.
-    fn vain_after(self, answered: bool) -> u32
-        ensures { result ≡ vain_after self answered }
+    /// How many patiences longer it waits behind a tick, where a majority answered since the one before, or
+    /// not.
+    fn longer_after(self, times: Times, answered: bool) -> u32
+        ensures { result ≡ longer_after self times answered }
     {
         if !answered {
             0
         } else if self.ticks == 0 {
-            self.vain
+            self.longer
         } else {
-            self.vain.saturating_add(1)
+            self.longer.saturating_add(times.longer)
         }
     }
 
     /// It ticks as that is due, and a majority answered since the last tick, or not.
-    pub fn ticked(self, now: u64, answered: bool) -> Ticking
-        ensures { result ≡ ticked self now answered }
+    pub fn ticked(self, times: Times, now: u64, answered: bool) -> Ticking
+        ensures { result ≡ ticked self times now answered }
     {
         Ticking {
             since: Some(now),
             ticks: self.ticks.saturating_add(1),
-            vain: self.vain_after(answered),
+            longer: self.longer_after(times, answered),
             ..self.begun()
         }
     }

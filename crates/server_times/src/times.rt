@@ -12,6 +12,9 @@ pub struct Times {
     pub patience: u64,
     /// The patience grows with the tries that brought no news, up to so many times (`Ticking`).
     pub growth: u32,
+    /// Behind each try that a majority answered and that brought no news it waits so many patiences longer,
+    /// without a bound (`Ticking`): so servers far apart do not outbid one another for ever.
+    pub longer: u32,
     /// Milliseconds between two questions to the others of which the first brought nothing (`LastQuestion`).
     pub asking: u64,
     /// The same where it is quiet.
@@ -48,6 +51,7 @@ pub struct Times {
 const STANDARD: Times = Times {
     patience: 100,
     growth: 3,
+    longer: 10,
     asking: 400,
     quiet_asking: 800,
     quick: 20,

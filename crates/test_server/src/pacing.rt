@@ -9,6 +9,7 @@ use std::process::Abort;
 const TIMES: Times = Times {
     patience: 100,
     growth: 3,
+    longer: 10,
     asking: 400,
     quiet_asking: 800,
     quick: 20,
@@ -105,8 +106,9 @@ fn a_value_that_nobody_tries_is_fresh(rt: HostRuntime) {
     }
 }
 
-/// What stood at known 7 with two ticks in vain: since when a tick is wanted, how many were due. Whether one is wanted at 9, how many are known; and since
-/// when then, how many were due, how many were in vain.
+/// What stood at known 7, where it waits two patiences longer: since when a tick is wanted, how many were
+/// due. Whether one is wanted at 9, how many are known; and since when then, how many were due, how many
+/// patiences longer it waits.
 type Noted = (Option<u64>, u32, bool, u32, Option<u64>, u32, u32);
 
 const NOTED: &[Noted] = &[
@@ -132,19 +134,19 @@ fn seen(known: u32, wanted: bool, resumes: bool) -> Seen {
 
 #[test]
 fn news_begin_the_patience_anew(rt: HostRuntime) {
-    for &(since, ticks, wanted, known, then, due, vain) in NOTED {
+    for &(since, ticks, wanted, known, then, due, longer) in NOTED {
         let ticking = Ticking {
             since,
             known: 7,
             ticks,
-            vain: 2,
+            longer: 2,
             ..Ticking::new()
         };
         let noted = Ticking {
             since: then,
             known,
             ticks: due,
-            vain,
+            longer,
             ..Ticking::new()
         };
         let is = ticking.noted(9, seen(known, wanted, false));
@@ -152,13 +154,14 @@ fn news_begin_the_patience_anew(rt: HostRuntime) {
     }
 }
 
-/// How many values were known as it ticked last, how many were noted; whether a tick is wanted, how many are known, whether its own ballot made the last of
-/// them known and it voted at the next; and whether the next tick is due at once.
+/// How many values were known as it ticked last, how many were noted; whether a tick is wanted, how many are
+/// known, whether it voted for the last of them at an own ballot and at the next one at any; and whether the
+/// next tick is due at once.
 const GOES_ON: &[(Option<u32>, u32, bool, u32, bool, bool)] = &[
     (Some(7), 7, true, 8, true, true),
     (Some(7), 7, false, 8, true, false),
     (Some(7), 7, true, 8, false, false),
-    // Nothing became known, or more than one, or without a tick of its own.
+    // Nothing became known since that tick, or more than one, or it never ticked.
     (Some(7), 7, true, 7, true, false),
     (Some(7), 7, true, 9, true, false),
     (Some(7), 8, true, 9, true, false),
@@ -182,14 +185,15 @@ fn a_server_that_decides_again_goes_on_at_once(rt: HostRuntime) {
         // It stays so until it ticks.
         let later = then.noted(99, seen(known, wanted, false));
         same(&rt, (then, later.goes_on()), (then, goes_on));
-        let ticked = [then.begun(), then.ticked(9, true)];
+        let ticked = [then.begun(), then.ticked(TIMES, 9, true)];
         for after in ticked {
             same(&rt, (after.at, after.goes_on()), (Some(known), false));
         }
     }
 }
 
-/// Since when a tick is wanted, how many were due and in vain, the moment, and whether one is due of a patience of 150 milliseconds that grows three times.
+/// Since when a tick is wanted, how many were due, how many patiences longer it waits, the moment, and
+/// whether one is due, of a patience of 150 milliseconds that grows three times.
 const TICKS: &[(Option<u64>, u32, u32, u64, bool)] = &[
     (None, 0, 0, 1_000_000, false),
     (Some(1000), 0, 0, 1149, false),
@@ -200,23 +204,25 @@ const TICKS: &[(Option<u64>, u32, u32, u64, bool)] = &[
     (Some(1000), 2, 0, 1450, true),
     (Some(1000), 3, 0, 1450, true),
     (Some(1000), u32::MAX, 0, 1450, true),
-    (Some(1000), 2, 1, 2649, false),
-    (Some(1000), 2, 1, 2650, true),
-    (Some(1000), 0, 1, 2649, false),
-    (Some(1000), 9, 7, 11_649, false),
-    (Some(1000), 9, 7, 11_650, true),
-    (Some(1000), 9, u32::MAX, 6_000_000_000_000, false),
-    (Some(1000), 9, u32::MAX, 7_000_000_000_000, true),
+    (Some(1000), 2, 1, 1449, false),
+    (Some(1000), 2, 1, 1450, true),
+    (Some(1000), 2, 10, 2649, false),
+    (Some(1000), 2, 10, 2650, true),
+    (Some(1000), 0, 10, 2649, false),
+    (Some(1000), 9, 70, 11_649, false),
+    (Some(1000), 9, 70, 11_650, true),
+    (Some(1000), 9, u32::MAX, 600_000_000_000, false),
+    (Some(1000), 9, u32::MAX, 700_000_000_000, true),
 ];
 
 #[test]
 fn the_patience_grows(rt: HostRuntime) {
-    for &(since, ticks, vain, now, due) in TICKS {
+    for &(since, ticks, longer, now, due) in TICKS {
         let ticking = Ticking {
             since,
             known: 7,
             ticks,
-            vain,
+            longer,
             ..Ticking::new()
         };
         same(
@@ -228,39 +234,40 @@ fn the_patience_grows(rt: HostRuntime) {
     }
 }
 
-/// How many ticks were due and how many in vain, whether a majority answered since the last, and how many of either there are then.
+/// How many ticks were due, how many patiences longer it waits, whether a majority answered since the last
+/// tick; and how many ticks were due then, how many patiences longer it waits.
 const TICKED: &[(u32, u32, bool, u32, u32)] = &[
     (0, 0, true, 1, 0),
-    (1, 0, true, 2, 1),
-    (7, 3, true, 8, 4),
+    (1, 0, true, 2, 10),
+    (7, 30, true, 8, 40),
     // The last one was not in vain: news came.
-    (0, 3, true, 1, 3),
-    (7, 3, false, 8, 0),
-    (0, 3, false, 1, 0),
+    (0, 30, true, 1, 30),
+    (7, 30, false, 8, 0),
+    (0, 30, false, 1, 0),
     (u32::MAX, u32::MAX, true, u32::MAX, u32::MAX),
 ];
 
 #[test]
 fn a_tick_that_a_majority_answers_in_vain_is_counted(rt: HostRuntime) {
-    for &(ticks, vain, answered, due, then) in TICKED {
+    for &(ticks, longer, answered, due, then) in TICKED {
         let ticking = Ticking {
             since: Some(5),
             known: 7,
             ticks,
-            vain,
+            longer,
             ..Ticking::new()
         };
         let ticked = Ticking {
             since: Some(9),
             known: 7,
             ticks: due,
-            vain: then,
+            longer: then,
             at: Some(7),
             resumes: false,
         };
         same(
             &rt,
-            (ticking, answered, ticking.ticked(9, answered)),
+            (ticking, answered, ticking.ticked(TIMES, 9, answered)),
             (ticking, answered, ticked),
         );
     }

@@ -79,7 +79,7 @@ const IN_VAIN: &[Step] = &[
     (105, false, true, Call::Tick, &[REFUSAL]),
     (106, false, true, Call::Widen, &[PROMISE]),
     (304, false, true, Call::Widen, &[]),
-    // The one before was in vain: ten times the patience more.
+    // The one before was in vain: it waits ten patiences longer.
     (305, false, true, Call::Tick, &[REFUSAL, PROMISE]),
     (800, false, true, Call::Ask, &[]),
     (1404, false, true, Call::Widen, &[]),
@@ -90,7 +90,7 @@ const IN_VAIN: &[Step] = &[
     (3200, false, true, Call::Ask, &[]),
     (3504, false, true, Call::Widen, &[]),
     (3505, false, true, Call::Tick, &[]),
-    // That is no majority of three: what was in vain is forgotten.
+    // That is no majority of three: ticks in vain are forgotten.
     (3804, false, true, Call::Widen, &[]),
     (3805, false, true, Call::Tick, &[]),
 ];

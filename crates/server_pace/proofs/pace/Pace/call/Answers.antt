@@ -9,7 +9,16 @@ not_true false h = refl
 -- due is what the calls answered, of what was noted first
 pub returns-clause-due : goal.returns-clause-due
 returns-clause-due c = (
-  record { fresh = c.is_fresh-fresh.result; telling = c.args.telling; question = c.is_due.result; tick = c.is_due-2.result; answered = c.is_answered.result; goes_on = c.goes_on.result; waits = c.waits-waits.result; yields = c.is_due-yields.result },
+  record {
+    fresh = c.is_fresh-fresh.result;
+    telling = c.args.telling;
+    question = c.is_due.result;
+    tick = c.is_due-2.result;
+    answered = c.is_answered.result;
+    goes_on = c.goes_on.result;
+    waits = c.waits-waits.result;
+    yields = c.is_due-yields.result;
+  },
   record {
     fresh = c.is_fresh-fresh.ensures;
     told = search rules;

@@ -9,19 +9,33 @@ use Rattle.server_pace.proofs.pace.Pace.due.Goals as goal
 pub returns-clause-due : goal.returns-clause-due
 returns-clause-due g c = λ s h.
     let due = c.call.ensures.due in
-    let is = subst (λ p. IsDue p c.args.now c.of-seen.result c.first_tried_by-tries.result c.next_telling-telling.result due.0) c.next_telling-telling.ensures.same due.1 in
-    let after = subst (λ (p : Pace). c.call.new.self ≡ pace_after p c.args.now c.of-seen.result c.first_tried_by-tries.result due.0 c.call.result) c.next_telling-telling.ensures.same due.3 in
-    let asked = ap (λ (p : Pace). p.questions) after in (
-      c.of-seen.result,
-      c.first_tried_by-tries.result,
-      c.next_telling-telling.result,
+    let seen = c.of-seen.result in
+    let tries = c.first_tried_by-tries.result in
+    let telling = c.next_telling-telling.result in
+    let same = c.next_telling-telling.ensures.same in
+    let is = subst (λ p. IsDue p c.args.now seen tries telling due.0) same due.1 in
+    let after = subst (λ (p : Pace). c.call.new.self ≡ pace_after p c.args.now seen tries due.0 c.call.result) same due.3 in
+    let asked = ap (λ (p : Pace). p.questions) after in
+    let now = pace_after c.args.self.now c.args.now seen tries due.0 c.call.result in (
+      seen,
+      tries,
+      telling,
       due.0,
       c.of-seen.ensures s h,
       c.first_tried_by-tries.ensures s h,
       c.next_telling-telling.ensures.told,
-      record { fresh = is.fresh; told = is.told; question = is.question; tick = is.tick; answered = is.answered; goes_on = is.goes_on; waits = is.waits; yields = is.yields },
+      record {
+        fresh = is.fresh;
+        told = is.told;
+        question = is.question;
+        tick = is.tick;
+        answered = is.answered;
+        goes_on = is.goes_on;
+        waits = is.waits;
+        yields = is.yields;
+      },
       due.2,
-      subst (λ q. c.call.new.self ≡ record (pace_after c.args.self.now c.args.now c.of-seen.result c.first_tried_by-tries.result due.0 c.call.result) { questions = q }) (sym asked) after,
+      subst (λ q. c.call.new.self ≡ record now { questions = q }) (sym asked) after,
     )
 
 -- what is promised to none, nobody tries

@@ -20,6 +20,11 @@ returns-clause-due g c = λ p i node first s h.
     let is = c.in_ok-to.ensures.some in
     let same = one_first c.args.self.now.asked c.in_ok-to.to p c.in_ok-to.first i is.0.0 node.0 is.1 first in
     let full = c.is_full-full.ensures s h in
-    let due : IsSome c.then_some.result ↔ (IsFull s c.args.known c.in_ok-to.first ⊎ ((c.args.calm ≡ true) × (passed (get_or c.args.self.now.told (c.in_ok-to.to - 1) None) c.args.now c.args.times.telling ≡ true))) = search rules in
-    subst (λ q. IsSome c.then_some.result ↔ (IsFull s c.args.known i ⊎ ((c.args.calm ≡ true) × (passed (get_or c.args.self.now.told (q - 1) None) c.args.now c.args.times.telling ≡ true)))) same.0
-    (subst (λ j. IsSome c.then_some.result ↔ (IsFull s c.args.known j ⊎ ((c.args.calm ≡ true) × (passed (get_or c.args.self.now.told (c.in_ok-to.to - 1) None) c.args.now c.args.times.telling ≡ true)))) same.1 due)
+    let told = c.args.self.now.told in
+    let millis = c.args.times.telling in
+    let due : IsSome c.then_some.result ↔ (IsFull s c.args.known c.in_ok-to.first
+        ⊎ ((c.args.calm ≡ true) × (passed (get_or told (c.in_ok-to.to - 1) None) c.args.now millis ≡ true))) = search rules in
+    subst (λ q. IsSome c.then_some.result ↔ (IsFull s c.args.known i
+        ⊎ ((c.args.calm ≡ true) × (passed (get_or told (q - 1) None) c.args.now millis ≡ true)))) same.0
+    (subst (λ j. IsSome c.then_some.result ↔ (IsFull s c.args.known j
+        ⊎ ((c.args.calm ≡ true) × (passed (get_or told (c.in_ok-to.to - 1) None) c.args.now millis ≡ true)))) same.1 due)
