@@ -49,20 +49,25 @@ url() { echo "http://${http[$1 - 1]}"; }
 # where a node finds the nodes, itself among them: P
 peers_of() { echo "${udp[@]}"; }
 
-# from now on each node finds the others behind a bad or long network (relay.c): N SEED LOSS REPEAT DELAY [WAY]
+# from now on each of N nodes finds the others behind a bad or long network (relay.c): N SEED LOSS REPEAT
+# DELAY [WAY]
 start_relay() {
     local p q n=$1
     shift
-    by=()
-    for ((p = 1; p <= n; p++)); do for ((q = 1; q <= n; q++)); do by+=("$(free_port)"); done; done
-    # node P sends to node Q by a port of the relay
+    # node P sends to node Q by the port P.Q of the relay
+    declare -gA by=()
+    for ((p = 1; p <= n; p++)); do
+        for ((q = 1; q <= n; q++)); do
+            [ "$p" = "$q" ] || by[$p.$q]=$(free_port)
+        done
+    done
     peers_of() {
         local q
-        for ((q = 1; q <= ${#udp[@]}; q++)); do if [ "$q" = "$1" ]; then echo "${udp[q - 1]}"; else echo "127.0.0.1:${by[($1 - 1) * ${#udp[@]} + q - 1]}"; fi; done
+        for ((q = 1; q <= ${#udp[@]}; q++)); do
+            if [ "$q" = "$1" ]; then echo "${udp[q - 1]}"; else echo "127.0.0.1:${by[$1.$q]}"; fi
+        done
     }
-    for ((p = 1; p <= n; p++)); do
-        for ((q = 1; q <= n; q++)); do [ "$p" = "$q" ] || echo "${by[(p - 1) * n + q - 1]} ${udp[q - 1]##*:}"; done
-    done > "$group/pairs"
+    for p in "${!by[@]}"; do echo "${by[$p]} ${udp[${p#*.} - 1]##*:}"; done > "$group/pairs"
     cc -O2 -o "$group/relay" tools/parts/relay.c
     "$group/relay" "$@" < "$group/pairs" > "$group/relayed" &
     relay=$!

@@ -1,6 +1,8 @@
-/* A bad or long network between UDP sockets on loopback: `relay SEED LOSS REPEAT DELAY [WAY] < pairs`, each line of standard input `FROM TO`, two ports.
-   What comes in at port FROM goes out to port TO: LOSS of 100 datagrams not at all, REPEAT of 100 twice, and each after WAY milliseconds, if any, and 0 to
-   DELAY more, so that datagrams overtake one another. It prints `ready`, and runs until SIGTERM; then it prints how many came, were lost, repeated and sent. */
+/* A bad or long network between UDP sockets on loopback: `relay SEED LOSS REPEAT DELAY [WAY] < pairs`, each
+   line of standard input `FROM TO`, two ports. What comes in at port FROM goes out to port TO: LOSS of 100
+   datagrams not at all, REPEAT of 100 twice, and each after WAY milliseconds, or none, and 0 to DELAY more, so
+   that datagrams overtake one another. It prints `ready`, and runs until SIGTERM; then it prints how many came,
+   were lost, repeated and sent. */
 #include <arpa/inet.h>
 #include <poll.h>
 #include <signal.h>
@@ -68,7 +70,10 @@ static struct sockaddr_in at(int port) {
 }
 
 int main(int count, char **words) {
-    if (count != 5 && count != 6) { fputs("usage: relay SEED LOSS REPEAT DELAY [WAY] < pairs\n", stderr); return 2; }
+    if (count != 5 && count != 6) {
+        fputs("usage: relay SEED LOSS REPEAT DELAY [WAY] < pairs\n", stderr);
+        return 2;
+    }
     state = strtoull(words[1], 0, 10);
     const uint64_t loss = strtoull(words[2], 0, 10), repeat = strtoull(words[3], 0, 10);
     const int delay = atoi(words[4]), way = count == 6 ? atoi(words[5]) : 0;

@@ -6,7 +6,8 @@ ghost use Rattle.site_drive.specs.Delivering.{answered_by};
 use site_ids::{Instance, NodeId};
 use wire::Message;
 
-/// The messages that a drive delivered: of each node its last question and whether it answered an attempt, and how many were of an attempt or no questions.
+/// The messages that a drive delivered: of each node its last question and whether it answered an attempt,
+/// and how many were of an attempt or no questions.
 #[derive(Clone, Copy, Debug, PartialEq, Eq, Drop)]
 pub struct Delivered {
     questions: [Option<Instance>; 9],

@@ -5,8 +5,8 @@ use crate::written_clock::{Call, called};
 use server_pace::Due;
 use site_ids::Instance;
 
-/// What stands (fresh, a telling, a question, a tick, whether it yields), and what is called: the first of them that applies. A tick is due behind the
-/// patience, or at once.
+/// What stands (fresh, a telling, a question, a tick, whether it yields), and what is called: the first of
+/// them that applies. A tick is due behind the patience, or at once.
 const CALLS: &[(bool, bool, bool, bool, bool, Call)] = &[
     (false, false, false, false, false, Call::Widen),
     (false, false, false, true, false, Call::Tick),

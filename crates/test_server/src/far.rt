@@ -16,7 +16,8 @@ struct Flight {
     piece: Vec<u8>,
 }
 
-/// A group, how long a letter takes, how many milliseconds lie between passes, and letters on their way, the first to come first.
+/// A group, how long a letter takes, how many milliseconds lie between passes, and pieces on their way, the
+/// first to come first.
 #[derive(Drop)]
 struct Far {
     group: Group,
@@ -99,7 +100,8 @@ impl Far {
         fewest
     }
 
-    /// After how many milliseconds each of so many servers shows so many releases; not looked for any longer than that.
+    /// After how many milliseconds each of so many servers shows so many releases; more than the bound where
+    /// some does not within it.
     fn shows(&mut self, rt: &impl Abort, size: u8, releases: u64, bound: u64) -> u64 {
         let since = self.group.now;
         for _ in 0..=bound / self.step.max(1) {
@@ -112,8 +114,8 @@ impl Far {
     }
 }
 
-/// How many servers there are, how many milliseconds a letter takes, which of them are submitted a value, how many milliseconds one after the other; and
-/// how many behind the last one each shows them all, at most.
+/// How many servers there are, how many milliseconds a letter takes, which of them are submitted a value, how
+/// many milliseconds one after the other; and how many behind the last one each shows them all, at most.
 type Row = (u8, u64, &'static [u8], u64, u64);
 
 const ROWS: &[Row] = &[
