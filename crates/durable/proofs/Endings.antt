@@ -1,5 +1,5 @@
 -- What a put answers that succeeds.
-use Rattle.std.proofs.Common.{◌≡◌, ℕ, List, [], ◌∷◌, ◌++◌, length, Bool, true, false, Ok, refl, ◌∙◌, ap, subst, arith, length-append, append_assoc}
+use Rattle.std.proofs.Common.{◌≡◌, ◌+◌, ℕ, List, [], ◌∷◌, ◌++◌, length, Bool, true, false, Ok, refl, ◌∙◌, ap, subst, arith, length-append, append_assoc}
 use Rattle.site_disk.specs.Model.{DiskState}
 use Rattle.durable.specs.Entries.{Entry}
 use Rattle.durable.specs.Histories.{MayFollow}
@@ -7,7 +7,7 @@ use Rattle.durable.specs.Spelling.{payload, block, behind_gate}
 use Rattle.durable.specs.Reading.{IsKept}
 use Rattle.durable.specs.Ready.{IsStored, IsReady}
 use Rattle.durable.specs.Batches.{GoesAhead}
-use Rattle.durable.specs.Slots.{slot_at}
+use Rattle.durable.specs.Slots.{cell_at}
 use Rattle.durable.specs.Puts.{Puts, IsPut, Acknowledges, IsFullFor, IsMemoryKept, AreSlotsKept, Remembers, Writes}
 use Rattle.durable.specs.declared.record.Record.{Record}
 use Rattle.durable.specs.declared.recorded.Recorded.{Recorded}
@@ -15,6 +15,10 @@ use Rattle.durable.specs.declared.slots.Slots.{Slots}
 use Rattle.durable.proofs.Kept.{kept_same, kept_more, remembers_through}
 use Rattle.durable.proofs.Ready.{stored_with}
 use Rattle.durable.proofs.Batches.{staged_with}
+
+-- the bytes behind a value's front, by the value that was measured
+pub measured : (value bytes : List ℕ) → bytes ≡ value → length (value ++ 0 ∷ []) ≡ length bytes + 1
+measured value bytes is = omega (arith, ap length is, length-append value (0 ∷ []))
 
 not_both : {P : Type 0} {b : Bool} → b ≡ true → b ≡ false → P
 not_both holds fails = cc
@@ -43,7 +47,7 @@ module _ {D : Type 0} (stands_for : D → DiskState → Type 0) (failed : D → 
       same_memory = record {
         round = ap (λ (x : Recorded). x.round) writes.recorded;
         greatest = ap (λ (x : Recorded). x.greatest) writes.recorded;
-        slots = λ i. ap (λ (x : Recorded). slot_at x.slots i) writes.recorded ∙ same_slots i;
+        slots = λ i. ap (λ (x : Recorded). cell_at x.slots i) writes.recorded ∙ same_slots i;
       }
 
       more : (entries : List Entry) → IsKept entries old.recorded → IsKept (entries ++ entry ∷ []) r

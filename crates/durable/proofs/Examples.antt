@@ -1,7 +1,8 @@
 -- Records of files, computed from the definitions.
-use Rattle.std.proofs.Common.{◌≡◌, ℕ, List, [], ◌∷◌, ◌++◌, Some, None, refl, arith, codes}
+use Rattle.std.proofs.Common.{◌≡◌, ℕ, List, [], ◌∷◌, ◌++◌, Option, Some, None, ⊎_elim, refl, sym, subst, arith, codes}
 use Rattle.site_ids.specs.Ids.{BallotOf}
-use Rattle.durable.specs.Entries.{Entry, Round, Promised, Voted, last_round, last_vote}
+use Rattle.site_ids.specs.declared.value.Vote.{Vote}
+use Rattle.durable.specs.Entries.{Entry, Round, Promised, Voted, Learned, last_round, last_vote, learned_at, Raises}
 use Rattle.durable.specs.Histories.{IsHistory}
 use Rattle.durable.specs.Spelling.{head, blocks}
 use Rattle.durable.specs.Standing.{StandsFor}
@@ -28,9 +29,29 @@ closed_stands = record { history = history-none 3; gate = 7; rest = 0 ∷ 0 ∷ 
 round_record : head 2 3 ++ blocks (Round 1 ∷ []) ++ 0 ∷ [] ≡ codes "SITEREC1" ++ 2 ∷ 3 ∷ 1 ∷ 0 ∷ 0 ∷ 0 ∷ 5 ∷ 1 ∷ 0 ∷ 0 ∷ 0 ∷ 1 ∷ 0 ∷ []
 round_record = refl
 
--- a vote promises its ballot, and the last one counts
+-- node 2 of 3 learned a byte at instance 1
+abbrev learned_record : List ℕ
+learned_record = 83 ∷ 73 ∷ 84 ∷ 69 ∷ 82 ∷ 69 ∷ 67 ∷ 49 ∷ 2 ∷ 3 ∷ 1 ∷ 0 ∷ 0 ∷ 0 ∷ 6 ∷ 6 ∷ 0 ∷ 0 ∷ 0 ∷ 1 ∷ 7 ∷ 0 ∷ []
+
+learned : IsHistory 3 (Learned 1 (7 ∷ []) ∷ [])
+learned = history-push 3 [] (Learned 1 (7 ∷ [])) (history-none 3) (record { in_range = ((omega arith, omega arith), omega arith); advances = refl })
+
+learned_stands : StandsFor 2 3 learned_record (Learned 1 (7 ∷ []) ∷ [])
+learned_stands = record { history = learned; gate = 0; rest = []; closed = λ one. omega (arith, one); layout = refl }
+
+-- a vote for another value may follow it
+voted_later : IsHistory 3 (Learned 1 (7 ∷ []) ∷ Voted 1 (at 1 1) (8 ∷ []) ∷ [])
+voted_later = history-push 3 (Learned 1 (7 ∷ []) ∷ []) (Voted 1 (at 1 1) (8 ∷ [])) learned (record {
+  in_range = ((omega arith, omega arith), (omega arith, omega arith, (omega arith, omega arith)), omega arith);
+  advances = ((λ e c here raises. ⊎_elim (λ (same : Learned 1 (7 ∷ []) ≡ e). absurd (subst (λ (x : Entry). Raises x 1 c) (sym same) raises)) (λ none. absurd none) here), λ vote last. absurd (no_vote_yet vote last));
+})
+  where
+    no_vote_yet : (vote : Vote) → ◌≡◌ {A = Option Vote} None (Some vote) → ⊥
+    no_vote_yet vote e = cc
+
+-- a vote promises its ballot, and the last one counts; what is learned does neither
 abbrev entries : List Entry
-entries = Round 4 ∷ Promised 1 (at 1 1) ∷ Voted 1 (at 1 3) (7 ∷ []) ∷ Voted 2 (at 1 1) [] ∷ Voted 1 (at 2 1) (8 ∷ []) ∷ Round 5 ∷ []
+entries = Round 4 ∷ Promised 1 (at 1 1) ∷ Voted 1 (at 1 3) (7 ∷ []) ∷ Voted 2 (at 1 1) [] ∷ Voted 1 (at 2 1) (8 ∷ []) ∷ Learned 1 (9 ∷ []) ∷ Round 5 ∷ []
 
 its_round : last_round entries ≡ 5
 its_round = refl
@@ -40,3 +61,9 @@ its_vote = refl
 
 no_vote : last_vote 3 entries ≡ None
 no_vote = refl
+
+its_value : learned_at 1 entries ≡ Some (9 ∷ [])
+its_value = refl
+
+no_value : learned_at 2 entries ≡ None
+no_value = refl

@@ -5,23 +5,32 @@ use Rattle.std.proofs.lemmas.Bool.Decides.{nat_tests}
 use Rattle.site_ids.specs.Ids.{BallotOf, Below, NotAbove}
 use Rattle.acceptor.specs.declared.slot.Slot.{Slot}
 use Rattle.acceptor.specs.Steps.{with_promise, with_vote}
-use Rattle.durable.specs.Entries.{Entry, Round, Promised, PromisedSpan, Voted, Raises, IsSlot, last_vote, round_after, round_in}
+use Rattle.durable.specs.Entries.{Entry, Round, Promised, PromisedSpan, Voted, Learned, Raises, IsSlot, last_vote, learned_at, round_after, round_in}
 use Rattle.durable.specs.Histories.{Advances}
 use Rattle.site_ids.specs.Spans.{IsInSpan}
 use Rattle.durable.specs.Raising.{IsRaised}
 use Rattle.durable.proofs.Spans.{slot_raised}
 use Rattle.durable.specs.Reading.{IsKept}
 use Rattle.durable.specs.Puts.{AreSlotsKept, AreSlotsAfter, Remembers, IsMemoryKept}
-use Rattle.durable.specs.Slots.{no_slot, slot_at}
+use Rattle.durable.specs.Slots.{no_cell, cell_at, slot_at, value_at}
+use Rattle.durable.specs.declared.slots.Cell.{Cell}
 use Rattle.durable.specs.declared.recorded.Recorded.{Recorded}
 use Rattle.durable.specs.declared.slots.Slots.{Slots}
-use Rattle.durable.proofs.Push.{promise_kept, promise_raised, round_after-push, greatest_round-push, vote_after-push}
+use Rattle.durable.proofs.Push.{promise_kept, promise_raised, round_after-push, greatest_round-push, vote_after-push, learned_at-kept, learned_at-new}
 
-pub kept_none : (new : Recorded) → new.round ≡ 0 → new.greatest ≡ 0 → ((i : ℕ) → slot_at new.slots i ≡ no_slot) → IsKept [] new
+-- cells that are the same have the same slot, and the same learned value
+slot_as : (c d : Cell) → c ≡ d → c.slot ≡ d.slot
+slot_as c d same = ap (λ (x : Cell). x.slot) same
+
+value_as : (c d : Cell) → c ≡ d → c.learned ≡ d.learned
+value_as c d same = ap (λ (x : Cell). x.learned) same
+
+pub kept_none : (new : Recorded) → new.round ≡ 0 → new.greatest ≡ 0 → ((i : ℕ) → cell_at new.slots i ≡ no_cell) → IsKept [] new
 kept_none new round greatest slots = record {
   round = round;
   greatest = greatest;
-  slots = λ i. subst (λ (s : Slot). IsSlot [] i s) (sym (slots i)) (record { promise = λ e b here raises. here; vote = refl });
+  slots = λ i. subst (λ (s : Slot). IsSlot [] i s) (sym (slot_as _ no_cell (slots i))) (record { promise = λ e b here raises. here; vote = refl });
+  learned = λ i. value_as _ no_cell (slots i);
 }
 
 -- what is kept as before is kept for the same entries
@@ -29,7 +38,8 @@ pub kept_same : (es : List Entry) (old new : Recorded) → IsMemoryKept old new 
 kept_same es old new same kept = record {
   round = same.round ∙ kept.round;
   greatest = same.greatest ∙ kept.greatest;
-  slots = λ i. subst (λ (s : Slot). IsSlot es i s) (sym (same.slots i)) (kept.slots i);
+  slots = λ i. subst (λ (s : Slot). IsSlot es i s) (sym (slot_as _ _ (same.slots i))) (kept.slots i);
+  learned = λ i. value_as _ _ (same.slots i) ∙ kept.learned i;
 }
 
 -- an entry that raises nothing at the instance, and is no vote there, leaves its slot
@@ -65,18 +75,19 @@ in_span i l k = grind arith
 
 -- the slots after one entry more are those of the entries with it
 slots_after : (es : List Entry) (e : Entry) (old new : Slots) → Advances es e → ((i : ℕ) → IsSlot es i (slot_at old i)) → AreSlotsAfter e old new → (k : ℕ) → IsSlot (es ++ e ∷ []) k (slot_at new k)
-slots_after es (Round r) old new advances kept after k = subst (λ (s : Slot). IsSlot (es ++ Round r ∷ []) k s) (sym (after k)) (slot_unchanged es r k (slot_at old k) (kept k))
+slots_after es (Round r) old new advances kept after k = subst (λ (s : Slot). IsSlot (es ++ Round r ∷ []) k s) (sym (slot_as _ _ (after k))) (slot_unchanged es r k (slot_at old k) (kept k))
 slots_after es (Promised i b) old new advances kept after k =
     let S : ℕ → Slot → Type 0 = λ j s. IsSlot (es ++ Promised i b ∷ []) j s in
     ⊎_elim
-    (λ (same : k ≡ i). subst (λ (j : ℕ). S j (slot_at new j)) (sym same) (subst (λ (s : Slot). S i s) (sym after.0) (slot_promised es i b (slot_at old i) advances (kept i))))
-    (λ (other : k ≢ i). subst (λ (s : Slot). S k s) (sym (after.1 k other))
+    (λ (same : k ≡ i). subst (λ (j : ℕ). S j (slot_at new j)) (sym same) (subst (λ (s : Slot). S i s) (sym (slot_as _ _ after.0)) (slot_promised es i b (slot_at old i) advances (kept i))))
+    (λ (other : k ≢ i). subst (λ (s : Slot). S k s) (sym (slot_as _ _ (after.1 k other)))
     (slot_kept es (Promised i b) k (slot_at old k) (λ c raises. other (sym raises.0)) (vote_after-push k None es (Promised i b ∷ [])) (kept k)))
     (cases_eq k i)
 slots_after es (PromisedSpan i l b) old new advances kept after k =
     ⊎_elim
-    (λ (within : IsInSpan i l k). slot_raised es (PromisedSpan i l b) k b (slot_at old k) (slot_at new k) (within, refl) (λ d r. sym r.1) (vote_after-push k None es (PromisedSpan i l b ∷ [])) (kept k) (after.0 k within))
-    (λ (outside : ¬ IsInSpan i l k). subst (λ (s : Slot). IsSlot (es ++ PromisedSpan i l b ∷ []) k s) (sym (after.1 k outside))
+    (λ (within : IsInSpan i l k).
+    slot_raised es (PromisedSpan i l b) k b (slot_at old k) (slot_at new k) (within, refl) (λ d r. sym r.1) (vote_after-push k None es (PromisedSpan i l b ∷ [])) (kept k) (after.0 k within).0)
+    (λ (outside : ¬ IsInSpan i l k). subst (λ (s : Slot). IsSlot (es ++ PromisedSpan i l b ∷ []) k s) (sym (slot_as _ _ (after.1 k outside)))
     (slot_kept es (PromisedSpan i l b) k (slot_at old k) (λ c raises. outside raises.0) (vote_after-push k None es (PromisedSpan i l b ∷ [])) (kept k)))
     (in_span i l k)
 slots_after es (Voted i b v) old new advances kept after k =
@@ -84,8 +95,39 @@ slots_after es (Voted i b v) old new advances kept after k =
     let test : k ≢ i → last_vote k (es ++ Voted i b v ∷ []) ≡ last_vote k es = λ other. vote_after-push k None es (Voted i b v ∷ [])
     ∙ ap (λ (x : Bool). if x then Some (record { ballot = b; value = v }) else last_vote k es) (not_number i k (λ e. other (sym e))) in
     ⊎_elim
-    (λ (same : k ≡ i). subst (λ (j : ℕ). S j (slot_at new j)) (sym same) (subst (λ (s : Slot). S i s) (sym after.0) (slot_voted es i b v advances)))
-    (λ (other : k ≢ i). subst (λ (s : Slot). S k s) (sym (after.1 k other)) (slot_kept es (Voted i b v) k (slot_at old k) (λ c raises. other (sym raises.0)) (test other) (kept k)))
+    (λ (same : k ≡ i). subst (λ (j : ℕ). S j (slot_at new j)) (sym same) (subst (λ (s : Slot). S i s) (sym (slot_as _ _ after.0)) (slot_voted es i b v advances)))
+    (λ (other : k ≢ i). subst (λ (s : Slot). S k s) (sym (slot_as _ _ (after.1 k other))) (slot_kept es (Voted i b v) k (slot_at old k) (λ c raises. other (sym raises.0)) (test other) (kept k)))
+    (cases_eq k i)
+slots_after es (Learned i v) old new advances kept after k =
+    let same_slot : slot_at new k ≡ slot_at old k = ⊎_elim
+    (λ (same : k ≡ i). subst (λ (j : ℕ). slot_at new j ≡ slot_at old j) (sym same) (slot_as _ _ after.0))
+    (λ (other : k ≢ i). slot_as _ _ (after.1 k other))
+    (cases_eq k i) in
+    subst (λ (s : Slot). IsSlot (es ++ Learned i v ∷ []) k s) (sym same_slot) (slot_kept es (Learned i v) k (slot_at old k) (λ c raises. raises) (vote_after-push k None es (Learned i v ∷ [])) (kept k))
+
+-- and so is what was learned
+values_after : (es : List Entry) (e : Entry) (old new : Slots) → Advances es e → ((i : ℕ) → value_at old i ≡ learned_at i es) → AreSlotsAfter e old new → (k : ℕ) → value_at new k ≡ learned_at k (es ++ e ∷ [])
+values_after es (Round r) old new advances kept after k = value_as _ _ (after k) ∙ kept k ∙ sym (learned_at-kept k es (Round r) refl)
+values_after es (Promised i b) old new advances kept after k =
+    ⊎_elim
+    (λ (same : k ≡ i). subst (λ (j : ℕ). value_at new j ≡ value_at old j) (sym same) (value_as _ _ after.0))
+    (λ (other : k ≢ i). value_as _ _ (after.1 k other))
+    (cases_eq k i)
+    ∙ kept k ∙ sym (learned_at-kept k es (Promised i b) refl)
+values_after es (PromisedSpan i l b) old new advances kept after k =
+    ⊎_elim (λ (within : IsInSpan i l k). (after.0 k within).1) (λ (outside : ¬ IsInSpan i l k). value_as _ _ (after.1 k outside)) (in_span i l k)
+    ∙ kept k ∙ sym (learned_at-kept k es (PromisedSpan i l b) refl)
+values_after es (Voted i b v) old new advances kept after k =
+    ⊎_elim
+    (λ (same : k ≡ i). subst (λ (j : ℕ). value_at new j ≡ value_at old j) (sym same) (value_as _ _ after.0))
+    (λ (other : k ≢ i). value_as _ _ (after.1 k other))
+    (cases_eq k i)
+    ∙ kept k ∙ sym (learned_at-kept k es (Voted i b v) refl)
+values_after es (Learned i v) old new advances kept after k =
+    ⊎_elim
+    (λ (same : k ≡ i). subst (λ (j : ℕ). value_at new j ≡ learned_at j (es ++ Learned i v ∷ [])) (sym same) (value_as _ _ after.0 ∙ sym (learned_at-new i es v advances)))
+    (λ (other : k ≢ i). value_as _ _ (after.1 k other) ∙ kept k
+    ∙ sym (learned_at-kept k es (Learned i v) (ap (λ (x : Bool). if x then Some v else None) (not_number i k (λ e. other (sym e))))))
     (cases_eq k i)
 
 -- what is kept after one entry more is what the entries record with it
@@ -94,6 +136,7 @@ kept_more es e old new advances remembers kept = record {
   round = remembers.round ∙ ap (λ (r : ℕ). round_after r (e ∷ [])) kept.round ∙ sym (round_after-push 0 es (e ∷ []));
   greatest = remembers.greatest ∙ ap (λ (r : ℕ). max r (round_in e)) kept.greatest ∙ sym (greatest_round-push es e);
   slots = slots_after es e old.slots new.slots advances kept.slots remembers.slots;
+  learned = values_after es e old.slots new.slots advances kept.learned remembers.slots;
 }
 
 -- the same where room was made for a slot before
@@ -111,6 +154,10 @@ remembers_through e old mid new same remembers = record {
   where
     slots_through : (e : Entry) (old mid new : Slots) → AreSlotsKept old mid → AreSlotsAfter e mid new → AreSlotsAfter e old new
     slots_through (Round r) old mid new same after = λ i. after i ∙ same i
-    slots_through (Promised j b) old mid new same after = (after.0 ∙ ap (λ (s : Slot). with_promise s b) (same j), λ i other. after.1 i other ∙ same i)
-    slots_through (PromisedSpan j l b) old mid new same after = ((λ i within. subst (λ (s : Slot). IsRaised s b (slot_at new i)) (same i) (after.0 i within)), λ i outside. after.1 i outside ∙ same i)
-    slots_through (Voted j b v) old mid new same after = (after.0, λ i other. after.1 i other ∙ same i)
+    slots_through (Promised j b) old mid new same after = (after.0 ∙ ap (λ (c : Cell). record c { slot = with_promise c.slot b }) (same j), λ i other. after.1 i other ∙ same i)
+    slots_through (PromisedSpan j l b) old mid new same after = (
+      (λ i within. (subst (λ (s : Slot). IsRaised s b (slot_at new i)) (slot_as _ _ (same i)) (after.0 i within).0, (after.0 i within).1 ∙ value_as _ _ (same i))),
+      λ i outside. after.1 i outside ∙ same i,
+    )
+    slots_through (Voted j b v) old mid new same after = (after.0 ∙ ap (λ (c : Cell). record c { slot = with_vote b v }) (same j), λ i other. after.1 i other ∙ same i)
+    slots_through (Learned j v) old mid new same after = (after.0 ∙ ap (λ (c : Cell). record c { learned = Some v }) (same j), λ i other. after.1 i other ∙ same i)

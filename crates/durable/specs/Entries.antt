@@ -11,6 +11,7 @@ pub data Entry : Type 0 where
   Promised : (instance : ℕ) (ballot : BallotOf) → Entry
   PromisedSpan : (first : ℕ) (count : ℕ) (ballot : BallotOf) → Entry
   Voted : (instance : ℕ) (ballot : BallotOf) (value : List ℕ) → Entry
+  Learned : (instance : ℕ) (value : List ℕ) → Entry
 
 -- the last round of the entries, or else r
 abbrev pub round_after : ℕ → List Entry → ℕ
@@ -19,6 +20,7 @@ round_after r (Round s ∷ es) = round_after s es
 round_after r (Promised i b ∷ es) = round_after r es
 round_after r (PromisedSpan i k b ∷ es) = round_after r es
 round_after r (Voted i b v ∷ es) = round_after r es
+round_after r (Learned i v ∷ es) = round_after r es
 
 -- the last round, 0 where there is none
 abbrev pub last_round : List Entry → ℕ
@@ -31,17 +33,28 @@ vote_after i last (Round s ∷ es) = vote_after i last es
 vote_after i last (Promised j b ∷ es) = vote_after i last es
 vote_after i last (PromisedSpan j k b ∷ es) = vote_after i last es
 vote_after i last (Voted j b v ∷ es) = vote_after i (if nat_eq j i then Some (record { ballot = b; value = v }) else last) es
+vote_after i last (Learned j v ∷ es) = vote_after i last es
 
 -- the last vote at the instance, none where there is none
 abbrev pub last_vote : ℕ → List Entry → Option Vote
 last_vote i es = vote_after i None es
 
--- the round that an entry records or promises
+-- the value learned at the instance, none where none is on record
+abbrev pub learned_at : ℕ → List Entry → Option (List ℕ)
+learned_at i [] = None
+learned_at i (Round r ∷ es) = learned_at i es
+learned_at i (Promised j b ∷ es) = learned_at i es
+learned_at i (PromisedSpan j k b ∷ es) = learned_at i es
+learned_at i (Voted j b v ∷ es) = learned_at i es
+learned_at i (Learned j v ∷ es) = if nat_eq j i then Some v else learned_at i es
+
+-- the round that an entry records or promises, 0 where it does neither
 abbrev pub round_in : Entry → ℕ
 round_in (Round r) = r
 round_in (Promised i b) = b.round
 round_in (PromisedSpan i k b) = b.round
 round_in (Voted i b v) = b.round
+round_in (Learned i v) = 0
 
 -- the greatest round that the entries record or promise, 0 where there are none
 abbrev pub greatest_round : List Entry → ℕ
@@ -54,6 +67,7 @@ Raises (Round r) i b = ⊥
 Raises (Promised j c) i b = (j ≡ i) × (c ≡ b)
 Raises (PromisedSpan j k c) i b = IsInSpan j k i × (c ≡ b)
 Raises (Voted j c v) i b = (j ≡ i) × (c ≡ b)
+Raises (Learned j v) i b = ⊥
 
 -- the greatest ballot among the promises and votes at the instance
 abbrev pub IsPromise : List Entry → ℕ → Option BallotOf → Type 0

@@ -6,34 +6,35 @@ use Rattle.acceptor.specs.Steps.{with_promise, with_vote}
 use Rattle.site_ids.specs.Spans.{IsInSpan}
 use Rattle.durable.specs.Append.{IsOpenAt}
 use Rattle.durable.specs.Raising.{IsRaised}
-use Rattle.durable.specs.Entries.{Entry, Round, Promised, PromisedSpan, Voted, round_after, round_in}
+use Rattle.durable.specs.Entries.{Entry, Round, Promised, PromisedSpan, Voted, Learned, round_after, round_in}
 use Rattle.durable.specs.Histories.{MayFollow}
 use Rattle.durable.specs.Spelling.{block, behind_gate}
 use Rattle.durable.specs.Keeping.{IsFound, Keeps}
 use Rattle.durable.specs.Reading.{IsKept}
 use Rattle.durable.specs.Ready.{IsStored, IsReady, IsUnchanged}
 use Rattle.durable.specs.Batches.{IsBatchOpen, Stages, GoesAhead}
-use Rattle.durable.specs.Slots.{slot_at}
+use Rattle.durable.specs.Slots.{cell_at, slot_at, value_at}
 use Rattle.durable.specs.declared.fault.RecordFault.{RecordFault}
 use Rattle.durable.specs.declared.fault.RecordFault.TheVariants.{Device, OutOfMemory, Full, Stopped}
 use Rattle.durable.specs.declared.record.Record.{Record}
 use Rattle.durable.specs.declared.recorded.Recorded.{Recorded}
 use Rattle.durable.specs.declared.slots.Slots.{Slots}
 
--- every slot is as before
+-- of every instance the slot and what was learned are as before
 abbrev pub AreSlotsKept : Slots → Slots → Type 0
-AreSlotsKept old new = (i : ℕ) → slot_at new i ≡ slot_at old i
+AreSlotsKept old new = (i : ℕ) → cell_at new i ≡ cell_at old i
 
--- every other slot is
+-- of every other instance they are
 abbrev pub AreOthersKept : ℕ → Slots → Slots → Type 0
-AreOthersKept j old new = (i : ℕ) → i ≢ j → slot_at new i ≡ slot_at old i
+AreOthersKept j old new = (i : ℕ) → i ≢ j → cell_at new i ≡ cell_at old i
 
--- the slots after one entry more
+-- the slots, and what was learned, after one entry more
 abbrev pub AreSlotsAfter : Entry → Slots → Slots → Type 0
 AreSlotsAfter (Round r) old new = AreSlotsKept old new
-AreSlotsAfter (Promised j b) old new = (slot_at new j ≡ with_promise (slot_at old j) b) × AreOthersKept j old new
-AreSlotsAfter (PromisedSpan j k b) old new = ((i : ℕ) → IsInSpan j k i → IsRaised (slot_at old i) b (slot_at new i)) × ((i : ℕ) → ¬ IsInSpan j k i → slot_at new i ≡ slot_at old i)
-AreSlotsAfter (Voted j b v) old new = (slot_at new j ≡ with_vote b v) × AreOthersKept j old new
+AreSlotsAfter (Promised j b) old new = (cell_at new j ≡ record (cell_at old j) { slot = with_promise (slot_at old j) b }) × AreOthersKept j old new
+AreSlotsAfter (PromisedSpan j k b) old new = ((i : ℕ) → IsInSpan j k i → IsRaised (slot_at old i) b (slot_at new i) × (value_at new i ≡ value_at old i)) × ((i : ℕ) → ¬ IsInSpan j k i → cell_at new i ≡ cell_at old i)
+AreSlotsAfter (Voted j b v) old new = (cell_at new j ≡ record (cell_at old j) { slot = with_vote b v }) × AreOthersKept j old new
+AreSlotsAfter (Learned j v) old new = (cell_at new j ≡ record (cell_at old j) { learned = Some v }) × AreOthersKept j old new
 
 -- what is kept in memory after one entry more
 pub record Remembers (old new : Recorded) (entry : Entry) : Type 0 where

@@ -7,7 +7,7 @@ use Rattle.durable.specs.Histories.{IsHistory}
 use Rattle.durable.specs.Spelling.{blocks}
 use Rattle.durable.specs.Standing.{StandsFor}
 use Rattle.durable.specs.Reading.{IsKept}
-use Rattle.durable.specs.Slots.{slot_at}
+use Rattle.durable.specs.Slots.{cell_at}
 use Rattle.durable.specs.declared.record.Record.{Record}
 
 -- the record runs, its file stands for these entries, all of it is on the disk, and no batch is open
@@ -29,7 +29,7 @@ pub record IsUnchanged {D : Type 0} (old new : Record D) : Type 0 where
   pub same : new ≡ record old { recorded = record old.recorded { slots = new.recorded.slots }; staged = new.staged }
   pub staged : new.staged.bytes.items ≡ old.staged.bytes.items
   pub base : new.staged.base ≡ old.staged.base
-  pub slots : (i : ℕ) → slot_at new.recorded.slots i ≡ slot_at old.recorded.slots i
+  pub slots : (i : ℕ) → cell_at new.recorded.slots i ≡ cell_at old.recorded.slots i
 
 -- what a record that was opened keeps in memory is what these entries record, over any disk; and of each state that the disk stood for, they are the entries of its file
 pub record IsOpened {D : Type 0} (stands_for : D → DiskState → Type 0) (disk : D) (store : Record D) (entries : List Entry) : Type 0 where

@@ -1,4 +1,4 @@
-//! A node's record: its rounds, promises and votes, each on the disk before it is acknowledged.
+//! A node's record: its rounds, promises, votes and learned values, each on the disk before it is acknowledged.
 #![tactic(auto)]
 
 mod append;

@@ -19,6 +19,7 @@ pub(crate) enum EntryRef<'a> {
     Promised(Instance, Ballot),
     PromisedSpan(Instance, u8, Ballot),
     Voted(Instance, Ballot, &'a [u8]),
+    Learned(Instance, &'a [u8]),
 }
 
 /// What stands at a gate.
@@ -40,6 +41,9 @@ fn ballot_of(bytes: &[u8], cluster: Cluster) -> Option<Ballot>
     let node = cluster.node(*node)?;
     Ballot::new(u32::from_be_bytes([*a, *b, *c, *d]), node)
 }
+
+// The length of an instance.
+const INSTANCE: usize = 4;
 
 // The length of an instance and a ballot.
 const SLOT: usize = 9;
@@ -84,6 +88,16 @@ fn span_of(bytes: &[u8], cluster: Cluster) -> Option<(Instance, u8, Ballot)>
     }
 }
 
+// The instance that the bytes spell.
+fn instance_of(bytes: &[u8]) -> Option<Instance>
+    ensures { MatchOption result ((i : ℕ) → IsInstance i → bytes.now ≢ big_bytes 4 i) (λ i. IsInstance i × (bytes.now ≡ big_bytes 4 i)) }
+{
+    let [a, b, c, d] = bytes else {
+        return None;
+    };
+    Instance::new(u32::from_be_bytes([*a, *b, *c, *d]))
+}
+
 // The entry that a payload spells.
 fn entry_of(payload: &[u8], cluster: Cluster) -> Option<EntryRef<'_>>
     ensures { MatchOption result ((e : Entry) → IsInRange cluster e → payload.now ≢ payload_of e)
@@ -105,6 +119,13 @@ fn entry_of(payload: &[u8], cluster: Cluster) -> Option<EntryRef<'_>>
         [4, span @ ..] => {
             let (first, count, ballot) = span_of(span, cluster)?;
             Some(EntryRef::PromisedSpan(first, count, ballot))
+        }
+        [6, learned @ ..] => {
+            if learned.len() < INSTANCE || INSTANCE + MAX_VALUE < learned.len() {
+                return None;
+            }
+            let instance = instance_of(&learned[..INSTANCE])?;
+            Some(EntryRef::Learned(instance, &learned[INSTANCE..]))
         }
         _ => None,
     }

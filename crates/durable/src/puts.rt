@@ -2,13 +2,13 @@
 //!
 //! `stopped` is set before the first write, so no exit forgets it; Full goes by the gate's place.
 
-ghost use Rattle.std.specs.Prelude.{◌≡◌, ◌⊎◌, ◌↔◌, ℕ, ◌+◌, ◌≤◌, ◌<◌, ◌^◌, IsErrOf, OnOk, OnErr, length, false, true};
+ghost use Rattle.std.specs.Prelude.{◌≡◌, ◌⊎◌, ◌↔◌, ℕ, ◌+◌, ◌≤◌, ◌<◌, ◌^◌, IsErrOf, OnOk, OnErr, length, false, true, None};
 ghost use Rattle.site_ids.specs.declared.TheConstants.{MAX_RECORD, MAX_VALUE};
 ghost use Rattle.site_disk.specs.Model.{CountsFailure};
 ghost use Rattle.site_ids.specs.Ids.{IsNode};
 ghost use Rattle.site_ids.specs.Spans.{IsSpan, IsInSpan};
 ghost use Rattle.acceptor.specs.Judging.{IsFreeBelow, IsFreeAt, IsVotedAt};
-ghost use Rattle.durable.specs.Entries.{Round, Promised, PromisedSpan, Voted};
+ghost use Rattle.durable.specs.Entries.{Round, Promised, PromisedSpan, Voted, Learned};
 
 use crate::append::append;
 use crate::spelling::{promise_behind, round_behind, span_behind};
@@ -19,7 +19,7 @@ use site_ids::{Ballot, Instance, Value};
 impl<D: Disk> Record<D> {
     ghost use Rattle.durable.specs.Batches.{IsBatchOpen};
     ghost use Rattle.durable.specs.Puts.{Puts, Writes, Appends, BreaksOff};
-    ghost use Rattle.durable.specs.Slots.{slot_at};
+    ghost use Rattle.durable.specs.Slots.{slot_at, value_at};
 
     /// Records a round. At `Ok` it is on the disk, or in the batch that is open. Where none is, it takes no memory.
     pub fn put_round(&mut self, round: u32) -> Result<(), RecordFault>
@@ -85,6 +85,20 @@ impl<D: Disk> Record<D> {
         let (bytes, vote) = room.room_for_vote(self.alloc, instance, ballot, value)?;
         self.write(&bytes)?;
         self.recorded.keep_vote(instance, vote);
+        Ok(())
+    }
+
+    /// Records a value as learned, which raises no promise. At `Ok` it is on the disk, or in the batch that is open.
+    pub fn put_learned(&mut self, instance: Instance, value: &Value) -> Result<(), RecordFault>
+        requires new { value_at self.old.recorded.slots instance ≡ None }
+        requires fits { length value.now ≤ MAX_VALUE }
+        ensures { Puts D.stands_for D.failed self.old self.new (Learned instance value.now) result }
+    {
+        self.check_room(5 + value.as_bytes().len())?;
+        let room = &mut self.recorded.slots;
+        let (bytes, value) = room.room_for_learned(self.alloc, instance, value)?;
+        self.write(&bytes)?;
+        self.recorded.keep_learned(instance, value);
         Ok(())
     }
 

@@ -2,7 +2,7 @@
 //!
 //! Callers owe that a ballot's node is of the `cluster`; no test stands at 4,294,967,295 bytes; `Puts.full` says it.
 
-ghost use Rattle.std.specs.Prelude.{◌≡◌, ◌↔◌, ◌⊎◌, ◌+◌, ◌-◌, ◌≤◌, ◌<◌, ◌^◌, ◌∷◌, ◌++◌, [], ℕ, List, Option, IsTrue, IsErrOf, OnOk, OnErr, IfOk, IfErr, length, false, true};
+ghost use Rattle.std.specs.Prelude.{◌≡◌, ◌↔◌, ◌⊎◌, ◌+◌, ◌-◌, ◌≤◌, ◌<◌, ◌^◌, ◌∷◌, ◌++◌, [], ℕ, List, Option, option_copied, IsTrue, IsErrOf, OnOk, OnErr, IfOk, IfErr, length, false, true};
 ghost use Rattle.site_disk.specs.Model.{DiskState, after_sync};
 ghost use Rattle.durable.specs.Append.{IsSettled};
 ghost use Rattle.durable.specs.Entries.{Entry};
@@ -17,7 +17,7 @@ use crate::recorded::Recorded;
 use crate::staged::Staged;
 use acceptor::Slot;
 use site_disk::{Armed, Disk};
-use site_ids::{Cluster, Instance, MAX_RECORD, NodeId};
+use site_ids::{Cluster, Instance, MAX_RECORD, NodeId, Value};
 use std::alloc::Global;
 
 const MARK: [u8; 8] = *b"SITEREC1";
@@ -77,7 +77,7 @@ fn read<D: Disk>(
 
 impl<D: Disk> Record<D> {
     ghost use Rattle.durable.specs.Ready.{IsOpened};
-    ghost use Rattle.durable.specs.Slots.{slot_at};
+    ghost use Rattle.durable.specs.Slots.{slot_at, value_at};
 
     /// Makes an empty record of a node of a cluster on an empty disk. A crash within it may leave a file that is no
     /// record.
@@ -165,6 +165,13 @@ impl<D: Disk> Record<D> {
         ensures { result.now ≡ slot_at self.now.recorded.slots instance }
     {
         self.recorded.slots.get(instance)
+    }
+
+    /// The value on record as learned at an instance.
+    pub fn learned(&self, instance: Instance) -> Option<&Value>
+        ensures { option_copied result ≡ value_at self.now.recorded.slots instance }
+    {
+        self.recorded.slots.learned(instance)
     }
 
     /// No put of so long a payload would be refused as full.

@@ -3,7 +3,7 @@
 //! The acceptor's judges say what an entry must advance, on reading too.
 
 ghost use Rattle.std.specs.Prelude.{◌≡◌, ℕ, []};
-ghost use Rattle.durable.specs.Entries.{Round, Promised, PromisedSpan, Voted};
+ghost use Rattle.durable.specs.Entries.{Round, Promised, PromisedSpan, Voted, Learned};
 ghost use Rattle.durable.specs.Raising.{IsSpanned};
 ghost use Rattle.site_ids.specs.Spans.{IsSpan, IsInSpan};
 
@@ -82,6 +82,15 @@ impl Recorded {
         self.slots.vote(instance, vote);
     }
 
+    /// Keeps a learned value where there is room for the slot.
+    pub(crate) fn keep_learned(&mut self, instance: Instance, value: Value)
+        requires { IsThere self.old.slots instance }
+        ensures remembers { Remembers self.old self.new (Learned instance value) }
+        ensures gate { self.new.gate ≡ self.old.gate }
+    {
+        self.slots.learn(instance, value);
+    }
+
     /// Takes one entry more, if it advances those before it.
     pub(crate) fn take(&mut self, alloc: Global, entry: EntryRef<'_>) -> Result<(), RecordFault>
         requires { IsSpanned (meaning entry) }
@@ -94,6 +103,7 @@ impl Recorded {
             EntryRef::Voted(instance, ballot, value) => {
                 self.take_vote(alloc, instance, ballot, value)
             }
+            EntryRef::Learned(instance, value) => self.take_learned(alloc, instance, value),
         }
     }
 
@@ -145,6 +155,23 @@ impl Recorded {
         let value = Value::copied_from(alloc, value)?;
         self.slots.make_room(instance)?;
         self.keep_vote(instance, Vote { ballot, value });
+        Ok(())
+    }
+
+    fn take_learned(
+        &mut self,
+        alloc: Global,
+        instance: Instance,
+        value: &[u8],
+    ) -> Result<(), RecordFault>
+        ensures { Takes (Learned instance value.now) self.old self.new result }
+    {
+        if self.slots.learned(instance).is_some() {
+            return Err(RecordFault::Damaged);
+        }
+        let value = Value::copied_from(alloc, value)?;
+        self.slots.make_room(instance)?;
+        self.keep_learned(instance, value);
         Ok(())
     }
 }

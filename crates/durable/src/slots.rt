@@ -1,48 +1,69 @@
-//! What a node has promised and voted at each instance.
+//! What a node has promised, voted and learned at each instance.
 
-ghost use Rattle.std.specs.Prelude.{◌≡◌, ◌≢◌, ◌↔◌, IsTrue, ◌≤◌, ◌<◌, ◌^◌, ℕ, None, Some, OnOk, IfOk, length};
+ghost use Rattle.std.specs.Prelude.{◌≡◌, ◌≢◌, ◌↔◌, IsTrue, ◌≤◌, ◌<◌, ◌^◌, ℕ, None, Some, OnOk, IfOk, length, option_copied};
 ghost use Rattle.site_ids.specs.declared.TheConstants.{MAX_VALUE};
 ghost use Rattle.site_ids.specs.Ids.{IsInstance};
 ghost use Rattle.site_ids.specs.Spans.{IsSpan, IsInSpan};
 ghost use Rattle.acceptor.specs.Judging.{IsFreeBelow};
 ghost use Rattle.durable.specs.Raising.{IsRaised};
-ghost use Rattle.durable.specs.Entries.{Voted};
+ghost use Rattle.durable.specs.Entries.{Voted, Learned};
 ghost use Rattle.durable.specs.Spelling.{behind_gate};
 
-use crate::spelling::vote_behind;
+use crate::spelling::{learned_behind, vote_behind};
 use acceptor::Slot;
 use site_ids::{Ballot, Instance, Value, Vote};
 use std::alloc::{AllocError, Global};
 use std::collections::BTreeMap;
 
-/// The slots that aren't empty, and perhaps empty ones.
+/// What is kept of an instance.
 #[derive(Drop)]
-pub(crate) struct Slots {
-    map: BTreeMap<u32, Slot>,
-    empty: Slot,
-    ghost none_promised: { empty.promised ≡ None },
-    ghost none_voted: { empty.vote ≡ None },
+pub(crate) struct Cell {
+    pub(crate) slot: Slot,
+    pub(crate) learned: Option<Value>,
 }
 
-fn empty_slot() -> Slot
-    ensures { result ≡ record { promised = None; vote = None } }
+/// The cells in which something stands, and perhaps empty ones.
+#[derive(Drop)]
+pub(crate) struct Slots {
+    map: BTreeMap<u32, Cell>,
+    empty: Cell,
+    ghost none_promised: { empty.slot.promised ≡ None },
+    ghost none_voted: { empty.slot.vote ≡ None },
+    ghost none_learned: { empty.learned ≡ None },
+}
+
+fn empty_cell() -> Cell
+    ensures { result ≡ record { slot = record { promised = None; vote = None }; learned = None } }
 {
-    Slot {
+    let slot = Slot {
         promised: None,
         vote: None,
+    };
+    Cell {
+        slot,
+        learned: None,
     }
 }
 
 impl Slots {
     ghost use Rattle.acceptor.specs.Steps.{with_promise, with_vote};
-    ghost use Rattle.durable.specs.Slots.{slot_at, no_slot, IsThere};
+    ghost use Rattle.durable.specs.Slots.{cell_at, slot_at, value_at, no_cell, IsThere};
 
     pub(crate) fn new(alloc: Global) -> Slots
-        ensures { (at : ℕ) → slot_at result at ≡ no_slot }
+        ensures { (at : ℕ) → cell_at result at ≡ no_cell }
     {
         Slots {
             map: BTreeMap::new(alloc),
-            empty: empty_slot(),
+            empty: empty_cell(),
+        }
+    }
+
+    fn cell(&self, at: Instance) -> &Cell
+        ensures { result.now ≡ cell_at self.now at }
+    {
+        match self.map.get(&at.number()) {
+            Some(cell) => cell,
+            None => &self.empty,
         }
     }
 
@@ -50,22 +71,25 @@ impl Slots {
     pub(crate) fn get(&self, at: Instance) -> &Slot
         ensures { result.now ≡ slot_at self.now at }
     {
-        match self.map.get(&at.number()) {
-            Some(slot) => slot,
-            None => &self.empty,
-        }
+        &self.cell(at).slot
+    }
+
+    pub(crate) fn learned(&self, at: Instance) -> Option<&Value>
+        ensures { option_copied result ≡ value_at self.now at }
+    {
+        self.cell(at).learned.as_ref()
     }
 
     /// Makes room for a slot, which changes none of them.
     pub(crate) fn make_room(&mut self, at: Instance) -> Result<(), AllocError>
-        ensures same { (other : ℕ) → slot_at self.new other ≡ slot_at self.old other }
+        ensures same { (other : ℕ) → cell_at self.new other ≡ cell_at self.old other }
         ensures room { OnOk result (IsThere self.new at) }
         ensures kept { (other : ℕ) → IsThere self.old other → IsThere self.new other }
     {
         if self.map.get(&at.number()).is_some() {
             return Ok(());
         }
-        self.map.insert(at.number(), empty_slot())?;
+        self.map.insert(at.number(), empty_cell())?;
         Ok(())
     }
 
@@ -76,7 +100,7 @@ impl Slots {
         count: u8,
     ) -> Result<(), AllocError>
         requires { IsSpan first count }
-        ensures same { (other : ℕ) → slot_at self.new other ≡ slot_at self.old other }
+        ensures same { (other : ℕ) → cell_at self.new other ≡ cell_at self.old other }
         ensures room { OnOk result ((at : ℕ) → IsInSpan first count at → IsThere self.new at) }
     {
         let mut past = 0;
@@ -119,7 +143,8 @@ impl Slots {
     fn raise(&mut self, at: Instance, ballot: Ballot)
         requires { IsThere self.old at }
         ensures raised { IsRaised (slot_at self.old at) ballot (slot_at self.new at) }
-        ensures others { (other : ℕ) → other ≢ at → slot_at self.new other ≡ slot_at self.old other }
+        ensures learned { value_at self.new at ≡ value_at self.old at }
+        ensures others { (other : ℕ) → other ≢ at → cell_at self.new other ≡ cell_at self.old other }
         ensures room { (other : ℕ) → IsThere self.old other → IsThere self.new other }
     {
         if self.is_free(at, ballot) {
@@ -131,8 +156,8 @@ impl Slots {
     pub(crate) fn promise_span(&mut self, first: Instance, count: u8, ballot: Ballot)
         requires span { IsSpan first count }
         requires room { (at : ℕ) → IsInSpan first count at → IsThere self.old at }
-        ensures raised { (at : ℕ) → IsInSpan first count at → IsRaised (slot_at self.old at) ballot (slot_at self.new at) }
-        ensures others { (at : ℕ) → ¬ IsInSpan first count at → slot_at self.new at ≡ slot_at self.old at }
+        ensures raised { (at : ℕ) → IsInSpan first count at → IsRaised (slot_at self.old at) ballot (slot_at self.new at) × (value_at self.new at ≡ value_at self.old at) }
+        ensures others { (at : ℕ) → ¬ IsInSpan first count at → cell_at self.new at ≡ cell_at self.old at }
     {
         let mut past = 0;
         while past < count {
@@ -146,26 +171,38 @@ impl Slots {
     /// Raises a promise where there is room for the slot.
     pub(crate) fn promise(&mut self, at: Instance, ballot: Ballot)
         requires { IsThere self.old at }
-        ensures promised { slot_at self.new at ≡ with_promise (slot_at self.old at) ballot }
-        ensures others { (other : ℕ) → other ≢ at → slot_at self.new other ≡ slot_at self.old other }
+        ensures promised { cell_at self.new at ≡ record (cell_at self.old at) { slot = with_promise (slot_at self.old at) ballot } }
+        ensures others { (other : ℕ) → other ≢ at → cell_at self.new other ≡ cell_at self.old other }
         ensures kept { (other : ℕ) → IsThere self.old other → IsThere self.new other }
     {
-        if let Some(slot) = self.map.get_mut(&at.number()) {
-            slot.promised = Some(ballot);
+        if let Some(cell) = self.map.get_mut(&at.number()) {
+            cell.slot.promised = Some(ballot);
         }
     }
 
     /// Puts a vote, whose ballot is promised too, where there is room for the slot.
     pub(crate) fn vote(&mut self, at: Instance, vote: Vote)
         requires { IsThere self.old at }
-        ensures voted { slot_at self.new at ≡ with_vote vote.ballot vote.value }
-        ensures others { (other : ℕ) → other ≢ at → slot_at self.new other ≡ slot_at self.old other }
+        ensures voted { cell_at self.new at ≡ record (cell_at self.old at) { slot = with_vote vote.ballot vote.value } }
+        ensures others { (other : ℕ) → other ≢ at → cell_at self.new other ≡ cell_at self.old other }
     {
-        let slot = Slot {
-            promised: Some(vote.ballot),
-            vote: Some(vote),
-        };
-        let _ = self.map.insert(at.number(), slot);
+        if let Some(cell) = self.map.get_mut(&at.number()) {
+            cell.slot = Slot {
+                promised: Some(vote.ballot),
+                vote: Some(vote),
+            };
+        }
+    }
+
+    /// Puts a learned value where there is room for the slot, which stays as it is.
+    pub(crate) fn learn(&mut self, at: Instance, value: Value)
+        requires { IsThere self.old at }
+        ensures learned { cell_at self.new at ≡ record (cell_at self.old at) { learned = Some value } }
+        ensures others { (other : ℕ) → other ≢ at → cell_at self.new other ≡ cell_at self.old other }
+    {
+        if let Some(cell) = self.map.get_mut(&at.number()) {
+            cell.learned = Some(value);
+        }
     }
 
     /// All the memory that a vote wants: its bytes behind the gate, the vote, and room for its slot.
@@ -181,11 +218,31 @@ impl Slots {
         ensures vote { IfOk result (λ p. p.1 ≡ record { ballot = ballot; value = value.now }) }
         ensures in_range { IsInstance instance × (1 ≤ ballot.round) × (ballot.round < 2 ^ 32) }
         ensures room { OnOk result (IsThere self.new instance) }
-        ensures slots { (at : ℕ) → slot_at self.new at ≡ slot_at self.old at }
+        ensures slots { (at : ℕ) → cell_at self.new at ≡ cell_at self.old at }
     {
         let bytes = vote_behind(alloc, instance, ballot, value.as_bytes())?;
         let value = value.try_clone()?;
         self.make_room(instance)?;
         Ok((bytes, Vote { ballot, value }))
+    }
+
+    /// All the memory that a learned value wants: its bytes behind the gate, itself, and room for its slot.
+    pub(crate) fn room_for_learned(
+        &mut self,
+        alloc: Global,
+        instance: Instance,
+        value: &Value,
+    ) -> Result<(Vec<u8>, Value), AllocError>
+        requires { length value.now ≤ MAX_VALUE }
+        ensures bytes { IfOk result (λ p. p.0.items ≡ behind_gate (Learned instance value.now)) }
+        ensures value { IfOk result (λ p. p.1 ≡ value.now) }
+        ensures in_range { IsInstance instance }
+        ensures room { OnOk result (IsThere self.new instance) }
+        ensures slots { (at : ℕ) → cell_at self.new at ≡ cell_at self.old at }
+    {
+        let bytes = learned_behind(alloc, instance, value.as_bytes())?;
+        let value = value.try_clone()?;
+        self.make_room(instance)?;
+        Ok((bytes, value))
     }
 }

@@ -3,7 +3,7 @@ use Rattle.std.proofs.Common.{◌≡◌, ℕ, ◌<◌, ◌^◌, List, [], ◌∷
 use Rattle.std.proofs.lemmas.Fmt.{decimal_injective}
 use Rattle.std.proofs.lemmas.List.{append_cancel_left}
 use Rattle.site_ids.specs.Ids.{IsNode}
-use Rattle.engine_schedule.specs.Schedule.{Line, submit_line, tick_line, widen_line, ask_line, tell_line, restart_line, deliver_line, arm_line, crash_line, settle_line, quiet_line, show_line, get_line, trace_line, words, body, spelled, Fits}
+use Rattle.engine_schedule.specs.Schedule.{Line, submit_line, tick_line, widen_line, ask_line, tell_line, keep_line, restart_line, deliver_line, arm_line, crash_line, settle_line, quiet_line, show_line, get_line, trace_line, words, body, spelled, Fits}
 use Rattle.engine_common.specs.Submissions.{joined}
 use Rattle.engine_schedule.specs.Laws.{OneLine}
 use Rattle.engine_common.proofs.CutLemmas.{lacks-decimal}
@@ -41,6 +41,7 @@ same_line (submit_line p t x) (tick_line p') rest others hl hm e more = let star
 same_line (submit_line p t x) (widen_line p') rest others hl hm e more = let starts = begins_so _ _ e in absurd (omega (arith, starts.0, starts.1))
 same_line (submit_line p t x) (ask_line p') rest others hl hm e more = let starts = begins_so _ _ e in absurd (omega (arith, starts.0, starts.1))
 same_line (submit_line p t x) (tell_line p' i') rest others hl hm e more = let starts = begins_so _ _ e in absurd (omega (arith, starts.0, starts.1))
+same_line (submit_line p t x) (keep_line p' i') rest others hl hm e more = let starts = begins_so _ _ e in absurd (omega (arith, starts.0, starts.1))
 same_line (submit_line p t x) (restart_line p') rest others hl hm e more = let starts = begins_so _ _ e in absurd (omega (arith, starts.0, starts.1))
 same_line (submit_line p t x) (deliver_line p' i') rest others hl hm e more = let starts = begins_so _ _ e in absurd (omega (arith, starts.0, starts.1))
 same_line (submit_line p t x) (arm_line p' i') rest others hl hm e more = let starts = begins_so _ _ e in absurd (omega (arith, starts.0, starts.1))
@@ -55,6 +56,7 @@ same_line (tick_line p) (tick_line p') rest others hl hm e more = one_node tick_
 same_line (tick_line p) (widen_line p') rest others hl hm e more = let starts = begins_so _ _ e in absurd (omega (arith, starts.0, starts.1))
 same_line (tick_line p) (ask_line p') rest others hl hm e more = let starts = begins_so _ _ e in absurd (omega (arith, starts.0, starts.1))
 same_line (tick_line p) (tell_line p' i') rest others hl hm e more = let starts = begins_so _ _ e in absurd (omega (arith, starts.0, starts.1))
+same_line (tick_line p) (keep_line p' i') rest others hl hm e more = let starts = begins_so _ _ e in absurd (omega (arith, starts.0, starts.1))
 same_line (tick_line p) (restart_line p') rest others hl hm e more = let starts = begins_so _ _ e in absurd (omega (arith, starts.0, starts.1))
 same_line (tick_line p) (deliver_line p' i') rest others hl hm e more = let starts = begins_so _ _ e in absurd (omega (arith, starts.0, starts.1))
 same_line (tick_line p) (arm_line p' i') rest others hl hm e more = let starts = begins_so _ _ e in absurd (omega (arith, starts.0, starts.1))
@@ -69,6 +71,7 @@ same_line (widen_line p) (tick_line p') rest others hl hm e more = let starts = 
 same_line (widen_line p) (widen_line p') rest others hl hm e more = one_node widen_line (codes "widen ") p p' rest others hl hm e more
 same_line (widen_line p) (ask_line p') rest others hl hm e more = let starts = begins_so _ _ e in absurd (omega (arith, starts.0, starts.1))
 same_line (widen_line p) (tell_line p' i') rest others hl hm e more = let starts = begins_so _ _ e in absurd (omega (arith, starts.0, starts.1))
+same_line (widen_line p) (keep_line p' i') rest others hl hm e more = let starts = begins_so _ _ e in absurd (omega (arith, starts.0, starts.1))
 same_line (widen_line p) (restart_line p') rest others hl hm e more = let starts = begins_so _ _ e in absurd (omega (arith, starts.0, starts.1))
 same_line (widen_line p) (deliver_line p' i') rest others hl hm e more = let starts = begins_so _ _ e in absurd (omega (arith, starts.0, starts.1))
 same_line (widen_line p) (arm_line p' i') rest others hl hm e more = let starts = begins_so _ _ e in absurd (omega (arith, starts.0, starts.1))
@@ -83,6 +86,7 @@ same_line (ask_line p) (tick_line p') rest others hl hm e more = let starts = be
 same_line (ask_line p) (widen_line p') rest others hl hm e more = let starts = begins_so _ _ e in absurd (omega (arith, starts.0, starts.1))
 same_line (ask_line p) (ask_line p') rest others hl hm e more = one_node ask_line (codes "ask ") p p' rest others hl hm e more
 same_line (ask_line p) (tell_line p' i') rest others hl hm e more = let starts = begins_so _ _ e in absurd (omega (arith, starts.0, starts.1))
+same_line (ask_line p) (keep_line p' i') rest others hl hm e more = let starts = begins_so _ _ e in absurd (omega (arith, starts.0, starts.1))
 same_line (ask_line p) (restart_line p') rest others hl hm e more = let starts = begins_so _ _ e in absurd (omega (arith, starts.0, starts.1))
 same_line (ask_line p) (deliver_line p' i') rest others hl hm e more = let starts = begins_so _ _ e in absurd (omega (arith, starts.0, starts.1))
 same_line (ask_line p) (arm_line p' i') rest others hl hm e more = let starts = begins_so _ _ e in absurd (omega (arith, starts.0, starts.1))
@@ -97,6 +101,7 @@ same_line (tell_line p i) (tick_line p') rest others hl hm e more = let starts =
 same_line (tell_line p i) (widen_line p') rest others hl hm e more = let starts = begins_so _ _ e in absurd (omega (arith, starts.0, starts.1))
 same_line (tell_line p i) (ask_line p') rest others hl hm e more = let starts = begins_so _ _ e in absurd (omega (arith, starts.0, starts.1))
 same_line (tell_line p i) (tell_line p' i') rest others hl hm e more = one_pair tell_line (codes "tell ") p i p' i' rest others hl.0 hm.0 (omega arith) (omega arith) e more
+same_line (tell_line p i) (keep_line p' i') rest others hl hm e more = let starts = begins_so _ _ e in absurd (omega (arith, starts.0, starts.1))
 same_line (tell_line p i) (restart_line p') rest others hl hm e more = let starts = begins_so _ _ e in absurd (omega (arith, starts.0, starts.1))
 same_line (tell_line p i) (deliver_line p' i') rest others hl hm e more = let starts = begins_so _ _ e in absurd (omega (arith, starts.0, starts.1))
 same_line (tell_line p i) (arm_line p' i') rest others hl hm e more = let starts = begins_so _ _ e in absurd (omega (arith, starts.0, starts.1))
@@ -106,11 +111,27 @@ same_line (tell_line p i) (quiet_line p') rest others hl hm e more = let starts 
 same_line (tell_line p i) (show_line p') rest others hl hm e more = let starts = begins_so _ _ e in absurd (omega (arith, starts.0, starts.1))
 same_line (tell_line p i) (get_line p' n' path') rest others hl hm e more = let starts = begins_so _ _ e in absurd (omega (arith, starts.0, starts.1))
 same_line (tell_line p i) trace_line rest others hl hm e more = let starts = begins_so _ _ e in absurd (omega (arith, starts.0, starts.1))
+same_line (keep_line p i) (submit_line p' t' x') rest others hl hm e more = let starts = begins_so _ _ e in absurd (omega (arith, starts.0, starts.1))
+same_line (keep_line p i) (tick_line p') rest others hl hm e more = let starts = begins_so _ _ e in absurd (omega (arith, starts.0, starts.1))
+same_line (keep_line p i) (widen_line p') rest others hl hm e more = let starts = begins_so _ _ e in absurd (omega (arith, starts.0, starts.1))
+same_line (keep_line p i) (ask_line p') rest others hl hm e more = let starts = begins_so _ _ e in absurd (omega (arith, starts.0, starts.1))
+same_line (keep_line p i) (tell_line p' i') rest others hl hm e more = let starts = begins_so _ _ e in absurd (omega (arith, starts.0, starts.1))
+same_line (keep_line p i) (keep_line p' i') rest others hl hm e more = one_pair keep_line (codes "keep ") p i p' i' rest others hl.0 hm.0 (omega arith) (omega arith) e more
+same_line (keep_line p i) (restart_line p') rest others hl hm e more = let starts = begins_so _ _ e in absurd (omega (arith, starts.0, starts.1))
+same_line (keep_line p i) (deliver_line p' i') rest others hl hm e more = let starts = begins_so _ _ e in absurd (omega (arith, starts.0, starts.1))
+same_line (keep_line p i) (arm_line p' i') rest others hl hm e more = let starts = begins_so _ _ e in absurd (omega (arith, starts.0, starts.1))
+same_line (keep_line p i) (crash_line p' i') rest others hl hm e more = let starts = begins_so _ _ e in absurd (omega (arith, starts.0, starts.1))
+same_line (keep_line p i) settle_line rest others hl hm e more = let starts = begins_so _ _ e in absurd (omega (arith, starts.0, starts.1))
+same_line (keep_line p i) (quiet_line p') rest others hl hm e more = let starts = begins_so _ _ e in absurd (omega (arith, starts.0, starts.1))
+same_line (keep_line p i) (show_line p') rest others hl hm e more = let starts = begins_so _ _ e in absurd (omega (arith, starts.0, starts.1))
+same_line (keep_line p i) (get_line p' n' path') rest others hl hm e more = let starts = begins_so _ _ e in absurd (omega (arith, starts.0, starts.1))
+same_line (keep_line p i) trace_line rest others hl hm e more = let starts = begins_so _ _ e in absurd (omega (arith, starts.0, starts.1))
 same_line (restart_line p) (submit_line p' t' x') rest others hl hm e more = let starts = begins_so _ _ e in absurd (omega (arith, starts.0, starts.1))
 same_line (restart_line p) (tick_line p') rest others hl hm e more = let starts = begins_so _ _ e in absurd (omega (arith, starts.0, starts.1))
 same_line (restart_line p) (widen_line p') rest others hl hm e more = let starts = begins_so _ _ e in absurd (omega (arith, starts.0, starts.1))
 same_line (restart_line p) (ask_line p') rest others hl hm e more = let starts = begins_so _ _ e in absurd (omega (arith, starts.0, starts.1))
 same_line (restart_line p) (tell_line p' i') rest others hl hm e more = let starts = begins_so _ _ e in absurd (omega (arith, starts.0, starts.1))
+same_line (restart_line p) (keep_line p' i') rest others hl hm e more = let starts = begins_so _ _ e in absurd (omega (arith, starts.0, starts.1))
 same_line (restart_line p) (restart_line p') rest others hl hm e more = one_node restart_line (codes "restart ") p p' rest others hl hm e more
 same_line (restart_line p) (deliver_line p' i') rest others hl hm e more = let starts = begins_so _ _ e in absurd (omega (arith, starts.0, starts.1))
 same_line (restart_line p) (arm_line p' i') rest others hl hm e more = let starts = begins_so _ _ e in absurd (omega (arith, starts.0, starts.1))
@@ -125,6 +146,7 @@ same_line (deliver_line p i) (tick_line p') rest others hl hm e more = let start
 same_line (deliver_line p i) (widen_line p') rest others hl hm e more = let starts = begins_so _ _ e in absurd (omega (arith, starts.0, starts.1))
 same_line (deliver_line p i) (ask_line p') rest others hl hm e more = let starts = begins_so _ _ e in absurd (omega (arith, starts.0, starts.1))
 same_line (deliver_line p i) (tell_line p' i') rest others hl hm e more = let starts = begins_so _ _ e in absurd (omega (arith, starts.0, starts.1))
+same_line (deliver_line p i) (keep_line p' i') rest others hl hm e more = let starts = begins_so _ _ e in absurd (omega (arith, starts.0, starts.1))
 same_line (deliver_line p i) (restart_line p') rest others hl hm e more = let starts = begins_so _ _ e in absurd (omega (arith, starts.0, starts.1))
 same_line (deliver_line p i) (deliver_line p' i') rest others hl hm e more = one_pair deliver_line (codes "deliver ") p i p' i' rest others hl.0 hm.0 (omega arith) (omega arith) e more
 same_line (deliver_line p i) (arm_line p' i') rest others hl hm e more = let starts = begins_so _ _ e in absurd (omega (arith, starts.0, starts.1))
@@ -139,6 +161,7 @@ same_line (arm_line p i) (tick_line p') rest others hl hm e more = let starts = 
 same_line (arm_line p i) (widen_line p') rest others hl hm e more = let starts = begins_so _ _ e in absurd (omega (arith, starts.0, starts.1))
 same_line (arm_line p i) (ask_line p') rest others hl hm e more = let starts = begins_so _ _ e in absurd (omega (arith, starts.0, starts.1))
 same_line (arm_line p i) (tell_line p' i') rest others hl hm e more = let starts = begins_so _ _ e in absurd (omega (arith, starts.0, starts.1))
+same_line (arm_line p i) (keep_line p' i') rest others hl hm e more = let starts = begins_so _ _ e in absurd (omega (arith, starts.0, starts.1))
 same_line (arm_line p i) (restart_line p') rest others hl hm e more = let starts = begins_so _ _ e in absurd (omega (arith, starts.0, starts.1))
 same_line (arm_line p i) (deliver_line p' i') rest others hl hm e more = let starts = begins_so _ _ e in absurd (omega (arith, starts.0, starts.1))
 same_line (arm_line p i) (arm_line p' i') rest others hl hm e more = one_pair arm_line (codes "arm ") p i p' i' rest others hl.0 hm.0 (omega arith) (omega arith) e more
@@ -153,6 +176,7 @@ same_line (crash_line p i) (tick_line p') rest others hl hm e more = let starts 
 same_line (crash_line p i) (widen_line p') rest others hl hm e more = let starts = begins_so _ _ e in absurd (omega (arith, starts.0, starts.1))
 same_line (crash_line p i) (ask_line p') rest others hl hm e more = let starts = begins_so _ _ e in absurd (omega (arith, starts.0, starts.1))
 same_line (crash_line p i) (tell_line p' i') rest others hl hm e more = let starts = begins_so _ _ e in absurd (omega (arith, starts.0, starts.1))
+same_line (crash_line p i) (keep_line p' i') rest others hl hm e more = let starts = begins_so _ _ e in absurd (omega (arith, starts.0, starts.1))
 same_line (crash_line p i) (restart_line p') rest others hl hm e more = let starts = begins_so _ _ e in absurd (omega (arith, starts.0, starts.1))
 same_line (crash_line p i) (deliver_line p' i') rest others hl hm e more = let starts = begins_so _ _ e in absurd (omega (arith, starts.0, starts.1))
 same_line (crash_line p i) (arm_line p' i') rest others hl hm e more = let starts = begins_so _ _ e in absurd (omega (arith, starts.0, starts.1))
@@ -167,6 +191,7 @@ same_line settle_line (tick_line p') rest others hl hm e more = let starts = beg
 same_line settle_line (widen_line p') rest others hl hm e more = let starts = begins_so _ _ e in absurd (omega (arith, starts.0, starts.1))
 same_line settle_line (ask_line p') rest others hl hm e more = let starts = begins_so _ _ e in absurd (omega (arith, starts.0, starts.1))
 same_line settle_line (tell_line p' i') rest others hl hm e more = let starts = begins_so _ _ e in absurd (omega (arith, starts.0, starts.1))
+same_line settle_line (keep_line p' i') rest others hl hm e more = let starts = begins_so _ _ e in absurd (omega (arith, starts.0, starts.1))
 same_line settle_line (restart_line p') rest others hl hm e more = let starts = begins_so _ _ e in absurd (omega (arith, starts.0, starts.1))
 same_line settle_line (deliver_line p' i') rest others hl hm e more = let starts = begins_so _ _ e in absurd (omega (arith, starts.0, starts.1))
 same_line settle_line (arm_line p' i') rest others hl hm e more = let starts = begins_so _ _ e in absurd (omega (arith, starts.0, starts.1))
@@ -181,6 +206,7 @@ same_line (quiet_line p) (tick_line p') rest others hl hm e more = let starts = 
 same_line (quiet_line p) (widen_line p') rest others hl hm e more = let starts = begins_so _ _ e in absurd (omega (arith, starts.0, starts.1))
 same_line (quiet_line p) (ask_line p') rest others hl hm e more = let starts = begins_so _ _ e in absurd (omega (arith, starts.0, starts.1))
 same_line (quiet_line p) (tell_line p' i') rest others hl hm e more = let starts = begins_so _ _ e in absurd (omega (arith, starts.0, starts.1))
+same_line (quiet_line p) (keep_line p' i') rest others hl hm e more = let starts = begins_so _ _ e in absurd (omega (arith, starts.0, starts.1))
 same_line (quiet_line p) (restart_line p') rest others hl hm e more = let starts = begins_so _ _ e in absurd (omega (arith, starts.0, starts.1))
 same_line (quiet_line p) (deliver_line p' i') rest others hl hm e more = let starts = begins_so _ _ e in absurd (omega (arith, starts.0, starts.1))
 same_line (quiet_line p) (arm_line p' i') rest others hl hm e more = let starts = begins_so _ _ e in absurd (omega (arith, starts.0, starts.1))
@@ -195,6 +221,7 @@ same_line (show_line p) (tick_line p') rest others hl hm e more = let starts = b
 same_line (show_line p) (widen_line p') rest others hl hm e more = let starts = begins_so _ _ e in absurd (omega (arith, starts.0, starts.1))
 same_line (show_line p) (ask_line p') rest others hl hm e more = let starts = begins_so _ _ e in absurd (omega (arith, starts.0, starts.1))
 same_line (show_line p) (tell_line p' i') rest others hl hm e more = let starts = begins_so _ _ e in absurd (omega (arith, starts.0, starts.1))
+same_line (show_line p) (keep_line p' i') rest others hl hm e more = let starts = begins_so _ _ e in absurd (omega (arith, starts.0, starts.1))
 same_line (show_line p) (restart_line p') rest others hl hm e more = let starts = begins_so _ _ e in absurd (omega (arith, starts.0, starts.1))
 same_line (show_line p) (deliver_line p' i') rest others hl hm e more = let starts = begins_so _ _ e in absurd (omega (arith, starts.0, starts.1))
 same_line (show_line p) (arm_line p' i') rest others hl hm e more = let starts = begins_so _ _ e in absurd (omega (arith, starts.0, starts.1))
@@ -209,6 +236,7 @@ same_line (get_line p n path) (tick_line p') rest others hl hm e more = let star
 same_line (get_line p n path) (widen_line p') rest others hl hm e more = let starts = begins_so _ _ e in absurd (omega (arith, starts.0, starts.1))
 same_line (get_line p n path) (ask_line p') rest others hl hm e more = let starts = begins_so _ _ e in absurd (omega (arith, starts.0, starts.1))
 same_line (get_line p n path) (tell_line p' i') rest others hl hm e more = let starts = begins_so _ _ e in absurd (omega (arith, starts.0, starts.1))
+same_line (get_line p n path) (keep_line p' i') rest others hl hm e more = let starts = begins_so _ _ e in absurd (omega (arith, starts.0, starts.1))
 same_line (get_line p n path) (restart_line p') rest others hl hm e more = let starts = begins_so _ _ e in absurd (omega (arith, starts.0, starts.1))
 same_line (get_line p n path) (deliver_line p' i') rest others hl hm e more = let starts = begins_so _ _ e in absurd (omega (arith, starts.0, starts.1))
 same_line (get_line p n path) (arm_line p' i') rest others hl hm e more = let starts = begins_so _ _ e in absurd (omega (arith, starts.0, starts.1))
@@ -229,6 +257,7 @@ same_line trace_line (tick_line p') rest others hl hm e more = let starts = begi
 same_line trace_line (widen_line p') rest others hl hm e more = let starts = begins_so _ _ e in absurd (omega (arith, starts.0, starts.1))
 same_line trace_line (ask_line p') rest others hl hm e more = let starts = begins_so _ _ e in absurd (omega (arith, starts.0, starts.1))
 same_line trace_line (tell_line p' i') rest others hl hm e more = let starts = begins_so _ _ e in absurd (omega (arith, starts.0, starts.1))
+same_line trace_line (keep_line p' i') rest others hl hm e more = let starts = begins_so _ _ e in absurd (omega (arith, starts.0, starts.1))
 same_line trace_line (restart_line p') rest others hl hm e more = let starts = begins_so _ _ e in absurd (omega (arith, starts.0, starts.1))
 same_line trace_line (deliver_line p' i') rest others hl hm e more = let starts = begins_so _ _ e in absurd (omega (arith, starts.0, starts.1))
 same_line trace_line (arm_line p' i') rest others hl hm e more = let starts = begins_so _ _ e in absurd (omega (arith, starts.0, starts.1))

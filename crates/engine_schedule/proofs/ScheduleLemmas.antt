@@ -4,7 +4,7 @@ use Rattle.std.proofs.lemmas.Fmt.{decimal_injective}
 use Rattle.site_ids.specs.Ids.{IsNode}
 use Rattle.site_ids.specs.declared.Ticket.{Ticket}
 use Rattle.engine_common.specs.Cuts.{Lacks, IsCut}
-use Rattle.engine_schedule.specs.Schedule.{Line, submit_line, tick_line, widen_line, ask_line, tell_line, restart_line, deliver_line, arm_line, crash_line, settle_line, quiet_line, show_line, get_line, trace_line, submit_words, words, body, spelled, Fits, HasNoLine, GetsNoLine, spelled_nodes, HasNoNodes, GetsNoNodes}
+use Rattle.engine_schedule.specs.Schedule.{Line, submit_line, tick_line, widen_line, ask_line, tell_line, keep_line, restart_line, deliver_line, arm_line, crash_line, settle_line, quiet_line, show_line, get_line, trace_line, submit_words, words, body, spelled, Fits, HasNoLine, GetsNoLine, spelled_nodes, HasNoNodes, GetsNoNodes}
 use Rattle.engine_common.specs.Submissions.{joined, FitsSubmission}
 use Rattle.engine_common.proofs.CutLemmas.{Same, no_cut, one_cut}
 use Rattle.engine_common.proofs.CutLemmas.{lacks-decimal}
@@ -24,6 +24,7 @@ lacks-words (tick_line p) ok = lacks-behind (codes "tick ") _ refl (lacks-last p
 lacks-words (widen_line p) ok = lacks-behind (codes "widen ") _ refl (lacks-last p (omega arith))
 lacks-words (ask_line p) ok = lacks-behind (codes "ask ") _ refl (lacks-last p (omega arith))
 lacks-words (tell_line p first) ok = lacks-behind (codes "tell ") _ refl (lacks-number p _ (omega arith) (lacks-last first (omega arith)))
+lacks-words (keep_line p first) ok = lacks-behind (codes "keep ") _ refl (lacks-number p _ (omega arith) (lacks-last first (omega arith)))
 lacks-words (restart_line p) ok = lacks-behind (codes "restart ") _ refl (lacks-last p (omega arith))
 lacks-words (deliver_line p index) ok = lacks-behind (codes "deliver ") _ refl (lacks-number p _ (omega arith) (lacks-last index (omega arith)))
 lacks-words (arm_line p calls) ok = lacks-behind (codes "arm ") _ refl (lacks-number p _ (omega arith) (lacks-last calls (omega arith)))
@@ -52,6 +53,7 @@ of_neither head (tick_line p) plain submission ok e = plain (tick_line p) ok ref
 of_neither head (widen_line p) plain submission ok e = plain (widen_line p) ok refl e
 of_neither head (ask_line p) plain submission ok e = plain (ask_line p) ok refl e
 of_neither head (tell_line p first) plain submission ok e = plain (tell_line p first) ok refl e
+of_neither head (keep_line p first) plain submission ok e = plain (keep_line p first) ok refl e
 of_neither head (restart_line p) plain submission ok e = plain (restart_line p) ok refl e
 of_neither head (deliver_line p index) plain submission ok e = plain (deliver_line p index) ok refl e
 of_neither head (arm_line p calls) plain submission ok e = plain (arm_line p calls) ok refl e
@@ -82,6 +84,7 @@ text_of p ticket len after (tick_line q) rest hp ok is whole = let starts = begi
 text_of p ticket len after (widen_line q) rest hp ok is whole = let starts = begins_so _ _ is in absurd (omega (arith, starts.0, starts.1))
 text_of p ticket len after (ask_line q) rest hp ok is whole = let starts = begins_so _ _ is in absurd (omega (arith, starts.0, starts.1))
 text_of p ticket len after (tell_line q i) rest hp ok is whole = let starts = begins_so _ _ is in absurd (omega (arith, starts.0, starts.1))
+text_of p ticket len after (keep_line q i) rest hp ok is whole = let starts = begins_so _ _ is in absurd (omega (arith, starts.0, starts.1))
 text_of p ticket len after (restart_line q) rest hp ok is whole = let starts = begins_so _ _ is in absurd (omega (arith, starts.0, starts.1))
 text_of p ticket len after (deliver_line q index) rest hp ok is whole = let starts = begins_so _ _ is in absurd (omega (arith, starts.0, starts.1))
 text_of p ticket len after (arm_line q calls) rest hp ok is whole = let starts = begins_so _ _ is in absurd (omega (arith, starts.0, starts.1))

@@ -35,7 +35,7 @@ use Rattle.engine_schedule.specs.declared.schedule.Line.{Line as LineCode}
 use Rattle.engine_schedule.specs.declared.schedule.Found.{Found}
 use Rattle.engine_schedule.specs.declared.schedule.Found.TheVariants as found
 use Rattle.engine_schedule.specs.ScheduleView.{IsFound}
-use Rattle.engine_schedule.specs.Schedule.{Line, spelled, Fits, submit_line, tick_line, widen_line, ask_line, tell_line, restart_line, deliver_line, arm_line, crash_line, settle_line, quiet_line, show_line, get_line, trace_line}
+use Rattle.engine_schedule.specs.Schedule.{Line, spelled, Fits, submit_line, tick_line, widen_line, ask_line, tell_line, keep_line, restart_line, deliver_line, arm_line, crash_line, settle_line, quiet_line, show_line, get_line, trace_line}
 use Rattle.engine_schedule.specs.Tracing.{message_line}
 use Rattle.engine_schedule.specs.Simulation.{Moment, IsMoment, Takes, to_each, deliveries, event_of, HasRelease, IsPage, IsNoPage, Does, TakesOne, TakesPlan}
 use Rattle.engine_schedule.specs.SimulationEnds.{IsStart}
@@ -236,6 +236,7 @@ does_one n old new (tick_line p) event printed is t = t
 does_one n old new (widen_line p) event printed is t = t
 does_one n old new (ask_line p) event printed is t = t
 does_one n old new (tell_line p first) event printed is t = t
+does_one n old new (keep_line p i) event printed is t = t
 does_one n old new (restart_line p) event printed is t = t
 does_one n old new (deliver_line p index) event printed is t = t
 does_one n old new (arm_line p calls) event printed is t = t

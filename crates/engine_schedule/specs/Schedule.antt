@@ -13,6 +13,7 @@ pub data Line : Type 0 where
   widen_line : (p : ℕ) → Line
   ask_line : (p : ℕ) → Line
   tell_line : (p first : ℕ) → Line
+  keep_line : (p i : ℕ) → Line
   restart_line : (p : ℕ) → Line
   deliver_line : (p index : ℕ) → Line
   arm_line : (p calls : ℕ) → Line
@@ -32,6 +33,7 @@ words (tick_line p) = codes "tick" ∷ decimal p ∷ []
 words (widen_line p) = codes "widen" ∷ decimal p ∷ []
 words (ask_line p) = codes "ask" ∷ decimal p ∷ []
 words (tell_line p first) = codes "tell" ∷ decimal p ∷ decimal first ∷ []
+words (keep_line p i) = codes "keep" ∷ decimal p ∷ decimal i ∷ []
 words (restart_line p) = codes "restart" ∷ decimal p ∷ []
 words (deliver_line p index) = codes "deliver" ∷ decimal p ∷ decimal index ∷ []
 words (arm_line p calls) = codes "arm" ∷ decimal p ∷ decimal calls ∷ []
@@ -63,6 +65,7 @@ Fits (tick_line p) = IsNode 9 p
 Fits (widen_line p) = IsNode 9 p
 Fits (ask_line p) = IsNode 9 p
 Fits (tell_line p first) = IsNode 9 p × IsInstance first
+Fits (keep_line p i) = IsNode 9 p × IsInstance i
 Fits (restart_line p) = IsNode 9 p
 Fits (deliver_line p index) = IsNode 9 p × (index < 2 ^ 64)
 Fits (arm_line p calls) = IsNode 9 p × (calls < 2 ^ 32)

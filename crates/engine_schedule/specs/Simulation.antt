@@ -9,7 +9,7 @@ use Rattle.node.specs.Nodes.{Value, Down, Node, IsKnownPrefix}
 use Rattle.release.specs.Page.{Page}
 use Rattle.site_ids.specs.Ids.{IsNode}
 use Rattle.world.specs.declared.event.Event.{Event}
-use Rattle.world.specs.declared.event.Event.TheVariants.{Submit, Tick, Widen, Ask, Tell, Deliver, Arm, Crash, Restart}
+use Rattle.world.specs.declared.event.Event.TheVariants.{Submit, Tick, Widen, Ask, Tell, Deliver, Arm, Crash, Restart, Keep}
 use Rattle.world.specs.declared.node_state.NodeState.{NodeState}
 use Rattle.world.specs.declared.node_state.NodeState.TheVariants as told
 use Rattle.world.specs.declared.world.World.{World as Code}
@@ -20,7 +20,7 @@ use Rattle.world.specs.Steps.{LeadsTo, Reached, IsAnswer}
 use Rattle.world.specs.Taking.{TakesAll, IsBad}
 use Rattle.world.specs.Telling.{mode_told}
 use Rattle.world.specs.Worlds.{World}
-use Rattle.engine_schedule.specs.Schedule.{Line, submit_line, tick_line, widen_line, ask_line, tell_line, restart_line, deliver_line, arm_line, crash_line, settle_line, quiet_line, show_line, get_line, trace_line}
+use Rattle.engine_schedule.specs.Schedule.{Line, submit_line, tick_line, widen_line, ask_line, tell_line, keep_line, restart_line, deliver_line, arm_line, crash_line, settle_line, quiet_line, show_line, get_line, trace_line}
 use Rattle.engine_schedule.specs.Tracing.{message_line}
 use Rattle.engine_common.specs.Answers.{answer_lines}
 
@@ -45,6 +45,7 @@ event_of (tick_line p) = Some (Tick p)
 event_of (widen_line p) = Some (Widen p)
 event_of (ask_line p) = Some (Ask p)
 event_of (tell_line p first) = Some (Tell p first)
+event_of (keep_line p i) = Some (Keep p i)
 event_of (restart_line p) = Some (Restart p)
 event_of (deliver_line p index) = Some (Deliver p index)
 event_of (arm_line p calls) = Some (Arm p calls)

@@ -7,7 +7,7 @@ ghost use Rattle.std.specs.Prelude.{◌≡◌, ◌≢◌, ℕ, List, ◌∷◌, 
 ghost use Rattle.site_ids.specs.Ids.{IsNode, IsInstance};
 ghost use Rattle.engine_common.specs.Cuts.{Lacks, IsCut};
 ghost use Rattle.site_ids.specs.declared.Ticket.{Ticket as AbstractTicket};
-ghost use Rattle.engine_schedule.specs.Schedule.{Line as AbstractLine, words, submit_words, Fits, IsPath, body, tick_line, widen_line, ask_line, tell_line, restart_line, deliver_line, arm_line, crash_line, quiet_line, show_line, get_line};
+ghost use Rattle.engine_schedule.specs.Schedule.{Line as AbstractLine, words, submit_words, Fits, IsPath, body, tick_line, widen_line, ask_line, tell_line, keep_line, restart_line, deliver_line, arm_line, crash_line, quiet_line, show_line, get_line};
 ghost use Rattle.engine_common.specs.Submissions.{joined, FitsSubmission};
 ghost use Rattle.engine_schedule.specs.ScheduleView.{line_view, submission_words, IsFound, IsFoundNodes};
 ghost use Rattle.engine_common.specs.Submissions.{submission_fits};
@@ -38,6 +38,10 @@ pub(crate) enum Line<'a> {
     Tell {
         node: NodeId,
         first: Instance,
+    },
+    Keep {
+        node: NodeId,
+        at: Instance,
     },
     Restart {
         node: NodeId,
@@ -103,12 +107,13 @@ fn arming(head: &[u8]) -> Option<(NodeId, u32)>
     Some((node, u32::try_from(calls).ok()?))
 }
 
-fn telling(head: &[u8]) -> Option<(NodeId, Instance)>
-    ensures { MatchOption result ((p first : ℕ) → IsNode 9 p → IsInstance first → head.now ≢ joined (words (tell_line p first)))
-        (λ r. IsNode 9 r.0 × IsInstance r.1 × (head.now ≡ joined (words (tell_line r.0 r.1)))) }
+/// The node and the instance of a line of three words.
+fn instance_at_node(head: &[u8], front: &str) -> Option<(NodeId, Instance)>
+    ensures { MatchOption result ((p i : ℕ) → IsNode 9 p → IsInstance i → head.now ≢ front.now ++ (decimal p ++ (32 ∷ decimal i)))
+        (λ r. IsNode 9 r.0 × IsInstance r.1 × (head.now ≡ front.now ++ (decimal r.0 ++ (32 ∷ decimal r.1)))) }
 {
-    let (node, first) = number_at_node(head, "tell ")?;
-    Some((node, Instance::new(u32::try_from(first).ok()?)?))
+    let (node, number) = number_at_node(head, front)?;
+    Some((node, Instance::new(u32::try_from(number).ok()?)?))
 }
 
 fn crashing(head: &[u8]) -> Option<(NodeId, u8)>
@@ -165,14 +170,18 @@ fn node_line(head: &[u8]) -> Option<Line<'_>>
 /// A line of a word, a node and a number.
 fn number_line(head: &[u8]) -> Option<Line<'_>>
     ensures { MatchOption result (((p index : ℕ) → IsNode 9 p → index < 2 ^ 64 → head.now ≢ joined (words (deliver_line p index))) × ((p first : ℕ) → IsNode 9 p → IsInstance first → head.now ≢ joined (words (tell_line p first)))
+        × ((p i : ℕ) → IsNode 9 p → IsInstance i → head.now ≢ joined (words (keep_line p i)))
         × ((p calls : ℕ) → IsNode 9 p → calls < 2 ^ 32 → head.now ≢ joined (words (arm_line p calls))) × ((p choice : ℕ) → IsNode 9 p → choice < 2 ^ 8 → head.now ≢ joined (words (crash_line p choice))))
         (λ l. Fits (line_view l) × (body (line_view l) ≡ []) × (head.now ≡ joined (words (line_view l)))) }
 {
     if let Some((node, index)) = number_at_node(head, "deliver ") {
         return Some(Line::Deliver { node, index });
     }
-    if let Some((node, first)) = telling(head) {
+    if let Some((node, first)) = instance_at_node(head, "tell ") {
         return Some(Line::Tell { node, first });
+    }
+    if let Some((node, at)) = instance_at_node(head, "keep ") {
+        return Some(Line::Keep { node, at });
     }
     if let Some((node, calls)) = arming(head) {
         return Some(Line::Arm { node, calls });

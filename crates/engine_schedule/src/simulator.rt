@@ -92,6 +92,10 @@ fn event_in(alloc: Global, line: &Line<'_>) -> Result<Option<Event>, AllocError>
             node: *node,
             instance: *first,
         },
+        Line::Keep { node, at } => Event::Keep {
+            node: *node,
+            instance: *at,
+        },
         Line::Restart { node } => Event::Restart { node: *node },
         Line::Deliver { node, index } => Event::Deliver {
             node: *node,

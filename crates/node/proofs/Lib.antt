@@ -1,4 +1,5 @@
 pub mod Knowing
+pub mod KeptValues
 pub mod Sharing
 pub mod Windows
 pub mod OnRecord

@@ -15,7 +15,7 @@ use Rattle.acceptor.specs.declared.judging.PrepareVerdict.TheVariants as to_prep
 use Rattle.acceptor.specs.declared.judging.ProposeVerdict.{ProposeVerdict}
 use Rattle.acceptor.specs.declared.judging.ProposeVerdict.TheVariants as to_proposal
 use Rattle.acceptor.specs.Judging.{IsFreeAt, IsVotedAt, IsVotedFor, JudgesPrepare, JudgesProposal}
-use Rattle.durable.specs.Entries.{Entry, Round, Promised, PromisedSpan, Voted, Raises, IsPromise, IsSlot, last_vote, promise_of}
+use Rattle.durable.specs.Entries.{Entry, Round, Promised, PromisedSpan, Voted, Learned, Raises, IsPromise, IsSlot, last_vote, promise_of}
 use Rattle.command.specs.Action.{Order}
 use Rattle.command.specs.Reading.{value_reading}
 use Rattle.command.specs.declared.fault.CommandFault.{CommandFault}
@@ -28,7 +28,7 @@ use Rattle.node.specs.Nodes.{Value, Node, IsKnown, IsFirstUnknown, AllKnown}
 use Rattle.node.specs.Tickets.{IsHeld}
 use Rattle.node.specs.Effects.{quiet, learned}
 use Rattle.node.specs.Deliveries.{Judged, AreJudged, reached_by, with_vote}
-use Rattle.node.specs.Calls.{submit, tick, widen, ask, tell, deliver, fresh_ballot, HasRound, oldest, IsFree, IsNextFree, IsTried, AreUntried, IsNextSpan, MayWiden, queued}
+use Rattle.node.specs.Calls.{submit, tick, widen, ask, tell, deliver, fresh_ballot, HasRound, oldest, IsFree, IsNextFree, IsTried, AreUntried, IsNextSpan, MayWiden, queued, keep, MayKeep}
 use Rattle.node.specs.Tellings.{tells}
 use Rattle.node.specs.Tidy.{IsTidy}
 use Rattle.node.specs.Stuck.{IsStuck, NeverStuck}
@@ -78,6 +78,7 @@ raised (Round r) i = inr (λ c k. k)
 raised (Promised j b) i = raised_at (Promised j b) j i b (λ c r. r) (λ is. (is, refl))
 raised (PromisedSpan j k b) i = ⊎_elim (λ within. inl (b, (within, refl), λ c r. r.1)) (λ outside. inr (λ c r. outside r.0)) (in_span j k i)
 raised (Voted j b v) i = raised_at (Voted j b v) j i b (λ c r. r) (λ is. (is, refl))
+raised (Learned j v) i = inr (λ c k. k)
 
 abbrev Promises : List Entry → ℕ → Type 0
 Promises es i = (p : Option BallotOf) × IsPromise es i p
@@ -343,3 +344,9 @@ never_stuck n p s widen runs tidy stuck =
 never_stuck n p s ask runs tidy stuck = at_gap s (λ full. stuck.no_cause fault.InstancesUsedUp (λ e. cc) full) (λ i first. stuck.no_effect _ (record { instance = i; first = first; is = refl }))
 never_stuck n p s (tell to i) runs tidy stuck = stuck.no_effect (tells p s to i) refl
 never_stuck n p s (deliver m) runs tidy stuck = on_message n p s m stuck
+never_stuck n p s (keep i) runs tidy stuck =
+    cases (λ (may : MayKeep s i ⊎ (¬ MayKeep s i)).
+    ⊎_elim
+    (λ (x : MayKeep s i). stuck.no_effect (record { entry = Some (Learned i x.0); after = s; out = [] }) (inl (record { value = x.0; unkept = x.1; is = refl })))
+    (λ none. stuck.no_effect (quiet s) (inr (none, refl)))
+    may)

@@ -15,7 +15,7 @@ use Rattle.wire.specs.declared.message.Message.TheVariants.{Prepare, Promise, Pr
 use Rattle.wire.specs.Messages.{IsMessage}
 use Rattle.acceptor.specs.declared.slot.Slot.{Slot}
 use Rattle.acceptor.specs.Steps.{Answer as Reply, promise, accepted, nack, no_answer, prepare, proposal, Steps}
-use Rattle.durable.specs.Entries.{Entry, Round, Promised, PromisedSpan, Voted, Raises, IsPromise, IsSlot, last_vote}
+use Rattle.durable.specs.Entries.{Entry, Round, Promised, PromisedSpan, Voted, Learned, Raises, IsPromise, IsSlot, last_vote}
 use Rattle.durable.specs.Histories.{IsInRange, IsHistory}
 use Rattle.learner.specs.ToldVotes.{told_vote, HasMajority}
 use Rattle.std.specs.Option.{ok_or}
@@ -33,13 +33,13 @@ use Rattle.node.specs.Nodes.{Value, Node, IsKnown, IsUnknown}
 use Rattle.node.specs.Tickets.{IsCommand, IsHeld, has_same_ticket}
 use Rattle.node.specs.Effects.{Effect, quiet, says, learned}
 use Rattle.node.specs.Deliveries.{Judged, AreJudged, prepare_out, span_out, propose_out, promise_out, with_vote, Counted, ByKind}
-use Rattle.node.specs.Calls.{Call, submit, tick, widen, ask, tell, deliver, queued, oldest, fresh_ballot, HasRound, resent, Begins, MayWiden, Does}
+use Rattle.node.specs.Calls.{Call, submit, tick, widen, ask, tell, deliver, queued, oldest, fresh_ballot, HasRound, resent, Begins, MayWiden, Does, keep, KeepsOne, MayKeep}
 use Rattle.node.specs.Endings.{Whole, Refused, Failed}
-use Rattle.node.specs.Tellings.{tells}
+use Rattle.node.specs.Tellings.{tells, remembered}
 use Rattle.node.specs.Tidy.{IsTidy}
 use Rattle.node.specs.Ranges.{IsAttemptInRange, HasRanges, IsCallInRange, OpensInRange, StaysInRange, SaysMessages}
 use Rattle.node.proofs.OnRecord.{last_vote-in, entry_in_range}
-use Rattle.node.proofs.ToldAgain.{IsToldOf, each_told}
+use Rattle.node.proofs.ToldAgain.{IsToldOf, each_told, remembered_from}
 use Rattle.node.proofs.Windows.{next_in, next_is_span}
 
 same_some : {X : Type 0} (x y : X) → Some x ≡ Some y → x ≡ y
@@ -211,6 +211,11 @@ call_ranges n p s widen effect node h m how =
 call_ranges n p s ask effect node h m how = by_effect effect (says s _ _) how.is h
 call_ranges n p s (tell to i) effect node h m how = by_effect effect (tells p s to i) how h
 call_ranges n p s (deliver m) effect node h is how = delivery_ranges n p (record s { reached = _ }) m effect (same_ranges n s (record s { reached = _ }) h refl refl refl) is how
+call_ranges n p s (keep i) effect node h m how =
+    ⊎_elim
+    (λ (x : KeepsOne s i effect). by_effect effect (record { entry = _; after = s; out = [] }) x.is h)
+    (λ (x : (¬ MayKeep s i) × (effect ≡ quiet s)). by_effect effect (quiet s) x.1 h)
+    how
 
 pub opens_in_range : OpensInRange
 opens_in_range n mode entries in_flight = record { known = λ i v e. absurd (no_value v e); pending = λ v k. absurd k; attempts = λ i a e. absurd (no_attempt a e) }
@@ -227,6 +232,7 @@ raised_in_range n (Round r) i b range raises = absurd raises
 raised_in_range n (Promised j c) i b range raises = subst (IsBallot n) raises.1 range.1
 raised_in_range n (PromisedSpan j k c) i b range raises = subst (IsBallot n) raises.1 range.2
 raised_in_range n (Voted j c v) i b range raises = subst (IsBallot n) raises.1 range.1
+raised_in_range n (Learned j v) i b range raises = absurd raises
 
 promise_in_range : (n : ℕ) (es : List Entry) (i : ℕ) (slot : Slot) (c : BallotOf) → IsHistory n es → IsSlot es i slot → slot.promised ≡ Some c → IsBallot n c
 promise_in_range n es i slot c history is e =
@@ -349,10 +355,10 @@ fresh_says n p s i k node instance span round = record { sender = node; instance
 told_says : (n p : ℕ) (s : Node) (i : ℕ) (m : Message) → IsNode n p → IsHistory n s.entries → HasRanges n s → IsToldOf p s m i → IsMessage n m
 told_says n p s i m node history h told =
     ⊎_elim
-    (λ (x : (v : Value) × (s.known i ≡ Some v) × (m ≡ Chosen p i v)).
-    let range = h.known i x.0 x.1 in
+    (λ (x : (v : Value) × (remembered s i ≡ Some v) × (m ≡ Chosen p i v)).
+    let range : IsInstance i × (length x.0 ≤ MAX_VALUE) = ⊎_elim (λ k. h.known i x.0 k) (λ k. entry_in_range n s.entries (Learned i x.0) history k) (remembered_from s i x.0 x.1) in
     subst (IsMessage n) (sym x.2) (record { sender = node; instance = range.0; ballots = tt; fits = range.1 }))
-    (λ (x : (w : Vote) × In s.entries (Voted i w.ballot w.value) × (last_vote i s.entries ≡ Some w) × (s.known i ≡ None) × (m ≡ Accepted p i w.ballot w.value)).
+    (λ (x : (w : Vote) × In s.entries (Voted i w.ballot w.value) × (last_vote i s.entries ≡ Some w) × (remembered s i ≡ None) × (m ≡ Accepted p i w.ballot w.value)).
     let range = entry_in_range n s.entries (Voted i x.0.ballot x.0.value) history x.1 in
     subst (IsMessage n) (sym x.4) (record { sender = node; instance = range.0; ballots = range.1; fits = range.2 }))
     told.is
@@ -380,6 +386,11 @@ call_says n p s ask effect node history tidy h m how =
     by_out n effect (says s All (Ask p how.instance)) how.is (one_message n All (Ask p how.instance) (record { sender = node; instance = how.first.instance; ballots = tt; fits = tt }))
 call_says n p s (tell to i) effect node history tidy h m how = by_out n effect (tells p s to i) how (λ x k. let told = each_told p s to i x k in told_says n p s told.0 x.1 node history h told.2)
 call_says n p s (deliver m) effect node history tidy h is how = delivery_says n p (record s { reached = _ }) m effect node history (same_ranges n s (record s { reached = _ }) h refl refl refl) is how
+call_says n p s (keep i) effect node history tidy h m how =
+    ⊎_elim
+    (λ (x : KeepsOne s i effect). by_out n effect (record { entry = _; after = s; out = [] }) x.is (no_message n))
+    (λ (x : (¬ MayKeep s i) × (effect ≡ quiet s)). by_out n effect (quiet s) x.1 (no_message n))
+    how
 
 pub says_messages : SaysMessages
 says_messages n p s new call Whole out node history tidy h m how x k =

@@ -6,21 +6,21 @@ use Rattle.site_disk.specs.Model.{DiskState}
 use Rattle.site_ids.specs.Lists.{In}
 use Rattle.wire.specs.declared.message.Message.{Message}
 use Rattle.wire.specs.Messages.{IsMessage}
-use Rattle.acceptor.specs.declared.slot.Slot.{Slot}
-use Rattle.durable.specs.Entries.{Entry, IsSlot}
+use Rattle.durable.specs.Entries.{Entry}
 use Rattle.durable.specs.Histories.{MayFollow, IsHistory}
 use Rattle.durable.specs.Keeping.{IsFound, Keeps}
 use Rattle.durable.specs.Batches.{IsAhead, IsBatchOpen, GoesAhead}
 use Rattle.durable.specs.Puts.{Puts, IsPut, IsMemoryKept, Acknowledges, LeavesInFlight}
 use Rattle.durable.specs.Reading.{IsKept}
 use Rattle.durable.specs.Ready.{IsStored, IsReady, IsUnchanged}
-use Rattle.durable.specs.Slots.{slot_at}
+use Rattle.durable.specs.Slots.{cell_at}
 use Rattle.durable.specs.Spelling.{blocks}
 use Rattle.durable.specs.Standing.{StandsFor}
 use Rattle.durable.specs.declared.fault.RecordFault.{RecordFault}
 use Rattle.durable.specs.declared.fault.RecordFault.TheVariants as stored
 use Rattle.durable.specs.declared.record.Record.{Record}
 use Rattle.durable.proofs.Keeping.{settled_keeps}
+use Rattle.durable.proofs.Kept.{kept_same}
 use Rattle.durable.proofs.Moments.{started, weaker}
 use Rattle.durable.proofs.Push.{history-push}
 use Rattle.learner.specs.Votes.{IsTold}
@@ -89,7 +89,7 @@ module _ {D : Type 0} where
   same_memory old new is = record {
     round = ap (λ (r : Record D). r.recorded.round) is;
     greatest = ap (λ (r : Record D). r.recorded.greatest) is;
-    slots = λ i. ap (λ (r : Record D). slot_at r.recorded.slots i) is;
+    slots = λ i. ap (λ (r : Record D). cell_at r.recorded.slots i) is;
   }
 
   pub same_store : (old new : Record D) → new ≡ old → SeemsSame old new
@@ -117,11 +117,7 @@ module _ {D : Type 0} where
   }
 
   still_kept : (old new : Record D) (entries : List Entry) → IsMemoryKept old.recorded new.recorded → IsKept entries old.recorded → IsKept entries new.recorded
-  still_kept old new entries same kept = record {
-    round = same.round ∙ kept.round;
-    greatest = same.greatest ∙ kept.greatest;
-    slots = λ i. subst (λ (x : Slot). IsSlot entries i x) (sym (same.slots i)) (kept.slots i);
-  }
+  still_kept old new entries same kept = kept_same entries old.recorded new.recorded same kept
 
   pub same_record : (old new : Running D) (s t : Node) → KeepsOthers old new → SeemsSame old.store new.store → t.mode ≡ s.mode → t.entries ≡ s.entries → t.in_flight ≡ s.in_flight
       → IsOnRecord old.store old.cluster s.mode s.entries s.in_flight → IsOnRecord new.store new.cluster t.mode t.entries t.in_flight
@@ -437,6 +433,22 @@ module _ {D : Type 0} where
           does = does s stands;
           handed = same;
           parts = rest_with old new s t others stands.parts rest (put_record failed old new entry others runs s stands.parts puts.put) (λ k. record t { reached = (sym (reached ∙ ap (λ r. max r i) stands.parts.reached)) k });
+          stays = put_stays failed old new entry others runs s t stands.parts puts.acknowledged (λ open_now. (puts.batched open_now).ahead) refl refl;
+        })
+
+    -- an entry is on record, and nothing else changes
+    pub put_alone : (failed : D → ℕ) (old new : Running D) (call : Call) (entry : Entry) (before : Handed) → KeepsOthers old new → old.store.stopped ≡ false → IsCallInRange old.cluster call → KeepsRest old new
+        → new.reached ≡ old.reached → Puts stands_for failed old.store new.store entry (Ok tt)
+        → ((s : Node) → IsNodeOf old s → Does old.cluster old.me s call (record { entry = Some entry; after = s; out = [] }))
+        → IsEvent stands_for old new call Whole before before
+    put_alone failed old new call entry before others runs in_range rest reached puts does =
+        whole old new call before before [] others runs in_range (sym (append-nil before)) (λ s stands.
+        let t : Node = record s { entries = s.entries ++ entry ∷ [] } in
+        record {
+          effect = record { entry = Some entry; after = s; out = [] };
+          does = does s stands;
+          handed = refl;
+          parts = rest_with old new s t others stands.parts rest (put_record failed old new entry others runs s stands.parts puts.put) (λ k. record t { reached = (sym (reached ∙ stands.parts.reached)) k });
           stays = put_stays failed old new entry others runs s t stands.parts puts.acknowledged (λ open_now. (puts.batched open_now).ahead) refl refl;
         })
 

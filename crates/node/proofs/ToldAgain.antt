@@ -8,21 +8,29 @@ use Rattle.site_ids.specs.Spans.{IsInSpan}
 use Rattle.site_ids.specs.declared.value.Vote.{Vote}
 use Rattle.wire.specs.declared.message.Message.{Message}
 use Rattle.wire.specs.declared.message.Message.TheVariants.{Accepted, Chosen}
-use Rattle.durable.specs.Entries.{Voted, last_vote}
+use Rattle.durable.specs.Entries.{Voted, Learned, last_vote, learned_at}
 use Rattle.durable.specs.Histories.{IsHistory}
 use Rattle.node.specs.declared.to.To.{To}
 use Rattle.node.specs.Nodes.{Value, Node}
 use Rattle.node.specs.Ranges.{HasRanges}
-use Rattle.node.specs.Tellings.{IsTellable, message_of, telling, with_first, tellings, value_in, fitting, told_from, addressed, TellsOn}
-use Rattle.node.proofs.OnRecord.{last_vote-in, entry_in_range}
+use Rattle.node.specs.Tellings.{or_else, remembered, IsTellable, message_of, telling, with_first, tellings, value_in, fitting, told_from, addressed, TellsOn}
+use Rattle.node.proofs.OnRecord.{last_vote-in, learned_at-in, entry_in_range}
 
 -- ---- what is told
 
+-- what is remembered is known or was learned
+either_from : (known other : Option Value) (v : Value) → or_else known other ≡ Some v → (known ≡ Some v) ⊎ (other ≡ Some v)
+either_from (Some u) other v e = inl e
+either_from None other v e = inr e
+
+pub remembered_from : (s : Node) (i : ℕ) (v : Value) → remembered s i ≡ Some v → (s.known i ≡ Some v) ⊎ In s.entries (Learned i v)
+remembered_from s i v e = ⊎_elim (λ x. inl x) (λ x. inr (learned_at-in i s.entries v x)) (either_from (s.known i) (learned_at i s.entries) v e)
+
 -- a known value or the last vote, of an instance
 pub record IsToldOf (p : ℕ) (s : Node) (m : Message) (i : ℕ) : Type 0 where
-  pub is : ((v : Value) × (s.known i ≡ Some v) × (m ≡ Chosen p i v)) ⊎ ((w : Vote) × In s.entries (Voted i w.ballot w.value) × (last_vote i s.entries ≡ Some w) × (s.known i ≡ None) × (m ≡ Accepted p i w.ballot w.value))
+  pub is : ((v : Value) × (remembered s i ≡ Some v) × (m ≡ Chosen p i v)) ⊎ ((w : Vote) × In s.entries (Voted i w.ballot w.value) × (last_vote i s.entries ≡ Some w) × (remembered s i ≡ None) × (m ≡ Accepted p i w.ballot w.value))
 
-told_of : (p : ℕ) (s : Node) (i : ℕ) (m : Message) (known : Option Value) (vote : Option Vote) → s.known i ≡ known → last_vote i s.entries ≡ vote → message_of p i known vote ≡ Some m → IsToldOf p s m i
+told_of : (p : ℕ) (s : Node) (i : ℕ) (m : Message) (known : Option Value) (vote : Option Vote) → remembered s i ≡ known → last_vote i s.entries ≡ vote → message_of p i known vote ≡ Some m → IsToldOf p s m i
 told_of p s i m (Some v) vote k l e = record { is = inl (v, k, cc) }
 told_of p s i m None (Some w) k l e = record { is = inr (w, last_vote-in i s.entries w l, l, k, cc) }
 told_of p s i m None None k l e = absurd (cc)
@@ -31,15 +39,15 @@ in_first : (o : Option Message) (ms : List Message) (m : Message) → In (with_f
 in_first None ms m k = inr k
 in_first (Some x) ms m k = ⊎_elim (λ e. inl (ap (λ y. Some y) e)) (λ later. inr later) k
 
-in_tellings : (p : ℕ) (s : Node) (k i : ℕ) (m : Message) → In (tellings p s k i) m → (j : ℕ) × IsInSpan i k j × IsToldOf p s m j
+pub in_tellings : (p : ℕ) (s : Node) (k i : ℕ) (m : Message) → In (tellings p s k i) m → (j : ℕ) × IsInSpan i k j × IsToldOf p s m j
 in_tellings p s zero i m here = absurd here
 in_tellings p s (suc k) i m here =
     ⊎_elim
-    (λ (e : telling p s i ≡ Some m). (i, (omega arith, omega arith), told_of p s i m (s.known i) (last_vote i s.entries) refl refl e))
+    (λ (e : telling p s i ≡ Some m). (i, (omega arith, omega arith), told_of p s i m (remembered s i) (last_vote i s.entries) refl refl e))
     (λ (later : In (tellings p s k (suc i)) m). let rest = in_tellings p s k (suc i) m later in (rest.0, (omega (arith, rest.1.0), omega (arith, rest.1.1)), rest.2))
     (in_first (telling p s i) (tellings p s k (suc i)) m here)
 
-in_fitting : (ms : List Message) (room : ℕ) (m : Message) → In (fitting room ms) m → In ms m
+pub in_fitting : (ms : List Message) (room : ℕ) (m : Message) → In (fitting room ms) m → In ms m
 in_fitting [] room m here = absurd here
 in_fitting (x ∷ ms) room m here = by (nat_le (length (value_in x)) room) (λ later. in_fitting ms (room - length (value_in x)) m later) here
   where
@@ -131,10 +139,10 @@ module _ (p : ℕ) (s : Node) (to : To) (first : ℕ) where
 
 -- past the last instance nothing is told
 none_past : (n p : ℕ) (s : Node) (i : ℕ) → HasRanges n s → IsHistory n s.entries → ¬ IsInstance i → telling p s i ≡ None
-none_past n p s i h history outside = by (s.known i) (last_vote i s.entries) refl refl
+none_past n p s i h history outside = by (remembered s i) (last_vote i s.entries) refl refl
   where
-    by : (known : Option Value) (vote : Option Vote) → s.known i ≡ known → last_vote i s.entries ≡ vote → message_of p i known vote ≡ None
-    by (Some v) vote k l = absurd (outside (h.known i v k).0)
+    by : (known : Option Value) (vote : Option Vote) → remembered s i ≡ known → last_vote i s.entries ≡ vote → message_of p i known vote ≡ None
+    by (Some v) vote k l = absurd (outside (⊎_elim (λ x. (h.known i v x).0) (λ x. (entry_in_range n s.entries (Learned i v) history x).0) (remembered_from s i v k)))
     by None (Some w) k l = absurd (outside (entry_in_range n s.entries (Voted i w.ballot w.value) history (last_vote-in i s.entries w l)).0)
     by None None k l = refl
 
@@ -148,15 +156,18 @@ all_told n p s (suc k) i h history past =
 pub tellable : (p : ℕ) (s : Node) (m : Message) (i : ℕ) → IsToldOf p s m i → IsTellable s i
 tellable p s m i told =
     ⊎_elim
-    (λ (x : (v : Value) × (s.known i ≡ Some v) × (m ≡ Chosen p i v)). inl (x.0, x.1))
-    (λ (x : (w : Vote) × In s.entries (Voted i w.ballot w.value) × (last_vote i s.entries ≡ Some w) × (s.known i ≡ None) × (m ≡ Accepted p i w.ballot w.value)). inr (λ none. clash x.0 (sym none ∙ x.2)))
+    (λ (x : (v : Value) × (remembered s i ≡ Some v) × (m ≡ Chosen p i v)). inl (λ none. lost x.0 (sym none ∙ x.1)))
+    (λ (x : (w : Vote) × In s.entries (Voted i w.ballot w.value) × (last_vote i s.entries ≡ Some w) × (remembered s i ≡ None) × (m ≡ Accepted p i w.ballot w.value)). inr (λ none. clash x.0 (sym none ∙ x.2)))
     told.is
   where
     clash : (w : Vote) → ◌≡◌ {A = Option Vote} None (Some w) → ⊥
     clash w e = cc
 
+    lost : (v : Value) → ◌≡◌ {A = Option Value} None (Some v) → ⊥
+    lost v e = cc
+
 pub tellable_one : (p : ℕ) (s : Node) (i : ℕ) (m : Message) → Some m ≡ telling p s i → IsTellable s i
-tellable_one p s i m is = tellable p s m i (told_of p s i m (s.known i) (last_vote i s.entries) refl refl (sym is))
+tellable_one p s i m is = tellable p s m i (told_of p s i m (remembered s i) (last_vote i s.entries) refl refl (sym is))
 
 -- a telling of something is of an instance
 pub some_told : (p : ℕ) (s : Node) (to : To) (i : ℕ) (told : List (To × Message)) → told ≡ map (addressed to) (told_from p s i) → 1 ≤ length told → (j : ℕ) × IsInSpan i 64 j × IsTellable s j

@@ -11,6 +11,7 @@ pub mod Endings
 pub mod Laws
 pub mod Tidy
 pub mod Ranges
+pub mod Kept
 pub mod Stuck
 pub mod Faults
 pub mod Waiting

@@ -1,13 +1,21 @@
--- What a node tells again: values that it knows, and votes on its record.
+-- What a node tells again: values that it knows or learned, and votes on its record.
 use Rattle.std.specs.Prelude.{◌≡◌, ◌≢◌, ◌⊎◌, ℕ, zero, suc, ◌-◌, Option, Some, None, List, [], ◌∷◌, ◌++◌, map, length, nat_le, if◌then◌else◌}
 use Rattle.site_ids.specs.declared.value.Vote.{Vote}
 use Rattle.wire.specs.declared.message.Message.{Message}
 use Rattle.wire.specs.declared.message.Message.TheVariants.{Accepted, Chosen}
-use Rattle.durable.specs.Entries.{last_vote}
+use Rattle.durable.specs.Entries.{last_vote, learned_at}
 use Rattle.node.specs.declared.TheConstants.{MAX_TOLD, MAX_TOLD_BYTES}
 use Rattle.node.specs.declared.to.To.{To}
-use Rattle.node.specs.Nodes.{Value, Node, IsKnown}
+use Rattle.node.specs.Nodes.{Value, Node}
 use Rattle.node.specs.Effects.{Effect}
+
+abbrev pub or_else : Option Value → Option Value → Option Value
+or_else (Some v) other = Some v
+or_else None other = other
+
+-- the value that the node knows, or else the one that it learned before it opened
+abbrev pub remembered : Node → ℕ → Option Value
+remembered s i = or_else (s.known i) (learned_at i s.entries)
 
 -- of an instance a known value is told as chosen, and where none is known the vote, if any
 abbrev pub message_of : ℕ → ℕ → Option Value → Option Vote → Option Message
@@ -15,13 +23,13 @@ message_of p i (Some v) vote = Some (Chosen p i v)
 message_of p i None (Some vote) = Some (Accepted p i vote.ballot vote.value)
 message_of p i None None = None
 
--- what node p tells of an instance: the value that it knows there, or else its last vote
+-- what node p tells of an instance: the value that it remembers there, or else its last vote
 abbrev pub telling : ℕ → Node → ℕ → Option Message
-telling p s i = message_of p i (s.known i) (last_vote i s.entries)
+telling p s i = message_of p i (remembered s i) (last_vote i s.entries)
 
 -- it has something to tell of the instance
 abbrev pub IsTellable : Node → ℕ → Type 0
-IsTellable s i = IsKnown s i ⊎ (last_vote i s.entries ≢ None)
+IsTellable s i = (remembered s i ≢ None) ⊎ (last_vote i s.entries ≢ None)
 
 abbrev pub with_first : Option Message → List Message → List Message
 with_first None ms = ms

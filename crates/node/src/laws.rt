@@ -1,3 +1,4 @@
+ghost use Rattle.node.specs.Kept.{KeepLeavesNone, KeepStaysHistory, KnownIsOnRecord};
 ghost use Rattle.node.specs.Laws.{BeginningStays, KnownStays, MarkStays, OneEntry};
 ghost use Rattle.node.specs.Ranges.{OpensInRange, SaysFew, SaysMessages, StaysInRange};
 ghost use Rattle.node.specs.Stuck.{NeverStuck};
@@ -31,4 +32,12 @@ pub fn nodes_stay_in_range()
 /// At a node that runs each call has an effect, or a cause to refuse it other than want of memory.
 pub fn no_call_is_stuck()
     ensures { NeverStuck }
+{}
+
+/// After a call that keeps what is known at an instance nothing is left to keep there, and the value is on record: as one that was learned, or as that of the
+/// last vote. Nothing goes on record so that may not follow what is there.
+pub fn known_values_are_kept()
+    ensures none { KeepLeavesNone }
+    ensures on_record { KnownIsOnRecord }
+    ensures history { KeepStaysHistory }
 {}

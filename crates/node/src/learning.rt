@@ -1,8 +1,9 @@
 //! A value that becomes known.
 
-ghost use Rattle.std.specs.Prelude.{◌≡◌, None, OnErr, OnOk};
+ghost use Rattle.std.specs.Prelude.{◌≡◌, None, IfOk, OnErr, OnOk};
 
 use crate::Node;
+use crate::keeping::is_same;
 use acceptor::Slot;
 use site_disk::Disk;
 use site_ids::{Instance, Value};
@@ -32,7 +33,7 @@ impl<D: Disk> Node<D> {
         ensures same { (self.new.reached ≡ self.old.reached) × (self.new.store ≡ self.old.store) }
         ensures others { KeepsOthers self.old self.new }
     {
-        let value = kept_by(self.store.slot(instance), value).try_clone()?;
+        let value = self.shared_copy(instance, value)?;
         let ticket = self.known.learn(self.alloc, instance, value)?;
         self.learner.forget(instance);
         self.proposer.abandon(instance);
@@ -40,5 +41,17 @@ impl<D: Disk> Node<D> {
             self.queue.drop_ticket(ticket);
         }
         Ok(())
+    }
+
+    /// A copy of the value, by the bytes that what was learned on record or the slot has of it, where that is this value.
+    fn shared_copy(&self, instance: Instance, value: &Value) -> Result<Value, AllocError>
+        ensures { IfOk result (λ copy. copy ≡ value.now) }
+    {
+        if let Some(learned) = self.store.learned(instance) {
+            if is_same(learned, value) {
+                return Ok(learned.try_clone()?);
+            }
+        }
+        Ok(kept_by(self.store.slot(instance), value).try_clone()?)
     }
 }

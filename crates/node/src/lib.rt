@@ -10,6 +10,7 @@ mod beginning;
 mod chosen;
 mod delivering;
 mod fault;
+mod keeping;
 mod known;
 mod laws;
 mod learning;
@@ -31,7 +32,10 @@ mod to;
 mod widening;
 
 pub use fault::NodeFault;
-pub use laws::{calls_forget_nothing, no_call_is_stuck, nodes_stay_in_range, nodes_stay_tidy};
+pub use laws::{
+    calls_forget_nothing, known_values_are_kept, no_call_is_stuck, nodes_stay_in_range,
+    nodes_stay_tidy,
+};
 pub use node::Node;
 use proposer::MAX_ATTEMPTS;
 pub use submitted::Submitted;

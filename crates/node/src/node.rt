@@ -118,6 +118,13 @@ impl<D: Disk> Node<D> {
         self.known.log.prefix().len() as u32
     }
 
+    /// The furthest instance that messages delivered since it was opened were of, questions and refusals aside; 0 before the first.
+    pub fn reached(&self) -> u32
+        ensures { (s : AbstractNode) → IsNodeOf self.now s → result ≡ s.reached }
+    {
+        self.reached
+    }
+
     /// A value is pending, or a delivery counted the first unknown instance or one past it.
     pub fn wants_tick(&self) -> bool
         ensures { (s : AbstractNode) → IsNodeOf self.now s → IsTrue result ↔ WantsTick s }

@@ -1,6 +1,7 @@
 //! Worlds over disks in memory: worked schedules, runs that stop at an event or go on over a refusal, each growth refused.
 
 mod group;
+mod kept;
 mod quiet;
 mod records;
 mod refusals;

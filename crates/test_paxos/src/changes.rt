@@ -1,11 +1,11 @@
 //! The entries that are spelled as another one but for one byte.
 //!
-//! An entry is spelled by its length, its kind, numbers of fixed lengths and, of a vote, its value. Where the byte stands in the length, the
-//! other entry is a vote for a beginning of the value, since nothing stands behind the last one; in the kind, it is the other one of a promise
-//! and a vote for the empty value, or a vote for one byte in place of a span's promise; and else in a number or the value. No record here has a
-//! vote for one byte.
+//! An entry is spelled by its length, its kind, numbers of fixed lengths and, of a vote and of what was learned, its value. Where the byte stands
+//! in the length, the other entry has a beginning of the value, since nothing stands behind the last one; in the kind, it is the other one of a
+//! promise and a vote for the empty value, a vote for one byte in place of a span's promise, or a learned value in place of any of these; and else
+//! in a number or the value. No record here has a vote for one byte, or a learned value of none or of more than two.
 use crate::samples::value;
-use site_ids::{Ballot, Cluster, Instance, Vote};
+use site_ids::{Ballot, Cluster, Instance, Value, Vote};
 use std::alloc::Global;
 use std::process::Abort;
 use test_record::entry::Entry;
@@ -108,6 +108,20 @@ fn span(
     Some(Entry::PromisedSpan(first, count, promised))
 }
 
+/// Four bytes are the instance's, and then come the value's.
+fn learned(
+    rt: &impl Abort,
+    alloc: Global,
+    instance: Instance,
+    learned: &Value,
+    place: usize,
+    byte: u8,
+) -> Option<Entry> {
+    let instance = Instance::new(number(instance.number(), place, byte))?;
+    let bytes = with_byte(rt, alloc, learned.as_bytes(), place.wrapping_sub(4), byte);
+    Some(Entry::Learned(instance, value(rt, alloc, &bytes)))
+}
+
 /// How many bytes an entry has behind its kind.
 pub fn places(entry: &Entry) -> usize {
     match entry {
@@ -115,6 +129,7 @@ pub fn places(entry: &Entry) -> usize {
         Entry::Promised(..) => 9,
         Entry::PromisedSpan(..) => 10,
         Entry::Voted(_, vote) => vote.value.as_bytes().len().saturating_add(9),
+        Entry::Learned(_, value) => value.as_bytes().len().saturating_add(4),
     }
 }
 
@@ -147,6 +162,7 @@ pub fn changed(
             span(cluster, *first, *count, *promised, place, byte)
         }
         Entry::Voted(instance, voted) => vote(rt, alloc, cluster, *instance, voted, place, byte),
+        Entry::Learned(instance, value) => learned(rt, alloc, *instance, value, place, byte),
     }
 }
 
@@ -165,6 +181,57 @@ fn vote_in_span(
     let ballot = Ballot::new(u32::from_be_bytes([count, a, b, c]), node)?;
     let value = [promised.node().number()];
     Some(vote_for(rt, alloc, first, ballot, &value))
+}
+
+fn ballot_bytes(ballot: Ballot) -> [u8; 5] {
+    let [a, b, c, d] = ballot.round().to_be_bytes();
+    [a, b, c, d, ballot.node().number()]
+}
+
+/// A learned value whose bytes are these two behind one another.
+fn learned_of(
+    rt: &impl Abort,
+    alloc: Global,
+    instance: Instance,
+    front: &[u8],
+    rest: &[u8],
+) -> Entry {
+    let mut bytes = Vec::from_slice(alloc, front).expect(rt, "memory");
+    bytes.extend_from_slice(rest).expect(rt, "memory");
+    Entry::Learned(instance, value(rt, alloc, &bytes))
+}
+
+/// The learned value that is spelled as another entry but for its kind: its instance is the entry's, or its round, and what stands behind that is its value.
+fn learned_in(rt: &impl Abort, alloc: Global, entry: &Entry) -> Option<Entry> {
+    Some(match entry {
+        Entry::Round(round) => learned_of(rt, alloc, Instance::new(*round)?, b"", b""),
+        Entry::Promised(instance, ballot) => {
+            learned_of(rt, alloc, *instance, &ballot_bytes(*ballot), b"")
+        }
+        Entry::PromisedSpan(first, count, ballot) => {
+            learned_of(rt, alloc, *first, &[*count], &ballot_bytes(*ballot))
+        }
+        Entry::Voted(instance, vote) => {
+            let front = ballot_bytes(vote.ballot);
+            learned_of(rt, alloc, *instance, &front, vote.value.as_bytes())
+        }
+        Entry::Learned(..) => return None,
+    })
+}
+
+/// The beginnings of a learned value, shortest first.
+fn other_of_learned(
+    rt: &impl Abort,
+    alloc: Global,
+    instance: Instance,
+    learned: &Value,
+    number: usize,
+) -> Option<Entry> {
+    let bytes = learned.as_bytes();
+    if number >= bytes.len() {
+        return None;
+    }
+    Some(Entry::Learned(instance, value(rt, alloc, &bytes[..number])))
 }
 
 /// Votes for the beginnings of a vote's value, shortest first, and then a promise in place of it.
@@ -187,7 +254,7 @@ fn other_of_vote(
 }
 
 /// The entries that take an entry's place with another length or kind, by number from 0 on: of a vote those above, of a promise the vote for the
-/// empty value, of a span's a vote for one byte.
+/// empty value, of a span's a vote for one byte, of a learned value its beginnings. Last comes the learned value that is spelled so, where that is another.
 pub fn other(
     rt: &impl Abort,
     alloc: Global,
@@ -195,6 +262,9 @@ pub fn other(
     entry: &Entry,
     number: usize,
 ) -> Option<Entry> {
+    if number.saturating_add(1) == places(entry) {
+        return learned_in(rt, alloc, entry);
+    }
     match entry {
         Entry::Voted(instance, vote) => other_of_vote(rt, alloc, *instance, vote, number),
         Entry::Promised(instance, ballot) if number == 0 => {
@@ -203,6 +273,7 @@ pub fn other(
         Entry::PromisedSpan(first, count, ballot) if number == 0 => {
             vote_in_span(rt, alloc, cluster, *first, *count, *ballot)
         }
+        Entry::Learned(instance, value) => other_of_learned(rt, alloc, *instance, value, number),
         _ => None,
     }
 }

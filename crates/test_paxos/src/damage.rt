@@ -1,7 +1,7 @@
 //! A record cut at each byte, and with each byte changed. What these bytes come to is computed from the definition of a record.
 use crate::changes::with_byte;
 use crate::comparing::{ensure, same};
-use crate::listed::{Listed, RECORD, SPANNED, entries, spanned};
+use crate::listed::{LEARNED, Listed, RECORD, SPANNED, entries, learned, spanned};
 use crate::samples::{instance, is_bytes, is_text};
 use crate::stored::{one_of_three, read_bytes};
 use durable::{Record, RecordFault};
@@ -10,7 +10,7 @@ use site_ids::Instance;
 use std::alloc::Global;
 use std::process::Abort;
 use test_record::entry::Entry;
-use test_record::recorded::{greatest_round, is_slot, last_round, last_vote};
+use test_record::recorded::{self, greatest_round, is_slot, last_round, last_vote};
 use test_record::standing::{refusal, stands_for};
 
 /// Worked out by hand: a place, a byte there, and of the history for which the record then stands, if it does, how many entries it has, the
@@ -18,10 +18,13 @@ use test_record::standing::{refusal, stands_for};
 const LISTED: &[(usize, u8, Option<(usize, u32, &str)>)] = &[
     (9, 0, None),
     (11, 1, None),
+    (15, 6, Some((3, 0, "ab"))),
     (16, 1, Some((3, 16_777_217, "ab"))),
     (19, 0, None),
+    (25, 6, Some((3, 1, "ab"))),
     (25, 3, Some((3, 1, "ab"))),
     (33, 3, None),
+    (40, 7, None),
     (39, 10, Some((3, 1, ""))),
     (39, 11, Some((3, 1, "a"))),
     (39, 13, None),
@@ -30,9 +33,11 @@ const LISTED: &[(usize, u8, Option<(usize, u32, &str)>)] = &[
     (52, 2, Some((3, 1, "ab"))),
 ];
 
-/// How many histories are listed, worked out by hand too. At each of the four gates each byte but 1; in a number each byte but its own, less
-/// those with which it is 0 or an instance above 1,000,000; and a promise's ballot only up to that of the vote behind it.
+/// How many histories are listed, worked out by hand too. At each of the four gates each byte but 1; in each of the three kinds that of a learned
+/// value; in a number each byte but its own, less those with which it is 0 or an instance above 1,000,000; and a promise's ballot only up to that
+/// of the vote behind it.
 const COUNT: usize = 4 * 255
+    + 3
     // The round; the promise's kind, instance and ballot.
     + (3 * 255 + 254)
     + 1
@@ -45,17 +50,34 @@ const COUNT: usize = 4 * 255
     + 2
     + 2 * 255;
 
-/// And with the record of a span. At its two gates each byte but 1; in the kind the one of a vote for a byte; each count from 2 to 64 but its own.
+/// And with the record of a span. At its two gates each byte but 1; in the kind the one of a vote for a byte, and that of a learned value; each
+/// count from 2 to 64 but its own.
 const SPANNED_COUNT: usize = 2 * 255
     // The kind, the first instance, the count, the ballot.
-    + 1
+    + 2
     + (15 + 255 + 254)
     + 62
     + (3 * 255 + 254)
     + 2;
 
+/// And with the record of a learned value. At its two gates each byte but 1; the two shorter lengths; the instance, the value.
+const LEARNED_COUNT: usize = 2 * 255 + 2 + (15 + 255 + 254) + 2 * 255;
+
+/// Whether the record tells as learned what a history has so.
+fn is_learned_of(record: &Record<MemDisk>, history: &[Entry], instance: Instance) -> bool {
+    match (
+        record.learned(instance),
+        recorded::learned(history, instance),
+    ) {
+        (Some(came), Some(wanted)) => is_bytes(came.as_bytes(), wanted.as_bytes()),
+        (None, None) => true,
+        _ => false,
+    }
+}
+
+/// Whether the record tells the slot of an instance, and what was learned there.
 fn is_slot_of(record: &Record<MemDisk>, history: &[Entry], instance: Instance) -> bool {
-    is_slot(history, instance, record.slot(instance))
+    is_slot(history, instance, record.slot(instance)) && is_learned_of(record, history, instance)
 }
 
 /// Whether the record tells the slots of so many instances, from one on, as far as there are any.
@@ -75,9 +97,9 @@ fn tells_named(record: &Record<MemDisk>, history: &[Entry]) -> bool {
     for entry in history {
         let told = match entry {
             Entry::Round(_) => true,
-            Entry::Promised(instance, _) | Entry::Voted(instance, _) => {
-                is_slot_of(record, history, *instance)
-            }
+            Entry::Promised(instance, _)
+            | Entry::Voted(instance, _)
+            | Entry::Learned(instance, _) => is_slot_of(record, history, *instance),
             Entry::PromisedSpan(first, count, _) => {
                 tells_span(record, history, *first, count.saturating_add(1))
             }
@@ -202,6 +224,8 @@ fn a_record_with_each_byte_changed(rt: HostRuntime) {
     change_each_byte(&rt, alloc, listed);
     let listed = Listed::of(&rt, alloc, &SPANNED, spanned(&rt, alloc));
     change_each_byte(&rt, alloc, listed);
+    let listed = Listed::of(&rt, alloc, &LEARNED, learned(&rt, alloc));
+    change_each_byte(&rt, alloc, listed);
 }
 
 fn is_voted_for(rt: &impl Abort, history: &[Entry], text: &str) -> bool {
@@ -241,5 +265,8 @@ fn the_list_has_what_is_worked_out(rt: HostRuntime) {
     drop(listed);
     let listed = Listed::of(&rt, alloc, &SPANNED, spanned(&rt, alloc));
     same(&rt, listed.len(), SPANNED_COUNT);
+    drop(listed);
+    let listed = Listed::of(&rt, alloc, &LEARNED, learned(&rt, alloc));
+    same(&rt, listed.len(), LEARNED_COUNT);
     drop(listed);
 }

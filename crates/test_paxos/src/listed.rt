@@ -1,6 +1,6 @@
 //! The histories that a record stands for with one byte changed, computed from its own.
 use crate::changes::{changed, other, places, with_byte};
-use crate::samples::{ballot, instance, push, vote};
+use crate::samples::{ballot, instance, push, value, vote};
 use crate::stored::one_of_three;
 use site_ids::{Cluster, NodeId};
 use std::alloc::Global;
@@ -38,6 +38,17 @@ pub fn spanned(rt: &impl Abort, alloc: Global) -> Vec<Entry> {
     let promised = Entry::PromisedSpan(instance(rt, 5), 3, ballot(rt, 1, 1));
     let mut entries = Vec::new(alloc);
     push(rt, &mut entries, promised);
+    entries
+}
+
+/// The record of node 2 of 3 whose one entry is `ab`, learned at instance 1. At 10 its gate, at 22 the last one.
+pub const LEARNED: [u8; 23] = *b"SITEREC1\x02\x03\x01\x00\x00\x00\x07\x06\x00\x00\x00\x01ab\x00";
+
+/// Its history.
+pub fn learned(rt: &impl Abort, alloc: Global) -> Vec<Entry> {
+    let mut entries = Vec::new(alloc);
+    let one = Entry::Learned(instance(rt, 1), value(rt, alloc, b"ab"));
+    push(rt, &mut entries, one);
     entries
 }
 

@@ -220,6 +220,7 @@ const BATCH: &[Step] = &[
     Step::Promise(1, 1),
     Step::Span(5, 3, 1),
     Step::Vote(1, 1, "v"),
+    Step::Learn(9, "w"),
 ];
 
 fn format(alloc: Global, cluster: Cluster, node: NodeId) -> Option<MemDisk> {
@@ -267,6 +268,7 @@ fn tells(rt: &impl Abort, record: &Record<MemDisk>) -> bool {
         promises(rt, record, None);
     }
     same(rt, record.slot(instance(rt, 1)).vote.is_some(), all);
+    same(rt, record.learned(instance(rt, 9)).is_some(), all);
     all
 }
 

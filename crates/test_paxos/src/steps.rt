@@ -1,10 +1,11 @@
 //! Steps of a record: what is put, and what it tells then.
 use crate::comparing::{ensure, same};
 use crate::samples::{ballot, instance, is_text};
-use crate::stored::{empty, put_promise, put_round, put_span, put_vote_for};
+use crate::stored::{empty, put_learned, put_promise, put_round, put_span, put_vote_for};
 use acceptor::Slot;
 use durable::{Record, RecordFault};
 use site_disk::{Disk, MemDisk};
+use site_ids::Value;
 use std::alloc::Global;
 use std::process::Abort;
 
@@ -22,10 +23,16 @@ pub(crate) enum Step {
     NoSpan(u32, u8, u32),
     /// A vote at an instance for a text.
     Vote(u32, u32, &'static str),
+    /// A text learned at an instance.
+    Learn(u32, &'static str),
+    /// The same is not to be put.
+    NoLearn(u32, &'static str),
     /// The rounds promised from an instance on, 0 where none is.
     Promised(u32, &'static [u32]),
     /// What is voted for at an instance.
     Voted(u32, &'static str),
+    /// What is learned at an instance, if anything.
+    Learned(u32, Option<&'static str>),
     GreatestRound(u32),
 }
 
@@ -48,13 +55,16 @@ pub(crate) fn act<D: Disk>(
             let vote = (instance(rt, at), ballot(rt, round, 1));
             put_vote_for(rt, alloc, record, vote, text.as_bytes())
         }
+        Step::Learn(at, text) | Step::NoLearn(at, text) => {
+            put_learned(rt, alloc, record, instance(rt, at), text.as_bytes())
+        }
         _ => Ok(()),
     }
 }
 
 fn wanted(step: Step) -> Result<(), RecordFault> {
     match step {
-        Step::NoSpan(..) => Err(RecordFault::NotARecord),
+        Step::NoSpan(..) | Step::NoLearn(..) => Err(RecordFault::NotARecord),
         _ => Ok(()),
     }
 }
@@ -83,12 +93,23 @@ fn is_voted_for(slot: &Slot, text: &str) -> bool {
     }
 }
 
+fn is_learned(learned: Option<&Value>, text: Option<&str>) -> bool {
+    match (learned, text) {
+        (Some(learned), Some(text)) => is_text(learned, text),
+        (None, None) => true,
+        _ => false,
+    }
+}
+
 /// The record tells what a step says, where it says something.
 fn look<D: Disk>(rt: &impl Abort, record: &Record<D>, step: Step) {
     match step {
         Step::Promised(first, rounds) => promises(rt, record, first, rounds),
         Step::Voted(at, text) => {
             ensure(rt, is_voted_for(record.slot(instance(rt, at)), text), at);
+        }
+        Step::Learned(at, text) => {
+            ensure(rt, is_learned(record.learned(instance(rt, at)), text), at);
         }
         Step::GreatestRound(round) => same(rt, record.greatest_round(), round),
         _ => {}

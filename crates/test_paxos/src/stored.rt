@@ -189,6 +189,21 @@ pub fn put_span<D: Disk>(
     }
 }
 
+/// Puts these bytes as a learned value. `NotARecord` where one is learned there.
+pub fn put_learned<D: Disk>(
+    rt: &impl Abort,
+    alloc: Global,
+    record: &mut Record<D>,
+    instance: Instance,
+    bytes: &[u8],
+) -> Result<(), RecordFault> {
+    let value = value(rt, alloc, bytes);
+    if record.learned(instance).is_some() || value.as_bytes().len() > MAX_VALUE {
+        return Err(RecordFault::NotARecord);
+    }
+    record.put_learned(instance, &value)
+}
+
 /// Puts a vote for these bytes.
 pub fn put_vote_for<D: Disk>(
     rt: &impl Abort,

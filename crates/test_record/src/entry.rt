@@ -5,7 +5,7 @@ ghost use Rattle.site_ids.specs.Ids.{BallotOf};
 ghost use Rattle.site_ids.specs.Spans.{IsInSpan};
 ghost use Rattle.durable.specs.Entries.{Raises};
 
-use site_ids::{Ballot, Instance, Vote};
+use site_ids::{Ballot, Instance, Value, Vote};
 use std::alloc::AllocError;
 
 /// An entry of a record.
@@ -15,6 +15,7 @@ pub enum Entry {
     Promised(Instance, Ballot),
     PromisedSpan(Instance, u8, Ballot),
     Voted(Instance, Vote),
+    Learned(Instance, Value),
 }
 
 /// Whether an instance is one of so many, from this one on.
@@ -51,6 +52,7 @@ impl Entry {
                 Entry::PromisedSpan(*first, *count, *ballot)
             }
             Entry::Voted(instance, vote) => Entry::Voted(*instance, vote.try_clone()?),
+            Entry::Learned(instance, value) => Entry::Learned(*instance, value.try_clone()?),
         })
     }
 }

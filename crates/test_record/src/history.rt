@@ -9,7 +9,7 @@ ghost use Rattle.site_ids.specs.Spans.{IsSpan, IsInSpan};
 ghost use Rattle.test_record.specs.Meaning.{meaning, meanings};
 
 use crate::entry::Entry;
-use crate::recorded::{is_free_at, last_round, last_vote, promise};
+use crate::recorded::{is_free_at, last_round, last_vote, learned, promise};
 use site_ids::{Ballot, Cluster, Instance, MAX_INSTANCE, MAX_VALUE, Vote};
 
 fn are_in_range(cluster: Cluster, instance: Instance, ballot: Ballot) -> bool
@@ -37,6 +37,9 @@ fn is_in_range(cluster: Cluster, entry: &Entry) -> bool
         Entry::Voted(instance, vote) => {
             are_in_range(cluster, *instance, vote.ballot)
                 && vote.value.as_bytes().len() <= MAX_VALUE
+        }
+        Entry::Learned(instance, value) => {
+            instance.number() <= MAX_INSTANCE && value.as_bytes().len() <= MAX_VALUE
         }
     }
 }
@@ -97,6 +100,7 @@ fn advances(earlier: &[Entry], entry: &Entry) -> bool
             is_free_at(&promise(earlier, *instance), vote.ballot)
                 && !is_voted_at(last_vote(earlier, *instance), vote.ballot)
         }
+        Entry::Learned(instance, _) => learned(earlier, *instance).is_none(),
     }
 }
 

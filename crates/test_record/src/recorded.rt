@@ -3,12 +3,12 @@
 ghost use Rattle.std.specs.Prelude.{◌≡◌, ◌↔◌, ◌∷◌, ◌++◌, [], List, IsTrue, option_copied};
 ghost use Rattle.acceptor.specs.Judging.{IsFreeAt};
 ghost use Rattle.durable.specs.Entries as entries;
-ghost use Rattle.durable.specs.Entries.{IsPromise, IsSlot, last_round as last_round_of, greatest_round as greatest_round_of, last_vote as last_vote_of};
+ghost use Rattle.durable.specs.Entries.{IsPromise, IsSlot, last_round as last_round_of, greatest_round as greatest_round_of, last_vote as last_vote_of, learned_at};
 ghost use Rattle.test_record.specs.Meaning.{meaning, meanings};
 
 use crate::entry::Entry;
 use acceptor::Slot;
-use site_ids::{Ballot, Instance, Vote};
+use site_ids::{Ballot, Instance, Value, Vote};
 
 /// The last round, 0 where there is none.
 pub fn last_round(entries: &[Entry]) -> u32
@@ -33,6 +33,7 @@ pub fn greatest_round(entries: &[Entry]) -> u32
             Entry::Round(round) => *round,
             Entry::Promised(_, ballot) | Entry::PromisedSpan(_, _, ballot) => ballot.round(),
             Entry::Voted(_, vote) => vote.ballot.round(),
+            Entry::Learned(..) => 0,
         };
         greatest = greatest.max(round);
     }
@@ -87,6 +88,20 @@ pub fn last_vote(entries: &[Entry], instance: Instance) -> Option<&Vote>
         }
     }
     last
+}
+
+/// The value learned at an instance, if one is.
+pub fn learned(entries: &[Entry], instance: Instance) -> Option<&Value>
+    ensures { option_copied result ≡ learned_at instance (meanings entries.now) }
+{
+    for entry in entries {
+        if let Entry::Learned(at, value) = entry {
+            if *at == instance {
+                return Some(value);
+            }
+        }
+    }
+    None
 }
 
 fn is_same_vote(one: Option<&Vote>, other: &Option<Vote>) -> bool

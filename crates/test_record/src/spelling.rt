@@ -36,6 +36,16 @@ fn span_block(first: Instance, count: u8, ballot: Ballot) -> [u8; 16]
     bytes
 }
 
+/// An open gate, the payload's length, its kind, and the instance at which a value was learned.
+fn learned_front(size: u32, instance: Instance) -> [u8; 10]
+    ensures { result ≡ 1 ∷ big_bytes 4 size ++ 6 ∷ big_bytes 4 instance }
+{
+    let mut bytes = [1, 0, 0, 0, 0, 6, 0, 0, 0, 0];
+    BigEndian::write_u32(&mut bytes[1..], size);
+    BigEndian::write_u32(&mut bytes[6..], instance.number());
+    bytes
+}
+
 /// Appends the entry behind its open gate.
 fn push_block(bytes: &mut Vec<u8>, entry: &Entry) -> Result<(), AllocError>
     requires { length (payload (meaning entry.now)) < 2 ^ 32 }
@@ -57,6 +67,12 @@ fn push_block(bytes: &mut Vec<u8>, entry: &Entry) -> Result<(), AllocError>
             let value = vote.value.as_bytes();
             let size = value.len() as u32 + 10;
             bytes.extend_from_slice(&front(size, 3, *instance, vote.ballot))?;
+            bytes.extend_from_slice(value)
+        }
+        Entry::Learned(instance, value) => {
+            let value = value.as_bytes();
+            let size = value.len() as u32 + 5;
+            bytes.extend_from_slice(&learned_front(size, *instance))?;
             bytes.extend_from_slice(value)
         }
     }

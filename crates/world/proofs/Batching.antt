@@ -13,10 +13,10 @@ use Rattle.node.specs.declared.to.To.TheVariants.{All}
 use Rattle.node.specs.Nodes.{Up, Down, Node, opened}
 use Rattle.node.specs.Effects.{messages_of, recorded}
 use Rattle.node.specs.Tellings.{addressed, tells, told_from}
-use Rattle.node.specs.Calls.{Call, submit, tick, widen, ask, tell, deliver}
+use Rattle.node.specs.Calls.{Call, submit, tick, widen, ask, tell, deliver, keep}
 use Rattle.node.specs.Endings.{Ending, Whole, Refused, Failed, Refuses, Ends}
 use Rattle.world.specs.declared.event.Event.{Event}
-use Rattle.world.specs.declared.event.Event.TheVariants.{Submit, Tick, Widen, Ask, Tell, Deliver, Crash, Restart}
+use Rattle.world.specs.declared.event.Event.TheVariants.{Submit, Tick, Widen, Ask, Tell, Deliver, Crash, Restart, Keep}
 use Rattle.world.specs.Worlds.{World, Moves, CallsAt, AnyEnding, Happens, start}
 use Rattle.world.specs.Batches.{AllEnd, IsEventOf, AreEventsOf, IsBatch, LeadTo, CrashesBehind, CallsAreEvents, OthersComeFirst, SealedIsARun, CrashIsARun, OpeningIsARun, BatchesAgree}
 use Rattle.site_ids.proofs.MapLemmas.{put_here, put_other}
@@ -32,6 +32,7 @@ event_of p sent tick was = (Tick p, refl)
 event_of p sent widen was = (Widen p, refl)
 event_of p sent ask was = (Ask p, refl)
 event_of p sent (tell to i) was = (Tell p i, refl)
+event_of p sent (keep i) was = (Keep p i, refl)
 event_of p sent (deliver m) was = let at = place_of sent m (was m refl) in (Deliver p at.0, (at.0, at.1, refl))
 
 pub calls_are_events : CallsAreEvents
@@ -48,6 +49,7 @@ event_stays p sent more tick event is = is
 event_stays p sent more widen event is = is
 event_stays p sent more ask event is = is
 event_stays p sent more (tell to i) event is = is
+event_stays p sent more (keep i) event is = is
 event_stays p sent more (deliver m) event is = (is.0, get_left sent more is.0 m is.1, is.2)
 
 events_stay : (p : ℕ) (sent more : List Message) (calls : List Call) (events : List Event) → AreEventsOf p sent calls events → AreEventsOf p (sent ++ more) calls events
@@ -131,6 +133,7 @@ happens n w p (submit v) event ending out new node is ends =
 happens n w p tick event ending out new node is ends = subst (λ e. Happens n w e (changed w p (messages_of out) new)) (sym is) (inl (inl (call_happens n w p tick ending out new node ends)))
 happens n w p widen event ending out new node is ends = subst (λ e. Happens n w e (changed w p (messages_of out) new)) (sym is) (inl (inl (call_happens n w p widen ending out new node ends)))
 happens n w p ask event ending out new node is ends = subst (λ e. Happens n w e (changed w p (messages_of out) new)) (sym is) (inl (inl (call_happens n w p ask ending out new node ends)))
+happens n w p (keep i) event ending out new node is ends = subst (λ e. Happens n w e (changed w p (messages_of out) new)) (sym is) (inl (inl (call_happens n w p (keep i) ending out new node ends)))
 happens n w p (tell to i) event ending out new node is ends =
     let all = telling_ends n p (w.node p) to i ending out new ends in
     subst (λ e. Happens n w e (changed w p (messages_of out) new)) (sym is)

@@ -4,7 +4,7 @@ use Rattle.site_ids.specs.Ids.{BallotOf, IsNode, NotAbove}
 use Rattle.site_ids.specs.Lists.{In}
 use Rattle.site_ids.specs.declared.value.Vote.{Vote}
 use Rattle.wire.specs.declared.message.Message.TheVariants.{Propose}
-use Rattle.durable.specs.Entries.{Entry, Round, Promised, PromisedSpan, Voted, Raises, round_in, round_after, last_round, last_vote, greatest_round}
+use Rattle.durable.specs.Entries.{Entry, Round, Promised, PromisedSpan, Voted, Learned, Raises, round_in, round_after, last_round, last_vote, greatest_round}
 use Rattle.node.specs.Calls.{fresh_ballot, HasRound}
 use Rattle.world.specs.declared.event.Event.{Event}
 use Rattle.world.specs.Worlds.{World, Runs, start}
@@ -19,12 +19,14 @@ last_within r (Round s ∷ es) = let h = last_within s es in omega (arith, h)
 last_within r (Promised i b ∷ es) = let h = last_within r es in omega (arith, h)
 last_within r (PromisedSpan i k b ∷ es) = let h = last_within r es in omega (arith, h)
 last_within r (Voted i b v ∷ es) = let h = last_within r es in omega (arith, h)
+last_within r (Learned i v ∷ es) = let h = last_within r es in omega (arith, h)
 
 raised_in : (e : Entry) (i : ℕ) (c : BallotOf) → Raises e i c → c.round ≡ round_in e
 raised_in (Round r) i c h = absurd h
 raised_in (Promised j d) i c h = ap (λ (x : BallotOf). x.round) (sym h.1)
 raised_in (PromisedSpan j k d) i c h = ap (λ (x : BallotOf). x.round) (sym h.1)
 raised_in (Voted j d v) i c h = ap (λ (x : BallotOf). x.round) (sym h.1)
+raised_in (Learned j v) i c h = absurd h
 
 pub raised_within : (es : List Entry) (e : Entry) (i : ℕ) (c : BallotOf) → In es e → Raises e i c → c.round ≤ greatest_round es
 raised_within [] e i c k h = absurd k

@@ -9,10 +9,10 @@ use Rattle.node.specs.declared.fault.NodeFault.TheVariants as fault
 use Rattle.node.specs.declared.to.To.TheVariants.{All}
 use Rattle.node.specs.Nodes.{Mode, Up, Stopped, Down, Node}
 use Rattle.node.specs.Effects.{messages_of}
-use Rattle.node.specs.Calls.{Call, submit, tick, widen, ask, tell, deliver, Does}
+use Rattle.node.specs.Calls.{Call, submit, tick, widen, ask, tell, deliver, keep, Does}
 use Rattle.node.specs.Endings.{Ending, Whole, Refused, Failed, Ends}
 use Rattle.world.specs.declared.event.Event.{Event}
-use Rattle.world.specs.declared.event.Event.TheVariants.{Submit, Tick, Widen, Ask, Tell, Deliver, Arm, Crash, Restart}
+use Rattle.world.specs.declared.event.Event.TheVariants.{Submit, Tick, Widen, Ask, Tell, Deliver, Arm, Crash, Restart, Keep}
 use Rattle.world.specs.Worlds.{Moves, Calls}
 use Rattle.world.specs.Taking.{IsTaken, Takes, TakesAll}
 use Rattle.site_ids.proofs.MapLemmas.{put_here, put_other}
@@ -215,6 +215,7 @@ happened caller keeps n w (Tick p) = elim (is_node n p) [ inr outside ↦ None |
 happened caller keeps n w (Widen p) = elim (is_node n p) [ inr outside ↦ None | inl node ↦ caller n w p widen node ]
 happened caller keeps n w (Ask p) = elim (is_node n p) [ inr outside ↦ None | inl node ↦ caller n w p ask node ]
 happened caller keeps n w (Tell p i) = elim (is_node n p) [ inr outside ↦ None | inl node ↦ caller n w p (tell All i) node ]
+happened caller keeps n w (Keep p i) = elim (is_node n p) [ inr outside ↦ None | inl node ↦ caller n w p (keep i) node ]
 happened caller keeps n w (Deliver p index) = elim (is_node n p) [ inr outside ↦ None | inl node ↦ delivered caller n w p index node ]
 happened caller keeps n w (Arm p calls) = elim (is_node n p) [ inr outside ↦ None | inl node ↦ Some (armed n w p calls node) ]
 happened caller keeps n w (Crash p choice) = elim (is_node n p) [

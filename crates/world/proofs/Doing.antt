@@ -8,7 +8,7 @@ use Rattle.site_ids.specs.Spans.{IsInSpan}
 use Rattle.site_ids.specs.declared.value.Vote.{Vote}
 use Rattle.wire.specs.declared.message.Message.{Message}
 use Rattle.wire.specs.declared.message.Message.TheVariants.{Prepare, Promise, Propose, Accepted, Nack, Ask, Chosen}
-use Rattle.durable.specs.Entries.{Round, last_round}
+use Rattle.durable.specs.Entries.{Round, Learned, last_round, last_vote, learned_at}
 use Rattle.proposer.specs.declared.TheConstants.{MAX_ATTEMPTS}
 use Rattle.proposer.specs.Attempts.{Answer, Attempt, opened as opened_attempt, opened_span, waiting, proposing, senders, with_answer, Counts, ToldNone, Highest, Chooses}
 use Rattle.learner.specs.ToldVotes.{ToldVote, told_vote}
@@ -21,7 +21,7 @@ use Rattle.node.specs.Tellings.{tells}
 use Rattle.node.specs.Nodes.{Value, IsFirstUnknown}
 use Rattle.node.specs.Tickets.{IsHeld, has_same_ticket}
 use Rattle.node.specs.Deliveries.{reached_by, OnPromise, OnAccepted, OnAsk, OnChosen, ByKind}
-use Rattle.node.specs.Calls.{Call, submit, tick, widen, ask, tell, deliver, oldest, IsFree, IsNextFree, IsTried, AreUntried, IsNextSpan, Does}
+use Rattle.node.specs.Calls.{Call, submit, tick, widen, ask, tell, deliver, keep, IsOwnVote, MayKeep, oldest, IsFree, IsNextFree, IsTried, AreUntried, IsNextSpan, Does}
 use Rattle.node.proofs.Windows.{from_first, untried_stays}
 use Rattle.world.proofs.Lists.{put_at_cases}
 use Rattle.world.proofs.Order.{not_above_itself, not_above_trans, below_is_not_above}
@@ -460,6 +460,37 @@ asked n p t = elim (first_unknown t) [
 abbrev pub told : (n p : ℕ) (t : NodeBy) (to : To) (i : ℕ) → Done (Does n p (node_by t) (tell to i))
 told n p t to i = record { entry = None; after = t; out = (tells p (node_by t) to i).out; does = refl }
 
+-- ---- keeping
+
+-- its last vote there is for the value, or not
+abbrev pub own_vote : (t : NodeBy) (i : ℕ) (v : Value) → Told (IsOwnVote (node_by t) i v)
+own_vote t i v = elim (last_vote i t.entries) as (λ o. last_vote i t.entries ≡ o → Told (IsOwnVote (node_by t) i v)) [
+  | None ↦ λ none. inr (λ x. no_such x.0 (sym none ∙ x.1))
+  | Some w ↦ λ is. elim (values w.value v) [
+    | inl same ↦ inl (w, is, same)
+    | inr apart ↦ inr (λ x. apart (ap (λ (y : Vote). y.value) (inside w x.0 (sym is ∙ x.1)) ∙ x.2))
+  ]
+] refl
+
+-- a value that isn't kept at the instance, or there is none
+abbrev pub unkept : (t : NodeBy) (i : ℕ) → MayKeep (node_by t) i ⊎ (¬ MayKeep (node_by t) i)
+unkept t i = elim (learned_at i t.entries) as (λ o. learned_at i t.entries ≡ o → MayKeep (node_by t) i ⊎ (¬ MayKeep (node_by t) i)) [
+  | Some u ↦ λ learned. inr (λ x. no_such u (sym x.1.unlearned ∙ learned))
+  | None ↦ λ none. elim (map_of t.known i) as (λ o. map_of t.known i ≡ o → MayKeep (node_by t) i ⊎ (¬ MayKeep (node_by t) i)) [
+    | None ↦ λ unknown. inr (λ x. no_such x.0 (sym unknown ∙ x.1.known))
+    | Some v ↦ λ known. elim (own_vote t i v) [
+      | inl own ↦ inr (λ x. x.1.unvoted (subst (λ u. IsOwnVote (node_by t) i u) (inside v x.0 (sym known ∙ x.1.known)) own))
+      | inr other ↦ inl (v, record { known = known; unlearned = none; unvoted = other })
+    ]
+  ] refl
+] refl
+
+abbrev pub kept : (n p : ℕ) (t : NodeBy) (i : ℕ) → Option (Done (Does n p (node_by t) (keep i)))
+kept n p t i = elim (unkept t i) [
+  | inr none ↦ Some (record { entry = None; after = t; out = []; does = inr (none, refl) })
+  | inl x ↦ Some (record { entry = Some (Learned i x.0); after = t; out = []; does = inl (record { value = x.0; unkept = x.1; is = refl }) })
+]
+
 -- ---- all calls
 
 -- what the call does, if it is one that is computed here: a ticket that is held, or what has a cause of refusal, isn't
@@ -469,4 +500,5 @@ done n p t tick = ticked n p t
 done n p t widen = widened n p t
 done n p t ask = asked n p t
 done n p t (tell to i) = Some (told n p t to i)
+done n p t (keep i) = kept n p t i
 done n p t (deliver m) = by_kind n p (record t { reached = reached_by t.reached m }) m

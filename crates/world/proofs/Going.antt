@@ -7,7 +7,7 @@ use Rattle.node.specs.Nodes.{Down}
 use Rattle.node.specs.Effects.{messages_of}
 use Rattle.node.specs.Calls.{Call, deliver}
 use Rattle.world.specs.declared.event.Event.{Event}
-use Rattle.world.specs.declared.event.Event.TheVariants.{Submit, Tick, Widen, Ask, Tell, Deliver, Arm, Crash, Restart}
+use Rattle.world.specs.declared.event.Event.TheVariants.{Submit, Tick, Widen, Ask, Tell, Deliver, Arm, Crash, Restart, Keep}
 use Rattle.world.specs.Worlds.{World, Becomes, CallsAt, Calls}
 use Rattle.world.specs.Taking.{IsTaken, Takes, TakesAll, IsBad}
 use Rattle.world.specs.Quiet.{AllRun, AreCalm, to_each, each_to}
@@ -35,6 +35,7 @@ module _ (n : ℕ) where
   calm_take (suc k) (Arm p j ∷ events) calm = absurd calm
   calm_take (suc k) (Crash p j ∷ events) calm = absurd calm
   calm_take (suc k) (Restart p ∷ events) calm = absurd calm
+  calm_take (suc k) (Keep p i ∷ events) calm = absurd calm
 
   tail_calm : (x : Event) (events : List Event) → AreCalm (x ∷ events) → AreCalm events
   tail_calm (Tick p) events calm = calm
@@ -46,6 +47,7 @@ module _ (n : ℕ) where
   tail_calm (Arm p j) events calm = absurd calm
   tail_calm (Crash p j) events calm = absurd calm
   tail_calm (Restart p) events calm = absurd calm
+  tail_calm (Keep p i) events calm = absurd calm
 
   same_event : (x y : Event) → Some x ≡ Some y → x ≡ y
   same_event x y e = cc

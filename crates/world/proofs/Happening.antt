@@ -8,9 +8,9 @@ use Rattle.wire.specs.Messages.{IsMessage}
 use Rattle.node.specs.declared.to.To.TheVariants.{All}
 use Rattle.node.specs.Nodes.{Node, Up, Down}
 use Rattle.node.specs.Effects.{messages_of}
-use Rattle.node.specs.Calls.{submit, tick, widen, ask, tell, deliver}
+use Rattle.node.specs.Calls.{submit, tick, widen, ask, tell, deliver, keep}
 use Rattle.world.specs.declared.event.Event.{Event}
-use Rattle.world.specs.declared.event.Event.TheVariants.{Submit, Tick, Widen, Ask, Tell, Deliver, Arm, Crash, Restart}
+use Rattle.world.specs.declared.event.Event.TheVariants.{Submit, Tick, Widen, Ask, Tell, Deliver, Arm, Crash, Restart, Keep}
 use Rattle.world.specs.declared.machine.Machine.{Machine}
 use Rattle.world.specs.Taking.{node_of, IsUnsent}
 use Rattle.world.specs.Machines.{Handed, NodeTakes, Settled, Turns, Wants, IsUp, CallTurns, CallWants, EventTurns, EventWants}
@@ -75,6 +75,13 @@ module _ {T E : Type 0} (r : Result T E) (n : ℕ) (event : Event) (old new : Ma
   pub tells : (q i : ℕ) → event ≡ Tell q i → OnOk r ((k p : ℕ) → CallTurns k p (tell All i) old new before after) → OnOk r (EventTurns n event old new before after)
   tells q i is told = on_ok r (λ turns. turns_for n event (Tell q i) old new before after is (λ messages. turns n q)) told
 
+  pub keeps : (q i : ℕ) → event ≡ Keep q i → OnOk r ((k p : ℕ) → CallTurns k p (keep i) old new [] []) → OnOk r (EventTurns n event old new before before)
+  keeps q i is told =
+      on_ok r
+      (λ turns. turns_for n event (Keep q i) old new before before is
+      (λ messages. beside n q (λ s out next. NodeTakes n q (messages_of before) s (Keep q i) out next) old new before (turns n q)))
+      told
+
   pub delivers : (q index : ℕ) → event ≡ Deliver q index → index < length before
       → OnOk r ((m : Message) → slice_get (messages_of before) index ≡ Some m → (k p : ℕ) → IsMessage k m → CallTurns k p (deliver m) old new before after) → OnOk r (EventTurns n event old new before after)
   delivers q index is below told =
@@ -107,6 +114,10 @@ module _ {T E : Type 0} (r : Result T E) (n : ℕ) (event : Event) (old new : Ma
 
   pub tell_wants : (q i : ℕ) → event ≡ Tell q i → OnErr r ((k p : ℕ) → CallWants k p (tell All i) old new before after) → OnErr r (EventWants n (node_of event) event old new before after)
   tell_wants q i is told = on_err r (λ wants. wants_for n event (Tell q i) old new before after is (wants n q)) told
+
+  pub keep_wants : (q i : ℕ) → event ≡ Keep q i → OnErr r ((k p : ℕ) → CallWants k p (keep i) old new [] []) → OnErr r (EventWants n (node_of event) event old new before before)
+  keep_wants q i is told =
+      on_err r (λ wants. wants_for n event (Keep q i) old new before before is (record { leads = λ s at. let x = (wants n q).leads s at in (x.0, x.1, refl, x.3) })) told
 
   pub deliver_wants : (q index : ℕ) → event ≡ Deliver q index → OnErr r ((k p : ℕ) → Wants k p IsUp old new before after) → OnErr r (EventWants n (node_of event) event old new before after)
   deliver_wants q index is told = on_err r (λ wants. wants_for n event (Deliver q index) old new before after is (wants n q)) told

@@ -53,3 +53,6 @@ mod Batching
 mod BatchesOnDisk
 mod Senders
 mod BatchWorked
+pub mod Counting
+pub mod Together
+pub mod KeptWorked

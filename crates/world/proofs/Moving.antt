@@ -11,11 +11,11 @@ use Rattle.wire.specs.Messages.{IsMessage}
 use Rattle.node.specs.declared.to.To.TheVariants.{All}
 use Rattle.node.specs.Nodes.{Up, Down, Node, opened}
 use Rattle.node.specs.Effects.{messages_of}
-use Rattle.node.specs.Calls.{Call, submit, tick, widen, ask, tell, deliver}
+use Rattle.node.specs.Calls.{Call, submit, tick, widen, ask, tell, deliver, keep}
 use Rattle.node.specs.declared.fault.NodeFault.TheVariants.{OutOfMemory}
 use Rattle.node.specs.Endings.{Refuses}
 use Rattle.world.specs.declared.event.Event.{Event}
-use Rattle.world.specs.declared.event.Event.TheVariants.{Submit, Tick, Widen, Ask, Tell, Deliver, Arm, Crash, Restart}
+use Rattle.world.specs.declared.event.Event.TheVariants.{Submit, Tick, Widen, Ask, Tell, Deliver, Arm, Crash, Restart, Keep}
 use Rattle.world.specs.declared.machine.Machine.{Machine}
 use Rattle.world.specs.declared.machine.Machine.TheVariants.{Open, Bare}
 use Rattle.world.specs.declared.world.World.{World as Code}
@@ -85,6 +85,7 @@ takes_of n w (Tell p i) next out here how = called n w p next out here (tell All
 takes_of n w (Deliver p index) next out here how = record { message = how.0; was_sent = how.1; calls = called n w p next out here (deliver how.0) how.2 }
 takes_of n w (Arm p calls) next out here how = armed n w p next out here how.1 how.0
 takes_of n w (Crash p choice) next out here how = record { entries = how.0; settles = how.1; becomes = moves_as n w p next out here (opened Down how.0 None) how.2 how.3 }
+takes_of n w (Keep p i) next out here how = called n w p next out here (keep i) how
 takes_of n w (Restart p) next out here how = record { entries = how.0; settles = how.1; becomes = moves_as n w p next out here (opened Up how.0 None) how.2 how.3 }
 
 -- ---- the value with one machine changed
@@ -244,6 +245,7 @@ step_not_taken old new (Tick p) k machine x here below machines same at got want
 step_not_taken old new (Widen p) k machine x here below machines same at got wants = step_wanted old new p k machine x here below machines same at got (λ s. Refuses s widen OutOfMemory) wants
 step_not_taken old new (Ask p) k machine x here below machines same at got wants = step_wanted old new p k machine x here below machines same at got (λ s. Refuses s ask OutOfMemory) wants
 step_not_taken old new (Tell p i) k machine x here below machines same at got wants = step_wanted old new p k machine x here below machines same at got (λ s. Refuses s (tell All i) OutOfMemory) wants
+step_not_taken old new (Keep p i) k machine x here below machines same at got wants = step_wanted old new p k machine x here below machines same at got (λ s. Refuses s (keep i) OutOfMemory) wants
 step_not_taken old new (Deliver p index) k machine x here below machines same at got wants = step_wanted old new p k machine x here below machines same at got IsUp wants
 step_not_taken old new (Arm p calls) k machine x here below machines same at got wants = absurd wants
 step_not_taken old new (Crash p choice) k machine x here below machines same at got wants = absurd wants

@@ -1,16 +1,17 @@
--- What is told again is sound: a known value is decided, and a vote is on record.
+-- What is told again is sound: a value known or learned is decided, and a vote is on record.
 use Rattle.std.proofs.Common.{◌≡◌, inr, ⊎_elim, ℕ, Some, None, List, refl, sym, subst, map}
 use Rattle.site_ids.specs.Ids.{BallotOf}
 use Rattle.site_ids.specs.Lists.{In}
 use Rattle.site_ids.specs.declared.value.Vote.{Vote}
 use Rattle.wire.specs.declared.message.Message.{Message}
 use Rattle.wire.specs.declared.message.Message.TheVariants.{Propose, Accepted, Chosen}
-use Rattle.durable.specs.Entries.{Voted, last_vote}
+use Rattle.durable.specs.Entries.{Voted, Learned, last_vote}
 use Rattle.node.specs.declared.to.To.{To}
 use Rattle.node.specs.Nodes.{Value, Node}
 use Rattle.node.specs.Effects.{messages_of}
-use Rattle.node.specs.Tellings.{tells, told_from, addressed}
-use Rattle.node.proofs.ToldAgain.{IsToldOf, each_told}
+use Rattle.node.specs.Tellings.{remembered, tells, told_from, addressed}
+use Rattle.world.specs.Decided.{Decides}
+use Rattle.node.proofs.ToldAgain.{IsToldOf, each_told, remembered_from}
 use Rattle.world.proofs.Lists.{in_map}
 use Rattle.world.proofs.Keeping.{SaysNew}
 use Rattle.world.proofs.Endings.{EffectSound}
@@ -18,6 +19,7 @@ use Rattle.world.proofs.Calling.{Inside, no_entry, plain}
 
 module _ (n : ℕ) (fair : Value → Type 0) (sent : List Message) (p : ℕ) (s : Node)
     (one_value : (q r i : ℕ) (b : BallotOf) (v u : Value) → In sent (Propose q i b v) → In sent (Propose r i b u) → v ≡ u)
+    (learned : (i : ℕ) (v : Value) → In s.entries (Learned i v) → Decides n sent i v)
     (h : Inside n fair sent p s.entries s)
   where
     each_of : (to : To) (i : ℕ) (m : Message) → In (messages_of (map (addressed to) (told_from p s i))) m → (j : ℕ) × IsToldOf p s m j
@@ -29,8 +31,8 @@ module _ (n : ℕ) (fair : Value → Type 0) (sent : List Message) (p : ℕ) (s 
     no_proposal : (m : Message) (j : ℕ) → IsToldOf p s m j → (q i : ℕ) (b : BallotOf) (v : Value) → m ≡ Propose q i b v → ⊥
     no_proposal m j told q i b v is =
         ⊎_elim
-        (λ (x : (u : Value) × (s.known j ≡ Some u) × (m ≡ Chosen p j u)). chosen x.0 (sym x.2))
-        (λ (x : (w : Vote) × In s.entries (Voted j w.ballot w.value) × (last_vote j s.entries ≡ Some w) × (s.known j ≡ None) × (m ≡ Accepted p j w.ballot w.value)). voted x.0 (sym x.4))
+        (λ (x : (u : Value) × (remembered s j ≡ Some u) × (m ≡ Chosen p j u)). chosen x.0 (sym x.2))
+        (λ (x : (w : Vote) × In s.entries (Voted j w.ballot w.value) × (last_vote j s.entries ≡ Some w) × (remembered s j ≡ None) × (m ≡ Accepted p j w.ballot w.value)). voted x.0 (sym x.4))
         told.is
       where
         chosen : (u : Value) → Chosen p j u ≡ m → ⊥
@@ -42,8 +44,8 @@ module _ (n : ℕ) (fair : Value → Type 0) (sent : List Message) (p : ℕ) (s 
     says : (m : Message) (j : ℕ) → IsToldOf p s m j → SaysNew n fair sent p s m
     says m j told =
         ⊎_elim
-        (λ (x : (u : Value) × (s.known j ≡ Some u) × (m ≡ Chosen p j u)). subst (SaysNew n fair sent p s) (sym x.2) (h.known j x.0 x.1))
-        (λ (x : (w : Vote) × In s.entries (Voted j w.ballot w.value) × (last_vote j s.entries ≡ Some w) × (s.known j ≡ None) × (m ≡ Accepted p j w.ballot w.value)). subst (SaysNew n fair sent p s) (sym x.4) (refl, x.1))
+        (λ (x : (u : Value) × (remembered s j ≡ Some u) × (m ≡ Chosen p j u)). subst (SaysNew n fair sent p s) (sym x.2) (⊎_elim (λ k. h.known j x.0 k) (λ k. learned j x.0 k) (remembered_from s j x.0 x.1)))
+        (λ (x : (w : Vote) × In s.entries (Voted j w.ballot w.value) × (last_vote j s.entries ≡ Some w) × (remembered s j ≡ None) × (m ≡ Accepted p j w.ballot w.value)). subst (SaysNew n fair sent p s) (sym x.4) (refl, x.1))
         told.is
 
     pub tell_sound : (to : To) (i : ℕ) → EffectSound n fair sent p s.entries (tells p s to i)

@@ -16,9 +16,9 @@ use Rattle.node.specs.declared.to.To.TheVariants.{One, All}
 use Rattle.node.specs.Nodes.{Value, Node, IsKnown, IsUnknown}
 use Rattle.node.specs.Tickets.{IsCommand, IsHeld}
 use Rattle.node.specs.Effects.{Effect, quiet, says, learned}
-use Rattle.node.specs.Tellings.{tells, told_from, addressed}
+use Rattle.node.specs.Tellings.{remembered, tells, told_from, addressed}
 use Rattle.node.specs.Deliveries.{Judged, prepare_out, span_out, propose_out, promise_out, reached_by, with_vote, Counted, ByKind}
-use Rattle.node.specs.Calls.{Call, submit, tick, widen, ask, tell, deliver, queued, resent, Begins, MayWiden, Does}
+use Rattle.node.specs.Calls.{Call, submit, tick, widen, ask, tell, deliver, queued, resent, Begins, MayWiden, Does, keep, KeepsOne, MayKeep}
 use Rattle.node.specs.Endings.{Ending, Whole, Refused, Failed, Ends}
 use Rattle.world.specs.Batches.{SaysItself}
 use Rattle.node.proofs.ToldAgain.{each_told}
@@ -72,8 +72,8 @@ telling_from p s to i x k =
     let told = each_told p s to i x k in
     let j = told.0 in
     ⊎_elim
-    (λ (y : (v : Value) × (s.known j ≡ Some v) × (x.1 ≡ Chosen p j v)). ap sender_of y.2)
-    (λ (y : (w : Vote) × In s.entries (Voted j w.ballot w.value) × (last_vote j s.entries ≡ Some w) × (s.known j ≡ None) × (x.1 ≡ Accepted p j w.ballot w.value)). ap sender_of y.4)
+    (λ (y : (v : Value) × (remembered s j ≡ Some v) × (x.1 ≡ Chosen p j v)). ap sender_of y.2)
+    (λ (y : (w : Vote) × In s.entries (Voted j w.ballot w.value) × (last_vote j s.entries ≡ Some w) × (remembered s j ≡ None) × (x.1 ≡ Accepted p j w.ballot w.value)). ap sender_of y.4)
     told.2.is
 
 delivery_from : (n p : ℕ) (s : Node) (m : Message) (effect : Effect) → ByKind n p s m effect → AreFrom p effect.out
@@ -120,6 +120,11 @@ call_from n p s widen effect how =
 call_from n p s ask effect how = of_effect p effect (says s All (Ask p how.instance)) how.is (first_from p (All, Ask p how.instance) [] refl (none_from p))
 call_from n p s (tell to i) effect how = of_effect p effect (tells p s to i) how (telling_from p s to i)
 call_from n p s (deliver m) effect how = delivery_from n p (record s { reached = reached_by s.reached m }) m effect how
+call_from n p s (keep i) effect how =
+    ⊎_elim
+    (λ (x : KeepsOne s i effect). of_effect p effect (record { entry = _; after = s; out = [] }) x.is (none_from p))
+    (λ (x : (¬ MayKeep s i) × (effect ≡ quiet s)). of_effect p effect (quiet s) x.1 (none_from p))
+    how
 
 ends_from : (n p : ℕ) (s : Node) (call : Call) (ending : Ending) (out : List (To × Message)) (new : Node) → Ends n p s call ending out new → AreFrom p out
 ends_from n p s call Whole out new ends = subst (AreFrom p) (sym ends.handed_out) (call_from n p s call ends.effect ends.does)

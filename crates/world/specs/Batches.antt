@@ -13,13 +13,13 @@ use Rattle.node.specs.declared.to.To.{To}
 use Rattle.node.specs.declared.node.Node.{Node as Running}
 use Rattle.node.specs.Nodes.{Value, Up, Down, Node, opened}
 use Rattle.node.specs.Effects.{messages_of}
-use Rattle.node.specs.Calls.{Call, submit, tick, widen, ask, tell, deliver}
+use Rattle.node.specs.Calls.{Call, submit, tick, widen, ask, tell, deliver, keep}
 use Rattle.node.specs.Endings.{Ending, Failed, Ends}
 use Rattle.node.specs.Ahead.{IsAheadOf}
 use Rattle.node.specs.Batches.{SealsAt, LosesOneOf}
 use Rattle.node.specs.Standing.{IsNodeOf, IsOnDisk, IsEither, IsEvent, OpensAs}
 use Rattle.world.specs.declared.event.Event.{Event}
-use Rattle.world.specs.declared.event.Event.TheVariants.{Submit, Tick, Widen, Ask, Tell, Deliver, Crash, Restart}
+use Rattle.world.specs.declared.event.Event.TheVariants.{Submit, Tick, Widen, Ask, Tell, Deliver, Crash, Restart, Keep}
 use Rattle.world.specs.Worlds.{World, Moves, Runs, start}
 use Rattle.world.specs.Taking.{node_of}
 use Rattle.world.specs.Decided.{Publishes}
@@ -43,6 +43,7 @@ IsEventOf p sent tick event = event ≡ Tick p
 IsEventOf p sent widen event = event ≡ Widen p
 IsEventOf p sent ask event = event ≡ Ask p
 IsEventOf p sent (tell to i) event = event ≡ Tell p i
+IsEventOf p sent (keep i) event = event ≡ Keep p i
 IsEventOf p sent (deliver m) event = (index : ℕ) × (slice_get sent index ≡ Some m) × (event ≡ Deliver p index)
 
 -- the events of the calls, in order

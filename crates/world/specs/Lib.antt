@@ -13,3 +13,5 @@ pub mod Bids
 pub mod Quiet
 pub mod Quieting
 pub mod QuietWorked
+pub mod Together
+pub mod Kept

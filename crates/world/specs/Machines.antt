@@ -9,11 +9,11 @@ use Rattle.node.specs.declared.to.To.{To}
 use Rattle.node.specs.declared.to.To.TheVariants.{All}
 use Rattle.node.specs.Nodes.{Mode, Up, Down, Node, opened}
 use Rattle.node.specs.Effects.{messages_of}
-use Rattle.node.specs.Calls.{Call, submit, tick, widen, ask, tell, deliver}
+use Rattle.node.specs.Calls.{Call, submit, tick, widen, ask, tell, deliver, keep}
 use Rattle.node.specs.declared.fault.NodeFault.TheVariants.{OutOfMemory}
 use Rattle.node.specs.Endings.{Ending, Refuses, Ends}
 use Rattle.world.specs.declared.event.Event.{Event}
-use Rattle.world.specs.declared.event.Event.TheVariants.{Submit, Tick, Widen, Ask, Tell, Deliver, Arm, Crash, Restart}
+use Rattle.world.specs.declared.event.Event.TheVariants.{Submit, Tick, Widen, Ask, Tell, Deliver, Arm, Crash, Restart, Keep}
 use Rattle.world.specs.declared.machine.Machine.{Machine}
 use Rattle.world.specs.Taking.{IsTaken, node_of}
 use Rattle.world.specs.Standing.{IsMachineOf, HasPublished}
@@ -43,6 +43,7 @@ NodeTakes n p sent s (Deliver q index) out next = (message : Message) × (slice_
 NodeTakes n p sent s (Arm q calls) out next = (out ≡ []) × (((s.mode ≢ Down) × (next ≡ record s { armed = true })) ⊎ ((s.mode ≡ Down) × (next ≡ s)))
 NodeTakes n p sent s (Crash q choice) out next = Settled Down s out next
 NodeTakes n p sent s (Restart q) out next = Settled Up s out next
+NodeTakes n p sent s (Keep q i) out next = AtNode n p s (keep i) out next
 
 -- with a machine that stands for the node afterwards, and what is handed out at the end of the list
 pub record Turned (n p : ℕ) (Does : Node → Handed → Node → Type 0) (new : Machine) (before after : Handed) (s : Node) : Type 0 where
@@ -87,6 +88,7 @@ EventWants n p (Tick q) old new before after = CallWants n p tick old new before
 EventWants n p (Widen q) old new before after = CallWants n p widen old new before after
 EventWants n p (Ask q) old new before after = CallWants n p ask old new before after
 EventWants n p (Tell q i) old new before after = CallWants n p (tell All i) old new before after
+EventWants n p (Keep q i) old new before after = CallWants n p (keep i) old new before after
 EventWants n p (Deliver q index) old new before after = Wants n p IsUp old new before after
 
 -- all of them are messages of the cluster

@@ -30,7 +30,7 @@ impl Machine {
     ghost use Rattle.wire.specs.Messages.{IsMessage};
     ghost use Rattle.node.specs.Nodes.{Node as AbstractNode, Up, Down, opened, IsFirstUnknown};
     ghost use Rattle.node.specs.Effects.{messages_of};
-    ghost use Rattle.node.specs.Calls.{submit as submission, tick as ticking, widen as widening, ask as asking, tell as telling, deliver as delivery, fresh_ballot, HasRound, AreOpenElsewhere};
+    ghost use Rattle.node.specs.Calls.{submit as submission, tick as ticking, widen as widening, ask as asking, tell as telling, keep as keeping, deliver as delivery, fresh_ballot, HasRound, AreOpenElsewhere};
     ghost use Rattle.proposer.specs.Attempts.{Attempt};
     ghost use Rattle.node.specs.Standing.{OnlyGrows};
     ghost use Rattle.site_ids.specs.Ids.{IsNode};
@@ -108,6 +108,16 @@ impl Machine {
         match self {
             Machine::Bare(_) => Ok(()),
             Machine::Open { node, .. } => passed(node.tell(To::All, first, sent)),
+        }
+    }
+
+    pub(crate) fn keep(&mut self, instance: Instance) -> Result<(), AllocError>
+        ensures ok { OnOk result ((n p : ℕ) → CallTurns n p (keeping instance) self.old self.new [] []) }
+        ensures err { OnErr result ((n p : ℕ) → CallWants n p (keeping instance) self.old self.new [] []) }
+    {
+        match self {
+            Machine::Bare(_) => Ok(()),
+            Machine::Open { node, .. } => passed(node.keep(instance)),
         }
     }
 
@@ -284,6 +294,7 @@ impl Machine {
             Event::Widen { .. } => self.widen(sent),
             Event::Ask { .. } => self.ask(sent),
             Event::Tell { instance, .. } => self.tell(*instance, sent),
+            Event::Keep { instance, .. } => self.keep(*instance),
             Event::Deliver { index, .. } => self.deliver(*index, sent),
             Event::Arm { calls, .. } => {
                 self.arm(*calls);

@@ -192,11 +192,19 @@ impl Group {
         }
     }
 
+    fn keeping(&self, rt: &impl Abort, number: u8, at: u32) -> Event {
+        Event::Keep {
+            node: self.node(rt, number),
+            instance: Instance::new(at).expect(rt, "an instance"),
+        }
+    }
+
     /// The event of a step, if it is one.
     fn event(&self, rt: &impl Abort, step: Step) -> Option<Event> {
         match step {
             Step::Submit(number, ticket, text) => Some(self.submission(rt, number, ticket, text)),
             Step::Tell(number, first) => Some(self.telling(rt, number, first)),
+            Step::Keep(number, at) => Some(self.keeping(rt, number, at)),
             Step::Tick(number) => Some(Event::Tick {
                 node: self.node(rt, number),
             }),

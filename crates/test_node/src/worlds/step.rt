@@ -12,6 +12,8 @@ pub(crate) enum Step {
     Ask(u8),
     /// It tells all others, from an instance on.
     Tell(u8, u32),
+    /// It keeps what it knows at an instance.
+    Keep(u8, u32),
     Deliver(u8, usize),
     Arm(u8, u32),
     Crash(u8, u8),

@@ -52,7 +52,7 @@ loop-rest-preserved c =
           let t = c.loop-rest.invariant.taken before read in
           let one = taken.1 (before ++ t.0) t.1.kept in
           let more : AreRead c.args.cluster ((before ++ t.0) ++ entry ∷ []) new
-          = read_more c.args.cluster (before ++ t.0) entry c.loop-rest.recorded new t.1 found.0 one.0 (record { round = one.1.round; greatest = one.1.greatest; slots = one.1.slots }) (omega (arith, taken.0, found.1)) in (
+          = read_more c.args.cluster (before ++ t.0) entry c.loop-rest.recorded new t.1 found.0 one.0 (record { round = one.1.round; greatest = one.1.greatest; slots = one.1.slots; learned = one.1.learned }) (omega (arith, taken.0, found.1)) in (
             t.0 ++ entry ∷ [],
             subst (λ (l : List Entry). AreRead c.args.cluster l new) (append_assoc before t.0 (entry ∷ [])) more,
             split_more c.args.piece.now rest t.0 entry size t.2 found.3 ∙ ap (λ (l : List ℕ). blocks (t.0 ++ entry ∷ []) ++ l) (sym whole),

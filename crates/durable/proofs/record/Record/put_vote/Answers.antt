@@ -1,4 +1,4 @@
-use Rattle.std.proofs.Common.{◌≡◌, ◌+◌, ℕ, List, [], ◌∷◌, ◌++◌, length, ap, ◌∙◌, arith, length-append, subst}
+use Rattle.std.proofs.Common.{List, ◌∙◌, arith, subst}
 use Rattle.std.proofs.lemmas.Grind.{common_steps}
 use Rattle.site_ids.specs.declared.value.Vote.{Vote}
 use Rattle.durable.specs.Entries.{Entry, Voted}
@@ -6,12 +6,8 @@ use Rattle.durable.specs.Histories.{MayFollow}
 use Rattle.durable.specs.Puts.{IsFullFor, Remembers}
 use Rattle.durable.specs.Reading.{IsKept}
 use Rattle.durable.proofs.Advances.{vote_advances}
-use Rattle.durable.proofs.Endings.{written_put}
+use Rattle.durable.proofs.Endings.{measured, written_put}
 use Rattle.durable.proofs.record.Record.put_vote.Goals as goal
-
--- a vote's bytes, by the value that was measured
-measured : (value bytes : List ℕ) → bytes ≡ value → length (value ++ 0 ∷ []) ≡ length bytes + 1
-measured value bytes is = omega (arith, ap length is, length-append value (0 ∷ []))
 
 pub returns-in_err-write : goal.returns-in_err-write
 returns-in_err-write g c = grind (arith, common_steps, measured _ _ c.as_bytes.ensures)

@@ -9,7 +9,7 @@ use Rattle.node.proofs.node.Node.learn.Goals as goal
 pub returns-in-Some-clause-learned : goal.returns-in-Some-clause-learned
 returns-in-Some-clause-learned g c s parts =
     let v : Value = c.args.value.now in
-    let ok = rw (c.in_ok-value.ensures ∙ c.kept_by.ensures) at c.in_ok-ticket.ensures.ok in
+    let ok = rw c.in_ok-value.ensures at c.in_ok-ticket.ensures.ok in
     learned_parts c.args.self.now _ s c.args.instance v (record { me = refl; cluster = refl; releases = refl })
     (record {
       store = refl;
@@ -24,7 +24,7 @@ returns-in-Some-clause-learned g c s parts =
 pub returns-in_default-clause-learned : goal.returns-in_default-clause-learned
 returns-in_default-clause-learned g c s parts =
     let v : Value = c.args.value.now in
-    let ok = rw (c.in_ok-value.ensures ∙ c.kept_by.ensures) at c.in_ok-ticket.ensures.ok in
+    let ok = rw c.in_ok-value.ensures at c.in_ok-ticket.ensures.ok in
     learned_parts c.args.self.now _ s c.args.instance v (record { me = refl; cluster = refl; releases = refl })
     (record {
       store = refl;

@@ -1,5 +1,5 @@
 use Rattle.std.proofs.Common.{[], refl}
-use Rattle.world.proofs.Happening.{is_sent, submits, ticks, widens, asks, tells, delivers, arms, crashes, restarts, submit_wants, tick_wants, widen_wants, ask_wants, tell_wants, deliver_wants}
+use Rattle.world.proofs.Happening.{is_sent, submits, ticks, widens, asks, tells, keeps, delivers, arms, crashes, restarts, submit_wants, tick_wants, widen_wants, ask_wants, tell_wants, keep_wants, deliver_wants}
 use Rattle.world.proofs.machine.Machine.happen.Goals as goal
 
 pub returns-in-Submit-clause-ok : goal.returns-in-Submit-clause-ok
@@ -31,6 +31,12 @@ returns-in-Tell-clause-ok g = tells _ g.args.cluster _ _ _ _ _ _ _ g.in-Tell.is 
 
 pub returns-in-Tell-clause-err : goal.returns-in-Tell-clause-err
 returns-in-Tell-clause-err g = tell_wants _ g.args.cluster _ _ _ _ _ _ _ g.in-Tell.is g.tell.ensures.err
+
+pub returns-in-Keep-clause-ok : goal.returns-in-Keep-clause-ok
+returns-in-Keep-clause-ok g = keeps _ g.args.cluster _ _ _ _ [] _ _ g.in-Keep.is g.keep.ensures.ok
+
+pub returns-in-Keep-clause-err : goal.returns-in-Keep-clause-err
+returns-in-Keep-clause-err g = keep_wants _ g.args.cluster _ _ _ _ [] _ _ g.in-Keep.is g.keep.ensures.err
 
 pub deliver-requires : goal.deliver-requires
 deliver-requires g = is_sent _ _ _ _ g.in-Deliver.is g.requires.message
