@@ -10,8 +10,9 @@ ghost use Rattle.server.specs.Runs.{IsOpened, IsRun};
 ghost use Rattle.server.specs.Running.{EndsBefore, WorkEnds, RunEnds, HasServed};
 
 use crate::addresses::read_addresses;
-use crate::openings::{count_votes, open_node};
+use crate::openings::open_node;
 use crate::passes::take_passes;
+use crate::recorded::Recorded;
 use crate::saying::{say_done, say_ready};
 use crate::server::Server;
 use crate::shell::Shell;
@@ -22,7 +23,7 @@ use server_notes::Notes;
 use server_pace::Times;
 use site_disk::{Disk, FileDisk};
 use site_drive::Desk;
-use site_ids::{Cluster, NodeId};
+use site_ids::{Cluster, MAX_INSTANCE, NodeId};
 use std::alloc::Global;
 use std::fs::File;
 use std::io::Write;
@@ -45,7 +46,7 @@ fn boxed(alloc: Global, server: FileServer) -> Result<Box<FileServer>, ServerFau
     }
 }
 
-/// A server of the node over the record.
+/// A server of the node over the record, and at how many instances that has a vote.
 fn open_server<R: Files<File = File>>(
     rt: &R,
     alloc: Global,
@@ -53,9 +54,9 @@ fn open_server<R: Files<File = File>>(
     me: NodeId,
     options: &ServeOptions<'_>,
     cause: &mut Cause,
-) -> Result<Box<FileServer>, ServerFault>
+) -> Result<(Box<FileServer>, u32), ServerFault>
     requires { IsNode cluster me }
-    ensures opened { IfOk result (λ server. IsOpened ⟦<FileDisk as Disk>⟧.stands_for cluster me server.value.served.node) }
+    ensures opened { IfOk result (λ parts. IsOpened ⟦<FileDisk as Disk>⟧.stands_for cluster me parts.0.value.served.node) }
     ensures fault { IfErr result EndsOpening }
 {
     let desk = Desk::new(alloc)?;
@@ -69,7 +70,9 @@ fn open_server<R: Files<File = File>>(
         cause,
     )?;
     let times = Times::new(options.patience, options.serve_ms);
-    boxed(alloc, Server::new(alloc, me, served, desk, times))
+    let recorded = Recorded::of(&served.node, MAX_INSTANCE);
+    let server = Server::new(alloc, me, served, desk, times, recorded.last);
+    Ok((boxed(alloc, server)?, recorded.votes))
 }
 
 /// Opens the record and then the sockets.
@@ -85,8 +88,8 @@ fn open<R: Net<Listener = TcpListener, Stream = TcpStream> + Files<File = File> 
 {
     let addresses = read_addresses(alloc, options)?;
     let (cluster, me) = (addresses.cluster, addresses.me);
-    let server = open_server(rt, alloc, cluster, me, options, cause)?;
-    let notes = Notes::new(cluster, me, count_votes(&server.served.node));
+    let (server, votes) = open_server(rt, alloc, cluster, me, options, cause)?;
+    let notes = Notes::new(cluster, me, votes);
     let shell = open_sockets(rt, alloc, addresses, notes, cause)?;
     Ok((server, shell))
 }

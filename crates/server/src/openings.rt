@@ -1,6 +1,4 @@
 //! Opens a node over a record's file.
-//!
-//! Votes are counted once, at the start, over all instances, since a node that was away has gaps: some milliseconds.
 
 ghost use Rattle.std.specs.Prelude.{IfOk, IfErr};
 ghost use Rattle.site_ids.specs.Ids.{IsNode};
@@ -12,7 +10,7 @@ use node::Node;
 use server_clients::Served;
 use server_faults::{Cause, ServerFault};
 use site_disk::{Disk, FileDisk};
-use site_ids::{Cluster, Instance, MAX_INSTANCE, NodeId};
+use site_ids::{Cluster, NodeId};
 use std::alloc::Global;
 use std::fs::{File, OpenOptions, TryLockError};
 use std::io;
@@ -138,18 +136,4 @@ pub(crate) fn open_node<R: Files<File = File>>(
             Err(fault.into())
         }
     }
-}
-
-/// At how many instances a node's record has a vote.
-pub(crate) fn count_votes<D: Disk>(node: &Node<D>) -> u32 {
-    let mut votes: u32 = 0;
-    for number in 1..=MAX_INSTANCE {
-        let Some(instance) = Instance::new(number) else {
-            return votes;
-        };
-        if node.slot(instance).vote.is_some() {
-            votes = votes.saturating_add(1);
-        }
-    }
-    votes
 }

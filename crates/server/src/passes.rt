@@ -51,8 +51,10 @@ fn take_pass<D: Disk + Drop, C: Clock>(
     let heard = shell.take_in(&mut server.mail, &mut server.seats, now)?;
     let stepped = server.step(now)?;
     let told = shell.give_out(server.mail.letters(), &mut server.seats, now);
-    let known = server.served.node.known();
-    shell.watch.pass(now, known, stepped.malformed);
+    let node = &server.served.node;
+    shell
+        .watch
+        .pass(now, node.known(), node.reached(), stepped.malformed);
     rest_behind(clock, shell, server, stepped, heard || told);
     Ok(())
 }

@@ -48,18 +48,19 @@ pub struct Stepped {
 }
 
 impl<D: Disk + Drop, S: Drop> Server<D, S> {
-    /// This node serves nobody yet, and has heard nothing. The desk is an empty one.
+    /// This node serves nobody yet, and has heard nothing; the furthest vote on its record is at that instance, or 0. The desk is an empty one.
     pub fn new(
         alloc: Global,
         me: NodeId,
         served: Served<D>,
         desk: Desk,
         times: Times,
+        recorded: u32,
     ) -> Server<D, S>
         requires { me ≡ served.node.me }
         ensures { (result.served ≡ served) × (result.me ≡ me) }
     {
-        let pace = Pace::new(times, served.node.cluster(), me);
+        let pace = Pace::new(times, served.node.cluster(), me, recorded);
         Server {
             me,
             served,

@@ -49,9 +49,9 @@ impl Watch {
         self.full = true;
     }
 
-    /// The pass is over: so many values are known, and so many of its datagrams spelled no message.
-    pub(crate) fn pass(&mut self, now: u64, known: u32, malformed: u64) {
-        self.notes.hear(now, known, self.heard);
+    /// The pass is over: so many values are known, what was heard of reaches so far, and so many of its datagrams spelled no message.
+    pub(crate) fn pass(&mut self, now: u64, known: u32, reached: u32, malformed: u64) {
+        self.notes.hear(now, known, reached, self.heard);
         self.notes.count(malformed, self.displaced, self.full);
         self.now = now;
         self.known = known;

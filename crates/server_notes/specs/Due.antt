@@ -20,9 +20,9 @@ first_notes n me votes = record {
   said = replicate 9 None;
 }
 
--- where it stands once so many values are known, and a majority is heard or not
-abbrev pub following : Catching → Bool → ℕ → ℕ → Catching
-following c majority now known = learned_at (if majority then joined_at c now known else c) now known
+-- where it stands once so many values are known and what was heard of reaches so far, and a majority is heard or not
+abbrev pub following : Catching → Bool → ℕ → ℕ → ℕ → Catching
+following c majority now known reached = learned_at (if majority then joined_at c now known reached else c) now known reached
 
 abbrev pub due_if : Bool → Note → Option Note
 due_if is note = if is then Some note else None
@@ -49,7 +49,7 @@ abbrev pub due_notes : Notes → ℕ → ℕ → Option (ℕ × ℕ) → Option 
 due_notes n now known silent ended =
     let m = n.listening.majority in
     opened_of n.votes
-    ∷ due_if (has_settled n.catching now) (note.CaughtUp known)
+    ∷ due_if (has_settled n.catching now known) (note.CaughtUp known)
     ∷ due_if (is_long m now) (note.NoMajority (silence_of m now / 1000))
     ∷ counted m.ended (note.Majority (m.ended / 1000))
     ∷ silent_of silent

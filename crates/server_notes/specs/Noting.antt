@@ -1,9 +1,9 @@
 -- When a server says what. Moments are milliseconds since it began.
-use Rattle.std.specs.Prelude.{ℕ, ◌-◌, ◌/◌, Bool, false, ◌&&◌, nat_eq, nat_le, if◌then◌else◌}
+use Rattle.std.specs.Prelude.{ℕ, ◌-◌, ◌/◌, Bool, false, ◌&&◌, ◌||◌, nat_eq, nat_le, nat_lt, if◌then◌else◌}
 use Rattle.server_notes.specs.declared.catching.Catching.{Catching}
 use Rattle.server_notes.specs.declared.catching.Catching.TheVariants.{Alone, Since}
 use Rattle.server_notes.specs.declared.silence.Silence.{Silence}
-use Rattle.server_notes.specs.declared.catching.TheConstants.{SETTLING, MANY}
+use Rattle.server_notes.specs.declared.catching.TheConstants.{SETTLING, HEARING, MANY}
 use Rattle.server_notes.specs.declared.silence.TheConstants.{LONG}
 
 -- ---- how long somebody was not heard
@@ -30,16 +30,18 @@ ended_told s = record s { ended = 0 }
 
 -- ---- whether it has caught up
 
-abbrev pub joined_at : Catching → ℕ → ℕ → Catching
-joined_at Alone now known = Since now known
-joined_at c now known = c
+abbrev pub joined_at : Catching → ℕ → ℕ → ℕ → Catching
+joined_at Alone now known reached = Since now known reached
+joined_at c now known reached = c
 
--- the time begins anew with each 64 values that became known
-abbrev pub learned_at : Catching → ℕ → ℕ → Catching
-learned_at (Since at before) now known = if nat_le MANY (known - before) then Since now known else Since at before
-learned_at c now known = c
+-- The time begins anew with each 64 values that became known; and where it has passed, and what was heard of in its first part is not known
+abbrev pub learned_at : Catching → ℕ → ℕ → ℕ → Catching
+learned_at (Since at before reach) now known reached =
+    if nat_le MANY (known - before) || (nat_le SETTLING (now - at) && nat_lt known reach) then Since now known reached
+    else Since at before (if nat_lt (now - at) HEARING then reached else reach)
+learned_at c now known reached = c
 
--- for two seconds it hears a majority, and fewer than 64 values became known
-abbrev pub has_settled : Catching → ℕ → Bool
-has_settled (Since at known) now = nat_le SETTLING (now - at)
-has_settled c now = false
+-- for two seconds it hears a majority, and fewer than 64 values became known; and those up to the furthest that it heard of in their first part are
+abbrev pub has_settled : Catching → ℕ → ℕ → Bool
+has_settled (Since at before reach) now known = nat_le SETTLING (now - at) && nat_le reach known
+has_settled c now known = false

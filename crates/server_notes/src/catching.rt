@@ -6,6 +6,10 @@ ghost use Rattle.server_notes.specs.Noting.{joined_at, learned_at, has_settled};
 /// Milliseconds in which few values become known where a server has caught up.
 const SETTLING: u64 = 2000;
 
+/// What is heard of in so many of them, from the first on, is to be known by their end: enough for a question and its answer; what is heard of later may be
+/// tried just then.
+const HEARING: u64 = 1500;
+
 /// So many values in that time are not few: one whole telling of another node.
 const MANY: u32 = 64;
 
@@ -16,39 +20,63 @@ pub enum Catching {
     Done,
     /// It hears no majority.
     Alone,
-    /// It hears a majority, and few values became known since this moment, in milliseconds since it began, at which it knew so many.
-    Since { at: u64, known: u32 },
+    /// It hears a majority, and few values became known since this moment, in milliseconds since it began, at which it knew so many; and what it heard of
+    /// reached so far.
+    Since { at: u64, known: u32, reach: u32 },
 }
 
 impl Catching {
-    /// A majority is heard.
-    pub fn joined(self, now: u64, known: u32) -> Catching
-        ensures { result ≡ joined_at self now known }
+    /// A majority is heard, where so many values are known, and what was heard of reaches so far.
+    pub fn joined(self, now: u64, known: u32, reached: u32) -> Catching
+        ensures { result ≡ joined_at self now known reached }
     {
         match self {
-            Catching::Alone => Catching::Since { at: now, known },
+            Catching::Alone => Catching::Since {
+                at: now,
+                known,
+                reach: reached,
+            },
             _ => self,
         }
     }
 
-    /// So many values are known now.
-    pub fn learned(self, now: u64, known: u32) -> Catching
-        ensures { result ≡ learned_at self now known }
+    /// So many values are known now, and what was heard of reaches so far.
+    pub fn learned(self, now: u64, known: u32, reached: u32) -> Catching
+        ensures { result ≡ learned_at self now known reached }
     {
         match self {
-            Catching::Since { known: before, .. } if known.saturating_sub(before) >= MANY => {
-                Catching::Since { at: now, known }
+            Catching::Since {
+                at,
+                known: before,
+                reach,
+            } => {
+                let passed = now.saturating_sub(at);
+                let many = known.saturating_sub(before) >= MANY;
+                if many || (passed >= SETTLING && known < reach) {
+                    return Catching::Since {
+                        at: now,
+                        known,
+                        reach: reached,
+                    };
+                }
+                Catching::Since {
+                    at,
+                    known: before,
+                    reach: if passed < HEARING { reached } else { reach },
+                }
             }
             _ => self,
         }
     }
 
-    /// Whether it has caught up, which was not said yet.
-    pub fn has_settled(self, now: u64) -> bool
-        ensures { result ≡ has_settled self now }
+    /// Whether it has caught up, which was not said yet, where so many values are known.
+    pub fn has_settled(self, now: u64, known: u32) -> bool
+        ensures { result ≡ has_settled self now known }
     {
         match self {
-            Catching::Since { at, .. } => now.saturating_sub(at) >= SETTLING,
+            Catching::Since { at, reach, .. } => {
+                now.saturating_sub(at) >= SETTLING && known >= reach
+            }
             _ => false,
         }
     }

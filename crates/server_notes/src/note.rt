@@ -8,7 +8,7 @@ use std::fmt;
 pub enum Note {
     /// The server is ready, and its record has so many votes.
     Opened { votes: u32 },
-    /// Behind a start or an absence: it knows all values up to this instance, and little more comes.
+    /// After a start or an absence: it knows all values up to this instance and all that it heard of, but for the last moments; and little more comes.
     CaughtUp { instance: u32 },
     /// For so long no majority was heard, itself included.
     NoMajority { seconds: u64 },

@@ -44,14 +44,15 @@ impl Notes {
         }
     }
 
-    /// Something came of these nodes, the first of them at the place 0; and so many values are known.
-    pub fn hear(&mut self, now: u64, known: u32, heard: [bool; 9])
-        ensures { (majority : Bool) × Hears self.old.listening now heard majority self.new.listening × (self.new ≡ record self.old { listening = self.new.listening; catching = following self.old.catching majority now known }) }
+    /// Something came of these nodes, the first of them at the place 0; so many values are known, and what was heard of reaches so far.
+    pub fn hear(&mut self, now: u64, known: u32, reached: u32, heard: [bool; 9])
+        ensures { (majority : Bool) × Hears self.old.listening now heard majority self.new.listening
+            × (self.new ≡ record self.old { listening = self.new.listening; catching = following self.old.catching majority now known reached }) }
     {
         if self.listening.hear(now, heard) {
-            self.catching = self.catching.joined(now, known);
+            self.catching = self.catching.joined(now, known, reached);
         }
-        self.catching = self.catching.learned(now, known);
+        self.catching = self.catching.learned(now, known, reached);
     }
 
     /// So many datagrams spelled no message, so many connections were closed for further clients, and whether further clients found no place.
@@ -79,7 +80,7 @@ impl Notes {
         [
             opened(self.votes),
             due_if(
-                self.catching.has_settled(now),
+                self.catching.has_settled(now, known),
                 Note::CaughtUp { instance: known },
             ),
             due_if(majority.is_long(now), Note::NoMajority { seconds: alone }),

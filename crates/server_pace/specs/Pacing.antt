@@ -1,11 +1,13 @@
 -- When a server tries again, asks and tells, and how long it rests. Times are milliseconds since it began, rests microseconds.
-use Rattle.std.specs.Prelude.{◌≡◌, ◌≢◌, ◌⊎◌, ℕ, suc, ◌+◌, ◌-◌, ◌*◌, ◌/◌, ◌^◌, ◌<◌, ◌≤◌, min, max, List, length, replicate, get_or, set, Bool, true, false, not, ◌||◌, ◌&&◌, nat_eq, nat_lt, if◌then◌else◌, Option, Some, None, unwrap_or, IsSome, IsTrue, ◌↔◌}
+use Rattle.std.specs.Prelude.{◌≡◌, ◌≢◌, ◌⊎◌, ℕ, suc, ◌+◌, ◌-◌, ◌*◌, ◌/◌, ◌^◌, ◌<◌, ◌≤◌, min, max, List, length, replicate, get_or, set, Bool, true, false, not, ◌||◌, ◌&&◌, nat_eq, nat_lt, if◌then◌else◌, Option, Some, None, is_none, unwrap_or, IsSome, IsTrue, ◌↔◌}
 use Rattle.site_ids.specs.declared.TheConstants.{MAX_INSTANCE}
 use Rattle.site_ids.specs.Ids.{BallotOf, IsInstance}
 use Rattle.site_ids.specs.declared.value.Vote.{Vote}
 use Rattle.durable.specs.Entries.{last_vote, IsPromise}
 use Rattle.node.specs.Nodes.{Node, Value, IsKnownPrefix, WantsTick}
+use Rattle.node.specs.Tellings.{IsTellable}
 use Rattle.node.specs.declared.TheConstants.{MAX_TOLD}
+use Rattle.server_pace.specs.Keeping.{keeping_after, owed_at}
 use Rattle.server_pace.specs.declared.asking.Asking.{Asking}
 use Rattle.server_pace.specs.declared.asking.Telling.{Telling}
 use Rattle.server_pace.specs.declared.due.Due.{Due}
@@ -56,6 +58,10 @@ noted t now seen =
 -- the next tick is due at once and not a patience later
 abbrev pub GoesOn : Ticking → Type 0
 GoesOn t = (t.resumes ≡ true) × IsSome t.since
+
+-- it would go on, and heard of nothing further
+abbrev pub awaits : Ticking → Bool
+awaits t = t.resumes && is_none t.since
 
 -- it ticks
 abbrev pub begun : Ticking → Ticking
@@ -156,13 +162,13 @@ Asks a =
     ⊎ ((MAX_TOLD ≤ a.learned) × (a.quick ≡ true))
     ⊎ ((a.learned ≢ 0) × (a.drained ≡ true) × (a.calm ≡ true))
 
--- what stands since the last question
-abbrev pub asking_of : LastQuestion → Times → ℕ → Seen → ℕ → Asking
-asking_of last times now seen empty = record {
+-- what stands since the last question, where it is to hear of more of what is on its record, or not
+abbrev pub asking_of : LastQuestion → Times → ℕ → Seen → ℕ → Bool → Asking
+asking_of last times now seen empty more = record {
   learned = seen.known - last.known;
   quick = not (passed last.at now times.quick);
   drained = seen.drained;
-  calm = not last.tried;
+  calm = not last.tried || more;
   passed = passed last.at now (asks_after times empty);
 }
 
@@ -170,11 +176,9 @@ asking_of last times now seen empty = record {
 abbrev pub Tells : Telling → Type 0
 Tells t = (t.full ≡ true) ⊎ ((t.calm ≡ true) × (t.passed ≡ true))
 
--- a node that knows so many values without a gap knows the one of the last instance of a telling, or voted there
-abbrev pub IsFull : Node → ℕ → ℕ → Type 0
-IsFull s known first =
-    let final = first + (MAX_TOLD - 1) in
-    (final ≤ MAX_INSTANCE) × ((final ≤ known) ⊎ (last_vote final s.entries ≢ None))
+-- there is something to tell of the last instance of a telling
+abbrev pub IsFull : Node → ℕ → Type 0
+IsFull s first = let final = first + (MAX_TOLD - 1) in (final ≤ MAX_INSTANCE) × IsTellable s final
 
 -- node p is the first whose question waits, by their numbers, and it asked for instance i: from there on it
 -- is told
@@ -224,28 +228,28 @@ IsVotedBy s i p = (vote : Vote) × (last_vote i s.entries ≡ Some vote) × (vot
 abbrev pub IsIdle : Node → Type 0
 IsIdle s = (i : ℕ) → s.attempts i ≡ None
 
--- where so many values are known: it voted for the last of them at an own ballot, and at the next instance at
--- any; and it has no attempt open
-pub record Resumes (s : Node) (me known : ℕ) : Type 0 where
-  pub range : IsInstance known × IsInstance (suc known)
+-- where so many values are known: it voted for the last of them at an own ballot, its record had a vote further on as
+-- it began, and it has no attempt open
+pub record Resumes (s : Node) (me known recorded : ℕ) : Type 0 where
+  pub range : IsInstance known
   pub own : IsVotedBy s known me
-  pub next : last_vote (suc known) s.entries ≢ None
+  pub more : known < recorded
   pub idle : IsIdle s
 
 -- what node p shows: how many values it knows without a gap, whether it wants a tick, and whether it decides
 -- again what is on its record
-pub record IsSeen (s : Node) (p : ℕ) (drained : Bool) (seen : Seen) : Type 0 where
+pub record IsSeen (s : Node) (p recorded : ℕ) (drained : Bool) (seen : Seen) : Type 0 where
   pub known : (values : List Value) × IsKnownPrefix s values × (seen.known ≡ length values)
   pub wanted : IsTrue seen.wanted ↔ WantsTick s
   pub drained_is : seen.drained ≡ drained
-  pub resumes : IsTrue seen.resumes ↔ Resumes s p seen.known
+  pub resumes : IsTrue seen.resumes ↔ Resumes s p seen.known recorded
 
 abbrev pub no_questions : Questions
 no_questions = record { asked = replicate 9 None; told = replicate 9 None }
 
--- a server of n begins quiet; it never asked, and no tick is wanted
-abbrev pub first_pace : Times → ℕ → ℕ → Pace
-first_pace times n node = record {
+-- a server of n begins quiet, over a record whose furthest vote is there; it never asked, and no tick is wanted
+abbrev pub first_pace : Times → ℕ → ℕ → ℕ → Pace
+first_pace times n node recorded = record {
   times = times;
   cluster = n;
   patience = patience_of times node;
@@ -253,9 +257,11 @@ first_pace times n node = record {
   answered = replicate 9 false;
   last = record { at = None; known = 0; tried = false };
   questions = no_questions;
+  keeping = record { kept = 0; since = None };
   stirred = false;
   empty = times.quiet;
   me = node;
+  recorded = recorded;
   yielding = first_yielding;
 }
 
@@ -290,17 +296,19 @@ pace_after p now seen tries due last = record p {
   ticking = ticking_after p.times (noted p.ticking now seen) now due last;
   answered = answers_after p.answered last;
   last = question_after p.last now seen.known last;
+  keeping = keeping_after (owed_at p.keeping now seen.known) last;
   stirred = false;
   yielding = yielding_after (noted_tries p.yielding now tries) now due.waits due.yields;
 }
 
 -- as a batch begins
-pub record IsDue (p : Pace) (now : ℕ) (seen : Seen) (tries : Option ℕ) (telling : Option (ℕ × ℕ)) (due : Due) : Type 0 where
+pub record IsDue (p : Pace) (now : ℕ) (seen : Seen) (tries : Option ℕ) (block telling : Option (ℕ × ℕ)) (due : Due) : Type 0 where
   pub fresh : IsTrue due.fresh ↔ (IsFresh p.ticking seen.wanted p.stirred × (due.yields ≡ false))
+  pub kept : due.block ≡ block
   pub told : due.telling ≡ telling
-  pub question : IsTrue due.question ↔ Asks (asking_of p.last p.times now seen p.empty)
+  pub question : IsTrue due.question ↔ Asks (asking_of p.last p.times now seen p.empty (awaits (noted p.ticking now seen)))
   pub tick : IsTrue due.tick ↔ Ticks (noted p.ticking now seen) now p.patience p.times.growth
   pub answered : IsTrue due.answered ↔ IsAnswered p
-  pub goes_on : IsTrue due.goes_on ↔ (GoesOn (noted p.ticking now seen) × (due.yields ≡ false))
+  pub goes_on : IsTrue due.goes_on ↔ GoesOn (noted p.ticking now seen)
   pub waits : IsTrue due.waits ↔ Waits (noted_tries p.yielding now tries) p.me
   pub yields : IsTrue due.yields ↔ IsYielding p now tries

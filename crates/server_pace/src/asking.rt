@@ -14,7 +14,7 @@ pub struct Asking {
     pub quick: bool,
     /// Nothing waits to be received.
     pub drained: bool,
-    /// Nobody was seen to try a value since it asked last.
+    /// Nobody was seen to try a value since it asked last, or what it tried itself is known, and more is on its record.
     pub calm: bool,
     /// Its time has passed since it asked last.
     pub passed: bool,

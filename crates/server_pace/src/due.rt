@@ -11,6 +11,8 @@ use site_ids::{Instance, NodeId};
 pub struct Due {
     /// A value was just submitted, and it does not yield.
     pub fresh: bool,
+    /// From which instance on, and how many, are put on record, where that is due.
+    pub block: Option<(Instance, u32)>,
     /// Whom to tell, and from which instance on, where a telling is due.
     pub telling: Option<(NodeId, Instance)>,
     /// A question is due.
@@ -19,7 +21,7 @@ pub struct Due {
     pub tick: bool,
     /// A majority answered since the last one.
     pub answered: bool,
-    /// One is due at once, for the next of those instances that are on its record, and it does not yield.
+    /// One is due at once, for the next of those instances that are on its record.
     pub goes_on: bool,
     /// Another one's attempt stands at the first unknown instance, or it is another one's turn.
     pub waits: bool,
@@ -28,13 +30,16 @@ pub struct Due {
 }
 
 impl Due {
-    /// A tick at once for a value that is fresh; else a telling, a question or a tick that is due; else nothing where it yields, and
+    /// A tick at once for a value that is fresh; else what is known is put on record, or a telling, a question or a tick that is due; else nothing where it yields, and
     /// else widenings, so that the values that came since the last batch share a prepare.
     pub fn last_call(self) -> LastCall
         ensures { result ≡ call_behind self }
     {
         if self.fresh {
             return LastCall::TickOrAsk;
+        }
+        if let Some((first, count)) = self.block {
+            return LastCall::Keep { first, count };
         }
         if let Some((to, first)) = self.telling {
             return LastCall::Tell { to, first };

@@ -30,15 +30,16 @@ impl LastQuestion {
         }
     }
 
-    /// What stands where it may ask again, after so many steps in which nothing came.
-    pub fn asking(self, times: Times, now: u64, seen: Seen, empty: u32) -> Asking
-        ensures { result ≡ asking_of self times now seen empty }
+    /// What stands where it may ask again, after so many steps in which nothing came; and where it is to hear of more of
+    /// what is on its record, or not.
+    pub fn asking(self, times: Times, now: u64, seen: Seen, empty: u32, more: bool) -> Asking
+        ensures { result ≡ asking_of self times now seen empty more }
     {
         Asking {
             learned: seen.known.saturating_sub(self.known),
             quick: !has_passed(self.at, now, times.quick),
             drained: seen.drained,
-            calm: !self.tried,
+            calm: !self.tried || more,
             passed: has_passed(self.at, now, times.asks_after(empty)),
         }
     }

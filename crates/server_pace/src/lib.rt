@@ -3,6 +3,7 @@
 
 mod asking;
 mod due;
+mod keeping;
 mod last_question;
 mod pace;
 mod questions;
@@ -13,6 +14,7 @@ mod yielding;
 
 pub use asking::{Asking, Telling};
 pub use due::Due;
+pub use keeping::Keeping;
 pub use last_question::LastQuestion;
 pub use pace::Pace;
 pub use resting::Resting;

@@ -7,11 +7,13 @@ ghost use Rattle.server_pace.specs.declared.due.Due.{Due};
 ghost use Rattle.server_pace.specs.declared.seen.Seen.{Seen};
 ghost use Rattle.site_drive.specs.declared.last_call.LastCall.TheVariants.{Ask, TickOrAsk};
 ghost use Rattle.server_notes.specs.Listening.{AreGathered};
-ghost use Rattle.server_pace.specs.Pacing.{answers_after, empty_after, first_pace, heard, pace_after, question_after, resting_of, ticking_after, GoesOn, IsAnswered, IsDue, IsFirstAsked, IsFresh, IsSeen, IsTriedBy, IsUntried, IsYielding};
+ghost use Rattle.server_pace.specs.Keeping.{keeping_after, owed_at, IsNextBlock};
+ghost use Rattle.server_pace.specs.Pacing.{answers_after, empty_after, first_pace, heard, pace_after, question_after, resting_of, ticking_after, IsAnswered, IsDue, IsFirstAsked, IsFresh, IsSeen, IsTriedBy, IsUntried, IsYielding};
 ghost use Rattle.server_times.specs.Timing.{rest_after};
 ghost use Rattle.server_pace.specs.Turns.{call_behind};
 
 use crate::due::Due;
+use crate::keeping::Keeping;
 use crate::last_question::LastQuestion;
 use crate::questions::Questions;
 use crate::resting::Resting;
@@ -40,18 +42,22 @@ pub struct Pace {
     last: LastQuestion,
     // those of other nodes
     questions: Questions,
+    // what was put on record of what is known
+    keeping: Keeping,
     // whether messages that are no questions came since what is due was asked for
     stirred: bool,
     // how many steps went by in which nothing came, questions aside
     empty: u32,
     me: NodeId,
+    // the furthest instance at which its record had a vote as it began
+    recorded: u32,
     yielding: Yielding,
 }
 
 impl Pace {
-    /// That of a server which begins: it is quiet.
-    pub fn new(times: Times, cluster: Cluster, me: NodeId) -> Pace
-        ensures { result ≡ first_pace times cluster me }
+    /// That of a server which begins, over a record whose furthest vote is at that instance, or 0: it is quiet.
+    pub fn new(times: Times, cluster: Cluster, me: NodeId, recorded: u32) -> Pace
+        ensures { result ≡ first_pace times cluster me recorded }
     {
         Pace {
             times,
@@ -61,9 +67,11 @@ impl Pace {
             answered: [false; 9],
             last: LastQuestion::never(),
             questions: Questions::new(),
+            keeping: Keeping::new(),
             stirred: false,
             empty: times.quiet,
             me,
+            recorded,
             yielding: Yielding::new(),
         }
     }
@@ -71,7 +79,9 @@ impl Pace {
     /// Behind a batch: what it delivered.
     pub fn hear(&mut self, delivered: &Delivered)
         ensures is { self.new ≡ record (heard self.old delivered.now.attempts delivered.now.stirs) {
-            questions = self.new.questions; answered = self.new.answered } }
+          questions = self.new.questions;
+          answered = self.new.answered;
+        } }
         ensures answered { AreGathered self.old.answered delivered.now.answered self.new.answered }
     {
         self.questions.hear(self.cluster, delivered);
@@ -92,34 +102,44 @@ impl Pace {
     pub fn due<D: Disk>(&mut self, now: u64, node: &Node<D>, drained: bool) -> LastCall
         ensures fresh { (s : AbstractNode) → IsNodeOf node.now s → WantsTick s → IsUntried s → ¬ IsYielding self.old now None → self.old.ticking.since ≡ None → self.old.stirred ≡ false → result ≡ TickOrAsk }
         ensures due { (s : AbstractNode) → IsNodeOf node.now s →
-            (seen : Seen) × (tries : Option ℕ) × (telling : Option (ℕ × ℕ)) × (due : Due)
-            × IsSeen s self.old.me drained seen × IsTriedBy s (suc seen.known) tries
+            (seen : Seen) × (tries : Option ℕ) × (block : Option (ℕ × ℕ)) × (telling : Option (ℕ × ℕ)) × (due : Due)
+            × IsSeen s self.old.me self.old.recorded drained seen × IsTriedBy s (suc seen.known) tries
+            × IsNextBlock (owed_at self.old.keeping now seen.known) self.old.times now seen.known block
             × IfSome telling (λ x. IsFirstAsked self.old.questions.asked x.0 x.1)
-            × IsDue self.old now seen tries telling due × (result ≡ call_behind due)
+            × IsDue self.old now seen tries block telling due × (result ≡ call_behind due)
             × (self.new ≡ record (pace_after self.old now seen tries due result) { questions = self.new.questions }) }
     {
-        let seen = Seen::of(node, self.me, drained);
-        let telling = self.next_telling(now, node, seen);
+        let seen = Seen::of(node, self.me, self.recorded, drained);
+        let block = self.next_block(now, seen.known);
+        let telling = self.next_telling(now, node, seen, block.is_some());
         let tries = first_tried_by(node, seen.known);
-        self.call(now, seen, tries, telling)
+        self.call(now, seen, tries, block, telling)
     }
 
-    /// The next telling, unless a value is fresh: then it waits.
+    /// From which instance on, and how many, are put on record next, if any.
+    fn next_block(&self, now: u64, known: u32) -> Option<(Instance, u32)>
+        ensures { IsNextBlock (owed_at self.now.keeping now known) self.now.times now known result }
+    {
+        self.keeping.noted(now, known).next(self.times, now, known)
+    }
+
+    /// The next telling, unless a value is fresh, or what is known is put on record: then it waits.
     fn next_telling<D: Disk>(
         &mut self,
         now: u64,
         node: &Node<D>,
         seen: Seen,
+        keeps: bool,
     ) -> Option<(NodeId, Instance)>
         ensures told { IfSome result (λ x. IsFirstAsked self.old.questions.asked x.0 x.1) }
         ensures same { self.new ≡ record self.old { questions = self.new.questions } }
         ensures waits { IsFresh self.old.ticking seen.wanted self.old.stirred → (result ≡ None) × (self.new ≡ self.old) }
     {
-        if self.ticking.is_fresh(seen.wanted, self.stirred) {
+        if keeps || self.ticking.is_fresh(seen.wanted, self.stirred) {
             return None;
         }
         let calm = !self.last.tried;
-        self.questions.next(self.times, now, node, seen.known, calm)
+        self.questions.next(self.times, now, node, calm)
     }
 
     /// Whether a value was just submitted that is tried at once: it does not yield to another server.
@@ -127,13 +147,6 @@ impl Pace {
         ensures { IsTrue result ↔ (IsFresh self.now.ticking wanted self.now.stirred × (yields ≡ false)) }
     {
         !yields && self.ticking.is_fresh(wanted, self.stirred)
-    }
-
-    /// Whether the next tick is due at once, and it does not yield.
-    fn goes_on(&self, yields: bool) -> bool
-        ensures { IsTrue result ↔ (GoesOn self.now.ticking × (yields ≡ false)) }
-    {
-        !yields && self.ticking.goes_on()
     }
 
     /// Whether a majority answered since the last tick.
@@ -149,11 +162,12 @@ impl Pace {
         now: u64,
         seen: Seen,
         tries: Option<NodeId>,
+        block: Option<(Instance, u32)>,
         telling: Option<(NodeId, Instance)>,
     ) -> LastCall
-        ensures due { (due : Due) × IsDue self.old now seen tries telling due × (result ≡ call_behind due) × (self.new ≡ pace_after self.old now seen tries due result) }
+        ensures due { (due : Due) × IsDue self.old now seen tries block telling due × (result ≡ call_behind due) × (self.new ≡ pace_after self.old now seen tries due result) }
         ensures fresh { IsFresh self.old.ticking seen.wanted self.old.stirred → ¬ IsYielding self.old now tries → result ≡ TickOrAsk }
-        ensures news { ¬ IsFresh self.old.ticking seen.wanted self.old.stirred → telling ≡ None → self.old.last.known < seen.known → seen.drained ≡ true → self.old.last.tried ≡ false → result ≡ Ask }
+        ensures news { ¬ IsFresh self.old.ticking seen.wanted self.old.stirred → block ≡ None → telling ≡ None → self.old.last.known < seen.known → seen.drained ≡ true → self.old.last.tried ≡ false → result ≡ Ask }
     {
         let (me, times) = (self.me, self.times);
         self.yielding.note(now, tries);
@@ -161,15 +175,18 @@ impl Pace {
         let yields = self.yielding.is_due(times, now, me);
         let fresh = self.is_fresh(seen.wanted, yields);
         self.yielding.pass(now, waits, yields);
-        let asking = self.last.asking(self.times, now, seen, self.empty);
         self.ticking = self.ticking.noted(now, seen);
+        let more = self.ticking.awaits();
+        let asking = self.last.asking(self.times, now, seen, self.empty, more);
+        self.keeping = self.keeping.noted(now, seen.known);
         let due = Due {
             fresh,
+            block,
             telling,
             question: asking.is_due(),
             tick: self.ticking.is_due(now, self.patience, self.times.growth),
             answered: self.is_answered(),
-            goes_on: self.goes_on(yields),
+            goes_on: self.ticking.goes_on(),
             waits,
             yields,
         };
@@ -189,12 +206,14 @@ impl Pace {
         self.ticking.ticked(self.times, now, due.answered)
     }
 
-    /// A question, or a tick, counts from now on.
+    /// A question, a tick, or what is put on record counts from now on.
     fn begin(&mut self, now: u64, known: u32, due: &Due, last: &LastCall)
         ensures { self.new ≡ record self.old {
-            ticking = ticking_after self.old.times self.old.ticking now due.now last.now;
-            answered = answers_after self.old.answered last.now;
-            last = question_after self.old.last now known last.now } }
+          ticking = ticking_after self.old.times self.old.ticking now due.now last.now;
+          answered = answers_after self.old.answered last.now;
+          last = question_after self.old.last now known last.now;
+          keeping = keeping_after self.old.keeping last.now;
+        } }
     {
         match last {
             LastCall::Ask => {
@@ -208,6 +227,7 @@ impl Pace {
                 self.answered = [false; 9];
                 self.ticking = self.ticked(now, due);
             }
+            LastCall::Keep { count, .. } => self.keeping = self.keeping.passed(*count),
             _ => {}
         }
     }

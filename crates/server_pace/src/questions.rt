@@ -21,12 +21,12 @@ pub struct Questions {
     told: [Option<u64>; 9],
 }
 
-/// Whether there is something to tell of the last instance of a telling, by a node that knows so many values.
-fn is_full<D: Disk>(node: &Node<D>, known: u32, first: Instance) -> bool
-    ensures { (s : AbstractNode) → IsNodeOf node.now s → IsTrue result ↔ IsFull s known first }
+/// Whether there is something to tell of the last instance of a telling.
+fn is_full<D: Disk>(node: &Node<D>, first: Instance) -> bool
+    ensures { (s : AbstractNode) → IsNodeOf node.now s → IsTrue result ↔ IsFull s first }
 {
     match Instance::new(first.number() + (MAX_TOLD - 1)) {
-        Some(last) => last.number() <= known || node.slot(last).vote.is_some(),
+        Some(last) => node.is_tellable(last),
         None => false,
     }
 }
@@ -73,26 +73,25 @@ impl Questions {
         None
     }
 
-    /// Whom a node that knows so many values tells, and from which instance on: the first one whose question
-    /// waits, from what it asked for on. That may have become known behind the question, and then no answer
+    /// Whom a node tells, and from which instance on: the first one whose question waits, from what it asked
+    /// for on. That may have become known behind the question, and then no answer
     /// told it. By that the question is forgotten, whether its telling is due or not.
     pub(crate) fn next<D: Disk>(
         &mut self,
         times: Times,
         now: u64,
         node: &Node<D>,
-        known: u32,
         calm: bool,
     ) -> Option<(NodeId, Instance)>
         ensures forgets { (p i : ℕ) → IsNode node.now.cluster p → IsFirstAsked self.old.asked p i → self.new.asked ≡ set self.old.asked (p - 1) None }
         ensures told { IfSome result (λ x. IsFirstAsked self.old.asked x.0 x.1) }
         ensures due { (p i : ℕ) → IsNode node.now.cluster p → IsFirstAsked self.old.asked p i →
             (s : AbstractNode) → IsNodeOf node.now s →
-            IsSome result ↔ (IsFull s known i
-                ⊎ ((calm ≡ true) × (passed (get_or self.old.told (p - 1) None) now times.telling ≡ true))) }
+            IsSome result ↔ (IsFull s i
+            ⊎ ((calm ≡ true) × (passed (get_or self.old.told (p - 1) None) now times.telling ≡ true))) }
     {
         let (to, first) = self.take_first(node.cluster())?;
-        let full = is_full(node, known, first);
+        let full = is_full(node, first);
         self.tells(times, now, to, full, calm)
             .then_some((to, first))
     }

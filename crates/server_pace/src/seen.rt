@@ -18,8 +18,8 @@ pub struct Seen {
     pub wanted: bool,
     /// All that had come was taken in.
     pub drained: bool,
-    /// It voted for the last of them at an own ballot, and at the next instance at any; and it has no attempt
-    /// open.
+    /// It voted for the last of them at an own ballot, its record had a vote further on as it began, and it has no
+    /// attempt open.
     pub resumes: bool,
 }
 
@@ -49,30 +49,28 @@ fn is_idle<D: Disk>(node: &Node<D>) -> bool
     node.attempts() == 0
 }
 
-/// Whether it decides again what is on its record, where so many values are known.
-fn resumes<D: Disk>(node: &Node<D>, me: NodeId, known: u32) -> bool
-    ensures { (s : AbstractNode) → IsNodeOf node.now s → IsTrue result ↔ Resumes s me known }
+/// Whether it decides again what is on its record, where so many values are known, and the furthest vote of the record as
+/// it began is there.
+fn resumes<D: Disk>(node: &Node<D>, me: NodeId, known: u32, recorded: u32) -> bool
+    ensures { (s : AbstractNode) → IsNodeOf node.now s → IsTrue result ↔ Resumes s me known recorded }
 {
     let Some(last) = Instance::new(known) else {
         return false;
     };
-    let Some(next) = Instance::new(known.saturating_add(1)) else {
-        return false;
-    };
-    is_voted_by(node, last, me) && node.slot(next).vote.is_some() && is_idle(node)
+    known < recorded && is_voted_by(node, last, me) && is_idle(node)
 }
 
 impl Seen {
     /// What is seen of this node, behind a batch that took in all that had come, or not.
-    pub(crate) fn of<D: Disk>(node: &Node<D>, me: NodeId, drained: bool) -> Seen
-        ensures { (s : AbstractNode) → IsNodeOf node.now s → IsSeen s me drained result }
+    pub(crate) fn of<D: Disk>(node: &Node<D>, me: NodeId, recorded: u32, drained: bool) -> Seen
+        ensures { (s : AbstractNode) → IsNodeOf node.now s → IsSeen s me recorded drained result }
     {
         let known = node.known();
         Seen {
             known,
             wanted: node.wants_tick(),
             drained,
-            resumes: resumes(node, me, known),
+            resumes: resumes(node, me, known, recorded),
         }
     }
 }

@@ -1,7 +1,7 @@
 //! When a server ticks.
 
-ghost use Rattle.std.specs.Prelude.{◌≡◌, ◌↔◌, IsTrue};
-ghost use Rattle.server_pace.specs.Pacing.{begun, first_ticking, is_one_more, longer_after, noted, ticked, waited, GoesOn, Ticks};
+ghost use Rattle.std.specs.Prelude.{◌≡◌, ◌↔◌, IsTrue, None, true, false};
+ghost use Rattle.server_pace.specs.Pacing.{awaits, begun, first_ticking, is_one_more, longer_after, noted, ticked, waited, GoesOn, Ticks};
 
 use crate::seen::Seen;
 use server_times::Times;
@@ -21,7 +21,7 @@ pub struct Ticking {
     /// So many values were known as it ticked last, if it did: as that was due, for a value that was fresh,
     /// or at once.
     pub at: Option<u32>,
-    /// One instance became known behind its last tick, by its own ballot, and it voted at the next one.
+    /// One instance became known behind its last tick, by its own ballot, and its record had a vote further on.
     pub resumes: bool,
 }
 
@@ -102,6 +102,13 @@ impl Ticking {
         ensures { IsTrue result ↔ GoesOn self }
     {
         self.resumes && self.since.is_some()
+    }
+
+    /// Whether it would go on, and heard of nothing further: the next of what is on its record has to be told first.
+    pub fn awaits(self) -> bool
+        ensures { result ≡ awaits self }
+    {
+        self.resumes && self.since.is_none()
     }
 
     /// It ticks, be it due or not.

@@ -23,6 +23,10 @@ pub struct Times {
     pub quick: u64,
     /// Milliseconds between two tellings to one server of less than 64 instances (`Questions`).
     pub telling: u64,
+    /// Milliseconds that a value which became known waits to be put on record, at most: others that become known meanwhile share its seal (`Keeping`).
+    pub keeping: u64,
+    /// So many values do not wait for others (`Keeping`).
+    pub block: u32,
     /// Milliseconds in a stretch for which it yields to others that try, at most (`Yielding`).
     pub yielding: u64,
     /// Behind so many steps in which nothing came it is idle: more than a client takes to come again (`Pace::rest`).
@@ -56,6 +60,8 @@ const STANDARD: Times = Times {
     quiet_asking: 800,
     quick: 20,
     telling: 400,
+    keeping: 100,
+    block: 1024,
     yielding: 50,
     idle: 200,
     quiet: 2000,

@@ -1,5 +1,6 @@
 -- Calls of a node, one after another.
-use Rattle.std.proofs.Common.{◌≡◌, ◌≢◌, inl, inr, ⊎_elim, ℕ, suc, List, [], ◌++◌, append-nil, append_assoc, refl, sym, ap, subst, ◌∙◌}
+use Rattle.std.proofs.Common.{◌≡◌, ◌≢◌, ◌⊎◌, inl, inr, ⊎_elim, ℕ, suc, ◌+◌, ◌<◌, ◌≤◌, List, [], ◌++◌, append-nil, append_assoc, refl, sym, ap, subst, ◌∙◌, arith}
+use Rattle.site_ids.specs.Ids.{IsInstance}
 use Rattle.site_ids.proofs.MemberLemmas.{in_split}
 use Rattle.site_disk.specs.Model.{DiskState}
 use Rattle.wire.specs.declared.message.Message.{Message}
@@ -10,13 +11,13 @@ use Rattle.node.specs.declared.to.To.TheVariants.{One}
 use Rattle.node.specs.declared.node.Node.{Node as Running}
 use Rattle.node.proofs.Windows.{begins_may}
 use Rattle.node.specs.Nodes.{Node, WantsTick}
-use Rattle.node.specs.Calls.{Call, tick, widen, ask, tell, Begins, MayWiden}
+use Rattle.node.specs.Calls.{Call, tick, widen, ask, tell, keep, Begins, MayWiden}
 use Rattle.node.specs.Effects.{Effect, quiet}
 use Rattle.node.specs.Endings.{Ending, Whole, Ends}
 use Rattle.node.specs.Standing.{IsNodeOf, IsEvent, KeepsOthers, ending_by}
-use Rattle.site_drive.specs.Drives.{Begin}
+use Rattle.site_drive.specs.Drives.{Begin, KeepAll, KeepsEach}
 use Rattle.site_drive.specs.Leading.{AllFit, NodeLeads, Called}
-use Rattle.site_drive.specs.declared.last_call.LastCall.TheVariants.{TickOrAsk, Widen, Ask, Tell, Nothing}
+use Rattle.site_drive.specs.declared.last_call.LastCall.TheVariants.{TickOrAsk, Widen, Ask, Tell, Keep, Nothing}
 
 pub all_fit : (xs ys : List (To × Message)) → AllFit xs → AllFit ys → AllFit (xs ++ ys)
 all_fit xs ys left right x k = ⊎_elim (λ a. left x a) (λ b. right x b) (in_split xs ys x k)
@@ -71,6 +72,23 @@ module _ {D : Type 0} (stands_for : D → DiskState → Type 0) where
 
   pub none_begun : (old : Running D) (n p : ℕ) (before : List (To × Message)) → NodeLeads stands_for old old (Widening n p before before)
   none_begun old n p before = record { leads = λ s stands. (s, (0, [], sym (append-nil before), (refl, refl), λ x k. absurd k), stands, (λ d on. (d, on)), λ b d of. of) }
+
+  pub none_kept : (old : Running D) (n p i : ℕ) → NodeLeads stands_for old old (KeepAll n p i 0)
+  none_kept old n p i = record { leads = λ s stands. (s, refl, stands, (λ d on. (d, on)), λ b d of. of) }
+
+  -- all of them are kept, or as far as there are instances
+  pub all_kept : (old new : Running D) (n p i count past : ℕ) → past ≤ count → (past ≡ count) ⊎ ¬ IsInstance (i + past) → NodeLeads stands_for old new (KeepAll n p i past)
+      → NodeLeads stands_for old new (λ s next. KeepsEach n p i count s Whole next)
+  all_kept old new n p i count past few ends h =
+      eased old new (KeepAll n p i past) (λ s next. KeepsEach n p i count s Whole next)
+      (λ s t kept. record { whole = past; mid = t; few = few; kept = kept; then = inl (refl, refl, ends) }) h
+
+  -- keeping is what is called, and hands out nothing
+  pub kept_called : (old new : Running D) (n p i count : ℕ) (ending : Ending) (before : List (To × Message)) → NodeLeads stands_for old new (λ s next. KeepsEach n p i count s ending next)
+      → NodeLeads stands_for old new (Called (Keep i count) n p ending before before)
+  kept_called old new n p i count ending before h =
+      eased old new (λ s next. KeepsEach n p i count s ending next) (Called (Keep i count) n p ending before before)
+      (λ s t keeps. ([], sym (append-nil before), (keeps, refl), λ x k. absurd k)) h
 
   -- behind turns that nothing is called behind
   pub none_called : (old : Running D) (n p : ℕ) (before : List (To × Message)) → NodeLeads stands_for old old (Called Nothing n p Whole before before)
@@ -134,6 +152,30 @@ module _ {D : Type 0} (stands_for : D → DiskState → Type 0) where
             inl (wants s first.0, inr (record { mid = t; ticked = r.0; widened = then.0; ticks = r.2; widens = then.2; out_is = refl })),
             all_fit r.0 then.0 r.3 then.3,
           ))
+
+    -- ---- values that are kept
+
+    module _ (i past : ℕ) (so_far : NodeLeads stands_for old mid (KeepAll old.cluster old.me i past)) where
+      -- one more
+      pub kept_more : IsEvent stands_for mid new (keep (i + past)) Whole [] [] → NodeLeads stands_for old new (KeepAll old.cluster old.me i (suc past))
+      kept_more event =
+          both (KeepAll old.cluster old.me i past) (λ n p. Calls mid n p (keep (i + past)) Whole [] []) (KeepAll old.cluster old.me i (suc past))
+          so_far (one_call mid new (keep (i + past)) Whole [] [] event)
+          (λ s t u first then. (t, first, subst (λ out. Ends old.cluster old.me t (keep (i + past)) Whole out u) (sym then.1.1) then.1.2))
+
+      -- the next one ends so
+      pub kept_short : (count : ℕ) (ending : Ending) → past < count → ending ≢ Whole → IsEvent stands_for mid new (keep (i + past)) ending [] []
+          → NodeLeads stands_for old new (λ s next. KeepsEach old.cluster old.me i count s ending next)
+      kept_short count ending within short event =
+          both (KeepAll old.cluster old.me i past) (λ n p. Calls mid n p (keep (i + past)) ending [] []) (λ s next. KeepsEach old.cluster old.me i count s ending next)
+          so_far (one_call mid new (keep (i + past)) ending [] [] event)
+          (λ s t u first then. record {
+            whole = past;
+            mid = t;
+            few = omega (arith, within);
+            kept = first;
+            then = inr (short, within, subst (λ out. Ends old.cluster old.me t (keep (i + past)) ending out u) (sym then.1.1) then.1.2);
+          })
 
   -- ---- one call alone
 

@@ -1,5 +1,6 @@
 -- What is behind the last turn, and turns with it.
-use Rattle.std.proofs.Common.{◌≡◌, ◌≢◌, inl, inr, ⊎_elim, ℕ, zero, suc, List, [], ◌++◌, length, take, append-nil, refl, sym, ap, subst, ◌∙◌}
+use Rattle.std.proofs.Common.{◌≡◌, ◌≢◌, ◌⊎◌, inl, inr, ⊎_elim, ℕ, zero, suc, ◌+◌, ◌<◌, List, [], ◌++◌, length, take, append-nil, refl, sym, ap, subst, ◌∙◌}
+use Rattle.site_ids.specs.Ids.{IsInstance}
 use Rattle.site_disk.specs.Model.{DiskState}
 use Rattle.wire.specs.declared.message.Message.{Message}
 use Rattle.node.specs.declared.fault.NodeFault.{NodeFault}
@@ -8,14 +9,14 @@ use Rattle.node.specs.declared.to.To.{To}
 use Rattle.node.specs.declared.to.To.TheVariants.{One}
 use Rattle.node.specs.declared.node.Node.{Node as Running}
 use Rattle.node.specs.Nodes.{Node, IsKnownPrefix}
-use Rattle.node.specs.Calls.{Call, tick, widen, ask, tell, Begins, MayWiden, Does}
+use Rattle.node.specs.Calls.{Call, tick, widen, ask, tell, keep, Begins, MayWiden, MayKeep, KeepsOne, Does}
 use Rattle.node.specs.Effects.{Effect, quiet}
 use Rattle.node.specs.Endings.{Ending, Whole, Refused, Failed, Ends}
 use Rattle.node.specs.Standing.{ending_by}
-use Rattle.site_drive.specs.Drives.{Begin, Widens, EndsLast, EndsTurns, sent_of, Scene, Exchanges, GivesUp, Closes, GivesUpLast, DrivesWith, GivesUpDrivingWith}
+use Rattle.site_drive.specs.Drives.{Begin, Widens, KeepAll, KeepsEach, EndsLast, EndsTurns, sent_of, Scene, Exchanges, GivesUp, Closes, GivesUpLast, DrivesWith, GivesUpDrivingWith}
 use Rattle.site_drive.specs.Leading.{AllFit, NodeLeads, Called, LeadsTo, StaysWhose}
 use Rattle.site_drive.specs.declared.last_call.LastCall.{LastCall}
-use Rattle.site_drive.specs.declared.last_call.LastCall.TheVariants.{TickOrAsk, Widen, Ask, Tell, Nothing}
+use Rattle.site_drive.specs.declared.last_call.LastCall.TheVariants.{TickOrAsk, Widen, Ask, Tell, Keep, Nothing}
 use Rattle.site_drive.proofs.Calling.{eased}
 use Rattle.site_drive.proofs.ManyTurns.{leads_on, of_same}
 
@@ -110,6 +111,22 @@ begin_knows n p (suc k) s next out h = same_known n p h.0 next widen Whole h.2 (
 widens_know : (n p : ℕ) (s next : Node) (ending : Ending) (out : List (To × Message)) → Widens n p s ending out next → next.known ≡ s.known
 widens_know n p s next ending out h = same_known n p h.mid next widen ending [] (widen_knows n p h.mid) h.last ∙ begin_knows n p h.count s h.mid out h.begin
 
+keep_knows : (n p i : ℕ) (s : Node) (effect : Effect) → Does n p s (keep i) effect → effect.after.known ≡ s.known
+keep_knows n p i s effect how =
+    ⊎_elim (λ (x : KeepsOne s i effect). ap (λ (e : Effect). e.after.known) x.is) (λ (x : (¬ MayKeep s i) × (effect ≡ quiet s)). ap (λ (e : Effect). e.after.known) x.1) how
+
+all_know : (n p i k : ℕ) (s next : Node) → KeepAll n p i k s next → next.known ≡ s.known
+all_know n p i zero s next h = ap (λ (u : Node). u.known) h
+all_know n p i (suc k) s next h = same_known n p h.0 next (keep (i + k)) Whole [] (keep_knows n p (i + k) h.0) h.2 ∙ all_know n p i k s h.0 h.1
+
+keeps_know : (n p i count : ℕ) (s next : Node) (ending : Ending) → KeepsEach n p i count s ending next → next.known ≡ s.known
+keeps_know n p i count s next ending h = from h.then ∙ all_know n p i h.whole s h.mid h.kept
+  where
+    from : ((ending ≡ Whole) × (next ≡ h.mid) × ((h.whole ≡ count) ⊎ ¬ IsInstance (i + h.whole)))
+        ⊎ ((ending ≢ Whole) × (h.whole < count) × Ends n p h.mid (keep (i + h.whole)) ending [] next) → next.known ≡ h.mid.known
+    from (inl all) = ap (λ (u : Node). u.known) all.1
+    from (inr one) = same_known n p h.mid next (keep (i + h.whole)) ending [] (keep_knows n p (i + h.whole) h.mid) one.2
+
 last_knows : (last : LastCall) (n p : ℕ) (s next : Node) (ending : Ending) (out : List (To × Message)) → EndsLast last n p s ending out next → next.known ≡ s.known
 last_knows TickOrAsk n p s next ending out (inl (wants, inl short)) = same_known n p s next tick ending out (tick_knows n p s) short.1
 last_knows TickOrAsk n p s next ending out (inl (wants, inr all)) =
@@ -118,6 +135,7 @@ last_knows TickOrAsk n p s next ending out (inr asks) = same_known n p s next as
 last_knows Widen n p s next ending out widens = widens_know n p s next ending out widens
 last_knows Ask n p s next ending out asks = same_known n p s next ask ending out (ask_knows n p s) asks
 last_knows (Tell q i) n p s next ending out tells = same_known n p s next (tell (One q) i) ending out (λ effect how. ap (λ (e : Effect). e.after.known) how) tells
+last_knows (Keep i count) n p s next ending out keeps = keeps_know n p i count s next ending keeps.0
 last_knows Nothing n p s next ending out none = ap (λ (t : Node). t.known) none.2
 
 pub known_stays : (last : LastCall) (n p : ℕ) (s next : Node) (out : List (To × Message)) → EndsTurns last n p s out next → next.known ≡ s.known

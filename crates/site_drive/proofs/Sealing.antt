@@ -1,5 +1,6 @@
 -- A batch that is sealed, or lost.
-use Rattle.std.proofs.Common.{◌≡◌, ◌⊎◌, inl, inr, ⊎_elim, true, false, Bool, if◌then◌else◌, ℕ, Some, None, List, [], Result, Err, refl, sym, ap, subst, ◌∙◌, append-nil}
+use Rattle.std.proofs.Common.{◌≡◌, ◌≢◌, ◌⊎◌, inl, inr, ⊎_elim, true, false, Bool, if◌then◌else◌, ℕ, ◌+◌, ◌<◌, Some, None, List, [], Result, Err, refl, sym, ap, subst, ◌∙◌, append-nil}
+use Rattle.site_ids.specs.Ids.{IsInstance}
 use Rattle.site_disk.specs.Model.{DiskState, LeavesOnly}
 use Rattle.wire.specs.declared.message.Message.{Message}
 use Rattle.durable.specs.Batches.{KeepsNoneOrAll}
@@ -12,14 +13,14 @@ use Rattle.node.specs.declared.to.To.TheVariants.{One}
 use Rattle.node.specs.declared.node.Node.{Node as Running}
 use Rattle.node.specs.Ahead.{IsAheadOf}
 use Rattle.node.specs.Batches.{BeginsAt, SealsAt, LosesOneOf}
-use Rattle.node.specs.Calls.{Call, tick, widen, ask, tell, deliver}
+use Rattle.node.specs.Calls.{Call, tick, widen, ask, tell, deliver, keep}
 use Rattle.node.specs.Endings.{Whole, Failed, Ends}
 use Rattle.node.specs.Nodes.{Node, Up, Stopped, IsKnownPrefix}
 use Rattle.node.specs.Standing.{HasParts, IsNodeOf, IsOnDisk, IsEither, KeepsOthers, StaysOnDisk}
 use Rattle.node.proofs.Stepping.{is_down}
 use Rattle.site_drive.specs.declared.last_call.LastCall.{LastCall}
-use Rattle.site_drive.specs.declared.last_call.LastCall.TheVariants.{TickOrAsk, Widen, Ask, Tell, Nothing}
-use Rattle.site_drive.specs.Drives.{EndsLast}
+use Rattle.site_drive.specs.declared.last_call.LastCall.TheVariants.{TickOrAsk, Widen, Ask, Tell, Keep, Nothing}
+use Rattle.site_drive.specs.Drives.{EndsLast, KeepsEach}
 use Rattle.site_drive.specs.Leading.{NodeLeads, StaysWhose}
 use Rattle.site_drive.specs.Batches.{IsStop, Works, GivesUpTaking, GivesUpWork, HasWorked, LeadsSealed, TakesBatch, GivesUpBatch, LosesBatch}
 use Rattle.site_drive.proofs.Results.{same_err}
@@ -51,6 +52,14 @@ by_call n p s next call out h = record { stopped = ap (λ u. u.mode) h.node; ent
 not_memory : fault.Device ≡ fault.OutOfMemory → ⊥
 not_memory e = cc
 
+by_keeping : (n p i count : ℕ) (s next : Node) → KeepsEach n p i count s Failed next → Fails next
+by_keeping n p i count s next h = from h.then
+  where
+    from : ((Failed ≡ Whole) × (next ≡ h.mid) × ((h.whole ≡ count) ⊎ ¬ IsInstance (i + h.whole)))
+        ⊎ ((Failed ≢ Whole) × (h.whole < count) × Ends n p h.mid (keep (i + h.whole)) Failed [] next) → Fails next
+    from (inl all) = let no : Failed ≡ Whole = all.0 in absurd (cc)
+    from (inr one) = by_call n p h.mid next (keep (i + h.whole)) [] one.2
+
 by_last : (last : LastCall) (n p : ℕ) (s next : Node) (out : List (To × Message)) → EndsLast last n p s Failed out next → Fails next
 by_last TickOrAsk n p s next out (inl (wants, inl short)) = by_call n p s next tick out short.1
 by_last TickOrAsk n p s next out (inl (wants, inr all)) = by_call n p all.widens.mid next widen [] all.widens.last
@@ -58,6 +67,7 @@ by_last TickOrAsk n p s next out (inr asks) = by_call n p s next ask out asks.1
 by_last Widen n p s next out widens = by_call n p widens.mid next widen [] widens.last
 by_last Ask n p s next out asks = by_call n p s next ask out asks
 by_last (Tell q i) n p s next out tells = by_call n p s next (tell (One q) i) out tells
+by_last (Keep i count) n p s next out keeps = by_keeping n p i count s next keeps.0
 by_last Nothing n p s next out none = let whole : Failed ≡ Whole = none.0 in absurd (cc)
 
 by_taking : (n p : ℕ) (came : List (List ℕ)) (s next : Node) → GivesUpTaking n p came fault.Device s next → Fails next

@@ -1,5 +1,6 @@
 -- What a drive does with its node: turn after turn, and then a tick with widenings, or a question, or what else is called there.
-use Rattle.std.specs.Prelude.{◌≡◌, ◌≢◌, ◌⊎◌, ℕ, zero, suc, ◌+◌, ◌≤◌, Option, Some, None, List, [], ◌∷◌, ◌++◌, length, map, take, flat_map}
+use Rattle.std.specs.Prelude.{◌≡◌, ◌≢◌, ◌⊎◌, ℕ, zero, suc, ◌+◌, ◌<◌, ◌≤◌, Option, Some, None, List, [], ◌∷◌, ◌++◌, length, map, take, flat_map}
+use Rattle.site_ids.specs.Ids.{IsInstance}
 use Rattle.wire.specs.declared.message.Message.{Message}
 use Rattle.wire.specs.Decoding.{Spells}
 use Rattle.wire.specs.Spelling.{spelled}
@@ -8,11 +9,11 @@ use Rattle.node.specs.declared.fault.NodeFault.TheVariants.{OutOfMemory, Instanc
 use Rattle.node.specs.declared.to.To.{To}
 use Rattle.node.specs.declared.to.To.TheVariants.{One, All}
 use Rattle.node.specs.Nodes.{Node, WantsTick, IsKnownPrefix}
-use Rattle.node.specs.Calls.{tick, widen, ask, tell, deliver, MayWiden}
+use Rattle.node.specs.Calls.{tick, widen, ask, tell, deliver, keep, MayWiden}
 use Rattle.node.specs.Endings.{Ending, Whole, Refused, Ends}
 use Rattle.node.specs.Standing.{ending_by}
 use Rattle.site_drive.specs.declared.last_call.LastCall.{LastCall}
-use Rattle.site_drive.specs.declared.last_call.LastCall.TheVariants.{TickOrAsk, Widen, Ask, Tell, Nothing}
+use Rattle.site_drive.specs.declared.last_call.LastCall.TheVariants.{TickOrAsk, Widen, Ask, Tell, Keep, Nothing}
 
 -- ---- turns
 
@@ -105,12 +106,28 @@ TicksOrAsks n p s ending out next =
     (WantsTick s × (((ending ≢ Whole) × Ends n p s tick ending out next) ⊎ TicksAndWidens n p s ending out next))
     ⊎ ((¬ WantsTick s) × Ends n p s ask ending out next)
 
+-- what is known at so many instances from i on is kept, one instance after the other
+abbrev pub KeepAll : ℕ → ℕ → ℕ → ℕ → Node → Node → Type 0
+KeepAll n p i zero s next = next ≡ s
+KeepAll n p i (suc k) s next = (mid : Node) × KeepAll n p i k s mid × Ends n p mid (keep (i + k)) Whole [] next
+
+-- of so many instances, behind the last of which there is none; or it ends so at one of them
+pub record KeepsEach (n p i count : ℕ) (s : Node) (ending : Ending) (next : Node) : Type 0 where
+  pub whole : ℕ
+  pub mid : Node
+  pub few : whole ≤ count
+  pub kept : KeepAll n p i whole s mid
+  pub then :
+      ((ending ≡ Whole) × (next ≡ mid) × ((whole ≡ count) ⊎ ¬ IsInstance (i + whole)))
+      ⊎ ((ending ≢ Whole) × (whole < count) × Ends n p mid (keep (i + whole)) ending [] next)
+
 -- the calls behind the last turn end so, where there is one
 abbrev pub EndsLast : LastCall → ℕ → ℕ → Node → Ending → List (To × Message) → Node → Type 0
 EndsLast TickOrAsk n p s ending out next = TicksOrAsks n p s ending out next
 EndsLast Widen n p s ending out next = Widens n p s ending out next
 EndsLast Ask n p s ending out next = Ends n p s ask ending out next
 EndsLast (Tell q i) n p s ending out next = Ends n p s (tell (One q) i) ending out next
+EndsLast (Keep i count) n p s ending out next = KeepsEach n p i count s ending next × (out ≡ [])
 EndsLast Nothing n p s ending out next = (ending ≡ Whole) × (out ≡ []) × (next ≡ s)
 
 -- they are whole, or passed over, as every instance is known

@@ -5,7 +5,7 @@ ghost use Rattle.wire.specs.declared.message.Message.{Message};
 ghost use Rattle.node.specs.Standing.{KeepsOthers, CountsDevice, ending_by, ending_of};
 ghost use Rattle.node.specs.declared.to.To.{To};
 ghost use Rattle.site_drive.specs.Sending.{Counted};
-ghost use Rattle.site_drive.specs.Drives.{EndsLast, EndsTurns, Closes, GivesUpLast};
+ghost use Rattle.site_drive.specs.Drives.{EndsLast, EndsTurns, Closes, GivesUpLast, KeepsEach};
 ghost use Rattle.site_drive.specs.Leading.{AllFit, LeadsTo, NodeLeads, Called};
 
 use crate::desk::Desk;
@@ -13,6 +13,25 @@ use crate::sending::send_all;
 use crate::{LastCall, Link};
 use node::{Node, NodeFault, To};
 use site_disk::Disk;
+use site_ids::Instance;
+
+/// Keeps what is known at so many instances from one on, as far as there are instances.
+fn keep_each<D: Disk>(node: &mut Node<D>, first: Instance, count: u32) -> Result<(), NodeFault>
+    ensures event { NodeLeads D.stands_for node.old node.new (λ s next. KeepsEach node.old.cluster node.old.me first count s (ending_of result) next) }
+    ensures others { KeepsOthers node.old node.new }
+    ensures counts { CountsDevice result (D.failed node.old.store.disk) (D.failed node.new.store.disk) }
+{
+    let from = first.number();
+    let mut past = 0;
+    while past < count {
+        let Some(instance) = Instance::new(from + past) else {
+            return Ok(());
+        };
+        node.keep(instance)?;
+        past += 1;
+    }
+    Ok(())
+}
 
 impl Desk {
     /// Widens until no attempt more begins.
@@ -51,6 +70,7 @@ impl Desk {
             LastCall::Widen => self.widen_all(node),
             LastCall::Ask => node.ask(&mut self.outbox),
             LastCall::Tell { to, first } => node.tell(To::One(to), first, &mut self.outbox),
+            LastCall::Keep { first, count } => keep_each(node, first, count),
             LastCall::Nothing => Ok(()),
         }
     }

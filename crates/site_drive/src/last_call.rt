@@ -1,4 +1,4 @@
-//! What is called behind the turns is an argument: one definition for the five. A batch has it too, so it stands though the loop that it came with went.
+//! What is called behind the turns is an argument: one definition for the six. A batch has it too, so it stands though the loop that it came with went.
 
 use site_ids::{Instance, NodeId};
 
@@ -13,6 +13,8 @@ pub enum LastCall {
     Ask,
     /// What is known and was voted for from an instance on, told again to a node.
     Tell { to: NodeId, first: Instance },
+    /// What is known at so many instances from one on, put on record as learned where the record lacks it.
+    Keep { first: Instance, count: u32 },
     /// None.
     Nothing,
 }

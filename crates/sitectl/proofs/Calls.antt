@@ -1,5 +1,6 @@
 -- Turns, last calls and submissions as lists of calls.
-use Rattle.std.proofs.Common.{◌≡◌, inl, inr, ⊎_elim, ℕ, zero, suc, Some, None, List, [], ◌∷◌, ◌++◌, Ok, Err, refl, sym, ap, subst, ◌∙◌, append-nil, append_assoc}
+use Rattle.std.proofs.Common.{◌≡◌, ◌≢◌, ◌⊎◌, inl, inr, ⊎_elim, ℕ, zero, suc, ◌+◌, ◌<◌, Some, None, List, [], ◌∷◌, ◌++◌, Ok, Err, refl, sym, ap, subst, ◌∙◌, append-nil, append_assoc}
+use Rattle.site_ids.specs.Ids.{IsInstance}
 use Rattle.site_ids.proofs.MemberLemmas.{in_left, in_right, in_split}
 use Rattle.wire.specs.declared.message.Message.{Message}
 use Rattle.wire.specs.Decoding.{Spells}
@@ -12,12 +13,12 @@ use Rattle.node.specs.declared.fault.NodeFault.TheVariants as fault
 use Rattle.node.specs.declared.to.To.{To}
 use Rattle.node.specs.declared.to.To.TheVariants.{One}
 use Rattle.node.specs.Nodes.{Node, Value}
-use Rattle.node.specs.Calls.{Call, submit, tick, widen, ask, tell, deliver}
+use Rattle.node.specs.Calls.{Call, submit, tick, widen, ask, tell, deliver, keep}
 use Rattle.node.specs.Endings.{Ending, Whole, Refused, Ends}
 use Rattle.node.specs.Standing.{ending_by}
 use Rattle.site_drive.specs.declared.last_call.LastCall.{LastCall}
-use Rattle.site_drive.specs.declared.last_call.LastCall.TheVariants.{TickOrAsk, Widen, Ask, Tell, Nothing}
-use Rattle.site_drive.specs.Drives.{Heard, Takes, TakesAll, datagrams, Begin, Widens, TicksAndWidens, EndsLast, EndsTurns, BreaksOff}
+use Rattle.site_drive.specs.declared.last_call.LastCall.TheVariants.{TickOrAsk, Widen, Ask, Tell, Keep, Nothing}
+use Rattle.site_drive.specs.Drives.{Heard, Takes, TakesAll, datagrams, Begin, Widens, TicksAndWidens, KeepAll, KeepsEach, EndsLast, EndsTurns, BreaksOff}
 use Rattle.server_clients.specs.Served.{ComesTo}
 use Rattle.server.specs.Passes.{MayTake, MayTakeMany}
 use Rattle.world.specs.Batches.{AllEnd}
@@ -109,6 +110,18 @@ ticked n p s next ending out t =
     subst (λ o. AreCalls n p [] o s next) (sym t.out_is)
     (called_on n p [] [] t.ticked t.widened s t.mid next (one_called n p s t.mid tick Whole t.ticked (λ m e. cc) t.ticks) (widened n p t.mid next ending t.widened t.widens))
 
+all_kept : (n p i k : ℕ) (s next : Node) → KeepAll n p i k s next → AreCalls n p [] [] s next
+all_kept n p i zero s next h = nothing_called n p s next [] refl h
+all_kept n p i (suc k) s next h = called_on n p [] [] [] [] s h.0 next (all_kept n p i k s h.0 h.1) (one_called n p h.0 next (keep (i + k)) Whole [] (λ m e. cc) h.2)
+
+kept : (n p i count : ℕ) (s next : Node) (ending : Ending) → KeepsEach n p i count s ending next → AreCalls n p [] [] s next
+kept n p i count s next ending h = called_on n p [] [] [] [] s h.mid next (all_kept n p i h.whole s h.mid h.kept) (from h.then)
+  where
+    from : ((ending ≡ Whole) × (next ≡ h.mid) × ((h.whole ≡ count) ⊎ ¬ IsInstance (i + h.whole)))
+        ⊎ ((ending ≢ Whole) × (h.whole < count) × Ends n p h.mid (keep (i + h.whole)) ending [] next) → AreCalls n p [] [] h.mid next
+    from (inl all) = nothing_called n p h.mid next [] refl all.1
+    from (inr one) = one_called n p h.mid next (keep (i + h.whole)) ending [] (λ m e. cc) one.2
+
 pub last_called : (last : LastCall) (n p : ℕ) (s next : Node) (ending : Ending) (out : List (To × Message)) → EndsLast last n p s ending out next → AreCalls n p [] out s next
 last_called TickOrAsk n p s next ending out (inl (wants, inl short)) = one_called n p s next tick ending out (λ m e. cc) short.1
 last_called TickOrAsk n p s next ending out (inl (wants, inr all)) = ticked n p s next ending out all
@@ -116,6 +129,7 @@ last_called TickOrAsk n p s next ending out (inr asks) = one_called n p s next a
 last_called Widen n p s next ending out widens = widened n p s next ending out widens
 last_called Ask n p s next ending out asks = one_called n p s next ask ending out (λ m e. cc) asks
 last_called (Tell q i) n p s next ending out tells = one_called n p s next (tell (One q) i) ending out (λ m e. cc) tells
+last_called (Keep i count) n p s next ending out keeps = subst (λ o. AreCalls n p [] o s next) (sym keeps.1) (kept n p i count s next ending keeps.0)
 last_called Nothing n p s next ending out none = nothing_called n p s next out none.1 none.2
 
 pub last_ended : (last : LastCall) (n p : ℕ) (s next : Node) (out : List (To × Message)) → EndsTurns last n p s out next → AreCalls n p [] out s next

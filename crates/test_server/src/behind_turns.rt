@@ -4,6 +4,7 @@ use crate::group::node_of;
 use crate::written_clock::{Call, called};
 use server_pace::Due;
 use site_ids::Instance;
+use std::process::Abort;
 
 /// What stands (fresh, a telling, a question, a tick, whether it yields), and what is called: the first of
 /// them that applies. A tick is due behind the patience, or at once.
@@ -23,14 +24,32 @@ const CALLS: &[(bool, bool, bool, bool, bool, Call)] = &[
     (false, true, false, false, true, Call::Tell(2, 7)),
 ];
 
-#[test]
-fn one_call_is_due_behind_a_batch(rt: HostRuntime) {
-    let to = node_of(&rt, 3, 2);
-    let first = Instance::new(7).expect(&rt, "an instance");
-    for &(fresh, telling, question, tick, yields, call) in CALLS {
+/// What stands, where instances are to be put on record, too: that goes before all but a value that is fresh.
+const KEEPS: &[(bool, bool, bool, bool, bool, Call)] = &[
+    (false, false, false, false, false, Call::Keep(5, 3)),
+    (false, true, true, true, true, Call::Keep(5, 3)),
+    (true, false, false, false, false, Call::Tick),
+    (true, true, true, true, false, Call::Tick),
+];
+
+/// The numbers of instances, as a row has them.
+fn instance(rt: &impl Abort, number: u32) -> Instance {
+    Instance::new(number).expect(rt, "an instance")
+}
+
+/// Each row, where what is put on record is this.
+fn each(
+    rt: &impl Abort,
+    rows: &[(bool, bool, bool, bool, bool, Call)],
+    block: Option<(Instance, u32)>,
+) {
+    let to = node_of(rt, 3, 2);
+    let first = instance(rt, 7);
+    for &(fresh, telling, question, tick, yields, call) in rows {
         for at_once in [false, true] {
             let due = Due {
                 fresh,
+                block,
                 telling: telling.then_some((to, first)),
                 question,
                 tick: tick && !at_once,
@@ -40,7 +59,13 @@ fn one_call_is_due_behind_a_batch(rt: HostRuntime) {
                 yields,
             };
             let row = (fresh, telling, question, tick, yields);
-            same(&rt, (row, called(&due.last_call())), (row, call));
+            same(rt, (row, called(&due.last_call())), (row, call));
         }
     }
+}
+
+#[test]
+fn one_call_is_due_behind_a_batch(rt: HostRuntime) {
+    each(&rt, CALLS, None);
+    each(&rt, KEEPS, Some((instance(&rt, 5), 3)));
 }

@@ -2,10 +2,10 @@
 ghost use Rattle.site_ids.specs.Ids.{IsNode};
 
 use crate::client::Client;
-use crate::comparing::ensure;
+use crate::comparing::{ensure, same};
 use durable::Record;
 use node::Node;
-use server::{Mail, Seats, Served, Server, ServerFault, pack};
+use server::{Mail, Recorded, Seats, Served, Server, ServerFault, pack};
 use server_pace::Times;
 use server_packets::Packet;
 use site_disk::MemDisk;
@@ -13,6 +13,9 @@ use site_drive::{Desk, Letter};
 use site_ids::{Cluster, NodeId};
 use std::alloc::Global;
 use std::process::Abort;
+
+/// No script knows more instances than so many.
+const INSTANCES: u32 = 2_000;
 
 /// A server, boxed: what owns one is proved to let it go, and a box is let go of in one step.
 pub(crate) type Boxed = Box<Server<MemDisk, Client>>;
@@ -34,7 +37,12 @@ fn served(alloc: Global, cluster: Cluster, me: NodeId, disk: MemDisk) -> Option<
         return None;
     };
     let times = Times::new(None, None);
-    Box::new(alloc, Server::new(alloc, me, Served { node }, desk, times)).ok()
+    let last = Recorded::of(&node, INSTANCES).last;
+    Box::new(
+        alloc,
+        Server::new(alloc, me, Served { node }, desk, times, last),
+    )
+    .ok()
 }
 
 /// One over a record that was just made. None where memory was refused.
@@ -171,23 +179,23 @@ impl Group {
         take_in(rt, &mut self.server(rt, to).mail, pieces.as_slice());
     }
 
-    /// A pass of one server, whose letters reach each other one but for that number; 0 is nobody.
-    fn pass(&mut self, rt: &impl Abort, number: u8, away: u8) {
+    /// A pass of one server, whose letters reach each other one but for those that are away.
+    fn pass(&mut self, rt: &impl Abort, number: u8, away: &[u8]) {
         let now = self.now;
         ensure(rt, turn(self.server(rt, number), now).is_ok(), number);
         for to in 1..=self.size() {
-            if to != number && to != away {
+            if to != number && !away.contains(&to) {
                 self.carry(rt, number, to);
             }
         }
     }
 
-    /// So many milliseconds, with a pass of each server in each of them; the server of that number is away, if it is not 0.
-    pub(crate) fn goes_on(&mut self, rt: &impl Abort, millis: u64, away: u8) {
+    /// So many milliseconds, with a pass of each server in each of them, but for those that are away.
+    pub(crate) fn goes_on(&mut self, rt: &impl Abort, millis: u64, away: &[u8]) {
         for _ in 0..millis {
             self.now = self.now.saturating_add(1);
             for number in 1..=self.size() {
-                if number != away {
+                if !away.contains(&number) {
                     self.pass(rt, number, away);
                 }
             }
@@ -197,7 +205,8 @@ impl Group {
     /// The server of that number knows so many values, and shows so many releases.
     pub(crate) fn stands(&mut self, rt: &impl Abort, number: u8, known: u32, newest: u64) {
         let node = &self.server(rt, number).served.node;
-        ensure(rt, node.known() == known && node.newest() == newest, number);
+        let is = (number, node.known(), node.newest());
+        same(rt, is, (number, known, newest));
     }
 
     /// The next client of that server whose connection ends, long after all that was done.

@@ -15,6 +15,10 @@ mod far;
 #[cfg(test)]
 mod group;
 #[cfg(test)]
+mod keeping;
+#[cfg(test)]
+mod majorities;
+#[cfg(test)]
 mod notes;
 #[cfg(test)]
 mod pacing;

@@ -114,6 +114,35 @@ const OF_ONE: &[Pass] = &[
     (100000, 1, NOBODY, FINE, &[]),
 ];
 
+/// Of node 1 of three that hears both, over a record of seven votes: the moment, how many values are known, how far what it heard of reaches, and what is said.
+type Behind = (u64, u32, u32, &'static [&'static str]);
+
+/// Few values become known, and far more is heard of.
+const SLOW: &[Behind] = &[
+    (0, 20, 0, &["opened: votes on record: 7"]),
+    (400, 21, 84, &[]),
+    // two seconds begin anew, as 84 are not known, and again
+    (2000, 40, 104, &[]),
+    (3499, 55, 118, &[]),
+    (4000, 60, 124, &[]),
+    (5499, 80, 124, &[]),
+    (5500, 100, 160, &[]),
+    (6000, 123, 186, &[]),
+    (7999, 185, 187, &[]),
+    // what was heard of in the first part of the last two is known, and few came
+    (8000, 186, 190, &["caught up to instance 186"]),
+    (9999, 187, 900, &[]),
+];
+
+/// Values become known as they are submitted: one is tried at each moment.
+const BUSY: &[Behind] = &[
+    (0, 20, 21, &["opened: votes on record: 7"]),
+    (1499, 25, 26, &[]),
+    (1500, 26, 27, &[]),
+    (1999, 30, 31, &[]),
+    (2000, 30, 31, &["caught up to instance 30"]),
+];
+
 /// A note reads so.
 fn reads(rt: &impl Abort, alloc: Global, note: Note, line: &str) {
     let text = format!(in alloc; "{note}").expect(rt, "memory");
@@ -123,7 +152,7 @@ fn reads(rt: &impl Abort, alloc: Global, note: Note, line: &str) {
 /// A pass, and what is said behind it.
 fn pass(rt: &impl Abort, alloc: Global, notes: &mut Notes, pass: Pass) {
     let (now, known, heard, (malformed, displaced, full), lines) = pass;
-    notes.hear(now, known, heard);
+    notes.hear(now, known, known, heard);
     notes.count(malformed, displaced, full);
     for &line in lines {
         reads(rt, alloc, notes.next(now, known).expect(rt, line), line);
@@ -148,4 +177,25 @@ fn each_kind_has_a_line_a_second_at_most(rt: HostRuntime) {
 #[test]
 fn a_node_alone_is_a_majority(rt: HostRuntime) {
     passes(&rt, rt.alloc(), 1, 0, OF_ONE);
+}
+
+#[test]
+fn a_server_that_heard_of_more_has_not_caught_up(rt: HostRuntime) {
+    let cluster = Cluster::new(3).expect(&rt, "a cluster");
+    let me = cluster.node(1).expect(&rt, "a node");
+    for rows in [SLOW, BUSY] {
+        let mut notes = Notes::new(cluster, me, 7);
+        for &(now, known, reached, lines) in rows {
+            notes.hear(now, known, reached, BOTH);
+            for &line in lines {
+                reads(
+                    &rt,
+                    rt.alloc(),
+                    notes.next(now, known).expect(&rt, line),
+                    line,
+                );
+            }
+            ensure(&rt, notes.next(now, known).is_none(), now);
+        }
+    }
 }

@@ -14,6 +14,8 @@ const TIMES: Times = Times {
     quiet_asking: 800,
     quick: 20,
     telling: 400,
+    keeping: 100,
+    block: 1024,
     yielding: 50,
     idle: 200,
     quiet: 2000,
@@ -273,25 +275,29 @@ fn a_tick_that_a_majority_answers_in_vain_is_counted(rt: HostRuntime) {
     }
 }
 
-/// When it asked at known 7, the moment, empty steps, how many are known, whether all came, whether somebody tried a value; and whether it asks.
-const ASKS: &[(Option<u64>, u64, u32, u32, bool, bool, bool)] = &[
-    (None, 0, 2000, 0, false, true, true),
-    (Some(1000), 1000, 0, 7, true, false, false),
-    (Some(1000), 1399, 0, 7, true, false, false),
-    (Some(1000), 1400, 1999, 7, false, true, true),
-    (Some(1000), 1400, 2000, 7, false, true, false),
-    (Some(1000), 1800, 2000, 7, false, true, true),
-    (Some(1000), 1001, 0, 8, true, false, true),
-    (Some(1000), 1001, 0, 8, true, true, false),
-    (Some(1000), 1001, 0, 8, false, false, false),
-    (Some(1000), 1019, 0, 71, false, true, true),
-    (Some(1000), 1020, 0, 71, false, true, false),
-    (Some(1000), 1019, 0, 70, false, true, false),
+/// When it asked at known 7, the moment, empty steps, how many are known, whether all came, whether somebody tried a value,
+/// whether more on its record is to be told; and whether it asks.
+const ASKS: &[(Option<u64>, u64, u32, u32, bool, bool, bool, bool)] = &[
+    (None, 0, 2000, 0, false, true, false, true),
+    (Some(1000), 1000, 0, 7, true, false, false, false),
+    (Some(1000), 1399, 0, 7, true, false, false, false),
+    (Some(1000), 1400, 1999, 7, false, true, false, true),
+    (Some(1000), 1400, 2000, 7, false, true, false, false),
+    (Some(1000), 1800, 2000, 7, false, true, false, true),
+    (Some(1000), 1001, 0, 8, true, false, false, true),
+    (Some(1000), 1001, 0, 8, true, true, false, false),
+    (Some(1000), 1001, 0, 8, true, true, true, true),
+    (Some(1000), 1001, 0, 7, true, true, true, false),
+    (Some(1000), 1001, 0, 8, false, true, true, false),
+    (Some(1000), 1001, 0, 8, false, false, false, false),
+    (Some(1000), 1019, 0, 71, false, true, false, true),
+    (Some(1000), 1020, 0, 71, false, true, false, false),
+    (Some(1000), 1019, 0, 70, false, true, false, false),
 ];
 
 #[test]
 fn a_server_asks_in_its_time_and_behind_news(rt: HostRuntime) {
-    for &(at, now, empty, known, drained, tried, asks) in ASKS {
+    for &(at, now, empty, known, drained, tried, more, asks) in ASKS {
         let last = LastQuestion {
             at,
             known: 7,
@@ -303,11 +309,11 @@ fn a_server_asks_in_its_time_and_behind_news(rt: HostRuntime) {
             drained,
             resumes: false,
         };
-        let asking = last.asking(TIMES, now, seen, empty);
+        let asking = last.asking(TIMES, now, seen, empty, more);
         same(
             &rt,
-            (last, now, empty, seen, asking.is_due()),
-            (last, now, empty, seen, asks),
+            (last, now, empty, seen, more, asking.is_due()),
+            (last, now, empty, seen, more, asks),
         );
     }
 }
@@ -358,7 +364,7 @@ const STEPS: &[(bool, bool, u32, Option<u64>)] = &[
 #[test]
 fn a_server_begins_quiet_and_wakes_with_a_client(rt: HostRuntime) {
     let cluster = Cluster::new(1).expect(&rt, "a cluster");
-    let mut pace = Pace::new(TIMES, cluster, node_of(&rt, 1, 1));
+    let mut pace = Pace::new(TIMES, cluster, node_of(&rt, 1, 1), 0);
     for &(came, served, steps, micros) in STEPS {
         for step in 0..steps {
             same(

@@ -37,7 +37,7 @@ const ROWS: &[(&[u8], u64, &[u8])] = &[
 fn check(rt: &impl Abort, alloc: Global, sends: &[u8], millis: u64, wanted: &[u8]) {
     let mut group = Group::new(rt, alloc, 1);
     group.comes(rt, 1, sends, usize::MAX);
-    group.goes_on(rt, millis, 0);
+    group.goes_on(rt, millis, &[]);
     let client = group.leaves(rt, 1).expect(rt, "a client");
     same(rt, (millis, client.got()), (millis, wanted));
 }

@@ -19,6 +19,7 @@ pub(crate) enum Call {
     Tick,
     Ask,
     Tell(u8, u32),
+    Keep(u32, u32),
     Nothing,
 }
 
@@ -123,12 +124,26 @@ const NEWS: &[Step] = &[
     (2, false, false, Call::Widen, &[]),
     (3, false, true, Call::Ask, &[]),
     (100, false, true, Call::Widen, &[]),
+    (101, false, true, Call::Keep(1, 1), &[]),
     (101, false, true, Call::Tick, &[PREPARE, SECOND_KNOWN]),
     // The news begin the patience anew, and are no answer to a question.
     (301, false, true, Call::Widen, &[]),
     (400, false, true, Call::Widen, &[]),
+    (401, false, true, Call::Keep(2, 1), &[]),
     (401, false, true, Call::Tick, &[]),
     (803, false, true, Call::Ask, &[]),
+];
+
+/// Two values become known, and are put on record together, a tenth of a second after the first; a telling waits for that.
+const KEPT: &[Step] = &[
+    (0, false, true, Call::Ask, &[FIRST_KNOWN]),
+    (1, false, true, Call::Ask, &[]),
+    (50, false, true, Call::Widen, &[SECOND_KNOWN]),
+    (51, false, true, Call::Ask, &[]),
+    (100, false, true, Call::Widen, &[THIRD_ASKS]),
+    (101, false, true, Call::Keep(1, 2), &[]),
+    (101, false, true, Call::Tell(3, 1), &[]),
+    (102, false, true, Call::Widen, &[]),
 ];
 
 /// A value is submitted while node 2 tries one, of which nothing more is heard; and then it becomes known.
@@ -186,6 +201,7 @@ pub(crate) fn called(last: &LastCall) -> Call {
         LastCall::TickOrAsk => Call::Tick,
         LastCall::Ask => Call::Ask,
         LastCall::Tell { to, first } => Call::Tell(to.number(), first.number()),
+        LastCall::Keep { first, count } => Call::Keep(first.number(), *count),
         LastCall::Nothing => Call::Nothing,
     }
 }
@@ -212,7 +228,7 @@ fn begun(rt: &impl Abort, alloc: Global) -> Paced {
         node: fresh(alloc, cluster, me).expect(rt, "memory"),
         link: MemLink::new(alloc),
         desk: Desk::new(alloc).expect(rt, "memory"),
-        pace: Pace::new(Times::new(None, None), cluster, me),
+        pace: Pace::new(Times::new(None, None), cluster, me, 0),
     }
 }
 
@@ -285,6 +301,11 @@ fn what_became_known_behind_a_question_is_told(rt: HostRuntime) {
 #[test]
 fn news_is_followed_by_a_question(rt: HostRuntime) {
     run(&rt, rt.alloc(), NEWS);
+}
+
+#[test]
+fn what_became_known_is_put_on_record(rt: HostRuntime) {
+    run(&rt, rt.alloc(), KEPT);
 }
 
 #[test]

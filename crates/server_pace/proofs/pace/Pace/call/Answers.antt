@@ -11,6 +11,7 @@ pub returns-clause-due : goal.returns-clause-due
 returns-clause-due c = (
   record {
     fresh = c.is_fresh-fresh.result;
+    block = c.args.block;
     telling = c.args.telling;
     question = c.is_due.result;
     tick = c.is_due-2.result;
@@ -21,6 +22,7 @@ returns-clause-due c = (
   },
   record {
     fresh = c.is_fresh-fresh.ensures;
+    kept = search rules;
     told = search rules;
     question = search rules;
     tick = search rules;

@@ -11,21 +11,25 @@ returns-clause-due g c = λ s h.
     let due = c.call.ensures.due in
     let seen = c.of-seen.result in
     let tries = c.first_tried_by-tries.result in
+    let block = c.next_block-block.result in
     let telling = c.next_telling-telling.result in
     let same = c.next_telling-telling.ensures.same in
-    let is = subst (λ p. IsDue p c.args.now seen tries telling due.0) same due.1 in
+    let is = subst (λ p. IsDue p c.args.now seen tries block telling due.0) same due.1 in
     let after = subst (λ (p : Pace). c.call.new.self ≡ pace_after p c.args.now seen tries due.0 c.call.result) same due.3 in
     let asked = ap (λ (p : Pace). p.questions) after in
     let now = pace_after c.args.self.now c.args.now seen tries due.0 c.call.result in (
       seen,
       tries,
+      block,
       telling,
       due.0,
       c.of-seen.ensures s h,
       c.first_tried_by-tries.ensures s h,
+      c.next_block-block.ensures,
       c.next_telling-telling.ensures.told,
       record {
         fresh = is.fresh;
+        kept = is.kept;
         told = is.told;
         question = is.question;
         tick = is.tick;

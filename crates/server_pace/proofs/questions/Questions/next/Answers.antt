@@ -22,9 +22,9 @@ returns-clause-due g c = λ p i node first s h.
     let full = c.is_full-full.ensures s h in
     let told = c.args.self.now.told in
     let millis = c.args.times.telling in
-    let due : IsSome c.then_some.result ↔ (IsFull s c.args.known c.in_ok-to.first
-        ⊎ ((c.args.calm ≡ true) × (passed (get_or told (c.in_ok-to.to - 1) None) c.args.now millis ≡ true))) = search rules in
-    subst (λ q. IsSome c.then_some.result ↔ (IsFull s c.args.known i
-        ⊎ ((c.args.calm ≡ true) × (passed (get_or told (q - 1) None) c.args.now millis ≡ true)))) same.0
-    (subst (λ j. IsSome c.then_some.result ↔ (IsFull s c.args.known j
-        ⊎ ((c.args.calm ≡ true) × (passed (get_or told (c.in_ok-to.to - 1) None) c.args.now millis ≡ true)))) same.1 due)
+    let due : IsSome c.then_some.result ↔ (IsFull s c.in_ok-to.first
+    ⊎ ((c.args.calm ≡ true) × (passed (get_or told (c.in_ok-to.to - 1) None) c.args.now millis ≡ true))) = search rules in
+    subst (λ q. IsSome c.then_some.result ↔ (IsFull s i
+    ⊎ ((c.args.calm ≡ true) × (passed (get_or told (q - 1) None) c.args.now millis ≡ true)))) same.0
+    (subst (λ j. IsSome c.then_some.result ↔ (IsFull s j
+    ⊎ ((c.args.calm ≡ true) × (passed (get_or told (c.in_ok-to.to - 1) None) c.args.now millis ≡ true)))) same.1 due)
