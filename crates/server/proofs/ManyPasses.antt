@@ -1,6 +1,7 @@
 -- Steps, and passes one after another.
-use Rattle.std.proofs.Common.{◌≡◌, ◌⊎◌, inl, inr, ℕ, ◌+◌, ◌<◌, ◌≤◌, List, [], ◌∷◌, ◌++◌, refl, sym, ap, subst, ◌∙◌, arith}
+use Rattle.std.proofs.Common.{◌≡◌, ◌⊎◌, inl, inr, ℕ, ◌+◌, ◌<◌, ◌≤◌, List, [], ◌∷◌, ◌++◌, length, take, refl, sym, ap, subst, ◌∙◌, arith}
 use Rattle.std.proofs.lemmas.List.{length-append}
+use Rattle.std.proofs.Math.Seq.{take-length}
 use Rattle.site_disk.specs.Model.{DiskState}
 use Rattle.wire.specs.declared.message.Message.{Message}
 use Rattle.http_serve.specs.Services.{MaySubmitMany}
@@ -13,7 +14,7 @@ use Rattle.site_drive.specs.Leading.{AllFit, StaysWhose}
 use Rattle.site_drive.specs.Posting.{spelled_of}
 use Rattle.site_drive.specs.declared.last_call.LastCall.{LastCall}
 use Rattle.server_faults.specs.ServerFaults.{of_node}
-use Rattle.server.specs.Passes.{MayTakeMany, TakesStep, BreaksStep, TakesPass, TakesPasses, BreaksPass, BreaksPasses, BreaksWork, Led, IsBatched, LosesStep, LosesPass, LosesPasses}
+use Rattle.server.specs.Passes.{MayTakeMany, TakesStep, BreaksStep, TakesPass, TakesPasses, BreaksPass, BreaksPasses, BreaksWork, Led, IsBatched, MaySend, LosesStep, LosesPass, LosesPasses}
 use Rattle.server_clients.specs.Served.{offered}
 use Rattle.server_faults.specs.declared.server_fault.ServerFault.{ServerFault}
 use Rattle.server_faults.specs.declared.server_fault.ServerFault.TheVariants as server_fault
@@ -50,6 +51,18 @@ module _ {D : Type 0} (stands_for : D → DiskState → Type 0) where
     pub posted : (letters : List (To × List ℕ)) → (AllFit out → letters ≡ spelled_of out) → IsBatched stands_for came malformed letters old new
     posted letters are = (last, out, record { leads = λ s stands. let r = batch.leads s stands in (r.0, (r.1, are r.1.works.fits), r.2, r.3) })
 
+    -- some of them may be sent: a beginning was spelled
+    pub sendable : (letters : List (To × List ℕ)) (told : ServerFault) → told ≡ server_fault.OutOfMemory
+        → (AllFit out → (k : ℕ) × (letters ≡ take k (spelled_of out))) → MaySend stands_for came letters told old
+    sendable letters told is are = inr (
+      is,
+      new,
+      last,
+      malformed,
+      out,
+      record { leads = λ s stands. let r = batch.leads s stands in (r.0, (r.1, are r.1.works.fits), r.2, r.3) },
+    )
+
     -- memory was wanted to spell them
     pub not_posted : (told : ServerFault) → told ≡ server_fault.OutOfMemory → Led stands_for old new (BreaksStep old.cluster old.me came told)
     not_posted told is =
@@ -59,6 +72,23 @@ module _ {D : Type 0} (stands_for : D → DiskState → Type 0) where
           (spelled_of out, new.releases, record { last = last; malformed = malformed; out = out; mid = t; batch = h; letters_are = refl; requests = 0; few = omega arith; takes = refl }),
         ))
         batch
+
+  -- all letters of a batch may be sent
+  pub all_sendable : (old new : Running D) (came : List (List ℕ)) (malformed : ℕ) (letters : List (To × List ℕ))
+      (told : ServerFault) → told ≡ server_fault.OutOfMemory → IsBatched stands_for came malformed letters old new
+      → MaySend stands_for came letters told old
+  all_sendable old new came malformed letters told is (last, out, batch) = inr (
+    is,
+    new,
+    last,
+    malformed,
+    out,
+    record {
+      leads = λ s stands.
+          let r = batch.leads s stands in
+          (r.0, (r.1.0, (length (spelled_of out), r.1.1 ∙ sym (take-length (spelled_of out)))), r.2, r.3);
+    },
+  )
 
   -- a batch that ends its server
   pub batch_broke : (old new : Running D) (last : LastCall) (came : List (List ℕ)) (why : NodeFault) (told : ServerFault) → told ≡ of_node why

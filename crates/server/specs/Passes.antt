@@ -1,5 +1,5 @@
 -- What a server does with its node: passes, each a batch of what came, and then requests of clients.
-use Rattle.std.specs.Prelude.{◌≡◌, ◌≢◌, ◌⊎◌, ℕ, zero, suc, ◌+◌, ◌*◌, ◌<◌, ◌≤◌, List, [], ◌∷◌, length, ⊤}
+use Rattle.std.specs.Prelude.{◌≡◌, ◌≢◌, ◌⊎◌, ℕ, zero, suc, ◌+◌, ◌*◌, ◌<◌, ◌≤◌, List, [], ◌∷◌, length, take, ⊤}
 use Rattle.site_ids.specs.declared.Ticket.{Ticket}
 use Rattle.wire.specs.declared.message.Message.{Message}
 use Rattle.command.specs.Written.{value_of}
@@ -109,6 +109,17 @@ pub record Led {D : Type 0} (stands_for : D → DiskState → Type 0) (old new :
 abbrev pub IsBatched : {D : Type 0} → (D → DiskState → Type 0) → List (List ℕ) → ℕ → List (To × List ℕ) → Running D → Running D → Type 0
 IsBatched stands_for came malformed letters old new = (last : LastCall) × (out : List (To × Message))
     × LeadsSealed stands_for old new (λ s next. TakesBatch last old.cluster old.me came malformed out new.releases s next × (letters ≡ spelled_of out))
+
+-- What may be sent though a step ended its server so: nothing; or, where memory was wanted, letters of its batch,
+-- which is sealed, from the first one on
+abbrev pub MaySend : {D : Type 0} → (D → DiskState → Type 0) → List (List ℕ) → List (To × List ℕ) → ServerFault
+    → Running D → Type 0
+MaySend {D} stands_for came letters why old = (letters ≡ [])
+    ⊎ ((why ≡ server_fault.OutOfMemory)
+    × (mid : Running D) × (last : LastCall) × (malformed : ℕ) × (out : List (To × Message))
+    × LeadsSealed stands_for old mid (λ s next.
+    TakesBatch last old.cluster old.me came malformed out mid.releases s next
+    × ((k : ℕ) × (letters ≡ take k (spelled_of out)))))
 
 -- the device failed in a step
 abbrev pub LosesStep : {D : Type 0} → (D → DiskState → Type 0) → List (List ℕ) → Running D → Running D → ServerFault → Type 0

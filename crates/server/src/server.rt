@@ -9,7 +9,7 @@ ghost use Rattle.site_drive.specs.declared.last_call.LastCall.{LastCall};
 ghost use Rattle.server_clients.specs.Answering.{AreAnswered, TellsAnswered};
 ghost use Rattle.server_faults.specs.ServerFaults.{CountsNone, EndsLaps};
 ghost use Rattle.server.specs.Mailing.{waiting_of, posted_of, own_of};
-ghost use Rattle.server.specs.Passes.{Led, TakesStep, BreaksStep, LosesStep, IsBatched};
+ghost use Rattle.server.specs.Passes.{Led, TakesStep, BreaksStep, LosesStep, IsBatched, MaySend};
 ghost use Rattle.server_clients.specs.Served.{offered};
 ghost use Rattle.server_clients.specs.declared.served.Served.{Served};
 
@@ -71,13 +71,15 @@ impl<D: Disk + Drop, S: Drop> Server<D, S> {
         }
     }
 
-    /// The batch of a step: all that waits, and the call that is due behind it. What that hands out is posted. The answer is how many datagrams spelled no message.
+    /// The batch of a step: all that waits, and the call that is due after it. What that hands out is posted. The answer is how many datagrams spelled no message.
     fn take_batch(&mut self, now: u64) -> Result<u64, ServerFault>
         ensures ok { IfOk result (λ malformed. IsBatched D.stands_for (waiting_of self.old.mail) malformed (posted_of self.new.mail) self.old.served.node self.new.served.node) }
         ensures own { OnOk result (waiting_of self.new.mail ≡ own_of self.old.me (posted_of self.new.mail)) }
         ensures seats { self.new.seats ≡ self.old.seats }
         ensures fault { IfErr result (λ why. Led D.stands_for self.old.served.node self.new.served.node (BreaksStep self.old.served.node.cluster self.old.served.node.me (waiting_of self.old.mail) why)
             ⊎ LosesStep D.stands_for (waiting_of self.old.mail) self.old.served.node self.new.served.node why) }
+        ensures may_send { IfErr result (λ why.
+            MaySend D.stands_for (waiting_of self.old.mail) (posted_of self.new.mail) why self.old.served.node) }
         ensures ends { IfErr result EndsLaps }
         ensures whose { StaysWhose self.old.served.node self.new.served.node }
         ensures counts { CountsNone result (D.failed self.old.served.node.store.disk) (D.failed self.new.served.node.store.disk) }
@@ -105,6 +107,8 @@ impl<D: Disk + Drop, S: Drop> Server<D, S> {
         ensures own { OnOk result (waiting_of self.new.mail ≡ own_of self.old.me (posted_of self.new.mail)) }
         ensures fault { IfErr result (λ why. Led D.stands_for self.old.served.node self.new.served.node (BreaksStep self.old.served.node.cluster self.old.served.node.me (waiting_of self.old.mail) why)
             ⊎ LosesStep D.stands_for (waiting_of self.old.mail) self.old.served.node self.new.served.node why) }
+        ensures may_send { IfErr result (λ why.
+            MaySend D.stands_for (waiting_of self.old.mail) (posted_of self.new.mail) why self.old.served.node) }
         ensures ends { IfErr result EndsLaps }
         ensures whose { StaysWhose self.old.served.node self.new.served.node }
         ensures counts { CountsNone result (D.failed self.old.served.node.store.disk) (D.failed self.new.served.node.store.disk) }

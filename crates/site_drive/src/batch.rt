@@ -2,7 +2,7 @@
 //!
 //! A batch that isn't begun is given up: some bytes are missing, which ends a server anywhere.
 
-ghost use Rattle.std.specs.Prelude.{◌≡◌, ◌≤◌, [], length, IfOk, IfErr};
+ghost use Rattle.std.specs.Prelude.{◌≡◌, ◌≤◌, [], length, IfOk, IfErr, OnErr};
 ghost use Rattle.node.specs.Standing.{KeepsOthers, CountsDevice};
 ghost use Rattle.site_drive.specs.Batches.{TakesEach, Works, GivesUpTaking, GivesUpWork, EndsBatch};
 ghost use Rattle.site_drive.specs.Leading.{AllFit, NodeLeads};
@@ -62,23 +62,17 @@ impl Desk {
         Ok(malformed)
     }
 
-    /// One batch: delivers what came, in order, and makes the last call; what that puts on record stands on the disk by two writes and two syncs, and by
-    /// none where nothing was put. Behind it the node publishes. What the node hands out waits for `post`. The answer is how many datagrams
-    /// spell no message; they are passed over, as losses.
-    ///
-    /// A device that fails leaves all of it on the disk or nothing; the node is stopped then. Want of memory has what was done before it on the disk.
-    /// Behind either nothing waits that may be given.
-    pub fn take_batch<D: Disk>(
+    /// The batch, from its beginning to its publication. Where it is given up, the outbox may hold what was never sealed.
+    fn take_sealed<D: Disk>(
         &mut self,
         node: &mut Node<D>,
         came: &[Vec<u8>],
         last: LastCall,
     ) -> Result<usize, NodeFault>
+        requires { self.old.outbox.items ≡ [] }
         ensures ends { EndsBatch D.stands_for D.failed last (bytes_of came.now) self.new.outbox.items node.old node.new result }
         ensures few { IfOk result (λ malformed. malformed ≤ length came.now) }
     {
-        self.outbox.clear();
-        self.delivered = Delivered::none();
         node.begin()?;
         let malformed = match self.work(node, came, last) {
             Ok(malformed) => malformed,
@@ -92,5 +86,32 @@ impl Desk {
         node.seal()?;
         node.publish()?;
         Ok(malformed)
+    }
+
+    /// One batch: delivers what came, in order, and makes the last call. What that puts on record is written to the disk by two writes and two syncs, or by
+    /// none where nothing was put. Then the node publishes. What the node hands out waits for `post`. The answer is how many datagrams spell no message:
+    /// they are ignored, as losses.
+    ///
+    /// A device that fails leaves all of it on the disk or nothing, and stops the node. After a failed allocation what was done before is on the disk.
+    /// After any fault nothing waits for `post`: what waits there is sealed.
+    pub fn take_batch<D: Disk>(
+        &mut self,
+        node: &mut Node<D>,
+        came: &[Vec<u8>],
+        last: LastCall,
+    ) -> Result<usize, NodeFault>
+        ensures ends { EndsBatch D.stands_for D.failed last (bytes_of came.now) self.new.outbox.items node.old node.new result }
+        ensures few { IfOk result (λ malformed. malformed ≤ length came.now) }
+        ensures nothing { OnErr result (self.new.outbox.items ≡ []) }
+    {
+        self.outbox.clear();
+        self.delivered = Delivered::none();
+        match self.take_sealed(node, came, last) {
+            Ok(malformed) => Ok(malformed),
+            Err(fault) => {
+                self.outbox.clear();
+                Err(fault)
+            }
+        }
     }
 }

@@ -7,7 +7,7 @@ use crate::said::number_of;
 use crate::samples::instance;
 use node::{Node, NodeFault};
 use site_disk::MemDisk;
-use site_drive::{LastCall, Letter, MemLink};
+use site_drive::{Desk, LastCall, Letter, MemLink};
 use std::alloc::Global;
 use std::process::Abort;
 
@@ -181,14 +181,32 @@ fn a_burst_takes_four_calls_of_the_device_and_what_puts_nothing_takes_none(rt: H
     }
 }
 
+/// How many letters are posted behind it, whatever it came to.
+fn waiting(rt: &impl Abort, alloc: Global, desk: &Desk) -> usize {
+    let mut letters = Vec::new(alloc);
+    desk.post(&mut letters).expect(rt, "memory");
+    letters.len()
+}
+
+/// The burst is a batch on that desk, which ends with that fault. Nothing is posted then.
+fn fails_with(
+    rt: &impl Abort,
+    server: &mut DrivenNode<MemLink>,
+    desk: &mut Desk,
+    fault: NodeFault,
+) {
+    let came = datagrams(rt, server.alloc, BURST);
+    let ended = server.batch_on(desk, came.as_slice(), LastCall::Nothing);
+    same(rt, ended.err(), Some(fault));
+    same(rt, (fault, waiting(rt, server.alloc, desk)), (fault, 0));
+}
+
 /// The batch ends with the fault of the device, and the next one with that of a node that is stopped.
 fn fails(rt: &impl Abort, server: &mut DrivenNode<MemLink>, calls: u32) {
-    let came = datagrams(rt, server.alloc, BURST);
-    let fault = server.batch(came.as_slice(), LastCall::Nothing).err();
-    same(rt, (calls, fault), (calls, Some(NodeFault::Device)));
+    let mut desk = Desk::new(server.alloc).expect(rt, "memory");
+    fails_with(rt, server, &mut desk, NodeFault::Device);
     ensure(rt, server.node.is_stopped(), calls);
-    let again = server.batch(came.as_slice(), LastCall::Nothing).err();
-    same(rt, (calls, again), (calls, Some(NodeFault::Stopped)));
+    fails_with(rt, server, &mut desk, NodeFault::Stopped);
 }
 
 fn fail(rt: &impl Abort, alloc: Global, calls: u32, crash: Option<u8>, found: bool) {

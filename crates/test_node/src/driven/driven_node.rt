@@ -70,7 +70,8 @@ impl<L: Link + Drop> DrivenNode<L> {
         self.batch_on(&mut desk, came, last)
     }
 
-    fn batch_on(
+    /// The same on a desk that is there.
+    pub(crate) fn batch_on(
         &mut self,
         desk: &mut Desk,
         came: &[Vec<u8>],

@@ -6,7 +6,7 @@ use Rattle.server_clients.specs.Answering.{AreAnswered}
 use Rattle.server_clients.specs.Served.{offered}
 use Rattle.server.proofs.Failing.{requests_kept, none_failed}
 use Rattle.server.proofs.ManySteps.{many_others}
-use Rattle.server.proofs.ManyPasses.{answered, not_answered}
+use Rattle.server.proofs.ManyPasses.{answered, not_answered, all_sendable}
 use Rattle.server.proofs.server.Server.step.Goals as goal
 
 pub returns-in_err-answered-clause-fault : goal.returns-in_err-answered-clause-fault
@@ -46,3 +46,9 @@ returns-clause-clients g c = (
   subst (λ seats. AreAnswered offered seats.times c.args.now c.take_batch.new.self.served c.answer_each.new.served seats.seats.items c.answer_each.new.self.seats.items) c.take_batch.ensures.seats
       c.in_ok-answered.ensures.each,
 )
+
+pub returns-in_err-answered-clause-may_send : goal.returns-in_err-answered-clause-may_send
+returns-in_err-answered-clause-may_send g c =
+    err_gives c.from_residual-in_err-answered.result c.from_residual-in_err-answered.ensures.1 λ e is.
+    all_sendable g.D.Disk.stands_for c.args.self.now.served.node c.take_batch.new.self.served.node _ _ _ e is
+    c.in_ok-malformed.ensures.ok

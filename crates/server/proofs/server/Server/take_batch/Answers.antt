@@ -1,8 +1,8 @@
-use Rattle.std.proofs.Common.{◌⊎◌, ◌++◌, inl, ap, subst, ◌∙◌}
+use Rattle.std.proofs.Common.{◌⊎◌, ◌++◌, take, inl, ap, subst, ◌∙◌}
 use Rattle.site_drive.specs.Posting.{bytes_of, letters_of, spelled_of}
 use Rattle.site_drive.proofs.Results.{err_gives}
-use Rattle.server.specs.Passes.{Led, BreaksStep, LosesStep, IsBatched}
-use Rattle.server.proofs.ManyPasses.{posted, not_posted, batch_broke}
+use Rattle.server.specs.Passes.{Led, BreaksStep, LosesStep, IsBatched, MaySend}
+use Rattle.server.proofs.ManyPasses.{posted, not_posted, batch_broke, sendable, all_sendable}
 use Rattle.server.proofs.server.Server.take_batch.Goals as goal
 
 pub returns-in_err-malformed-clause-fault : goal.returns-in_err-malformed-clause-fault
@@ -35,3 +35,35 @@ returns-clause-ok g c =
     subst (λ l. IsBatched g.D.Disk.stands_for (bytes_of l) c.in_ok-malformed.malformed letters old new) c.as_slice-came.ensures.value
     (posted g.D.Disk.stands_for old new c.due-last.result (bytes_of c.as_slice-came.result.now) _ out c.in_ok-malformed.ensures.ends.ok
     letters (λ fits. ap (λ v. letters_of v.items) c.keep_own.ensures.same ∙ c.in_ok-post.ensures.ok fits ∙ ap (λ l. letters_of l ++ spelled_of out) c.clear.ensures.items))
+
+pub returns-in_err-malformed-clause-may_send : goal.returns-in_err-malformed-clause-may_send
+returns-in_err-malformed-clause-may_send g c =
+    err_gives c.from_residual.result c.from_residual.ensures.1 λ e is. inl (ap letters_of c.clear.ensures.items)
+
+pub returns-in_err-post-clause-may_send : goal.returns-in_err-post-clause-may_send
+returns-in_err-post-clause-may_send g c =
+    err_gives c.from_residual-in_err-post.result c.from_residual-in_err-post.ensures.1 λ e is.
+    let old = c.args.self.now.served.node in
+    let came = bytes_of c.as_slice-came.result.now in
+    let out = c.take_batch.new.self.outbox.items in
+    let letters = letters_of c.post.new.letters.items in
+    subst (λ l. MaySend g.D.Disk.stands_for (bytes_of l) letters e old) c.as_slice-came.ensures.value
+    (sendable g.D.Disk.stands_for old c.take_batch.new.node c.due-last.result came _ out
+    c.in_ok-malformed.ensures.ends.ok letters e is
+    (λ fits.
+    let r = c.in_err-post.ensures.refused fits in
+    (r.0, r.1 ∙ ap (λ l. letters_of l ++ take r.0 (spelled_of out)) c.clear.ensures.items)))
+
+pub returns-in_err-keep_own-clause-may_send : goal.returns-in_err-keep_own-clause-may_send
+returns-in_err-keep_own-clause-may_send g c =
+    err_gives c.from_residual-in_err-keep_own.result c.from_residual-in_err-keep_own.ensures.1 λ e is.
+    let old = c.args.self.now.served.node in
+    let new = c.take_batch.new.node in
+    let came = bytes_of c.as_slice-came.result.now in
+    let out = c.take_batch.new.self.outbox.items in
+    let letters = letters_of c.keep_own.new.self.letters.items in
+    subst (λ l. MaySend g.D.Disk.stands_for (bytes_of l) letters e old) c.as_slice-came.ensures.value
+    (all_sendable g.D.Disk.stands_for old new came _ letters e is
+    (posted g.D.Disk.stands_for old new c.due-last.result came _ out c.in_ok-malformed.ensures.ends.ok letters
+    (λ fits. ap (λ v. letters_of v.items) c.keep_own.ensures.same ∙ c.in_ok-post.ensures.ok fits
+    ∙ ap (λ l. letters_of l ++ spelled_of out) c.clear.ensures.items)))
