@@ -1,2 +1,4 @@
 pub mod Serving
 pub mod Answering
+pub mod Moving
+pub mod Seating

@@ -1,3 +1,5 @@
 pub mod Served
 pub mod Staying
 pub mod Answering
+pub mod Moving
+pub mod Seating

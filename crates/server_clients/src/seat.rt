@@ -1,8 +1,11 @@
 //! A client's connection, with what carries its bytes.
 
-ghost use Rattle.std.specs.Prelude.{◌↔◌, IfOk, OnOk, IsTrue};
+ghost use Rattle.std.specs.Prelude.{◌≡◌, ◌↔◌, ℕ, IfOk, MatchOption, OnErr, OnOk, IsTrue};
+ghost use Rattle.http_read.specs.Counted.{inside};
 ghost use Rattle.http_serve.specs.Services.{MaySubmit};
 ghost use Rattle.server_clients.specs.Answering.{CountsAnswered, IsLeft, IsTurn};
+ghost use Rattle.server_clients.specs.Moving.{IsReadOnce, IsWrittenOnce, MayBeRead};
+ghost use Rattle.server_clients.specs.Seating.{IsFresh, IsLeaving, MayGo, stay_of};
 ghost use Rattle.server_clients.specs.Served.{offered};
 
 use crate::served::Served;
@@ -30,7 +33,9 @@ pub struct Seat<S> {
 
 impl<S> Seat<S> {
     /// A client came.
-    pub(crate) fn new(alloc: Global, stream: S, now: u64) -> Seat<S> {
+    pub(crate) fn new(alloc: Global, stream: S, now: u64) -> Seat<S>
+        ensures { IsFresh stream now result }
+    {
         Seat {
             stream: Counted::new(stream),
             connection: Connection::new(alloc),
@@ -41,7 +46,9 @@ impl<S> Seat<S> {
     }
 
     /// What it does, and for how long.
-    fn stay(&self, now: u64) -> Stay {
+    fn stay(&self, now: u64) -> Stay
+        ensures { result ≡ stay_of now self.now }
+    {
         Stay {
             still: now.saturating_sub(self.moved),
             busy: match self.begun {
@@ -52,12 +59,17 @@ impl<S> Seat<S> {
     }
 
     /// Whether it is to be closed: all is done, a call failed, or it stays too long.
-    pub(crate) fn is_over(&self, times: Times, now: u64) -> bool {
+    pub(crate) fn is_over(&self, times: Times, now: u64) -> bool
+        ensures { IsTrue result ↔ IsLeaving times now self.now }
+    {
         self.connection.is_done() || self.stay(now).is_too_long(times)
     }
 
     /// Since when nothing moved, where it owes no response: then it may be given up for another client.
-    pub(crate) fn idle_since(&self) -> Option<u64> {
+    pub(crate) fn idle_since(&self) -> Option<u64>
+        ensures { MatchOption result
+            (¬ (MayGo self.now)) (λ since. MayGo self.now × (since ≡ self.now.moved)) }
+    {
         if self.connection.owes() {
             None
         } else {
@@ -98,16 +110,28 @@ impl<S> Seat<S> {
     }
 
     /// The stream, which is to be closed.
-    pub(crate) fn into_stream(self) -> S {
+    pub(crate) fn into_stream(self) -> S
+        ensures { result ≡ inside self.stream }
+    {
         let Seat { stream, .. } = self;
         stream.into_inner()
     }
 }
 
 impl<S: Read> Seat<S> {
-    /// Reads once, if it may, and its client may have more to say than the request that is left: whether anything came.
-    pub(crate) fn read(&mut self, now: u64) -> Result<bool, AllocError> {
-        if !self.connection.may_read() || self.connection.has_asked() {
+    /// Whether it is read: its client may send more, and more than the request that is left.
+    fn may_be_read(&self) -> bool
+        ensures { IsTrue result ↔ MayBeRead self.now }
+    {
+        self.connection.may_read() && !self.connection.has_asked()
+    }
+
+    /// Reads once, if it may: whether anything came.
+    pub(crate) fn read(&mut self, now: u64) -> Result<bool, AllocError>
+        ensures read { IfOk result (λ came. IsReadOnce S.remaining now came self.old self.new) }
+        ensures memory { OnErr result (self.new ≡ self.old) }
+    {
+        if !self.may_be_read() {
             return Ok(false);
         }
         match self.connection.read_from(&mut self.stream)? {
@@ -127,7 +151,9 @@ impl<S: Read> Seat<S> {
 
 impl<S: Write> Seat<S> {
     /// Writes once, if something waits: whether anything went.
-    pub(crate) fn write(&mut self, now: u64) -> bool {
+    pub(crate) fn write(&mut self, now: u64) -> bool
+        ensures { IsWrittenOnce S.contents now result self.old self.new }
+    {
         if !self.connection.owes() {
             return false;
         }

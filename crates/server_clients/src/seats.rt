@@ -1,8 +1,10 @@
 //! The clients of a server.
 
-ghost use Rattle.std.specs.Prelude.{◌≤◌, ◌<◌, ℕ, length, vec_len, IfOk, IfSome, OnOk};
+ghost use Rattle.std.specs.Prelude.{◌≡◌, ◌⊎◌, ◌↔◌, [], ◌≤◌, ◌<◌, ℕ, Bool, length, vec_len, IfOk, IsTrue, MatchOption, OnErr, OnOk};
 ghost use Rattle.http_serve.specs.Services.{MaySubmitMany};
 ghost use Rattle.server_clients.specs.Answering.{AreAnswered, TellsAnswered};
+ghost use Rattle.server_clients.specs.Moving.{AreDone, IsReadOnce, IsWrittenOnce};
+ghost use Rattle.server_clients.specs.Seating.{earlier, IsAdmitted, IsFirstToGo, Leaves, MakesRoom, NoneGoes};
 ghost use Rattle.server_clients.specs.Served.{offered};
 
 use crate::seat::Seat;
@@ -27,9 +29,31 @@ pub struct Seats<S> {
     ghost within: { vec_len seats ≤ 64 },
 }
 
+/// Of a seat found so far, with the moment since when it was silent, and the next one: whichever was silent
+/// longer. Where both were as long, it is the one found.
+fn earlier(found: Option<(usize, u64)>, i: usize, since: Option<u64>) -> Option<(usize, u64)>
+    ensures { result ≡ earlier found i since }
+{
+    let Some(since) = since else {
+        return found;
+    };
+    match found {
+        Some((at, least)) => {
+            if least <= since {
+                Some((at, least))
+            } else {
+                Some((i, since))
+            }
+        }
+        None => Some((i, since)),
+    }
+}
+
 impl<S: Drop> Seats<S> {
     /// Nobody came yet.
-    pub fn new(alloc: Global, times: Times) -> Seats<S> {
+    pub fn new(alloc: Global, times: Times) -> Seats<S>
+        ensures { (result.seats.items ≡ []) × (result.times ≡ times) }
+    {
         Seats {
             alloc,
             times,
@@ -39,29 +63,34 @@ impl<S: Drop> Seats<S> {
     }
 
     /// How many clients are there.
-    pub fn len(&self) -> usize {
+    pub fn len(&self) -> usize
+        ensures { result ≡ length self.now.seats.items }
+    {
         self.seats.len()
     }
 
     /// The seat of the client that was silent longest and is owed nothing.
     fn first_to_go(&self) -> Option<usize>
-        ensures { IfSome result (λ i. i < vec_len self.now.seats) }
+        ensures { MatchOption result (NoneGoes self.now.seats.items) (IsFirstToGo self.now.seats.items) }
     {
         let mut first = None;
-        let mut least = u64::MAX;
-        for (i, seat) in self.seats.iter().enumerate() {
-            if let Some(since) = seat.idle_since() {
-                if since < least {
-                    least = since;
-                    first = Some(i);
-                }
-            }
+        let mut i = 0;
+        while i < self.seats.len() {
+            let since = self.seats[i].idle_since();
+            first = earlier(first, i, since);
+            i += 1;
         }
-        first
+        match first {
+            Some((at, _)) => Some(at),
+            None => None,
+        }
     }
 
     /// The stream of the client that goes for another one, where all seats are taken: whoever was silent longest, unless a response is owed to it.
-    pub fn make_room(&mut self) -> Option<S> {
+    pub fn make_room(&mut self) -> Option<S>
+        ensures room { MakesRoom self.old.seats.items self.new.seats.items result }
+        ensures same { (self.new.times ≡ self.old.times) × (self.new.alloc ≡ self.old.alloc) }
+    {
         if self.seats.len() < SEATS {
             return None;
         }
@@ -70,12 +99,19 @@ impl<S: Drop> Seats<S> {
     }
 
     /// Whether a client may be seated, perhaps for another one.
-    pub fn has_room(&self) -> bool {
+    pub fn has_room(&self) -> bool
+        ensures { IsTrue result ↔
+            ((length self.now.seats.items < 64) ⊎ ((i : ℕ) × IsFirstToGo self.now.seats.items i)) }
+    {
         self.seats.len() < SEATS || self.first_to_go().is_some()
     }
 
     /// A client takes a seat, where one is free. Otherwise its stream is given back.
-    pub fn admit(&mut self, stream: S, now: u64) -> Result<Option<S>, AllocError> {
+    pub fn admit(&mut self, stream: S, now: u64) -> Result<Option<S>, AllocError>
+        ensures admitted { IfOk result (IsAdmitted stream now self.old.seats.items self.new.seats.items) }
+        ensures memory { OnErr result (self.new.seats.items ≡ self.old.seats.items) }
+        ensures same { (self.new.times ≡ self.old.times) × (self.new.alloc ≡ self.old.alloc) }
+    {
         if self.seats.len() >= SEATS {
             return Ok(Some(stream));
         }
@@ -84,7 +120,10 @@ impl<S: Drop> Seats<S> {
     }
 
     /// The stream of a client whose connection is to be closed, if there is one.
-    pub fn leave(&mut self, now: u64) -> Option<S> {
+    pub fn leave(&mut self, now: u64) -> Option<S>
+        ensures leaves { Leaves self.old.times now self.old.seats.items self.new.seats.items result }
+        ensures same { (self.new.times ≡ self.old.times) × (self.new.alloc ≡ self.old.alloc) }
+    {
         let mut i = 0;
         while i < self.seats.len() {
             if self.seats[i].is_over(self.times, now) {
@@ -101,6 +140,7 @@ impl<S: Drop> Seats<S> {
         served: &mut Served<D>,
         now: u64,
     ) -> Result<bool, AllocError>
+        ensures same { (self.new.times ≡ self.old.times) × (self.new.alloc ≡ self.old.alloc) }
         ensures each { OnOk result (AreAnswered offered self.old.times now served.old served.new self.old.seats.items self.new.seats.items) }
         ensures tells { IfOk result (λ answered. TellsAnswered answered (length self.old.seats.items) self.old.seats.items self.new.seats.items) }
         ensures taken { (n : ℕ) × (n ≤ 64) × MaySubmitMany offered n served.old served.new }
@@ -118,12 +158,19 @@ impl<S: Drop> Seats<S> {
 }
 
 impl<S: Read + Drop> Seats<S> {
-    /// Reads once from each client: whether anything came.
-    pub fn read_each(&mut self, now: u64) -> Result<bool, AllocError> {
+    /// Reads once from each client: whether anything came. After a failed allocation the first were read.
+    pub fn read_each(&mut self, now: u64) -> Result<bool, AllocError>
+        ensures read { IfOk result (λ came. AreDone (IsReadOnce S.remaining now)
+            (length self.old.seats.items) came self.old.seats.items self.new.seats.items) }
+        ensures memory { OnErr result ((k : ℕ) × (came : Bool) × (k < length self.old.seats.items)
+            × AreDone (IsReadOnce S.remaining now) k came self.old.seats.items self.new.seats.items) }
+        ensures same { (self.new.times ≡ self.old.times) × (self.new.alloc ≡ self.old.alloc) }
+    {
         let mut came = false;
         let mut i = 0;
         while i < self.seats.len() {
-            came |= self.seats[i].read(now)?;
+            let from = &mut self.seats[i];
+            came |= from.read(now)?;
             i += 1;
         }
         Ok(came)
@@ -132,11 +179,16 @@ impl<S: Read + Drop> Seats<S> {
 
 impl<S: Write + Drop> Seats<S> {
     /// Writes once to each client that is owed something: whether anything went.
-    pub fn write_each(&mut self, now: u64) -> bool {
+    pub fn write_each(&mut self, now: u64) -> bool
+        ensures written { AreDone (IsWrittenOnce S.contents now)
+            (length self.old.seats.items) result self.old.seats.items self.new.seats.items }
+        ensures same { (self.new.times ≡ self.old.times) × (self.new.alloc ≡ self.old.alloc) }
+    {
         let mut went = false;
         let mut i = 0;
         while i < self.seats.len() {
-            went |= self.seats[i].write(now);
+            let to = &mut self.seats[i];
+            went |= to.write(now);
             i += 1;
         }
         went

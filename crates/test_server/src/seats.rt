@@ -79,6 +79,18 @@ fn the_client_that_was_silent_longest_goes_for_another_one(rt: HostRuntime) {
     drop(seats);
 }
 
+#[test]
+fn clients_of_the_last_moment_go_too(rt: HostRuntime) {
+    let mut seats = Seats::new(rt.alloc(), Times::new(None, None));
+    for k in 0..64 {
+        ensure(&rt, comes(&rt, rt.alloc(), &mut seats, b"", u64::MAX), k);
+    }
+    ensure(&rt, seats.has_room(), 64);
+    same(&rt, was_silent(seats.make_room()), Some(true));
+    same(&rt, seats.len(), 63);
+    drop(seats);
+}
+
 /// When clients leave, and whether the one that does was silent. The first one's request is unanswered for a second; the second one came at 1 and sent
 /// nothing in five seconds.
 const LEAVES: &[(u64, Option<bool>)] = &[

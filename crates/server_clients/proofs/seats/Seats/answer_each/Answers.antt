@@ -10,13 +10,14 @@ behind : (i k : ℕ) → i + 1 ≤ k → k ≢ i
 behind i k more = omega (arith, more)
 
 pub loop-i-init : goal.loop-i-init
-loop-i-init g c = record { within = omega arith; taken = refl; as_many = refl; tells = λ k below d. absurd (omega (arith, below)); turns = refl; rest = λ k d h. refl }
+loop-i-init g c = record { within = omega arith; same = (refl, refl); taken = refl; as_many = refl; tells = λ k below d. absurd (omega (arith, below)); turns = refl; rest = λ k d h. refl }
 
 pub loop-i-preserved : goal.loop-i-preserved
 loop-i-preserved g c =
     let at : (d : Seat _) → get_or c.args.self.now.seats.items c.loop-i.i d ≡ c.index_mut-seat.result.now =
     λ d. sym (c.loop-i.invariant.rest c.loop-i.i d (omega arith)) ∙ get_or_default c.loop-i.self.seats.items c.loop-i.i d c.index_mut-seat.result.now (omega (arith, c.loop-i-test.true, c.len.ensures)) ∙ sym c.index_mut-seat.ensures.value in record {
       within = omega (arith, c.loop-i-test.true, c.len.ensures);
+      same = c.loop-i.invariant.same;
       taken = many_more offered c.loop-i.i c.args.served.now c.loop-i.served c.answer.new.served c.loop-i.invariant.taken c.answer.ensures.taken;
       as_many = length-set c.loop-i.self.seats.items c.loop-i.i _ ∙ c.loop-i.invariant.as_many;
       tells = tells_more c.loop-i.answered c.in_ok-answered.field-0 c.loop-i.i c.args.self.now.seats.items c.loop-i.self.seats.items c.index_mut-seat.result.now c.answer.new.self (omega (arith, c.loop-i-test.true, c.len.ensures))

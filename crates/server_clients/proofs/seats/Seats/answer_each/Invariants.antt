@@ -9,6 +9,7 @@ use Rattle.server_clients.proofs.seats.Seats.answer_each.Given as goal
 abbrev pub invariant-loop-i : goal.invariant-loop-i
 invariant-loop-i g l = record {
   within : l.i ≤ vec_len l.self.seats;
+  same : (l.self.times ≡ l.initial.self.times) × (l.self.alloc ≡ l.initial.self.alloc);
   taken : MaySubmitMany offered l.i l.fn.served l.served;
   as_many : length l.self.seats.items ≡ length l.initial.self.seats.items;
   tells : TellsAnswered l.answered l.i l.initial.self.seats.items l.self.seats.items;

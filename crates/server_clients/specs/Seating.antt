@@ -1,0 +1,84 @@
+-- Who takes a seat, who leaves, and who goes for another. Moments are milliseconds since the server began.
+use Rattle.std.specs.Prelude.{◌≡◌, ◌⊎◌, ◌<◌, ◌≤◌, ◌-◌, ℕ, List, [], ◌∷◌, ◌++◌, length, get_or, swap_remove, nat_le, if◌then◌else◌, Option, Some, None}
+use Rattle.http_read.specs.Counted.{inside, failed}
+use Rattle.http_serve.specs.ConnectionSteps.{owed, IsNew, IsDone}
+use Rattle.server_times.specs.declared.times.Times.{Times}
+use Rattle.server_clients.specs.Staying.{IsTooLong}
+use Rattle.server_clients.specs.declared.seat.Seat.{Seat}
+use Rattle.server_clients.specs.declared.stay.Stay.{Stay}
+
+-- a client that has just come, by this stream
+pub record IsFresh {T : Type 0} (stream : T) (now : ℕ) (seat : Seat T) : Type 0 where
+  pub stream_is : inside seat.stream ≡ stream
+  pub sound : failed seat.stream ≡ 0
+  pub new : IsNew seat.connection
+  pub moved : seat.moved ≡ now
+  pub came : seat.came ≡ now
+  pub begun : seat.begun ≡ None
+
+-- what it does, and for how long
+abbrev busy_of : ℕ → Option ℕ → Option ℕ
+busy_of now None = None
+busy_of now (Some begun) = Some (now - begun)
+
+abbrev pub stay_of : {T : Type 0} → ℕ → Seat T → Stay
+stay_of now seat = record { still = now - seat.moved; busy = busy_of now seat.begun }
+
+-- it is to be closed: its connection is done, or it stays too long
+abbrev pub IsLeaving : {T : Type 0} → Times → ℕ → Seat T → Type 0
+IsLeaving times now seat = IsDone seat.connection ⊎ IsTooLong (stay_of now seat) times
+
+-- it may go for another client: it is owed nothing
+abbrev pub MayGo : {T : Type 0} → Seat T → Type 0
+MayGo seat = length (owed seat.connection) ≡ 0
+
+-- of a seat found so far, with the moment since when it was silent, and the next one: whichever was silent
+-- longer; where both were as long, the one found
+abbrev pub earlier : Option (ℕ × ℕ) → ℕ → Option ℕ → Option (ℕ × ℕ)
+earlier found i None = found
+earlier None i (Some since) = Some (i, since)
+earlier (Some (at, least)) i (Some since) = if nat_le least since then Some (at, least) else Some (i, since)
+
+-- the seat that goes first: it may go, none that may was silent for longer, and none before it for as long
+pub record IsFirstToGo {T : Type 0} (seats : List (Seat T)) (i : ℕ) : Type 0 where
+  pub below : i < length seats
+  pub may : (none : Seat T) → MayGo (get_or seats i none)
+  pub longest : (j : ℕ) → j < length seats → (none : Seat T) → MayGo (get_or seats j none)
+      → (get_or seats i none).moved ≤ (get_or seats j none).moved
+  pub first : (j : ℕ) → j < i → (none : Seat T) → MayGo (get_or seats j none)
+      → (get_or seats i none).moved < (get_or seats j none).moved
+
+-- no seat may go
+abbrev pub NoneGoes : {T : Type 0} → List (Seat T) → Type 0
+NoneGoes {T} seats = (i : ℕ) → i < length seats → (none : Seat T) → ¬ (MayGo (get_or seats i none))
+
+-- seat i is given up, and its stream handed out: the last seat takes its place
+pub record HandsOut {T : Type 0} (old new : List (Seat T)) (i : ℕ) (stream : T) : Type 0 where
+  pub seat : Seat T
+  pub is : seat ≡ get_or old i seat
+  pub stream_is : stream ≡ inside seat.stream
+  pub left : new ≡ swap_remove old i seat
+
+-- A client takes a seat where one is free: the last one. Otherwise its stream is given back
+abbrev pub IsAdmitted : {T : Type 0} → T → ℕ → List (Seat T) → List (Seat T) → Option T → Type 0
+IsAdmitted {T} stream now old new None =
+    (length old < 64) × (seat : Seat T) × IsFresh stream now seat × (new ≡ old ++ seat ∷ [])
+IsAdmitted stream now old new (Some back) = (64 ≤ length old) × (back ≡ stream) × (new ≡ old)
+
+-- Where all seats are taken, the one that goes first is given up; none is where one is free, or where all are
+-- owed something
+abbrev pub MakesRoom : {T : Type 0} → List (Seat T) → List (Seat T) → Option T → Type 0
+MakesRoom old new (Some stream) = (64 ≤ length old) × (i : ℕ) × IsFirstToGo old i × HandsOut old new i stream
+MakesRoom old new None = (new ≡ old) × ((length old < 64) ⊎ NoneGoes old)
+
+-- none of the first k is to be closed
+abbrev pub StayBefore : {T : Type 0} → ℕ → Times → ℕ → List (Seat T) → Type 0
+StayBefore {T} k times now seats =
+    (j : ℕ) → j < k → (none : Seat T) → ¬ (IsLeaving times now (get_or seats j none))
+
+-- The first seat that is to be closed is given up; none is where none is to be closed
+abbrev pub Leaves : {T : Type 0} → Times → ℕ → List (Seat T) → List (Seat T) → Option T → Type 0
+Leaves {T} times now old new (Some stream) =
+    (i : ℕ) × (i < length old) × ((none : Seat T) → IsLeaving times now (get_or old i none))
+    × StayBefore i times now old × HandsOut old new i stream
+Leaves times now old new None = (new ≡ old) × StayBefore (length old) times now old
