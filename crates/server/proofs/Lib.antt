@@ -6,3 +6,4 @@ pub mod Ending
 pub mod Runs
 pub mod Failing
 pub mod Owning
+pub mod Resting

@@ -22,3 +22,8 @@ is_for p All = true
 abbrev pub own_of : ℕ → List (To × List ℕ) → List (List ℕ)
 own_of p [] = []
 own_of p (x ∷ xs) = if is_for p x.0 then x.1 ∷ own_of p xs else own_of p xs
+
+-- whether datagrams came for a step, or these wait for the next one
+abbrev pub has_come : Bool → List (List ℕ) → Bool
+has_come came [] = came
+has_come came (x ∷ xs) = true

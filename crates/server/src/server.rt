@@ -1,6 +1,6 @@
 //! A server without sockets and clock.
 
-ghost use Rattle.std.specs.Prelude.{◌≡◌, ◌⊎◌, ◌↔◌, [], ℕ, IfOk, IfErr, IsFalse, OnOk, length};
+ghost use Rattle.std.specs.Prelude.{◌≡◌, ◌⊎◌, ◌↔◌, ◌||◌, [], ℕ, IfOk, IfErr, IfSome, IsFalse, IsSome, OnOk, length};
 ghost use Rattle.node.specs.Standing.{KeepsOthers};
 ghost use Rattle.site_drive.specs.Batches.{TakesBatch, LeadsSealed};
 ghost use Rattle.site_drive.specs.Leading.{StaysWhose};
@@ -8,7 +8,9 @@ ghost use Rattle.site_drive.specs.Posting.{spelled_of};
 ghost use Rattle.site_drive.specs.declared.last_call.LastCall.{LastCall};
 ghost use Rattle.server_clients.specs.Answering.{AreAnswered, TellsAnswered};
 ghost use Rattle.server_faults.specs.ServerFaults.{CountsNone, EndsLaps};
-ghost use Rattle.server.specs.Mailing.{waiting_of, posted_of, own_of};
+ghost use Rattle.server_pace.specs.Pacing.{empty_after, first_pace, resting_of, Rests};
+ghost use Rattle.server_times.specs.Timing.{rest_after};
+ghost use Rattle.server.specs.Mailing.{waiting_of, posted_of, own_of, has_come};
 ghost use Rattle.server.specs.Passes.{Led, TakesStep, BreaksStep, LosesStep, IsBatched, MaySend};
 ghost use Rattle.server_clients.specs.Served.{offered};
 ghost use Rattle.server_clients.specs.declared.served.Served.{Served};
@@ -58,7 +60,10 @@ impl<D: Disk + Drop, S: Drop> Server<D, S> {
         recorded: u32,
     ) -> Server<D, S>
         requires { me ≡ served.node.me }
-        ensures { (result.served ≡ served) × (result.me ≡ me) }
+        ensures node { (result.served ≡ served) × (result.me ≡ me) }
+        ensures mail { (waiting_of result.mail ≡ []) × (posted_of result.mail ≡ []) }
+        ensures clients { (result.seats.seats.items ≡ []) × (result.seats.times ≡ times) }
+        ensures pace { result.pace ≡ first_pace times me }
     {
         let pace = Pace::new(times, served.node.cluster(), me, recorded);
         Server {
@@ -131,13 +136,26 @@ impl<D: Disk + Drop, S: Drop> Server<D, S> {
         served
     }
 
-    /// How many microseconds to rest behind a step, where it came to this, and bytes of clients moved or none.
-    pub fn rest(&mut self, stepped: Stepped, moved: bool) -> Option<u64>
-        ensures { self.new.served ≡ self.old.served }
+    /// Whether datagrams came for a step, or wait for the next one.
+    fn has_come(&self, stepped: Stepped) -> bool
+        ensures { result ≡ has_come stepped.came (waiting_of self.now.mail) }
     {
-        self.pace.rest(
-            stepped.came || !self.mail.is_empty(),
-            moved || stepped.answered,
-        )
+        stepped.came || !self.mail.is_empty()
+    }
+
+    /// How many microseconds to rest behind a step, where it came to this, and bytes of clients moved or none: none
+    /// while datagrams or bytes of clients came or went.
+    pub fn rest(&mut self, stepped: Stepped, moved: bool) -> Option<u64>
+        ensures rests { IsSome result ↔ Rests (resting_of self.old.pace
+            (has_come stepped.came (waiting_of self.old.mail)) (moved || stepped.answered)) }
+        ensures long { IfSome result (λ micros. micros ≡ rest_after self.old.pace.times self.old.pace.empty) }
+        ensures counts { self.new.pace ≡ record self.old.pace {
+          empty = empty_after (resting_of self.old.pace
+              (has_come stepped.came (waiting_of self.old.mail)) (moved || stepped.answered));
+        } }
+        ensures same { self.new ≡ record self.old { pace = self.new.pace } }
+    {
+        let came = self.has_come(stepped);
+        self.pace.rest(came, moved || stepped.answered)
     }
 }

@@ -31,6 +31,8 @@ mod receipts;
 #[cfg(test)]
 mod refusals;
 #[cfg(test)]
+mod resting;
+#[cfg(test)]
 mod scripts;
 #[cfg(test)]
 mod seats;
