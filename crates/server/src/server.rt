@@ -63,7 +63,7 @@ impl<D: Disk + Drop, S: Drop> Server<D, S> {
         ensures node { (result.served ≡ served) × (result.me ≡ me) }
         ensures mail { (waiting_of result.mail ≡ []) × (posted_of result.mail ≡ []) }
         ensures clients { (result.seats.seats.items ≡ []) × (result.seats.times ≡ times) }
-        ensures pace { result.pace ≡ first_pace times me }
+        ensures pace { result.pace ≡ first_pace times served.node.cluster me recorded }
     {
         let pace = Pace::new(times, served.node.cluster(), me, recorded);
         Server {
