@@ -1,5 +1,5 @@
 -- Which call a server makes behind the turns of a batch.
-use Rattle.std.specs.Prelude.{ℕ, ◌||◌, Option, Some, None, if◌then◌else◌}
+use Rattle.std.specs.Prelude.{ℕ, Bool, true, false, ◌||◌, Option, Some, None, if◌then◌else◌}
 use Rattle.site_drive.specs.declared.last_call.LastCall.{LastCall}
 use Rattle.site_drive.specs.declared.last_call.LastCall.TheVariants.{TickOrAsk, Widen, Ask, Tell, Keep, Nothing}
 use Rattle.server_pace.specs.declared.due.Due.{Due}
@@ -9,16 +9,17 @@ abbrev pub telling_or : Option (ℕ × ℕ) → LastCall → LastCall
 telling_or None last = last
 telling_or (Some x) last = Tell x.0 x.1
 
--- and what is put on record before that
-abbrev pub keeping_or : Option (ℕ × ℕ) → LastCall → LastCall
-keeping_or None last = last
-keeping_or (Some x) last = Keep x.0 x.1
+-- and what is put on record before that, but behind a question: its answer comes while the disk writes
+abbrev pub keeping_or : Option (ℕ × ℕ) → Bool → LastCall → LastCall
+keeping_or None question last = last
+keeping_or (Some x) true last = Ask
+keeping_or (Some x) false last = Keep x.0 x.1
 
 -- the first that applies: a tick for a value that is fresh, what is put on record, a telling, a question, a tick, nothing where it yields; else widenings
 abbrev pub call_behind : Due → LastCall
 call_behind due =
     if due.fresh then TickOrAsk
-    else keeping_or due.block (telling_or due.telling
+    else keeping_or due.block due.question (telling_or due.telling
     (if due.question then Ask
     else (if due.tick || due.goes_on then TickOrAsk
     else (if due.yields then Nothing else Widen))))

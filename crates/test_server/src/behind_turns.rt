@@ -24,10 +24,13 @@ const CALLS: &[(bool, bool, bool, bool, bool, Call)] = &[
     (false, true, false, false, true, Call::Tell(2, 7)),
 ];
 
-/// What stands, where instances are to be put on record, too: that goes before all but a value that is fresh.
+/// What stands, where instances are to be put on record, too: that goes before all but a value that is fresh,
+/// and a question.
 const KEEPS: &[(bool, bool, bool, bool, bool, Call)] = &[
     (false, false, false, false, false, Call::Keep(5, 3)),
-    (false, true, true, true, true, Call::Keep(5, 3)),
+    (false, true, false, true, true, Call::Keep(5, 3)),
+    (false, false, true, false, true, Call::Ask),
+    (false, true, true, true, false, Call::Ask),
     (true, false, false, false, false, Call::Tick),
     (true, true, true, true, false, Call::Tick),
 ];
