@@ -6,8 +6,10 @@
 
 mod files;
 mod reading;
+mod saved;
 mod saving;
 
 pub use files::{below, is_free, write_file};
 pub use reading::{Clean, read_clean, texts_of};
+pub use saved::Saved;
 pub use saving::{new_editor, read_ledger, save};

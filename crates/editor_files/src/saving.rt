@@ -1,5 +1,8 @@
 //! The file `published` of a folder.
+ghost use Rattle.std.specs.Prelude.{◌≡◌, IfOk};
+
 use crate::files::{at, below};
+use crate::saved::Saved;
 use editor_common::EditorFault;
 use editor_ledger::{Ledger, LedgerReadFault};
 use std::alloc::{AllocError, Global};
@@ -64,15 +67,18 @@ fn replace<R: Files>(rt: &R, folder: &str, fresh: &str, path: &str, text: &str) 
 }
 
 /// Saves a folder's ledger: the file is the one before, or the whole of this one, whenever it is interrupted, and this one once it is saved.
-pub fn save<R: Files + AllocGlobal>(
+pub fn save<'a, R: Files + AllocGlobal>(
     rt: &R,
     folder: &str,
-    ledger: &Ledger,
-) -> Result<(), EditorFault> {
+    ledger: &'a mut Ledger,
+) -> Result<Saved<'a>, EditorFault>
+    ensures { IfOk result (λ saved. saved.ledger.now ≡ ledger.now) }
+{
     let alloc = rt.alloc();
     let text = ledger.spelled(alloc)?;
     let path = ledger_path(alloc, folder)?;
     let fresh = below(alloc, folder, ".published.new")?;
     let (fresh, path) = (fresh.as_str(), path.as_str());
-    at(alloc, path, replace(rt, folder, fresh, path, text.as_str()))
+    at(alloc, path, replace(rt, folder, fresh, path, text.as_str()))?;
+    Ok(Saved { ledger })
 }

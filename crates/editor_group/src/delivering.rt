@@ -1,10 +1,15 @@
 //! What is on its way is sent until each has its receipt.
+ghost use Rattle.std.specs.Prelude.{◌≡◌, true, OnOk};
+ghost use Rattle.editor_ledger.specs.Steps.{is_idle};
+ghost use Rattle.editor_plan.specs.Moves.{HearsAnswers};
+
 use crate::address::Address;
 use crate::asking::ask;
 use crate::group::Group;
 use crate::stop::stop;
 use editor_common::{EditorFault, now, passed, rest, say_made};
 use editor_http::{NodeAnswer, Question};
+use editor_files::Saved;
 use editor_ledger::Ledger;
 use editor_plan::{Ask, Came, DeliveryClock, Flight, Heard, LONGEST_REST, Step};
 use site_ids::Ticket;
@@ -72,12 +77,14 @@ fn hear(
     alloc: Global,
     flight: &mut Flight,
     url: &str,
-    ledger: &mut Ledger,
+    saved: &mut Saved<'_>,
     ask: Ask,
     answer: &NodeAnswer,
-) -> Result<(), EditorFault> {
-    match flight.hear(ledger, ask, answer.status)? {
-        Heard::Refused => Err(stop(refusal(alloc, url, ledger, ask, answer))),
+) -> Result<(), EditorFault>
+    ensures hears { HearsAnswers saved.old.ledger.now saved.new.ledger.now }
+{
+    match saved.hear(flight, ask, answer.status)? {
+        Heard::Refused => Err(stop(refusal(alloc, url, saved.ledger(), ask, answer))),
         _ => Ok(()),
     }
 }
@@ -87,12 +94,14 @@ fn hear_all(
     alloc: Global,
     flight: &mut Flight,
     url: &str,
-    ledger: &mut Ledger,
+    saved: &mut Saved<'_>,
     asks: &[Ask],
     answers: &[NodeAnswer],
-) -> Result<(), EditorFault> {
+) -> Result<(), EditorFault>
+    ensures hears { HearsAnswers saved.old.ledger.now saved.new.ledger.now }
+{
     for (ask, answer) in asks.iter().zip(answers) {
-        hear(alloc, flight, url, ledger, *ask, answer)?;
+        hear(alloc, flight, url, saved, *ask, answer)?;
     }
     Ok(())
 }
@@ -103,11 +112,13 @@ fn exchange<N: Net<Stream = TcpStream>>(
     alloc: Global,
     flight: &mut Flight,
     node: &Address,
-    ledger: &mut Ledger,
-) -> Result<bool, EditorFault> {
-    let asks = flight.asks(alloc, ledger.sent())?;
-    let answers = answers_of(net, alloc, node, ledger, &asks)?;
-    hear_all(alloc, flight, node.url.as_str(), ledger, &asks, &answers)?;
+    saved: &mut Saved<'_>,
+) -> Result<bool, EditorFault>
+    ensures hears { HearsAnswers saved.old.ledger.now saved.new.ledger.now }
+{
+    let asks = flight.asks(alloc, saved.ledger().sent())?;
+    let answers = answers_of(net, alloc, node, saved.ledger(), &asks)?;
+    hear_all(alloc, flight, node.url.as_str(), saved, &asks, &answers)?;
     Ok(!answers.is_empty())
 }
 
@@ -133,12 +144,14 @@ fn bring<N: Net<Stream = TcpStream>, E: Write>(
     err: &mut E,
     flight: &mut Flight,
     group: &Group,
-    ledger: &mut Ledger,
+    saved: &mut Saved<'_>,
     all: usize,
-) -> Result<Came, EditorFault> {
-    let before = ledger.sent().len();
-    let answered = exchange(net, alloc, flight, group.node()?, ledger)?;
-    let after = ledger.sent().len();
+) -> Result<Came, EditorFault>
+    ensures hears { HearsAnswers saved.old.ledger.now saved.new.ledger.now }
+{
+    let before = saved.ledger().sent().len();
+    let answered = exchange(net, alloc, flight, group.node()?, saved)?;
+    let after = saved.ledger().sent().len();
     tell(alloc, err, all, before, after)?;
     Ok(match (answered, after < before) {
         (_, true) => Came::Receipt,
@@ -167,18 +180,21 @@ fn deliver_at<R: Net<Stream = TcpStream> + Clock + AllocGlobal, E: Write>(
     rt: &R,
     err: &mut E,
     group: &mut Group,
-    ledger: &mut Ledger,
+    saved: &mut Saved<'_>,
     flight: &mut Flight,
     since: Instant,
     patience: u64,
-) -> Result<(), EditorFault> {
-    let all = ledger.sent().len();
+) -> Result<(), EditorFault>
+    ensures idle { OnOk result (is_idle saved.new.ledger.now ≡ true) }
+    ensures hears { HearsAnswers saved.old.ledger.now saved.new.ledger.now }
+{
+    let all = saved.ledger().sent().len();
     let mut clock = DeliveryClock::new();
     for _ in 0..u64::MAX {
-        if ledger.is_idle() {
+        if saved.ledger().is_idle() {
             return Ok(());
         }
-        let came = bring(rt, rt.alloc(), err, flight, group, ledger, all)?;
+        let came = bring(rt, rt.alloc(), err, flight, group, saved, all)?;
         match clock.step(came, passed(rt, since)?, patience) {
             Step::Again(millis) => rest(rt, millis),
             Step::Next => turn(rt, rt.alloc(), flight, group),
@@ -188,16 +204,19 @@ fn deliver_at<R: Net<Stream = TcpStream> + Clock + AllocGlobal, E: Write>(
     Err(EditorFault::Clock)
 }
 
-/// Sends what is on its way in a ledger until each has its receipt. It stays with a node while receipts come there, and gives up where none came for so
+/// Sends what is on its way in a ledger that was saved, until each has its receipt. It stays with a node while receipts come there, and gives up where none came for so
 /// many seconds.
 pub fn deliver<R: Net<Stream = TcpStream> + Clock + AllocGlobal, E: Write>(
     rt: &R,
     err: &mut E,
     group: &mut Group,
-    ledger: &mut Ledger,
+    saved: &mut Saved<'_>,
     patience: u64,
-) -> Result<(), EditorFault> {
+) -> Result<(), EditorFault>
+    ensures idle { OnOk result (is_idle saved.new.ledger.now ≡ true) }
+    ensures hears { HearsAnswers saved.old.ledger.now saved.new.ledger.now }
+{
     let mut flight = Flight::new(rt.alloc());
     let since = now(rt)?;
-    deliver_at(rt, err, group, ledger, &mut flight, since, patience)
+    deliver_at(rt, err, group, saved, &mut flight, since, patience)
 }

@@ -1,5 +1,6 @@
 -- What happens in publications is a history of the ledger, so its laws hold.
-use Rattle.std.proofs.Common.{◌≡◌, ℕ, List, [], ◌∷◌, ◌++◌, length, Bool, true, false, cond, eqb, ◌↔◌, Contains, refl, sym, ap, subst, ◌∙◌}
+use Rattle.std.proofs.Common.{◌≡◌, ℕ, List, [], ◌∷◌, ◌++◌, length, Bool, true, false, cond, eqb, ◌↔◌, Contains, map, refl, sym, ap, subst, ◌∙◌}
+use Rattle.std.proofs.lemmas.List.{map-append}
 use Rattle.editor_ledger.specs.Books.{Given, Book, fresh}
 use Rattle.editor_ledger.specs.Histories.{Event, plans, releases, receives, notes as tells, after, after_all}
 use Rattle.editor_ledger.specs.Plans.{plan_of}
@@ -7,7 +8,9 @@ use Rattle.editor_ledger.specs.Steps.{is_idle, numbered, with_tickets, planned, 
 use Rattle.editor_ledger.proofs.Tickets.{one_text}
 use Rattle.editor_ledger.proofs.Turning.{plan_turns}
 use Rattle.editor_plan.specs.Laws.{TicketsHaveOneText, DoneIsTheFolder}
-use Rattle.editor_plan.specs.Moves.{Move, advances, hears, notes, moved, moved_all}
+use Rattle.editor_plan.specs.Flights.{after_hearing}
+use Rattle.editor_plan.specs.Moves.{Move, advances, hears, notes, moved, moved_all, HearsAnswers}
+use Rattle.editor_plan.specs.declared.flight.Ask.{Ask}
 use Rattle.editor_plan.specs.declared.flight.Ask.TheVariants.{Receipt, Submit}
 
 -- events that lead from one ledger to the other
@@ -61,3 +64,22 @@ done editor moves wanted is apart about t put =
     let kept : (planned wanted book).kept ≡ book.kept = ap (λ (b : Book). b.kept) plan in
     let turned : Contains (planned wanted book).kept t ↔ Contains wanted t = plan_turns editor before.0 wanted [] idle apart about sent t put in
     subst (λ (b : Book). Contains b.kept t ↔ Contains wanted t) (sym same) (subst (λ (ks : List (List ℕ)). Contains ks t ↔ Contains wanted t) kept turned)
+
+-- ---- answers that are heard
+
+pub heard_same : (old new : Book) → new ≡ old → HearsAnswers old new
+heard_same old new same = ([], same)
+
+pub heard_one : (ask : Ask) (status : ℕ) (old new : Book) → new ≡ after_hearing ask status old → HearsAnswers old new
+heard_one ask status old new is = ((ask, status) ∷ [], is)
+
+moved-append : (moves more : List Move) (book : Book) → moved_all (moves ++ more) book ≡ moved_all more (moved_all moves book)
+moved-append [] more book = refl
+moved-append (move ∷ moves) more book = moved-append moves more (moved move book)
+
+pub heard_on : (old mid new : Book) → HearsAnswers old mid → HearsAnswers mid new → HearsAnswers old new
+heard_on old mid new first then =
+    let moves : List (Ask × ℕ) → List Move = map (λ a. hears a.0 a.1) in (
+      first.0 ++ then.0,
+      then.1 ∙ ap (moved_all (moves then.0)) first.1 ∙ sym (moved-append (moves first.0) (moves then.0) old) ∙ ap (λ m. moved_all m old) (sym (map-append (λ a. hears a.0 a.1) first.0 then.0)),
+    )

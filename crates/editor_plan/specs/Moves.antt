@@ -1,5 +1,5 @@
 -- What happens to a ledger in publications, one after the other, whatever is interrupted in between: an interruption leaves the ledger that was saved last.
-use Rattle.std.specs.Prelude.{ℕ, List, [], ◌∷◌}
+use Rattle.std.specs.Prelude.{◌≡◌, ℕ, List, [], ◌∷◌, map}
 use Rattle.editor_ledger.specs.Books.{Book}
 use Rattle.editor_ledger.specs.Steps.{logged}
 use Rattle.editor_ledger.specs.declared.released.Released.{Released}
@@ -23,3 +23,7 @@ moved (notes released) book = logged released book
 abbrev pub moved_all : List Move → Book → Book
 moved_all [] book = book
 moved_all (move ∷ later) book = moved_all later (moved move book)
+
+-- answers were heard, one after the other, and nothing else happened
+abbrev pub HearsAnswers : Book → Book → Type 0
+HearsAnswers old new = (answers : List (Ask × ℕ)) × (new ≡ moved_all (map (λ a. hears a.0 a.1) answers) old)

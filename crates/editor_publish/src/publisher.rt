@@ -40,15 +40,17 @@ fn untold(alloc: Global, url: &str) -> Result<EditorFault, AllocError> {
 }
 
 impl<R: Files + Net<Stream = TcpStream> + Clock + AllocGlobal, E: Write> Publisher<'_, R, E> {
-    fn save(&self) -> Result<(), EditorFault> {
-        save(self.rt, self.how.folder, self.ledger)
+    fn save(&mut self) -> Result<(), EditorFault> {
+        let _ = save(self.rt, self.how.folder, self.ledger)?;
+        Ok(())
     }
 
     /// Sends what is on its way, and saves what came of it, also where it came to no end.
     fn send(&mut self) -> Result<(), EditorFault> {
-        self.save()?;
         let patience = self.how.patience;
-        let sent = deliver(self.rt, self.err, self.group, self.ledger, patience);
+        let mut saved = save(self.rt, self.how.folder, self.ledger)?;
+        let sent = deliver(self.rt, self.err, self.group, &mut saved, patience);
+        drop(saved);
         self.save().and(sent)
     }
 
