@@ -21,15 +21,19 @@ rounds_rule = record (required_rule (codes "rounds")) { parser = Some (Signed (p
 abbrev pub format_rule : Rule
 format_rule = record (new_rule (codes "format")) { long = Some (codes "format"); action = Some SetTrue }
 
+-- `--verbose`, which may be there
+abbrev pub verbose_rule : Rule
+verbose_rule = record (new_rule (codes "verbose")) { long = Some (codes "verbose"); action = Some SetTrue }
+
 -- `ADDRESS...`, any number of them
 abbrev pub address_rule : Rule
 address_rule = record (new_rule (codes "address")) { value_names = 1; action = Some Append }
 
--- `sited --id P --record FILE --http ADDRESS --rounds R [--format] [--patience-ms N] [--serve-ms N] [ADDRESS]...`
+-- `sited --id P --record FILE --http ADDRESS --rounds R [--format] [--patience-ms N] [--serve-ms N] [--verbose] [ADDRESS]...`
 abbrev pub serve_app : App
-serve_app = with_rule (with_rule (with_rule (with_rule (with_rule (with_rule (with_rule (with_rule (new_app (codes "sited"))
+serve_app = with_rule (with_rule (with_rule (with_rule (with_rule (with_rule (with_rule (with_rule (with_rule (new_app (codes "sited"))
     id_rule) (required_rule (codes "record"))) (required_rule (codes "http"))) rounds_rule) format_rule)
-    (number_rule (codes "patience-ms"))) (number_rule (codes "serve-ms"))) address_rule
+    (number_rule (codes "patience-ms"))) (number_rule (codes "serve-ms"))) verbose_rule) address_rule
 
 -- a flag is set where its text is `true`
 abbrev pub is_set : Option Text → Bool
@@ -50,4 +54,5 @@ pub record GivesServe (rows : List Row) (o : ServeOptions) : Type 0 where
   pub format : o.format ≡ is_set (one_of (codes "format") rows)
   pub patience : IsNumberOf (one_of (codes "patience-ms") rows) o.patience
   pub serve_ms : IsNumberOf (one_of (codes "serve-ms") rows) o.serve_ms
+  pub verbose : o.verbose ≡ is_set (one_of (codes "verbose") rows)
   pub peers : map (λ s. s.now) o.peers.items ≡ unwrap_or (all_of (codes "address") rows) []

@@ -4,7 +4,7 @@ ghost use Rattle.clap.specs.Built.{TakesValue};
 ghost use Rattle.clap.specs.Words.{found_of, first_value, one_text, rows_of, rule_of, matches_of, takes, kind_of, FailsBy, fault_of, IsUnsignedIn, IsPlainArg};
 ghost use Rattle.clap.specs.declared.builder.value_parser.ValueParser.TheVariants.{Signed};
 ghost use Rattle.engine_options.specs.Options.{words_of};
-ghost use Rattle.engine_options.specs.ServeOptions.{serve_app, id_rule, rounds_rule, format_rule, address_rule, SpellsBelow, GivesServe};
+ghost use Rattle.engine_options.specs.ServeOptions.{serve_app, id_rule, rounds_rule, format_rule, verbose_rule, address_rule, SpellsBelow, GivesServe};
 
 use crate::arguments::{number_option, required_option};
 use crate::commands::described;
@@ -57,6 +57,18 @@ fn format_flag<'a>(alloc: Global) -> Arg<'a>
     Arg::new(alloc, "format")
         .long("format")
         .help("Makes a new record first, where FILE is empty or missing")
+        .action(ArgAction::SetTrue)
+}
+
+fn verbose_flag<'a>(alloc: Global) -> Arg<'a>
+    ensures rule { rule_of result ≡ verbose_rule }
+    ensures id { result.id.now ≡ codes "verbose" }
+    ensures plain { IsPlainArg result }
+    ensures local { result.global ≡ false }
+{
+    Arg::new(alloc, "verbose")
+        .long("verbose")
+        .help("Says on standard error what it sees of the others, and why where it halts")
         .action(ArgAction::SetTrue)
 }
 
@@ -114,6 +126,7 @@ fn serve_matches<'a>(alloc: Global, words: &'a [String]) -> Result<ArgMatches<'a
             "serve-ms",
             "Closes a connection whose request takes N milliseconds, from its first byte to the last of its response",
         ),
+        verbose_flag(alloc),
         address_arguments(alloc),
     ]?;
     let command = described(alloc, "sited", "Runs one server of a site", example).args(args)?;
@@ -136,6 +149,7 @@ pub fn sited_options<'a>(alloc: Global, words: &'a [String]) -> Result<ServeOpti
         format: flag_in(&matches, "format"),
         patience: some_number_in(&matches, "patience-ms"),
         serve_ms: some_number_in(&matches, "serve-ms"),
+        verbose: flag_in(&matches, "verbose"),
         peers,
     })
 }

@@ -1,31 +1,36 @@
 -- Lines of notes, and more of them.
-use Rattle.std.proofs.Common.{◌≡◌, ℕ, zero, suc, List, Option, sym, subst, refl}
+use Rattle.std.proofs.Common.{◌≡◌, ℕ, zero, suc, ◌+◌, List, Option, Bool, true, false, sym, subst, refl, arith}
 use Rattle.http_read.specs.Bytes.{End, IsGiven}
 use Rattle.server_notes.specs.Lines.{line_of_note}
 use Rattle.server_notes.specs.declared.note.Note.{Note}
 use Rattle.server.specs.Noted.{GivesNotes, HasNoted, EndsBy}
 
-pub none_noted : (e : End) → e.after ≡ e.before → e.failures_after ≡ e.failures → HasNoted e
-none_noted e same sound = (0, (same, sound))
+pub none_noted : (asked : Bool) (e : End) → e.after ≡ e.before → e.failures_after ≡ e.failures → HasNoted asked e
+none_noted asked e same sound = (0, (λ no. refl), (same, sound))
 
-pub one_noted : (e : End) (note : Note) → IsGiven e (line_of_note note) → HasNoted e
-one_noted e note given = (1, (e.before, e.failures, note, (refl, refl), given))
+yes_asked : {X : Type 0} → true ≡ false → X
+yes_asked e = absurd (cc)
+
+pub one_noted : (e : End) (note : Note) → IsGiven e (line_of_note note) → HasNoted true e
+one_noted e note given = (1, (λ no. yes_asked no), (e.before, e.failures, note, (refl, refl), given))
 
 module _ (a b : Option (List ℕ)) (f g : ℕ) (k : ℕ) (earlier : GivesNotes k (record { before = a; after = b; failures = f; failures_after = g })) where
-  more : (n : ℕ) (c : Option (List ℕ)) (h : ℕ) → GivesNotes n (record { before = b; after = c; failures = g; failures_after = h }) → HasNoted (record { before = a; after = c; failures = f; failures_after = h })
+  more : (n : ℕ) (c : Option (List ℕ)) (h : ℕ) → GivesNotes n (record { before = b; after = c; failures = g; failures_after = h })
+      → GivesNotes (n + k) (record { before = a; after = c; failures = f; failures_after = h })
   more zero c h (same, sound) =
-      (k, subst (λ w. GivesNotes k (record { before = a; after = w; failures = f; failures_after = h })) (sym same) (subst (λ w. GivesNotes k (record { before = a; after = b; failures = f; failures_after = w })) (sym sound) earlier))
-  more (suc n) c h (held, failures, note, before, given) = let so_far = more n held failures before in (suc so_far.0, (held, failures, note, so_far.1, given))
+      subst (λ w. GivesNotes k (record { before = a; after = w; failures = f; failures_after = h })) (sym same) (subst (λ w. GivesNotes k (record { before = a; after = b; failures = f; failures_after = w })) (sym sound) earlier)
+  more (suc n) c h (held, failures, note, before, given) = (held, failures, note, more n held failures before, given)
 
 -- these and those
-pub noted_on : (a b c : Option (List ℕ)) (f g h : ℕ) → HasNoted (record { before = a; after = b; failures = f; failures_after = g }) → HasNoted (record { before = b; after = c; failures = g; failures_after = h })
-    → HasNoted (record { before = a; after = c; failures = f; failures_after = h })
-noted_on a b c f g h (k, earlier) (n, later) = more a b f g k earlier n c h later
+pub noted_on : (asked : Bool) (a b c : Option (List ℕ)) (f g h : ℕ) → HasNoted asked (record { before = a; after = b; failures = f; failures_after = g })
+    → HasNoted asked (record { before = b; after = c; failures = g; failures_after = h }) → HasNoted asked (record { before = a; after = c; failures = f; failures_after = h })
+noted_on asked a b c f g h (k, none, earlier) (n, no_more, later) =
+    (n + k, (λ no. let first = none no in let then = no_more no in omega (arith, first, then)), more a b f g k earlier n c h later)
 
 -- and then what was last
-pub ends_by : (a b c : Option (List ℕ)) (f g h : ℕ) (Last : End → Type 0) → HasNoted (record { before = a; after = b; failures = f; failures_after = g }) → Last (record { before = b; after = c; failures = g; failures_after = h })
-    → EndsBy (record { before = a; after = c; failures = f; failures_after = h }) Last
-ends_by a b c f g h Last noted last = (b, g, noted, last)
+pub ends_by : (asked : Bool) (a b c : Option (List ℕ)) (f g h : ℕ) (Last : End → Type 0) → HasNoted asked (record { before = a; after = b; failures = f; failures_after = g }) → Last (record { before = b; after = c; failures = g; failures_after = h })
+    → EndsBy asked (record { before = a; after = c; failures = f; failures_after = h }) Last
+ends_by asked a b c f g h Last noted last = (b, g, noted, last)
 
 -- what was done behind none
 pub alone : (a b c : Option (List ℕ)) (f g h : ℕ) (P : End → Type 0) → GivesNotes 0 (record { before = a; after = b; failures = f; failures_after = g }) → P (record { before = b; after = c; failures = g; failures_after = h })

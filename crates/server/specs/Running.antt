@@ -1,5 +1,5 @@
 -- How a run of a server ends.
-use Rattle.std.specs.Prelude.{ℕ, ◌≡◌, ◌⊎◌, List, ◌++◌, codes, decimal, Result, Ok, Err}
+use Rattle.std.specs.Prelude.{ℕ, ◌≡◌, ◌⊎◌, List, ◌++◌, codes, decimal, Bool, Result, Ok, Err}
 use Rattle.http_read.specs.Bytes.{End, IsSilent, IsWritten, IsBroken, IsGiven}
 use Rattle.server_faults.specs.ServerFaults.{IsSaid, EndsOpening, EndsBinding, EndsLaps}
 use Rattle.server.specs.Noted.{GivesNotes, HasNoted, EndsBy}
@@ -23,11 +23,11 @@ printed p = ready_line p ++ done_line
 abbrev pub EndsBefore : ServeOptions → ServerFault → Type 0
 EndsBefore o why = ((why ≡ server_fault.BadAddress) × ¬ IsPlaced o) ⊎ (IsPlaced o × (EndsOpening why ⊎ EndsBinding why)) ⊎ (why ≡ server_fault.OutOfMemory)
 
--- it was ready, and did all its laps; on standard error lines of notes, and nothing else
+-- it was ready, and did all its laps; on standard error lines of notes where that was asked for, and nothing else
 pub record Finished (out err : End) (o : ServeOptions) (status : ℕ) : Type 0 where
   pub placed : IsPlaced o
   pub written : IsWritten out (printed o.id)
-  pub noted : HasNoted err
+  pub noted : HasNoted o.verbose err
   pub status_is : status ≡ 0
 
 -- one line, and perhaps why, before it was ready
@@ -48,14 +48,14 @@ pub record Halted (out err : End) (o : ServeOptions) (status : ℕ) : Type 0 whe
   pub written : IsWritten out (ready_line o.id)
   pub said : List ℕ
   pub is_said : IsSaid why said
-  pub given : EndsBy err (λ e. GivesFault e o why said)
+  pub given : EndsBy o.verbose err (λ e. GivesFault e o why said)
   pub status_is : status ≡ 1
 
 -- the writer failed, and a beginning of what a whole run prints was written; one line behind those of notes says so
 pub record Broken (out err : End) (o : ServeOptions) (status : ℕ) : Type 0 where
   pub placed : IsPlaced o
   pub broken : IsBroken out (printed o.id)
-  pub given : EndsBy err (λ e. IsGiven e (codes "write failed\n"))
+  pub given : EndsBy o.verbose err (λ e. IsGiven e (codes "write failed\n"))
   pub status_is : status ≡ 1
 
 abbrev pub HasServed : End → End → ServeOptions → ℕ → Type 0
@@ -67,8 +67,8 @@ HasServed out err o status = Finished out err o status ⊎ Refused out err o sta
 abbrev pub HaltsAt : End → End → ServeOptions → ServerFault → Type 0
 HaltsAt out err o why =
     (EndsBefore o why × IsSilent out × GivesNotes 0 err)
-    ⊎ (IsPlaced o × EndsLaps why × IsWritten out (ready_line o.id) × HasNoted err)
-    ⊎ (IsPlaced o × (why ≡ server_fault.Write) × IsBroken out (printed o.id) × HasNoted err)
+    ⊎ (IsPlaced o × EndsLaps why × IsWritten out (ready_line o.id) × HasNoted o.verbose err)
+    ⊎ (IsPlaced o × (why ≡ server_fault.Write) × IsBroken out (printed o.id) × HasNoted o.verbose err)
 
 -- `node P ready` could not be made, or not be written whole
 abbrev pub HaltsReady : End → ℕ → ServerFault → Type 0
@@ -83,16 +83,16 @@ DoneEnds out (Ok _) = IsWritten out done_line
 DoneEnds out (Err why) = (why ≡ server_fault.Write) × IsBroken out done_line
 
 -- the work of a server that is opened: ready, laps, done
-abbrev pub HaltsWork : End → End → ℕ → ServerFault → Type 0
-HaltsWork out err p why =
+abbrev pub HaltsWork : Bool → End → End → ℕ → ServerFault → Type 0
+HaltsWork asked out err p why =
     ((why ≡ server_fault.OutOfMemory) × IsSilent out × GivesNotes 0 err)
-    ⊎ (EndsLaps why × IsWritten out (ready_line p) × HasNoted err)
-    ⊎ ((why ≡ server_fault.Write) × IsBroken out (printed p) × HasNoted err)
+    ⊎ (EndsLaps why × IsWritten out (ready_line p) × HasNoted asked err)
+    ⊎ ((why ≡ server_fault.Write) × IsBroken out (printed p) × HasNoted asked err)
 
-abbrev pub WorkEnds : {T : Type 0} → End → End → ℕ → Result T ServerFault → Type 0
-WorkEnds out err p (Ok _) = IsWritten out (printed p) × HasNoted err
-WorkEnds out err p (Err why) = HaltsWork out err p why
+abbrev pub WorkEnds : {T : Type 0} → Bool → End → End → ℕ → Result T ServerFault → Type 0
+WorkEnds asked out err p (Ok _) = IsWritten out (printed p) × HasNoted asked err
+WorkEnds asked out err p (Err why) = HaltsWork asked out err p why
 
 abbrev pub RunEnds : {T : Type 0} → End → End → ServeOptions → Result T ServerFault → Type 0
-RunEnds out err o (Ok _) = IsPlaced o × IsWritten out (printed o.id) × HasNoted err
+RunEnds out err o (Ok _) = IsPlaced o × IsWritten out (printed o.id) × HasNoted o.verbose err
 RunEnds out err o (Err why) = HaltsAt out err o why

@@ -111,14 +111,15 @@ fn work<C: Clock, W: Write, E: Write>(
     server: &mut FileServer,
     id: u8,
     count: u64,
+    verbose: bool,
 ) -> Result<(), ServerFault>
-    ensures said { WorkEnds (end_of W.contents out.old out.new) (end_of E.contents err.old err.new) id result }
+    ensures said { WorkEnds verbose (end_of W.contents out.old out.new) (end_of E.contents err.old err.new) id result }
     ensures passes { OnOk result (Led ⟦<FileDisk as Disk>⟧.stands_for server.old.served.node server.new.served.node (TakesPasses server.old.served.node.cluster server.old.served.node.me count server.new.served.node.releases)) }
     ensures halted { IfErr result (λ why. Led ⟦<FileDisk as Disk>⟧.stands_for server.old.served.node server.new.served.node (BreaksWork server.old.served.node.cluster server.old.served.node.me count why)
         ⊎ LosesPasses ⟦<FileDisk as Disk>⟧.stands_for server.old.served.node server.new.served.node count why) }
 {
     say_ready(alloc, out, id)?;
-    take_passes(clock, alloc, err, shell, server, count)?;
+    take_passes(clock, alloc, err, shell, server, count, verbose)?;
     say_done(out)
 }
 
@@ -132,13 +133,14 @@ fn start<C: Clock, W: Write, E: Write>(
     server: &mut FileServer,
     options: &ServeOptions<'_>,
 ) -> Result<(), ServerFault>
-    ensures said { WorkEnds (end_of W.contents out.old out.new) (end_of E.contents err.old err.new) options.now.id result }
+    ensures said { WorkEnds options.now.verbose (end_of W.contents out.old out.new) (end_of E.contents err.old err.new) options.now.id result }
     ensures laps { OnOk result (Led ⟦<FileDisk as Disk>⟧.stands_for server.old.served.node server.new.served.node (TakesPasses server.old.served.node.cluster server.old.served.node.me (passes_of options.now.id options.now.rounds) server.new.served.node.releases)) }
     ensures halted { IfErr result (λ why. Led ⟦<FileDisk as Disk>⟧.stands_for server.old.served.node server.new.served.node (BreaksWork server.old.served.node.cluster server.old.served.node.me (passes_of options.now.id options.now.rounds) why)
         ⊎ LosesPasses ⟦<FileDisk as Disk>⟧.stands_for server.old.served.node server.new.served.node (passes_of options.now.id options.now.rounds) why) }
 {
     let count = count_passes(options.id, options.rounds);
-    work(clock, alloc, out, err, shell, server, options.id, count)
+    let (id, verbose) = (options.id, options.verbose);
+    work(clock, alloc, out, err, shell, server, id, count, verbose)
 }
 
 /// Opens a node, and does its work.

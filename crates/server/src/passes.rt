@@ -67,17 +67,18 @@ pub(crate) fn take_passes<D: Disk + Drop, C: Clock, E: Write>(
     shell: &mut Shell,
     server: &mut Server<D, TcpStream>,
     count: u64,
+    verbose: bool,
 ) -> Result<(), ServerFault>
     ensures ok { OnOk result (Led D.stands_for server.old.served.node server.new.served.node (TakesPasses server.old.served.node.cluster server.old.served.node.me count server.new.served.node.releases)) }
     ensures fault { IfErr result (λ why. Led D.stands_for server.old.served.node server.new.served.node (BreaksPasses server.old.served.node.cluster server.old.served.node.me count why) ⊎ LosesPasses D.stands_for server.old.served.node server.new.served.node count why) }
     ensures ends { IfErr result EndsLaps }
     ensures whose { StaysWhose server.old.served.node server.new.served.node }
     ensures counts { CountsNone result (D.failed server.old.served.node.store.disk) (D.failed server.new.served.node.store.disk) }
-    ensures noted { HasNoted (end_of E.contents err.old err.new) }
+    ensures noted { HasNoted verbose (end_of E.contents err.old err.new) }
 {
     for _ in 0..count {
         take_pass(clock, shell, server)?;
-        tell_notes(alloc, err, &mut shell.watch);
+        tell_notes(alloc, err, &mut shell.watch, verbose);
     }
     Ok(())
 }

@@ -1,6 +1,6 @@
 //! What a server says of its work.
 
-ghost use Rattle.std.specs.Prelude.{◌≡◌, ℕ, List, ◌++◌, IfOk, string_bytes, codes};
+ghost use Rattle.std.specs.Prelude.{◌≡◌, ℕ, List, ◌++◌, IfOk, true, string_bytes, codes};
 ghost use Rattle.http_read.specs.Bytes.{end_of, IsGiven};
 ghost use Rattle.server_notes.specs.Lines.{line_of_note};
 ghost use Rattle.server.specs.Noted.{HasNoted};
@@ -23,17 +23,25 @@ fn note_line(alloc: Global, note: &Note) -> Result<String, AllocError>
 
 /// Writes the line of a note. Where that fails, or memory is wanted for it, it is passed over.
 fn tell_note<E: Write>(alloc: Global, err: &mut Counted<E>, note: &Note)
-    ensures { HasNoted (end_of E.contents err.old err.new) }
+    ensures { HasNoted true (end_of E.contents err.old err.new) }
 {
     if let Ok(line) = note_line(alloc, note) {
         give(err, line.as_str());
     }
 }
 
-/// Writes all that is to be said behind a pass: of each of the nine kinds a line at most.
-pub(crate) fn tell_notes<E: Write>(alloc: Global, err: &mut Counted<E>, watch: &mut Watch)
-    ensures { HasNoted (end_of E.contents err.old err.new) }
+/// Writes all that is to be said behind a pass, of each of the nine kinds a line at most, where that was asked for.
+pub(crate) fn tell_notes<E: Write>(
+    alloc: Global,
+    err: &mut Counted<E>,
+    watch: &mut Watch,
+    asked: bool,
+)
+    ensures { HasNoted asked (end_of E.contents err.old err.new) }
 {
+    if !asked {
+        return;
+    }
     for _ in 0..9 {
         match watch.next() {
             Some(note) => tell_note(alloc, err, &note),

@@ -1,5 +1,5 @@
 -- The line behind that of a fault, which says why it was.
-use Rattle.std.specs.Prelude.{◌≡◌, ◌⊎◌, ℕ, List, ◌++◌, codes, Option}
+use Rattle.std.specs.Prelude.{◌≡◌, ◌⊎◌, ℕ, List, ◌++◌, codes, Option, Bool, true, false}
 use Rattle.http_read.specs.Bytes.{End, IsGiven}
 use Rattle.server_faults.specs.declared.server_fault.ServerFault.{ServerFault}
 use Rattle.server_faults.specs.declared.server_fault.ServerFault.TheVariants as server_fault
@@ -33,6 +33,11 @@ SaysWhy e o server_fault.Stopped = GivesWhy e (codes "record ") o.record.now
 SaysWhy e o server_fault.Socket = (word : List ℕ) × GivesWhy e (codes "address ") word
 SaysWhy e o _ = GivesNone e
 
+-- that is said where it was asked for, and else nothing
+abbrev pub SaysWhyIf : Bool → End → ServeOptions → ServerFault → Type 0
+SaysWhyIf true e o why = SaysWhy e o why
+SaysWhyIf false e o why = GivesNone e
+
 -- a line, and what is said behind it
 abbrev pub GivesFault : End → ServeOptions → ServerFault → List ℕ → Type 0
-GivesFault e o why said = (held : Option (List ℕ)) × (failures : ℕ) × IsGiven (up_to e held failures) said × SaysWhy (behind e held failures) o why
+GivesFault e o why said = (held : Option (List ℕ)) × (failures : ℕ) × IsGiven (up_to e held failures) said × SaysWhyIf o.verbose (behind e held failures) o why

@@ -13,6 +13,8 @@ pub struct ServeOptions<'a> {
     pub rounds: u32,
     /// Whether an empty or missing file becomes an empty record first.
     pub format: bool,
+    /// Whether it says on standard error what it sees, and behind a fault's line why it was.
+    pub verbose: bool,
     /// How many milliseconds it waits, at least, before it tries again; where none are named, 100.
     pub patience: Option<u64>,
     /// How many milliseconds a request may take, from its first byte to the last of its response, where that is limited.

@@ -1,10 +1,10 @@
-//! Why a server halted: a line behind that of the fault.
+//! Why a server halted: a line behind that of the fault, where that was asked for.
 //!
-//! Why stands in a line of its own, so that each line of a fault stays as it is.
+//! It stands in a line of its own, so that each line of a fault stays as the formats have it.
 
 ghost use Rattle.std.specs.Prelude.{◌≡◌, ℕ, List, IfOk, string_bytes};
 ghost use Rattle.http_read.specs.Bytes.{end_of};
-ghost use Rattle.server_faults.specs.Why.{why_line, GivesWhy, SaysWhy};
+ghost use Rattle.server_faults.specs.Why.{why_line, GivesWhy, SaysWhy, SaysWhyIf};
 
 use crate::{Cause, ServeOptions, ServerFault};
 use durable::RecordFault;
@@ -107,7 +107,7 @@ fn bad_word<'a>(options: &ServeOptions<'a>) -> (&'a str, &'static str) {
 }
 
 /// Says why it halted so, where that is more than its line says.
-pub fn say_why<E: Write>(
+fn say_cause<E: Write>(
     alloc: Global,
     err: &mut Counted<E>,
     options: &ServeOptions<'_>,
@@ -145,5 +145,20 @@ pub fn say_why<E: Write>(
             );
         }
         _ => {}
+    }
+}
+
+/// Says why it halted so behind its line, where that was asked for (`--verbose`).
+pub fn say_why<E: Write>(
+    alloc: Global,
+    err: &mut Counted<E>,
+    options: &ServeOptions<'_>,
+    fault: ServerFault,
+    cause: &Cause,
+)
+    ensures { SaysWhyIf options.now.verbose (end_of E.contents err.old err.new) options.now fault }
+{
+    if options.verbose {
+        say_cause(alloc, err, options, fault, cause);
     }
 }

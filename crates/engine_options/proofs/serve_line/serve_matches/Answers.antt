@@ -16,12 +16,12 @@ unfolding clap_on_literals
 free = refl
 
 abbrev ids : List (List ℕ)
-ids = codes "id" ∷ codes "record" ∷ codes "http" ∷ codes "rounds" ∷ codes "format" ∷ codes "patience-ms" ∷ codes "serve-ms" ∷ codes "address" ∷ []
+ids = codes "id" ∷ codes "record" ∷ codes "http" ∷ codes "rounds" ∷ codes "format" ∷ codes "patience-ms" ∷ codes "serve-ms" ∷ codes "verbose" ∷ codes "address" ∷ []
 
 abbrev args : (c : goal.After-try_get_matches_from) → List Arg
 args c =
     c.id_option.result ∷ c.required_option.result ∷ c.required_option-2.result ∷ c.rounds_option.result ∷ c.format_flag.result ∷ c.number_option.result ∷ c.number_option-2.result ∷
-    c.address_arguments.result ∷ []
+    c.verbose_flag.result ∷ c.address_arguments.result ∷ []
 
 added : (c : goal.After-try_get_matches_from) → AddsInTurn AddsArg c.described.result (args c) c.in_ok-command.command
 added c = subst (λ (xs : List Arg). AddsInTurn AddsArg c.described.result xs c.in_ok-command.command) c.in_ok-args.ensures.items c.in_ok-command.ensures
@@ -35,6 +35,7 @@ made c =
     let format = c.format_flag.ensures in
     let patience = c.number_option.ensures in
     let serving = c.number_option-2.ensures in
+    let verbose = c.verbose_flag.ensures in
     let address = c.address_arguments.ensures in
     record {
       bare = record { args = c.described.ensures.empty.0; groups = c.described.ensures.empty.1; globals = c.described.ensures.local; negates = c.described.ensures.negates };
@@ -53,7 +54,10 @@ made c =
                   record { is = patience.id; plain = patience.plain; local = patience.local },
                   (
                     record { is = serving.id; plain = serving.plain; local = serving.local },
-                    (record { is = address.id; plain = address.plain; local = address.local }, tt),
+                    (
+                      record { is = verbose.id; plain = verbose.plain; local = verbose.local },
+                      (record { is = address.id; plain = address.plain; local = address.local }, tt),
+                    ),
                   ),
                 ),
               ),
@@ -74,8 +78,10 @@ app_is c =
     let format = rounds.2 in
     let patience = format.2 in
     let serving = patience.2 in
-    let address = serving.2 in
+    let verbose = serving.2 in
+    let address = verbose.2 in
     ap app_of (sym address.2) ∙ adds _ _ _ _ _ address.1 c.address_arguments.ensures.local
+    (adds _ _ _ _ _ verbose.1 c.verbose_flag.ensures.local
     (adds _ _ _ _ _ serving.1 c.number_option-2.ensures.local
     (adds _ _ _ _ _ patience.1 c.number_option.ensures.local
     (adds _ _ _ _ _ format.1 c.format_flag.ensures.local
@@ -89,6 +95,7 @@ app_is c =
     c.format_flag.ensures.rule)
     c.number_option.ensures.rule)
     c.number_option-2.ensures.rule)
+    c.verbose_flag.ensures.rule)
     c.address_arguments.ensures.rule
 
 pub returns : goal.returns

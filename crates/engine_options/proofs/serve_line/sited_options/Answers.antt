@@ -12,8 +12,9 @@ named : (f : Found) (rows : List Row) (o : ServeOptions) → rows_of f ≡ rows 
     → first_value f (codes "record") ≡ Some o.record.now → first_value f (codes "http") ≡ Some o.http.now
     → IsNumberOf (one_text f (codes "rounds")) (Some o.rounds) → o.format ≡ is_set (one_text f (codes "format"))
     → IsNumberOf (one_text f (codes "patience-ms")) o.patience → IsNumberOf (one_text f (codes "serve-ms")) o.serve_ms
+    → o.verbose ≡ is_set (one_text f (codes "verbose"))
     → map (λ s. s.now) o.peers.items ≡ unwrap_or (all_of (codes "address") (rows_of f)) [] → GivesServe rows o
-named f rows o are id file http rounds format patience serving peers = record {
+named f rows o are id file http rounds format patience serving verbose peers = record {
   id = subst (λ (t : Option (List ℕ)). IsNumberOf t (Some o.id)) (read (codes "id")) id;
   file = text (codes "record") ∙ file;
   http = text (codes "http") ∙ http;
@@ -21,6 +22,7 @@ named f rows o are id file http rounds format patience serving peers = record {
   format = format ∙ ap is_set (read (codes "format"));
   patience = subst (λ (t : Option (List ℕ)). IsNumberOf t o.patience) (read (codes "patience-ms")) patience;
   serve_ms = subst (λ (t : Option (List ℕ)). IsNumberOf t o.serve_ms) (read (codes "serve-ms")) serving;
+  verbose = verbose ∙ ap is_set (read (codes "verbose"));
   peers = peers ∙ ap (λ (rs : List Row). unwrap_or (all_of (codes "address") rs) []) are;
 }
   where
@@ -33,4 +35,4 @@ named f rows o are id file http rounds format patience serving peers = record {
 pub returns-clause-given : goal.returns-clause-given
 returns-clause-given c =
     named (found_of c.in_ok-matches.matches) _ _ c.in_ok-matches.ensures.rows c.byte_in.ensures c.text_in.ensures c.text_in-2.ensures c.number_in.ensures
-    c.flag_in.ensures c.some_number_in.ensures c.some_number_in-2.ensures c.in_ok-peers.ensures
+    c.flag_in.ensures c.some_number_in.ensures c.some_number_in-2.ensures c.flag_in-2.ensures c.in_ok-peers.ensures

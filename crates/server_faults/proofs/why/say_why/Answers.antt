@@ -1,7 +1,11 @@
-use Rattle.std.proofs.Common.{sym, subst}
+use Rattle.std.proofs.Common.{true, false, refl, sym, subst}
 use Rattle.http_read.specs.Bytes.{end_of}
-use Rattle.server_faults.specs.Why.{SaysWhy}
+use Rattle.server_faults.specs.Why.{SaysWhyIf}
 use Rattle.server_faults.proofs.why.say_why.Goals as goal
 
-pub returns-in-BadAddress : goal.returns-in-BadAddress
-returns-in-BadAddress g c = subst (SaysWhy (end_of g.E.Write.contents c.args.err.now c.tell.new.err) c.args.options.now) (sym c.in-BadAddress.is) (c.bad_word.result.0.now, c.tell.ensures)
+pub returns-then-verbose : goal.returns-then-verbose
+returns-then-verbose g c =
+    subst (λ asked. SaysWhyIf asked (end_of g.E.Write.contents c.args.err.now c.say_cause.new.err) c.args.options.now c.args.fault) (sym c.if-verbose.true) c.say_cause.ensures
+
+pub returns : goal.returns
+returns g c = subst (λ asked. SaysWhyIf asked (end_of g.E.Write.contents c.args.err.now c.args.err.now) c.args.options.now c.args.fault) (sym c.if-verbose.false) (refl, refl)
