@@ -1,13 +1,18 @@
 -- Datagrams that wait for a step, and letters that one handed out.
-use Rattle.std.specs.Prelude.{ℕ, nat_eq, Bool, true, if◌then◌else◌, List, [], ◌∷◌}
+use Rattle.std.specs.Prelude.{ℕ, ◌<◌, vec_len, nat_eq, Bool, true, if◌then◌else◌, List, [], ◌∷◌}
 use Rattle.node.specs.declared.to.To.{To}
 use Rattle.node.specs.declared.to.To.TheVariants.{One, All}
 use Rattle.site_drive.specs.Posting.{bytes_of, letters_of}
 use Rattle.server.specs.declared.mail.Mail.{Mail}
+use Rattle.server.specs.declared.mail.TheConstants.{DATAGRAMS, BYTES}
 
 -- what came and waits, in order
 abbrev pub waiting_of : Mail → List (List ℕ)
 waiting_of mail = bytes_of mail.came.items
+
+-- a datagram may be received before the next step
+abbrev pub HasRoom : Mail → Type 0
+HasRoom mail = (vec_len mail.came < DATAGRAMS) × (mail.bytes < BYTES)
 
 -- what is to be sent: to whom, and the bytes
 abbrev pub posted_of : Mail → List (To × List ℕ)

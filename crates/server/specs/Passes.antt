@@ -1,5 +1,5 @@
 -- What a server does with its node: passes, each a batch of what came, and then requests of clients.
-use Rattle.std.specs.Prelude.{◌≡◌, ◌≢◌, ◌⊎◌, ℕ, zero, suc, ◌+◌, ◌*◌, ◌<◌, ◌≤◌, List, [], ◌∷◌, length, take, ⊤}
+use Rattle.std.specs.Prelude.{◌≡◌, ◌≢◌, ◌⊎◌, ℕ, zero, suc, ◌+◌, ◌*◌, ◌<◌, ◌≤◌, List, [], ◌∷◌, length, take, ⊤, Bool, IsTrue, ◌↔◌}
 use Rattle.site_ids.specs.declared.Ticket.{Ticket}
 use Rattle.wire.specs.declared.message.Message.{Message}
 use Rattle.command.specs.Written.{value_of}
@@ -12,8 +12,14 @@ use Rattle.node.specs.Nodes.{Node, IsKnownPrefix}
 use Rattle.node.specs.Standing.{IsNodeOf}
 use Rattle.site_drive.specs.Batches.{LeadsSealed, TakesBatch, GivesUpBatch, LosesBatch}
 use Rattle.site_drive.specs.Leading.{KeepsRecord}
+use Rattle.site_drive.specs.Delivering.{none_noted, AreNoted}
 use Rattle.site_drive.specs.Posting.{spelled_of}
+use Rattle.site_drive.specs.declared.delivered.Delivered.{Delivered}
 use Rattle.site_drive.specs.declared.last_call.LastCall.{LastCall}
+use Rattle.server_pace.specs.Pacing.{CallsDue, HearsBatch}
+use Rattle.server_pace.specs.declared.pace.Pace.{Pace}
+use Rattle.server.specs.Mailing.{waiting_of, HasRoom}
+use Rattle.server.specs.declared.mail.Mail.{Mail}
 use Rattle.server_faults.specs.ServerFaults.{of_node}
 use Rattle.server_clients.specs.Served.{ComesTo}
 use Rattle.server_faults.specs.declared.server_fault.ServerFault.{ServerFault}
@@ -105,15 +111,27 @@ BreaksWork n p count why s next =
 pub record Led {D : Type 0} (stands_for : D → DiskState → Type 0) (old new : Running D) (How : Node → Node → Type 0) : Type 0 where
   pub leads : (s : Node) → IsNodeOf old s → (next : Node) × How s next × IsNodeOf new next × KeepsRecord stands_for old new s next
 
--- a batch over this mail, of which so many spelled no message, is whole, and these are the letters of what it handed out
-abbrev pub IsBatched : {D : Type 0} → (D → DiskState → Type 0) → List (List ℕ) → ℕ → List (To × List ℕ) → Running D → Running D → Type 0
-IsBatched stands_for came malformed letters old new = (last : LastCall) × (out : List (To × Message))
+-- a batch over this mail with that last call, of which so many spelled no message, is whole, and these are the letters of what it handed out
+abbrev pub IsBatchOf : {D : Type 0} → (D → DiskState → Type 0) → LastCall → List (List ℕ) → ℕ → List (To × List ℕ) → Running D → Running D → Type 0
+IsBatchOf stands_for last came malformed letters old new = (out : List (To × Message))
     × LeadsSealed stands_for old new (λ s next. TakesBatch last old.cluster old.me came malformed out new.releases s next × (letters ≡ spelled_of out))
 
--- What may be sent though a step ended its server so: nothing; or, where memory was wanted, letters of its batch,
--- which is sealed, from the first one on
-abbrev pub MaySend : {D : Type 0} → (D → DiskState → Type 0) → List (List ℕ) → List (To × List ℕ) → ServerFault
-    → Running D → Type 0
+-- with some last call
+abbrev pub IsBatched : {D : Type 0} → (D → DiskState → Type 0) → List (List ℕ) → ℕ → List (To × List ℕ) → Running D → Running D → Type 0
+IsBatched stands_for came malformed letters old new = (last : LastCall) × IsBatchOf stands_for last came malformed letters old new
+
+-- The pace of a step: it called what was due, where all that had come was taken in if the mail had room; and then it heard what the batch delivered
+pub record Paces {D : Type 0} (node : Running D) (mail : Mail) (now : ℕ) (last : LastCall) (old new : Pace) : Type 0 where
+  pub drained : Bool
+  pub drained_is : IsTrue drained ↔ HasRoom mail
+  pub mid : Pace
+  pub calls : (s : Node) → IsNodeOf node s → CallsDue old node.cluster s now drained last mid
+  pub delivered : Delivered
+  pub noted : AreNoted node.cluster (waiting_of mail) none_noted delivered
+  pub hears : HearsBatch mid delivered new
+
+-- What may be sent though a step ended its server so: nothing; or, where memory was wanted, letters of its batch, which is sealed, from the first on
+abbrev pub MaySend : {D : Type 0} → (D → DiskState → Type 0) → List (List ℕ) → List (To × List ℕ) → ServerFault → Running D → Type 0
 MaySend {D} stands_for came letters why old = (letters ≡ [])
     ⊎ ((why ≡ server_fault.OutOfMemory)
     × (mid : Running D) × (last : LastCall) × (malformed : ℕ) × (out : List (To × Message))

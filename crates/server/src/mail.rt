@@ -4,7 +4,7 @@ ghost use Rattle.std.specs.Prelude.{◌≡◌, ◌++◌, ◌∷◌, [], ◌↔�
 ghost use Rattle.site_drive.specs.Posting.{bytes_of, letters_of};
 ghost use Rattle.server_packets.specs.Packets.{Holds, framed_all};
 ghost use Rattle.server_packets.specs.declared.TheConstants.{MAX_PACKET};
-ghost use Rattle.server.specs.Mailing.{waiting_of, posted_of, own_of, is_for};
+ghost use Rattle.server.specs.Mailing.{waiting_of, posted_of, own_of, is_for, HasRoom};
 
 use node::To;
 use server_packets::{first_frame, frames_in};
@@ -86,7 +86,7 @@ impl Mail {
 
     /// Whether a datagram may be received before the next step.
     pub fn has_room(&self) -> bool
-        ensures { IsTrue result ↔ ((vec_len self.now.came < DATAGRAMS) × (self.now.bytes < BYTES)) }
+        ensures { IsTrue result ↔ HasRoom self.now }
     {
         self.came.len() < DATAGRAMS && self.bytes < BYTES
     }

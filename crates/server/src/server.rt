@@ -11,7 +11,7 @@ ghost use Rattle.server_faults.specs.ServerFaults.{CountsNone, EndsLaps};
 ghost use Rattle.server_pace.specs.Pacing.{empty_after, first_pace, resting_of, Rests};
 ghost use Rattle.server_times.specs.Timing.{rest_after};
 ghost use Rattle.server.specs.Mailing.{waiting_of, posted_of, own_of, has_come};
-ghost use Rattle.server.specs.Passes.{Led, TakesStep, BreaksStep, LosesStep, IsBatched, MaySend};
+ghost use Rattle.server.specs.Passes.{Led, TakesStep, BreaksStep, LosesStep, IsBatchOf, MaySend, Paces};
 ghost use Rattle.server_clients.specs.Served.{offered};
 ghost use Rattle.server_clients.specs.declared.served.Served.{Served};
 
@@ -78,7 +78,8 @@ impl<D: Disk + Drop, S: Drop> Server<D, S> {
 
     /// The batch of a step: all that waits, and the call that is due after it. What that hands out is posted. The answer is how many datagrams spelled no message.
     fn take_batch(&mut self, now: u64) -> Result<u64, ServerFault>
-        ensures ok { IfOk result (λ malformed. IsBatched D.stands_for (waiting_of self.old.mail) malformed (posted_of self.new.mail) self.old.served.node self.new.served.node) }
+        ensures ok { IfOk result (λ malformed. (last : LastCall) × IsBatchOf D.stands_for last (waiting_of self.old.mail) malformed (posted_of self.new.mail) self.old.served.node self.new.served.node
+            × Paces self.old.served.node self.old.mail now last self.old.pace self.new.pace) }
         ensures own { OnOk result (waiting_of self.new.mail ≡ own_of self.old.me (posted_of self.new.mail)) }
         ensures seats { self.new.seats ≡ self.old.seats }
         ensures fault { IfErr result (λ why. Led D.stands_for self.old.served.node self.new.served.node (BreaksStep self.old.served.node.cluster self.old.served.node.me (waiting_of self.old.mail) why)
@@ -104,8 +105,8 @@ impl<D: Disk + Drop, S: Drop> Server<D, S> {
     /// One step, so many milliseconds after the server began, and never less than before: all that waits is one batch, behind which the node publishes, and what that
     /// hands out are the mail's letters; then requests are answered, but for those that are left.
     pub fn step(&mut self, now: u64) -> Result<Stepped, ServerFault>
-        ensures clients { IfOk result (λ stepped. (mid : Served D) × IsBatched D.stands_for (waiting_of self.old.mail) stepped.malformed (posted_of self.new.mail) self.old.served.node mid.node
-            × AreAnswered offered self.old.seats.times now mid self.new.served self.old.seats.seats.items self.new.seats.seats.items) }
+        ensures clients { IfOk result (λ stepped. (mid : Served D) × (last : LastCall) × IsBatchOf D.stands_for last (waiting_of self.old.mail) stepped.malformed (posted_of self.new.mail) self.old.served.node mid.node
+            × Paces self.old.served.node self.old.mail now last self.old.pace self.new.pace × AreAnswered offered self.old.seats.times now mid self.new.served self.old.seats.seats.items self.new.seats.seats.items) }
         ensures came { IfOk result (λ stepped. IsFalse stepped.came ↔ (waiting_of self.old.mail ≡ [])) }
         ensures answered { IfOk result (λ stepped. TellsAnswered stepped.answered (length self.old.seats.seats.items) self.old.seats.seats.items self.new.seats.seats.items) }
         ensures ok { OnOk result (Led D.stands_for self.old.served.node self.new.served.node (TakesStep self.old.served.node.cluster self.old.served.node.me (waiting_of self.old.mail) (posted_of self.new.mail) self.new.served.node.releases)) }

@@ -1,3 +1,4 @@
 pub mod Keeping
+pub mod Questioning
 pub mod Turns
 pub mod Pacing

@@ -1,5 +1,5 @@
 -- When a server tries again, asks and tells, and how long it rests. Times are milliseconds since it began, rests microseconds.
-use Rattle.std.specs.Prelude.{◌≡◌, ◌≢◌, ◌⊎◌, ℕ, suc, ◌+◌, ◌-◌, ◌*◌, ◌/◌, ◌^◌, ◌<◌, ◌≤◌, min, max, List, length, replicate, get_or, set, Bool, true, false, not, ◌||◌, ◌&&◌, nat_eq, nat_lt, if◌then◌else◌, Option, Some, None, is_none, unwrap_or, IsSome, IsTrue, ◌↔◌}
+use Rattle.std.specs.Prelude.{◌≡◌, ◌≢◌, ◌⊎◌, ℕ, suc, ◌+◌, ◌-◌, ◌*◌, ◌/◌, ◌^◌, ◌<◌, ◌≤◌, min, max, List, length, replicate, get_or, set, Bool, true, false, not, ◌||◌, ◌&&◌, nat_eq, nat_lt, if◌then◌else◌, Option, Some, None, unwrap_or, IsSome, IsTrue, ◌↔◌, is_none, is_some}
 use Rattle.site_ids.specs.declared.TheConstants.{MAX_INSTANCE}
 use Rattle.site_ids.specs.Ids.{BallotOf, IsInstance}
 use Rattle.site_ids.specs.declared.value.Vote.{Vote}
@@ -7,10 +7,14 @@ use Rattle.durable.specs.Entries.{last_vote, IsPromise}
 use Rattle.node.specs.Nodes.{Node, Value, IsKnownPrefix, WantsTick}
 use Rattle.node.specs.Tellings.{IsTellable}
 use Rattle.node.specs.declared.TheConstants.{MAX_TOLD}
-use Rattle.server_pace.specs.Keeping.{keeping_after, owed_at}
+use Rattle.server_notes.specs.Listening.{AreGathered}
+use Rattle.server_pace.specs.Keeping.{keeping_after, owed_at, IsNextBlock}
+use Rattle.server_pace.specs.Questioning.{asking_of, no_questions, AreAsked, Asks, TellsNext}
+use Rattle.server_pace.specs.Turns.{call_behind}
 use Rattle.server_pace.specs.declared.asking.Asking.{Asking}
 use Rattle.server_pace.specs.declared.asking.Telling.{Telling}
 use Rattle.server_pace.specs.declared.due.Due.{Due}
+use Rattle.site_drive.specs.declared.delivered.Delivered.{Delivered}
 use Rattle.site_drive.specs.declared.last_call.LastCall.{LastCall}
 use Rattle.site_drive.specs.declared.last_call.LastCall.TheVariants.{Ask, TickOrAsk}
 use Rattle.server_pace.specs.declared.last_question.LastQuestion.{LastQuestion}
@@ -153,40 +157,6 @@ abbrev pub yielding_after : Yielding → ℕ → Bool → Bool → Yielding
 yielding_after y now waits true = record y { since = Some (unwrap_or y.since now) }
 yielding_after y now waits false = record y { tried = if waits then replicate 9 false else y.tried; since = None }
 
--- ---- questions and tellings
-
--- its time has passed; or the last one brought a whole telling in no time; or it brought anything, all of that came, and nobody tries a value
-abbrev pub Asks : Asking → Type 0
-Asks a =
-    (a.passed ≡ true)
-    ⊎ ((MAX_TOLD ≤ a.learned) × (a.quick ≡ true))
-    ⊎ ((a.learned ≢ 0) × (a.drained ≡ true) × (a.calm ≡ true))
-
--- what stands since the last question, where it is to hear of more of what is on its record, or not
-abbrev pub asking_of : LastQuestion → Times → ℕ → Seen → ℕ → Bool → Asking
-asking_of last times now seen empty more = record {
-  learned = seen.known - last.known;
-  quick = not (passed last.at now times.quick);
-  drained = seen.drained;
-  calm = not last.tried || more;
-  passed = passed last.at now (asks_after times empty);
-}
-
--- it is of all its instances; or its time has passed, and nobody tries a value
-abbrev pub Tells : Telling → Type 0
-Tells t = (t.full ≡ true) ⊎ ((t.calm ≡ true) × (t.passed ≡ true))
-
--- there is something to tell of the last instance of a telling
-abbrev pub IsFull : Node → ℕ → Type 0
-IsFull s first = let final = first + (MAX_TOLD - 1) in (final ≤ MAX_INSTANCE) × IsTellable s final
-
--- node p is the first whose question waits, by their numbers, and it asked for instance i: from there on it
--- is told
-abbrev pub IsFirstAsked : List (Option ℕ) → ℕ → ℕ → Type 0
-IsFirstAsked asked p i =
-    (get_or asked (p - 1) None ≡ Some i)
-    × ((q : ℕ) → 1 ≤ q → q < p → get_or asked (q - 1) None ≡ None)
-
 -- ---- rests
 
 -- nothing came and nothing was served
@@ -312,3 +282,32 @@ pub record IsDue (p : Pace) (now : ℕ) (seen : Seen) (tries : Option ℕ) (bloc
   pub goes_on : IsTrue due.goes_on ↔ GoesOn (noted p.ticking now seen)
   pub waits : IsTrue due.waits ↔ Waits (noted_tries p.yielding now tries) p.me
   pub yields : IsTrue due.yields ↔ IsYielding p now tries
+
+-- ---- what is called, and heard
+
+-- none is told where a value is fresh, or what is known is put on record; else the next one may be
+abbrev pub IsTelling : Pace → ℕ → Node → ℕ → Bool → Bool → Option (ℕ × ℕ) → Questions → Type 0
+IsTelling p n s now wanted keeps telling new =
+    ((IsFresh p.ticking wanted p.stirred ⊎ (keeps ≡ true)) × (telling ≡ None) × (new ≡ p.questions))
+    ⊎ ((¬ IsFresh p.ticking wanted p.stirred) × (keeps ≡ false) × TellsNext p.questions p.times n s now (not p.last.tried) telling new)
+
+-- This is called behind the turns of a batch that begins now, by a server in a group of n, over this node; and that is its pace then
+pub record CallsDue (old : Pace) (n : ℕ) (s : Node) (now : ℕ) (drained : Bool) (last : LastCall) (new : Pace) : Type 0 where
+  pub seen : Seen
+  pub tries : Option ℕ
+  pub block : Option (ℕ × ℕ)
+  pub telling : Option (ℕ × ℕ)
+  pub due : Due
+  pub is_seen : IsSeen s old.me old.recorded drained seen
+  pub is_tried : IsTriedBy s (suc seen.known) tries
+  pub is_block : IsNextBlock (owed_at old.keeping now seen.known) old.times now seen.known block
+  pub is_told : IsTelling old n s now seen.wanted (is_some block) telling new.questions
+  pub is_due : IsDue old now seen tries block telling due
+  pub is_called : last ≡ call_behind due
+  pub after : new ≡ record (pace_after old now seen tries due last) { questions = new.questions }
+
+-- and this once it heard what the batch delivered
+pub record HearsBatch (old : Pace) (delivered : Delivered) (new : Pace) : Type 0 where
+  pub asked : AreAsked old.questions.asked delivered.questions new.questions.asked
+  pub answered : AreGathered old.answered delivered.answered new.answered
+  pub is : new ≡ record (heard old delivered.attempts delivered.stirs) { questions = record old.questions { asked = new.questions.asked }; answered = new.answered }

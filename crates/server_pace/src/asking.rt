@@ -1,7 +1,7 @@
 //! When a server asks, and when it tells.
 
 ghost use Rattle.std.specs.Prelude.{◌↔◌, IsTrue};
-ghost use Rattle.server_pace.specs.Pacing.{Asks, Tells};
+ghost use Rattle.server_pace.specs.Questioning.{Asks, Tells};
 
 use node::MAX_TOLD;
 

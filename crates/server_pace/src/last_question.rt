@@ -1,7 +1,7 @@
 //! The last question of a server, and what came since.
 
 ghost use Rattle.std.specs.Prelude.{◌≡◌, None, false};
-ghost use Rattle.server_pace.specs.Pacing.{asking_of};
+ghost use Rattle.server_pace.specs.Questioning.{asking_of};
 
 use crate::asking::Asking;
 use crate::seen::Seen;

@@ -6,9 +6,8 @@ ghost use Rattle.node.specs.Standing.{IsNodeOf};
 ghost use Rattle.server_pace.specs.declared.due.Due.{Due};
 ghost use Rattle.server_pace.specs.declared.seen.Seen.{Seen};
 ghost use Rattle.site_drive.specs.declared.last_call.LastCall.TheVariants.{Ask, TickOrAsk};
-ghost use Rattle.server_notes.specs.Listening.{AreGathered};
 ghost use Rattle.server_pace.specs.Keeping.{keeping_after, owed_at, IsNextBlock};
-ghost use Rattle.server_pace.specs.Pacing.{answers_after, empty_after, first_pace, heard, pace_after, question_after, resting_of, ticking_after, IsAnswered, IsDue, IsFirstAsked, IsFresh, IsSeen, IsTriedBy, IsUntried, IsYielding};
+ghost use Rattle.server_pace.specs.Pacing.{answers_after, empty_after, first_pace, heard, pace_after, question_after, resting_of, ticking_after, IsAnswered, CallsDue, HearsBatch, IsDue, IsFresh, IsTelling, IsUntried, IsYielding};
 ghost use Rattle.server_times.specs.Timing.{rest_after};
 ghost use Rattle.server_pace.specs.Turns.{call_behind};
 
@@ -78,13 +77,9 @@ impl Pace {
 
     /// Behind a batch: what it delivered.
     pub fn hear(&mut self, delivered: &Delivered)
-        ensures is { self.new ≡ record (heard self.old delivered.now.attempts delivered.now.stirs) {
-          questions = self.new.questions;
-          answered = self.new.answered;
-        } }
-        ensures answered { AreGathered self.old.answered delivered.now.answered self.new.answered }
+        ensures { HearsBatch self.old delivered.now self.new }
     {
-        self.questions.hear(self.cluster, delivered);
+        self.questions.hear(delivered);
         self.answered = gather(self.answered, delivered.answered());
         self.note(delivered.attempts(), delivered.stirs());
     }
@@ -101,13 +96,7 @@ impl Pace {
     /// counts from now on. A value that was just submitted is tried at once where nobody tries one and it is no other server's turn.
     pub fn due<D: Disk>(&mut self, now: u64, node: &Node<D>, drained: bool) -> LastCall
         ensures fresh { (s : AbstractNode) → IsNodeOf node.now s → WantsTick s → IsUntried s → ¬ IsYielding self.old now None → self.old.ticking.since ≡ None → self.old.stirred ≡ false → result ≡ TickOrAsk }
-        ensures due { (s : AbstractNode) → IsNodeOf node.now s →
-            (seen : Seen) × (tries : Option ℕ) × (block : Option (ℕ × ℕ)) × (telling : Option (ℕ × ℕ)) × (due : Due)
-            × IsSeen s self.old.me self.old.recorded drained seen × IsTriedBy s (suc seen.known) tries
-            × IsNextBlock (owed_at self.old.keeping now seen.known) self.old.times now seen.known block
-            × IfSome telling (λ x. IsFirstAsked self.old.questions.asked x.0 x.1)
-            × IsDue self.old now seen tries block telling due × (result ≡ call_behind due)
-            × (self.new ≡ record (pace_after self.old now seen tries due result) { questions = self.new.questions }) }
+        ensures due { (s : AbstractNode) → IsNodeOf node.now s → CallsDue self.old node.now.cluster s now drained result self.new }
     {
         let seen = Seen::of(node, self.me, self.recorded, drained);
         let block = self.next_block(now, seen.known);
@@ -131,7 +120,7 @@ impl Pace {
         seen: Seen,
         keeps: bool,
     ) -> Option<(NodeId, Instance)>
-        ensures told { IfSome result (λ x. IsFirstAsked self.old.questions.asked x.0 x.1) }
+        ensures told { (s : AbstractNode) → IsNodeOf node.now s → IsTelling self.old node.now.cluster s now seen.wanted keeps result self.new.questions }
         ensures same { self.new ≡ record self.old { questions = self.new.questions } }
         ensures waits { IsFresh self.old.ticking seen.wanted self.old.stirred → (result ≡ None) × (self.new ≡ self.old) }
     {

@@ -4,7 +4,7 @@ ghost use Rattle.std.specs.Prelude.{◌≡◌, ◌↔◌, ◌⊎◌, ◌-◌, �
 ghost use Rattle.node.specs.Nodes.{Node as AbstractNode};
 ghost use Rattle.node.specs.Standing.{IsNodeOf};
 ghost use Rattle.site_ids.specs.Ids.{IsNode};
-ghost use Rattle.server_pace.specs.Pacing.{no_questions, IsFirstAsked, IsFull, Tells};
+ghost use Rattle.server_pace.specs.Questioning.{newer, no_questions, AreAsked, IsFirstAsked, IsFull, Tells, TellsNext};
 ghost use Rattle.server_times.specs.Timing.{passed};
 
 use crate::asking::Telling;
@@ -31,6 +31,26 @@ fn is_full<D: Disk>(node: &Node<D>, first: Instance) -> bool
     }
 }
 
+fn newer(heard: Option<Instance>, before: Option<Instance>) -> Option<Instance>
+    ensures { result ≡ newer heard before }
+{
+    match heard {
+        Some(instance) => Some(instance),
+        None => before,
+    }
+}
+
+/// Of each node its newest question, where these were heard.
+fn newer_each(asked: [Option<Instance>; 9], heard: [Option<Instance>; 9]) -> [Option<Instance>; 9]
+    ensures { AreAsked asked heard result }
+{
+    let mut all = asked;
+    for i in 0..9 {
+        all[i] = newer(heard[i], asked[i]);
+    }
+    all
+}
+
 impl Questions {
     /// None was heard.
     pub(crate) fn new() -> Questions
@@ -43,17 +63,11 @@ impl Questions {
     }
 
     /// Those that were delivered. Each takes the place of that node's last one.
-    pub(crate) fn hear(&mut self, cluster: Cluster, delivered: &Delivered)
-        ensures { self.new.told ≡ self.old.told }
+    pub(crate) fn hear(&mut self, delivered: &Delivered)
+        ensures asked { AreAsked self.old.asked delivered.now.questions self.new.asked }
+        ensures told { self.new.told ≡ self.old.told }
     {
-        for number in 1..=cluster.size() {
-            let Some(node) = cluster.node(number) else {
-                return;
-            };
-            if let Some(instance) = delivered.question_of(node) {
-                self.asked[usize::from(number) - 1] = Some(instance);
-            }
-        }
+        self.asked = newer_each(self.asked, delivered.questions());
     }
 
     /// The first node whose question waits, and the instance that it was for. By that it is forgotten.
@@ -83,12 +97,7 @@ impl Questions {
         node: &Node<D>,
         calm: bool,
     ) -> Option<(NodeId, Instance)>
-        ensures forgets { (p i : ℕ) → IsNode node.now.cluster p → IsFirstAsked self.old.asked p i → self.new.asked ≡ set self.old.asked (p - 1) None }
-        ensures told { IfSome result (λ x. IsFirstAsked self.old.asked x.0 x.1) }
-        ensures due { (p i : ℕ) → IsNode node.now.cluster p → IsFirstAsked self.old.asked p i →
-            (s : AbstractNode) → IsNodeOf node.now s →
-            IsSome result ↔ (IsFull s i
-            ⊎ ((calm ≡ true) × (passed (get_or self.old.told (p - 1) None) now times.telling ≡ true))) }
+        ensures { (s : AbstractNode) → IsNodeOf node.now s → TellsNext self.old times node.now.cluster s now calm result self.new }
     {
         let (to, first) = self.take_first(node.cluster())?;
         let full = is_full(node, first);

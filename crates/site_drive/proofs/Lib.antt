@@ -6,6 +6,7 @@ pub mod Turning
 pub mod ManyTurns
 pub mod Calling
 pub mod Closing
+pub mod Noting
 pub mod Batching
 pub mod Sealing
 pub mod Posting

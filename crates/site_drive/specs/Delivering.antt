@@ -1,10 +1,53 @@
--- What is counted of the messages that a drive delivered.
-use Rattle.std.specs.Prelude.{ℕ, ◌-◌, List, set, Bool, true}
+-- What is noted of the messages that a drive or a batch delivered.
+use Rattle.std.specs.Prelude.{◌≡◌, ◌⊎◌, ℕ, ◌+◌, ◌-◌, ◌^◌, min, List, [], ◌∷◌, replicate, set, Bool, true, false, if◌then◌else◌, Option, Some, None}
+use Rattle.wire.specs.Decoding.{Spells}
 use Rattle.wire.specs.declared.message.Message.{Message}
-use Rattle.wire.specs.declared.message.Message.TheVariants.{Promise, Nack}
+use Rattle.wire.specs.declared.message.Message.TheVariants.{Prepare, Promise, Propose, Nack, Ask}
+use Rattle.site_drive.specs.declared.delivered.Delivered.{Delivered}
 
--- node p answers an attempt, at the place p - 1, by a promise or a refusal
+-- of each node, node p at the place p - 1, the instance that its last question was for
+abbrev pub asked_by : Message → List (Option ℕ) → List (Option ℕ)
+asked_by (Ask q i) asked = set asked (q - 1) (Some i)
+asked_by _ asked = asked
+
+-- who answers an attempt, by a promise or a refusal
 abbrev pub answered_by : Message → List Bool → List Bool
 answered_by (Promise q i b prior) answered = set answered (q - 1) true
 answered_by (Nack q i b c) answered = set answered (q - 1) true
 answered_by _ answered = answered
+
+-- it is of an attempt: a prepare, a promise or a proposal
+abbrev pub is_of_attempt : Message → Bool
+is_of_attempt (Prepare q i b count) = true
+is_of_attempt (Promise q i b prior) = true
+is_of_attempt (Propose q i b v) = true
+is_of_attempt _ = false
+
+-- it is no question
+abbrev pub stirs : Message → Bool
+stirs (Ask q i) = false
+stirs _ = true
+
+abbrev pub counted_if : Bool → ℕ → ℕ
+counted_if is n = if is then min (n + 1) (2 ^ 32 - 1) else n
+
+abbrev pub none_noted : Delivered
+none_noted = record { questions = replicate 9 None; answered = replicate 9 false; attempts = 0; stirs = 0 }
+
+-- one message more
+abbrev pub noted : Message → Delivered → Delivered
+noted m d = record {
+  questions = asked_by m d.questions;
+  answered = answered_by m d.answered;
+  attempts = counted_if (is_of_attempt m) d.attempts;
+  stirs = counted_if (stirs m) d.stirs;
+}
+
+-- of a datagram in a group of n: the message that it spells, if any
+abbrev pub IsNoted : ℕ → List ℕ → Delivered → Delivered → Type 0
+IsNoted n bytes old new = ((m : Message) × Spells n bytes m × (new ≡ noted m old)) ⊎ (((m : Message) → ¬ Spells n bytes m) × (new ≡ old))
+
+-- of datagrams, one after the other
+abbrev pub AreNoted : ℕ → List (List ℕ) → Delivered → Delivered → Type 0
+AreNoted n [] old new = new ≡ old
+AreNoted n (bytes ∷ came) old new = (mid : Delivered) × IsNoted n bytes old mid × AreNoted n came mid new

@@ -2,8 +2,9 @@
 //!
 //! A batch that isn't begun is given up: some bytes are missing, which ends a server anywhere.
 
-ghost use Rattle.std.specs.Prelude.{◌≡◌, ◌≤◌, [], length, IfOk, IfErr, OnErr};
+ghost use Rattle.std.specs.Prelude.{◌≡◌, ◌≤◌, [], length, IfOk, IfErr, OnOk, OnErr};
 ghost use Rattle.node.specs.Standing.{KeepsOthers, CountsDevice};
+ghost use Rattle.site_drive.specs.Delivering.{AreNoted, none_noted};
 ghost use Rattle.site_drive.specs.Batches.{TakesEach, Works, GivesUpTaking, GivesUpWork, EndsBatch};
 ghost use Rattle.site_drive.specs.Leading.{AllFit, NodeLeads};
 ghost use Rattle.site_drive.specs.Posting.{bytes_of};
@@ -26,6 +27,7 @@ impl Desk {
         ensures ok { IfOk result (λ malformed. NodeLeads D.stands_for node.old node.new (λ s next. TakesEach node.old.cluster node.old.me (bytes_of came.now) malformed self.new.outbox.items s next × AllFit self.new.outbox.items)) }
         ensures fault { IfErr result (λ why. NodeLeads D.stands_for node.old node.new (GivesUpTaking node.old.cluster node.old.me (bytes_of came.now) why)) }
         ensures few { IfOk result (λ malformed. malformed ≤ length came.now) }
+        ensures noted { OnOk result (AreNoted node.old.cluster (bytes_of came.now) self.old.delivered self.new.delivered) }
         ensures others { KeepsOthers node.old node.new }
         ensures counts { CountsDevice result (D.failed node.old.store.disk) (D.failed node.new.store.disk) }
     {
@@ -54,6 +56,7 @@ impl Desk {
         ensures ok { IfOk result (λ malformed. NodeLeads D.stands_for node.old node.new (Works last node.old.cluster node.old.me (bytes_of came.now) malformed self.new.outbox.items)) }
         ensures fault { IfErr result (λ why. NodeLeads D.stands_for node.old node.new (GivesUpWork last node.old.cluster node.old.me (bytes_of came.now) why)) }
         ensures few { IfOk result (λ malformed. malformed ≤ length came.now) }
+        ensures noted { OnOk result (AreNoted node.old.cluster (bytes_of came.now) self.old.delivered self.new.delivered) }
         ensures others { KeepsOthers node.old node.new }
         ensures counts { CountsDevice result (D.failed node.old.store.disk) (D.failed node.new.store.disk) }
     {
@@ -72,6 +75,7 @@ impl Desk {
         requires { self.old.outbox.items ≡ [] }
         ensures ends { EndsBatch D.stands_for D.failed last (bytes_of came.now) self.new.outbox.items node.old node.new result }
         ensures few { IfOk result (λ malformed. malformed ≤ length came.now) }
+        ensures noted { OnOk result (AreNoted node.old.cluster (bytes_of came.now) self.old.delivered self.new.delivered) }
     {
         node.begin()?;
         let malformed = match self.work(node, came, last) {
@@ -93,7 +97,7 @@ impl Desk {
     /// they are ignored, as losses.
     ///
     /// A device that fails leaves all of it on the disk or nothing, and stops the node. After a failed allocation what was done before is on the disk.
-    /// After any fault nothing waits for `post`: what waits there is sealed.
+    /// After any fault nothing waits for `post`: what waits there is sealed. What was delivered stays to be asked for (`delivered`).
     pub fn take_batch<D: Disk>(
         &mut self,
         node: &mut Node<D>,
@@ -102,6 +106,7 @@ impl Desk {
     ) -> Result<usize, NodeFault>
         ensures ends { EndsBatch D.stands_for D.failed last (bytes_of came.now) self.new.outbox.items node.old node.new result }
         ensures few { IfOk result (λ malformed. malformed ≤ length came.now) }
+        ensures noted { OnOk result (AreNoted node.old.cluster (bytes_of came.now) none_noted self.new.delivered) }
         ensures nothing { OnErr result (self.new.outbox.items ≡ []) }
     {
         self.outbox.clear();

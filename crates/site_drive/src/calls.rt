@@ -39,6 +39,7 @@ impl Desk {
         ensures event { NodeLeads D.stands_for node.old node.new (Called LastCall.Widen node.old.cluster node.old.me (ending_of result) self.old.outbox.items self.new.outbox.items) }
         ensures others { KeepsOthers node.old node.new }
         ensures counted { self.new.failed ≡ self.old.failed }
+        ensures delivered { self.new.delivered ≡ self.old.delivered }
         ensures counts { CountsDevice result (D.failed node.old.store.disk) (D.failed node.new.store.disk) }
     {
         'widening: while node.widen(&mut self.outbox)? {}
@@ -50,6 +51,7 @@ impl Desk {
         ensures event { NodeLeads D.stands_for node.old node.new (Called LastCall.TickOrAsk node.old.cluster node.old.me (ending_of result) self.old.outbox.items self.new.outbox.items) }
         ensures others { KeepsOthers node.old node.new }
         ensures counted { self.new.failed ≡ self.old.failed }
+        ensures delivered { self.new.delivered ≡ self.old.delivered }
         ensures counts { CountsDevice result (D.failed node.old.store.disk) (D.failed node.new.store.disk) }
     {
         if !node.wants_tick() {
@@ -63,6 +65,7 @@ impl Desk {
         ensures event { NodeLeads D.stands_for node.old node.new (Called last node.old.cluster node.old.me (ending_of result) self.old.outbox.items self.new.outbox.items) }
         ensures others { KeepsOthers node.old node.new }
         ensures counted { self.new.failed ≡ self.old.failed }
+        ensures delivered { self.new.delivered ≡ self.old.delivered }
         ensures counts { CountsDevice result (D.failed node.old.store.disk) (D.failed node.new.store.disk) }
     {
         match last {
@@ -86,6 +89,7 @@ impl Desk {
         ensures other { IfErr result (λ fault. fault ≢ NodeFault.InstancesUsedUp) }
         ensures others { KeepsOthers node.old node.new }
         ensures counted { self.new.failed ≡ self.old.failed }
+        ensures delivered { self.new.delivered ≡ self.old.delivered }
         ensures counts { CountsDevice result (D.failed node.old.store.disk) (D.failed node.new.store.disk) }
     {
         match self.call(node, last) {

@@ -1,7 +1,7 @@
 //! What a drive delivered, by kinds.
 
-ghost use Rattle.std.specs.Prelude.{◌≡◌, ◌-◌, set, true};
-ghost use Rattle.site_drive.specs.Delivering.{answered_by};
+ghost use Rattle.std.specs.Prelude.{◌≡◌, ◌-◌, get_or, set, true, None};
+ghost use Rattle.site_drive.specs.Delivering.{counted_if, none_noted, noted};
 
 use site_ids::{Instance, NodeId};
 use wire::Message;
@@ -18,7 +18,9 @@ pub struct Delivered {
 
 impl Delivered {
     /// None.
-    pub(crate) fn none() -> Delivered {
+    pub(crate) fn none() -> Delivered
+        ensures { result ≡ none_noted }
+    {
         Delivered {
             questions: [None; 9],
             answered: [false; 9],
@@ -29,7 +31,7 @@ impl Delivered {
 
     /// One message more.
     pub(crate) fn note(&mut self, message: &Message)
-        ensures { self.new.answered ≡ answered_by message.now self.old.answered }
+        ensures { self.new ≡ noted message.now self.old }
     {
         match message {
             Message::Ask { from, instance } => {
@@ -57,7 +59,7 @@ impl Delivered {
 
     /// One of an attempt more.
     fn note_attempt(&mut self)
-        ensures { self.new.answered ≡ self.old.answered }
+        ensures { self.new ≡ record self.old { attempts = counted_if true self.old.attempts; stirs = counted_if true self.old.stirs } }
     {
         self.attempts = self.attempts.saturating_add(1);
         self.note_stir();
@@ -65,7 +67,7 @@ impl Delivered {
 
     /// One more that is no question.
     fn note_stir(&mut self)
-        ensures { self.new.answered ≡ self.old.answered }
+        ensures { self.new ≡ record self.old { stirs = counted_if true self.old.stirs } }
     {
         self.stirs = self.stirs.saturating_add(1);
     }
@@ -77,8 +79,17 @@ impl Delivered {
         self.answered
     }
 
+    /// Of each node, node p at the place p - 1, the instance that its last question was for, if it asked.
+    pub fn questions(&self) -> [Option<Instance>; 9]
+        ensures { result ≡ self.now.questions }
+    {
+        self.questions
+    }
+
     /// The instance that the node's last question was for, if it asked.
-    pub fn question_of(&self, node: NodeId) -> Option<Instance> {
+    pub fn question_of(&self, node: NodeId) -> Option<Instance>
+        ensures { result ≡ get_or self.now.questions (node - 1) None }
+    {
         self.questions[usize::from(node.number()) - 1]
     }
 

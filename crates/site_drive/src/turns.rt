@@ -5,6 +5,7 @@ ghost use Rattle.wire.specs.declared.message.Message.{Message};
 ghost use Rattle.node.specs.Nodes.{Node as AbstractNode};
 ghost use Rattle.node.specs.declared.to.To.{To};
 ghost use Rattle.node.specs.Standing.{IsNodeOf, KeepsOthers, CountsDevice};
+ghost use Rattle.site_drive.specs.Delivering.{IsNoted};
 ghost use Rattle.site_drive.specs.Links.{RoseBy};
 ghost use Rattle.site_drive.specs.Sending.{Counted};
 ghost use Rattle.site_drive.specs.Drives.{Heard, datagrams, BreaksOff, Exchanges, GivesUp};
@@ -30,6 +31,7 @@ pub(crate) fn deliver_datagram<D: Disk>(
     ensures one { IfOk result (λ malformed. malformed ≤ 1) }
     ensures taken { IfOk result (λ malformed. NodeLeads D.stands_for node.old node.new (TakesIn node.old.cluster node.old.me (Some datagram.now) malformed outbox.old.items outbox.new.items)) }
     ensures broken { IfErr result (λ fault. NodeLeads D.stands_for node.old node.new (λ s next. BreaksOff node.old.cluster node.old.me s datagram.now fault next)) }
+    ensures noted { OnOk result (IsNoted node.old.cluster datagram.now delivered.old delivered.new) }
     ensures others { KeepsOthers node.old node.new }
     ensures counts { CountsDevice result (D.failed node.old.store.disk) (D.failed node.new.store.disk) }
 {

@@ -1,4 +1,4 @@
-use Rattle.std.proofs.Common.{Err, refl, subst}
+use Rattle.std.proofs.Common.{Err, inl, inr, refl, subst}
 use Rattle.wire.specs.declared.message.Message.{Message}
 use Rattle.wire.specs.Decoding.{Spells, Decodes}
 use Rattle.site_drive.proofs.Turning.{taken, broken, passed, unread}
@@ -30,3 +30,12 @@ returns-in-Ok-deliver-clause-counts g c = all_fine _ _ _ (none_failed _ _ _ c.in
 
 pub returns-in-Ok-clause-counts : goal.returns-in-Ok-clause-counts
 returns-in-Ok-clause-counts g c = counts_on (Err c.in-Err.fault) c.in-Err.fault _ _ _ refl refl c.in-Err.ensures.counts
+
+-- what is delivered is noted, and what spells nothing is not
+pub returns-in-Ok-deliver-clause-noted : goal.returns-in-Ok-deliver-clause-noted
+returns-in-Ok-deliver-clause-noted g c = inl (c.in-Ok.message, subst (λ k. Spells k c.args.datagram.now c.in-Ok.message) c.cluster.ensures c.in-Ok.ensures, c.note.ensures)
+
+pub returns-in-Err-Malformed-clause-noted : goal.returns-in-Err-Malformed-clause-noted
+returns-in-Err-Malformed-clause-noted g c =
+    let none = subst (λ f. Decodes c.cluster.result c.args.datagram.now (Err f)) c.in-Err-Malformed.field-0-is c.in-Err-Malformed.ensures in
+    inr (subst (λ k. (m : Message) → ¬ Spells k c.args.datagram.now m) c.cluster.ensures none, refl)

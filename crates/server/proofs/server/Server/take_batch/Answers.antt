@@ -1,7 +1,9 @@
-use Rattle.std.proofs.Common.{◌⊎◌, ◌++◌, take, inl, ap, subst, ◌∙◌}
+use Rattle.std.proofs.Common.{◌⊎◌, ◌++◌, take, inl, sym, ap, subst, ◌∙◌}
+use Rattle.site_drive.specs.Delivering.{none_noted, AreNoted}
 use Rattle.site_drive.specs.Posting.{bytes_of, letters_of, spelled_of}
 use Rattle.site_drive.proofs.Results.{err_gives}
-use Rattle.server.specs.Passes.{Led, BreaksStep, LosesStep, IsBatched, MaySend}
+use Rattle.server.specs.Mailing.{waiting_of}
+use Rattle.server.specs.Passes.{Led, BreaksStep, LosesStep, IsBatchOf, MaySend}
 use Rattle.server.proofs.ManyPasses.{posted, not_posted, batch_broke, sendable, all_sendable}
 use Rattle.server.proofs.server.Server.take_batch.Goals as goal
 
@@ -30,11 +32,27 @@ pub returns-clause-ok : goal.returns-clause-ok
 returns-clause-ok g c =
     let old = c.args.self.now.served.node in
     let new = c.take_batch.new.node in
+    let last = c.due-last.result in
     let out = c.take_batch.new.self.outbox.items in
     let letters = letters_of c.keep_own.new.self.letters.items in
-    subst (λ l. IsBatched g.D.Disk.stands_for (bytes_of l) c.in_ok-malformed.malformed letters old new) c.as_slice-came.ensures.value
-    (posted g.D.Disk.stands_for old new c.due-last.result (bytes_of c.as_slice-came.result.now) _ out c.in_ok-malformed.ensures.ends.ok
-    letters (λ fits. ap (λ v. letters_of v.items) c.keep_own.ensures.same ∙ c.in_ok-post.ensures.ok fits ∙ ap (λ l. letters_of l ++ spelled_of out) c.clear.ensures.items))
+    let came = bytes_of c.as_slice-came.result.now in
+    (
+      last,
+      subst (λ l. IsBatchOf g.D.Disk.stands_for last (bytes_of l) c.in_ok-malformed.malformed letters old new) c.as_slice-came.ensures.value
+          (posted g.D.Disk.stands_for old new last came _ out c.in_ok-malformed.ensures.ends.ok
+          letters (λ fits. ap (λ v. letters_of v.items) c.keep_own.ensures.same ∙ c.in_ok-post.ensures.ok fits ∙ ap (λ l. letters_of l ++ spelled_of out) c.clear.ensures.items)).1,
+      record {
+        drained = c.has_room-drained.result;
+        drained_is = c.has_room-drained.ensures;
+        mid = c.due-last.new.self;
+        calls = c.due-last.ensures.due;
+        delivered = c.delivered-delivered.result;
+        noted =
+            subst (λ d. AreNoted old.cluster (waiting_of c.args.self.now.mail) none_noted d) (sym c.delivered-delivered.ensures)
+            (subst (λ l. AreNoted old.cluster (bytes_of l) none_noted c.take_batch.new.self.delivered) c.as_slice-came.ensures.value c.in_ok-malformed.ensures.noted);
+        hears = c.hear.ensures;
+      },
+    )
 
 pub returns-in_err-malformed-clause-may_send : goal.returns-in_err-malformed-clause-may_send
 returns-in_err-malformed-clause-may_send g c =

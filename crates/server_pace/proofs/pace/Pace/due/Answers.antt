@@ -1,46 +1,39 @@
-use Rattle.std.proofs.Common.{rules, subst, sym, refl, ap, ◌≡◌, ℕ, suc, Option, Some, None}
+use Rattle.std.proofs.Common.{is_some, rules, subst, sym, refl, ap, ◌≡◌, ℕ, suc, Option, Some, None}
 use Rattle.durable.specs.Entries.{IsPromise}
 use Rattle.node.specs.Nodes.{Node}
-use Rattle.server_pace.specs.Pacing.{pace_after, IsDue, IsFresh, IsTriedBy, IsYielding}
+use Rattle.server_pace.specs.Pacing.{pace_after, IsDue, IsFresh, IsTelling, IsTriedBy, IsYielding}
 use Rattle.server_pace.specs.declared.pace.Pace.{Pace}
 use Rattle.server_pace.proofs.pace.Pace.due.Goals as goal
 
 -- it is what `call` answered; that the questions moved on before changes nothing else
 pub returns-clause-due : goal.returns-clause-due
 returns-clause-due g c = λ s h.
-    let due = c.call.ensures.due in
+    let old = c.args.self.now in
+    let now = c.args.now in
     let seen = c.of-seen.result in
     let tries = c.first_tried_by-tries.result in
     let block = c.next_block-block.result in
     let telling = c.next_telling-telling.result in
-    let same = c.next_telling-telling.ensures.same in
-    let is = subst (λ p. IsDue p c.args.now seen tries block telling due.0) same due.1 in
-    let after = subst (λ (p : Pace). c.call.new.self ≡ pace_after p c.args.now seen tries due.0 c.call.result) same due.3 in
+    let due = c.call.ensures.due in
+    let is = subst (λ p. IsDue p now seen tries block telling due.0) c.next_telling-telling.ensures.same due.1 in
+    let after = subst (λ (p : Pace). c.call.new.self ≡ pace_after p now seen tries due.0 c.call.result) c.next_telling-telling.ensures.same due.3 in
     let asked = ap (λ (p : Pace). p.questions) after in
-    let now = pace_after c.args.self.now c.args.now seen tries due.0 c.call.result in (
-      seen,
-      tries,
-      block,
-      telling,
-      due.0,
-      c.of-seen.ensures s h,
-      c.first_tried_by-tries.ensures s h,
-      c.next_block-block.ensures,
-      c.next_telling-telling.ensures.told,
-      record {
-        fresh = is.fresh;
-        kept = is.kept;
-        told = is.told;
-        question = is.question;
-        tick = is.tick;
-        answered = is.answered;
-        goes_on = is.goes_on;
-        waits = is.waits;
-        yields = is.yields;
-      },
-      due.2,
-      subst (λ q. c.call.new.self ≡ record now { questions = q }) (sym asked) after,
-    )
+    record {
+      seen = seen;
+      tries = tries;
+      block = block;
+      telling = telling;
+      due = due.0;
+      is_seen = c.of-seen.ensures s h;
+      is_tried = c.first_tried_by-tries.ensures s h;
+      is_block = c.next_block-block.ensures;
+      is_told =
+          subst (λ q. IsTelling old c.args.node.now.cluster s now seen.wanted (is_some block) telling q) (sym asked)
+          (subst (λ k. IsTelling old c.args.node.now.cluster s now seen.wanted k telling c.next_telling-telling.new.self.questions) c.is_some.ensures (c.next_telling-telling.ensures.told s h));
+      is_due = record { fresh = is.fresh; kept = is.kept; told = is.told; question = is.question; tick = is.tick; answered = is.answered; goes_on = is.goes_on; waits = is.waits; yields = is.yields };
+      is_called = due.2;
+      after = subst (λ q. c.call.new.self ≡ record (pace_after old now seen tries due.0 c.call.result) { questions = q }) (sym asked) after;
+    }
 
 -- what is promised to none, nobody tries
 nobody : (s : Node) (i : ℕ) (tries : Option ℕ) → IsPromise s.entries i None → IsTriedBy s i tries → tries ≡ None

@@ -1,8 +1,10 @@
 use Rattle.std.proofs.Common.{Some, refl, sym, subst, ◌∙◌, arith}
+use Rattle.site_drive.specs.Delivering.{IsNoted}
 use Rattle.site_drive.specs.Drives.{BreaksOff}
 use Rattle.site_drive.specs.Leading.{NodeLeads, TakesIn}
 use Rattle.site_drive.proofs.Batching.{of_same_node, none_taken, one_more, breaks_off, all_taken}
 use Rattle.site_drive.proofs.Failing.{none_failed, all_fine, counts_on}
+use Rattle.site_drive.proofs.Noting.{noted_more, all_noted}
 use Rattle.site_drive.proofs.Results.{err_gives}
 use Rattle.site_drive.proofs.Sealing.{others_on}
 use Rattle.site_drive.proofs.desk.Desk.take_each.Goals as goal
@@ -10,6 +12,7 @@ use Rattle.site_drive.proofs.desk.Desk.take_each.Goals as goal
 pub loop-datagram-init : goal.loop-datagram-init
 loop-datagram-init g c = record {
   leads = none_taken g.D.Disk.stands_for c.args.node.now c.args.node.now.cluster c.args.node.now.me c.args.self.now.outbox.items c.requires;
+  noted = refl;
   few = omega arith;
   others = record { me = refl; cluster = refl; releases = refl };
   counts = refl;
@@ -31,6 +34,10 @@ loop-datagram-preserved g c =
           old mid new old.cluster old.me c.loop-datagram.malformed before c.loop-datagram.invariant.leads one after
           (of_same_node g.D.Disk.stands_for old mid new others (λ n p. TakesIn n p (Some x.items) one before after)
           (subst (λ b. NodeLeads g.D.Disk.stands_for mid new (TakesIn mid.cluster mid.me (Some b) one before after)) c.as_slice.ensures.value c.in_ok-one.ensures.taken));
+      noted =
+          noted_more (λ d. d.items) c.args.came.now c.loop-datagram.datagram-index old.cluster c.args.self.now.delivered c.loop-datagram.self.delivered c.loop-datagram.invariant.noted
+          x mid.cluster c.deliver_datagram.new.delivered c.loop-datagram-test.true c.datagram-item.is others.cluster
+          (subst (λ b. IsNoted mid.cluster b c.loop-datagram.self.delivered c.deliver_datagram.new.delivered) c.as_slice.ensures.value c.in_ok-one.ensures.noted);
       few = omega (arith, c.loop-datagram.invariant.few, c.in_ok-one.ensures.one);
       others = others_on old mid new others c.deliver_datagram.ensures.others;
       counts = none_failed _ _ _ c.in_ok-one.ensures.counts ∙ c.loop-datagram.invariant.counts;
@@ -61,3 +68,8 @@ returns-clause-ok g c =
 
 pub returns-clause-counts : goal.returns-clause-counts
 returns-clause-counts g c = all_fine _ _ _ c.loop-datagram.invariant.counts
+
+pub returns-clause-noted : goal.returns-clause-noted
+returns-clause-noted g c =
+    all_noted (λ d. d.items) c.args.came.now c.loop-datagram.datagram-index c.args.node.now.cluster c.args.self.now.delivered c.loop-datagram.self.delivered c.loop-datagram.invariant.noted
+    c.loop-datagram-test.false

@@ -1,6 +1,7 @@
 use Rattle.std.proofs.Common.{◌≡◌, inl, inr, ⊎_elim, Err, refl, ap, subst, rules, ◌∙◌}
 use Rattle.node.specs.declared.fault.NodeFault.TheVariants as fault
 use Rattle.site_drive.specs.Batches.{Works, GivesUpWork}
+use Rattle.site_drive.specs.Delivering.{AreNoted}
 use Rattle.site_drive.specs.Leading.{NodeLeads}
 use Rattle.site_drive.specs.Posting.{bytes_of}
 use Rattle.site_drive.proofs.Batching.{of_same_node}
@@ -151,3 +152,7 @@ returns-clause-ends g c =
       whose = stays_on old new public (of_others old new (others_on old mid new others c.seal-2.ensures.keeps)) (record { me = c.publish.ensures.whose.0; cluster = c.publish.ensures.whose.1; more = c.publish.ensures.more });
       counts = all_fine _ _ _ (ap (λ store. g.D.Disk.failed store.disk) c.publish.ensures.store ∙ none_failed _ _ _ c.in_ok-seal.ensures.counts ∙ none_failed _ _ _ c.in-Ok.ensures.counts ∙ ap g.D.Disk.failed c.begin.ensures.disk);
     }
+
+pub returns-clause-noted : goal.returns-clause-noted
+returns-clause-noted g c =
+    subst (λ n. AreNoted n (bytes_of c.args.came.now) c.args.self.now.delivered c.work.new.self.delivered) c.begin.ensures.keeps.cluster c.in-Ok.ensures.noted

@@ -35,6 +35,7 @@ widening-preserved g c = record {
     releases = c.widen.ensures.others.releases ∙ c.widening.invariant.others.releases;
   };
   counted = c.widening.invariant.counted;
+  delivered = c.widening.invariant.delivered;
   counts = none_failed _ _ _ c.in_ok-widen.ensures.counts ∙ c.widening.invariant.counts;
 }
 

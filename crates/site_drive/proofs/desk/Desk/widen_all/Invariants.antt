@@ -9,6 +9,7 @@ invariant-widening g l = record {
   so_far : NodeLeads g.D.Disk.stands_for l.fn.node l.node (Widening l.fn.node.cluster l.fn.node.me l.fn.self.outbox.items l.self.outbox.items);
   others : KeepsOthers l.fn.node l.node;
   counted : l.self.failed ≡ l.fn.self.failed;
+  delivered : l.self.delivered ≡ l.fn.self.delivered;
   counts : g.D.Disk.failed l.node.store.disk ≡ g.D.Disk.failed l.fn.node.store.disk;
 }
 

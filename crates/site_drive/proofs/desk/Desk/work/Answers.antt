@@ -2,6 +2,7 @@ use Rattle.std.proofs.Common.{◌≡◌, ◌++◌, List, sym, subst, ◌∙◌}
 use Rattle.wire.specs.declared.message.Message.{Message}
 use Rattle.node.specs.declared.to.To.{To}
 use Rattle.node.specs.Standing.{ending_by}
+use Rattle.site_drive.specs.Delivering.{AreNoted}
 use Rattle.site_drive.specs.Drives.{EndsLast, EndsTurns}
 use Rattle.site_drive.specs.Leading.{AllFit, NodeLeads}
 use Rattle.site_drive.specs.Posting.{bytes_of}
@@ -32,3 +33,7 @@ returns-clause-ok g c =
     (of_same_node g.D.Disk.stands_for old mid c.last_call.new.node c.take_each.ensures.others
     (λ n p s next. (then : List (To × Message)) × (c.last_call.new.self.outbox.items ≡ c.take_each.new.self.outbox.items ++ then) × EndsTurns c.args.last n p s then next × AllFit then)
     c.in_ok-last_call.ensures.ok)
+
+pub returns-clause-noted : goal.returns-clause-noted
+returns-clause-noted g c =
+    subst (λ d. AreNoted c.args.node.now.cluster (bytes_of c.args.came.now) c.args.self.now.delivered d) (sym c.last_call.ensures.delivered) c.in_ok-malformed.ensures.noted
