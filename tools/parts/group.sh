@@ -49,8 +49,8 @@ url() { echo "http://${http[$1 - 1]}"; }
 # where a node finds the nodes, itself among them: P
 peers_of() { echo "${udp[@]}"; }
 
-# from now on each of N nodes finds the others behind a bad or long network (relay.c): N SEED LOSS REPEAT
-# DELAY [WAY]
+# from now on each of N nodes finds the others behind a bad or long network (relay.c), and node $plain, if that is
+# set, reads and sends no packets: N SEED LOSS REPEAT DELAY [WAY]
 start_relay() {
     local p q n=$1
     shift
@@ -67,7 +67,10 @@ start_relay() {
             if [ "$q" = "$1" ]; then echo "${udp[q - 1]}"; else echo "127.0.0.1:${by[$1.$q]}"; fi
         done
     }
-    for p in "${!by[@]}"; do echo "${by[$p]} ${udp[${p#*.} - 1]##*:}"; done > "$group/pairs"
+    for p in "${!by[@]}"; do
+        case .$p. in *".${plain:-none}."*) q=1 ;; *) q=0 ;; esac
+        echo "${by[$p]} ${udp[${p#*.} - 1]##*:} $q"
+    done > "$group/pairs"
     cc -O2 -o "$group/relay" tools/parts/relay.c
     "$group/relay" "$@" < "$group/pairs" > "$group/relayed" &
     relay=$!

@@ -1,6 +1,7 @@
 /* A bad or long network between UDP sockets on loopback: `relay SEED LOSS REPEAT DELAY [WAY] < pairs`, each
-   line of standard input `FROM TO`, two ports. What comes in at port FROM goes out to port TO: LOSS of 100
-   datagrams not at all, REPEAT of 100 twice, and each after WAY milliseconds, or none, and 0 to DELAY more, so
+   line of standard input `FROM TO PLAIN`, two ports, and 1 where no packet of several datagrams goes that way, as
+   a node that is built by the formats alone reads and sends none. What comes in at port FROM goes out to port
+   TO: LOSS of 100 datagrams not at all, REPEAT of 100 twice, and each after WAY milliseconds, or none, and 0 to DELAY more, so
    that datagrams overtake one another. It prints `ready`, and runs until SIGTERM; then it prints how many came,
    were lost, repeated and sent. */
 #include <arpa/inet.h>
@@ -14,11 +15,11 @@
 #include <time.h>
 #include <unistd.h>
 
-enum { LONGEST = 65536, PAIRS = 128, WAITING = 16384 };
+enum { LONGEST = 65536, PAIRS = 128, WAITING = 16384, PACKET = 3 /* its first byte */ };
 
 struct datagram { double due; int pair; size_t length; char *bytes; };
 
-static int sockets[PAIRS], pairs;
+static int sockets[PAIRS], plain[PAIRS], pairs;
 static struct sockaddr_in targets[PAIRS];
 static struct datagram heap[WAITING]; /* the least due time at 0 */
 static int waiting;
@@ -77,10 +78,11 @@ int main(int count, char **words) {
     state = strtoull(words[1], 0, 10);
     const uint64_t loss = strtoull(words[2], 0, 10), repeat = strtoull(words[3], 0, 10);
     const int delay = atoi(words[4]), way = count == 6 ? atoi(words[5]) : 0;
-    for (int from, to; scanf("%d %d", &from, &to) == 2; pairs++) {
+    for (int from, to, is_plain; scanf("%d %d %d", &from, &to, &is_plain) == 3; pairs++) {
         const struct sockaddr_in here = at(from);
         if (pairs == PAIRS) { fputs("relay: too many pairs\n", stderr); return 1; }
         targets[pairs] = at(to);
+        plain[pairs] = is_plain;
         sockets[pairs] = socket(AF_INET, SOCK_DGRAM | SOCK_NONBLOCK, 0);
         if (sockets[pairs] < 0 || bind(sockets[pairs], (const struct sockaddr *)&here, sizeof here) < 0) { perror("relay: bind"); return 1; }
     }
@@ -97,7 +99,8 @@ int main(int count, char **words) {
         for (int i = 0; i < pairs; i++)
             for (ssize_t length; ready[i].revents & POLLIN && (length = recv(sockets[i], bytes, sizeof bytes, 0)) >= 0;) {
                 came++;
-                if (random_below(100) < loss) { lost++; continue; }
+                const int is_read = !plain[i] || length == 0 || bytes[0] != PACKET;
+                if (random_below(100) < loss || !is_read) { lost++; continue; }
                 put(i, bytes, length, way, delay);
                 if (random_below(100) < repeat) { repeated++; put(i, bytes, length, way, delay); }
             }

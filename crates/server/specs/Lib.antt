@@ -1,4 +1,5 @@
 pub mod Placing
+pub mod Speaking
 pub mod Mailing
 pub mod Passes
 pub mod Noted

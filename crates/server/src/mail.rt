@@ -1,16 +1,20 @@
 //! Datagrams between a node and who carries them, in memory.
 
-ghost use Rattle.std.specs.Prelude.{◌≡◌, ◌++◌, ◌∷◌, [], ◌↔◌, ◌<◌, ◌≤◌, ℕ, List, length, IsTrue, OnOk, OnErr, vec_len};
+ghost use Rattle.std.specs.Prelude.{◌≡◌, ◌++◌, ◌∷◌, [], ◌↔◌, ◌⊎◌, ◌≤◌, ℕ, List, length, IsTrue, OnOk, OnErr, vec_len};
 ghost use Rattle.site_drive.specs.Posting.{bytes_of, letters_of};
 ghost use Rattle.server_packets.specs.Packets.{Holds, framed_all};
 ghost use Rattle.server_packets.specs.declared.TheConstants.{MAX_PACKET};
+ghost use Rattle.server.specs.Speaking.{no_peers, HearsFrames, HearsPiece};
 ghost use Rattle.server.specs.Mailing.{waiting_of, posted_of, own_of, is_for, HasRoom};
 
+use crate::peers::Peers;
 use node::To;
 use server_packets::{first_frame, frames_in};
+use server_times::Times;
 use site_drive::Letter;
-use site_ids::NodeId;
+use site_ids::{Cluster, NodeId};
 use std::alloc::{AllocError, Global};
+use wire::decode;
 
 /// How many datagrams wait at most.
 const DATAGRAMS: usize = 256;
@@ -25,6 +29,9 @@ const BYTES: usize = 1_000_000;
 #[derive(Drop)]
 pub struct Mail {
     alloc: Global,
+    cluster: Cluster,
+    /// Which other nodes read packets.
+    pub peers: Peers,
     pub(crate) came: Vec<Vec<u8>>,
     // how many bytes of datagrams were pushed since the last step, as far as they are counted
     bytes: usize,
@@ -73,11 +80,14 @@ fn put_each(
 
 impl Mail {
     /// Nothing waits, and nothing is to be sent.
-    pub fn new(alloc: Global) -> Mail
-        ensures { (waiting_of result ≡ []) × (posted_of result ≡ []) }
+    pub fn new(alloc: Global, cluster: Cluster, times: Times) -> Mail
+        ensures empty { (waiting_of result ≡ []) × (posted_of result ≡ []) }
+        ensures peers { (result.cluster ≡ cluster) × (result.peers ≡ no_peers times) }
     {
         Mail {
             alloc,
+            cluster,
+            peers: Peers::new(times),
             came: Vec::new(alloc),
             bytes: 0,
             letters: Vec::new(alloc),
@@ -103,6 +113,7 @@ impl Mail {
         ensures came { OnOk result (waiting_of self.new ≡ waiting_of self.old ++ datagram.now ∷ []) }
         ensures refused { OnErr result (waiting_of self.new ≡ waiting_of self.old) }
         ensures same { self.new.letters ≡ self.old.letters }
+        ensures peers { (self.new.peers ≡ self.old.peers) × (self.new.cluster ≡ self.old.cluster) }
     {
         let datagram = Vec::from_slice(self.alloc, datagram)?;
         self.bytes = self.bytes.saturating_add(datagram.len());
@@ -110,15 +121,32 @@ impl Mail {
         Ok(())
     }
 
-    /// What came in one piece: each datagram that it holds waits behind the others. Where memory is refused the first of them may.
-    pub fn take_in(&mut self, piece: &[u8]) -> Result<(), AllocError>
+    /// What came in one piece: each datagram that it holds waits behind the others. Where memory is refused the first of them may. Who sends a packet reads packets.
+    pub fn take_in(&mut self, piece: &[u8], now: u64) -> Result<(), AllocError>
         ensures came { OnOk result ((ds : List (List ℕ)) × Holds piece.now ds × (waiting_of self.new ≡ waiting_of self.old ++ ds)) }
         ensures refused { OnErr result ((done left : List (List ℕ)) × Holds piece.now (done ++ left) × (waiting_of self.new ≡ waiting_of self.old ++ done)) }
         ensures same { self.new.letters ≡ self.old.letters }
+        ensures peers { HearsPiece self.old.cluster piece.now now self.old.peers self.new.peers }
     {
         match frames_in(piece) {
-            Some(frames) => self.take_frames(frames),
+            Some(frames) => {
+                self.hear(frames, now);
+                self.take_frames(frames)
+            }
             None => self.push(piece),
+        }
+    }
+
+    /// Who sent the first message of a packet reads packets. Where memory is refused nobody is noticed.
+    fn hear(&mut self, frames: &[u8], now: u64)
+        ensures hears { HearsFrames self.old.cluster frames.now now self.old.peers self.new.peers ⊎ (self.new.peers ≡ self.old.peers) }
+        ensures same { self.new ≡ record self.old { peers = self.new.peers } }
+    {
+        let Some((first, _)) = first_frame(frames) else {
+            return;
+        };
+        if let Ok(message) = decode(self.alloc, first, self.cluster) {
+            self.peers.hear(message.from(), now);
         }
     }
 
@@ -128,6 +156,7 @@ impl Mail {
         ensures came { OnOk result ((ds : List (List ℕ)) → frames.now ≡ framed_all ds → waiting_of self.new ≡ waiting_of self.old ++ ds) }
         ensures refused { OnErr result ((ds : List (List ℕ)) → frames.now ≡ framed_all ds → (done left : List (List ℕ)) × (ds ≡ done ++ left) × (waiting_of self.new ≡ waiting_of self.old ++ done)) }
         ensures same { self.new.letters ≡ self.old.letters }
+        ensures peers { (self.new.peers ≡ self.old.peers) × (self.new.cluster ≡ self.old.cluster) }
     {
         let mut rest = frames;
         while let Some((datagram, behind)) = first_frame(rest) {
@@ -156,6 +185,7 @@ impl Mail {
     pub(crate) fn keep_own(&mut self, me: NodeId) -> Result<(), AllocError>
         ensures own { OnOk result (waiting_of self.new ≡ own_of me (posted_of self.old)) }
         ensures same { self.new.letters ≡ self.old.letters }
+        ensures peers { (self.new.peers ≡ self.old.peers) × (self.new.cluster ≡ self.old.cluster) }
     {
         self.came.clear();
         self.bytes = 0;

@@ -1,9 +1,10 @@
 //! Letters, packed for whom they are.
 
-ghost use Rattle.std.specs.Prelude.{◌≡◌, ◌≤◌, [], ℕ, List, length, take, IfOk};
+ghost use Rattle.std.specs.Prelude.{◌≡◌, ◌≤◌, ◌↔◌, [], ℕ, List, length, take, true, IfOk, IsTrue};
 ghost use Rattle.site_drive.specs.Posting.{letters_of};
 ghost use Rattle.server_packets.specs.Making.{Packs};
 ghost use Rattle.server.specs.Mailing.{own_of};
+ghost use Rattle.server.specs.Speaking.{MayJoin};
 
 use crate::mail::reaches;
 use server_packets::Packet;
@@ -11,17 +12,30 @@ use site_drive::Letter;
 use site_ids::NodeId;
 use std::alloc::AllocError;
 
-/// Packs what the first of these letters have for a node, in place of what was packed: as many as go into one packet, and one at least, however long. The
-/// answer is how many letters that are, those for other nodes among them.
-pub fn pack(letters: &[Letter], to: NodeId, packet: &mut Packet) -> Result<usize, AllocError>
+/// Whether a datagram of so many bytes may go with those that are packed: the first may, and with others where that is wanted and there is room.
+fn may_join(packet: &Packet, len: usize, alone: bool) -> bool
+    ensures { (ds : List (List ℕ)) → Packs packet.now ds → IsTrue result ↔ MayJoin ds len alone }
+{
+    packet.is_empty() || (!alone && packet.has_room(len))
+}
+
+/// Packs what the first of these letters have for a node, in place of what was packed: as many as go into one packet, and one at least, however long; or
+/// one alone, for a node that reads no packets (`Peers`). The answer is how many letters that are, those for other nodes among them.
+pub fn pack(
+    letters: &[Letter],
+    to: NodeId,
+    alone: bool,
+    packet: &mut Packet,
+) -> Result<usize, AllocError>
     ensures packed { IfOk result (λ n. (ds : List (List ℕ)) → Packs packet.old ds → Packs packet.new (own_of to (letters_of (take n letters.now)))) }
+    ensures single { IfOk result (λ n. (ds : List (List ℕ)) → Packs packet.old ds → alone ≡ true → length (own_of to (letters_of (take n letters.now))) ≤ 1) }
     ensures within { IfOk result (λ n. n ≤ length letters.now) }
     ensures goes_on { IfOk result (λ n. (ds : List (List ℕ)) → Packs packet.old ds → n ≡ 0 → letters.now ≡ []) }
 {
     packet.clear();
     for (n, letter) in letters.iter().enumerate() {
         if reaches(letter.to, to) {
-            if !packet.has_room(letter.bytes.len()) {
+            if !may_join(packet, letter.bytes.len(), alone) {
                 return Ok(n);
             }
             packet.push(letter.bytes.as_slice())?;

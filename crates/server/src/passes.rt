@@ -50,7 +50,7 @@ fn take_pass<D: Disk + Drop, C: Clock>(
     let now = shell.now(clock);
     let heard = shell.take_in(&mut server.mail, &mut server.seats, now)?;
     let stepped = server.step(now)?;
-    let told = shell.give_out(server.mail.letters(), &mut server.seats, now);
+    let told = shell.give_out(&mut server.mail, &mut server.seats, now);
     let node = &server.served.node;
     shell
         .watch

@@ -65,14 +65,14 @@ impl<D: Disk + Drop, S: Drop> Server<D, S> {
         ensures clients { (result.seats.seats.items ≡ []) × (result.seats.times ≡ times) }
         ensures pace { result.pace ≡ first_pace times served.node.cluster me recorded }
     {
-        let pace = Pace::new(times, served.node.cluster(), me, recorded);
+        let cluster = served.node.cluster();
         Server {
             me,
             served,
-            mail: Mail::new(alloc),
+            mail: Mail::new(alloc, cluster, times),
             seats: Seats::new(alloc, times),
             desk,
-            pace,
+            pace: Pace::new(times, cluster, me, recorded),
         }
     }
 

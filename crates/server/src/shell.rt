@@ -1,12 +1,13 @@
 //! What carries a server's bytes: its sockets and its clock. It is read: nothing is proved of it but that it is safe and returns.
 //!
-//! What it sends a node in a pass goes as packets (`server_packets`): each call that sends costs some microseconds, as much as a message.
+//! What it sends a node in a pass goes as packets (`server_packets`), where that node reads such (`Peers`): each call that sends costs some microseconds, as much as a message.
 //!
 //! A rest of 10 ms or more waits for a datagram and ends with it; a shorter one sleeps, as the system counts such waits in steps of some milliseconds.
 
 use crate::addresses::Addresses;
 use crate::mail::Mail;
 use crate::packing::pack;
+use crate::peers::Peers;
 use crate::watch::Watch;
 use server_clients::Seats;
 use server_notes::Notes;
@@ -77,21 +78,45 @@ fn others_of(
     Ok(others)
 }
 
+/// Sends a node what was packed for it. Once in a while that goes as a packet, one datagram too; to a node that reads none it goes as it is, too.
+fn send_packed(
+    socket: &UdpSocket,
+    packet: &Packet,
+    peers: &mut Peers,
+    (to, at): (NodeId, SocketAddr),
+    now: u64,
+) {
+    let shown = if peers.is_due(to, now) {
+        packet.as_packet()
+    } else {
+        None
+    };
+    if shown.is_none() || !peers.reads(to, now) {
+        let _ = socket.send_to(packet.bytes(), at);
+    }
+    if let Some(bytes) = shown {
+        let _ = socket.send_to(bytes, at);
+        peers.show(to, now);
+    }
+}
+
 /// Sends a node what these letters have for it. A failure is a loss, and so is want of memory.
 fn send_to(
     socket: &UdpSocket,
     packet: &mut Packet,
     letters: &[Letter],
-    to: NodeId,
-    at: SocketAddr,
+    peers: &mut Peers,
+    (to, at): (NodeId, SocketAddr),
+    now: u64,
 ) {
+    let alone = !peers.reads(to, now);
     let mut rest = letters;
     for _ in 0..letters.len() {
-        let Ok(n) = pack(rest, to, packet) else {
+        let Ok(n) = pack(rest, to, alone, packet) else {
             return;
         };
         if !packet.is_empty() {
-            let _ = socket.send_to(packet.bytes(), at);
+            send_packed(socket, packet, peers, (to, at), now);
         }
         let (_, behind) = rest.split_at(n);
         rest = behind;
@@ -146,7 +171,7 @@ impl Shell {
         seats: &mut Seats<TcpStream>,
         now: u64,
     ) -> Result<bool, AllocError> {
-        self.receive(mail)?;
+        self.receive(mail, now)?;
         self.accept(seats, now)?;
         seats.read_each(now)
     }
@@ -154,25 +179,25 @@ impl Shell {
     /// Sends the letters and what clients are owed, and closes the connections that leave: whether anything went to a client.
     pub(crate) fn give_out(
         &mut self,
-        letters: &[Letter],
+        mail: &mut Mail,
         seats: &mut Seats<TcpStream>,
         now: u64,
     ) -> bool {
-        self.send(letters);
+        self.send(mail, now);
         let told = seats.write_each(now);
         self.part(seats, now);
         told
     }
 
     /// Receives what has come, as far as the mail has room. A failure is a loss.
-    fn receive(&mut self, mail: &mut Mail) -> Result<(), AllocError> {
+    fn receive(&mut self, mail: &mut Mail, now: u64) -> Result<(), AllocError> {
         for _ in 0..RECEIVED {
             if !mail.has_room() {
                 return Ok(());
             }
             match self.socket.recv_from(self.datagram.as_mut_slice()) {
                 Ok((n, _from)) => {
-                    mail.take_in(&self.datagram[..n])?;
+                    mail.take_in(&self.datagram[..n], now)?;
                     self.watch.hear(mail.newest());
                 }
                 Err(e) if e.kind() == ErrorKind::WouldBlock => return Ok(()),
@@ -215,7 +240,7 @@ impl Shell {
         let came = self.socket.recv_from(self.datagram.as_mut_slice());
         let _ = self.socket.set_nonblocking(true);
         if let Ok((n, _from)) = came {
-            let _ = mail.take_in(&self.datagram[..n]);
+            let _ = mail.take_in(&self.datagram[..n], self.now);
             self.watch.hear(mail.newest());
         }
     }
@@ -227,9 +252,17 @@ impl Shell {
     }
 
     /// Sends each other node what these letters have for it.
-    fn send(&mut self, letters: &[Letter]) {
-        for (node, at) in &self.others {
-            send_to(&self.socket, &mut self.packet, letters, *node, *at);
+    fn send(&mut self, mail: &mut Mail, now: u64) {
+        let Mail { letters, peers, .. } = mail;
+        for other in &self.others {
+            send_to(
+                &self.socket,
+                &mut self.packet,
+                letters.as_slice(),
+                peers,
+                *other,
+                now,
+            );
         }
     }
 

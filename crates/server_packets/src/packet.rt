@@ -1,8 +1,9 @@
 //! A packet that is being made.
 
-ghost use Rattle.std.specs.Prelude.{◌≡◌, ◌↔◌, ◌≤◌, ◌++◌, ◌∷◌, [], ℕ, ◌+◌, ◌*◌, List, length, vec_len, IfOk, IsTrue, OnOk, OnErr};
+ghost use Rattle.std.specs.Prelude.{◌≡◌, ◌↔◌, ◌≤◌, ◌++◌, ◌∷◌, [], ℕ, ◌+◌, ◌*◌, List, length, vec_len, IfOk, IfNone, IfSome, IsTrue, OnOk, OnErr};
 ghost use Rattle.byteorder.specs.Endian.{big_bytes};
-ghost use Rattle.server_packets.specs.Packets.{IsSent};
+ghost use Rattle.server_packets.specs.Packets.{framed_all, IsPacketOf, IsSent};
+ghost use Rattle.server_packets.specs.declared.TheConstants.{MAX_PACKET};
 
 use crate::{LENGTH_BYTES, MARK, MAX_PACKET};
 use byteorder::{BigEndian, ByteOrder};
@@ -80,6 +81,17 @@ impl Packet {
         }
         self.count += 1;
         Ok(())
+    }
+
+    /// The same as a packet, one datagram too, where that has no more bytes than a packet may.
+    pub fn as_packet(&self) -> Option<&[u8]>
+        ensures fits { IfSome result (λ bytes. (ds : List (List ℕ)) → Packs self.now ds → IsPacketOf ds bytes.now) }
+        ensures long { IfNone result ((ds : List (List ℕ)) → Packs self.now ds → MAX_PACKET ≤ length (framed_all ds)) }
+    {
+        if self.bytes.len() > MAX_PACKET {
+            return None;
+        }
+        Some(self.bytes.as_slice())
     }
 
     /// What is to be sent: a datagram alone as it is.

@@ -27,6 +27,10 @@ pub struct Times {
     pub keeping: u64,
     /// So many values do not wait for others (`Keeping`).
     pub block: u32,
+    /// Milliseconds for which a node is sent packets behind one that came of it: so one that reads none, or no longer, gets datagrams (`Peers`).
+    pub packets: u64,
+    /// Milliseconds between two packets that another node is sent at least, so that it learns that this one reads them (`Peers`).
+    pub showing: u64,
     /// Milliseconds in a stretch for which it yields to others that try, at most (`Yielding`).
     pub yielding: u64,
     /// Behind so many steps in which nothing came it is idle: more than a client takes to come again (`Pace::rest`).
@@ -62,6 +66,8 @@ const STANDARD: Times = Times {
     telling: 400,
     keeping: 100,
     block: 1024,
+    packets: 5000,
+    showing: 1000,
     yielding: 50,
     idle: 200,
     quiet: 2000,

@@ -54,17 +54,20 @@ impl Far {
                 return;
             }
             let flight = self.flights.pop_front().expect(rt, "a flight");
+            let now = self.group.now;
             let mail = &mut self.group.server(rt, flight.to).mail;
-            mail.take_in(flight.piece.as_slice()).expect(rt, "memory");
+            mail.take_in(flight.piece.as_slice(), now)
+                .expect(rt, "memory");
         }
     }
 
     /// What the letters of one server have for another one sets out.
     fn set_out(&mut self, rt: &impl Abort, from: u8, to: u8, size: u8) {
-        let at = self.group.now.saturating_add(self.takes);
+        let now = self.group.now;
+        let at = now.saturating_add(self.takes);
         let node = node_of(rt, size, to);
         let alloc = self.group.alloc;
-        let pieces = packed(rt, alloc, self.group.server(rt, from).mail.letters(), node);
+        let pieces = packed(rt, alloc, &mut self.group.server(rt, from).mail, node, now);
         for piece in pieces {
             let flight = Flight { at, to, piece };
             self.flights.push_back(flight).expect(rt, "memory");

@@ -5,11 +5,11 @@ use crate::client::Client;
 use crate::comparing::{ensure, same};
 use durable::Record;
 use node::Node;
-use server::{Mail, Recorded, Seats, Served, Server, ServerFault, pack};
+use server::{Mail, Peers, Recorded, Seats, Served, Server, ServerFault, pack};
 use server_pace::Times;
 use server_packets::Packet;
 use site_disk::MemDisk;
-use site_drive::{Desk, Letter};
+use site_drive::Desk;
 use site_ids::{Cluster, NodeId};
 use std::alloc::Global;
 use std::process::Abort;
@@ -100,25 +100,51 @@ pub(crate) fn is_seated(
     is
 }
 
-/// The pieces in which these letters go to a node.
+/// What was packed goes to a node: as it is, or where that is due as a packet, which one that reads none gets beside it.
+fn push_packed(
+    rt: &impl Abort,
+    alloc: Global,
+    pieces: &mut Vec<Vec<u8>>,
+    packet: &Packet,
+    peers: &mut Peers,
+    to: NodeId,
+    now: u64,
+) {
+    let shown = if peers.is_due(to, now) {
+        packet.as_packet()
+    } else {
+        None
+    };
+    if shown.is_none() || !peers.reads(to, now) {
+        push_piece(rt, alloc, pieces, packet.bytes());
+    }
+    if let Some(bytes) = shown {
+        push_piece(rt, alloc, pieces, bytes);
+        peers.show(to, now);
+    }
+}
+
+/// The pieces in which a server's letters go to a node.
 pub(crate) fn packed(
     rt: &impl Abort,
     alloc: Global,
-    letters: &[Letter],
+    mail: &mut Mail,
     to: NodeId,
+    now: u64,
 ) -> Vec<Vec<u8>> {
     let mut packet = Packet::new(alloc).expect(rt, "memory");
     let mut pieces = Vec::new(alloc);
-    let mut rest = letters;
-    for _ in 0..letters.len() {
-        let n = pack(rest, to, &mut packet).expect(rt, "memory");
+    let alone = !mail.peers.reads(to, now);
+    let count = mail.letters().len();
+    let mut done = 0;
+    for _ in 0..count {
+        let (_, rest) = mail.letters().split_at(done);
+        done += pack(rest, to, alone, &mut packet).expect(rt, "memory");
         if !packet.is_empty() {
-            push_piece(rt, alloc, &mut pieces, packet.bytes());
+            push_packed(rt, alloc, &mut pieces, &packet, &mut mail.peers, to, now);
         }
-        let (_, behind) = rest.split_at(n);
-        rest = behind;
     }
-    ensure(rt, rest.is_empty(), letters.len());
+    same(rt, done, count);
     pieces
 }
 
@@ -129,9 +155,9 @@ pub(crate) fn node_of(rt: &impl Abort, size: u8, number: u8) -> NodeId {
 }
 
 /// These pieces wait at a server.
-fn take_in(rt: &impl Abort, mail: &mut Mail, pieces: &[Vec<u8>]) {
+fn take_in(rt: &impl Abort, mail: &mut Mail, pieces: &[Vec<u8>], now: u64) {
     for piece in pieces {
-        mail.take_in(piece.as_slice()).expect(rt, "memory");
+        mail.take_in(piece.as_slice(), now).expect(rt, "memory");
     }
 }
 
@@ -173,10 +199,10 @@ impl Group {
 
     /// What the letters of one server have for another one.
     fn carry(&mut self, rt: &impl Abort, from: u8, to: u8) {
-        let alloc = self.alloc;
+        let (alloc, now) = (self.alloc, self.now);
         let node = node_of(rt, self.size(), to);
-        let pieces = packed(rt, alloc, self.server(rt, from).mail.letters(), node);
-        take_in(rt, &mut self.server(rt, to).mail, pieces.as_slice());
+        let pieces = packed(rt, alloc, &mut self.server(rt, from).mail, node, now);
+        take_in(rt, &mut self.server(rt, to).mail, pieces.as_slice(), now);
     }
 
     /// A pass of one server, whose letters reach each other one but for those that are away.

@@ -104,7 +104,10 @@ fn votes(rt: &impl Abort, group: &mut Group, at: u8, instance: u32, round: u32, 
     let bytes = proposal(rt, alloc, instance, round, node, &value);
     let now = group.now;
     let server = group.server(rt, at);
-    server.mail.take_in(bytes.as_slice()).expect(rt, "memory");
+    server
+        .mail
+        .take_in(bytes.as_slice(), now)
+        .expect(rt, "memory");
     same(rt, (instance, turn(server, now)), (instance, Ok(())));
 }
 

@@ -16,6 +16,8 @@ const TIMES: Times = Times {
     telling: 400,
     keeping: 100,
     block: 1024,
+    packets: 5000,
+    showing: 1000,
     yielding: 50,
     idle: 200,
     quiet: 2000,

@@ -147,8 +147,14 @@ fn written(rt: &impl Abort, alloc: Global, rows: &[(u8, usize)]) -> Vec<Letter> 
 }
 
 /// What goes into a packet for that node.
-fn packed(rt: &impl Abort, packet: &mut Packet, letters: &[Letter], to: NodeId) -> Packed {
-    let count = pack(letters, to, packet).expect(rt, "memory");
+fn packed(
+    rt: &impl Abort,
+    packet: &mut Packet,
+    letters: &[Letter],
+    to: NodeId,
+    alone: bool,
+) -> Packed {
+    let count = pack(letters, to, alone, packet).expect(rt, "memory");
     let holds = !packet.is_empty();
     (count, holds.then_some(packet.bytes().len()))
 }
@@ -159,8 +165,46 @@ fn letters_for_a_node_go_together(rt: HostRuntime) {
     let mut packet = Packet::new(rt.alloc()).expect(&rt, "memory");
     for &(rows, wanted) in PACKINGS {
         let letters = written(&rt, rt.alloc(), rows);
-        let is = packed(&rt, &mut packet, letters.as_slice(), to);
+        let is = packed(&rt, &mut packet, letters.as_slice(), to, false);
         same(&rt, (rows, is), (rows, wanted));
+    }
+}
+
+/// The same where that node reads no packets.
+const ALONE: &[(&[(u8, usize)], Packed)] = &[
+    (&[], (0, None)),
+    (&[(1, 9), (3, 9)], (2, None)),
+    (&[(0, 9), (1, 9), (2, 9)], (2, Some(9))),
+    (&[(0, 32_790), (2, 9)], (1, Some(32_790))),
+];
+
+#[test]
+fn letters_for_a_node_without_packets_go_one_by_one(rt: HostRuntime) {
+    let to = node_of(&rt, 3, 2);
+    let mut packet = Packet::new(rt.alloc()).expect(&rt, "memory");
+    for &(rows, wanted) in ALONE {
+        let letters = written(&rt, rt.alloc(), rows);
+        let is = packed(&rt, &mut packet, letters.as_slice(), to, true);
+        same(&rt, (rows, is), (rows, wanted));
+    }
+}
+
+/// How many bytes a datagram has, and those of the packet that it alone makes.
+const ALONE_AS_PACKETS: &[(usize, Option<usize>)] = &[
+    (0, Some(5)),
+    (9, Some(14)),
+    (1395, Some(1400)),
+    (1396, None),
+];
+
+#[test]
+fn a_datagram_alone_may_be_a_packet(rt: HostRuntime) {
+    let mut packet = Packet::new(rt.alloc()).expect(&rt, "memory");
+    for &(len, wanted) in ALONE_AS_PACKETS {
+        packet.clear();
+        take(&rt, &mut packet, bytes(&rt, rt.alloc(), len).as_slice());
+        let is = packet.as_packet().map(|bytes| bytes.len());
+        same(&rt, (len, is), (len, wanted));
     }
 }
 
@@ -180,7 +224,7 @@ const PIECES: &[(&[u8], u64)] = &[
 
 /// A server takes in a piece, and a step of it tells how many datagrams spelled no message; none where it halts.
 fn malformed_in(rt: &impl Abort, server: &mut Boxed, piece: &[u8]) -> Option<u64> {
-    server.mail.take_in(piece).expect(rt, "memory");
+    server.mail.take_in(piece, 0).expect(rt, "memory");
     match server.step(0) {
         Ok(stepped) => Some(stepped.malformed),
         Err(_) => None,

@@ -20,7 +20,7 @@ const CAME: &[u8] = &[3, 0, 0, 0, 7, 1, 6, 1, 0, 0, 0, 1, 0, 0, 0, 1, 255];
 fn takes(alloc: Global, server: &mut Boxed) -> Result<(), AllocError> {
     let client = Client::new(alloc, POST, usize::MAX)?;
     drop(server.seats.admit(client, 0)?);
-    server.mail.take_in(CAME)
+    server.mail.take_in(CAME, 0)
 }
 
 /// Whether that ended for want of memory. (A disk in memory that finds none has failed.)

@@ -51,7 +51,7 @@ fn a_server_rests_by_what_it_saw(rt: HostRuntime) {
     for &(came, answered, moved, waits, first, then) in RESTS {
         let mut server = alone(&rt, rt.alloc());
         if waits {
-            server.mail.take_in(QUESTION).expect(&rt, "memory");
+            server.mail.take_in(QUESTION, 0).expect(&rt, "memory");
         }
         let saw = step_of(came, answered);
         let rest = server.rest(saw, moved);

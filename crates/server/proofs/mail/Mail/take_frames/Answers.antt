@@ -30,6 +30,7 @@ loop-datagram-preserved c =
     record {
       taken = λ ds e. one_more ds c.loop-datagram.rest.now d behind (waiting_of c.args.self.now) (waiting_of c.loop-datagram.self) (waiting_of c.push.new.self) (omega (arith, c.requires, i.short)) c.in-Some.ensures.found c.in_ok-push.ensures.came (i.taken ds e);
       letters = c.push.ensures.same ∙ i.letters;
+      peers = (c.push.ensures.peers.0 ∙ i.peers.0, c.push.ensures.peers.1 ∙ i.peers.1);
       short = omega (arith, i.short);
     }
 
