@@ -81,6 +81,7 @@ impl<D: Disk + Drop, S: Drop> Server<D, S> {
         ensures ok { IfOk result (λ malformed. (last : LastCall) × IsBatchOf D.stands_for last (waiting_of self.old.mail) malformed (posted_of self.new.mail) self.old.served.node self.new.served.node
             × Paces self.old.served.node self.old.mail now last self.old.pace self.new.pace) }
         ensures own { OnOk result (waiting_of self.new.mail ≡ own_of self.old.me (posted_of self.new.mail)) }
+        ensures peers { self.new.mail.peers ≡ self.old.mail.peers }
         ensures seats { self.new.seats ≡ self.old.seats }
         ensures fault { IfErr result (λ why. Led D.stands_for self.old.served.node self.new.served.node (BreaksStep self.old.served.node.cluster self.old.served.node.me (waiting_of self.old.mail) why)
             ⊎ LosesStep D.stands_for (waiting_of self.old.mail) self.old.served.node self.new.served.node why) }
@@ -111,6 +112,7 @@ impl<D: Disk + Drop, S: Drop> Server<D, S> {
         ensures answered { IfOk result (λ stepped. TellsAnswered stepped.answered (length self.old.seats.seats.items) self.old.seats.seats.items self.new.seats.seats.items) }
         ensures ok { OnOk result (Led D.stands_for self.old.served.node self.new.served.node (TakesStep self.old.served.node.cluster self.old.served.node.me (waiting_of self.old.mail) (posted_of self.new.mail) self.new.served.node.releases)) }
         ensures own { OnOk result (waiting_of self.new.mail ≡ own_of self.old.me (posted_of self.new.mail)) }
+        ensures peers { self.new.mail.peers ≡ self.old.mail.peers }
         ensures fault { IfErr result (λ why. Led D.stands_for self.old.served.node self.new.served.node (BreaksStep self.old.served.node.cluster self.old.served.node.me (waiting_of self.old.mail) why)
             ⊎ LosesStep D.stands_for (waiting_of self.old.mail) self.old.served.node self.new.served.node why) }
         ensures may_send { IfErr result (λ why.
