@@ -20,7 +20,7 @@ pub use mail::Mail;
 pub use packing::pack;
 pub use recorded::Recorded;
 pub use server::{Server, Stepped};
-pub use server_clients::{Seats, Served, Stay, serve_requests};
+pub use server_clients::{Linger, Partings, Seats, Served, Stay, serve_requests};
 pub use server_faults::{ServeOptions, ServerFault};
 pub use shell::close;
 pub use sockets::datagrams;

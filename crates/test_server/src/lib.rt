@@ -25,6 +25,8 @@ mod pacing;
 #[cfg(test)]
 mod packets;
 #[cfg(test)]
+mod partings;
+#[cfg(test)]
 mod programs;
 #[cfg(test)]
 mod receipts;
