@@ -52,6 +52,7 @@ fn open_server<R: Files<File = File>>(
     alloc: Global,
     cluster: Cluster,
     me: NodeId,
+    times: Times,
     options: &ServeOptions<'_>,
     cause: &mut Cause,
 ) -> Result<(Box<FileServer>, u32), ServerFault>
@@ -69,7 +70,6 @@ fn open_server<R: Files<File = File>>(
         options.format,
         cause,
     )?;
-    let times = Times::new(options.patience, options.serve_ms);
     let recorded = Recorded::of(&served.node, MAX_INSTANCE);
     let server = Server::new(alloc, me, served, desk, times, recorded.last);
     Ok((boxed(alloc, server)?, recorded.votes))
@@ -88,9 +88,10 @@ fn open<R: Net<Listener = TcpListener, Stream = TcpStream> + Files<File = File> 
 {
     let addresses = read_addresses(alloc, options)?;
     let (cluster, me) = (addresses.cluster, addresses.me);
-    let (server, votes) = open_server(rt, alloc, cluster, me, options, cause)?;
+    let times = Times::new(options.patience, options.serve_ms);
+    let (server, votes) = open_server(rt, alloc, cluster, me, times, options, cause)?;
     let notes = Notes::new(cluster, me, votes);
-    let shell = open_sockets(rt, alloc, addresses, notes, cause)?;
+    let shell = open_sockets(rt, alloc, addresses, times, notes, cause)?;
     Ok((server, shell))
 }
 

@@ -9,8 +9,9 @@ use crate::mail::Mail;
 use crate::packing::pack;
 use crate::peers::Peers;
 use crate::watch::Watch;
-use server_clients::Seats;
+use server_clients::{Partings, Seats};
 use server_notes::Notes;
+use server_pace::Times;
 use server_packets::Packet;
 use site_drive::Letter;
 use site_ids::{MAX_NODES, NodeId};
@@ -30,7 +31,7 @@ const ACCEPTED: u32 = 64;
 /// So many microseconds or more are a long rest, which a datagram ends. The system counts such a wait in milliseconds, so a shorter one sleeps.
 const LONG: u64 = 10_000;
 
-/// How many reads of what a client still sends come before its connection is closed, each of at most 4,096 bytes.
+/// How many reads of what a script's client still sends come before its connection is closed, each of at most 4,096 bytes.
 const LINGER: u32 = 16;
 
 /// The sockets, none of which waits, and the time.
@@ -43,13 +44,15 @@ pub(crate) struct Shell {
     // room for the longest datagram and a byte more, so that one that was cut spells nothing
     datagram: Vec<u8>,
     packet: Packet,
+    // clients that have their last response: they have no seat, and keep nobody from one
+    partings: Partings<TcpStream>,
     start: Option<Instant>,
     now: u64,
     pub(crate) watch: Watch,
 }
 
-/// Closes a connection whose client may have sent more than was read: where that is left unread, the system resets the connection, and the client
-/// may lose its response.
+/// Closes a connection of a script, whose client has sent all that it sends: where that is left unread, the system resets the connection, and the client
+/// may lose its response. A server's clients may send on (`Partings`).
 pub fn close(stream: TcpStream) {
     if stream.shutdown(Shutdown::Write).is_err() || stream.set_nonblocking(true).is_err() {
         return;
@@ -134,6 +137,7 @@ impl Shell {
         addresses: &Addresses,
         socket: UdpSocket,
         listener: TcpListener,
+        times: Times,
         notes: Notes,
     ) -> Result<Shell, AllocError> {
         let mut datagram = Vec::new(alloc);
@@ -144,6 +148,7 @@ impl Shell {
             listener,
             datagram,
             packet: Packet::new(alloc)?,
+            partings: Partings::new(alloc, times)?,
             start: Instant::now(clock).ok(),
             now: 0,
             watch: Watch::new(notes),
@@ -176,7 +181,7 @@ impl Shell {
         seats.read_each(now)
     }
 
-    /// Sends the letters and what clients are owed, and closes the connections that leave: whether anything went to a client.
+    /// Sends the letters and what clients are owed, and parts with the clients that leave: whether anything went to a client, or came of one that left.
     pub(crate) fn give_out(
         &mut self,
         mail: &mut Mail,
@@ -186,7 +191,8 @@ impl Shell {
         self.send(mail, now);
         let told = seats.write_each(now);
         self.part(seats, now);
-        told
+        let dropped = self.partings.read_each(now);
+        told || dropped
     }
 
     /// Receives what has come, as far as the mail has room. A failure is a loss.
@@ -222,7 +228,7 @@ impl Shell {
             }
             let _ = stream.set_nodelay(true);
             if let Some(gone) = seats.make_room() {
-                close(gone);
+                self.part_with(gone, now);
                 self.watch.displace();
             }
             let _ = seats.admit(stream, now)?;
@@ -266,13 +272,21 @@ impl Shell {
         }
     }
 
-    /// Closes the connections that leave.
-    fn part(&self, seats: &mut Seats<TcpStream>, now: u64) {
+    /// Parts with the clients that leave.
+    fn part(&mut self, seats: &mut Seats<TcpStream>, now: u64) {
         for _ in 0..ACCEPTED {
             match seats.leave(now) {
-                Some(stream) => close(stream),
+                Some(stream) => self.part_with(stream, now),
                 None => return,
             }
+        }
+    }
+
+    /// Nothing more is written to a client: its stream is read on until it closes. Where that can't be, and where another one goes for it, the
+    /// connection is closed here.
+    fn part_with(&mut self, stream: TcpStream, now: u64) {
+        if stream.shutdown(Shutdown::Write).is_ok() {
+            let _ = self.partings.take_in(stream, now);
         }
     }
 }

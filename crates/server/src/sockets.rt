@@ -8,6 +8,7 @@ use crate::addresses::Addresses;
 use crate::shell::Shell;
 use server_faults::{Cause, ServerFault};
 use server_notes::Notes;
+use server_pace::Times;
 use std::alloc::Global;
 use std::io;
 use std::net::{Net, SocketAddr, TcpListener, TcpStream, UdpSocket};
@@ -60,6 +61,7 @@ pub(crate) fn open_sockets<R: Net<Listener = TcpListener, Stream = TcpStream> + 
     rt: &R,
     alloc: Global,
     addresses: Addresses,
+    times: Times,
     notes: Notes,
     cause: &mut Cause,
 ) -> Result<Shell, ServerFault>
@@ -69,7 +71,8 @@ pub(crate) fn open_sockets<R: Net<Listener = TcpListener, Stream = TcpStream> + 
     let mut addresses = addresses;
     match open(rt, &mut addresses, cause) {
         Ok((socket, listener)) => {
-            Ok(Shell::new(rt, alloc, &addresses, socket, listener, notes)?)
+            let addresses = &addresses;
+            Ok(Shell::new(rt, alloc, addresses, socket, listener, times, notes)?)
         }
         Err(e) if e.kind() == io::ErrorKind::OutOfMemory => Err(ServerFault::OutOfMemory),
         Err(e) => {

@@ -2,3 +2,4 @@ pub mod Serving
 pub mod Answering
 pub mod Moving
 pub mod Seating
+pub mod Dropping

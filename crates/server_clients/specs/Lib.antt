@@ -3,3 +3,4 @@ pub mod Staying
 pub mod Answering
 pub mod Moving
 pub mod Seating
+pub mod Lingering

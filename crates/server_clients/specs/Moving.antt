@@ -63,13 +63,13 @@ IsWrittenOnce contents now went old new =
 
 -- ---- all of them
 
--- One thing is done once to each of the first k seats, and to no other; did tells whether it came to anything
+-- One thing is done once to each of the first k clients, and to no other; did tells whether it came to anything
 -- at one of them
-pub record AreDone {T : Type 0} (Once : Bool → Seat T → Seat T → Type 0) (k : ℕ) (did : Bool)
-    (old new : List (Seat T)) : Type 0 where
+pub record AreDone {C : Type 0} (Once : Bool → C → C → Type 0) (k : ℕ) (did : Bool) (old new : List C)
+    : Type 0 where
   pub as_many : length new ≡ length old
-  pub each : (i : ℕ) → i < k → (none : Seat T)
+  pub each : (i : ℕ) → i < k → (none : C)
       → (one : Bool) × Once one (get_or old i none) (get_or new i none) × (one ≡ true → did ≡ true)
   pub some : did ≡ true → (i : ℕ) × (i < k)
-      × ((none : Seat T) → Once true (get_or old i none) (get_or new i none))
-  pub others : (i : ℕ) → k ≤ i → (none : Seat T) → get_or new i none ≡ get_or old i none
+      × ((none : C) → Once true (get_or old i none) (get_or new i none))
+  pub others : (i : ℕ) → k ≤ i → (none : C) → get_or new i none ≡ get_or old i none

@@ -1,7 +1,10 @@
-//! The clients of a server: what each sent and is owed, on 64 seats, and a node that answers them. It
+//! The clients of a server: what each sent and is owed, on 64 seats; those that have their last response; and a node that answers them. It
 //! stands apart from `server` so that it is proved beside `server_pace`.
 #![tactic(auto)]
 
+mod linger;
+mod parting;
+mod partings;
 mod requests;
 mod seat;
 mod seats;
@@ -9,6 +12,8 @@ mod served;
 mod serving_node;
 mod stay;
 
+pub use linger::Linger;
+pub use partings::Partings;
 pub use requests::serve_requests;
 pub use seat::Seat;
 pub use seats::Seats;

@@ -48,6 +48,9 @@ pub struct Times {
     pub between_requests: u64,
     /// Milliseconds that a request which has begun, or a response which its client does not read, is given without a byte that moves.
     pub without_progress: u64,
+    /// Milliseconds for which what a client still sends behind its last response is read and dropped, at most, so that the response is not lost (RFC 9112,
+    /// section 9.6): a client that reads it closes within that (`Linger`).
+    pub lingering: u64,
     /// Milliseconds for which a request for a receipt that is not there yet is left, behind the last bytes that its client sent: most values are known by
     /// then, and a client asks once.
     pub receipts: u64,
@@ -76,6 +79,7 @@ const STANDARD: Times = Times {
     quiet_rest: 20_000,
     between_requests: 5000,
     without_progress: 1000,
+    lingering: 2000,
     receipts: 100,
     serve_ms: None,
 };

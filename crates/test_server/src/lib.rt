@@ -25,6 +25,7 @@ mod pacing;
 #[cfg(test)]
 mod packets;
 #[cfg(test)]
+mod partings;
 mod plain;
 #[cfg(test)]
 mod programs;

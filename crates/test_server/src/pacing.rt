@@ -26,6 +26,7 @@ const TIMES: Times = Times {
     quiet_rest: 20_000,
     between_requests: 5000,
     without_progress: 1000,
+    lingering: 2000,
     receipts: 100,
     serve_ms: None,
 };

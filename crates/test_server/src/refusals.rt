@@ -6,7 +6,8 @@
 use crate::client::Client;
 use crate::comparing::{ensure, same};
 use crate::group::{Boxed, fresh, reopened, turn};
-use server::ServerFault;
+use server::{Partings, ServerFault};
+use server_pace::Times;
 use site_ids::Cluster;
 use std::alloc::{AllocError, Global};
 use std::process::Abort;
@@ -62,4 +63,34 @@ fn steps(rt: HostRuntime) {
         ensure(&rt, goes_on(&rt, alloc, &mut server, 40), "again");
     }
     same(&rt, server.served.node.newest(), 1);
+}
+
+/// Room for those that have their last response. Where it was refused it is made once more.
+fn room(rt: &impl Abort, alloc: Global) -> Partings<Client> {
+    let times = Times::new(None, None);
+    match Partings::new(alloc, times) {
+        Ok(all) => all,
+        Err(_) => Partings::new(alloc, times).expect(rt, "memory"),
+    }
+}
+
+/// A client without a byte. Where memory was refused it comes once more.
+fn silent(rt: &impl Abort, alloc: Global) -> Client {
+    match Client::new(alloc, b"", usize::MAX) {
+        Ok(client) => client,
+        Err(_) => Client::new(alloc, b"", usize::MAX).expect(rt, "memory"),
+    }
+}
+
+#[test]
+fn partings_have_their_room(rt: HostRuntime) {
+    let alloc = rt.alloc();
+    let mut all = room(&rt, alloc);
+    for k in 0..66 {
+        let gone = all.take_in(silent(&rt, alloc), k);
+        same(&rt, (k, gone.is_some()), (k, k > 63));
+        drop(gone);
+    }
+    same(&rt, all.len(), 64);
+    drop(all);
 }

@@ -1,7 +1,7 @@
-use Rattle.std.proofs.Common.{◌≡◌, sym, subst}
+use Rattle.std.proofs.Common.{sym, subst}
 use Rattle.http_read.specs.Bytes.{end_of}
 use Rattle.server.specs.Noted.{HasNoted}
-use Rattle.server.proofs.Noting.{none_noted, noted_on}
+use Rattle.server.proofs.Noting.{noted_on}
 use Rattle.server.proofs.saying.tell_notes.Goals as goal
 
 pub loop-preserved : goal.loop-preserved
