@@ -6,8 +6,8 @@ use editor_ledger::Ledger;
 use editor_plan::{Ask, Flight, Heard};
 use std::alloc::AllocError;
 
-/// A ledger whose folder has it in its file, but for receipts that came since: what is on its way may be sent. `save` alone makes one, so no text is sent
-/// under a ticket of which the file does not know.
+/// A ledger whose folder has it in its file, but for receipts that came since: what is on its way may be sent.
+/// `save` alone makes one, so no text is sent under a ticket of which the file does not know.
 #[derive(Drop)]
 pub struct Saved<'a> {
     pub(crate) ledger: &'a mut Ledger,

@@ -72,7 +72,7 @@ pub fn save<'a, R: Files + AllocGlobal>(
     folder: &str,
     ledger: &'a mut Ledger,
 ) -> Result<Saved<'a>, EditorFault>
-    ensures { IfOk result (λ saved. saved.ledger.now ≡ ledger.now) }
+    ensures { IfOk result (λ saved. saved.ledger.now ≡ ledger.old) }
 {
     let alloc = rt.alloc();
     let text = ledger.spelled(alloc)?;

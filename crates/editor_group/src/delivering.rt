@@ -8,8 +8,8 @@ use crate::asking::ask;
 use crate::group::Group;
 use crate::stop::stop;
 use editor_common::{EditorFault, now, passed, rest, say_made};
-use editor_http::{NodeAnswer, Question};
 use editor_files::Saved;
+use editor_http::{NodeAnswer, Question};
 use editor_ledger::Ledger;
 use editor_plan::{Ask, Came, DeliveryClock, Flight, Heard, LONGEST_REST, Step};
 use site_ids::Ticket;
@@ -204,8 +204,8 @@ fn deliver_at<R: Net<Stream = TcpStream> + Clock + AllocGlobal, E: Write>(
     Err(EditorFault::Clock)
 }
 
-/// Sends what is on its way in a ledger that was saved, until each has its receipt. It stays with a node while receipts come there, and gives up where none came for so
-/// many seconds.
+/// Sends what is on its way in a ledger that was saved, until each has its receipt. It stays with a node while receipts
+/// come there, and gives up where none came for so many seconds.
 pub fn deliver<R: Net<Stream = TcpStream> + Clock + AllocGlobal, E: Write>(
     rt: &R,
     err: &mut E,

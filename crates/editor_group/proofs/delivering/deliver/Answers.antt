@@ -1,0 +1,6 @@
+use Rattle.std.proofs.Common.{refl}
+use Rattle.editor_plan.proofs.Moving.{heard_same}
+use Rattle.editor_group.proofs.delivering.deliver.Goals as goal
+
+pub returns-in_err-since-clause-hears : goal.returns-in_err-since-clause-hears
+returns-in_err-since-clause-hears g c = heard_same _ _ refl

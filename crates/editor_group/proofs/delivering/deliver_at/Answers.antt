@@ -1,0 +1,18 @@
+use Rattle.std.proofs.Common.{refl}
+use Rattle.editor_plan.proofs.Moving.{heard_same, heard_on}
+use Rattle.editor_group.proofs.delivering.deliver_at.Goals as goal
+
+pub loop-init : goal.loop-init
+loop-init g c = heard_same _ _ refl
+
+pub loop-preserved : goal.loop-preserved
+loop-preserved g c = heard_on _ _ _ c.loop.invariant c.bring.ensures.hears
+
+pub returns-in_err-came-clause-hears : goal.returns-in_err-came-clause-hears
+returns-in_err-came-clause-hears g c = heard_on _ _ _ c.loop.invariant c.bring.ensures.hears
+
+pub returns-in_err-passed-clause-hears : goal.returns-in_err-passed-clause-hears
+returns-in_err-passed-clause-hears g c = heard_on _ _ _ c.loop.invariant c.bring.ensures.hears
+
+pub returns-in-GiveUp-clause-hears : goal.returns-in-GiveUp-clause-hears
+returns-in-GiveUp-clause-hears g c = heard_on _ _ _ c.loop.invariant c.bring.ensures.hears
