@@ -1,6 +1,6 @@
 # A crate's contracts, from its sources, lib.rt first: a line for each function that is handed on and has clauses with a name, one for each type with such
-# methods, and one for the functions that have none; the crate's own line comes first. Where nothing of a crate, or of a type, has any its line says so. With
-# `list` set a line `CRATE|NAME|CLAUSES` for each of them.
+# methods, and one for the functions that have none; the crate's own line comes first. Where nothing of a crate, or of a type, has any its line says so, and so
+# does a crate's where each has some and none of them has a name. With `list` set a line `CRATE|NAME|CLAUSES` for each of them.
 function named(text) { sub(/^ *(pub )?(const )?[a-z]+ /, "", text); sub(/[^A-Za-z0-9_].*/, "", text); return text }
 function joined(list, more) { return list == "" ? more : more == "" ? list : list ", " more }
 # a method stands with its type
@@ -86,6 +86,6 @@ END {
     }
     for (k = 1; k <= kind_count; k++) if (kinds[k] in kept) rows = rows sprintf("`%s`|for %s\n", kinds[k], kept[kinds[k]])
     if (safe != "") rows = rows safe "|safe\n"
-    if (rows != "" && none) { printf "**`%s`**|safe\n", crate; exit }
+    if (none || rows == "") { printf "**`%s`**|%s\n", crate, none ? "safe" : "each without a name"; exit }
     printf "**`%s`**|\n%s", crate, rows
 }

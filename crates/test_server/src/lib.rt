@@ -26,6 +26,7 @@ mod pacing;
 mod packets;
 #[cfg(test)]
 mod partings;
+#[cfg(test)]
 mod plain;
 #[cfg(test)]
 mod programs;
