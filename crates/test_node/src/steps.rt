@@ -1,6 +1,7 @@
 //! Steps of a node, as tables have them.
 use crate::comparing::{ensure, same};
 use crate::heard::Heard;
+use crate::nodes::shows;
 use crate::peer::{Call, Peer, ends, passes};
 use crate::said::{Said, ensure_last, is_all_said};
 use crate::samples::{Text, instance, ticket};
@@ -40,8 +41,8 @@ pub(crate) enum Step {
     Knows(u32),
     /// The number of a ticket, and the instance of its receipt.
     Receipt(u64, u32),
-    /// The status of the newest release's page.
-    Page(&'static str, u16),
+    /// The newest release has no page at `/`.
+    NoPage,
     /// Whether it wants a tick.
     Wants(bool),
     Stopped,
@@ -59,13 +60,6 @@ fn is_no_command(rt: &impl Abort, node: &mut Peer, text: Text) {
     assert!(rt; matches!(refused, Err(NodeFault::NotACommand(_))));
 }
 
-fn status(node: &Peer, path: &str) -> Option<u16> {
-    match node.node.answer(node.node.newest(), path) {
-        Ok(answer) => Some(answer.status),
-        Err(_) => None,
-    }
-}
-
 /// Sees whether what the step says is so.
 fn look(rt: &impl Abort, node: &Peer, step: Step) {
     match step {
@@ -76,7 +70,7 @@ fn look(rt: &impl Abort, node: &Peer, step: Step) {
             let receipt = node.node.receipt(ticket(number));
             same(rt, receipt, Some(instance(rt, at)));
         }
-        Step::Page(path, wanted) => same(rt, status(node, path), Some(wanted)),
+        Step::NoPage => ensure(rt, shows(&node.node, "/", 404, "not found\n"), "/"),
         Step::Wants(wants) => same(rt, node.node.wants_tick(), wants),
         Step::Stopped => same(rt, node.node.is_stopped(), true),
         _ => {}
