@@ -21,12 +21,7 @@ impl Saved<'_> {
     }
 
     /// Hears the status of an answer: a receipt takes its command off its way, and nothing else changes the ledger.
-    pub fn hear(
-        &mut self,
-        flight: &mut Flight,
-        ask: Ask,
-        status: u16,
-    ) -> Result<Heard, AllocError>
+    pub fn hear(&mut self, flight: &mut Flight, ask: Ask, status: u16) -> Result<Heard, AllocError>
         ensures heard { IfOk result (λ heard. heard ≡ heard_of ask status) }
         ensures ledger { OnOk result (self.new.ledger.now ≡ after_hearing ask status self.old.ledger.now) }
         ensures err { OnErr result (self.new.ledger.now ≡ self.old.ledger.now) }

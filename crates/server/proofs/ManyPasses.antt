@@ -14,7 +14,7 @@ use Rattle.site_drive.specs.Leading.{AllFit, StaysWhose}
 use Rattle.site_drive.specs.Posting.{spelled_of}
 use Rattle.site_drive.specs.declared.last_call.LastCall.{LastCall}
 use Rattle.server_faults.specs.ServerFaults.{of_node}
-use Rattle.server.specs.Passes.{MayTakeMany, TakesStep, BreaksStep, TakesPass, TakesPasses, BreaksPass, BreaksPasses, BreaksWork, Led, IsBatched, MaySend, LosesStep, LosesPass, LosesPasses}
+use Rattle.server.specs.Passes.{MayTakeMany, TakesStep, BreaksStep, TakesPass, TakesPasses, BreaksPass, BreaksPasses, BreaksWork, Led, IsBatched, IsBatchOf, MaySend, LosesStep, LosesPass, LosesPasses}
 use Rattle.server_clients.specs.Served.{offered}
 use Rattle.server_faults.specs.declared.server_fault.ServerFault.{ServerFault}
 use Rattle.server_faults.specs.declared.server_fault.ServerFault.TheVariants as server_fault
@@ -48,8 +48,8 @@ module _ {D : Type 0} (stands_for : D → DiskState → Type 0) where
   -- ---- a batch, and its letters
 
   module _ (old new : Running D) (last : LastCall) (came : List (List ℕ)) (malformed : ℕ) (out : List (To × Message)) (batch : LeadsSealed stands_for old new (TakesBatch last old.cluster old.me came malformed out new.releases)) where
-    pub posted : (letters : List (To × List ℕ)) → (AllFit out → letters ≡ spelled_of out) → IsBatched stands_for came malformed letters old new
-    posted letters are = (last, out, record { leads = λ s stands. let r = batch.leads s stands in (r.0, (r.1, are r.1.works.fits), r.2, r.3) })
+    pub posted : (letters : List (To × List ℕ)) → (AllFit out → letters ≡ spelled_of out) → IsBatchOf stands_for last came malformed letters old new
+    posted letters are = (out, record { leads = λ s stands. let r = batch.leads s stands in (r.0, (r.1, are r.1.works.fits), r.2, r.3) })
 
     -- some of them may be sent: a beginning was spelled
     pub sendable : (letters : List (To × List ℕ)) (told : ServerFault) → told ≡ server_fault.OutOfMemory
@@ -77,7 +77,7 @@ module _ {D : Type 0} (stands_for : D → DiskState → Type 0) where
   pub all_sendable : (old new : Running D) (came : List (List ℕ)) (malformed : ℕ) (letters : List (To × List ℕ))
       (told : ServerFault) → told ≡ server_fault.OutOfMemory → IsBatched stands_for came malformed letters old new
       → MaySend stands_for came letters told old
-  all_sendable old new came malformed letters told is (last, out, batch) = inr (
+  all_sendable old new came malformed letters told is (last, (out, batch)) = inr (
     is,
     new,
     last,
@@ -109,12 +109,12 @@ module _ {D : Type 0} (stands_for : D → DiskState → Type 0) where
       pub answered : Led stands_for old new.node (TakesStep old.cluster old.me came letters new.node.releases)
       answered =
           let b = batched in
-          let Batch : Node → Node → Type 0 = λ s next. TakesBatch b.0 old.cluster old.me came malformed b.1 mid.node.releases s next × (letters ≡ spelled_of b.1) in
+          let Batch : Node → Node → Type 0 = λ s next. TakesBatch b.0 old.cluster old.me came malformed b.1.0 mid.node.releases s next × (letters ≡ spelled_of b.1.0) in
           let others = many_others k mid new taken in
           subst (λ vs. Led stands_for old new.node (TakesStep old.cluster old.me came letters vs)) (sym others.releases)
           (led_on stands_for old mid.node new.node Batch (MayTakeMany old.cluster old.me k) (TakesStep old.cluster old.me came letters mid.node.releases)
-          (λ s t u h takes. record { last = b.0; malformed = malformed; out = b.1; mid = t; batch = h.0; letters_are = h.1; requests = k; few = few; takes = takes })
-          (sealed_led old mid.node Batch Batch (λ s t h. h) b.2)
+          (λ s t u h takes. record { last = b.0; malformed = malformed; out = b.1.0; mid = t; batch = h.0; letters_are = h.1; requests = k; few = few; takes = takes })
+          (sealed_led old mid.node Batch Batch (λ s t h. h) b.1.1)
           (of_same stands_for old mid.node new.node whose (λ n p. MayTakeMany n p k) (requests_lead stands_for k mid new taken)))
 
       -- memory was wanted for one

@@ -16,16 +16,23 @@ one_noted e note given = (1, (λ no. yes_asked no), (e.before, e.failures, note,
 
 module _ (a b : Option (List ℕ)) (f g : ℕ) (k : ℕ) (earlier : GivesNotes k (record { before = a; after = b; failures = f; failures_after = g })) where
   more : (n : ℕ) (c : Option (List ℕ)) (h : ℕ) → GivesNotes n (record { before = b; after = c; failures = g; failures_after = h })
-      → GivesNotes (n + k) (record { before = a; after = c; failures = f; failures_after = h })
-  more zero c h (same, sound) =
-      subst (λ w. GivesNotes k (record { before = a; after = w; failures = f; failures_after = h })) (sym same) (subst (λ w. GivesNotes k (record { before = a; after = b; failures = f; failures_after = w })) (sym sound) earlier)
-  more (suc n) c h (held, failures, note, before, given) = (held, failures, note, more n held failures before, given)
+      → (m : ℕ) × (m ≡ n + k) × GivesNotes m (record { before = a; after = c; failures = f; failures_after = h })
+  more zero c h (same, sound) = (
+    k,
+    omega arith,
+    subst (λ w. GivesNotes k (record { before = a; after = w; failures = f; failures_after = h })) (sym same)
+        (subst (λ w. GivesNotes k (record { before = a; after = b; failures = f; failures_after = w })) (sym sound) earlier),
+  )
+  more (suc n) c h (held, failures, note, before, given) =
+      let (m, sum, those) = more n held failures before in
+      (suc m, omega (arith, sum), (held, failures, note, those, given))
 
 -- these and those
 pub noted_on : (asked : Bool) (a b c : Option (List ℕ)) (f g h : ℕ) → HasNoted asked (record { before = a; after = b; failures = f; failures_after = g })
     → HasNoted asked (record { before = b; after = c; failures = g; failures_after = h }) → HasNoted asked (record { before = a; after = c; failures = f; failures_after = h })
 noted_on asked a b c f g h (k, none, earlier) (n, no_more, later) =
-    (n + k, (λ no. let first = none no in let then = no_more no in omega (arith, first, then)), more a b f g k earlier n c h later)
+    let (m, sum, all) = more a b f g k earlier n c h later in
+    (m, (λ no. let first = none no in let then = no_more no in omega (arith, first, then, sum)), all)
 
 -- and then what was last
 pub ends_by : (asked : Bool) (a b c : Option (List ℕ)) (f g h : ℕ) (Last : End → Type 0) → HasNoted asked (record { before = a; after = b; failures = f; failures_after = g }) → Last (record { before = b; after = c; failures = g; failures_after = h })

@@ -214,9 +214,6 @@ pub record IsSeen (s : Node) (p recorded : ℕ) (drained : Bool) (seen : Seen) :
   pub drained_is : seen.drained ≡ drained
   pub resumes : IsTrue seen.resumes ↔ Resumes s p seen.known recorded
 
-abbrev pub no_questions : Questions
-no_questions = record { asked = replicate 9 None; told = replicate 9 None }
-
 -- a server of n begins quiet, over a record whose furthest vote is there; it never asked, and no tick is wanted
 abbrev pub first_pace : Times → ℕ → ℕ → ℕ → Pace
 first_pace times n node recorded = record {

@@ -41,10 +41,10 @@ fn newer(heard: Option<Instance>, before: Option<Instance>) -> Option<Instance>
 }
 
 /// Of each node its newest question, where these were heard.
-fn newer_each(asked: [Option<Instance>; 9], heard: [Option<Instance>; 9]) -> [Option<Instance>; 9]
-    ensures { AreAsked asked heard result }
+fn newer_each(asked: &[Option<Instance>; 9], heard: &[Option<Instance>; 9]) -> [Option<Instance>; 9]
+    ensures { AreAsked asked.now heard.now result }
 {
-    let mut all = asked;
+    let mut all = [None; 9];
     for i in 0..9 {
         all[i] = newer(heard[i], asked[i]);
     }
@@ -67,7 +67,7 @@ impl Questions {
         ensures asked { AreAsked self.old.asked delivered.now.questions self.new.asked }
         ensures told { self.new.told ≡ self.old.told }
     {
-        self.asked = newer_each(self.asked, delivered.questions());
+        self.asked = newer_each(&self.asked, delivered.questions());
     }
 
     /// The first node whose question waits, and the instance that it was for. By that it is forgotten.

@@ -15,7 +15,7 @@ module _ {X : Type 0} (bytes : X → List ℕ) (xs : List X) (i : ℕ) (n : ℕ)
   noted_more x k new below got same then =
       let next : i + 1 ≡ suc i = omega arith in
       let more : map bytes (take i xs) ++ bytes x ∷ [] ≡ map bytes (take (i + 1) xs) =
-          sym (map-append bytes (take i xs) (x ∷ [])) ∙ ap (map bytes) (sym (take_more xs i x below got)) ∙ ap (λ k. map bytes (take k xs)) (sym next)
+      sym (map-append bytes (take i xs) (x ∷ [])) ∙ ap (map bytes) (sym (take_more xs i x below got)) ∙ ap (λ k. map bytes (take k xs)) (sym next)
       in
       subst (λ l. AreNoted n l old new) more (noted_on n (map bytes (take i xs)) (bytes x) old mid new first (subst (λ m. IsNoted m (bytes x) mid new) same then))
 

@@ -80,10 +80,10 @@ impl Delivered {
     }
 
     /// Of each node, node p at the place p - 1, the instance that its last question was for, if it asked.
-    pub fn questions(&self) -> [Option<Instance>; 9]
-        ensures { result ≡ self.now.questions }
+    pub fn questions(&self) -> &[Option<Instance>; 9]
+        ensures { result.now ≡ self.now.questions }
     {
-        self.questions
+        &self.questions
     }
 
     /// The instance that the node's last question was for, if it asked.

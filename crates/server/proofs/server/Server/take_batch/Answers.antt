@@ -35,12 +35,11 @@ returns-clause-ok g c =
     let last = c.due-last.result in
     let out = c.take_batch.new.self.outbox.items in
     let letters = letters_of c.keep_own.new.self.letters.items in
-    let came = bytes_of c.as_slice-came.result.now in
-    (
+    let came = bytes_of c.as_slice-came.result.now in (
       last,
       subst (λ l. IsBatchOf g.D.Disk.stands_for last (bytes_of l) c.in_ok-malformed.malformed letters old new) c.as_slice-came.ensures.value
           (posted g.D.Disk.stands_for old new last came _ out c.in_ok-malformed.ensures.ends.ok
-          letters (λ fits. ap (λ v. letters_of v.items) c.keep_own.ensures.same ∙ c.in_ok-post.ensures.ok fits ∙ ap (λ l. letters_of l ++ spelled_of out) c.clear.ensures.items)).1,
+          letters (λ fits. ap (λ v. letters_of v.items) c.keep_own.ensures.same ∙ c.in_ok-post.ensures.ok fits ∙ ap (λ l. letters_of l ++ spelled_of out) c.clear.ensures.items)),
       record {
         drained = c.has_room-drained.result;
         drained_is = c.has_room-drained.ensures;
@@ -81,7 +80,9 @@ returns-in_err-keep_own-clause-may_send g c =
     let out = c.take_batch.new.self.outbox.items in
     let letters = letters_of c.keep_own.new.self.letters.items in
     subst (λ l. MaySend g.D.Disk.stands_for (bytes_of l) letters e old) c.as_slice-came.ensures.value
-    (all_sendable g.D.Disk.stands_for old new came _ letters e is
-    (posted g.D.Disk.stands_for old new c.due-last.result came _ out c.in_ok-malformed.ensures.ends.ok letters
-    (λ fits. ap (λ v. letters_of v.items) c.keep_own.ensures.same ∙ c.in_ok-post.ensures.ok fits
-    ∙ ap (λ l. letters_of l ++ spelled_of out) c.clear.ensures.items)))
+    (all_sendable g.D.Disk.stands_for old new came _ letters e is (
+      c.due-last.result,
+      posted g.D.Disk.stands_for old new c.due-last.result came _ out c.in_ok-malformed.ensures.ends.ok letters
+          (λ fits. ap (λ v. letters_of v.items) c.keep_own.ensures.same ∙ c.in_ok-post.ensures.ok fits
+          ∙ ap (λ l. letters_of l ++ spelled_of out) c.clear.ensures.items),
+    ))

@@ -1,4 +1,5 @@
 use Rattle.std.proofs.Common.{rules, ◌≡◌, ◌-◌, ◌&&◌, not, set, if◌then◌else◌, Some, None, inl, inr, refl, sym, ap, subst, ◌∙◌}
+use Rattle.site_ids.specs.Ids.{IsNode}
 use Rattle.server_pace.specs.declared.questions.Questions.{Questions}
 use Rattle.server_pace.proofs.questions.Questions.next.Goals as goal
 
@@ -11,7 +12,7 @@ returns g c = λ s h.
     inl (record {
       node = p;
       first = c.in_ok-to.first;
-      is_node = is.0;
+      is_node = subst (λ n. IsNode n p) c.cluster.ensures is.0;
       asked = is.1;
       full = c.is_full-full.result;
       full_is = c.is_full-full.ensures s h;

@@ -4,8 +4,9 @@ use Rattle.site_drive.specs.Posting.{bytes_of}
 use Rattle.site_drive.proofs.desk.Desk.take_batch.Goals as goal
 
 pub returns-in-Err-clause-ends : goal.returns-in-Err-clause-ends
-returns-in-Err-clause-ends g c = let e = c.take_sealed.ensures.ends in record { ok = e.ok; fault = e.fault; whose = e.whose; counts = e.counts }
+returns-in-Err-clause-ends g c =
+    let e = c.in-Err.ensures.ends in record { ok = e.ok; fault = e.fault; whose = e.whose; counts = e.counts }
 
 pub returns-in-Ok-clause-noted : goal.returns-in-Ok-clause-noted
 returns-in-Ok-clause-noted g c =
-    subst (λ d. AreNoted c.args.node.now.cluster (bytes_of c.args.came.now) d c.take_sealed.new.self.delivered) c.none.ensures c.in-Ok.ensures.noted
+    subst (λ d. AreNoted c.args.node.now.cluster (bytes_of c.args.came.now) d c.take_sealed.new.self.delivered) c.none-self.ensures c.in-Ok.ensures.noted
