@@ -77,6 +77,23 @@ fn look(rt: &impl Abort, node: &Peer, step: Step) {
     }
 }
 
+fn says(rt: &impl Abort, node: &mut Peer, to: u8, wanted: &[Said]) {
+    is_all_said(rt, &node.out, to, wanted);
+    node.out.clear();
+}
+
+/// Does a step whose answer is more than whether it passed, or looks at what it says.
+fn answers(rt: &impl Abort, node: &mut Peer, step: Step) {
+    match step {
+        Step::Submits(text, answer) => same(rt, node.submit(rt, text), answer),
+        Step::Unread(text) => is_no_command(rt, node, text),
+        Step::Widens(answer) => same(rt, node.widen(), answer),
+        Step::Publishes(newest) => same(rt, node.node.publish(), Ok(newest)),
+        Step::Says(to, wanted) => says(rt, node, to, wanted),
+        _ => look(rt, node, step),
+    }
+}
+
 /// Does a step, or looks at what it says.
 fn act(rt: &impl Abort, node: &mut Peer, step: Step) {
     match step {
@@ -85,16 +102,8 @@ fn act(rt: &impl Abort, node: &mut Peer, step: Step) {
         Step::Hears(heard) => passes(rt, node.hear(rt, heard)),
         Step::Arm(calls) => node.node.arm(calls),
         Step::Queues(first, last) => queues(rt, node, first, last),
-        Step::Submits(text, answer) => same(rt, node.submit(rt, text), answer),
-        Step::Unread(text) => is_no_command(rt, node, text),
-        Step::Widens(answer) => same(rt, node.widen(), answer),
-        Step::Publishes(newest) => same(rt, node.node.publish(), Ok(newest)),
         Step::Forget => node.out.clear(),
-        Step::Says(to, wanted) => {
-            is_all_said(rt, &node.out, to, wanted);
-            node.out.clear();
-        }
-        _ => look(rt, node, step),
+        _ => answers(rt, node, step),
     }
 }
 

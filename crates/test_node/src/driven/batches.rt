@@ -1,7 +1,7 @@
 //! Batches: what one takes and posts, the calls that a burst makes of the device, and what one that fails leaves: nothing is posted, and all of the batch is
 //! found again or none.
 use crate::driven::driven_node::reopened;
-use crate::driven::steps::{Last, Step, act_all, behind, play};
+use crate::driven::steps::{Last, Step, act_all, behind, play_each};
 use crate::failures::FAILURES;
 use node::NodeFault;
 use std::alloc::Global;
@@ -23,20 +23,20 @@ const SIX: &[&str] = &[
 
 /// A promise to node 2, a vote for all, and the value to the asker. What the last call posts for all stands last: a tick where a value waits, and else a
 /// question about the next instance.
-const POSTED: &[&[Step]] = &[
-    &[
+const POSTED: &[&[&[Step]]] = &[
+    &[&[
         Step::Takes(&[], Last::TickOrAsk, Ok(0)),
         Step::Posts(&[(0, "01060100000001")]),
-    ],
-    &[
+    ]],
+    &[&[
         Step::Takes(&[PREPARE, PROPOSAL], Last::TickOrAsk, Ok(0)),
         Step::Posts(&[
             (2, "01020100000001000000010200"),
             (0, "0104010000000100000001020000000107"),
             (0, "010101000000010000000101"),
         ]),
-    ],
-    &[
+    ]],
+    &[&[
         Step::Takes(SIX, Last::TickOrAsk, Ok(1)),
         Step::Posts(&[
             (2, "01020100000001000000010200"),
@@ -44,14 +44,12 @@ const POSTED: &[&[Step]] = &[
             (3, "010701000000010000000107"),
             (0, "01060100000002"),
         ]),
-    ],
+    ]],
 ];
 
 #[test]
 fn a_batch_posts_what_it_hands_out_in_order(rt: HostRuntime) {
-    for &steps in POSTED {
-        play(&rt, rt.alloc(), 3, steps);
-    }
+    play_each(&rt, rt.alloc(), POSTED);
 }
 
 /// Proposals of node 2 at three instances.
@@ -64,43 +62,56 @@ const BURST: &[&str] = &[
 /// A question about an instance that isn't known, a refused value and no message: nothing goes on record for them.
 const IDLE: &[&str] = &["01060300000001", "0104020000000900000001020000000107", "ff"];
 
+const WAITING: &[Step] = &[Step::Submits(1)];
+
 /// At a node where a value waits: so many calls of the device are enough.
-const ENOUGH: &[&[Step]] = &[
+const ENOUGH: &[&[&[Step]]] = &[
     &[
-        Step::Arm(4),
-        Step::Takes(BURST, Last::Nothing, Ok(0)),
-        Step::PostsMany(3),
+        WAITING,
+        &[
+            Step::Arm(4),
+            Step::Takes(BURST, Last::Nothing, Ok(0)),
+            Step::PostsMany(3),
+        ],
     ],
     // A tick puts a round, and asks all nodes to promise.
     &[
-        Step::Arm(4),
-        Step::Takes(BURST, Last::TickOrAsk, Ok(0)),
-        Step::PostsMany(4),
+        WAITING,
+        &[
+            Step::Arm(4),
+            Step::Takes(BURST, Last::TickOrAsk, Ok(0)),
+            Step::PostsMany(4),
+        ],
     ],
     &[
-        Step::Arm(4),
-        Step::Takes(IDLE, Last::TickOrAsk, Ok(1)),
-        Step::PostsMany(1),
+        WAITING,
+        &[
+            Step::Arm(4),
+            Step::Takes(IDLE, Last::TickOrAsk, Ok(1)),
+            Step::PostsMany(1),
+        ],
     ],
     &[
-        Step::Arm(0),
-        Step::Takes(IDLE, Last::Ask, Ok(1)),
-        Step::PostsMany(1),
+        WAITING,
+        &[
+            Step::Arm(0),
+            Step::Takes(IDLE, Last::Ask, Ok(1)),
+            Step::PostsMany(1),
+        ],
     ],
     &[
-        Step::Arm(0),
-        Step::Takes(IDLE, Last::Nothing, Ok(1)),
-        Step::PostsMany(0),
+        WAITING,
+        &[
+            Step::Arm(0),
+            Step::Takes(IDLE, Last::Nothing, Ok(1)),
+            Step::PostsMany(0),
+        ],
     ],
 ];
 
-const WAITING: &[Step] = &[Step::Submits(1)];
-
 #[test]
 fn a_burst_takes_four_calls_of_the_device_and_what_puts_nothing_takes_none(rt: HostRuntime) {
-    for &steps in ENOUGH {
-        drop(behind(&rt, rt.alloc(), &[WAITING, steps]));
-    }
+    play_each(&rt, rt.alloc(), ENOUGH);
 }
 
 /// The batch ends with the fault of the device, and the next one with that of a node that is stopped. Nothing is posted.

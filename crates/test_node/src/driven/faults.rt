@@ -1,5 +1,5 @@
 //! Faults of a node: the drive ends there, and what was sent before stays sent.
-use crate::driven::steps::{Step, behind};
+use crate::driven::steps::{Step, play_each};
 use node::NodeFault;
 
 /// A value is pending. A release is chosen at instance 1, and node 3 asks for it.
@@ -58,11 +58,13 @@ const ANSWERED: &[Step] = &[
     Step::NoPage,
 ];
 
-const FAULTS: &[&[Step]] = &[PUT_FAILS, TICK_FAILS, CONFLICT];
+const FAULTS: &[&[&[Step]]] = &[
+    &[BEGUN, PUT_FAILS, ANSWERED],
+    &[BEGUN, TICK_FAILS, ANSWERED],
+    &[BEGUN, CONFLICT, ANSWERED],
+];
 
 #[test]
 fn a_fault_ends_a_drive_and_takes_nothing_back(rt: HostRuntime) {
-    for &fault in FAULTS {
-        drop(behind(&rt, rt.alloc(), &[BEGUN, fault, ANSWERED]));
-    }
+    play_each(&rt, rt.alloc(), FAULTS);
 }

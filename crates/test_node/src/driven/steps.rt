@@ -139,18 +139,22 @@ fn is_letter(letter: &Letter, to: u8, datagram: &[u8]) -> bool {
     number_of(&letter.to) == to && letter.bytes.as_slice() == datagram
 }
 
+fn is_posted(rt: &impl Abort, alloc: Global, letter: &Letter, to: u8, text: &str) {
+    let datagram = bytes(rt, alloc, text);
+    ensure(rt, is_letter(letter, to, datagram.as_slice()), text);
+}
+
 /// The letters, in order, are these.
-fn are_letters(rt: &impl Abort, alloc: Global, letters: &[Letter], wanted: &[(u8, &str)]) {
+fn are_posted(rt: &impl Abort, alloc: Global, letters: &[Letter], wanted: &[(u8, &str)]) {
     same(rt, letters.len(), wanted.len());
     for (letter, &(to, text)) in letters.iter().zip(wanted) {
-        let datagram = bytes(rt, alloc, text);
-        ensure(rt, is_letter(letter, to, datagram.as_slice()), text);
+        is_posted(rt, alloc, letter, to, text);
     }
 }
 
 fn posts(rt: &impl Abort, server: &DrivenNode<MemLink>, wanted: &[(u8, &str)]) {
     let letters = server.letters().expect(rt, "memory");
-    are_letters(rt, server.alloc, letters.as_slice(), wanted);
+    are_posted(rt, server.alloc, letters.as_slice(), wanted);
 }
 
 fn posts_many(rt: &impl Abort, server: &DrivenNode<MemLink>, count: usize) {
@@ -210,6 +214,17 @@ fn look(rt: &impl Abort, server: &DrivenNode<MemLink>, step: Step) {
     }
 }
 
+/// Drives the node, or looks at what the step says.
+fn drive(rt: &impl Abort, server: &mut DrivenNode<MemLink>, step: Step) {
+    match step {
+        Step::Drives(count, malformed) => passes(rt, server.drive(count), malformed, 0),
+        Step::Turns(count, last, malformed) => turns(rt, server, count, last, malformed),
+        Step::Ends(count, fault) => same(rt, server.drive(count).err(), fault),
+        Step::Takes(texts, last, wanted) => takes(rt, server, texts, last, wanted),
+        _ => look(rt, server, step),
+    }
+}
+
 /// Does a step, or looks at what it says.
 fn act(rt: &impl Abort, server: &mut DrivenNode<MemLink>, step: Step) {
     match step {
@@ -217,11 +232,7 @@ fn act(rt: &impl Abort, server: &mut DrivenNode<MemLink>, step: Step) {
         Step::Hears(text) => hears(rt, server, text, text.len() / 2),
         Step::HearsLong(head, length) => hears(rt, server, head, length),
         Step::Arm(calls) => server.node.arm(calls),
-        Step::Drives(count, malformed) => passes(rt, server.drive(count), malformed, 0),
-        Step::Turns(count, last, malformed) => turns(rt, server, count, last, malformed),
-        Step::Ends(count, fault) => same(rt, server.drive(count).err(), fault),
-        Step::Takes(texts, last, wanted) => takes(rt, server, texts, last, wanted),
-        _ => look(rt, server, step),
+        _ => drive(rt, server, step),
     }
 }
 
@@ -242,6 +253,13 @@ pub(crate) fn behind(
         act_all(rt, &mut server, steps);
     }
     server
+}
+
+/// Each of these tables, in parts, is played at a node of three.
+pub(crate) fn play_each(rt: &impl Abort, alloc: Global, tables: &[&[&[Step]]]) {
+    for &parts in tables {
+        drop(behind(rt, alloc, parts));
+    }
 }
 
 /// Steps of a fresh node of so many.

@@ -1,5 +1,5 @@
 //! What node 1 of three sends for what it hears, datagram by datagram; turns alone beside `drive`, and the other calls behind turns.
-use crate::driven::steps::{Last, Step, behind, play};
+use crate::driven::steps::{Last, Step, play, play_each};
 
 const QUESTION: &str = "01060100000001";
 
@@ -87,12 +87,8 @@ const DRIVES: &[&[&[Step]]] = &[
 
 #[test]
 fn a_drive_is_an_exchange_and_a_last_call(rt: HostRuntime) {
-    for &parts in EXCHANGES {
-        drop(behind(&rt, rt.alloc(), parts));
-    }
-    for &parts in DRIVES {
-        drop(behind(&rt, rt.alloc(), parts));
-    }
+    play_each(&rt, rt.alloc(), EXCHANGES);
+    play_each(&rt, rt.alloc(), DRIVES);
 }
 
 /// Behind turns by which a tick is wanted: a question, then no widening, and one where a value waits; all on one desk.
@@ -114,7 +110,7 @@ const WITHOUT_A_TICK: &[&[Step]] = &[
 
 #[test]
 fn questions_and_widenings_need_no_tick(rt: HostRuntime) {
-    drop(behind(&rt, rt.alloc(), WITHOUT_A_TICK));
+    play_each(&rt, rt.alloc(), &[WITHOUT_A_TICK]);
 }
 
 /// Node 3 asks for what it is told behind the answer; whatever else comes is no question: four messages of attempts, and two votes.
@@ -152,7 +148,7 @@ const TOLD: &[Step] = &[
 
 #[test]
 fn a_telling_goes_to_who_asked(rt: HostRuntime) {
-    drop(behind(&rt, rt.alloc(), &[SIX, THREE_MORE, TOLD]));
+    play_each(&rt, rt.alloc(), &[&[SIX, THREE_MORE, TOLD]]);
 }
 
 const ASKS_ALL: &[Step] = &[Step::Drives(0, 0), Step::SentToAll(0, QUESTION)];
