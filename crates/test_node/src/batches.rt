@@ -61,12 +61,15 @@ fn shown(all: bool) -> &'static [Step] {
     if all { ALL } else { NONE }
 }
 
+fn fail(rt: &impl Abort, alloc: Global, calls: u32, crash: Option<u8>, all: bool) {
+    let armed = [Step::Arm(calls)];
+    find(rt, alloc, &[JUDGED, &armed, NOT_SEALED], crash, shown(all));
+}
+
 #[test]
 fn a_device_fails_at_each_call_of_a_seal(rt: HostRuntime) {
     for &(calls, crash, all) in FAILURES {
-        let armed = [Step::Arm(calls)];
-        let before = [JUDGED, &armed, NOT_SEALED];
-        find(&rt, rt.alloc(), &before, crash, shown(all));
+        fail(&rt, rt.alloc(), calls, crash, all);
     }
     find(&rt, rt.alloc(), &[JUDGED, SEALED], Some(0), ALL);
 }

@@ -2,9 +2,10 @@
 //! tried once more.
 ghost use Rattle.site_ids.specs.Ids.{IsNode};
 
-use crate::comparing::{ensure, same};
+use crate::comparing::{ensure, is_page, same};
+use crate::samples::{Text, value};
 use durable::{Record, RecordFault};
-use node::Node;
+use node::{Node, NodeFault, Submitted};
 use site_disk::MemDisk;
 use site_ids::{Cluster, NodeId};
 use std::alloc::Global;
@@ -72,12 +73,28 @@ fn opened(
     }
 }
 
-/// The node of that number among so many, over a record that was just made.
-pub(crate) fn fresh(rt: &impl Abort, alloc: Global, size: u8, number: u8) -> Box<Node<MemDisk>> {
+/// Node 1 of so many, over a record that was just made.
+pub(crate) fn fresh(rt: &impl Abort, alloc: Global, size: u8) -> Box<Node<MemDisk>> {
     let cluster = Cluster::new(size).expect(rt, "a cluster");
-    let me = cluster.node(number).expect(rt, "a node");
+    let me = cluster.node(1).expect(rt, "a node");
     let disk = formatted(rt, alloc, cluster, me);
     boxed(rt, alloc, opened(rt, alloc, cluster, me, disk))
+}
+
+/// A value is submitted, which is let go of here alone.
+pub(crate) fn submit(
+    rt: &impl Abort,
+    alloc: Global,
+    node: &mut Node<MemDisk>,
+    text: Text,
+) -> Result<Submitted, NodeFault> {
+    let value = value(rt, alloc, text);
+    node.submit(&value)
+}
+
+/// Whether the newest release has that page.
+pub(crate) fn shows(node: &Node<MemDisk>, path: &str, status: u16, body: &str) -> bool {
+    is_page(&node.answer(node.newest(), path), status, body)
 }
 
 /// The disk of a node that is closed, behind a crash by that choice, or without one.

@@ -1,8 +1,8 @@
 //! A node over a disk in memory, lent to the rows.
 use crate::comparing::same;
 use crate::heard::{Heard, message};
-use crate::nodes::{again, fresh};
-use crate::samples::{Text, instance, node_of, value};
+use crate::nodes::{again, fresh, submit};
+use crate::samples::{Text, instance, node_of};
 use node::{Node, NodeFault, Outbox, Submitted, To};
 use site_disk::MemDisk;
 use std::alloc::Global;
@@ -53,7 +53,7 @@ impl Peer {
     pub(crate) fn fresh(rt: &impl Abort, alloc: Global, size: u8) -> Peer {
         Peer {
             alloc,
-            node: fresh(rt, alloc, size, 1),
+            node: fresh(rt, alloc, size),
             out: Vec::new(alloc),
         }
     }
@@ -78,8 +78,7 @@ impl Peer {
     }
 
     pub(crate) fn submit(&mut self, rt: &impl Abort, text: Text) -> Result<Submitted, NodeFault> {
-        let value = value(rt, self.alloc, text);
-        self.node.submit(&value)
+        submit(rt, self.alloc, &mut self.node, text)
     }
 
     pub(crate) fn widen(&mut self) -> Result<bool, NodeFault> {

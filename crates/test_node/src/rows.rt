@@ -40,7 +40,7 @@ const CHOSEN: &[Step] = &[
     Step::Hears(Heard::Chosen(2, 4, Text::Command(1, "remove data d\n"))),
     Step::Knows(4),
     Step::Publishes(1),
-    Step::Page("/", 404),
+    Step::NoPage,
     Step::Receipt(1, 1),
     Step::Fails(
         Call::Hear(Heard::Chosen(2, 1, NOTHING)),

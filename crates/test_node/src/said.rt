@@ -5,7 +5,7 @@ use std::process::Abort;
 use wire::Message;
 
 #[derive(Clone, Copy, PartialEq, Eq)]
-pub(crate) enum Kind {
+enum Kind {
     Prepare,
     /// Whether it tells a vote.
     Promise(bool),
@@ -38,9 +38,9 @@ pub(crate) enum Said {
 }
 
 /// An instance, a round and a count, 0 where the message has none, or none that is looked at.
-pub(crate) type Numbers = (u32, u32, u8);
+type Numbers = (u32, u32, u8);
 
-pub(crate) fn kind_of(message: &Message) -> Kind {
+fn kind_of(message: &Message) -> Kind {
     match message {
         Message::Prepare { .. } => Kind::Prepare,
         Message::Promise { prior, .. } => Kind::Promise(prior.is_some()),
@@ -52,7 +52,7 @@ pub(crate) fn kind_of(message: &Message) -> Kind {
     }
 }
 
-pub(crate) fn numbers_of(message: &Message) -> Numbers {
+fn numbers_of(message: &Message) -> Numbers {
     let at = message.instance().number();
     match message {
         Message::Prepare { ballot, count, .. } => (at, ballot.round(), *count),

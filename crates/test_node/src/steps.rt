@@ -1,6 +1,7 @@
 //! Steps of a node, as tables have them.
 use crate::comparing::{ensure, same};
 use crate::heard::Heard;
+use crate::nodes::shows;
 use crate::peer::{Call, Peer, ends, passes};
 use crate::said::{Said, ensure_last, is_all_said};
 use crate::samples::{Text, instance, ticket};
@@ -40,8 +41,8 @@ pub(crate) enum Step {
     Knows(u32),
     /// The number of a ticket, and the instance of its receipt.
     Receipt(u64, u32),
-    /// The status of the newest release's page.
-    Page(&'static str, u16),
+    /// The newest release has no page at `/`.
+    NoPage,
     /// Whether it wants a tick.
     Wants(bool),
     Stopped,
@@ -59,13 +60,6 @@ fn is_no_command(rt: &impl Abort, node: &mut Peer, text: Text) {
     assert!(rt; matches!(refused, Err(NodeFault::NotACommand(_))));
 }
 
-fn status(node: &Peer, path: &str) -> Option<u16> {
-    match node.node.answer(node.node.newest(), path) {
-        Ok(answer) => Some(answer.status),
-        Err(_) => None,
-    }
-}
-
 /// Sees whether what the step says is so.
 fn look(rt: &impl Abort, node: &Peer, step: Step) {
     match step {
@@ -76,10 +70,27 @@ fn look(rt: &impl Abort, node: &Peer, step: Step) {
             let receipt = node.node.receipt(ticket(number));
             same(rt, receipt, Some(instance(rt, at)));
         }
-        Step::Page(path, wanted) => same(rt, status(node, path), Some(wanted)),
+        Step::NoPage => ensure(rt, shows(&node.node, "/", 404, "not found\n"), "/"),
         Step::Wants(wants) => same(rt, node.node.wants_tick(), wants),
         Step::Stopped => same(rt, node.node.is_stopped(), true),
         _ => {}
+    }
+}
+
+fn says(rt: &impl Abort, node: &mut Peer, to: u8, wanted: &[Said]) {
+    is_all_said(rt, &node.out, to, wanted);
+    node.out.clear();
+}
+
+/// Does a step whose answer is more than whether it passed, or looks at what it says.
+fn answers(rt: &impl Abort, node: &mut Peer, step: Step) {
+    match step {
+        Step::Submits(text, answer) => same(rt, node.submit(rt, text), answer),
+        Step::Unread(text) => is_no_command(rt, node, text),
+        Step::Widens(answer) => same(rt, node.widen(), answer),
+        Step::Publishes(newest) => same(rt, node.node.publish(), Ok(newest)),
+        Step::Says(to, wanted) => says(rt, node, to, wanted),
+        _ => look(rt, node, step),
     }
 }
 
@@ -91,16 +102,8 @@ fn act(rt: &impl Abort, node: &mut Peer, step: Step) {
         Step::Hears(heard) => passes(rt, node.hear(rt, heard)),
         Step::Arm(calls) => node.node.arm(calls),
         Step::Queues(first, last) => queues(rt, node, first, last),
-        Step::Submits(text, answer) => same(rt, node.submit(rt, text), answer),
-        Step::Unread(text) => is_no_command(rt, node, text),
-        Step::Widens(answer) => same(rt, node.widen(), answer),
-        Step::Publishes(newest) => same(rt, node.node.publish(), Ok(newest)),
         Step::Forget => node.out.clear(),
-        Step::Says(to, wanted) => {
-            is_all_said(rt, &node.out, to, wanted);
-            node.out.clear();
-        }
-        _ => look(rt, node, step),
+        _ => answers(rt, node, step),
     }
 }
 

@@ -1,12 +1,7 @@
-//! Worlds over disks in memory: worked schedules, runs that stop at an event or go on over a refusal, each growth refused.
+//! Worlds over disks in memory: runs that stop at an event or go on over a refusal, each growth refused. Schedules are files of examples/schedules, and rows
+//! of them cases of examples/cases/sitesim.
 
 mod group;
-mod kept;
-mod quiet;
-mod records;
 mod refusals;
 mod runs;
-mod schedules;
 mod step;
-mod told_again;
-mod widened;

@@ -65,7 +65,7 @@ const DRIVES: &[(bool, bool, u32, u64)] = &[
 fn drive(rt: &impl Abort, server: &mut DrivenNode<Broken>, turns: u32, failed: u64) {
     let tries = server.link.tries.saturating_add(u64::from(turns));
     let failures = server.link.failures.saturating_add(failed);
-    passes(rt, "failing calls", server.drive(turns), 0, failed);
+    passes(rt, server.drive(turns), 0, failed);
     same(
         rt,
         (server.link.tries, server.link.failures),
@@ -89,9 +89,9 @@ fn failed_calls_are_counted_and_passed_over(rt: HostRuntime) {
         tries: 0,
         failures: 0,
     };
-    let mut server = DrivenNode::new(&rt, rt.alloc(), 3, 1, broken);
+    let mut server = DrivenNode::new(&rt, rt.alloc(), 3, broken);
     drive_each(&rt, &mut server);
     // Then a value is pending, and the last call is a tick.
-    server.submit(&rt, 1, "release\n");
+    server.submit(&rt, 1);
     drive_each(&rt, &mut server);
 }

@@ -1,8 +1,7 @@
 //! Datagrams that spell no message of three nodes, and the longest one that does.
-use crate::comparing::{ensure, same};
-use crate::driven::driven_node::{DrivenNode, bytes, passes};
+use crate::driven::driven_node::DrivenNode;
+use crate::driven::steps::{Last, Step, act_all, play};
 use site_drive::MemLink;
-use std::alloc::Global;
 use std::process::Abort;
 
 /// Datagrams that spell none.
@@ -18,33 +17,27 @@ const MALFORMED: &[&str] = &[
     "010104000000010000000102",
 ];
 
-fn each_alone(rt: &impl Abort, server: &mut DrivenNode<MemLink>) {
-    for &text in MALFORMED {
-        server.queue(rt, text);
-        passes(rt, text, server.exchange(1), 1, 0);
-    }
-}
+/// The prepare is taken, and no vote is told.
+const NOTHING_CHANGED: &[Step] = &[
+    Step::Turns(99, Last::Nothing, 7),
+    Step::Many(0),
+    Step::Knows(0),
+    Step::Wants(false),
+    Step::Hears("010102000000010000000102"),
+    Step::Turns(1, Last::Nothing, 0),
+    Step::Sent(0, 2, "01020100000001000000010200"),
+];
 
-fn all_at_once(rt: &impl Abort, server: &mut DrivenNode<MemLink>) {
-    for &text in MALFORMED {
-        server.queue(rt, text);
-    }
-    passes(rt, "all at once", server.exchange(99), 7, 0);
-}
-
+/// Each comes alone, and then all at once.
 fn change_nothing(rt: &impl Abort, server: &mut DrivenNode<MemLink>) {
-    each_alone(rt, server);
-    all_at_once(rt, server);
-    same(rt, server.link.sent().len(), 0);
-    same(
-        rt,
-        (server.node.known(), server.node.wants_tick()),
-        (0, false),
-    );
-    // The prepare is taken, and no vote is told.
-    server.queue(rt, "010102000000010000000102");
-    passes(rt, "a message", server.exchange(1), 0, 0);
-    server.sent(rt, 0, 2, "01020100000001000000010200");
+    for &text in MALFORMED {
+        let alone = [Step::Hears(text), Step::Turns(1, Last::Nothing, 1)];
+        act_all(rt, server, &alone);
+    }
+    for &text in MALFORMED {
+        act_all(rt, server, &[Step::Hears(text)]);
+    }
+    act_all(rt, server, NOTHING_CHANGED);
 }
 
 #[test]
@@ -59,63 +52,37 @@ const PROMISE_OF_3: &str = "01020300000001000000020101000000010200008000";
 
 const PROPOSAL: &str = "01030100000001000000020100008000";
 
-/// Lengths of datagrams that begin so, and how many of each are malformed: with a slice of the longest one's length, longer ones would be cut to it.
-const LENGTHS: &[(&str, usize, u32)] = &[
-    ("no value", 22, 1),
-    ("a byte less", 32_789, 1),
-    ("a byte more", 32_791, 1),
-    ("two bytes more", 32_792, 1),
-    ("the most that a datagram holds", 65_507, 1),
-    ("the longest message", 32_790, 0),
+/// In round 2 of node 1 two promises tell of the same vote for the greatest value. With a slice of the longest datagram's length, longer ones would be cut to it.
+const LONGEST: &[Step] = &[
+    Step::Submits(1),
+    Step::Drives(0, 0),
+    Step::Drives(0, 0),
+    // no value
+    Step::HearsLong(PROMISE_OF_2, 22),
+    Step::Turns(1, Last::Nothing, 1),
+    // a byte less
+    Step::HearsLong(PROMISE_OF_2, 32_789),
+    Step::Turns(1, Last::Nothing, 1),
+    // a byte more, two bytes more, the most that a datagram holds
+    Step::HearsLong(PROMISE_OF_2, 32_791),
+    Step::Turns(1, Last::Nothing, 1),
+    Step::HearsLong(PROMISE_OF_2, 32_792),
+    Step::Turns(1, Last::Nothing, 1),
+    Step::HearsLong(PROMISE_OF_2, 65_507),
+    Step::Turns(1, Last::Nothing, 1),
+    // the longest message
+    Step::HearsLong(PROMISE_OF_2, 32_790),
+    Step::Turns(1, Last::Nothing, 0),
+    Step::Many(6),
+    Step::HearsLong(PROMISE_OF_3, 32_790),
+    Step::Turns(1, Last::Nothing, 0),
+    Step::SentLong(6, 1, PROPOSAL, 32_784),
+    Step::SentLong(7, 2, PROPOSAL, 32_784),
+    Step::SentLong(8, 3, PROPOSAL, 32_784),
+    Step::Many(9),
 ];
-
-/// A datagram with that beginning, and else bytes 7.
-pub(crate) fn long(rt: &impl Abort, alloc: Global, head: &str, length: usize) -> Vec<u8> {
-    let mut datagram = bytes(rt, alloc, head);
-    datagram.resize(length, 7).expect(rt, "a datagram");
-    datagram
-}
-
-fn push(rt: &impl Abort, server: &mut DrivenNode<MemLink>, head: &str, length: usize) {
-    let datagram = long(rt, server.alloc, head, length);
-    server.link.push(datagram.as_slice()).expect(rt, "a place");
-}
-
-fn hear_each(rt: &impl Abort, server: &mut DrivenNode<MemLink>) {
-    for &(row, length, malformed) in LENGTHS {
-        push(rt, server, PROMISE_OF_2, length);
-        passes(rt, row, server.exchange(1), malformed, 0);
-    }
-}
-
-/// The datagrams sent from that place on are three, each the proposal.
-fn proposes(rt: &impl Abort, server: &DrivenNode<MemLink>, first: usize) {
-    let proposal = long(rt, server.alloc, PROPOSAL, 32_784);
-    let (_, sent) = server
-        .link
-        .sent()
-        .split_at_checked(first)
-        .expect(rt, "a proposal");
-    same(rt, sent.len(), 3);
-    for (to, datagram) in sent {
-        ensure(rt, datagram.as_slice() == proposal.as_slice(), to.number());
-    }
-}
-
-/// In round 2 of node 1 two promises tell of the same vote for the greatest value.
-fn longest(rt: &impl Abort, server: &mut DrivenNode<MemLink>) {
-    server.submit(rt, 1, "release\n");
-    for _ in 0..2 {
-        passes(rt, "a tick", server.drive(0), 0, 0);
-    }
-    hear_each(rt, server);
-    let first = server.link.sent().len();
-    push(rt, server, PROMISE_OF_3, 32_790);
-    passes(rt, "the second promise", server.exchange(1), 0, 0);
-    proposes(rt, server, first);
-}
 
 #[test]
 fn the_longest_message_arrives_and_a_cut_one_does_not(rt: HostRuntime) {
-    longest(&rt, &mut DrivenNode::over_queues(&rt, rt.alloc(), 3));
+    play(&rt, rt.alloc(), 3, LONGEST);
 }

@@ -1,11 +1,11 @@
-//! A node with its link, boxed: a box is let go of in one step.
-use crate::comparing::{ensure, is_page, same};
-use crate::nodes::{again, boxed, fresh};
-use crate::samples::{Text, value};
+//! Node 1 with its link and a desk, boxed: a box is let go of in one step.
+use crate::comparing::{ensure, same};
+use crate::nodes::{again, boxed, fresh, submit};
+use crate::samples::Text;
 use node::{Node, NodeFault, Submitted};
 use site_disk::MemDisk;
 use site_drive::{Desk, Driven, LastCall, Letter, Link, MemLink, drive};
-use std::alloc::Global;
+use std::alloc::{AllocError, Global};
 use std::process::Abort;
 
 #[derive(Drop)]
@@ -13,17 +13,17 @@ pub(crate) struct DrivenNode<L> {
     pub alloc: Global,
     pub node: Box<Node<MemDisk>>,
     pub link: L,
+    pub desk: Box<Desk>,
 }
 
-/// The turns of a row passed over so many malformed datagrams, and so many failed calls.
+/// It passed over so many malformed datagrams, and so many failed calls.
 pub(crate) fn passes(
     rt: &impl Abort,
-    row: &str,
     driven: Result<Driven, NodeFault>,
     malformed: u32,
     failed: u64,
 ) {
-    same(rt, (row, driven), (row, Ok(Driven { malformed, failed })));
+    same(rt, driven, Ok(Driven { malformed, failed }));
 }
 
 /// Bytes that are given in hexadecimal. Where memory was refused they are read once more.
@@ -34,112 +34,118 @@ pub(crate) fn bytes(rt: &impl Abort, alloc: Global, text: &str) -> Vec<u8> {
     }
 }
 
+/// Those, and then bytes 7 up to that length.
+pub(crate) fn long(rt: &impl Abort, alloc: Global, head: &str, length: usize) -> Vec<u8> {
+    let mut datagram = bytes(rt, alloc, head);
+    datagram.resize(length, 7).expect(rt, "a datagram");
+    datagram
+}
+
+fn desk(rt: &impl Abort, alloc: Global) -> Desk {
+    match Desk::new(alloc) {
+        Ok(desk) => desk,
+        Err(_) => Desk::new(alloc).expect(rt, "memory"),
+    }
+}
+
 impl<L: Link + Drop> DrivenNode<L> {
-    /// The node of that number among so many, over a record that was just made.
-    pub(crate) fn new(
-        rt: &impl Abort,
-        alloc: Global,
-        size: u8,
-        number: u8,
-        link: L,
-    ) -> Box<DrivenNode<L>> {
-        let node = fresh(rt, alloc, size, number);
-        boxed(rt, alloc, DrivenNode { alloc, node, link })
+    /// Node 1 of so many, over a record that was just made.
+    pub(crate) fn new(rt: &impl Abort, alloc: Global, size: u8, link: L) -> Box<DrivenNode<L>> {
+        let node = fresh(rt, alloc, size);
+        let desk = boxed(rt, alloc, desk(rt, alloc));
+        boxed(
+            rt,
+            alloc,
+            DrivenNode {
+                alloc,
+                node,
+                link,
+                desk,
+            },
+        )
     }
 
+    /// A drive on a desk of its own.
     pub(crate) fn drive(&mut self, turns: u32) -> Result<Driven, NodeFault> {
         drive(self.alloc, &mut self.node, &mut self.link, turns)
     }
 
-    pub(crate) fn drive_with(
-        &mut self,
-        desk: &mut Desk,
-        turns: u32,
-        last: LastCall,
-    ) -> Result<Driven, NodeFault> {
-        desk.drive_with(&mut self.node, &mut self.link, turns, last)
+    pub(crate) fn turns(&mut self, turns: u32, last: LastCall) -> Result<Driven, NodeFault> {
+        self.desk
+            .drive_with(&mut self.node, &mut self.link, turns, last)
     }
 
-    /// One batch over these datagrams: how many were malformed, and the letters.
-    pub(crate) fn batch(
-        &mut self,
-        came: &[Vec<u8>],
-        last: LastCall,
-    ) -> Result<(usize, Vec<Letter>), NodeFault> {
-        let mut desk = Desk::new(self.alloc)?;
-        self.batch_on(&mut desk, came, last)
+    /// One batch over these datagrams: how many were malformed.
+    pub(crate) fn batch(&mut self, came: &[Vec<u8>], last: LastCall) -> Result<usize, NodeFault> {
+        self.desk.take_batch(&mut self.node, came, last)
     }
 
-    /// The same on a desk that is there.
-    pub(crate) fn batch_on(
-        &mut self,
-        desk: &mut Desk,
-        came: &[Vec<u8>],
-        last: LastCall,
-    ) -> Result<(usize, Vec<Letter>), NodeFault> {
-        let malformed = desk.take_batch(&mut self.node, came, last)?;
+    /// What is posted behind a batch, whatever it came to.
+    pub(crate) fn letters(&self) -> Result<Vec<Letter>, AllocError> {
         let mut letters = Vec::new(self.alloc);
-        desk.post(&mut letters)?;
-        Ok((malformed, letters))
+        self.desk.post(&mut letters)?;
+        Ok(letters)
     }
 
-    /// Turns alone.
-    pub(crate) fn exchange(&mut self, turns: u32) -> Result<Driven, NodeFault> {
-        let mut desk = Desk::new(self.alloc)?;
-        self.drive_with(&mut desk, turns, LastCall::Nothing)
-    }
-
-    /// A command of editor 1, by the number of its ticket.
-    pub(crate) fn submit(&mut self, rt: &impl Abort, number: u64, text: &'static str) {
-        let value = value(rt, self.alloc, Text::Command(number, text));
-        same(rt, self.node.submit(&value), Ok(Submitted::Queued));
-    }
-
-    /// Whether the page of the newest release is this one.
-    pub(crate) fn shows(&self, path: &str, status: u16, body: &str) -> bool {
-        let answer = self.node.answer(self.node.newest(), path);
-        is_page(&answer, status, body)
+    /// A release, by the number of its ticket.
+    pub(crate) fn submit(&mut self, rt: &impl Abort, number: u64) {
+        let text = Text::Command(number, "release\n");
+        let submitted = submit(rt, self.alloc, &mut self.node, text);
+        same(rt, submitted, Ok(Submitted::Queued));
     }
 }
 
 impl DrivenNode<MemLink> {
-    /// Node 1 of so many, over queues in memory.
+    /// Over queues in memory.
     pub(crate) fn over_queues(
         rt: &impl Abort,
         alloc: Global,
         size: u8,
     ) -> Box<DrivenNode<MemLink>> {
-        DrivenNode::new(rt, alloc, size, 1, MemLink::new(alloc))
+        DrivenNode::new(rt, alloc, size, MemLink::new(alloc))
     }
 
-    /// Queues a datagram that is given in hexadecimal. Where memory was refused it is queued once more.
-    pub(crate) fn queue(&mut self, rt: &impl Abort, text: &str) {
-        let datagram = bytes(rt, self.alloc, text);
-        if self.link.push(datagram.as_slice()).is_err() {
-            self.link.push(datagram.as_slice()).expect(rt, "a place");
+    /// A datagram waits. Where memory was refused it is queued once more.
+    pub(crate) fn queue(&mut self, rt: &impl Abort, datagram: &[u8]) {
+        if self.link.push(datagram).is_err() {
+            self.link.push(datagram).expect(rt, "a place");
         }
     }
 
-    /// The datagram sent at a place is this one, in hexadecimal, and went to that node.
-    pub(crate) fn sent(&self, rt: &impl Abort, at: usize, to: u8, text: &str) {
-        let expected = bytes(rt, self.alloc, text);
-        let is_sent = match self.link.sent().get(at) {
-            Some((node, datagram)) => {
-                node.number() == to && datagram.as_slice() == expected.as_slice()
-            }
+    /// Whether the datagram sent at a place is this one, to the node of that number.
+    fn is_sent(&self, at: usize, to: u8, datagram: &[u8]) -> bool {
+        match self.link.sent().get(at) {
+            Some((node, sent)) => node.number() == to && sent.as_slice() == datagram,
             None => false,
-        };
-        ensure(rt, is_sent, (text, to));
+        }
+    }
+
+    pub(crate) fn sent(&self, rt: &impl Abort, at: usize, to: u8, datagram: &[u8]) {
+        ensure(rt, self.is_sent(at, to, datagram), (at, to));
     }
 }
 
-/// Node 1, closed and opened again, behind a crash by that choice, or without one.
+/// Closed and opened again, behind a crash by a choice or without one.
 pub(crate) fn reopened(
     rt: &impl Abort,
     server: Box<DrivenNode<MemLink>>,
     crash: Option<u8>,
 ) -> Box<DrivenNode<MemLink>> {
-    let DrivenNode { alloc, node, link } = Box::into_inner(server);
+    let DrivenNode {
+        alloc,
+        node,
+        link,
+        desk,
+    } = Box::into_inner(server);
     let node = again(rt, alloc, node, crash);
-    boxed(rt, alloc, DrivenNode { alloc, node, link })
+    boxed(
+        rt,
+        alloc,
+        DrivenNode {
+            alloc,
+            node,
+            link,
+            desk,
+        },
+    )
 }

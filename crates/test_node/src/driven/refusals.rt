@@ -24,28 +24,34 @@ const HEARD: &[&str] = &[
 /// What the question is answered with.
 const ANSWER: &str = "010701000000010000001400000001000000000000000172656c656173650a";
 
-fn heard(rt: &impl Abort, alloc: Global) -> Option<Vec<Vec<u8>>> {
+fn heard(rt: &impl Abort, alloc: Global) -> Result<Vec<Vec<u8>>, NodeFault> {
     let mut came = Vec::new(alloc);
     for &text in HEARD {
-        came.push(bytes(rt, alloc, text)).ok()?;
+        if came.push(bytes(rt, alloc, text)).is_err() {
+            return Err(NodeFault::OutOfMemory);
+        }
     }
-    Some(came)
+    Ok(came)
 }
 
 /// What a batch that hears all of it came to: it ended as without a refusal.
 fn batch(rt: &impl Abort, server: &mut DrivenNode<MemLink>) -> Result<bool, NodeFault> {
-    let Some(came) = heard(rt, server.alloc) else {
-        return Err(NodeFault::OutOfMemory);
-    };
-    let (malformed, letters) = server.batch(came.as_slice(), LastCall::TickOrAsk)?;
+    let came = heard(rt, server.alloc)?;
+    let malformed = server.batch(came.as_slice(), LastCall::TickOrAsk)?;
+    let letters = server.letters()?;
     ensure(rt, malformed == 1 && letters.len() > 1, malformed);
     Ok(true)
+}
+
+fn hears(rt: &impl Abort, server: &mut DrivenNode<MemLink>, text: &str) {
+    let datagram = bytes(rt, server.alloc, text);
+    server.queue(rt, datagram.as_slice());
 }
 
 /// What a drive that hears all of it came to: whether it ended as without a refusal. Turns are left for what an earlier drive did not take.
 fn turns(rt: &impl Abort, server: &mut DrivenNode<MemLink>) -> Result<bool, NodeFault> {
     for &text in HEARD {
-        server.queue(rt, text);
+        hears(rt, server, text);
     }
     let driven = server.drive(10)?;
     ensure(rt, 1 <= driven.malformed && driven.failed <= 1, driven);
@@ -98,7 +104,8 @@ fn check_end(rt: &impl Abort, server: &DrivenNode<MemLink>, at_once: bool) {
     if !at_once {
         // The last are the answer, and a tick to all.
         let at = server.link.sent().len().saturating_sub(4);
-        server.sent(rt, at, 3, ANSWER);
+        let answer = bytes(rt, server.alloc, ANSWER);
+        server.sent(rt, at, 3, answer.as_slice());
     }
 }
 

@@ -1,9 +1,9 @@
 //! Links over sockets on loopback, in one thread.
 use crate::comparing::{ensure, same};
-use crate::driven::datagrams::{PROMISE_OF_2, long};
-use crate::driven::driven_node::{DrivenNode, passes};
+use crate::driven::datagrams::PROMISE_OF_2;
+use crate::driven::driven_node::{DrivenNode, long, passes};
 use crate::samples::node_of;
-use site_drive::{Link, UdpLink};
+use site_drive::{LastCall, Link, UdpLink};
 use std::alloc::Global;
 use std::net::{Ipv4Addr, Net, SocketAddr, UdpSocket};
 use std::process::Abort;
@@ -27,17 +27,16 @@ fn address(rt: &impl Abort, socket: &UdpSocket) -> SocketAddr {
     socket.local_addr().expect(rt, "an address")
 }
 
-/// A node over its socket, with the addresses of all nodes.
+/// Node 1 over its socket, with the addresses of all nodes.
 fn server(
     rt: &impl Abort,
     alloc: Global,
-    number: u8,
     socket: UdpSocket,
     addresses: &[SocketAddr],
 ) -> Box<DrivenNode<UdpLink>> {
     let peers = Vec::from_slice(alloc, addresses).expect(rt, "addresses");
     let size = u8::try_from(addresses.len()).expect(rt, "a size");
-    DrivenNode::new(rt, alloc, size, number, UdpLink::new(socket, peers))
+    DrivenNode::new(rt, alloc, size, UdpLink::new(socket, peers))
 }
 
 /// Datagrams of the longest length: more than the queue of any socket holds.
@@ -62,7 +61,7 @@ fn overfill(rt: &impl Abort, server: &mut DrivenNode<UdpLink>, datagram: &[u8]) 
     for number in 0..MANY {
         ensure(rt, server.link.send(two, datagram).is_ok(), number);
     }
-    passes(rt, "a question that is lost", server.drive(0), 0, 0);
+    passes(rt, server.drive(0), 0, 0);
 }
 
 /// Nobody reads the socket of node 2. Behind the loss the next question arrives.
@@ -71,7 +70,7 @@ fn lose(rt: &impl Abort, server: &mut DrivenNode<UdpLink>, reader: &UdpSocket) {
     overfill(rt, server, datagram.as_slice());
     let count = drained(rt, reader, datagram.as_mut_slice());
     ensure(rt, 0 < count && count < MANY, count);
-    passes(rt, "a question", server.drive(0), 0, 0);
+    passes(rt, server.drive(0), 0, 0);
     same(rt, drained(rt, reader, datagram.as_mut_slice()), 1);
     same(rt, server.link.failures(), 0);
 }
@@ -81,14 +80,14 @@ fn a_full_queue_loses_datagrams_alone(rt: HostRuntime) {
     let here = socket(&rt);
     let reader = socket(&rt);
     let addresses = [address(&rt, &here), address(&rt, &reader)];
-    let mut server = server(&rt, rt.alloc(), 1, here, &addresses);
+    let mut server = server(&rt, rt.alloc(), here, &addresses);
     lose(&rt, &mut server, &reader);
 }
 
 /// Nothing can be sent to node 2, whose port is 0. What node 1 sends to itself comes.
 fn fail(rt: &impl Abort, server: &mut DrivenNode<UdpLink>) {
-    passes(rt, "nowhere", server.drive(1), 0, 1);
-    passes(rt, "nowhere again", server.drive(1), 0, 1);
+    passes(rt, server.drive(1), 0, 1);
+    passes(rt, server.drive(1), 0, 1);
     same(rt, server.link.failures(), 2);
 }
 
@@ -96,16 +95,12 @@ fn fail(rt: &impl Abort, server: &mut DrivenNode<UdpLink>) {
 fn a_datagram_to_nowhere_is_a_failure(rt: HostRuntime) {
     let here = socket(&rt);
     let addresses = [address(&rt, &here), loopback(0)];
-    let mut server = server(&rt, rt.alloc(), 1, here, &addresses);
+    let mut server = server(&rt, rt.alloc(), here, &addresses);
     fail(&rt, &mut server);
 }
 
 /// The longest promise, and the same with more behind it, which a receive cuts: lengths, and how many are malformed.
-const LENGTHS: &[(&str, usize, u32)] = &[
-    ("whole", 32_790, 0),
-    ("a byte more", 32_791, 1),
-    ("thousands more", 40_000, 1),
-];
+const LENGTHS: &[(usize, u32)] = &[(32_790, 0), (32_791, 1), (40_000, 1)];
 
 fn send(rt: &impl Abort, alloc: Global, length: usize, from: &UdpSocket, to: SocketAddr) {
     let datagram = long(rt, alloc, PROMISE_OF_2, length);
@@ -113,9 +108,9 @@ fn send(rt: &impl Abort, alloc: Global, length: usize, from: &UdpSocket, to: Soc
 }
 
 fn hear_each(rt: &impl Abort, server: &mut DrivenNode<UdpLink>, peer: &UdpSocket, to: SocketAddr) {
-    for &(row, length, malformed) in LENGTHS {
+    for &(length, malformed) in LENGTHS {
         send(rt, server.alloc, length, peer, to);
-        passes(rt, row, server.exchange(1), malformed, 0);
+        passes(rt, server.turns(1, LastCall::Nothing), malformed, 0);
     }
 }
 
@@ -124,6 +119,6 @@ fn a_cut_datagram_is_malformed(rt: HostRuntime) {
     let here = socket(&rt);
     let there = socket(&rt);
     let to = address(&rt, &here);
-    let mut server = server(&rt, rt.alloc(), 1, here, &[to, address(&rt, &there), to]);
+    let mut server = server(&rt, rt.alloc(), here, &[to, address(&rt, &there), to]);
     hear_each(&rt, &mut server, &there, to);
 }

@@ -1,12 +1,11 @@
 //! A world, lent to the rows: a row that owned one would have to be proved to let it go at each of its ends.
 ghost use Rattle.std.specs.Prelude.{◌≤◌};
 
-use crate::comparing::{ensure, is_page, same};
-use crate::said::{Kind, Numbers, kind_of, numbers_of};
+use crate::comparing::{ensure, same};
 use crate::worlds::step::Step;
 use command::write;
 use release::Answer;
-use site_ids::{Cluster, Instance, NodeId, Ticket, Value};
+use site_ids::{Cluster, NodeId, Ticket, Value};
 use std::alloc::Global;
 use std::process::Abort;
 use world::{AskFault, Event, NodeState, World, WorldFault};
@@ -55,19 +54,6 @@ pub(crate) fn push(rt: &impl Abort, events: &mut Vec<Event>, event: Event) {
     if let Err(refused) = events.push(event) {
         ensure(rt, events.push(refused.value).is_ok(), 2);
     }
-}
-
-/// How many ticks and deliveries these events are; none where another event is among them.
-fn counts(events: &[Event]) -> (usize, usize) {
-    let (mut ticks, mut deliveries): (usize, usize) = (0, 0);
-    for event in events {
-        match event {
-            Event::Tick { .. } => ticks = ticks.saturating_add(1),
-            Event::Deliver { .. } => deliveries = deliveries.saturating_add(1),
-            _ => return (0, 0),
-        }
-    }
-    (ticks, deliveries)
 }
 
 impl Group {
@@ -132,14 +118,6 @@ impl Group {
         self.world.sent_count()
     }
 
-    /// The kind of the message at a place of all that were handed out.
-    pub(crate) fn kind(&self, index: usize) -> Option<Kind> {
-        match self.world.sent(index) {
-            Some(message) => Some(kind_of(message)),
-            None => None,
-        }
-    }
-
     pub(crate) fn shown(&self, rt: &impl Abort, number: u8) -> Shown {
         let node = self.node(rt, number);
         (
@@ -164,20 +142,6 @@ impl Group {
         }
     }
 
-    /// A plan that is refused memory is made once more.
-    fn plan(&self, rt: &impl Abort, number: u8) -> Vec<Event> {
-        let node = self.node(rt, number);
-        match self.world.quiet_plan(node) {
-            Ok(plan) => plan,
-            Err(_) => self.world.quiet_plan(node).expect(rt, "memory"),
-        }
-    }
-
-    fn quiet(&mut self, rt: &impl Abort, number: u8) -> Result<(), WorldFault> {
-        let plan = self.plan(rt, number);
-        self.run_on(rt, plan.as_slice())
-    }
-
     fn submission(&self, rt: &impl Abort, number: u8, ticket: u64, text: &str) -> Event {
         Event::Submit {
             node: self.node(rt, number),
@@ -185,30 +149,11 @@ impl Group {
         }
     }
 
-    fn telling(&self, rt: &impl Abort, number: u8, first: u32) -> Event {
-        Event::Tell {
-            node: self.node(rt, number),
-            instance: Instance::new(first).expect(rt, "an instance"),
-        }
-    }
-
-    fn keeping(&self, rt: &impl Abort, number: u8, at: u32) -> Event {
-        Event::Keep {
-            node: self.node(rt, number),
-            instance: Instance::new(at).expect(rt, "an instance"),
-        }
-    }
-
     /// The event of a step, if it is one.
     fn event(&self, rt: &impl Abort, step: Step) -> Option<Event> {
         match step {
             Step::Submit(number, ticket, text) => Some(self.submission(rt, number, ticket, text)),
-            Step::Tell(number, first) => Some(self.telling(rt, number, first)),
-            Step::Keep(number, at) => Some(self.keeping(rt, number, at)),
             Step::Tick(number) => Some(Event::Tick {
-                node: self.node(rt, number),
-            }),
-            Step::Widen(number) => Some(Event::Widen {
                 node: self.node(rt, number),
             }),
             Step::Ask(number) => Some(Event::Ask {
@@ -249,86 +194,11 @@ impl Group {
         self.run(events.as_slice())
     }
 
-    fn has_page(&self, rt: &impl Abort, number: u8, n: u64, path: &str, page: (u16, &str)) {
-        let answer = self.answer(rt, number, n, path);
-        ensure(rt, is_page(&answer, page.0, page.1), (path, number));
-    }
-
-    fn plans(&self, rt: &impl Abort, number: u8, wanted: (usize, usize)) {
-        let plan = self.plan(rt, number);
-        ensure(rt, counts(plan.as_slice()) == wanted, number);
-    }
-
-    fn shows(&self, rt: &impl Abort, number: u8, wanted: Shown) {
-        ensure(rt, self.shown(rt, number) == wanted, number);
-    }
-
-    fn says(&self, rt: &impl Abort, count: usize, kind: Kind) {
-        same(rt, self.sent_count(), count);
-        ensure(rt, self.kind(count.saturating_sub(1)) == Some(kind), count);
-    }
-
-    fn prepares(&self, rt: &impl Abort, index: usize, wanted: Numbers) {
-        let is_it = match self.world.sent(index) {
-            Some(message) => kind_of(message) == Kind::Prepare && numbers_of(message) == wanted,
-            None => false,
-        };
-        ensure(rt, is_it, index);
-    }
-
-    /// Sees whether what the step says is so.
-    fn look(&self, rt: &impl Abort, step: Step) {
-        match step {
-            Step::Plans(number, ticks, deliveries) => self.plans(rt, number, (ticks, deliveries)),
-            Step::Shows(number, state, known, newest) => {
-                self.shows(rt, number, (state, known, newest));
-            }
-            Step::Page(number, n, path, status, body) => {
-                self.has_page(rt, number, n, path, (status, body));
-            }
-            Step::Last(count, kind) => self.says(rt, count, kind),
-            Step::Prepares(index, at, round, count) => {
-                self.prepares(rt, index, (at, round, count));
-            }
-            _ => {}
-        }
-    }
-
-    /// Does a step, or looks at what it says.
+    /// Does a step.
     pub(crate) fn act(&mut self, rt: &impl Abort, step: Step) -> Result<(), WorldFault> {
-        match step {
-            Step::Settle => return self.settle(rt),
-            Step::Quiet(number) => return self.quiet(rt, number),
-            Step::Lose => self.settled = self.sent_count(),
-            _ => match self.event(rt, step) {
-                Some(event) => return self.take(rt, event),
-                None => self.look(rt, step),
-            },
-        }
-        Ok(())
-    }
-
-    /// Does the steps. None of them ends in a fault.
-    pub(crate) fn act_all(&mut self, rt: &impl Abort, steps: &[Step]) {
-        for &step in steps {
-            let done = self.act(rt, step);
-            runs(rt, done, Ok(()));
+        match self.event(rt, step) {
+            Some(event) => self.take(rt, event),
+            None => self.settle(rt),
         }
     }
-}
-
-fn act_parts(rt: &impl Abort, group: &mut Group, parts: &[&[Step]]) {
-    for steps in parts {
-        group.act_all(rt, steps);
-    }
-    same(rt, group.wants, 0);
-}
-
-/// A world of so many nodes goes through the steps, part by part, and never wants memory.
-pub(crate) fn play_parts(rt: &impl Abort, alloc: Global, size: u8, parts: &[&[Step]]) {
-    act_parts(rt, &mut Group::new(rt, alloc, size), parts);
-}
-
-pub(crate) fn play(rt: &impl Abort, alloc: Global, size: u8, steps: &[Step]) {
-    play_parts(rt, alloc, size, &[steps]);
 }
