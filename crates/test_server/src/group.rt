@@ -138,8 +138,9 @@ pub(crate) fn packed(
     let count = mail.letters().len();
     let mut done = 0;
     for _ in 0..count {
-        let (_, rest) = mail.letters().split_at(done);
-        done += pack(rest, to, alone, &mut packet).expect(rt, "memory");
+        let rest = mail.letters().get(done..).expect(rt, "letters");
+        let n = pack(rest, to, alone, &mut packet).expect(rt, "memory");
+        done = done.saturating_add(n);
         if !packet.is_empty() {
             push_packed(rt, alloc, &mut pieces, &packet, &mut mail.peers, to, now);
         }
