@@ -71,15 +71,29 @@ awaits t = t.resumes && is_none t.since
 abbrev pub begun : Ticking → Ticking
 begun t = record t { at = Some t.known; resumes = false }
 
+-- it ticked at the first unknown instance
+abbrev pub has_tried : Option ℕ → ℕ → Bool
+has_tried None known = false
+has_tried (Some at) known = nat_eq at known
+
+-- how many times at least: as behind a tick in vain, where it has only promised there, and did not tick
+abbrev pub least_of : Ticking → Times → Bool → ℕ
+least_of t times promised = if promised && not (has_tried t.at t.known) then times.longer + 1 else 1
+
 -- how many times the patience: behind each tick once more, up to growth times in all; or longer, behind ticks
--- in vain
-abbrev pub waited : Ticking → ℕ → ℕ
-waited t growth = max (min (t.ticks + 1) growth) (t.longer + 1)
+-- in vain, or where it has only promised
+abbrev pub waited : Ticking → Times → Bool → ℕ
+waited t times promised = max (max (min (t.ticks + 1) times.growth) (t.longer + 1)) (least_of t times promised)
 
 -- the patience has passed so many times
-abbrev pub Ticks : Ticking → ℕ → ℕ → ℕ → Type 0
-Ticks t now patience growth =
-    (since : ℕ) × (t.since ≡ Some since) × (patience * waited t growth ≤ now - since)
+abbrev pub Ticks : Ticking → ℕ → ℕ → Times → Bool → Type 0
+Ticks t now patience times promised =
+    (since : ℕ) × (t.since ≡ Some since) × (patience * waited t times promised ≤ now - since)
+
+-- another one's attempt stands at the first unknown instance, and it voted for nothing there
+abbrev pub only_promised : Option ℕ → ℕ → Bool → Bool
+only_promised None me voted = false
+only_promised (Some q) me voted = not (nat_eq q me) && not voted
 
 -- A tick was in vain where a majority answered since, and nothing became known before the next one: behind
 -- each of a row it waits longer. One that no majority answered ends the row
@@ -194,6 +208,10 @@ IsUntried s = (values : List Value) → IsKnownPrefix s values → IsPromise s.e
 abbrev pub IsVotedBy : Node → ℕ → ℕ → Type 0
 IsVotedBy s i p = (vote : Vote) × (last_vote i s.entries ≡ Some vote) × (vote.ballot.node ≡ p)
 
+-- it voted at the instance
+abbrev pub HasVoted : Node → ℕ → Type 0
+HasVoted s i = IsInstance i × IsSome (last_vote i s.entries)
+
 -- it has no attempt open
 abbrev pub IsIdle : Node → Type 0
 IsIdle s = (i : ℕ) → s.attempts i ≡ None
@@ -206,12 +224,13 @@ pub record Resumes (s : Node) (me known recorded : ℕ) : Type 0 where
   pub more : known < recorded
   pub idle : IsIdle s
 
--- what node p shows: how many values it knows without a gap, whether it wants a tick, and whether it decides
--- again what is on its record
+-- what node p shows: how many values it knows without a gap, whether it wants a tick, whether it voted at the
+-- first that it does not know, and whether it decides again what is on its record
 pub record IsSeen (s : Node) (p recorded : ℕ) (drained : Bool) (seen : Seen) : Type 0 where
   pub known : (values : List Value) × IsKnownPrefix s values × (seen.known ≡ length values)
   pub wanted : IsTrue seen.wanted ↔ WantsTick s
   pub drained_is : seen.drained ≡ drained
+  pub voted : IsTrue seen.voted ↔ HasVoted s (suc seen.known)
   pub resumes : IsTrue seen.resumes ↔ Resumes s p seen.known recorded
 
 -- a server of n begins quiet, over a record whose furthest vote is there; it never asked, and no tick is wanted
@@ -274,7 +293,8 @@ pub record IsDue (p : Pace) (now : ℕ) (seen : Seen) (tries : Option ℕ) (bloc
   pub kept : due.block ≡ block
   pub told : due.telling ≡ telling
   pub question : IsTrue due.question ↔ Asks (asking_of p.last p.times now seen p.empty (awaits (noted p.ticking now seen)))
-  pub tick : IsTrue due.tick ↔ Ticks (noted p.ticking now seen) now p.patience p.times.growth
+  pub tick : IsTrue due.tick
+      ↔ Ticks (noted p.ticking now seen) now p.patience p.times (only_promised tries p.me seen.voted)
   pub answered : IsTrue due.answered ↔ IsAnswered p
   pub goes_on : IsTrue due.goes_on ↔ GoesOn (noted p.ticking now seen)
   pub waits : IsTrue due.waits ↔ Waits (noted_tries p.yielding now tries) p.me

@@ -16,7 +16,7 @@ use crate::keeping::Keeping;
 use crate::last_question::LastQuestion;
 use crate::questions::Questions;
 use crate::resting::Resting;
-use crate::seen::{Seen, first_tried_by};
+use crate::seen::{Seen, first_tried_by, only_promised};
 use crate::ticking::Ticking;
 use crate::yielding::Yielding;
 use node::Node;
@@ -159,6 +159,7 @@ impl Pace {
         ensures news { ¬ IsFresh self.old.ticking seen.wanted self.old.stirred → block ≡ None → telling ≡ None → self.old.last.known < seen.known → seen.drained ≡ true → self.old.last.tried ≡ false → result ≡ Ask }
     {
         let (me, times) = (self.me, self.times);
+        let promised = only_promised(&tries, me, seen.voted);
         self.yielding.note(now, tries);
         let waits = self.yielding.waits(me);
         let yields = self.yielding.is_due(times, now, me);
@@ -166,6 +167,7 @@ impl Pace {
         self.yielding.pass(now, waits, yields);
         self.ticking = self.ticking.noted(now, seen);
         let more = self.ticking.awaits();
+        let tick = self.ticking.is_due(now, self.patience, times, promised);
         let asking = self.last.asking(self.times, now, seen, self.empty, more);
         self.keeping = self.keeping.noted(now, seen.known);
         let due = Due {
@@ -173,7 +175,7 @@ impl Pace {
             block,
             telling,
             question: asking.is_due(),
-            tick: self.ticking.is_due(now, self.patience, self.times.growth),
+            tick,
             answered: self.is_answered(),
             goes_on: self.ticking.goes_on(),
             waits,

@@ -1,9 +1,9 @@
 //! What a server sees of its node.
 
-ghost use Rattle.std.specs.Prelude.{◌↔◌, suc, IsTrue};
+ghost use Rattle.std.specs.Prelude.{◌≡◌, ◌↔◌, suc, IsTrue};
 ghost use Rattle.node.specs.Nodes.{Node as AbstractNode};
 ghost use Rattle.node.specs.Standing.{IsNodeOf};
-ghost use Rattle.server_pace.specs.Pacing.{IsIdle, IsSeen, IsTriedBy, IsVotedBy, Resumes};
+ghost use Rattle.server_pace.specs.Pacing.{IsIdle, IsSeen, HasVoted, IsTriedBy, IsVotedBy, only_promised, Resumes};
 
 use node::Node;
 use site_disk::Disk;
@@ -18,6 +18,8 @@ pub struct Seen {
     pub wanted: bool,
     /// All that had come was taken in.
     pub drained: bool,
+    /// It voted at the first instance that it does not know.
+    pub voted: bool,
     /// It voted for the last of them at an own ballot, its record had a vote further on as it began, and it has no
     /// attempt open.
     pub resumes: bool,
@@ -42,6 +44,16 @@ fn is_voted_by<D: Disk>(node: &Node<D>, instance: Instance, by: NodeId) -> bool
     }
 }
 
+/// Whether it voted at the first unknown instance, where so many values are known.
+fn has_voted<D: Disk>(node: &Node<D>, known: u32) -> bool
+    ensures { (s : AbstractNode) → IsNodeOf node.now s → IsTrue result ↔ HasVoted s (suc known) }
+{
+    let Some(first) = Instance::new(known.saturating_add(1)) else {
+        return false;
+    };
+    node.slot(first).vote.is_some()
+}
+
 /// Whether it has no attempt open.
 fn is_idle<D: Disk>(node: &Node<D>) -> bool
     ensures { (s : AbstractNode) → IsNodeOf node.now s → IsTrue result ↔ IsIdle s }
@@ -60,6 +72,16 @@ fn resumes<D: Disk>(node: &Node<D>, me: NodeId, known: u32, recorded: u32) -> bo
     known < recorded && is_voted_by(node, last, me) && is_idle(node)
 }
 
+/// Whether a node has only promised at the first unknown instance, to an attempt of another one.
+pub(crate) fn only_promised(tries: &Option<NodeId>, me: NodeId, voted: bool) -> bool
+    ensures { result ≡ only_promised tries.now me voted }
+{
+    match tries {
+        Some(other) => other.number() != me.number() && !voted,
+        None => false,
+    }
+}
+
 impl Seen {
     /// What is seen of this node, behind a batch that took in all that had come, or not.
     pub(crate) fn of<D: Disk>(node: &Node<D>, me: NodeId, recorded: u32, drained: bool) -> Seen
@@ -70,6 +92,7 @@ impl Seen {
             known,
             wanted: node.wants_tick(),
             drained,
+            voted: has_voted(node, known),
             resumes: resumes(node, me, known, recorded),
         }
     }

@@ -1,7 +1,7 @@
 //! When a server ticks.
 
 ghost use Rattle.std.specs.Prelude.{◌≡◌, ◌↔◌, IsTrue, None, true, false};
-ghost use Rattle.server_pace.specs.Pacing.{awaits, begun, first_ticking, is_one_more, longer_after, noted, ticked, waited, GoesOn, Ticks};
+ghost use Rattle.server_pace.specs.Pacing.{awaits, begun, first_ticking, has_tried, is_one_more, least_of, longer_after, noted, ticked, waited, GoesOn, Ticks};
 
 use crate::seen::Seen;
 use server_times::Times;
@@ -78,20 +78,47 @@ impl Ticking {
         }
     }
 
-    /// How many times the patience is waited: once more behind each tick, up to a number of times; or longer,
-    /// without a bound, behind ticks in vain.
-    fn waited(self, growth: u32) -> u64
-        ensures { result ≡ waited self growth }
+    /// Whether it ticked at the first unknown instance.
+    fn has_tried(self) -> bool
+        ensures { result ≡ has_tried self.at self.known }
     {
-        let tries = u64::from(self.ticks.saturating_add(1).min(growth));
-        tries.max(u64::from(self.longer) + 1)
+        match self.at {
+            Some(at) => at == self.known,
+            None => false,
+        }
     }
 
-    /// Whether a tick has been wanted for so long that it is due: so many times this patience.
-    pub fn is_due(self, now: u64, patience: u64, growth: u32) -> bool
-        ensures { IsTrue result ↔ Ticks self now patience growth }
+    /// How many times the patience is waited at least: longer by a server that has only promised.
+    fn least(self, times: Times, promised: bool) -> u64
+        ensures { result ≡ least_of self times promised }
     {
-        match (self.since, patience.checked_mul(self.waited(growth))) {
+        if promised && !self.has_tried() {
+            u64::from(times.longer) + 1
+        } else {
+            1
+        }
+    }
+
+    /// How many times the patience is waited: once more behind each tick, up to a number of times; or longer,
+    /// without a bound, behind ticks in vain; or longer where another one tries, who may be far away.
+    fn waited(self, times: Times, promised: bool) -> u64
+        ensures { result ≡ waited self times promised }
+    {
+        let tries = u64::from(self.ticks.saturating_add(1).min(times.growth));
+        tries
+            .max(u64::from(self.longer) + 1)
+            .max(self.least(times, promised))
+    }
+
+    /// Whether a tick has been wanted for so long that it is due: so many times this patience. At the first unknown instance it has
+    /// only promised, to another one's attempt, or not.
+    pub fn is_due(self, now: u64, patience: u64, times: Times, promised: bool) -> bool
+        ensures { IsTrue result ↔ Ticks self now patience times promised }
+    {
+        match (
+            self.since,
+            patience.checked_mul(self.waited(times, promised)),
+        ) {
             (Some(since), Some(millis)) => now.saturating_sub(since) >= millis,
             _ => false,
         }

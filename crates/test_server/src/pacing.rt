@@ -133,6 +133,7 @@ fn seen(known: u32, wanted: bool, resumes: bool) -> Seen {
         known,
         wanted,
         drained: true,
+        voted: false,
         resumes,
     }
 }
@@ -232,10 +233,40 @@ fn the_patience_grows(rt: HostRuntime) {
         };
         same(
             &rt,
-            (ticking, now, ticking.is_due(now, 150, 3)),
+            (ticking, now, ticking.is_due(now, 150, TIMES, false)),
             (ticking, now, due),
         );
-        ensure(&rt, !ticking.is_due(now, u64::MAX, 3), ticking);
+        ensure(&rt, !ticking.is_due(now, u64::MAX, TIMES, false), ticking);
+    }
+}
+
+/// At which known it ticked last, whether another one's attempt stands that it has only promised, at known 7;
+/// the moment, and whether a tick is due that is wanted since 1000, of a patience of 150 milliseconds.
+const PROMISED: &[(Option<u32>, bool, u64, bool)] = &[
+    (None, false, 1150, true),
+    (None, true, 2649, false),
+    (None, true, 2650, true),
+    (Some(6), true, 2649, false),
+    (Some(6), true, 2650, true),
+    (Some(7), true, 1150, true),
+    (Some(7), false, 1150, true),
+];
+
+#[test]
+fn who_has_only_promised_waits_longer(rt: HostRuntime) {
+    for &(at, promised, now, due) in PROMISED {
+        let ticking = Ticking {
+            since: Some(1000),
+            known: 7,
+            at,
+            ..Ticking::new()
+        };
+        let is = ticking.is_due(now, 150, TIMES, promised);
+        same(
+            &rt,
+            (ticking, promised, now, is),
+            (ticking, promised, now, due),
+        );
     }
 }
 
@@ -310,6 +341,7 @@ fn a_server_asks_in_its_time_and_behind_news(rt: HostRuntime) {
             known,
             wanted: false,
             drained,
+            voted: false,
             resumes: false,
         };
         let asking = last.asking(TIMES, now, seen, empty, more);
