@@ -12,15 +12,14 @@ ghost use Rattle.http_serve.specs.Services.{MaySubmit};
 use crate::front::receipt_asked;
 use crate::messages::{REQUESTS, next_response};
 use crate::outbox::Outbox;
-use crate::outcomes::{ReadOutcome, WriteOutcome};
+use crate::outcomes::{ReadOutcome, WriteOutcome, is_early};
 use crate::replies::Message;
 use crate::service::Service;
 use http_read::{Counted, Inbox, Progress};
 use httparse::spans::HeaderSpan;
 use site_ids::Ticket;
 use std::alloc::{AllocError, Global};
-use std::io;
-use std::io::{ErrorKind, Read, Write};
+use std::io::{Read, Write};
 
 /// How a connection stands.
 #[derive(Clone, Copy, Drop, PartialEq, Eq)]
@@ -48,11 +47,6 @@ pub struct Connection {
     outbox: Outbox,
     answered: u32,
     state: ConnectionState,
-}
-
-/// Whether the call only came too early: it can be made again.
-fn is_early(e: &io::Error) -> bool {
-    matches!(e.kind(), ErrorKind::WouldBlock | ErrorKind::Interrupted)
 }
 
 impl ConnectionState {

@@ -27,7 +27,7 @@ pub use laws::{
     one_exchange_more, paths_name_one_resource, talks_stand,
 };
 pub use next::Next;
-pub use outcomes::{ReadOutcome, WriteOutcome};
+pub use outcomes::{ReadOutcome, WriteOutcome, is_early};
 pub use service::Service;
 pub use serving::{exchange, serve};
 pub use submission::{Submission, SubmitFault};

@@ -1,5 +1,8 @@
 //! What came of one reading or writing on a connection.
 
+use std::io;
+use std::io::ErrorKind;
+
 /// What came of one reading.
 #[derive(Clone, Copy, Debug, Drop, PartialEq, Eq)]
 pub enum ReadOutcome {
@@ -22,4 +25,9 @@ pub enum WriteOutcome {
     Nothing,
     /// The writer failed, or took no byte.
     Failed,
+}
+
+/// Whether a call that failed only came too early, or was interrupted: it can be made again.
+pub fn is_early(e: &io::Error) -> bool {
+    matches!(e.kind(), ErrorKind::WouldBlock | ErrorKind::Interrupted)
 }

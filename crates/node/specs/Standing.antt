@@ -1,5 +1,5 @@
 -- Which nodes of the definitions a running node stands for.
-use Rattle.std.specs.Prelude.{◌≡◌, ◌↔◌, ◌⊎◌, ℕ, ◌<◌, ◌≤◌, ◌-◌, ◌^◌, false, if◌then◌else◌, Option, None, List, ◌++◌, length, Result, Ok, Err, IsErrOf}
+use Rattle.std.specs.Prelude.{◌≡◌, ◌↔◌, ◌⊎◌, ℕ, ◌<◌, ◌≤◌, ◌-◌, ◌^◌, true, false, if◌then◌else◌, Option, None, List, ◌++◌, length, Result, Ok, Err, IsErrOf}
 use Rattle.site_disk.specs.Model.{DiskState, LeavesOnly, after_sync}
 use Rattle.site_ids.specs.Lists.{In}
 use Rattle.wire.specs.declared.message.Message.{Message}
@@ -68,6 +68,19 @@ IsEither p n s next file = IsFound p n s.entries s.in_flight file ⊎ IsFound p 
 -- So it is after a call as it was before it, and a crash at any moment of the call leaves what may be left before the call or after it
 abbrev pub StaysOnDisk : {D : Type 0} → (D → DiskState → Type 0) → Running D → Running D → Node → Node → Type 0
 StaysOnDisk stands_for old new s next = (d : DiskState) → IsOnDisk stands_for old s d → (e : DiskState) × IsOnDisk stands_for new next e × LeavesOnly d e (IsEither old.me old.cluster s next)
+
+-- ---- what of its record others speak of
+
+abbrev pub disk_of : {D : Type 0} → Running D → D
+disk_of code = code.store.disk
+
+-- how many calls of its disk failed, as that counts them
+abbrev pub failures : {D : Type 0} → (D → ℕ) → Running D → ℕ
+failures failed code = failed (disk_of code)
+
+-- a fault of its device has stopped it
+abbrev pub HasStopped : {D : Type 0} → Running D → Type 0
+HasStopped code = code.store.stopped ≡ true
 
 -- ---- calls
 

@@ -2,7 +2,7 @@
 //!
 //! The record's mark of a stop is the one truth.
 
-ghost use Rattle.std.specs.Prelude.{◌≡◌, ◌<◌, ◌⊎◌, ◌↔◌, ◌^◌, ◌-◌, [], List, Option, IsTrue, IfOk, IfErr, length, true};
+ghost use Rattle.std.specs.Prelude.{◌≡◌, ◌≢◌, ◌<◌, ◌⊎◌, ◌↔◌, ◌^◌, ◌-◌, [], List, Option, IsTrue, IfOk, IfErr, length, true};
 ghost use Rattle.site_disk.specs.Model.{DiskState, after_sync};
 ghost use Rattle.site_ids.specs.Ids.{IsNode};
 ghost use Rattle.durable.specs.Entries.{Entry};
@@ -123,6 +123,13 @@ impl<D: Disk> Node<D> {
         ensures { (s : AbstractNode) → IsNodeOf self.now s → result ≡ s.reached }
     {
         self.reached
+    }
+
+    /// Whether a value waits to be proposed.
+    pub fn has_pending(&self) -> bool
+        ensures { (s : AbstractNode) → IsNodeOf self.now s → IsTrue result ↔ (s.pending ≢ []) }
+    {
+        !self.queue.is_empty()
     }
 
     /// A value is pending, or a delivery counted the first unknown instance or one past it.

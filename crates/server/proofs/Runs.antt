@@ -16,7 +16,7 @@ pub opened_as : {D : Type 0} {stands_for : D → DiskState → Type 0} {n p : �
 opened_as {D} {stands_for} {n} {p} same is = subst (IsOpened stands_for n p) same is
 
 -- the node that was opened is the one that was led
-pub run_of : {D : Type 0} {stands_for : D → DiskState → Type 0} (n p : ℕ) (How : ℕ → ℕ → List (List ℕ) → Node → Node → Type 0) (opened ended : Running D)
+pub run_of : {D : Type 0} {stands_for : D → DiskState → Type 0} (n p : ℕ) (How : ℕ → ℕ → List (List ℕ) → List Node → Node → Node → Type 0) (opened ended : Running D)
     → IsOpened stands_for n p opened → Led stands_for opened ended (How opened.cluster opened.me ended.releases) → IsRun stands_for n p (How n p)
 run_of {D} {stands_for} n p How opened ended is led = record {
   opened = opened;
@@ -26,7 +26,7 @@ run_of {D} {stands_for} n p How opened ended is led = record {
 }
 
 -- so many passes, by another count
-pub as_many : {D : Type 0} {stands_for : D → DiskState → Type 0} {old new : Running D} {k wanted : ℕ} (How : ℕ → Node → Node → Type 0) → k ≡ wanted → Led stands_for old new (How k) → Led stands_for old new (How wanted)
+pub as_many : {D : Type 0} {stands_for : D → DiskState → Type 0} {old new : Running D} {k wanted : ℕ} (How : ℕ → List Node → Node → Node → Type 0) → k ≡ wanted → Led stands_for old new (How k) → Led stands_for old new (How wanted)
 as_many {D} {stands_for} {old} {new} How same led = subst (λ (m : ℕ). Led stands_for old new (How m)) same led
 
 pub as_lost : {D : Type 0} {stands_for : D → DiskState → Type 0} {old new : Running D} {k wanted : ℕ} {why : ServerFault} → k ≡ wanted → LosesPasses stands_for old new k why → LosesPasses stands_for old new wanted why

@@ -1,17 +1,18 @@
 -- What a server does with its node: passes, each a batch of what came, and then requests of clients.
-use Rattle.std.specs.Prelude.{◌≡◌, ◌≢◌, ◌⊎◌, ℕ, zero, suc, ◌+◌, ◌*◌, ◌<◌, ◌≤◌, List, [], ◌∷◌, length, take, ⊤, Bool, IsTrue, ◌↔◌}
+use Rattle.std.specs.Prelude.{◌≡◌, ◌≢◌, ◌⊎◌, ℕ, zero, suc, ◌+◌, ◌*◌, ◌<◌, ◌≤◌, List, [], ◌∷◌, ◌++◌, length, take, ⊤, Bool, IsTrue, ◌↔◌}
+use Rattle.site_ids.specs.Lists.{In}
 use Rattle.site_ids.specs.declared.Ticket.{Ticket}
 use Rattle.wire.specs.declared.message.Message.{Message}
 use Rattle.command.specs.Written.{value_of}
 use Rattle.http_serve.specs.Services.{Outcome}
-use Rattle.site_disk.specs.Model.{DiskState}
+use Rattle.site_disk.specs.Model.{DiskState, LeavesOnly}
+use Rattle.durable.specs.Keeping.{IsFound}
 use Rattle.node.specs.declared.fault.NodeFault.{NodeFault}
 use Rattle.node.specs.declared.node.Node.{Node as Running}
 use Rattle.node.specs.declared.to.To.{To}
 use Rattle.node.specs.Nodes.{Node, IsKnownPrefix}
-use Rattle.node.specs.Standing.{IsNodeOf}
+use Rattle.node.specs.Standing.{IsNodeOf, IsOnDisk}
 use Rattle.site_drive.specs.Batches.{LeadsSealed, TakesBatch, GivesUpBatch, LosesBatch}
-use Rattle.site_drive.specs.Leading.{KeepsRecord}
 use Rattle.site_drive.specs.Delivering.{none_noted, AreNoted}
 use Rattle.site_drive.specs.Posting.{spelled_of}
 use Rattle.site_drive.specs.declared.delivered.Delivered.{Delivered}
@@ -77,39 +78,52 @@ abbrev pub last_of : Node → List Node → Node
 last_of s [] = s
 last_of s (x ∷ xs) = last_of x xs
 
--- so many passes, one after another; behind the last, all that is known without a gap is published
-pub record TakesPasses (n p count : ℕ) (fed : List (List ℕ)) (s next : Node) : Type 0 where
-  pub nodes : List Node
-  pub as_many : length nodes ≡ count
-  pub each : AreSteps (λ x y. (then : List (List ℕ)) × TakesPass n p then x y) s nodes
-  pub last : next ≡ last_of s nodes
+-- so many passes, one after another, each of which leads to one of these nodes; behind the last, all that is known
+-- without a gap is published
+pub record TakesPasses (n p count : ℕ) (fed : List (List ℕ)) (through : List Node) (s next : Node) : Type 0 where
+  pub as_many : length through ≡ count
+  pub each : AreSteps (λ x y. (then : List (List ℕ)) × TakesPass n p then x y) s through
+  pub last : next ≡ last_of s through
   pub fed_is : count ≢ 0 → IsKnownPrefix next fed
 
 -- whole passes, fewer than so many, and then one that ends the server
-pub record BreaksPasses (n p count : ℕ) (why : ServerFault) (s next : Node) : Type 0 where
+pub record BreaksPasses (n p count : ℕ) (why : ServerFault) (through : List Node) (s next : Node) : Type 0 where
   pub whole : ℕ
   pub fewer : whole < count
   pub mid : Node
   pub fed : List (List ℕ)
-  pub taken : TakesPasses n p whole fed s mid
+  pub front : List Node
+  pub taken : TakesPasses n p whole fed front s mid
   pub breaks : BreaksPass n p why mid next
+  pub through_is : through ≡ front ++ next ∷ []
 
 -- a lap of node p has 40 + 10 p passes
 abbrev pub passes_of : ℕ → ℕ → ℕ
 passes_of p rounds = rounds * (40 + 10 * p)
 
 -- a server's work that isn't done: it can't say that it is ready, and takes no pass; or it halts in one; or it can't write that they are done
-abbrev pub BreaksWork : ℕ → ℕ → ℕ → ServerFault → Node → Node → Type 0
-BreaksWork n p count why s next =
-    (((why ≡ server_fault.OutOfMemory) ⊎ (why ≡ server_fault.Write)) × (next ≡ s))
-    ⊎ BreaksPasses n p count why s next
-    ⊎ ((why ≡ server_fault.Write) × (fed : List (List ℕ)) × TakesPasses n p count fed s next)
+abbrev pub BreaksWork : ℕ → ℕ → ℕ → ServerFault → List Node → Node → Node → Type 0
+BreaksWork n p count why through s next =
+    (((why ≡ server_fault.OutOfMemory) ⊎ (why ≡ server_fault.Write)) × (through ≡ []) × (next ≡ s))
+    ⊎ BreaksPasses n p count why through s next
+    ⊎ ((why ≡ server_fault.Write) × (fed : List (List ℕ)) × TakesPasses n p count fed through s next)
 
 -- ---- over a node of the code
 
--- From each node that the old value stands for this leads to one that the new value stands for, and what the disk keeps of the one it keeps of the other
-pub record Led {D : Type 0} (stands_for : D → DiskState → Type 0) (old new : Running D) (How : Node → Node → Type 0) : Type 0 where
-  pub leads : (s : Node) → IsNodeOf old s → (next : Node) × How s next × IsNodeOf new next × KeepsRecord stands_for old new s next
+-- a file of node p of n with what one of these nodes has on record
+abbrev pub IsOneOf : ℕ → ℕ → List Node → List ℕ → Type 0
+IsOneOf p n nodes file = (x : Node) × In nodes x × IsFound p n x.entries x.in_flight file
+
+-- what the disk keeps of the first node it keeps of the last, and a crash at any moment leaves what one of them, or of
+-- those between, has on record
+abbrev pub StaysAlong : {D : Type 0} → (D → DiskState → Type 0) → Running D → Running D → Node → List Node → Node → Type 0
+StaysAlong stands_for old new s through next = (d : DiskState) → IsOnDisk stands_for old s d
+    → (e : DiskState) × IsOnDisk stands_for new next e × LeavesOnly d e (IsOneOf old.me old.cluster (s ∷ through))
+
+-- From each node that the old value stands for this leads, through these nodes, to one that the new value stands for
+pub record Led {D : Type 0} (stands_for : D → DiskState → Type 0) (old new : Running D) (How : List Node → Node → Node → Type 0) : Type 0 where
+  pub leads : (s : Node) → IsNodeOf old s
+      → (through : List Node) × (next : Node) × How through s next × IsNodeOf new next × StaysAlong stands_for old new s through next
 
 -- a batch over this mail with that last call, of which so many spelled no message, is whole, and these are the letters of what it handed out
 abbrev pub IsBatchOf : {D : Type 0} → (D → DiskState → Type 0) → LastCall → List (List ℕ) → ℕ → List (To × List ℕ) → Running D → Running D → Type 0
@@ -119,6 +133,11 @@ IsBatchOf stands_for last came malformed letters old new = (out : List (To × Me
 -- with some last call
 abbrev pub IsBatched : {D : Type 0} → (D → DiskState → Type 0) → List (List ℕ) → ℕ → List (To × List ℕ) → Running D → Running D → Type 0
 IsBatched stands_for came malformed letters old new = (last : LastCall) × IsBatchOf stands_for last came malformed letters old new
+
+-- in a group of n, these are the nodes that sent the messages among these datagrams
+abbrev pub AreSenders : ℕ → List (List ℕ) → List Bool → Type 0
+AreSenders n came heard =
+    (delivered : Delivered) × AreNoted n came none_noted delivered × (heard ≡ delivered.heard)
 
 -- The pace of a step: it called what was due, where all that had come was taken in if the mail had room; and then it heard what the batch delivered
 pub record Paces {D : Type 0} (node : Running D) (mail : Mail) (now : ℕ) (last : LastCall) (old new : Pace) : Type 0 where

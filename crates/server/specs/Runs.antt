@@ -17,7 +17,7 @@ pub record IsOpened {D : Type 0} (stands_for : D → DiskState → Type 0) (n p 
   pub opens : OpensAs stands_for disk node entries
 
 -- node p of n is opened and then led so, with what it has published in the end
-pub record IsRun {D : Type 0} (stands_for : D → DiskState → Type 0) (n p : ℕ) (How : List (List ℕ) → Node → Node → Type 0) : Type 0 where
+pub record IsRun {D : Type 0} (stands_for : D → DiskState → Type 0) (n p : ℕ) (How : List (List ℕ) → List Node → Node → Node → Type 0) : Type 0 where
   pub opened : Running D
   pub ended : Running D
   pub is_opened : IsOpened stands_for n p opened

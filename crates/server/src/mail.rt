@@ -166,14 +166,6 @@ impl Mail {
         Ok(())
     }
 
-    /// The datagram that waits behind all others; no bytes where none waits.
-    pub(crate) fn newest(&self) -> &[u8] {
-        match self.came.last() {
-            Some(datagram) => datagram.as_slice(),
-            None => &[],
-        }
-    }
-
     /// What is to be sent.
     pub fn letters(&self) -> &[Letter]
         ensures { result.now ≡ self.now.letters.items }

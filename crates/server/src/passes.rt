@@ -4,6 +4,8 @@
 
 ghost use Rattle.std.specs.Prelude.{◌≡◌, ◌⊎◌, IfErr, OnOk};
 ghost use Rattle.http_read.specs.Bytes.{end_of};
+ghost use Rattle.node.specs.Standing.{failures};
+ghost use Rattle.site_drive.specs.Batches.{LeadsSealed};
 ghost use Rattle.site_drive.specs.Leading.{StaysWhose};
 ghost use Rattle.server_faults.specs.ServerFaults.{CountsNone, EndsLaps};
 ghost use Rattle.server.specs.Noted.{HasNoted};
@@ -41,20 +43,18 @@ fn take_pass<D: Disk + Drop, C: Clock>(
     shell: &mut Shell,
     server: &mut Server<D, TcpStream>,
 ) -> Result<(), ServerFault>
-    ensures ok { OnOk result (Led D.stands_for server.old.served.node server.new.served.node (TakesPass server.old.served.node.cluster server.old.served.node.me server.new.served.node.releases)) }
-    ensures fault { IfErr result (λ why. Led D.stands_for server.old.served.node server.new.served.node (BreaksPass server.old.served.node.cluster server.old.served.node.me why) ⊎ LosesPass D.stands_for server.old.served.node server.new.served.node why) }
+    ensures ok { OnOk result (LeadsSealed D.stands_for server.old.served.node server.new.served.node (TakesPass server.old.served.node.cluster server.old.served.node.me server.new.served.node.releases)) }
+    ensures fault { IfErr result (λ why. LeadsSealed D.stands_for server.old.served.node server.new.served.node (BreaksPass server.old.served.node.cluster server.old.served.node.me why) ⊎ LosesPass D.stands_for server.old.served.node server.new.served.node why) }
     ensures ends { IfErr result EndsLaps }
     ensures whose { StaysWhose server.old.served.node server.new.served.node }
-    ensures counts { CountsNone result (D.failed server.old.served.node.store.disk) (D.failed server.new.served.node.store.disk) }
+    ensures counts { CountsNone result (failures D.failed server.old.served.node) (failures D.failed server.new.served.node) }
 {
     let now = shell.now(clock);
     let heard = shell.take_in(&mut server.mail, &mut server.seats, now)?;
     let stepped = server.step(now)?;
     let told = shell.give_out(&mut server.mail, &mut server.seats, now);
     let node = &server.served.node;
-    shell
-        .watch
-        .pass(now, node.known(), node.reached(), stepped.malformed);
+    shell.watch.pass(now, node.known(), node.reached(), stepped);
     rest_behind(clock, shell, server, stepped, heard || told);
     Ok(())
 }
@@ -73,7 +73,7 @@ pub(crate) fn take_passes<D: Disk + Drop, C: Clock, E: Write>(
     ensures fault { IfErr result (λ why. Led D.stands_for server.old.served.node server.new.served.node (BreaksPasses server.old.served.node.cluster server.old.served.node.me count why) ⊎ LosesPasses D.stands_for server.old.served.node server.new.served.node count why) }
     ensures ends { IfErr result EndsLaps }
     ensures whose { StaysWhose server.old.served.node server.new.served.node }
-    ensures counts { CountsNone result (D.failed server.old.served.node.store.disk) (D.failed server.new.served.node.store.disk) }
+    ensures counts { CountsNone result (failures D.failed server.old.served.node) (failures D.failed server.new.served.node) }
     ensures noted { HasNoted verbose (end_of E.contents err.old err.new) }
 {
     for _ in 0..count {

@@ -1,7 +1,7 @@
 //! A server without sockets and clock.
 
 ghost use Rattle.std.specs.Prelude.{◌≡◌, ◌⊎◌, ◌↔◌, ◌||◌, [], ℕ, IfOk, IfErr, IfSome, IsFalse, IsSome, OnOk, length};
-ghost use Rattle.node.specs.Standing.{KeepsOthers};
+ghost use Rattle.node.specs.Standing.{KeepsOthers, failures};
 ghost use Rattle.site_drive.specs.Batches.{TakesBatch, LeadsSealed};
 ghost use Rattle.site_drive.specs.Leading.{StaysWhose};
 ghost use Rattle.site_drive.specs.Posting.{spelled_of};
@@ -11,7 +11,7 @@ ghost use Rattle.server_faults.specs.ServerFaults.{CountsNone, EndsLaps};
 ghost use Rattle.server_pace.specs.Pacing.{empty_after, first_pace, resting_of, Rests};
 ghost use Rattle.server_times.specs.Timing.{rest_after};
 ghost use Rattle.server.specs.Mailing.{waiting_of, posted_of, own_of, has_come};
-ghost use Rattle.server.specs.Passes.{Led, TakesStep, BreaksStep, LosesStep, IsBatchOf, MaySend, Paces};
+ghost use Rattle.server.specs.Passes.{AreSenders, TakesStep, BreaksStep, LosesStep, IsBatchOf, MaySend, Paces};
 ghost use Rattle.server_clients.specs.Served.{offered};
 ghost use Rattle.server_clients.specs.declared.served.Served.{Served};
 
@@ -21,7 +21,7 @@ use server_faults::ServerFault;
 use server_pace::{Pace, Times};
 use site_disk::Disk;
 use site_drive::Desk;
-use site_ids::NodeId;
+use site_ids::{NodeId, NodeSet};
 use std::alloc::Global;
 
 /// A server without sockets and clock: a node, its mail, its clients, and when it tries and asks.
@@ -45,8 +45,19 @@ pub struct Stepped {
     pub came: bool,
     /// So many of them spelled no message.
     pub malformed: u64,
+    /// These nodes sent the others.
+    pub heard: NodeSet,
     /// Requests were answered.
     pub answered: bool,
+}
+
+/// What came of the batch of a step.
+#[derive(Clone, Copy, Drop)]
+struct Batched {
+    // so many of its datagrams spelled no message
+    malformed: u64,
+    // these nodes sent the others
+    heard: NodeSet,
 }
 
 impl<D: Disk + Drop, S: Drop> Server<D, S> {
@@ -76,20 +87,22 @@ impl<D: Disk + Drop, S: Drop> Server<D, S> {
         }
     }
 
-    /// The batch of a step: all that waits, and the call that is due after it. What that hands out is posted. The answer is how many datagrams spelled no message.
-    fn take_batch(&mut self, now: u64) -> Result<u64, ServerFault>
-        ensures ok { IfOk result (λ malformed. (last : LastCall) × IsBatchOf D.stands_for last (waiting_of self.old.mail) malformed (posted_of self.new.mail) self.old.served.node self.new.served.node
+    /// The batch of a step: all that waits, and the call that is due after it. What that hands out is posted.
+    fn take_batch(&mut self, now: u64) -> Result<Batched, ServerFault>
+        ensures ok { IfOk result (λ batched. (last : LastCall) × IsBatchOf D.stands_for last (waiting_of self.old.mail) batched.malformed (posted_of self.new.mail) self.old.served.node self.new.served.node
             × Paces self.old.served.node self.old.mail now last self.old.pace self.new.pace) }
+        ensures heard { IfOk result (λ batched.
+            AreSenders self.old.served.node.cluster (waiting_of self.old.mail) batched.heard) }
         ensures own { OnOk result (waiting_of self.new.mail ≡ own_of self.old.me (posted_of self.new.mail)) }
         ensures peers { self.new.mail.peers ≡ self.old.mail.peers }
         ensures seats { self.new.seats ≡ self.old.seats }
-        ensures fault { IfErr result (λ why. Led D.stands_for self.old.served.node self.new.served.node (BreaksStep self.old.served.node.cluster self.old.served.node.me (waiting_of self.old.mail) why)
+        ensures fault { IfErr result (λ why. LeadsSealed D.stands_for self.old.served.node self.new.served.node (BreaksStep self.old.served.node.cluster self.old.served.node.me (waiting_of self.old.mail) why)
             ⊎ LosesStep D.stands_for (waiting_of self.old.mail) self.old.served.node self.new.served.node why) }
         ensures may_send { IfErr result (λ why.
             MaySend D.stands_for (waiting_of self.old.mail) (posted_of self.new.mail) why self.old.served.node) }
         ensures ends { IfErr result EndsLaps }
         ensures whose { StaysWhose self.old.served.node self.new.served.node }
-        ensures counts { CountsNone result (D.failed self.old.served.node.store.disk) (D.failed self.new.served.node.store.disk) }
+        ensures counts { CountsNone result (failures D.failed self.old.served.node) (failures D.failed self.new.served.node) }
     {
         let drained = self.mail.has_room();
         let last = self.pace.due(now, &self.served.node, drained);
@@ -100,7 +113,10 @@ impl<D: Disk + Drop, S: Drop> Server<D, S> {
         self.pace.hear(&delivered);
         self.desk.post(&mut self.mail.letters)?;
         self.mail.keep_own(self.me)?;
-        Ok(malformed as u64)
+        Ok(Batched {
+            malformed: malformed as u64,
+            heard: delivered.heard(),
+        })
     }
 
     /// One step, so many milliseconds after the server began, and never less than before: all that waits is one batch, behind which the node publishes, and what that
@@ -108,25 +124,28 @@ impl<D: Disk + Drop, S: Drop> Server<D, S> {
     pub fn step(&mut self, now: u64) -> Result<Stepped, ServerFault>
         ensures clients { IfOk result (λ stepped. (mid : Served D) × (last : LastCall) × IsBatchOf D.stands_for last (waiting_of self.old.mail) stepped.malformed (posted_of self.new.mail) self.old.served.node mid.node
             × Paces self.old.served.node self.old.mail now last self.old.pace self.new.pace × AreAnswered offered self.old.seats.times now mid self.new.served self.old.seats.seats.items self.new.seats.seats.items) }
+        ensures heard { IfOk result (λ stepped.
+            AreSenders self.old.served.node.cluster (waiting_of self.old.mail) stepped.heard) }
         ensures came { IfOk result (λ stepped. IsFalse stepped.came ↔ (waiting_of self.old.mail ≡ [])) }
         ensures answered { IfOk result (λ stepped. TellsAnswered stepped.answered (length self.old.seats.seats.items) self.old.seats.seats.items self.new.seats.seats.items) }
-        ensures ok { OnOk result (Led D.stands_for self.old.served.node self.new.served.node (TakesStep self.old.served.node.cluster self.old.served.node.me (waiting_of self.old.mail) (posted_of self.new.mail) self.new.served.node.releases)) }
+        ensures ok { OnOk result (LeadsSealed D.stands_for self.old.served.node self.new.served.node (TakesStep self.old.served.node.cluster self.old.served.node.me (waiting_of self.old.mail) (posted_of self.new.mail) self.new.served.node.releases)) }
         ensures own { OnOk result (waiting_of self.new.mail ≡ own_of self.old.me (posted_of self.new.mail)) }
         ensures peers { self.new.mail.peers ≡ self.old.mail.peers }
-        ensures fault { IfErr result (λ why. Led D.stands_for self.old.served.node self.new.served.node (BreaksStep self.old.served.node.cluster self.old.served.node.me (waiting_of self.old.mail) why)
+        ensures fault { IfErr result (λ why. LeadsSealed D.stands_for self.old.served.node self.new.served.node (BreaksStep self.old.served.node.cluster self.old.served.node.me (waiting_of self.old.mail) why)
             ⊎ LosesStep D.stands_for (waiting_of self.old.mail) self.old.served.node self.new.served.node why) }
         ensures may_send { IfErr result (λ why.
             MaySend D.stands_for (waiting_of self.old.mail) (posted_of self.new.mail) why self.old.served.node) }
         ensures ends { IfErr result EndsLaps }
         ensures whose { StaysWhose self.old.served.node self.new.served.node }
-        ensures counts { CountsNone result (D.failed self.old.served.node.store.disk) (D.failed self.new.served.node.store.disk) }
+        ensures counts { CountsNone result (failures D.failed self.old.served.node) (failures D.failed self.new.served.node) }
     {
         let came = !self.mail.is_empty();
-        let malformed = self.take_batch(now)?;
+        let batched = self.take_batch(now)?;
         let answered = self.seats.answer_each(&mut self.served, now)?;
         Ok(Stepped {
             came,
-            malformed,
+            malformed: batched.malformed,
+            heard: batched.heard,
             answered,
         })
     }

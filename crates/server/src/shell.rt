@@ -204,7 +204,6 @@ impl Shell {
             match self.socket.recv_from(self.datagram.as_mut_slice()) {
                 Ok((n, _from)) => {
                     mail.take_in(&self.datagram[..n], now)?;
-                    self.watch.hear(mail.newest());
                 }
                 Err(e) if e.kind() == ErrorKind::WouldBlock => return Ok(()),
                 Err(_) => {}
@@ -247,7 +246,6 @@ impl Shell {
         let _ = self.socket.set_nonblocking(true);
         if let Ok((n, _from)) = came {
             let _ = mail.take_in(&self.datagram[..n], self.now);
-            self.watch.hear(mail.newest());
         }
     }
 

@@ -7,10 +7,9 @@ ghost use Rattle.server_clients.specs.Lingering.{AreDropped, Drops, IsDropped, I
 
 use crate::linger::Linger;
 use http_read::Counted;
-use http_serve::ReadOutcome;
+use http_serve::{ReadOutcome, is_early};
 use server_times::Times;
-use std::io;
-use std::io::{ErrorKind, Read};
+use std::io::Read;
 
 /// How many readings of a stream come in a step at most, so that it holds nobody up.
 const READS: u32 = 16;
@@ -29,11 +28,6 @@ pub(crate) struct Parting<S> {
     dropped: u64,
     // its client closed, or the stream failed
     ended: bool,
-}
-
-/// Whether the call only came too early: it can be made again.
-fn is_early(e: &io::Error) -> bool {
-    matches!(e.kind(), ErrorKind::WouldBlock | ErrorKind::Interrupted)
 }
 
 impl<S> Parting<S> {

@@ -1,22 +1,17 @@
 -- Whom a server hears. Node p has the place p - 1 of nine.
-use Rattle.std.specs.Prelude.{◌≡◌, ◌≢◌, ℕ, suc, ◌+◌, ◌-◌, ◌/◌, ◌<◌, ◌≤◌, List, [], ◌∷◌, replicate, get_or, set, Bool, true, false, ◌||◌, if◌then◌else◌, IsTrue, ◌↔◌, Option, Some, None}
+use Rattle.std.specs.Prelude.{◌≡◌, ◌≢◌, ℕ, ◌+◌, ◌-◌, ◌/◌, ◌<◌, ◌≤◌, List, replicate, get_or, Bool, true, false, IsTrue, ◌↔◌, Option, Some, None, if◌then◌else◌}
 use Rattle.site_ids.specs.Ids.{IsNode}
+use Rattle.site_ids.specs.NodeSets.{no_nodes, with_node, count_of, AreUnited}
 use Rattle.server_notes.specs.Noting.{no_silence, heard_at, silence_of, is_long}
 use Rattle.server_notes.specs.declared.listening.Listening.{Listening}
 use Rattle.server_notes.specs.declared.silence.Silence.{Silence}
 
 abbrev pub first_listening : ℕ → ℕ → Listening
-first_listening n me = record { cluster = n; me = me; silences = replicate 9 no_silence; gathered = replicate 9 false; majority = no_silence }
-
--- how many are true
-abbrev pub count_of : List Bool → ℕ
-count_of [] = 0
-count_of (true ∷ bs) = suc (count_of bs)
-count_of (false ∷ bs) = count_of bs
+first_listening n me = record { cluster = n; me = me; silences = replicate 9 no_silence; gathered = no_nodes; majority = no_silence }
 
 -- those that came, and the server itself
 abbrev pub heard_by : ℕ → List Bool → List Bool
-heard_by me heard = set heard (me - 1) true
+heard_by me heard = with_node heard me
 
 -- whose silence it is
 abbrev pub silence_at : List Silence → ℕ → Silence
@@ -27,17 +22,13 @@ abbrev pub AreHeard : List Silence → List Bool → ℕ → List Silence → Ty
 AreHeard old heard now new =
     (i : ℕ) → i < 9 → silence_at new i ≡ (if get_or heard i false then heard_at (silence_at old i) now else silence_at old i)
 
--- those and these
-abbrev pub AreGathered : List Bool → List Bool → List Bool → Type 0
-AreGathered old heard all = (i : ℕ) → i < 9 → get_or all i false ≡ (get_or heard i false || get_or old i false)
-
 -- A server of n hears a majority each time that more than half of the nodes were heard since it did last, itself included
 pub record Hears (old : Listening) (now : ℕ) (heard : List Bool) (majority : Bool) (new : Listening) : Type 0 where
   pub silences : AreHeard old.silences (heard_by old.me heard) now new.silences
   pub all : List Bool
-  pub gathered : AreGathered old.gathered (heard_by old.me heard) all
+  pub gathered : AreUnited (heard_by old.me heard) old.gathered all
   pub is_majority : IsTrue majority ↔ (old.cluster / 2 + 1 ≤ count_of all)
-  pub same : new ≡ record new { cluster = old.cluster; me = old.me; gathered = if majority then replicate 9 false else all; majority = if majority then heard_at old.majority now else old.majority }
+  pub same : new ≡ record new { cluster = old.cluster; me = old.me; gathered = if majority then no_nodes else all; majority = if majority then heard_at old.majority now else old.majority }
 
 -- node p is the first whose silence is to be told, which is so long
 pub record IsFirstSilent (l : Listening) (now p millis : ℕ) : Type 0 where

@@ -2,14 +2,12 @@
 #![tactic(auto)]
 
 mod catching;
-mod gathered;
 mod listening;
 mod note;
 mod notes;
 mod silence;
 
 pub use catching::Catching;
-pub use gathered::{count, gather};
 pub use listening::Listening;
 pub use note::Note;
 pub use notes::{EACH, Notes};

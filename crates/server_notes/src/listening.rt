@@ -1,12 +1,12 @@
 //! Whom a server hears.
 
-ghost use Rattle.std.specs.Prelude.{◌≡◌, ◌-◌, set, true};
+ghost use Rattle.std.specs.Prelude.{◌≡◌, ◌-◌, set};
+ghost use Rattle.site_ids.specs.NodeSets.{with_node};
 ghost use Rattle.server_notes.specs.Listening.{first_listening, silence_at, AreHeard, FindsEnded, FindsSilent, Hears};
 ghost use Rattle.server_notes.specs.Noting.{told_at, ended_told};
 
-use crate::gathered::{count, gather};
 use crate::silence::Silence;
-use site_ids::{Cluster, NodeId};
+use site_ids::{Cluster, NodeId, NodeSet};
 
 /// Of each node how long it was not heard, and of a majority, which is heard each time that so many different nodes were. A server hears itself.
 #[derive(Clone, Copy, Drop)]
@@ -15,16 +15,16 @@ pub struct Listening {
     me: NodeId,
     pub(crate) silences: [Silence; 9],
     // those that were heard since a majority was
-    gathered: [bool; 9],
+    gathered: NodeSet,
     pub(crate) majority: Silence,
 }
 
 /// These nodes, and the server itself.
-fn with_own(me: NodeId, heard: [bool; 9]) -> [bool; 9]
-    ensures { result ≡ set heard (me - 1) true }
+fn with_own(me: NodeId, heard: NodeSet) -> NodeSet
+    ensures { result ≡ with_node heard me }
 {
     let mut all = heard;
-    all[usize::from(me.number()) - 1] = true;
+    all.insert(me);
     all
 }
 
@@ -48,23 +48,23 @@ impl Listening {
             cluster,
             me,
             silences: [Silence::new(); 9],
-            gathered: [false; 9],
+            gathered: NodeSet::new(),
             majority: Silence::new(),
         }
     }
 
     /// Something came of these nodes: whether a majority is heard by that.
-    pub fn hear(&mut self, now: u64, heard: [bool; 9]) -> bool
+    pub fn hear(&mut self, now: u64, heard: NodeSet) -> bool
         ensures { Hears self.old now heard result self.new }
     {
         let heard = with_own(self.me, heard);
-        self.silences = hear_each(self.silences, heard, now);
-        self.gathered = gather(self.gathered, heard);
-        if count(self.gathered) < usize::from(self.cluster.quorum()) {
+        self.silences = hear_each(self.silences, heard.places(), now);
+        self.gathered = heard.union(self.gathered);
+        if self.gathered.len() < usize::from(self.cluster.quorum()) {
             return false;
         }
         self.majority = self.majority.heard(now);
-        self.gathered = [false; 9];
+        self.gathered = NodeSet::new();
         true
     }
 

@@ -9,7 +9,7 @@ ghost use Rattle.server_notes.specs.Listening.{Hears};
 use crate::catching::Catching;
 use crate::listening::Listening;
 use crate::note::Note;
-use site_ids::{Cluster, NodeId};
+use site_ids::{Cluster, NodeId, NodeSet};
 
 /// Milliseconds between two lines of one kind, at least.
 pub const EACH: u64 = 1000;
@@ -44,8 +44,8 @@ impl Notes {
         }
     }
 
-    /// Something came of these nodes, the first of them at the place 0; so many values are known, and what was heard of reaches so far.
-    pub fn hear(&mut self, now: u64, known: u32, reached: u32, heard: [bool; 9])
+    /// Something came of these nodes; so many values are known, and what was heard of reaches so far.
+    pub fn hear(&mut self, now: u64, known: u32, reached: u32, heard: NodeSet)
         ensures { (majority : Bool) × Hears self.old.listening now heard majority self.new.listening
             × (self.new ≡ record self.old { listening = self.new.listening; catching = following self.old.catching majority now known reached }) }
     {

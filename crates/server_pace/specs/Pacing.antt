@@ -1,18 +1,13 @@
 -- When a server tries again, asks and tells, and how long it rests. Times are milliseconds since it began, rests microseconds.
-use Rattle.std.specs.Prelude.{◌≡◌, ◌≢◌, ◌⊎◌, ℕ, suc, ◌+◌, ◌-◌, ◌*◌, ◌/◌, ◌^◌, ◌<◌, ◌≤◌, min, max, List, length, replicate, get_or, set, Bool, true, false, not, ◌||◌, ◌&&◌, nat_eq, nat_lt, if◌then◌else◌, Option, Some, None, unwrap_or, IsSome, IsTrue, ◌↔◌, is_none, is_some}
-use Rattle.site_ids.specs.declared.TheConstants.{MAX_INSTANCE}
+use Rattle.std.specs.Prelude.{◌≡◌, ◌≢◌, ◌⊎◌, ℕ, suc, ◌+◌, ◌-◌, ◌*◌, ◌/◌, ◌^◌, ◌<◌, ◌≤◌, min, max, List, length, Bool, true, false, not, ◌||◌, ◌&&◌, nat_eq, nat_lt, Option, Some, None, unwrap_or, IsSome, IsTrue, ◌↔◌, is_none, is_some, [], if◌then◌else◌}
 use Rattle.site_ids.specs.Ids.{BallotOf, IsInstance}
+use Rattle.site_ids.specs.NodeSets.{no_nodes, with_node, has_node, count_of, AreUnited}
 use Rattle.site_ids.specs.declared.value.Vote.{Vote}
 use Rattle.durable.specs.Entries.{last_vote, IsPromise}
 use Rattle.node.specs.Nodes.{Node, Value, IsKnownPrefix, WantsTick}
-use Rattle.node.specs.Tellings.{IsTellable}
-use Rattle.node.specs.declared.TheConstants.{MAX_TOLD}
-use Rattle.server_notes.specs.Listening.{AreGathered}
 use Rattle.server_pace.specs.Keeping.{keeping_after, owed_at, IsNextBlock}
 use Rattle.server_pace.specs.Questioning.{asking_of, no_questions, AreAsked, Asks, TellsNext}
 use Rattle.server_pace.specs.Turns.{call_behind}
-use Rattle.server_pace.specs.declared.asking.Asking.{Asking}
-use Rattle.server_pace.specs.declared.asking.Telling.{Telling}
 use Rattle.server_pace.specs.declared.due.Due.{Due}
 use Rattle.site_drive.specs.declared.delivered.Delivered.{Delivered}
 use Rattle.site_drive.specs.declared.last_call.LastCall.{LastCall}
@@ -24,8 +19,7 @@ use Rattle.server_pace.specs.declared.resting.Resting.{Resting}
 use Rattle.server_pace.specs.declared.seen.Seen.{Seen}
 use Rattle.server_pace.specs.declared.ticking.Ticking.{Ticking}
 use Rattle.server_pace.specs.declared.yielding.Yielding.{Yielding}
-use Rattle.server_notes.specs.Listening.{count_of}
-use Rattle.server_times.specs.Timing.{asks_after, passed, patience_of}
+use Rattle.server_times.specs.Timing.{patience_of}
 use Rattle.server_times.specs.declared.times.Times.{Times}
 
 -- ---- ticks
@@ -71,15 +65,21 @@ awaits t = t.resumes && is_none t.since
 abbrev pub begun : Ticking → Ticking
 begun t = record t { at = Some t.known; resumes = false }
 
--- how many times the patience: behind each tick once more, up to growth times in all; or longer, behind ticks
--- in vain
-abbrev pub waited : Ticking → ℕ → ℕ
-waited t growth = max (min (t.ticks + 1) growth) (t.longer + 1)
+-- how many times the patience: after each tick once more, up to growth times in all; or longer, after ticks in
+-- vain, and at least so much longer while it gives way
+abbrev pub waited : Ticking → Times → Bool → ℕ
+waited t times gives_way = max (min (t.ticks + 1) times.growth) (max t.longer (if gives_way then times.longer else 0) + 1)
 
 -- the patience has passed so many times
-abbrev pub Ticks : Ticking → ℕ → ℕ → ℕ → Type 0
-Ticks t now patience growth =
-    (since : ℕ) × (t.since ≡ Some since) × (patience * waited t growth ≤ now - since)
+abbrev pub Ticks : Ticking → ℕ → ℕ → Times → Bool → Type 0
+Ticks t now patience times gives_way =
+    (since : ℕ) × (t.since ≡ Some since) × (patience * waited t times gives_way ≤ now - since)
+
+-- a server gives way where another one's attempt stands at the first unknown instance, and it has nothing to
+-- decide there
+abbrev pub gives_way : Option ℕ → ℕ → Bool → Bool
+gives_way None me stake = false
+gives_way (Some q) me stake = not (nat_eq q me) && not stake
 
 -- A tick was in vain where a majority answered since, and nothing became known before the next one: behind
 -- each of a row it waits longer. One that no majority answered ends the row
@@ -103,7 +103,7 @@ places_behind last number = if nat_lt last number then number - last else number
 
 -- it saw no attempt
 abbrev pub first_yielding : Yielding
-first_yielding = record { tried = replicate 9 false; tries = None; last = None; stands = None; free = None; took = 0; since = None }
+first_yielding = record { tried = no_nodes; tries = None; last = None; stands = None; free = None; took = 0; since = None }
 
 -- how long attempts stood, where they do no more
 abbrev pub took_by : Option ℕ → ℕ → ℕ → ℕ
@@ -122,7 +122,7 @@ abbrev pub noted_tries : Yielding → ℕ → Option ℕ → Yielding
 noted_tries y now None = record (ended y now) { tries = None; free = Some (unwrap_or y.free now) }
 noted_tries y now (Some q) =
     let stood = if stood_by y.tries q then y else ended y now in
-    record stood { tried = set y.tried (q - 1) true; tries = Some q; last = Some q; stands = Some (unwrap_or stood.stands now); free = None }
+    record stood { tried = with_node y.tried q; tries = Some q; last = Some q; stands = Some (unwrap_or stood.stands now); free = None }
 
 -- one that tried comes before this server, behind the one that tried last
 pub record IsBehind (y : Yielding) (me : ℕ) : Type 0 where
@@ -130,7 +130,7 @@ pub record IsBehind (y : Yielding) (me : ℕ) : Type 0 where
   pub node : ℕ
   pub is_last : y.last ≡ Some last
   pub range : (1 ≤ node) × (node ≤ 9)
-  pub tried : get_or y.tried (node - 1) false ≡ true
+  pub tried : has_node y.tried node ≡ true
   pub before : places_behind last node < places_behind last me
 
 -- another one's attempt stands at the first unknown instance, or it is another one's turn
@@ -155,7 +155,7 @@ Yields y times now me =
 -- where it waited in vain, nobody's turn is before its own until one tries again
 abbrev pub yielding_after : Yielding → ℕ → Bool → Bool → Yielding
 yielding_after y now waits true = record y { since = Some (unwrap_or y.since now) }
-yielding_after y now waits false = record y { tried = if waits then replicate 9 false else y.tried; since = None }
+yielding_after y now waits false = record y { tried = if waits then no_nodes else y.tried; since = None }
 
 -- ---- rests
 
@@ -194,6 +194,15 @@ IsUntried s = (values : List Value) → IsKnownPrefix s values → IsPromise s.e
 abbrev pub IsVotedBy : Node → ℕ → ℕ → Type 0
 IsVotedBy s i p = (vote : Vote) × (last_vote i s.entries ≡ Some vote) × (vote.ballot.node ≡ p)
 
+-- it voted at the instance
+abbrev pub HasVoted : Node → ℕ → Type 0
+HasVoted s i = IsInstance i × IsSome (last_vote i s.entries)
+
+-- it has something to decide, where that is the first unknown instance: a value waits to be proposed, or it
+-- voted there
+abbrev pub HasStake : Node → ℕ → Type 0
+HasStake s i = (s.pending ≢ []) ⊎ HasVoted s i
+
 -- it has no attempt open
 abbrev pub IsIdle : Node → Type 0
 IsIdle s = (i : ℕ) → s.attempts i ≡ None
@@ -206,12 +215,13 @@ pub record Resumes (s : Node) (me known recorded : ℕ) : Type 0 where
   pub more : known < recorded
   pub idle : IsIdle s
 
--- what node p shows: how many values it knows without a gap, whether it wants a tick, and whether it decides
--- again what is on its record
+-- what node p shows: how many values it knows without a gap, whether it wants a tick, whether it has something
+-- to decide at the next instance, and whether it decides again what is on its record
 pub record IsSeen (s : Node) (p recorded : ℕ) (drained : Bool) (seen : Seen) : Type 0 where
   pub known : (values : List Value) × IsKnownPrefix s values × (seen.known ≡ length values)
   pub wanted : IsTrue seen.wanted ↔ WantsTick s
   pub drained_is : seen.drained ≡ drained
+  pub stake : IsTrue seen.stake ↔ HasStake s (suc seen.known)
   pub resumes : IsTrue seen.resumes ↔ Resumes s p seen.known recorded
 
 -- a server of n begins quiet, over a record whose furthest vote is there; it never asked, and no tick is wanted
@@ -221,7 +231,7 @@ first_pace times n node recorded = record {
   cluster = n;
   patience = patience_of times node;
   ticking = first_ticking;
-  answered = replicate 9 false;
+  answered = no_nodes;
   last = record { at = None; known = 0; tried = false };
   questions = no_questions;
   keeping = record { kept = 0; since = None };
@@ -245,7 +255,7 @@ ticking_after times t now due last = t
 
 -- who answered is counted anew from a tick on
 abbrev pub answers_after : List Bool → LastCall → List Bool
-answers_after answered TickOrAsk = replicate 9 false
+answers_after answered TickOrAsk = no_nodes
 answers_after answered last = answered
 
 -- what came since is counted anew from a question on
@@ -274,7 +284,8 @@ pub record IsDue (p : Pace) (now : ℕ) (seen : Seen) (tries : Option ℕ) (bloc
   pub kept : due.block ≡ block
   pub told : due.telling ≡ telling
   pub question : IsTrue due.question ↔ Asks (asking_of p.last p.times now seen p.empty (awaits (noted p.ticking now seen)))
-  pub tick : IsTrue due.tick ↔ Ticks (noted p.ticking now seen) now p.patience p.times.growth
+  pub tick : IsTrue due.tick
+      ↔ Ticks (noted p.ticking now seen) now p.patience p.times (gives_way tries p.me seen.stake)
   pub answered : IsTrue due.answered ↔ IsAnswered p
   pub goes_on : IsTrue due.goes_on ↔ GoesOn (noted p.ticking now seen)
   pub waits : IsTrue due.waits ↔ Waits (noted_tries p.yielding now tries) p.me
@@ -306,5 +317,5 @@ pub record CallsDue (old : Pace) (n : ℕ) (s : Node) (now : ℕ) (drained : Boo
 -- and this once it heard what the batch delivered
 pub record HearsBatch (old : Pace) (delivered : Delivered) (new : Pace) : Type 0 where
   pub asked : AreAsked old.questions.asked delivered.questions new.questions.asked
-  pub answered : AreGathered old.answered delivered.answered new.answered
+  pub answered : AreUnited delivered.answered old.answered new.answered
   pub is : new ≡ record (heard old delivered.attempts delivered.stirs) { questions = record old.questions { asked = new.questions.asked }; answered = new.answered }

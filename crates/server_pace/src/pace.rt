@@ -16,15 +16,14 @@ use crate::keeping::Keeping;
 use crate::last_question::LastQuestion;
 use crate::questions::Questions;
 use crate::resting::Resting;
-use crate::seen::{Seen, first_tried_by};
+use crate::seen::{Seen, first_tried_by, gives_way};
 use crate::ticking::Ticking;
 use crate::yielding::Yielding;
 use node::Node;
-use server_notes::{count, gather};
 use server_times::Times;
 use site_disk::Disk;
 use site_drive::{Delivered, LastCall};
-use site_ids::{Cluster, Instance, NodeId};
+use site_ids::{Cluster, Instance, NodeId, NodeSet};
 
 /// What was tried, asked, heard and told, by whom and when.
 ///
@@ -36,8 +35,8 @@ pub struct Pace {
     // what this server waits before its first try
     patience: u64,
     ticking: Ticking,
-    // those that promised or refused something since its last tick, node p at the place p - 1
-    answered: [bool; 9],
+    // those that promised or refused something since its last tick
+    answered: NodeSet,
     last: LastQuestion,
     // those of other nodes
     questions: Questions,
@@ -63,7 +62,7 @@ impl Pace {
             cluster,
             patience: times.patience_of(me.number()),
             ticking: Ticking::new(),
-            answered: [false; 9],
+            answered: NodeSet::new(),
             last: LastQuestion::never(),
             questions: Questions::new(),
             keeping: Keeping::new(),
@@ -80,7 +79,7 @@ impl Pace {
         ensures { HearsBatch self.old delivered.now self.new }
     {
         self.questions.hear(delivered);
-        self.answered = gather(self.answered, delivered.answered());
+        self.answered = delivered.answered().union(self.answered);
         self.note(delivered.attempts(), delivered.stirs());
     }
 
@@ -142,7 +141,7 @@ impl Pace {
     fn is_answered(&self) -> bool
         ensures { IsTrue result ↔ IsAnswered self.now }
     {
-        count(self.answered) >= usize::from(self.cluster.quorum())
+        self.answered.len() >= usize::from(self.cluster.quorum())
     }
 
     /// What is called behind the turns of the next batch, where so much is seen and this telling is due. What is called counts from now on.
@@ -159,6 +158,7 @@ impl Pace {
         ensures news { ¬ IsFresh self.old.ticking seen.wanted self.old.stirred → block ≡ None → telling ≡ None → self.old.last.known < seen.known → seen.drained ≡ true → self.old.last.tried ≡ false → result ≡ Ask }
     {
         let (me, times) = (self.me, self.times);
+        let way = gives_way(&tries, me, seen.stake);
         self.yielding.note(now, tries);
         let waits = self.yielding.waits(me);
         let yields = self.yielding.is_due(times, now, me);
@@ -166,6 +166,7 @@ impl Pace {
         self.yielding.pass(now, waits, yields);
         self.ticking = self.ticking.noted(now, seen);
         let more = self.ticking.awaits();
+        let tick = self.ticking.is_due(now, self.patience, times, way);
         let asking = self.last.asking(self.times, now, seen, self.empty, more);
         self.keeping = self.keeping.noted(now, seen.known);
         let due = Due {
@@ -173,7 +174,7 @@ impl Pace {
             block,
             telling,
             question: asking.is_due(),
-            tick: self.ticking.is_due(now, self.patience, self.times.growth),
+            tick,
             answered: self.is_answered(),
             goes_on: self.ticking.goes_on(),
             waits,
@@ -213,7 +214,7 @@ impl Pace {
                 };
             }
             LastCall::TickOrAsk => {
-                self.answered = [false; 9];
+                self.answered = NodeSet::new();
                 self.ticking = self.ticked(now, due);
             }
             LastCall::Keep { count, .. } => self.keeping = self.keeping.passed(*count),

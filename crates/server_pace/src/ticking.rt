@@ -78,20 +78,23 @@ impl Ticking {
         }
     }
 
-    /// How many times the patience is waited: once more behind each tick, up to a number of times; or longer,
-    /// without a bound, behind ticks in vain.
-    fn waited(self, growth: u32) -> u64
-        ensures { result ≡ waited self growth }
+    /// How many times the patience is waited: once more after each tick, up to a number of times; or longer,
+    /// without a bound, after ticks in vain, and at least so much longer while the server gives way.
+    fn waited(self, times: Times, gives_way: bool) -> u64
+        ensures { result ≡ waited self times gives_way }
     {
-        let tries = u64::from(self.ticks.saturating_add(1).min(growth));
-        tries.max(u64::from(self.longer) + 1)
+        let tries = u64::from(self.ticks.saturating_add(1).min(times.growth));
+        let least = if gives_way { times.longer } else { 0 };
+        tries.max(u64::from(self.longer.max(least)) + 1)
     }
 
-    /// Whether a tick has been wanted for so long that it is due: so many times this patience.
-    pub fn is_due(self, now: u64, patience: u64, growth: u32) -> bool
-        ensures { IsTrue result ↔ Ticks self now patience growth }
+    /// Whether a tick has been wanted for so long that it is due: so many times this patience. The server gives
+    /// way, or it does not (`gives_way`).
+    pub fn is_due(self, now: u64, patience: u64, times: Times, gives_way: bool) -> bool
+        ensures { IsTrue result ↔ Ticks self now patience times gives_way }
     {
-        match (self.since, patience.checked_mul(self.waited(growth))) {
+        let waited = self.waited(times, gives_way);
+        match (self.since, patience.checked_mul(waited)) {
             (Some(since), Some(millis)) => now.saturating_sub(since) >= millis,
             _ => false,
         }

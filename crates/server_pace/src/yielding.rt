@@ -4,7 +4,7 @@ ghost use Rattle.std.specs.Prelude.{◌≡◌, ◌↔◌, ◌<◌, ◌≤◌, �
 ghost use Rattle.server_pace.specs.Pacing.{ended, first_yielding, noted_tries, places_behind, stood_by, yielding_after, IsBehind, IsSoon, MayGoOn, Waits, Yields};
 
 use server_times::Times;
-use site_ids::NodeId;
+use site_ids::{NodeId, NodeSet};
 
 /// In a stretch it yields for less than so many times as long as the last attempts stood, and a millisecond more: turns of six others.
 const TURNS: u64 = 6;
@@ -12,8 +12,8 @@ const TURNS: u64 = 6;
 /// Whose attempts this server saw at its first unknown instance, and since when it yields.
 #[derive(Clone, Copy, Debug, PartialEq, Eq, Drop)]
 pub struct Yielding {
-    /// Those that tried since it last waited in vain, node 1 at the place 0.
-    pub tried: [bool; 9],
+    /// Those that tried since it last waited in vain.
+    pub tried: NodeSet,
     /// Whose attempt stands there now.
     pub tries: Option<NodeId>,
     /// Whose attempt stood there last.
@@ -46,7 +46,7 @@ impl Yielding {
         ensures { result ≡ first_yielding }
     {
         Yielding {
-            tried: [false; 9],
+            tried: NodeSet::new(),
             tries: None,
             last: None,
             stands: None,
@@ -90,7 +90,7 @@ impl Yielding {
             self.end(now);
         }
         self.tries = Some(node);
-        self.tried[usize::from(node.number()) - 1] = true;
+        self.tried.insert(node);
         self.last = Some(node);
         self.stands = Some(self.stands.unwrap_or(now));
         self.free = None;
@@ -103,8 +103,9 @@ impl Yielding {
         let Some(last) = self.last else {
             return false;
         };
+        let tried = self.tried.places();
         for number in 1..=9 {
-            if self.tried[usize::from(number) - 1]
+            if tried[usize::from(number) - 1]
                 && places_behind(last, number) < places_behind(last, me.number())
             {
                 return true;
@@ -161,7 +162,7 @@ impl Yielding {
         }
         self.since = None;
         if waits {
-            self.tried = [false; 9];
+            self.tried = NodeSet::new();
         }
     }
 }

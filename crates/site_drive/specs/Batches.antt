@@ -1,5 +1,5 @@
 -- A batch: all that came is delivered, and then comes the last call. What they put on record stands on the disk before anything that they hand out is given.
-use Rattle.std.specs.Prelude.{◌≡◌, ◌≢◌, ◌⊎◌, ℕ, List, ◌∷◌, ◌++◌, map, Some, true, Result, IfOk, IfErr}
+use Rattle.std.specs.Prelude.{◌≡◌, ◌≢◌, ◌⊎◌, ℕ, List, ◌∷◌, ◌++◌, map, Some, Result, IfOk, IfErr}
 use Rattle.site_disk.specs.Model.{DiskState, LeavesOnly}
 use Rattle.wire.specs.declared.message.Message.{Message}
 use Rattle.durable.specs.Batches.{KeepsNoneOrAll}
@@ -9,7 +9,7 @@ use Rattle.node.specs.declared.fault.NodeFault.TheVariants as fault
 use Rattle.node.specs.declared.node.Node.{Node as Running}
 use Rattle.node.specs.declared.to.To.{To}
 use Rattle.node.specs.Nodes.{Node, Stopped, IsKnownPrefix}
-use Rattle.node.specs.Standing.{IsNodeOf, IsOnDisk, IsEither, StaysOnDisk, CountsDevice, ending_by}
+use Rattle.node.specs.Standing.{IsNodeOf, IsOnDisk, IsEither, StaysOnDisk, CountsDevice, ending_by, disk_of, failures, HasStopped}
 use Rattle.site_drive.specs.declared.last_call.LastCall.{LastCall}
 use Rattle.site_drive.specs.Drives.{TakesAll, EndsLast, EndsTurns, BreaksOff}
 use Rattle.site_drive.specs.Leading.{AllFit, StaysWhose}
@@ -84,12 +84,12 @@ GivesUpBatch last n p came why s next =
 -- the disk keeps what was there before, with all that was put since or with none of it, whether it crashes or not; and so it was at any moment
 abbrev pub LeavesEither : {D : Type 0} → (D → DiskState → Type 0) → Running D → Running D → Node → Node → Type 0
 LeavesEither stands_for old new s t = (d : DiskState) → IsOnDisk stands_for old s d
-    → (e : DiskState) × stands_for new.store.disk e × LeavesOnly d e (IsEither old.me old.cluster s t)
+    → (e : DiskState) × stands_for (disk_of new) e × LeavesOnly d e (IsEither old.me old.cluster s t)
     × ((batch : List Entry) × (t.entries ≡ s.entries ++ batch) × KeepsNoneOrAll old.me old.cluster s.entries batch e)
 
 -- The device failed. The node is stopped; whether what its work came to is on the disk, only the next opening tells
 pub record LosesBatch {D : Type 0} (stands_for : D → DiskState → Type 0) (last : LastCall) (came : List (List ℕ)) (old new : Running D) : Type 0 where
-  pub loses : (s : Node) → IsNodeOf old s → (t : Node) × HasWorked last old.cluster old.me came s t × (new.store.stopped ≡ true) × LeavesEither stands_for old new s t
+  pub loses : (s : Node) → IsNodeOf old s → (t : Node) × HasWorked last old.cluster old.me came s t × HasStopped new × LeavesEither stands_for old new s t
 
 -- ---- how it ends
 
@@ -103,4 +103,4 @@ pub record EndsBatch {D : Type 0} (stands_for : D → DiskState → Type 0) (dev
   pub fault : IfErr result (λ why. LeadsSealed stands_for old new (GivesUpBatch last old.cluster old.me came why)
       ⊎ (IsStop why × LosesBatch stands_for last came old new))
   pub whose : StaysWhose old new
-  pub counts : CountsDevice result (device old.store.disk) (device new.store.disk)
+  pub counts : CountsDevice result (failures device old) (failures device new)

@@ -1,6 +1,8 @@
 -- What is noted of the messages that a drive or a batch delivered.
 use Rattle.std.specs.Prelude.{◌≡◌, ◌⊎◌, ℕ, ◌+◌, ◌-◌, ◌^◌, min, List, [], ◌∷◌, replicate, set, Bool, true, false, if◌then◌else◌, Option, Some, None}
+use Rattle.site_ids.specs.NodeSets.{no_nodes, with_node}
 use Rattle.wire.specs.Decoding.{Spells}
+use Rattle.wire.specs.Messages.{sender_of}
 use Rattle.wire.specs.declared.message.Message.{Message}
 use Rattle.wire.specs.declared.message.Message.TheVariants.{Prepare, Promise, Propose, Nack, Ask}
 use Rattle.site_drive.specs.declared.delivered.Delivered.{Delivered}
@@ -12,8 +14,8 @@ asked_by _ asked = asked
 
 -- who answers an attempt, by a promise or a refusal
 abbrev pub answered_by : Message → List Bool → List Bool
-answered_by (Promise q i b prior) answered = set answered (q - 1) true
-answered_by (Nack q i b c) answered = set answered (q - 1) true
+answered_by (Promise q i b prior) answered = with_node answered q
+answered_by (Nack q i b c) answered = with_node answered q
 answered_by _ answered = answered
 
 -- it is of an attempt: a prepare, a promise or a proposal
@@ -32,13 +34,14 @@ abbrev pub counted_if : Bool → ℕ → ℕ
 counted_if is n = if is then min (n + 1) (2 ^ 32 - 1) else n
 
 abbrev pub none_noted : Delivered
-none_noted = record { questions = replicate 9 None; answered = replicate 9 false; attempts = 0; stirs = 0 }
+none_noted = record { heard = no_nodes; answered = no_nodes; questions = replicate 9 None; attempts = 0; stirs = 0 }
 
 -- one message more
 abbrev pub noted : Message → Delivered → Delivered
 noted m d = record {
-  questions = asked_by m d.questions;
+  heard = with_node d.heard (sender_of m);
   answered = answered_by m d.answered;
+  questions = asked_by m d.questions;
   attempts = counted_if (is_of_attempt m) d.attempts;
   stirs = counted_if (stirs m) d.stirs;
 }

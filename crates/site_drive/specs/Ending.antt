@@ -3,7 +3,7 @@ use Rattle.std.specs.Prelude.{ℕ, ◌≤◌, List, Result, IfOk, IfErr, OnOk, O
 use Rattle.site_disk.specs.Model.{DiskState}
 use Rattle.node.specs.declared.fault.NodeFault.{NodeFault}
 use Rattle.node.specs.declared.node.Node.{Node as Running}
-use Rattle.node.specs.Standing.{CountsDevice}
+use Rattle.node.specs.Standing.{CountsDevice, failures}
 use Rattle.site_drive.specs.declared.driven.Driven.{Driven}
 use Rattle.site_drive.specs.Drives.{Scene}
 use Rattle.site_drive.specs.Leading.{LeadsTo, StaysWhose}
@@ -23,4 +23,4 @@ pub record EndsDrive {D L : Type 0} (stands_for : D → DiskState → Type 0) (d
   pub fault : IfErr result (λ why. LeadsTo stands_for received given old new before after (GivesUp why))
   pub whose : StaysWhose old new
   pub calls : CallsLink tried failed turns before after result
-  pub counts : CountsDevice result (device old.store.disk) (device new.store.disk)
+  pub counts : CountsDevice result (failures device old) (failures device new)

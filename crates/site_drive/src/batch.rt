@@ -3,7 +3,7 @@
 //! A batch that isn't begun is given up: some bytes are missing, which ends a server anywhere.
 
 ghost use Rattle.std.specs.Prelude.{◌≡◌, ◌≤◌, [], length, IfOk, IfErr, OnOk, OnErr};
-ghost use Rattle.node.specs.Standing.{KeepsOthers, CountsDevice};
+ghost use Rattle.node.specs.Standing.{KeepsOthers, CountsDevice, failures};
 ghost use Rattle.site_drive.specs.Delivering.{AreNoted, none_noted};
 ghost use Rattle.site_drive.specs.Batches.{TakesEach, Works, GivesUpTaking, GivesUpWork, EndsBatch};
 ghost use Rattle.site_drive.specs.Leading.{AllFit, NodeLeads};
@@ -29,7 +29,7 @@ impl Desk {
         ensures few { IfOk result (λ malformed. malformed ≤ length came.now) }
         ensures noted { OnOk result (AreNoted node.old.cluster (bytes_of came.now) self.old.delivered self.new.delivered) }
         ensures others { KeepsOthers node.old node.new }
-        ensures counts { CountsDevice result (D.failed node.old.store.disk) (D.failed node.new.store.disk) }
+        ensures counts { CountsDevice result (failures D.failed node.old) (failures D.failed node.new) }
     {
         let mut malformed = 0;
         for datagram in came {
@@ -58,7 +58,7 @@ impl Desk {
         ensures few { IfOk result (λ malformed. malformed ≤ length came.now) }
         ensures noted { OnOk result (AreNoted node.old.cluster (bytes_of came.now) self.old.delivered self.new.delivered) }
         ensures others { KeepsOthers node.old node.new }
-        ensures counts { CountsDevice result (D.failed node.old.store.disk) (D.failed node.new.store.disk) }
+        ensures counts { CountsDevice result (failures D.failed node.old) (failures D.failed node.new) }
     {
         let malformed = self.take_each(node, came)?;
         self.last_call(node, last)?;

@@ -2,7 +2,7 @@
 
 ghost use Rattle.std.specs.Prelude.{◌≡◌, ◌≢◌, ◌++◌, [], List, IfErr, OnOk};
 ghost use Rattle.wire.specs.declared.message.Message.{Message};
-ghost use Rattle.node.specs.Standing.{KeepsOthers, CountsDevice, ending_by, ending_of};
+ghost use Rattle.node.specs.Standing.{KeepsOthers, CountsDevice, ending_by, ending_of, failures};
 ghost use Rattle.node.specs.declared.to.To.{To};
 ghost use Rattle.site_drive.specs.Sending.{Counted};
 ghost use Rattle.site_drive.specs.Drives.{EndsLast, EndsTurns, Closes, GivesUpLast, KeepsEach};
@@ -19,7 +19,7 @@ use site_ids::Instance;
 fn keep_each<D: Disk>(node: &mut Node<D>, first: Instance, count: u32) -> Result<(), NodeFault>
     ensures event { NodeLeads D.stands_for node.old node.new (λ s next. KeepsEach node.old.cluster node.old.me first count s (ending_of result) next) }
     ensures others { KeepsOthers node.old node.new }
-    ensures counts { CountsDevice result (D.failed node.old.store.disk) (D.failed node.new.store.disk) }
+    ensures counts { CountsDevice result (failures D.failed node.old) (failures D.failed node.new) }
 {
     let from = first.number();
     let mut past = 0;
@@ -40,7 +40,7 @@ impl Desk {
         ensures others { KeepsOthers node.old node.new }
         ensures counted { self.new.failed ≡ self.old.failed }
         ensures delivered { self.new.delivered ≡ self.old.delivered }
-        ensures counts { CountsDevice result (D.failed node.old.store.disk) (D.failed node.new.store.disk) }
+        ensures counts { CountsDevice result (failures D.failed node.old) (failures D.failed node.new) }
     {
         'widening: while node.widen(&mut self.outbox)? {}
         Ok(())
@@ -52,7 +52,7 @@ impl Desk {
         ensures others { KeepsOthers node.old node.new }
         ensures counted { self.new.failed ≡ self.old.failed }
         ensures delivered { self.new.delivered ≡ self.old.delivered }
-        ensures counts { CountsDevice result (D.failed node.old.store.disk) (D.failed node.new.store.disk) }
+        ensures counts { CountsDevice result (failures D.failed node.old) (failures D.failed node.new) }
     {
         if !node.wants_tick() {
             return node.ask(&mut self.outbox);
@@ -66,7 +66,7 @@ impl Desk {
         ensures others { KeepsOthers node.old node.new }
         ensures counted { self.new.failed ≡ self.old.failed }
         ensures delivered { self.new.delivered ≡ self.old.delivered }
-        ensures counts { CountsDevice result (D.failed node.old.store.disk) (D.failed node.new.store.disk) }
+        ensures counts { CountsDevice result (failures D.failed node.old) (failures D.failed node.new) }
     {
         match last {
             LastCall::TickOrAsk => self.tick_or_ask(node),
@@ -90,7 +90,7 @@ impl Desk {
         ensures others { KeepsOthers node.old node.new }
         ensures counted { self.new.failed ≡ self.old.failed }
         ensures delivered { self.new.delivered ≡ self.old.delivered }
-        ensures counts { CountsDevice result (D.failed node.old.store.disk) (D.failed node.new.store.disk) }
+        ensures counts { CountsDevice result (failures D.failed node.old) (failures D.failed node.new) }
     {
         match self.call(node, last) {
             Ok(()) => Ok(()),
@@ -112,7 +112,7 @@ impl Desk {
         ensures others { KeepsOthers node.old node.new }
         ensures tried { L.tried link.new ≡ L.tried link.old }
         ensures counted { Counted self.old.failed self.new.failed (L.failed link.old) (L.failed link.new) }
-        ensures counts { CountsDevice result (D.failed node.old.store.disk) (D.failed node.new.store.disk) }
+        ensures counts { CountsDevice result (failures D.failed node.old) (failures D.failed node.new) }
     {
         self.last_call(node, last)?;
         send_all(

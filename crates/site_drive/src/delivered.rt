@@ -1,17 +1,19 @@
 //! What a drive delivered, by kinds.
 
-ghost use Rattle.std.specs.Prelude.{◌≡◌, ◌-◌, get_or, set, true, None};
+ghost use Rattle.std.specs.Prelude.{◌≡◌, ◌-◌, get_or, true, None};
+ghost use Rattle.site_ids.specs.NodeSets.{with_node};
 ghost use Rattle.site_drive.specs.Delivering.{counted_if, none_noted, noted};
 
-use site_ids::{Instance, NodeId};
+use site_ids::{Instance, NodeId, NodeSet};
 use wire::Message;
 
-/// The messages that a drive delivered: of each node its last question and whether it answered an attempt,
+/// The messages that a drive delivered: who sent them, who answered an attempt, each node's last question,
 /// and how many were of an attempt or no questions.
 #[derive(Clone, Copy, Debug, PartialEq, Eq, Drop)]
 pub struct Delivered {
+    heard: NodeSet,
+    answered: NodeSet,
     questions: [Option<Instance>; 9],
-    answered: [bool; 9],
     attempts: u32,
     stirs: u32,
 }
@@ -22,8 +24,9 @@ impl Delivered {
         ensures { result ≡ none_noted }
     {
         Delivered {
+            heard: NodeSet::new(),
+            answered: NodeSet::new(),
             questions: [None; 9],
-            answered: [false; 9],
             attempts: 0,
             stirs: 0,
         }
@@ -33,6 +36,7 @@ impl Delivered {
     pub(crate) fn note(&mut self, message: &Message)
         ensures { self.new ≡ noted message.now self.old }
     {
+        self.heard.insert(message.from());
         match message {
             Message::Ask { from, instance } => {
                 self.questions[usize::from(from.number()) - 1] = Some(*instance);
@@ -52,9 +56,9 @@ impl Delivered {
 
     /// It promised, or refused.
     fn note_answer(&mut self, from: NodeId)
-        ensures { self.new ≡ record self.old { answered = set self.old.answered (from - 1) true } }
+        ensures { self.new ≡ record self.old { answered = with_node self.old.answered from } }
     {
-        self.answered[usize::from(from.number()) - 1] = true;
+        self.answered.insert(from);
     }
 
     /// One of an attempt more.
@@ -72,8 +76,15 @@ impl Delivered {
         self.stirs = self.stirs.saturating_add(1);
     }
 
-    /// The nodes, node p at the place p - 1, from which a promise or a refusal came.
-    pub fn answered(&self) -> [bool; 9]
+    /// The nodes that sent any of them.
+    pub fn heard(&self) -> NodeSet
+        ensures { result ≡ self.now.heard }
+    {
+        self.heard
+    }
+
+    /// The nodes from which a promise or a refusal came.
+    pub fn answered(&self) -> NodeSet
         ensures { result ≡ self.now.answered }
     {
         self.answered

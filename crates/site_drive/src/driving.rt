@@ -1,7 +1,7 @@
 //! Turns alone, and turns with calls behind the last one.
 
 ghost use Rattle.std.specs.Prelude.{◌≡◌, ◌≤◌, [], ℕ, IfOk, IfErr, OnOk, OnErr};
-ghost use Rattle.node.specs.Standing.{CountsDevice};
+ghost use Rattle.node.specs.Standing.{CountsDevice, failures};
 ghost use Rattle.site_drive.specs.Links.{RoseBy};
 ghost use Rattle.site_drive.specs.Sending.{Counted};
 ghost use Rattle.site_drive.specs.Drives.{Exchanges, GivesUp, DrivesWith, GivesUpDrivingWith, Drives, GivesUpDriving};
@@ -31,7 +31,7 @@ impl Desk {
         ensures tried { OnOk result (RoseBy turns (L.tried link.old) (L.tried link.new)) }
         ensures tried_fewer { OnErr result ((made : ℕ) × (made ≤ turns) × RoseBy made (L.tried link.old) (L.tried link.new)) }
         ensures counted { Counted self.old.failed self.new.failed (L.failed link.old) (L.failed link.new) }
-        ensures counts { CountsDevice result (D.failed node.old.store.disk) (D.failed node.new.store.disk) }
+        ensures counts { CountsDevice result (failures D.failed node.old) (failures D.failed node.new) }
     {
         let mut malformed = 0;
         let mut made = 0;

@@ -4,7 +4,7 @@ ghost use Rattle.std.specs.Prelude.{◌≡◌, ◌≤◌, ◌++◌, ◌∷◌, [
 ghost use Rattle.wire.specs.declared.message.Message.{Message};
 ghost use Rattle.node.specs.Nodes.{Node as AbstractNode};
 ghost use Rattle.node.specs.declared.to.To.{To};
-ghost use Rattle.node.specs.Standing.{IsNodeOf, KeepsOthers, CountsDevice};
+ghost use Rattle.node.specs.Standing.{IsNodeOf, KeepsOthers, CountsDevice, failures};
 ghost use Rattle.site_drive.specs.Delivering.{IsNoted};
 ghost use Rattle.site_drive.specs.Links.{RoseBy};
 ghost use Rattle.site_drive.specs.Sending.{Counted};
@@ -33,7 +33,7 @@ pub(crate) fn deliver_datagram<D: Disk>(
     ensures broken { IfErr result (λ fault. NodeLeads D.stands_for node.old node.new (λ s next. BreaksOff node.old.cluster node.old.me s datagram.now fault next)) }
     ensures noted { OnOk result (IsNoted node.old.cluster datagram.now delivered.old delivered.new) }
     ensures others { KeepsOthers node.old node.new }
-    ensures counts { CountsDevice result (D.failed node.old.store.disk) (D.failed node.new.store.disk) }
+    ensures counts { CountsDevice result (failures D.failed node.old) (failures D.failed node.new) }
 {
     match decode(alloc, datagram, node.cluster()) {
         Ok(message) => {
@@ -80,7 +80,7 @@ impl Desk {
             (d : List ℕ) × (h ≡ Some d) × BreaksOff node.old.cluster node.old.me s d fault next)) }
         ensures others { KeepsOthers node.old node.new }
         ensures counted { self.new.failed ≡ self.old.failed }
-        ensures counts { CountsDevice result (D.failed node.old.store.disk) (D.failed node.new.store.disk) }
+        ensures counts { CountsDevice result (failures D.failed node.old) (failures D.failed node.new) }
     {
         let Some(n) = came else {
             return Ok(0);
@@ -108,7 +108,7 @@ impl Desk {
         ensures whose { StaysWhose node.old node.new }
         ensures tried { RoseBy 1 (L.tried link.old) (L.tried link.new) }
         ensures counted { Counted self.old.failed self.new.failed (L.failed link.old) (L.failed link.new) }
-        ensures counts { CountsDevice result (D.failed node.old.store.disk) (D.failed node.new.store.disk) }
+        ensures counts { CountsDevice result (failures D.failed node.old) (failures D.failed node.new) }
     {
         let came = self.hear(link);
         let malformed = self.take_in(node, came)?;

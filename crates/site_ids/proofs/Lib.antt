@@ -1,4 +1,5 @@
 pub mod MajorityLemmas
+pub mod NodeSetLemmas
 pub mod MemberLemmas
 pub mod MapLemmas
 pub mod BallotLemmas

@@ -10,7 +10,7 @@ use server_pace::Times;
 use server_packets::Packet;
 use site_disk::MemDisk;
 use site_drive::Desk;
-use site_ids::{Cluster, NodeId};
+use site_ids::{Cluster, NodeId, NodeSet};
 use std::alloc::Global;
 use std::process::Abort;
 
@@ -153,6 +153,15 @@ pub(crate) fn packed(
 pub(crate) fn node_of(rt: &impl Abort, size: u8, number: u8) -> NodeId {
     let cluster = Cluster::new(size).expect(rt, "a cluster");
     cluster.node(number).expect(rt, "a node")
+}
+
+/// The nodes of these numbers.
+pub(crate) fn nodes_of(rt: &impl Abort, numbers: &[u8]) -> NodeSet {
+    let mut all = NodeSet::new();
+    for &number in numbers {
+        all.insert(node_of(rt, 9, number));
+    }
+    all
 }
 
 /// These pieces wait at a server.

@@ -1,5 +1,6 @@
 //! What a server says of itself, and when.
 use crate::comparing::{ensure, same};
+use crate::group::nodes_of;
 use server_notes::{Note, Notes};
 use site_ids::Cluster;
 use std::alloc::Global;
@@ -10,16 +11,16 @@ use std::process::Abort;
 type Pass = (
     u64,
     u32,
-    [bool; 9],
+    &'static [u8],
     (u64, u64, bool),
     &'static [&'static str],
 );
 
-const NOBODY: [bool; 9] = [false; 9];
+const NOBODY: &[u8] = &[];
 
-const TWO: [bool; 9] = [false, true, false, false, false, false, false, false, false];
+const TWO: &[u8] = &[2];
 
-const BOTH: [bool; 9] = [false, true, true, false, false, false, false, false, false];
+const BOTH: &[u8] = &[2, 3];
 
 const FINE: (u64, u64, bool) = (0, 0, false);
 
@@ -152,7 +153,7 @@ fn reads(rt: &impl Abort, alloc: Global, note: Note, line: &str) {
 /// A pass, and what is said behind it.
 fn pass(rt: &impl Abort, alloc: Global, notes: &mut Notes, pass: Pass) {
     let (now, known, heard, (malformed, displaced, full), lines) = pass;
-    notes.hear(now, known, known, heard);
+    notes.hear(now, known, known, nodes_of(rt, heard));
     notes.count(malformed, displaced, full);
     for &line in lines {
         reads(rt, alloc, notes.next(now, known).expect(rt, line), line);
@@ -186,7 +187,7 @@ fn a_server_that_heard_of_more_has_not_caught_up(rt: HostRuntime) {
     for rows in [SLOW, BUSY] {
         let mut notes = Notes::new(cluster, me, 7);
         for &(now, known, reached, lines) in rows {
-            notes.hear(now, known, reached, BOTH);
+            notes.hear(now, known, reached, nodes_of(&rt, BOTH));
             for &line in lines {
                 reads(
                     &rt,

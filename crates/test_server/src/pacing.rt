@@ -133,6 +133,7 @@ fn seen(known: u32, wanted: bool, resumes: bool) -> Seen {
         known,
         wanted,
         drained: true,
+        stake: false,
         resumes,
     }
 }
@@ -232,10 +233,42 @@ fn the_patience_grows(rt: HostRuntime) {
         };
         same(
             &rt,
-            (ticking, now, ticking.is_due(now, 150, 3)),
+            (ticking, now, ticking.is_due(now, 150, TIMES, false)),
             (ticking, now, due),
         );
-        ensure(&rt, !ticking.is_due(now, u64::MAX, 3), ticking);
+        ensure(&rt, !ticking.is_due(now, u64::MAX, TIMES, false), ticking);
+    }
+}
+
+/// How many ticks were due, how many patiences longer it waits, whether it gives way; the moment, and whether a
+/// tick is due that is wanted since 1000, of a patience of 150 milliseconds.
+const GIVES_WAY: &[(u32, u32, bool, u64, bool)] = &[
+    (0, 0, false, 1150, true),
+    (0, 0, true, 2649, false),
+    (0, 0, true, 2650, true),
+    (2, 0, true, 2649, false),
+    (2, 0, true, 2650, true),
+    (0, 9, true, 2650, true),
+    (0, 20, true, 4149, false),
+    (0, 20, true, 4150, true),
+];
+
+#[test]
+fn who_gives_way_waits_longer(rt: HostRuntime) {
+    for &(ticks, longer, gives_way, now, due) in GIVES_WAY {
+        let ticking = Ticking {
+            since: Some(1000),
+            known: 7,
+            ticks,
+            longer,
+            ..Ticking::new()
+        };
+        let is = ticking.is_due(now, 150, TIMES, gives_way);
+        same(
+            &rt,
+            (ticking, gives_way, now, is),
+            (ticking, gives_way, now, due),
+        );
     }
 }
 
@@ -310,6 +343,7 @@ fn a_server_asks_in_its_time_and_behind_news(rt: HostRuntime) {
             known,
             wanted: false,
             drained,
+            stake: false,
             resumes: false,
         };
         let asking = last.asking(TIMES, now, seen, empty, more);

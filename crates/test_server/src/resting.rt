@@ -2,7 +2,7 @@
 use crate::comparing::{ensure, same};
 use crate::group::{Boxed, fresh};
 use server::Stepped;
-use site_ids::Cluster;
+use site_ids::{Cluster, NodeSet};
 use std::alloc::Global;
 use std::process::Abort;
 
@@ -34,6 +34,7 @@ fn step_of(came: bool, answered: bool) -> Stepped {
     Stepped {
         came,
         malformed: 0,
+        heard: NodeSet::new(),
         answered,
     }
 }

@@ -1,5 +1,6 @@
 //! When a server yields to another one that tries: each rule as a table.
 use crate::comparing::same;
+use crate::group::nodes_of;
 use server_pace::{Times, Yielding};
 use site_ids::{Cluster, NodeId};
 use std::process::Abort;
@@ -54,20 +55,12 @@ fn node(number: u8) -> Option<NodeId> {
     Cluster::new(9)?.node(number)
 }
 
-fn among(numbers: &[u8]) -> [bool; 9] {
-    let mut tried = [false; 9];
-    for number in 1..=9 {
-        tried[usize::from(number) - 1] = numbers.contains(&number);
-    }
-    tried
-}
-
 #[test]
 fn nodes_that_try_take_turns(rt: HostRuntime) {
     let times = Times::new(None, None);
     for &(tried, last, free, since, me, tries, waits, yields) in YIELDS {
         let yielding = Yielding {
-            tried: among(tried),
+            tried: nodes_of(&rt, tried),
             tries: node(tries),
             last: node(last),
             stands: None,
@@ -97,7 +90,7 @@ fn a_stretch_of_yielding_ends(rt: HostRuntime) {
     let me = node(2).expect(&rt, "a node");
     for &(took, since, yields) in STRETCHES {
         let yielding = Yielding {
-            tried: among(&[3]),
+            tried: nodes_of(&rt, &[3]),
             tries: node(3),
             last: node(3),
             stands: None,
@@ -137,7 +130,7 @@ const NOTED: &[Noted] = &[
 fn whose_attempt_stands_is_noted(rt: HostRuntime) {
     for &(by, stood, free, tries, tried, last, stands, then, took) in NOTED {
         let mut yielding = Yielding {
-            tried: among(&[4]),
+            tried: nodes_of(&rt, &[4]),
             tries: node(by),
             last: node(4),
             stands: stood,
@@ -146,7 +139,7 @@ fn whose_attempt_stands_is_noted(rt: HostRuntime) {
             since: Some(3),
         };
         let after = Yielding {
-            tried: among(tried),
+            tried: nodes_of(&rt, tried),
             tries: node(tries),
             last: node(last),
             stands,
@@ -176,12 +169,12 @@ const AFTER: &[(Option<u64>, bool, bool, &[u8], Option<u64>)] = &[
 fn who_waited_in_vain_goes_on(rt: HostRuntime) {
     for &(since, waits, yields, tried, then) in AFTER {
         let mut yielding = Yielding {
-            tried: among(&[2, 5]),
+            tried: nodes_of(&rt, &[2, 5]),
             since,
             ..Yielding::new()
         };
         let after = Yielding {
-            tried: among(tried),
+            tried: nodes_of(&rt, tried),
             since: then,
             ..Yielding::new()
         };

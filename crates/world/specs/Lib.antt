@@ -5,6 +5,7 @@ pub mod Agreement
 pub mod Worked
 pub mod Standing
 pub mod Machines
+pub mod Opening
 pub mod Steps
 pub mod Telling
 pub mod Answering

@@ -1,6 +1,6 @@
 //! A cluster's nodes, each over a disk in memory, and all messages ever handed out.
 //!
-//! The list of messages is the nodes' outbox, for a copy a delivery. A run gives no cause for a refused opening, as that it follows is no invariant.
+//! The list of messages is the nodes' outbox, for a copy a delivery. A run does not tell why an opening was refused: nothing but the device or want of memory can refuse it (`records_of_worlds_open`).
 
 ghost use Rattle.std.specs.Prelude.{◌≡◌, length};
 

@@ -1,4 +1,4 @@
-use Rattle.std.proofs.Common.{rules, ◌≡◌, ◌≤◌, ◌⊎◌, ℕ, List, Bool, true, false, inl, inr, [], ◌∷◌, ◌++◌, append-nil, length, take, refl, sym, ap, subst, ◌∙◌, arith}
+use Rattle.std.proofs.Common.{rules, ◌≡◌, ◌≤◌, ℕ, List, Bool, true, inl, inr, [], ◌∷◌, ◌++◌, append-nil, length, take, refl, sym, ap, subst, ◌∙◌, arith}
 use Rattle.site_drive.specs.Posting.{letters_of}
 use Rattle.server_packets.specs.Making.{HasRoom, Packs}
 use Rattle.server.specs.Mailing.{own_of}

@@ -1,7 +1,7 @@
 use Rattle.std.proofs.Common.{rules, get_or, false, if◌then◌else◌}
 use Rattle.server_notes.specs.Listening.{silence_at}
 use Rattle.server_notes.specs.Noting.{no_silence, heard_at}
-use Rattle.server_notes.proofs.Places.{set_next}
+use Rattle.site_ids.proofs.NodeSetLemmas.{set_next}
 use Rattle.server_notes.proofs.listening.hear_each.Goals as goal
 
 pub loop-i-preserved : goal.loop-i-preserved

@@ -1,6 +1,6 @@
 use Rattle.std.proofs.Common.{rules, get_or, replicate, None, ◌∙◌}
 use Rattle.std.proofs.lemmas.List.{get_or_default}
-use Rattle.server_notes.proofs.Places.{set_next}
+use Rattle.site_ids.proofs.NodeSetLemmas.{set_next}
 use Rattle.server_pace.specs.Questioning.{newer}
 use Rattle.server_pace.proofs.questions.newer_each.Goals as goal
 

@@ -1,4 +1,4 @@
-use Rattle.std.proofs.Common.{◌≡◌, ◌+◌, ◌<◌, ◌≤◌, ℕ, suc, [], inl, inr, refl, sym, ap, subst, ◌∙◌, arith}
+use Rattle.std.proofs.Common.{◌≡◌, ◌+◌, ℕ, suc, [], inl, inr, refl, sym, ap, subst, ◌∙◌, arith}
 use Rattle.node.specs.Calls.{keep}
 use Rattle.node.specs.Endings.{Whole}
 use Rattle.node.specs.Standing.{IsEvent, ending_by}

@@ -1,4 +1,4 @@
-use Rattle.std.proofs.Common.{◌≡◌, inl, inr, ℕ, Option, Some, None, [], refl, sym, subst, ◌∙◌}
+use Rattle.std.proofs.Common.{inl, inr, ℕ, Option, Some, [], refl, sym, subst, ◌∙◌}
 use Rattle.std.specs.Prelude.{MatchOption}
 use Rattle.durable.specs.Entries.{Learned}
 use Rattle.node.specs.Nodes.{Value, Node}

@@ -3,7 +3,8 @@ use Rattle.site_drive.specs.Delivering.{none_noted, AreNoted}
 use Rattle.site_drive.specs.Posting.{bytes_of, letters_of, spelled_of}
 use Rattle.site_drive.proofs.Results.{err_gives}
 use Rattle.server.specs.Mailing.{waiting_of}
-use Rattle.server.specs.Passes.{Led, BreaksStep, LosesStep, IsBatchOf, MaySend}
+use Rattle.site_drive.specs.Batches.{LeadsSealed}
+use Rattle.server.specs.Passes.{BreaksStep, LosesStep, IsBatchOf, MaySend}
 use Rattle.server.proofs.ManyPasses.{posted, not_posted, batch_broke, sendable, all_sendable}
 use Rattle.server.proofs.server.Server.take_batch.Goals as goal
 
@@ -11,21 +12,21 @@ pub returns-in_err-malformed-clause-fault : goal.returns-in_err-malformed-clause
 returns-in_err-malformed-clause-fault g c = err_gives c.from_residual.result c.from_residual.ensures.1 λ e is.
     let old = c.args.self.now.served.node in
     let new = c.take_batch.new.node in
-    subst (λ l. Led g.D.Disk.stands_for old new (BreaksStep old.cluster old.me (bytes_of l) e) ⊎ LosesStep g.D.Disk.stands_for (bytes_of l) old new e) c.as_slice-came.ensures.value
+    subst (λ l. LeadsSealed g.D.Disk.stands_for old new (BreaksStep old.cluster old.me (bytes_of l) e) ⊎ LosesStep g.D.Disk.stands_for (bytes_of l) old new e) c.as_slice-came.ensures.value
     (batch_broke g.D.Disk.stands_for old new c.due-last.result (bytes_of c.as_slice-came.result.now) _ e is c.in_err-malformed.ensures.ends.fault)
 
 pub returns-in_err-post-clause-fault : goal.returns-in_err-post-clause-fault
 returns-in_err-post-clause-fault g c = err_gives c.from_residual-in_err-post.result c.from_residual-in_err-post.ensures.1 λ e is.
     let old = c.args.self.now.served.node in
     let new = c.take_batch.new.node in
-    inl (subst (λ l. Led g.D.Disk.stands_for old new (BreaksStep old.cluster old.me (bytes_of l) e)) c.as_slice-came.ensures.value
+    inl (subst (λ l. LeadsSealed g.D.Disk.stands_for old new (BreaksStep old.cluster old.me (bytes_of l) e)) c.as_slice-came.ensures.value
     (not_posted g.D.Disk.stands_for old new c.due-last.result (bytes_of c.as_slice-came.result.now) _ _ c.in_ok-malformed.ensures.ends.ok e is))
 
 pub returns-in_err-keep_own-clause-fault : goal.returns-in_err-keep_own-clause-fault
 returns-in_err-keep_own-clause-fault g c = err_gives c.from_residual-in_err-keep_own.result c.from_residual-in_err-keep_own.ensures.1 λ e is.
     let old = c.args.self.now.served.node in
     let new = c.take_batch.new.node in
-    inl (subst (λ l. Led g.D.Disk.stands_for old new (BreaksStep old.cluster old.me (bytes_of l) e)) c.as_slice-came.ensures.value
+    inl (subst (λ l. LeadsSealed g.D.Disk.stands_for old new (BreaksStep old.cluster old.me (bytes_of l) e)) c.as_slice-came.ensures.value
     (not_posted g.D.Disk.stands_for old new c.due-last.result (bytes_of c.as_slice-came.result.now) _ _ c.in_ok-malformed.ensures.ends.ok e is))
 
 pub returns-clause-ok : goal.returns-clause-ok
@@ -86,3 +87,12 @@ returns-in_err-keep_own-clause-may_send g c =
           (λ fits. ap (λ v. letters_of v.items) c.keep_own.ensures.same ∙ c.in_ok-post.ensures.ok fits
           ∙ ap (λ l. letters_of l ++ spelled_of out) c.clear.ensures.items),
     ))
+
+pub returns-clause-heard : goal.returns-clause-heard
+returns-clause-heard g c =
+    let old = c.args.self.now.served.node in (
+      c.delivered-delivered.result,
+      subst (λ d. AreNoted old.cluster (waiting_of c.args.self.now.mail) none_noted d) (sym c.delivered-delivered.ensures)
+          (subst (λ l. AreNoted old.cluster (bytes_of l) none_noted c.take_batch.new.self.delivered) c.as_slice-came.ensures.value c.in_ok-malformed.ensures.noted),
+      c.heard.ensures,
+    )

@@ -1,6 +1,5 @@
-use Rattle.std.proofs.Common.{◌≡◌, ℕ, suc, ◌+◌, ◌^◌, ◌≤◌, ◌-◌, min, true, false, IsTrue, refl, sym, ap, subst, ◌∙◌, rules, arith}
+use Rattle.std.proofs.Common.{◌≡◌, ℕ, suc, ◌+◌, ◌^◌, ◌-◌, min, true, false, sym, ap, subst, ◌∙◌, arith}
 use Rattle.site_ids.specs.Ids.{IsInstance}
-use Rattle.server_pace.specs.Keeping.{IsKeepDue}
 use Rattle.server_pace.proofs.keeping.Keeping.next.Goals as goal
 
 -- the one behind those that were kept, where there is one

@@ -1,4 +1,4 @@
-use Rattle.std.proofs.Common.{is_some, rules, subst, sym, refl, ap, ◌≡◌, ℕ, suc, Option, Some, None}
+use Rattle.std.proofs.Common.{is_some, subst, sym, refl, ap, ◌≡◌, ℕ, suc, Option, Some, None}
 use Rattle.durable.specs.Entries.{IsPromise}
 use Rattle.node.specs.Nodes.{Node}
 use Rattle.server_pace.specs.Pacing.{pace_after, IsDue, IsFresh, IsTelling, IsTriedBy, IsYielding}

@@ -1,4 +1,4 @@
-use Rattle.std.proofs.Common.{◌≡◌, subst}
+use Rattle.std.proofs.Common.{subst}
 use Rattle.server_pace.specs.Keeping.{IsNextBlock}
 use Rattle.server_pace.proofs.pace.Pace.next_block.Goals as goal
 

@@ -1,6 +1,5 @@
-use Rattle.std.proofs.Common.{rules, ◌≡◌, ◌-◌, ◌&&◌, not, set, if◌then◌else◌, Some, None, inl, inr, refl, sym, ap, subst, ◌∙◌}
+use Rattle.std.proofs.Common.{rules, ◌-◌, ◌&&◌, not, set, if◌then◌else◌, Some, inl, subst, ◌∙◌}
 use Rattle.site_ids.specs.Ids.{IsNode}
-use Rattle.server_pace.specs.declared.questions.Questions.{Questions}
 use Rattle.server_pace.proofs.questions.Questions.next.Goals as goal
 
 -- the question that was taken is told of, or not

@@ -4,4 +4,4 @@ use Rattle.server_pace.proofs.yielding.Yielding.is_behind.Given as goal
 
 -- none of the nodes so far that tried comes before this server
 abbrev pub invariant-loop-number : goal.invariant-loop-number
-invariant-loop-number l = (q : ℕ) → 1 ≤ q → q < l.number → get_or l.fn.self.tried (q - 1) false ≡ true → ¬ (places_behind l.last q < places_behind l.last l.fn.me)
+invariant-loop-number l = (q : ℕ) → 1 ≤ q → q < l.number → get_or l.tried (q - 1) false ≡ true → ¬ (places_behind l.last q < places_behind l.last l.fn.me)

@@ -1,4 +1,4 @@
-use Rattle.std.proofs.Common.{◌≡◌, subst}
+use Rattle.std.proofs.Common.{subst}
 use Rattle.site_drive.specs.Delivering.{AreNoted}
 use Rattle.site_drive.specs.Posting.{bytes_of}
 use Rattle.site_drive.proofs.desk.Desk.take_batch.Goals as goal

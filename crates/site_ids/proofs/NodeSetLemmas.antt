@@ -1,7 +1,7 @@
--- Places of lists.
+-- Places of lists, and how many of them are true.
 use Rattle.std.proofs.Common.{◌≡◌, ◌⊎◌, inl, inr, ⊎_elim, ℕ, zero, suc, ◌+◌, ◌<◌, ◌≤◌, List, [], ◌∷◌, length, get_or, set, take, Bool, true, false, if◌then◌else◌, refl, sym, ap, ◌∙◌, subst, arith}
 use Rattle.std.proofs.lemmas.List.{get_or-set_same, get_or-set_other}
-use Rattle.server_notes.specs.Listening.{count_of}
+use Rattle.site_ids.specs.NodeSets.{count_of}
 
 below_next : (k i : ℕ) → k < suc i → (k ≡ i) ⊎ (k < i)
 below_next zero zero l = inl refl
