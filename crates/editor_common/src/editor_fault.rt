@@ -16,6 +16,9 @@ pub enum EditorFault {
     /// Why a group or a ledger lets nothing go on, and what to do.
     #[error("{0}")]
     Stop(String),
+    /// The paths are told before.
+    #[error("nothing was sent: others have put what this folder would take over. With --take-over it does")]
+    TakesOver,
     #[error("the editor has no tickets left: remove the file published, and publish as a new editor")]
     NoTickets,
     #[error("no node is named: give the address of one, as http://127.0.0.1:8001")]

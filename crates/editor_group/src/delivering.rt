@@ -6,8 +6,9 @@ ghost use Rattle.editor_plan.specs.Moves.{HearsAnswers};
 use crate::address::Address;
 use crate::asking::ask;
 use crate::group::Group;
+use crate::progress::{Progress, tell_progress};
 use crate::stop::stop;
-use editor_common::{EditorFault, now, passed, rest, say_made};
+use editor_common::{EditorFault, now, passed, rest};
 use editor_files::Saved;
 use editor_http::{NodeAnswer, Question};
 use editor_ledger::Ledger;
@@ -18,9 +19,6 @@ use std::io::Write;
 use std::net::{Net, TcpStream};
 use std::rt::Clock;
 use std::time::Instant;
-
-/// Progress is told behind so many commands.
-const TELLING: usize = 100;
 
 /// The text that is on its way under a number.
 fn text_under(ledger: &Ledger, number: u64) -> &str {
@@ -122,37 +120,19 @@ fn exchange<N: Net<Stream = TcpStream>>(
     Ok(!answers.is_empty())
 }
 
-/// Tells each hundred receipts of so many commands, of which so many were left and are.
-fn tell<E: Write>(
-    alloc: Global,
-    err: &mut E,
-    all: usize,
-    before: usize,
-    after: usize,
-) -> Result<(), EditorFault> {
-    let (had, has) = (all.saturating_sub(before), all.saturating_sub(after));
-    if has / TELLING == had / TELLING {
-        return Ok(());
-    }
-    say_made(err, format!(in alloc; "{has} of {all} commands"))
-}
-
 /// One connection to the node that is spoken to, and what came of it.
-fn bring<N: Net<Stream = TcpStream>, E: Write>(
+fn bring<N: Net<Stream = TcpStream>>(
     net: &N,
     alloc: Global,
-    err: &mut E,
     flight: &mut Flight,
     group: &Group,
     saved: &mut Saved<'_>,
-    all: usize,
 ) -> Result<Came, EditorFault>
     ensures hears { HearsAnswers saved.old.ledger.now saved.new.ledger.now }
 {
     let before = saved.ledger().sent().len();
     let answered = exchange(net, alloc, flight, group.node()?, saved)?;
     let after = saved.ledger().sent().len();
-    tell(alloc, err, all, before, after)?;
     Ok(match (answered, after < before) {
         (_, true) => Came::Receipt,
         (true, false) => Came::Answers,
@@ -188,14 +168,17 @@ fn deliver_at<R: Net<Stream = TcpStream> + Clock + AllocGlobal, E: Write>(
     ensures idle { OnOk result (is_idle saved.new.ledger.now ≡ true) }
     ensures hears { HearsAnswers saved.old.ledger.now saved.new.ledger.now }
 {
-    let all = saved.ledger().sent().len();
+    let mut progress = Progress::new(saved.ledger().sent().len());
     let mut clock = DeliveryClock::new();
     for _ in 0..u64::MAX {
         if saved.ledger().is_idle() {
             return Ok(());
         }
-        let came = bring(rt, rt.alloc(), err, flight, group, saved, all)?;
-        match clock.step(came, passed(rt, since)?, patience) {
+        let came = bring(rt, rt.alloc(), flight, group, saved)?;
+        let now = passed(rt, since)?;
+        let left = saved.ledger().sent().len();
+        tell_progress(rt, rt.alloc(), err, group, &mut progress, now, left, came)?;
+        match clock.step(came, now, patience) {
             Step::Again(millis) => rest(rt, millis),
             Step::Next => turn(rt, rt.alloc(), flight, group),
             Step::GiveUp => return Err(too_slow(rt.alloc(), patience)),

@@ -35,6 +35,13 @@ fn claim_of(ledger: &Ledger) -> Claim {
     }
 }
 
+/// Who does not tell its newest release is no node, or says nothing that can be used.
+const SILENT: Witness = Witness {
+    last: Told::Nothing,
+    next: Told::Nothing,
+    newest: None,
+};
+
 fn told(answer: Option<&NodeAnswer>) -> Told {
     told_by(answer.map(|answer| answer.status))
 }
@@ -64,10 +71,14 @@ fn witness<N: Net<Stream = TcpStream>>(
         Question::Newest,
     ];
     let answers = ask(net, alloc, node, &questions)?;
-    Ok(Witness {
-        next: told(answers.get(0)),
-        last: told(answers.get(1)),
-        newest: answers.get(2).and_then(number_in),
+    let newest = answers.get(2).and_then(number_in);
+    Ok(match newest {
+        Some(_) => Witness {
+            next: told(answers.get(0)),
+            last: told(answers.get(1)),
+            newest,
+        },
+        None => SILENT,
     })
 }
 
@@ -141,6 +152,15 @@ fn reason(
     }
 }
 
+/// Whether anything answers at an address, be it what a node says or not.
+fn answers<N: Net<Stream = TcpStream>>(
+    net: &N,
+    alloc: Global,
+    node: &Address,
+) -> Result<bool, AllocError> {
+    Ok(!ask(net, alloc, node, &[Question::Newest])?.is_empty())
+}
+
 /// Tells why a node is silent.
 fn tell_silent<N: Net<Stream = TcpStream>, E: Write>(
     net: &N,
@@ -151,7 +171,10 @@ fn tell_silent<N: Net<Stream = TcpStream>, E: Write>(
     let url = node.url.as_str();
     let line = match unreached(net, node) {
         Some(fault) => format!(in alloc; "{url}: {fault}"),
-        None => format!(in alloc; "{url}: is no node, or too busy to answer"),
+        None if answers(net, alloc, node)? => {
+            format!(in alloc; "{url}: answers, but is no node of Deskrauf")
+        }
+        None => format!(in alloc; "{url}: does not answer, or is too busy"),
     };
     say_made(err, line)
 }

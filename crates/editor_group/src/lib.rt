@@ -2,7 +2,7 @@
 //!
 //! `address.rt` reads addresses, `group.rt` says which node is spoken to, `asking.rt` asks one over a connection, with the bytes of `editor_http`.
 //! `judging.rt` asks the group whether a ledger is the newest, and `delivering.rt` sends what is on its way in a ledger that was saved, until each command
-//! has its receipt; what is asked next and what answers mean, `editor_plan` says. `status.rt` writes what each node says of itself. What real sockets give
+//! has its receipt; what is asked next and what answers mean, `editor_plan` says. `progress.rt` tells meanwhile how far that is. `status.rt` writes what each node says of itself. What real sockets give
 //! and take is tested, not proved.
 #![tactic(auto)]
 
@@ -11,6 +11,7 @@ mod asking;
 mod delivering;
 mod group;
 mod judging;
+mod progress;
 mod status;
 mod stop;
 

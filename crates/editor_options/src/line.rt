@@ -42,6 +42,7 @@ pub enum Word<'a> {
         editor: Option<u32>,
         patience: u64,
         dry_run: bool,
+        take_over: bool,
         ignore: bool,
     },
     /// Serves a folder as it is on disk.
@@ -201,8 +202,12 @@ fn dry_run_flag<'a>(alloc: Global) -> Arg<'a> {
     flag(
         alloc,
         "dry-run",
-        "Tells what would be put and removed, and which pages change; asks and sends nothing",
+        "Tells what would be put and removed, which pages change, and, where URLs are given, what it takes over; sends nothing",
     )
+}
+
+fn take_over_flag<'a>(alloc: Global) -> Arg<'a> {
+    flag(alloc, "take-over", "Puts paths that others have put too")
 }
 
 fn publish_word<'a>(alloc: Global) -> Result<Command<'a>, AllocError> {
@@ -216,6 +221,7 @@ fn publish_word<'a>(alloc: Global) -> Result<Command<'a>, AllocError> {
     let word = taking(word, editor);
     let word = taking(word, patience_option(alloc));
     let word = taking(word, dry_run_flag(alloc));
+    let word = taking(word, take_over_flag(alloc));
     taking(word, ignore_flag(alloc))
 }
 
@@ -323,6 +329,7 @@ fn publish_in<'a>(alloc: Global, found: &ArgMatches<'a>) -> Result<Word<'a>, All
         editor: found.get_one::<u32>("editor"),
         patience: found.get_one::<u64>("patience").unwrap_or(PATIENCE),
         dry_run: found.get_flag("dry-run"),
+        take_over: found.get_flag("take-over"),
         ignore: found.get_flag("ignore"),
     })
 }

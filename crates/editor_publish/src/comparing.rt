@@ -81,7 +81,8 @@ pub(crate) fn changes_since(
     changes_of(alloc, &kept, after)
 }
 
-fn is_shown(answer: Option<&NodeAnswer>, view: &View) -> bool {
+/// Whether an answer is what a view shows.
+pub(crate) fn is_shown(answer: Option<&NodeAnswer>, view: &View) -> bool {
     match answer {
         Some(answer) => {
             answer.status == view.status && answer.body.as_slice() == view.body.as_bytes()

@@ -1,7 +1,7 @@
 //! The release that a publication made.
 use editor_common::{EditorFault, say_made};
 use editor_ledger::Ledger;
-use std::alloc::Global;
+use std::alloc::{AllocError, Global};
 use std::io::Write;
 
 /// A release that was made: its number, or one above it where others released as well, and how many commands it shows that none showed before.
@@ -25,6 +25,11 @@ pub(crate) fn commands_of(ledger: &Ledger, ticket: u64) -> u64 {
     ticket
         .saturating_sub(ledger.last_release())
         .saturating_sub(1)
+}
+
+/// Why nothing goes on at a node that does not tell its newest release.
+pub(crate) fn untold(alloc: Global, url: &str) -> Result<EditorFault, AllocError> {
+    Ok(EditorFault::Stop(format!(in alloc; "{url}: does not tell its newest release")?))
 }
 
 /// Writes which release was made.

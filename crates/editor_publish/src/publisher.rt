@@ -1,14 +1,15 @@
 //! A publication under way.
 use crate::comparing::{Change, changes_of, changes_since, tell_differences};
-use crate::made::{Made, commands_of, release_ticket, tell_made};
+use crate::dry_run::tell_plan;
+use crate::made::{Made, commands_of, release_ticket, tell_made, untold};
 use crate::publishing::Publishing;
-use crate::taking_over::tell_taken_over;
+use crate::taking_over::{taken_over, tell_taken_over};
 use editor_common::{EditorFault, say};
 use editor_files::save;
 use editor_group::{Group, confirm, deliver, newest};
 use editor_ledger::{Ledger, Released};
 use editor_plan::{Stage, advance};
-use std::alloc::{AllocError, Global};
+use std::alloc::AllocError;
 use std::io::Write;
 use std::net::{Net, TcpStream};
 use std::rt::{Clock, Files};
@@ -33,10 +34,6 @@ fn seconds<C: Clock>(clock: &C) -> Result<u64, EditorFault> {
         },
         Err(_) => Err(EditorFault::Clock),
     }
-}
-
-fn untold(alloc: Global, url: &str) -> Result<EditorFault, AllocError> {
-    Ok(EditorFault::Stop(format!(in alloc; "{url}: does not tell its newest release")?))
 }
 
 impl<R: Files + Net<Stream = TcpStream> + Clock + AllocGlobal, E: Write> Publisher<'_, R, E> {
@@ -166,10 +163,16 @@ impl<R: Files + Net<Stream = TcpStream> + Clock + AllocGlobal, E: Write> Publish
         }
     }
 
-    /// Tells what a first publication takes over.
-    fn tell_taken_over(&mut self, wanted: &[&str]) -> Result<(), EditorFault> {
+    /// Refuses to take over what others have put, unless that is asked for. What it is is told.
+    fn ask_to_take_over(&mut self, wanted: &[&str]) -> Result<(), EditorFault> {
+        let alloc = self.rt.alloc();
         let node = self.group.node()?;
-        tell_taken_over(self.rt, self.rt.alloc(), self.err, node, wanted)
+        let paths = taken_over(self.rt, alloc, node, self.ledger, wanted)?;
+        tell_taken_over(alloc, self.err, &paths)?;
+        if paths.is_empty() || self.how.take_over {
+            return Ok(());
+        }
+        Err(EditorFault::TakesOver)
     }
 
     /// Publishes texts, once the group has confirmed their ledger.
@@ -180,9 +183,30 @@ impl<R: Files + Net<Stream = TcpStream> + Clock + AllocGlobal, E: Write> Publish
     ) -> Result<bool, EditorFault> {
         let (folder, patience) = (self.how.folder, self.how.patience);
         confirm(self.rt, self.err, folder, self.group, self.ledger, patience)?;
-        if self.ledger.next() == 1 {
-            self.tell_taken_over(wanted)?;
-        }
+        self.ask_to_take_over(wanted)?;
         self.publish_texts(out, wanted)
+    }
+
+    /// Tells what a publication of these texts would take over, as far as the first node says.
+    fn tell_paths<W: Write>(&mut self, out: &mut W, wanted: &[&str]) -> Result<(), EditorFault> {
+        let alloc = self.rt.alloc();
+        let node = self.group.node()?;
+        match taken_over(self.rt, alloc, node, self.ledger, wanted) {
+            Ok(paths) => tell_taken_over(alloc, out, &paths),
+            Err(EditorFault::Stop(why)) => say(self.err, why.as_str()),
+            Err(fault) => Err(fault),
+        }
+    }
+
+    /// Tells what a publication of these texts would put, remove and take over. Nothing is sent or saved.
+    pub(crate) fn tell_plan<W: Write>(
+        &mut self,
+        out: &mut W,
+        wanted: &[&str],
+    ) -> Result<(), EditorFault> {
+        if !self.how.urls.is_empty() {
+            self.tell_paths(out, wanted)?;
+        }
+        tell_plan(self.rt.alloc(), out, self.ledger, wanted)
     }
 }

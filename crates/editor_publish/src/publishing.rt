@@ -1,11 +1,11 @@
 //! A folder becomes the next release of a group.
-use crate::dry_run::tell_plan;
 use crate::publisher::Publisher;
 use editor_common::{EditorFault, say_made};
-use editor_files::{Clean, new_editor, read_clean, read_ledger, texts_of};
+use editor_files::{Clean, hold, new_editor, read_clean, read_ledger, texts_of};
 use editor_group::Group;
 use editor_ledger::Ledger;
 use std::alloc::{AllocError, Global};
+use std::fs::File;
 use std::io::Write;
 use std::net::{Net, TcpStream};
 use std::random::RandomSource;
@@ -22,6 +22,8 @@ pub struct Publishing<'a> {
     pub patience: u64,
     /// Nothing is sent: what would be is told.
     pub dry_run: bool,
+    /// What others have put is taken over.
+    pub take_over: bool,
     /// Files that are no part of a site are passed over.
     pub ignore: bool,
 }
@@ -74,10 +76,6 @@ fn publish_wanted<
     wanted: &[&str],
 ) -> Result<bool, EditorFault> {
     let mut ledger = ledger_of(rt, how.folder, how.editor)?;
-    if how.dry_run {
-        tell_plan(rt.alloc(), out, &mut ledger, wanted)?;
-        return Ok(false);
-    }
     let mut publisher = Publisher {
         rt,
         err,
@@ -85,6 +83,10 @@ fn publish_wanted<
         ledger: &mut ledger,
         how,
     };
+    if how.dry_run {
+        publisher.tell_plan(out, wanted)?;
+        return Ok(false);
+    }
     publisher.publish(out, wanted)
 }
 
@@ -135,9 +137,26 @@ fn publish_folder<
     }
 }
 
+/// The folder, held while it is published; a dry run holds nothing.
+fn held<R: Files<File = File> + AllocGlobal>(
+    rt: &R,
+    how: &Publishing<'_>,
+) -> Result<Option<File>, EditorFault> {
+    if how.dry_run {
+        return Ok(None);
+    }
+    Ok(Some(hold(rt, how.folder)?))
+}
+
 /// Publishes a folder. Status 1 where it has a fault, or is not shown then.
 pub fn publish<
-    R: Files + Net<Stream = TcpStream> + Clock + RandomSource + AllocGlobal + Clone + Drop,
+    R: Files<File = File>
+        + Net<Stream = TcpStream>
+        + Clock
+        + RandomSource
+        + AllocGlobal
+        + Clone
+        + Drop,
     W: Write,
     E: Write,
 >(rt: &R, out: &mut W, err: &mut E, how: Publishing<'_>) -> Result<u8, EditorFault> {
@@ -145,6 +164,8 @@ pub fn publish<
         return Err(EditorFault::NoNodes);
     }
     let mut group = Group::of(rt.alloc(), how.urls)?;
+    let held = held(rt, &how)?;
     let bad = publish_folder(rt, out, err, &mut group, &how)?;
+    drop(held);
     Ok(if bad { 1 } else { 0 })
 }

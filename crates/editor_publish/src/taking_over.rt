@@ -1,51 +1,65 @@
-//! What a first publication takes over from those who have published in the group.
+//! Which paths a publication would take over from others who have published in the group.
+//!
+//! A folder owns the paths for whose commands it has receipts. Any other path is taken over where the group answers it, and not as this folder does.
+//! Names of templates, partials and data are not seen from outside.
+use crate::comparing::is_shown;
+use crate::made::untold;
 use editor_common::{EditorFault, say_made};
-use editor_folder::path_in;
+use editor_folder::{View, path_in, views_of};
 use editor_group::{Address, ask, newest};
 use editor_http::{NodeAnswer, Question};
+use editor_ledger::Ledger;
+use editor_plan::takes_over;
 use std::alloc::{AllocError, Global};
+use std::collections::BTreeSet;
 use std::io::Write;
 use std::net::{Net, TcpStream};
 
-/// The paths that texts are about.
-fn paths_in<'a>(alloc: Global, texts: &[&'a str]) -> Result<Vec<&'a str>, AllocError> {
-    texts.iter().filter_map(|text| path_in(text)).collect(alloc)
-}
+/// How many paths are told one by one.
+const TOLD: usize = 10;
 
-fn tell_shown<E: Write>(alloc: Global, err: &mut E, release: u64) -> Result<(), EditorFault> {
-    say_made(
-        err,
-        format!(in alloc;
-            "this group shows release {release} already, and this folder is published there for the first time: other paths stay; a template, a partial or data of the same name is replaced"
-        ),
-    )
-}
-
-fn tell_path<E: Write>(alloc: Global, err: &mut E, path: &str) -> Result<(), EditorFault> {
-    say_made(err, format!(in alloc; "takes over {path}"))
-}
-
-/// Whether the group has a page at a path that it was asked for.
-fn is_there(answer: Option<&NodeAnswer>) -> bool {
-    match answer {
-        Some(answer) => answer.status != 404,
-        None => false,
+/// The path that a text puts a page or a redirect at.
+fn path_put(text: &str) -> Option<&str> {
+    if text.starts_with("put ") {
+        return path_in(text);
     }
+    None
 }
 
-/// Tells the paths that the group answers.
-fn tell_paths<E: Write>(
-    alloc: Global,
-    err: &mut E,
-    paths: &[&str],
-    answers: &[NodeAnswer],
-) -> Result<(), EditorFault> {
-    for (i, path) in paths.iter().enumerate() {
-        if is_there(answers.get(i)) {
-            tell_path(alloc, err, path)?;
+/// The paths that texts put, each once.
+fn paths_put(alloc: Global, texts: &[&str]) -> Result<BTreeSet<String>, AllocError> {
+    let mut paths = BTreeSet::new(alloc);
+    for text in texts {
+        if let Some(path) = path_put(text) {
+            let _ = paths.insert(String::from_str(alloc, path)?)?;
         }
     }
-    Ok(())
+    Ok(paths)
+}
+
+/// The texts for which a ledger has receipts, and those that are on their way.
+fn texts_of<'a>(alloc: Global, ledger: &'a Ledger) -> Result<Vec<&'a str>, AllocError> {
+    let kept = ledger.kept().iter().map(|text| text.as_str());
+    let sent = ledger.sent().iter().map(|sent| sent.text.as_str());
+    kept.chain(sent).collect(alloc)
+}
+
+/// The paths that texts put and for which a ledger has no receipt.
+fn paths_not_held(
+    alloc: Global,
+    ledger: &Ledger,
+    wanted: &[&str],
+) -> Result<Vec<String>, AllocError> {
+    let kept: Vec<&str> = ledger
+        .kept()
+        .iter()
+        .map(|text| text.as_str())
+        .collect(alloc)?;
+    let held = paths_put(alloc, &kept)?;
+    paths_put(alloc, wanted)?
+        .into_iter()
+        .filter(|path| !held.contains(path))
+        .collect(alloc)
 }
 
 /// The answers of a node for paths of a release.
@@ -54,29 +68,81 @@ fn answers_at<N: Net<Stream = TcpStream>>(
     alloc: Global,
     node: &Address,
     release: u64,
-    paths: &[&str],
+    paths: &[String],
 ) -> Result<Vec<NodeAnswer>, AllocError> {
     let questions: Vec<Question<'_>> = paths
         .iter()
-        .map(|path| Question::Page(release, path))
+        .map(|path| Question::Page(release, path.as_str()))
         .collect(alloc)?;
     ask(net, alloc, node, &questions)
 }
 
-/// Tells what a group shows that a folder of these texts takes over, where it shows a release already.
-pub(crate) fn tell_taken_over<N: Net<Stream = TcpStream>, E: Write>(
+/// Whether one of the views is what was answered.
+fn is_own(answer: &NodeAnswer, views: [Option<&View>; 2]) -> bool {
+    views.iter().any(|view| view.is_some_and(|view| is_shown(Some(answer), view)))
+}
+
+/// A path that a node did not answer.
+fn unanswered(alloc: Global, url: &str, path: &str) -> Result<EditorFault, AllocError> {
+    Ok(EditorFault::Stop(format!(in alloc; "{url}{path}: was not answered")?))
+}
+
+/// Those of the paths that are taken over, by a node's answers, where the folder shows these views then, or those before.
+fn taken_of(
+    alloc: Global,
+    url: &str,
+    paths: &[String],
+    answers: &[NodeAnswer],
+    then: &[View],
+    before: &[View],
+) -> Result<Vec<String>, EditorFault> {
+    let mut taken = Vec::new(alloc);
+    for (i, path) in paths.iter().enumerate() {
+        let Some(answer) = answers.get(i) else {
+            return Err(unanswered(alloc, url, path.as_str())?);
+        };
+        let own = is_own(answer, [then.get(i), before.get(i)]);
+        if takes_over(answer.status, own) {
+            taken.push(path.clone()?)?;
+        }
+    }
+    Ok(taken)
+}
+
+/// The paths that a publication of texts takes over in a node's newest release.
+pub(crate) fn taken_over<N: Net<Stream = TcpStream>>(
     net: &N,
     alloc: Global,
-    err: &mut E,
     node: &Address,
-    texts: &[&str],
-) -> Result<(), EditorFault> {
-    let release = newest(net, alloc, node)?.unwrap_or(0);
-    if release == 0 {
-        return Ok(());
+    ledger: &Ledger,
+    wanted: &[&str],
+) -> Result<Vec<String>, EditorFault> {
+    let url = node.url.as_str();
+    let Some(release) = newest(net, alloc, node)? else {
+        return Err(untold(alloc, url)?);
+    };
+    let paths = paths_not_held(alloc, ledger, wanted)?;
+    if release == 0 || paths.is_empty() {
+        return Ok(Vec::new(alloc));
     }
-    tell_shown(alloc, err, release)?;
-    let paths = paths_in(alloc, texts)?;
     let answers = answers_at(net, alloc, node, release, &paths)?;
-    tell_paths(alloc, err, &paths, &answers)
+    let then = views_of(alloc, wanted, &paths)?;
+    let before = views_of(alloc, &texts_of(alloc, ledger)?, &paths)?;
+    taken_of(alloc, url, &paths, &answers, &then, &before)
+}
+
+/// Tells the paths that are taken over, the first of them one by one.
+pub(crate) fn tell_taken_over<E: Write>(
+    alloc: Global,
+    err: &mut E,
+    paths: &[String],
+) -> Result<(), EditorFault> {
+    for path in paths.iter().take(TOLD) {
+        say_made(err, format!(in alloc; "takes over {path}"))?;
+    }
+    let more = paths.len().saturating_sub(TOLD);
+    if more != 0 {
+        say_made(err, format!(in alloc; "takes over {more} more paths"))?;
+    }
+    Ok(())
 }

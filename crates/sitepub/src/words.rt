@@ -10,6 +10,7 @@ use editor_publish::{Publishing, publish};
 use editor_words::{begin, check, export, frame, tell_log};
 use std::env;
 use std::fmt::Display;
+use std::fs::File;
 use std::io::{self, Write};
 use std::net::{Net, TcpListener, TcpStream};
 use std::random::RandomSource;
@@ -46,7 +47,7 @@ fn last_release_of<R: Files + AllocGlobal>(
 
 /// Does what a word says.
 fn done<
-    R: Files
+    R: Files<File = File>
         + Net<Listener = TcpListener, Stream = TcpStream>
         + Clock
         + RandomSource
@@ -75,6 +76,7 @@ fn done<
             editor,
             patience,
             dry_run,
+            take_over,
             ignore,
         } => publish(
             rt,
@@ -86,6 +88,7 @@ fn done<
                 editor,
                 patience,
                 dry_run,
+                take_over,
                 ignore,
             },
         ),
@@ -106,7 +109,7 @@ fn done<
 
 /// Does what a word says, and gives the exit status. That it came to no end is told.
 fn end_of<
-    R: Files
+    R: Files<File = File>
         + Net<Listener = TcpListener, Stream = TcpStream>
         + Clock
         + RandomSource
@@ -152,7 +155,7 @@ fn asks_version(words: &[String]) -> bool {
 
 /// Does what words say, the program's name first.
 fn by_words<
-    R: Files
+    R: Files<File = File>
         + Net<Listener = TcpListener, Stream = TcpStream>
         + Clock
         + RandomSource
@@ -175,7 +178,7 @@ fn by_words<
 /// Does what the command line says, and gives the exit status: 1 where something was refused or came to no end, 2 for a line that is none. Either is
 /// told on the other writer.
 pub fn sitepub<
-    R: Files
+    R: Files<File = File>
         + Env
         + Net<Listener = TcpListener, Stream = TcpStream>
         + Clock
