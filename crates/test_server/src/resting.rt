@@ -57,6 +57,10 @@ fn a_server_rests_by_what_it_saw(rt: HostRuntime) {
         let saw = step_of(came, answered);
         let rest = server.rest(saw, moved);
         let next = server.rest(step_of(false, false), false);
-        same(&rt, (saw, moved, rest, next), (saw, moved, first, then));
+        same(
+            &rt,
+            (came, answered, moved, rest, next),
+            (came, answered, moved, first, then),
+        );
     }
 }
