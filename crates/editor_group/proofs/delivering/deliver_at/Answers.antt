@@ -11,8 +11,11 @@ loop-preserved g c = heard_on _ _ _ c.loop.invariant c.bring.ensures.hears
 pub returns-in_err-came-clause-hears : goal.returns-in_err-came-clause-hears
 returns-in_err-came-clause-hears g c = heard_on _ _ _ c.loop.invariant c.bring.ensures.hears
 
-pub returns-in_err-passed-clause-hears : goal.returns-in_err-passed-clause-hears
-returns-in_err-passed-clause-hears g c = heard_on _ _ _ c.loop.invariant c.bring.ensures.hears
+pub returns-in_err-now-clause-hears : goal.returns-in_err-now-clause-hears
+returns-in_err-now-clause-hears g c = heard_on _ _ _ c.loop.invariant c.bring.ensures.hears
+
+pub returns-in_err-tell_progress-clause-hears : goal.returns-in_err-tell_progress-clause-hears
+returns-in_err-tell_progress-clause-hears g c = heard_on _ _ _ c.loop.invariant c.bring.ensures.hears
 
 pub returns-in-GiveUp-clause-hears : goal.returns-in-GiveUp-clause-hears
 returns-in-GiveUp-clause-hears g c = heard_on _ _ _ c.loop.invariant c.bring.ensures.hears
