@@ -10,7 +10,7 @@ use Rattle.node.specs.Effects.{Effect, recorded, messages_of}
 use Rattle.node.specs.Calls.{Call, tick, deliver, HasRound, Does}
 use Rattle.node.specs.Endings.{Ending, Whole, Refused, Failed, Ends, Refuses, Contradicts}
 use Rattle.world.specs.declared.event.Event.{Event}
-use Rattle.world.specs.declared.event.Event.TheVariants.{Submit, Tick, Widen, Ask, Tell, Deliver, Arm, Crash, Restart, Keep}
+use Rattle.world.specs.declared.event.Event.TheVariants.{Submit, Tick, Widen, Ask, Tell, Deliver, Arm, Crash, Restart, Replace, Keep}
 use Rattle.world.specs.Worlds.{World, Moves, Becomes, CallsAt, Calls}
 use Rattle.world.specs.Taking.{IsTaken, Takes, TakesAll}
 use Rattle.world.proofs.Moving.{either}
@@ -139,6 +139,7 @@ module _ (n : ℕ) where
   run_before (Arm p k ∷ events) w after calm how up = absurd calm
   run_before (Crash p k ∷ events) w after calm how up = absurd calm
   run_before (Restart p ∷ events) w after calm how up = absurd calm
+  run_before (Replace p floor ∷ events) w after calm how up = absurd calm
   run_before (Keep p i ∷ events) w after calm how up = absurd calm
 
   pub split_at : (xs ys : List Event) (w after : World) → TakesAll n w (xs ++ ys) after → (mid : World) × TakesAll n w xs mid × TakesAll n mid ys after
@@ -164,4 +165,5 @@ calm_both (Tell p i ∷ xs) ys a b = absurd a
 calm_both (Arm p k ∷ xs) ys a b = absurd a
 calm_both (Crash p k ∷ xs) ys a b = absurd a
 calm_both (Restart p ∷ xs) ys a b = absurd a
+calm_both (Replace p floor ∷ xs) ys a b = absurd a
 calm_both (Keep p i ∷ xs) ys a b = absurd a

@@ -8,7 +8,7 @@ use Rattle.site_ids.specs.Spans.{IsInSpan}
 use Rattle.site_ids.specs.declared.value.Vote.{Vote}
 use Rattle.wire.specs.declared.message.Message.{Message}
 use Rattle.wire.specs.declared.message.Message.TheVariants.{Prepare, Promise, Propose, Accepted, Nack, Ask, Chosen}
-use Rattle.durable.specs.Entries.{Round, Learned, last_round, last_vote, learned_at}
+use Rattle.durable.specs.Entries.{Round, Learned, last_round, last_vote, floor_of, learned_at}
 use Rattle.proposer.specs.declared.TheConstants.{MAX_ATTEMPTS}
 use Rattle.proposer.specs.Attempts.{Answer, Attempt, opened as opened_attempt, opened_span, waiting, proposing, senders, with_answer, Counts, ToldNone, Highest, Chooses}
 use Rattle.learner.specs.ToldVotes.{ToldVote, told_vote}
@@ -18,9 +18,10 @@ use Rattle.command.specs.declared.fault.CommandFault.{CommandFault}
 use Rattle.node.specs.declared.to.To.{To}
 use Rattle.node.specs.declared.to.To.TheVariants.{One, All}
 use Rattle.node.specs.Tellings.{tells}
-use Rattle.node.specs.Nodes.{Value, IsFirstUnknown}
+use Rattle.node.specs.Nodes.{Value, IsFirstUnknown, IsMute}
+use Rattle.node.specs.Effects.{Effect}
 use Rattle.node.specs.Tickets.{IsHeld, has_same_ticket}
-use Rattle.node.specs.Deliveries.{reached_by, OnPromise, OnAccepted, OnAsk, OnChosen, ByKind}
+use Rattle.node.specs.Deliveries.{UnlessMute, reached_by, OnPromise, OnAccepted, OnAsk, OnChosen, ByKind}
 use Rattle.node.specs.Calls.{Call, submit, tick, widen, ask, tell, deliver, keep, IsOwnVote, MayKeep, oldest, IsFree, IsNextFree, IsTried, AreUntried, IsNextSpan, Does}
 use Rattle.node.proofs.Windows.{from_first, untried_stays}
 use Rattle.world.proofs.Lists.{put_at_cases}
@@ -187,10 +188,16 @@ on_chosen t i v = elim (map_of t.known i) as (λ o. map_of t.known i ≡ o → O
 
 -- ---- a delivery
 
+abbrev pub unless : (t : NodeBy) (i : ℕ) {Does : Effect → Type 0} → Done Does → Done (λ effect. UnlessMute (node_by t) i (Does effect) effect)
+unless t i did = elim (no_more i (floor_of t.entries)) [
+  | inl mute ↦ record { entry = None; after = t; out = []; does = inl (mute, refl) }
+  | inr not_mute ↦ record { entry = did.entry; after = did.after; out = did.out; does = inr (not_mute, did.does) }
+]
+
 abbrev pub by_kind : (n p : ℕ) (t : NodeBy) (m : Message) → Option (Done (ByKind n p (node_by t) m))
-by_kind n p t (Prepare q i b k) = Some (on_prepare p t i b k)
+by_kind n p t (Prepare q i b k) = Some (unless t i (on_prepare p t i b k))
 by_kind n p t (Promise q i b prior) = Some (on_promise n p t q i b prior)
-by_kind n p t (Propose q i b v) = Some (on_propose p t i b v)
+by_kind n p t (Propose q i b v) = Some (unless t i (on_propose p t i b v))
 by_kind n p t (Accepted q i b v) = Some (on_accepted n t q i b v)
 by_kind n p t (Nack q i b c) = Some (record { entry = None; after = record t { heard = max t.heard c.round }; out = []; does = refl })
 by_kind n p t (Ask q i) = Some (on_ask p t q i)
@@ -284,19 +291,23 @@ ticked n p t = elim (first_unknown t) [
     | inr used ↦ None
     | inl round ↦ elim (only_at t.attempts first.0 (keys t.attempts)) [
       | None ↦ None
-      | Some alone ↦ Some (record {
-        entry = Some (Round (fresh_of p t).round);
-        after = record t { attempts = (first.0, Some (opened_attempt (fresh_of p t) (oldest t.pending))) ∷ t.attempts };
-        out = (All, Prepare p first.0 (fresh_of p t) 1) ∷ [];
-        does = record {
-          instance = first.0;
-          elsewhere = [];
-          first = first.1;
-          round = round;
-          open_elsewhere = record { rising = tt; each = λ x k. absurd k; whole = λ j a apart is. absurd (alone j a (is_key t.attempts j a is) apart is) };
-          is = refl;
-        };
-      })
+      | Some alone ↦ Some (elim (no_more first.0 (floor_of t.entries)) [
+        | inl mute ↦ record { entry = None; after = t; out = (All, Ask p first.0) ∷ []; does = inr (record { asks = record { instance = first.0; first = first.1; is = refl }; mute = mute }) }
+        | inr not_mute ↦ record {
+          entry = Some (Round (fresh_of p t).round);
+          after = record t { attempts = (first.0, Some (opened_attempt (fresh_of p t) (oldest t.pending))) ∷ t.attempts };
+          out = (All, Prepare p first.0 (fresh_of p t) 1) ∷ [];
+          does = inl (record {
+            instance = first.0;
+            elsewhere = [];
+            first = first.1;
+            not_mute = not_mute;
+            round = round;
+            open_elsewhere = record { rising = tt; each = λ x k. absurd k; whole = λ j a apart is. absurd (alone j a (is_key t.attempts j a is) apart is) };
+            is = refl;
+          });
+        }
+      ])
     ]
   ]
 ]
@@ -333,15 +344,15 @@ longer_free t i values v free further j within = ⊎_elim (λ inside. free j ins
     by : (j k : ℕ) → (i ≤ j) × (j < i + (k + 1)) → IsInSpan i k j ⊎ (j ≡ i + k)
     by j k h = grind (arith, h.0, h.1)
 
-abbrev pub free_from : (t : NodeBy) (first : ℕ) → IsFirstUnknown (map_of t.known) first → (fuel j : ℕ) → ((k : ℕ) → IsFree (node_by t) k → j ≤ k) → Option ((i : ℕ) × IsNextFree (node_by t) i)
-free_from t first is zero j from = None
-free_from t first is (suc fuel) j from = elim (map_of t.known j) as (λ o. map_of t.known j ≡ o → Option ((i : ℕ) × IsNextFree (node_by t) i)) [
-  | Some v ↦ λ known. free_from t first is fuel (suc j) (past_known t j v known from)
+abbrev pub free_from : (t : NodeBy) (first : ℕ) → IsFirstUnknown (map_of t.known) first → ¬ IsMute (node_by t) first → (fuel j : ℕ) → ((k : ℕ) → IsFree (node_by t) k → j ≤ k) → Option ((i : ℕ) × IsNextFree (node_by t) i)
+free_from t first is not_mute zero j from = None
+free_from t first is not_mute (suc fuel) j from = elim (map_of t.known j) as (λ o. map_of t.known j ≡ o → Option ((i : ℕ) × IsNextFree (node_by t) i)) [
+  | Some v ↦ λ known. free_from t first is not_mute fuel (suc j) (past_known t j v known from)
   | None ↦ λ unknown. elim (map_of t.attempts j) as (λ o. map_of t.attempts j ≡ o → Option ((i : ℕ) × IsNextFree (node_by t) i)) [
-    | Some a ↦ λ tried. free_from t first is fuel (suc j) (past_tried t j a tried from)
+    | Some a ↦ λ tried. free_from t first is not_mute fuel (suc j) (past_tried t j a tried from)
     | None ↦ λ untried. elim (both (both (no_more 1 j) (no_more j MAX_INSTANCE)) (no_more (suc j) (first + MAX_ATTEMPTS))) [
       | inr far ↦ None
-      | inl h ↦ Some (j, record { first = first; is_first = is; near = h.1; free = record { instance = h.0; unknown = unknown; untried = untried }; least = from })
+      | inl h ↦ Some (j, record { first = first; is_first = is; not_mute = not_mute; near = h.1; free = record { instance = h.0; unknown = unknown; untried = untried }; least = from })
     ]
   ] refl
 ] refl
@@ -437,11 +448,14 @@ widened n p t = let u = untried_in t t.pending in elim (u.0) as (λ l. AreUntrie
   | [] ↦ λ none. Some (record { entry = None; after = t; out = []; does = inr ((λ may. untried_stays (node_by t) t.pending [] may.1.0 none may.1.1.0 may.1.1.1), refl) })
   | v ∷ left ↦ λ are. elim (first_unknown t) [
     | None ↦ None
-    | Some first ↦ elim (free_from t first.0 first.1 MAX_ATTEMPTS first.0 (λ k free. from_first (map_of t.known) first.0 k first.1 free.instance free.unknown)) [
-      | None ↦ None
-      | Some free ↦ elim (no_more (suc (suc (max (last_round t.entries) t.heard))) (2 ^ 32)) [
-        | inr used ↦ None
-        | inl round ↦ Some (begun n p t free.0 (grow t free.0 free.1 (v ∷ []) left (omega arith) are (first_near free.0 free.1.first free.1.near) (λ j within. subst (IsFree (node_by t)) (only_one free.0 j within) free.1.free)) round)
+    | Some first ↦ elim (no_more first.0 (floor_of t.entries)) [
+      | inl mute ↦ None
+      | inr not_mute ↦ elim (free_from t first.0 first.1 not_mute MAX_ATTEMPTS first.0 (λ k free. from_first (map_of t.known) first.0 k first.1 free.instance free.unknown)) [
+        | None ↦ None
+        | Some free ↦ elim (no_more (suc (suc (max (last_round t.entries) t.heard))) (2 ^ 32)) [
+          | inr used ↦ None
+          | inl round ↦ Some (begun n p t free.0 (grow t free.0 free.1 (v ∷ []) left (omega arith) are (first_near free.0 free.1.first free.1.near) (λ j within. subst (IsFree (node_by t)) (only_one free.0 j within) free.1.free)) round)
+        ]
       ]
     ]
   ]
@@ -462,6 +476,7 @@ told n p t to i = record { entry = None; after = t; out = (tells p (node_by t) t
 
 -- ---- keeping
 
+-- the first of the keys at which a value is known, mute and unkept; where there is none, that is not told here
 -- its last vote there is for the value, or not
 abbrev pub own_vote : (t : NodeBy) (i : ℕ) (v : Value) → Told (IsOwnVote (node_by t) i v)
 own_vote t i v = elim (last_vote i t.entries) as (λ o. last_vote i t.entries ≡ o → Told (IsOwnVote (node_by t) i v)) [

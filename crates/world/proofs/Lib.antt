@@ -14,6 +14,7 @@ pub mod Promising
 pub mod Delivering
 pub mod Retelling
 pub mod Ticking
+pub mod Replacing
 pub mod Running
 pub mod Growing
 pub mod Agreed
@@ -25,6 +26,8 @@ pub mod DoingVotes
 pub mod Doing
 pub mod Computing
 pub mod Schedules
+pub mod ReplacedWorked
+pub mod KeptWorked
 pub mod Turning
 pub mod Happening
 pub mod Moving
@@ -42,6 +45,8 @@ pub mod Attempting
 pub mod Bounds
 pub mod Overbidding
 pub mod Quieting
+pub mod Counting
+pub mod Together
 pub mod Stretching
 mod Firsts
 mod AllQuiet
