@@ -24,7 +24,7 @@ use Rattle.proposer.specs.Attempts.{Answer, Attempt, senders, Counts, with_answe
 use Rattle.proposer.specs.Best.{IsBest, value_by}
 use Rattle.proposer.proofs.BestLemmas.{best_chooses}
 use Rattle.node.specs.declared.fault.NodeFault.TheVariants as fault
-use Rattle.node.specs.Nodes.{Value, Node, IsKnown, IsFirstUnknown, AllKnown, IsMute}
+use Rattle.node.specs.Nodes.{Value, Node, IsKnown, IsFirstUnknown, AllKnown, IsMute, OnlyLearns}
 use Rattle.node.specs.Tickets.{IsHeld}
 use Rattle.node.specs.Effects.{quiet, says, learned}
 use Rattle.node.specs.Deliveries.{Judged, AreJudged, span_out, reached_by, with_vote}
@@ -34,7 +34,7 @@ use Rattle.node.specs.Beginning.{begun}
 use Rattle.node.specs.Tellings.{tells}
 use Rattle.node.specs.Tidy.{IsTidy}
 use Rattle.node.specs.Stuck.{IsStuck, NeverStuck}
-use Rattle.node.proofs.Gaps.{not_all_known}
+use Rattle.node.proofs.Gaps.{not_all_known, one_first}
 use Rattle.node.proofs.Windows.{untried_stays}
 use Rattle.node.proofs.SendingAgain.{open_past, all_in_window}
 use Rattle.node.proofs.FreshAttempts.{ticks, begins}
@@ -348,12 +348,15 @@ pub never_stuck : NeverStuck
 never_stuck n p s (submit v) runs tidy stuck = on_value n p s v tidy stuck (value_reading v) refl
 never_stuck n p s tick runs tidy stuck =
     at_gap s (λ full. stuck.no_cause fault.InstancesUsedUp (λ e. cc) full)
-    (λ i first. cases (λ (round : HasRound s ⊎ (¬ HasRound s)).
-    ⊎_elim (λ yes. ⊎_elim
+    (λ i first. ⊎_elim
     (λ (mute : IsMute s i). stuck.no_effect (says s All (Ask p i)) (inr (record { asks = record { instance = i; first = first; is = refl }; mute = mute })))
-    (λ (not_mute : ¬ IsMute s i). stuck.no_effect (begun p s i (fresh_ballot p s) (oldest s.pending ∷ []) (map (resent p) (open_past s.attempts i 63)))
+    (λ (not_mute : ¬ IsMute s i). cases (λ (round : HasRound s ⊎ (¬ HasRound s)). ⊎_elim
+    (λ yes. stuck.no_effect (begun p s i (fresh_ballot p s) (oldest s.pending ∷ []) (map (resent p) (open_past s.attempts i 63)))
     (inl (ticks p s i (fresh_ballot p s) (oldest s.pending) (open_past s.attempts i 63) (all_in_window s i tidy first) first not_mute yes refl refl)))
-    (mute_or_not i (floor_of s.entries))) (λ no. stuck.no_cause fault.RoundsUsedUp (λ e. cc) (not_all_known s i first, no)) round))
+    (λ no. stuck.no_cause fault.RoundsUsedUp (λ e. cc)
+    (not_all_known s i first, (λ (x : OnlyLearns s). not_mute (subst (IsMute s) (one_first s.known i x.0 first x.1) x.2)), no))
+    round))
+    (mute_or_not i (floor_of s.entries)))
 never_stuck n p s widen runs tidy stuck =
     cases (λ (may : MayWiden s ⊎ (¬ MayWiden s)).
     ⊎_elim

@@ -36,7 +36,7 @@ tick_cause s i first round IsStopped allowed h = h
 tick_cause s i first round QueueFull allowed h = absurd h.1
 tick_cause s i first round (NotACommand why) allowed h = absurd h.1
 tick_cause s i first round InstancesUsedUp allowed h = let known = h.1 i first.instance in absurd (no_value known.0 (sym first.unknown ∙ known.1))
-tick_cause s i first round RoundsUsedUp allowed h = absurd (h.1.1 round)
+tick_cause s i first round RoundsUsedUp allowed h = absurd (h.1.2 round)
 tick_cause s i first round Conflict allowed h = absurd h.1
 
 pub deliver_cause : (s : Node) (m : Message) → ¬ Contradicts s m → (cause : NodeFault) → IsTaken (Refused cause) → Refuses s (deliver m) cause → s.mode ≡ Stopped

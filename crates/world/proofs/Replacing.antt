@@ -43,7 +43,9 @@ no_value v x = cc
 above_or_not : (i floor : ℕ) → (i ≤ floor → ⊥) → floor < i
 above_or_not i floor h = omega (arith, h)
 
-module _ (n : ℕ) (fair : Value → Type 0) (gone : ℕ → Type 0) (w after : World) (all : IsSound n fair gone w) (p floor : ℕ) (how : Replaces n w p floor after) (is_gone : gone p) where
+module _ (n : ℕ) (fair : Value → Type 0) (gone : ℕ → Entry → Type 0) (w after : World) (all : IsSound n fair gone w) (p floor : ℕ) (how : Replaces n w p floor after)
+    (is_gone : (e : Entry) → In (w.node p).entries e → gone p e)
+  where
   good : Sound n fair all.lost w
   good = all.sound
 
@@ -58,14 +60,14 @@ module _ (n : ℕ) (fair : Value → Type 0) (gone : ℕ → Type 0) (w after : 
   lost_now = put_at all.lost p old
 
   -- A vote 64 below is on the record of a node that was asked, or at or below its floor
-  far : (q j : ℕ) (b : BallotOf) (v : Value) → In how.high.asked q → 1 ≤ j → In (all.lost q ++ (w.node q).entries) (Voted j b v) → j + 64 ≤ floor
+  far : (q j : ℕ) (b : BallotOf) (v : Value) → In how.is_floor.asked q → 1 ≤ j → In (all.lost q ++ (w.node q).entries) (Voted j b v) → j + 64 ≤ floor
   far q j b v asked some k =
       ⊎_elim
       (λ (x : In (all.lost q) (Voted j b v)).
       let low = (good.nodes q).under (Voted j b v) j b x (refl, refl) in
-      let top = how.high.reach q asked (Floor (floor_of (w.node q).entries)) (floor_of (w.node q).entries) (floor_there (w.node q).entries (omega (arith, low, some))) refl in
+      let top = how.is_floor.above q asked (Floor (floor_of (w.node q).entries)) (floor_of (w.node q).entries) (floor_there (w.node q).entries (omega (arith, low, some))) refl in
       omega (arith, low, top))
-      (λ (x : In (w.node q).entries (Voted j b v)). how.high.reach q asked (Voted j b v) j x refl)
+      (λ (x : In (w.node q).entries (Voted j b v)). how.is_floor.above q asked (Voted j b v) j x refl)
       (in_split (all.lost q) (w.node q).entries (Voted j b v) k)
 
   -- so what is within reach of an attempt lies at or below the new floor
@@ -77,10 +79,10 @@ module _ (n : ℕ) (fair : Value → Type 0) (gone : ℕ → Type 0) (w after : 
 
       go : floor < i → i ≤ floor
       go high =
-          let least = how.high.least in
+          let least = how.is_floor.least in
           let some : 1 ≤ i - 64 = omega (arith, least, high) in
           let d = reach (i - 64) some (omega (arith, least, high)) in
-          let both = share_a_node n d.1.voters how.high.asked d.1.majority how.high.majority in
+          let both = share_a_node n d.1.voters how.is_floor.asked d.1.majority how.is_floor.majority in
           let vote = good.messages (Accepted both.0 (i - 64) d.1.ballot d.0) (d.1.voted both.0 both.1) in
           let at = far both.0 (i - 64) d.1.ballot d.0 both.2 some vote in
           omega (arith, at, least, high)
@@ -154,5 +156,6 @@ module _ (n : ℕ) (fair : Value → Type 0) (gone : ℕ → Type 0) (w after : 
       messages = λ m h. subst (λ l. MessageSound n fair lost_now after.node l m) (sym same_sent) (message m (good.messages m (subst (λ l. In l m) same_sent h)));
       one_value = λ q r i b v u h k. good.one_value q r i b v u (subst (λ l. In l (Propose q i b v)) same_sent h) (subst (λ l. In l (Propose r i b u)) same_sent k);
     };
-    replaced = λ q e k. at_each (λ q l s. In l e → gone q) (λ _. is_gone) (λ q apart x. all.replaced q e x) q k;
+    all_gone = λ q e k. at_each (λ q l s. In l e → gone q e)
+        (λ (x : In old e). ⊎_elim (λ y. all.all_gone p e y) (λ y. is_gone e y) (in_split (all.lost p) (w.node p).entries e x)) (λ q apart x. all.all_gone q e x) q k;
   }
