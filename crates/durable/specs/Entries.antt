@@ -81,7 +81,7 @@ abbrev pub floor_of : List Entry → ℕ
 floor_of (Floor f ∷ es) = f
 floor_of es = 0
 
--- the entry is a vote at the instance, or it is the floor
+-- the entry is a vote at the instance, or a floor there
 abbrev pub Reaches : Entry → ℕ → Type 0
 Reaches (Round r) i = ⊥
 Reaches (Promised j b) i = ⊥
