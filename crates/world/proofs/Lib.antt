@@ -23,11 +23,11 @@ pub mod Published
 pub mod Taken
 pub mod Tables
 pub mod DoingVotes
+pub mod DoingPromises
 pub mod Doing
 pub mod Computing
 pub mod Schedules
 pub mod ReplacedWorked
-pub mod KeptWorked
 pub mod Turning
 pub mod Happening
 pub mod Moving
@@ -45,8 +45,6 @@ pub mod Attempting
 pub mod Bounds
 pub mod Overbidding
 pub mod Quieting
-pub mod Counting
-pub mod Together
 pub mod Stretching
 mod Firsts
 mod AllQuiet
