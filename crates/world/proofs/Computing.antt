@@ -1,13 +1,13 @@
 -- Runs of a world by tables, computed, and that each event is taken.
-use Rattle.std.proofs.Common.{◌≡◌, ◌≢◌, ◌⊎◌, inl, inr, ⊎_elim, ℕ, zero, suc, ◌+◌, ◌≤◌, arith, Bool, true, false, Option, Some, None, List, [], ◌∷◌, ◌++◌, map, refl, sym, subst}
+use Rattle.std.proofs.Common.{◌≡◌, ◌≢◌, inl, inr, ⊎_elim, ℕ, zero, suc, ◌+◌, ◌≤◌, Bool, true, false, Option, Some, None, List, [], ◌∷◌, ◌++◌, map, refl, sym, subst}
 use Rattle.std.specs.Prelude.{slice_get, nat_eq}
-use Rattle.site_ids.specs.Ids.{IsNode}
+use Rattle.site_ids.specs.Ids.{IsNode, IsInstance}
 use Rattle.site_ids.specs.Lists.{In}
 use Rattle.site_ids.specs.Majorities.{Majority}
 use Rattle.proposer.specs.declared.TheConstants.{MAX_ATTEMPTS}
 use Rattle.site_ids.specs.declared.TheConstants.{MAX_INSTANCE}
 use Rattle.wire.specs.declared.message.Message.{Message}
-use Rattle.durable.specs.Entries.{Entry, Round, Promised, PromisedSpan, Voted, Floor, Learned, Reaches, with_entry}
+use Rattle.durable.specs.Entries.{Entry, Floor, reach_of, with_entry}
 use Rattle.node.specs.declared.to.To.{To}
 use Rattle.node.specs.declared.fault.NodeFault.TheVariants as fault
 use Rattle.node.specs.declared.to.To.TheVariants.{All}
@@ -17,10 +17,10 @@ use Rattle.node.specs.Calls.{Call, submit, tick, widen, ask, tell, deliver, keep
 use Rattle.node.specs.Endings.{Ending, Whole, Refused, Failed, Ends}
 use Rattle.world.specs.declared.event.Event.{Event}
 use Rattle.world.specs.declared.event.Event.TheVariants.{Submit, Tick, Widen, Ask, Tell, Deliver, Arm, Crash, Restart, Replace, Keep}
-use Rattle.world.specs.Worlds.{Moves, Calls, IsAboveReach}
+use Rattle.world.specs.Worlds.{Moves, Calls}
 use Rattle.world.specs.Taking.{IsTaken, Takes, TakesAll}
 use Rattle.site_ids.proofs.MapLemmas.{put_here, put_other}
-use Rattle.world.proofs.Told.{Told, is_node, no_more, majority}
+use Rattle.world.proofs.Told.{Told, both, is_node, no_more, majority}
 use Rattle.world.proofs.Tables.{NodeBy, node_by, opened_by, WorldBy, nodes_of, world_by, find, found}
 use Rattle.world.proofs.DoingVotes.{Done}
 use Rattle.world.proofs.Doing.{done}
@@ -220,53 +220,27 @@ abbrev pub others : ℕ → ℕ → List ℕ
 others p zero = []
 others p (suc n) = elim (nat_eq (suc n) p) [ true ↦ others p n | false ↦ suc n ∷ others p n ]
 
-pub reaches_first : (floor : ℕ) (e : Entry) (es : List Entry) → ((i : ℕ) → Reaches e i → i + MAX_ATTEMPTS ≤ floor) → IsAboveReach es floor → IsAboveReach (e ∷ es) floor
-reaches_first floor e es here later f i k reaches = ⊎_elim (λ (same : e ≡ f). here i (subst (λ x. Reaches x i) (sym same) reaches)) (λ k. later f i k reaches) k
+abbrev pub AllAbove : WorldBy → ℕ → List ℕ → Type 0
+AllAbove w floor qs = (q : ℕ) → In qs q → reach_of (find w.nodes q).entries + MAX_ATTEMPTS ≤ floor
 
-pub reaches_not : (floor : ℕ) (e : Entry) (es : List Entry) → ¬ ((i : ℕ) → Reaches e i → i + MAX_ATTEMPTS ≤ floor) ⊎ (¬ IsAboveReach es floor) → ¬ IsAboveReach (e ∷ es) floor
-reaches_not floor e es none all = ⊎_elim (λ (here : ¬ ((i : ℕ) → Reaches e i → i + MAX_ATTEMPTS ≤ floor)). here (λ i reaches. all e i (inl refl) reaches)) (λ (later : ¬ IsAboveReach es floor). later (λ f i k reaches. all f i (inr k) reaches)) none
-
--- an entry that reaches one instance
-pub at_one : (floor j : ℕ) → j + MAX_ATTEMPTS ≤ floor → (i : ℕ) → j ≡ i → i + MAX_ATTEMPTS ≤ floor
-at_one floor j near i same = omega (arith, near, same)
-
-abbrev pub entry_over : (floor : ℕ) (e : Entry) → Told ((i : ℕ) → Reaches e i → i + MAX_ATTEMPTS ≤ floor)
-entry_over floor (Round r) = inl (λ i reaches. absurd reaches)
-entry_over floor (Promised j b) = inl (λ i reaches. absurd reaches)
-entry_over floor (PromisedSpan j k b) = inl (λ i reaches. absurd reaches)
-entry_over floor (Learned j v) = inl (λ i reaches. absurd reaches)
-entry_over floor (Voted j b v) = elim (no_more (j + MAX_ATTEMPTS) floor) [ inl near ↦ inl (at_one floor j near) | inr far ↦ inr (λ all. far (all j refl)) ]
-entry_over floor (Floor f) = elim (no_more (f + MAX_ATTEMPTS) floor) [ inl near ↦ inl (at_one floor f near) | inr far ↦ inr (λ all. far (all f refl)) ]
-
-abbrev pub reach_over : (floor : ℕ) (es : List Entry) → Told (IsAboveReach es floor)
-reach_over floor [] = inl (λ e i k reaches. absurd k)
-reach_over floor (e ∷ es) = elim (entry_over floor e) [
-  | inr far ↦ inr (reaches_not floor e es (inl far))
-  | inl here ↦ elim (reach_over floor es) [ inl later ↦ inl (reaches_first floor e es here later) | inr far ↦ inr (reaches_not floor e es (inr far)) ]
-]
-
-abbrev pub AllOver : WorldBy → ℕ → List ℕ → Type 0
-AllOver w floor qs = (q : ℕ) → In qs q → IsAboveReach (find w.nodes q).entries floor
-
-abbrev pub all_over : (w : WorldBy) (floor : ℕ) (qs : List ℕ) → Told (AllOver w floor qs)
-all_over w floor [] = inl (λ q k. absurd k)
-all_over w floor (p ∷ qs) = elim (reach_over floor (find w.nodes p).entries) [
-  | inr far ↦ inr (λ all. far (all p (inl refl)))
-  | inl here ↦ elim (all_over w floor qs) [
-    | inr far ↦ inr (λ all. far (λ q k. all q (inr k)))
-    | inl later ↦ inl (λ q k. ⊎_elim (λ (same : p ≡ q). subst (λ r. IsAboveReach (find w.nodes r).entries floor) same here) (λ k. later q k) k)
+abbrev pub all_above : (w : WorldBy) (floor : ℕ) (qs : List ℕ) → Told (AllAbove w floor qs)
+all_above w floor [] = inl (λ q k. absurd k)
+all_above w floor (p ∷ qs) = elim (no_more (reach_of (find w.nodes p).entries + MAX_ATTEMPTS) floor) [
+  | inr low ↦ inr (λ all. low (all p (inl refl)))
+  | inl here ↦ elim (all_above w floor qs) [
+    | inr low ↦ inr (λ all. low (λ q k. all q (inr k)))
+    | inl later ↦ inl (λ q k. ⊎_elim (λ (same : p ≡ q). subst (λ r. reach_of (find w.nodes r).entries + MAX_ATTEMPTS ≤ floor) same here) (λ k. later q k) k)
   ]
 ]
 
-pub replaces : (n : ℕ) (w : WorldBy) (p floor : ℕ) (asked : List ℕ) → IsNode n p → Majority n asked → MAX_ATTEMPTS ≤ floor → floor ≤ MAX_INSTANCE → AllOver w floor asked
+pub replaces : (n : ℕ) (w : WorldBy) (p floor : ℕ) (asked : List ℕ) → IsNode n p → IsInstance floor → Majority n asked → AllAbove w floor asked
     → Takes n (world_by w) (Replace p floor) (world_by (moved w p (opened_by Down (Floor floor ∷ []) None) []))
-replaces n w p floor asked node many least most over = record {
+replaces n w p floor asked node instance many above = record {
   is_floor = record {
-    instance = (omega (arith, least), most);
-    least = least;
+    instance = instance;
     asked = asked;
     majority = many;
-    above = λ q k. subst (λ (s : Node). IsAboveReach s.entries floor) (found w.nodes q) (over q k);
+    above = λ q k. subst (λ (s : Node). reach_of s.entries + MAX_ATTEMPTS ≤ floor) (found w.nodes q) (above q k);
   };
   becomes = moves n w p (opened_by Down (Floor floor ∷ []) None) [] node;
 }
@@ -290,16 +264,13 @@ happened caller keeps n w (Restart p) = elim (is_node n p) [
 happened caller keeps n w (Keep p i) = elim (is_node n p) [ inr outside ↦ None | inl node ↦ caller n w p (keep i) node ]
 happened caller keeps n w (Replace p floor) = elim (is_node n p) [
   | inr outside ↦ None
-  | inl node ↦ elim (majority n (others p n)) [
-    | inr few ↦ None
-    | inl many ↦ elim (no_more MAX_ATTEMPTS floor) [
-      | inr low ↦ None
-      | inl least ↦ elim (no_more floor MAX_INSTANCE) [
-        | inr high ↦ None
-        | inl most ↦ elim (all_over w floor (others p n)) [
-          | inr far ↦ None
-          | inl over ↦ Some (moved w p (opened_by Down (Floor floor ∷ []) None) [], replaces n w p floor (others p n) node many least most over)
-        ]
+  | inl node ↦ elim (both (no_more 1 floor) (no_more floor MAX_INSTANCE)) [
+    | inr outside ↦ None
+    | inl instance ↦ elim (majority n (others p n)) [
+      | inr few ↦ None
+      | inl many ↦ elim (all_above w floor (others p n)) [
+        | inr low ↦ None
+        | inl above ↦ Some (moved w p (opened_by Down (Floor floor ∷ []) None) [], replaces n w p floor (others p n) node instance many above)
       ]
     ]
   ]

@@ -6,24 +6,25 @@ use Rattle.site_ids.specs.Lists.{In, put_at}
 use Rattle.site_ids.specs.declared.value.Vote.{Vote}
 use Rattle.wire.specs.declared.message.Message.{Message}
 use Rattle.wire.specs.declared.message.Message.TheVariants.{Prepare, Promise, Propose, Accepted, Nack, Ask, Chosen}
-use Rattle.durable.specs.Entries.{Entry, Round, Promised, PromisedSpan, Voted, Floor, Learned, Raises, floor_of}
+use Rattle.durable.specs.Entries.{Entry, Round, Promised, PromisedSpan, Voted, Floor, Learned, Raises, floor_of, reach_of}
 use Rattle.proposer.specs.Attempts.{Attempt}
 use Rattle.node.specs.Nodes.{Value, Down, Node, opened}
 use Rattle.world.specs.Worlds.{World, Replaces}
+use Rattle.durable.proofs.Push.{in_reach}
 use Rattle.site_ids.proofs.MemberLemmas.{in_left, in_split}
 use Rattle.site_ids.proofs.MajorityLemmas.{share_a_node}
 use Rattle.world.proofs.Lists.{same_number, other_number}
 use Rattle.world.proofs.Invariant.{MayStand, IsTrueBelow, IsInReach, IsSpent, NodeSound, MessageSound, Sound, IsSound}
 
--- a floor that is one is an entry
-floor_there : (es : List Entry) → 1 ≤ floor_of es → In es (Floor (floor_of es))
-floor_there [] some = absurd (omega (arith, some))
-floor_there (Round r ∷ es) some = absurd (omega (arith, some))
-floor_there (Promised i b ∷ es) some = absurd (omega (arith, some))
-floor_there (PromisedSpan i k b ∷ es) some = absurd (omega (arith, some))
-floor_there (Voted i b v ∷ es) some = absurd (omega (arith, some))
-floor_there (Floor f ∷ es) some = inl refl
-floor_there (Learned i v ∷ es) some = absurd (omega (arith, some))
+-- a record reaches its floor
+floor_reached : (es : List Entry) → floor_of es ≤ reach_of es
+floor_reached [] = omega arith
+floor_reached (Round r ∷ es) = omega arith
+floor_reached (Promised i b ∷ es) = omega arith
+floor_reached (PromisedSpan i k b ∷ es) = omega arith
+floor_reached (Voted i b v ∷ es) = omega arith
+floor_reached (Learned i v ∷ es) = omega arith
+floor_reached (Floor f ∷ es) = omega arith
 
 no_floor_vote : (f i : ℕ) (b : BallotOf) (v : Value) → Floor f ≡ Voted i b v → ⊥
 no_floor_vote f i b v e = cc
@@ -60,15 +61,23 @@ module _ (n : ℕ) (fair : Value → Type 0) (gone : ℕ → Entry → Type 0) (
   lost_now = put_at all.lost p old
 
   -- A vote 64 below is on the record of a node that was asked, or at or below its floor
-  far : (q j : ℕ) (b : BallotOf) (v : Value) → In how.is_floor.asked q → 1 ≤ j → In (all.lost q ++ (w.node q).entries) (Voted j b v) → j + 64 ≤ floor
-  far q j b v asked some k =
+  far : (q j : ℕ) (b : BallotOf) (v : Value) → In how.is_floor.asked q → In (all.lost q ++ (w.node q).entries) (Voted j b v) → j + 64 ≤ floor
+  far q j b v asked k =
+      let top = how.is_floor.above q asked in
       ⊎_elim
       (λ (x : In (all.lost q) (Voted j b v)).
       let low = (good.nodes q).under (Voted j b v) j b x (refl, refl) in
-      let top = how.is_floor.above q asked (Floor (floor_of (w.node q).entries)) (floor_of (w.node q).entries) (floor_there (w.node q).entries (omega (arith, low, some))) refl in
-      omega (arith, low, top))
-      (λ (x : In (w.node q).entries (Voted j b v)). how.is_floor.above q asked (Voted j b v) j x refl)
+      let reached = floor_reached (w.node q).entries in
+      omega (arith, low, reached, top))
+      (λ (x : In (w.node q).entries (Voted j b v)). let reached = in_reach (w.node q).entries (Voted j b v) x in omega (arith, reached, top))
       (in_split (all.lost q) (w.node q).entries (Voted j b v) k)
+
+  -- one node was asked at least
+  least : 64 ≤ floor
+  least =
+      let both = share_a_node n how.is_floor.asked how.is_floor.asked how.is_floor.majority how.is_floor.majority in
+      let top = how.is_floor.above both.0 both.1 in
+      omega (arith, top)
 
   -- so what is within reach of an attempt lies at or below the new floor
   reach_under : (i : ℕ) → IsInReach n w.sent i → i ≤ floor
@@ -79,13 +88,12 @@ module _ (n : ℕ) (fair : Value → Type 0) (gone : ℕ → Entry → Type 0) (
 
       go : floor < i → i ≤ floor
       go high =
-          let least = how.is_floor.least in
-          let some : 1 ≤ i - 64 = omega (arith, least, high) in
-          let d = reach (i - 64) some (omega (arith, least, high)) in
+          let most = least in
+          let d = reach (i - 64) (omega (arith, most, high)) (omega (arith, most, high)) in
           let both = share_a_node n d.1.voters how.is_floor.asked d.1.majority how.is_floor.majority in
           let vote = good.messages (Accepted both.0 (i - 64) d.1.ballot d.0) (d.1.voted both.0 both.1) in
-          let at = far both.0 (i - 64) d.1.ballot d.0 both.2 some vote in
-          omega (arith, at, least, high)
+          let at = far both.0 (i - 64) d.1.ballot d.0 both.2 vote in
+          omega (arith, at, most, high)
 
   at_each : (P : ℕ → List Entry → Node → Type 0) → P p old fresh → ((q : ℕ) → q ≢ p → P q (all.lost q) (w.node q)) → (q : ℕ) → P q (lost_now q) (after.node q)
   at_each P here there q =
