@@ -1,9 +1,8 @@
 -- No crash while a record with a floor is made leaves one without it.
-use Rattle.std.proofs.Common.{◌≡◌, ◌≢◌, ◌⊎◌, inl, inr, ⊎_elim, ℕ, ◌≤◌, ◌<◌, Bool, true, false, List, [], ◌∷◌, ◌++◌, length, get_or, take, drop, max, nat_eq, refl, sym, ◌∙◌, ap, subst, arith, codes, length-append, take-append-drop}
+use Rattle.std.proofs.Common.{◌≡◌, ◌≢◌, ◌⊎◌, inl, inr, ⊎_elim, ℕ, ◌≤◌, ◌<◌, Bool, true, false, List, [], ◌∷◌, ◌++◌, length, get_or, take, drop, nat_eq, refl, sym, ◌∙◌, ap, subst, arith, codes, length-append, take-append-drop}
 use Rattle.std.proofs.lemmas.Bool.Decides.{nat_tests}
 use Rattle.site_ids.specs.Ids.{IsInstance}
-use Rattle.site_disk.specs.Model.{DiskState, MayLeave, LeavesOnly, IsTorn, moment, at_rest, after_write, after_sync, overwritten}
-use Rattle.durable.specs.Append.{IsSettled}
+use Rattle.site_disk.specs.Model.{DiskState, LeavesOnly, IsTorn, after_write, after_sync, overwritten}
 use Rattle.durable.specs.Entries.{Entry, Floor}
 use Rattle.durable.specs.Histories.{IsHistory}
 use Rattle.durable.specs.Spelling.{head, blocks}
@@ -13,7 +12,6 @@ use Rattle.durable.specs.Laws.{FloorStays}
 use Rattle.durable.proofs.Moments.{started, goes_on, weaker, then}
 use Rattle.durable.proofs.Prefix.{stands_for_one}
 use Rattle.durable.proofs.Push.{history-push, history-none}
-use Rattle.durable.proofs.Torn.{settled_leaves}
 
 abbrev Bytes : Type 0
 Bytes = List ℕ

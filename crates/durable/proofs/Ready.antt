@@ -1,5 +1,5 @@
 -- A record before and after an entry is appended.
-use Rattle.std.proofs.Common.{◌≡◌, ℕ, ◌+◌, List, [], ◌∷◌, ◌++◌, Some, false, length, refl, sym, ◌∙◌, ap, subst, arith, length-append}
+use Rattle.std.proofs.Common.{◌≡◌, ℕ, ◌+◌, List, [], ◌∷◌, ◌++◌, Some, false, length, sym, ◌∙◌, ap, subst, arith, length-append}
 use Rattle.site_disk.specs.Model.{DiskState, LeavesOnly}
 use Rattle.durable.specs.Append.{IsSettled, IsOpenAt, IsAppendedOrNot}
 use Rattle.durable.specs.Entries.{Entry}

@@ -1,4 +1,4 @@
-use Rattle.std.proofs.Common.{List, ℕ, refl, subst, rules}
+use Rattle.std.proofs.Common.{List, ℕ, subst, rules}
 use Rattle.durable.specs.Entries.{Learned}
 use Rattle.durable.specs.Histories.{Advances}
 use Rattle.durable.specs.Puts.{Remembers}
