@@ -163,7 +163,7 @@ impl Pace {
         let yields = self.yielding.is_due(times, now, me);
         let fresh = self.is_fresh(seen.wanted, yields);
         self.yielding.pass(now, waits, yields);
-        self.ticking = self.ticking.noted(now, seen);
+        self.ticking = self.ticking.noted(now, seen, self.stirred);
         let more = self.ticking.awaits();
         let tick = self.ticking.is_due(now, self.patience, times, seen.stake);
         let asking = self.last.asking(self.times, now, seen, self.empty, more);

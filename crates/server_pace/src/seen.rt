@@ -59,7 +59,7 @@ fn has_voted<D: Disk>(node: &Node<D>, known: u32) -> bool
 fn has_stake<D: Disk>(node: &Node<D>, known: u32) -> bool
     ensures { (s : AbstractNode) → IsNodeOf node.now s → IsTrue result ↔ HasStake s (suc known) }
 {
-    node.has_pending() || has_voted(node, known)
+    node.has_pending()
 }
 
 /// Whether it has no attempt open.

@@ -59,12 +59,12 @@ impl Ticking {
 
     /// What stands now that so much is seen. The patience begins anew with news; ticks in vain are forgotten
     /// where news came without a tick that was due.
-    pub fn noted(self, now: u64, seen: Seen) -> Ticking
+    pub fn noted(self, now: u64, seen: Seen, stirred: bool) -> Ticking
         ensures { result ≡ noted self now seen }
     {
         if seen.known == self.known {
             return Ticking {
-                since: seen.wanted.then_some(self.since.unwrap_or(now)),
+                since: if !seen.stake && stirred { seen.wanted.then_some(now) } else { seen.wanted.then_some(self.since.unwrap_or(now)) },
                 ..self
             };
         }

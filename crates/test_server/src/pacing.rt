@@ -155,7 +155,7 @@ fn news_begin_the_patience_anew(rt: HostRuntime) {
             longer,
             ..Ticking::new()
         };
-        let is = ticking.noted(9, seen(known, wanted, false));
+        let is = ticking.noted(9, seen(known, wanted, false), false);
         same(&rt, (ticking, wanted, is), (ticking, wanted, noted));
     }
 }
@@ -186,10 +186,10 @@ fn a_server_that_decides_again_goes_on_at_once(rt: HostRuntime) {
             known: noted,
             ..Ticking::new()
         };
-        let then = ticking.noted(9, seen(known, wanted, resumes));
+        let then = ticking.noted(9, seen(known, wanted, resumes), false);
         same(&rt, (ticking, then.goes_on()), (ticking, goes_on));
         // It stays so until it ticks.
-        let later = then.noted(99, seen(known, wanted, false));
+        let later = then.noted(99, seen(known, wanted, false), false);
         same(&rt, (then, later.goes_on()), (then, goes_on));
         let ticked = [then.begun(), then.ticked(TIMES, 9, true)];
         for after in ticked {
