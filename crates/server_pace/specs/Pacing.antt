@@ -66,20 +66,14 @@ abbrev pub begun : Ticking → Ticking
 begun t = record t { at = Some t.known; resumes = false }
 
 -- how many times the patience: after each tick once more, up to growth times in all; or longer, after ticks in
--- vain, and at least so much longer while it gives way
+-- vain, and at least so much longer where it has nothing to decide
 abbrev pub waited : Ticking → Times → Bool → ℕ
-waited t times gives_way = max (min (t.ticks + 1) times.growth) (max t.longer (if gives_way then times.longer else 0) + 1)
+waited t times stake = max (min (t.ticks + 1) times.growth) (max t.longer (if stake then 0 else times.longer) + 1)
 
 -- the patience has passed so many times
 abbrev pub Ticks : Ticking → ℕ → ℕ → Times → Bool → Type 0
-Ticks t now patience times gives_way =
-    (since : ℕ) × (t.since ≡ Some since) × (patience * waited t times gives_way ≤ now - since)
-
--- a server gives way where another one's attempt stands at the first unknown instance, and it has nothing to
--- decide there
-abbrev pub gives_way : Option ℕ → ℕ → Bool → Bool
-gives_way None me stake = false
-gives_way (Some q) me stake = not (nat_eq q me) && not stake
+Ticks t now patience times stake =
+    (since : ℕ) × (t.since ≡ Some since) × (patience * waited t times stake ≤ now - since)
 
 -- A tick was in vain where a majority answered since, and nothing became known before the next one: behind
 -- each of a row it waits longer. One that no majority answered ends the row
@@ -285,7 +279,7 @@ pub record IsDue (p : Pace) (now : ℕ) (seen : Seen) (tries : Option ℕ) (bloc
   pub told : due.telling ≡ telling
   pub question : IsTrue due.question ↔ Asks (asking_of p.last p.times now seen p.empty (awaits (noted p.ticking now seen)))
   pub tick : IsTrue due.tick
-      ↔ Ticks (noted p.ticking now seen) now p.patience p.times (gives_way tries p.me seen.stake)
+      ↔ Ticks (noted p.ticking now seen) now p.patience p.times seen.stake
   pub answered : IsTrue due.answered ↔ IsAnswered p
   pub goes_on : IsTrue due.goes_on ↔ GoesOn (noted p.ticking now seen)
   pub waits : IsTrue due.waits ↔ Waits (noted_tries p.yielding now tries) p.me

@@ -1,9 +1,9 @@
 //! What a server sees of its node.
 
-ghost use Rattle.std.specs.Prelude.{◌≡◌, ◌↔◌, suc, IsTrue};
+ghost use Rattle.std.specs.Prelude.{◌↔◌, suc, IsTrue};
 ghost use Rattle.node.specs.Nodes.{Node as AbstractNode};
 ghost use Rattle.node.specs.Standing.{IsNodeOf};
-ghost use Rattle.server_pace.specs.Pacing.{gives_way, HasStake, HasVoted, IsIdle, IsSeen, IsTriedBy, IsVotedBy, Resumes};
+ghost use Rattle.server_pace.specs.Pacing.{HasStake, HasVoted, IsIdle, IsSeen, IsTriedBy, IsVotedBy, Resumes};
 
 use node::Node;
 use site_disk::Disk;
@@ -59,18 +59,7 @@ fn has_voted<D: Disk>(node: &Node<D>, known: u32) -> bool
 fn has_stake<D: Disk>(node: &Node<D>, known: u32) -> bool
     ensures { (s : AbstractNode) → IsNodeOf node.now s → IsTrue result ↔ HasStake s (suc known) }
 {
-    node.has_pending() || has_voted(node, known)
-}
-
-/// Whether a server gives way: the attempt of another one stands at the first unknown instance, and this one has
-/// nothing to decide there. The other one may be far away, so it is given more time.
-pub(crate) fn gives_way(tries: &Option<NodeId>, me: NodeId, stake: bool) -> bool
-    ensures { result ≡ gives_way tries.now me stake }
-{
-    match tries {
-        Some(other) => other.number() != me.number() && !stake,
-        None => false,
-    }
+    node.has_pending()
 }
 
 /// Whether it has no attempt open.

@@ -59,12 +59,12 @@ impl Ticking {
 
     /// What stands now that so much is seen. The patience begins anew with news; ticks in vain are forgotten
     /// where news came without a tick that was due.
-    pub fn noted(self, now: u64, seen: Seen) -> Ticking
+    pub fn noted(self, now: u64, seen: Seen, stirred: bool) -> Ticking
         ensures { result ≡ noted self now seen }
     {
         if seen.known == self.known {
             return Ticking {
-                since: seen.wanted.then_some(self.since.unwrap_or(now)),
+                since: if !seen.stake && stirred { seen.wanted.then_some(now) } else { seen.wanted.then_some(self.since.unwrap_or(now)) },
                 ..self
             };
         }
@@ -79,21 +79,21 @@ impl Ticking {
     }
 
     /// How many times the patience is waited: once more after each tick, up to a number of times; or longer,
-    /// without a bound, after ticks in vain, and at least so much longer while the server gives way.
-    fn waited(self, times: Times, gives_way: bool) -> u64
-        ensures { result ≡ waited self times gives_way }
+    /// without a bound, after ticks in vain, and at least so much longer by a server that has nothing to decide.
+    fn waited(self, times: Times, stake: bool) -> u64
+        ensures { result ≡ waited self times stake }
     {
         let tries = u64::from(self.ticks.saturating_add(1).min(times.growth));
-        let least = if gives_way { times.longer } else { 0 };
+        let least = if stake { 0 } else { times.longer };
         tries.max(u64::from(self.longer.max(least)) + 1)
     }
 
-    /// Whether a tick has been wanted for so long that it is due: so many times this patience. The server gives
-    /// way, or it does not (`gives_way`).
-    pub fn is_due(self, now: u64, patience: u64, times: Times, gives_way: bool) -> bool
-        ensures { IsTrue result ↔ Ticks self now patience times gives_way }
+    /// Whether a tick has been wanted for so long that it is due: so many times this patience. The server has
+    /// something to decide, or it has not (`stake`).
+    pub fn is_due(self, now: u64, patience: u64, times: Times, stake: bool) -> bool
+        ensures { IsTrue result ↔ Ticks self now patience times stake }
     {
-        let waited = self.waited(times, gives_way);
+        let waited = self.waited(times, stake);
         match (self.since, patience.checked_mul(waited)) {
             (Some(since), Some(millis)) => now.saturating_sub(since) >= millis,
             _ => false,
