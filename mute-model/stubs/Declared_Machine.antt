@@ -1,0 +1,3 @@
+pub data Machine : Type 0 where
+  Open : Machine
+  Bare : Machine
