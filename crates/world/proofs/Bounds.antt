@@ -15,7 +15,7 @@ use Rattle.world.proofs.Invariant.{IsSpent}
 use Rattle.world.proofs.Growing.{sound}
 use Rattle.world.specs.Quiet.{IsQuiet}
 
-last_within : (r : ℕ) (es : List Entry) → round_after r es ≤ max r (greatest_round es)
+pub last_within : (r : ℕ) (es : List Entry) → round_after r es ≤ max r (greatest_round es)
 last_within r [] = omega arith
 last_within r (Round s ∷ es) = let h = last_within s es in omega (arith, h)
 last_within r (Promised i b ∷ es) = let h = last_within r es in omega (arith, h)

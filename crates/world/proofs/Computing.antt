@@ -221,15 +221,23 @@ others p zero = []
 others p (suc n) = elim (nat_eq (suc n) p) [ true ↦ others p n | false ↦ suc n ∷ others p n ]
 
 abbrev pub AllAbove : WorldBy → ℕ → List ℕ → Type 0
-AllAbove w floor qs = (q : ℕ) → In qs q → reach_of (find w.nodes q).entries + MAX_ATTEMPTS ≤ floor
+AllAbove w floor qs = (q : ℕ) → In qs q → ((find w.nodes q).mode ≢ Down) × (reach_of (find w.nodes q).entries + MAX_ATTEMPTS ≤ floor)
+
+pub down_is_down : ¬ (Down ≢ Down)
+down_is_down other = other refl
+
+abbrev pub not_down : (m : Mode) → Told (m ≢ Down)
+not_down Up = inl (up_not_down Up refl)
+not_down Stopped = inl (stopped_not_down Stopped refl)
+not_down Down = inr down_is_down
 
 abbrev pub all_above : (w : WorldBy) (floor : ℕ) (qs : List ℕ) → Told (AllAbove w floor qs)
 all_above w floor [] = inl (λ q k. absurd k)
-all_above w floor (p ∷ qs) = elim (no_more (reach_of (find w.nodes p).entries + MAX_ATTEMPTS) floor) [
+all_above w floor (p ∷ qs) = elim (both (not_down (find w.nodes p).mode) (no_more (reach_of (find w.nodes p).entries + MAX_ATTEMPTS) floor)) [
   | inr low ↦ inr (λ all. low (all p (inl refl)))
   | inl here ↦ elim (all_above w floor qs) [
     | inr low ↦ inr (λ all. low (λ q k. all q (inr k)))
-    | inl later ↦ inl (λ q k. ⊎_elim (λ (same : p ≡ q). subst (λ r. reach_of (find w.nodes r).entries + MAX_ATTEMPTS ≤ floor) same here) (λ k. later q k) k)
+    | inl later ↦ inl (λ q k. ⊎_elim (λ (same : p ≡ q). subst (λ r. ((find w.nodes r).mode ≢ Down) × (reach_of (find w.nodes r).entries + MAX_ATTEMPTS ≤ floor)) same here) (λ k. later q k) k)
   ]
 ]
 
@@ -240,7 +248,8 @@ replaces n w p floor asked node instance many above = record {
     instance = instance;
     asked = asked;
     majority = many;
-    above = λ q k. subst (λ (s : Node). reach_of s.entries + MAX_ATTEMPTS ≤ floor) (found w.nodes q) (above q k);
+    answers = λ q k. subst (λ (s : Node). s.mode ≢ Down) (found w.nodes q) (above q k).0;
+    above = λ q k. subst (λ (s : Node). reach_of s.entries + MAX_ATTEMPTS ≤ floor) (found w.nodes q) (above q k).1;
   };
   becomes = moves n w p (opened_by Down (Floor floor ∷ []) None) [] node;
 }

@@ -49,6 +49,7 @@ pub mod Stretching
 mod Firsts
 mod AllQuiet
 mod Overbidders
+mod AllowedFloors
 mod Pushing
 mod QuietPlans
 pub mod QuietWorked
