@@ -12,7 +12,7 @@ use Rattle.durable.specs.Batches.{IsBatchOpen, IsStaged, IsAhead, IsNoneOrAll, K
 use Rattle.durable.specs.declared.record.Record.{Record}
 use Rattle.durable.specs.declared.recorded.Recorded.{Recorded}
 use Rattle.durable.specs.declared.staged.Staged.{Staged}
-use Rattle.durable.proofs.Kept.{kept_same}
+use Rattle.durable.proofs.Kept.{kept_same, roomy_kept}
 use Rattle.durable.proofs.Moments.{started, weaker}
 use Rattle.durable.proofs.Push.{history-push}
 use Rattle.durable.proofs.Stand.{closed_there, still_stands, file_front, blocks-push, blocks-append}
@@ -74,7 +74,7 @@ still_ahead stands_for old new d earlier batch unchanged ahead =
     subst (λ r. IsAhead stands_for r d earlier batch) (sym unchanged.same)
     (record {
       staged = record { stands = has.stands; settled = has.settled; reads = has.reads; history = has.history; waiting = unchanged.staged ∙ has.waiting; base = λ some. unchanged.base ∙ has.base some; gate = has.gate; running = has.running };
-      kept = kept_same (earlier ++ batch) old.recorded recorded (record { round = refl; greatest = refl; slots = unchanged.slots }) ahead.kept;
+      kept = kept_same (earlier ++ batch) old.recorded recorded (roomy_kept old.recorded _ unchanged.slots) ahead.kept;
     })
 
 -- an entry's bytes were taken in

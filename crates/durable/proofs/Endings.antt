@@ -48,6 +48,8 @@ module _ {D : Type 0} (stands_for : D → DiskState → Type 0) (failed : D → 
         round = ap (λ (x : Recorded). x.round) writes.recorded;
         greatest = ap (λ (x : Recorded). x.greatest) writes.recorded;
         slots = λ i. ap (λ (x : Recorded). cell_at x.slots i) writes.recorded ∙ same_slots i;
+        floor = ap (λ (x : Recorded). x.floor) writes.recorded;
+        reach = ap (λ (x : Recorded). x.reach) writes.recorded;
       }
 
       more : (entries : List Entry) → IsKept entries old.recorded → IsKept (entries ++ entry ∷ []) r

@@ -1,8 +1,8 @@
 -- Records of files, computed from the definitions.
-use Rattle.std.proofs.Common.{◌≡◌, ℕ, List, [], ◌∷◌, ◌++◌, Option, Some, None, ⊎_elim, refl, sym, subst, arith, codes}
+use Rattle.std.proofs.Common.{◌≡◌, ℕ, List, [], ◌∷◌, ◌++◌, Option, Some, None, ⊎_elim, length, refl, sym, ap, subst, arith, codes}
 use Rattle.site_ids.specs.Ids.{BallotOf}
 use Rattle.site_ids.specs.declared.value.Vote.{Vote}
-use Rattle.durable.specs.Entries.{Entry, Round, Promised, Voted, Learned, last_round, last_vote, learned_at, Raises}
+use Rattle.durable.specs.Entries.{Entry, Round, Promised, Voted, Learned, Floor, last_round, last_vote, learned_at, floor_of, reach_of, Raises}
 use Rattle.durable.specs.Histories.{IsHistory}
 use Rattle.durable.specs.Spelling.{head, blocks}
 use Rattle.durable.specs.Standing.{StandsFor}
@@ -49,6 +49,20 @@ voted_later = history-push 3 (Learned 1 (7 ∷ []) ∷ []) (Voted 1 (at 1 1) (8 
     no_vote_yet : (vote : Vote) → ◌≡◌ {A = Option Vote} None (Some vote) → ⊥
     no_vote_yet vote e = cc
 
+-- node 2 of 3 took the place of a lost one: its floor is 65
+abbrev floor_record : List ℕ
+floor_record = 83 ∷ 73 ∷ 84 ∷ 69 ∷ 82 ∷ 69 ∷ 67 ∷ 49 ∷ 2 ∷ 3 ∷ 1 ∷ 0 ∷ 0 ∷ 0 ∷ 5 ∷ 5 ∷ 0 ∷ 0 ∷ 0 ∷ 65 ∷ 0 ∷ []
+
+floor_alone : IsHistory 3 (Floor 65 ∷ [])
+floor_alone = history-push 3 [] (Floor 65) (history-none 3) (record { in_range = (omega arith, omega arith); advances = refl })
+
+floor_stands : StandsFor 2 3 floor_record (Floor 65 ∷ [])
+floor_stands = record { history = floor_alone; gate = 0; rest = []; closed = λ one. omega (arith, one); layout = refl }
+
+-- a floor behind another entry is no floor, but damage
+late_floor : ¬ IsHistory 3 (Round 1 ∷ Floor 65 ∷ [])
+late_floor history = omega (arith, ap length (history (Round 1 ∷ []) (Floor 65) [] refl).advances)
+
 -- a vote promises its ballot, and the last one counts; what is learned does neither
 abbrev entries : List Entry
 entries = Round 4 ∷ Promised 1 (at 1 1) ∷ Voted 1 (at 1 3) (7 ∷ []) ∷ Voted 2 (at 1 1) [] ∷ Voted 1 (at 2 1) (8 ∷ []) ∷ Learned 1 (9 ∷ []) ∷ Round 5 ∷ []
@@ -67,3 +81,19 @@ its_value = refl
 
 no_value : learned_at 2 entries ≡ None
 no_value = refl
+
+its_reach : reach_of entries ≡ 2
+its_reach = refl
+
+no_floor : floor_of entries ≡ 0
+no_floor = refl
+
+-- a floor reaches to itself, a vote above it further; what is learned reaches nowhere
+abbrev above : List Entry
+above = Floor 65 ∷ Learned 70 (9 ∷ []) ∷ Voted 66 (at 1 1) (7 ∷ []) ∷ []
+
+reach_above : reach_of above ≡ 66
+reach_above = refl
+
+floor_below : floor_of above ≡ 65
+floor_below = refl

@@ -1,5 +1,5 @@
 -- A record before and after an entry is appended.
-use Rattle.std.proofs.Common.{◌≡◌, ℕ, ◌+◌, List, [], ◌∷◌, ◌++◌, Some, false, length, refl, sym, ◌∙◌, ap, subst, arith, length-append}
+use Rattle.std.proofs.Common.{◌≡◌, ℕ, ◌+◌, List, [], ◌∷◌, ◌++◌, Some, false, length, sym, ◌∙◌, ap, subst, arith, length-append}
 use Rattle.site_disk.specs.Model.{DiskState, LeavesOnly}
 use Rattle.durable.specs.Append.{IsSettled, IsOpenAt, IsAppendedOrNot}
 use Rattle.durable.specs.Entries.{Entry}
@@ -10,7 +10,7 @@ use Rattle.durable.specs.Keeping.{IsFound, Keeps}
 use Rattle.durable.specs.Ready.{IsStored, IsReady, IsUnchanged}
 use Rattle.durable.specs.declared.record.Record.{Record}
 use Rattle.durable.specs.declared.recorded.Recorded.{Recorded}
-use Rattle.durable.proofs.Kept.{kept_same}
+use Rattle.durable.proofs.Kept.{kept_same, roomy_kept}
 use Rattle.durable.proofs.Moments.{weaker}
 use Rattle.durable.proofs.Push.{history-push}
 use Rattle.durable.proofs.Stand.{blocks-push, with_or_without, then_stands}
@@ -29,7 +29,7 @@ still_ready stands_for old new d entries unchanged ready =
     subst (λ r. IsReady stands_for r d entries) (sym unchanged.same)
     (record {
       stored = record { stands = has.stands; settled = has.settled; reads = has.reads; gate = has.gate; running = has.running; none_staged = unchanged.staged ∙ has.none_staged };
-      kept = kept_same entries old.recorded recorded (record { round = refl; greatest = refl; slots = unchanged.slots }) ready.kept;
+      kept = kept_same entries old.recorded recorded (roomy_kept old.recorded _ unchanged.slots) ready.kept;
     })
 
 module _ {D : Type 0} (stands_for : D → DiskState → Type 0) (old : Record D) (d : DiskState) (entries : List Entry) (stored : IsStored stands_for old d entries) (entry : Entry) (follows : MayFollow old.cluster entries entry) where

@@ -12,6 +12,7 @@ pub data Entry : Type 0 where
   PromisedSpan : (first : ℕ) (count : ℕ) (ballot : BallotOf) → Entry
   Voted : (instance : ℕ) (ballot : BallotOf) (value : List ℕ) → Entry
   Learned : (instance : ℕ) (value : List ℕ) → Entry
+  Floor : (floor : ℕ) → Entry
 
 -- the last round of the entries, or else r
 abbrev pub round_after : ℕ → List Entry → ℕ
@@ -21,6 +22,7 @@ round_after r (Promised i b ∷ es) = round_after r es
 round_after r (PromisedSpan i k b ∷ es) = round_after r es
 round_after r (Voted i b v ∷ es) = round_after r es
 round_after r (Learned i v ∷ es) = round_after r es
+round_after r (Floor f ∷ es) = round_after r es
 
 -- the last round, 0 where there is none
 abbrev pub last_round : List Entry → ℕ
@@ -34,6 +36,7 @@ vote_after i last (Promised j b ∷ es) = vote_after i last es
 vote_after i last (PromisedSpan j k b ∷ es) = vote_after i last es
 vote_after i last (Voted j b v ∷ es) = vote_after i (if nat_eq j i then Some (record { ballot = b; value = v }) else last) es
 vote_after i last (Learned j v ∷ es) = vote_after i last es
+vote_after i last (Floor f ∷ es) = vote_after i last es
 
 -- the last vote at the instance, none where there is none
 abbrev pub last_vote : ℕ → List Entry → Option Vote
@@ -47,6 +50,7 @@ learned_at i (Promised j b ∷ es) = learned_at i es
 learned_at i (PromisedSpan j k b ∷ es) = learned_at i es
 learned_at i (Voted j b v ∷ es) = learned_at i es
 learned_at i (Learned j v ∷ es) = if nat_eq j i then Some v else learned_at i es
+learned_at i (Floor f ∷ es) = learned_at i es
 
 -- the round that an entry records or promises, 0 where it does neither
 abbrev pub round_in : Entry → ℕ
@@ -55,11 +59,32 @@ round_in (Promised i b) = b.round
 round_in (PromisedSpan i k b) = b.round
 round_in (Voted i b v) = b.round
 round_in (Learned i v) = 0
+round_in (Floor f) = 0
 
 -- the greatest round that the entries record or promise, 0 where there are none
 abbrev pub greatest_round : List Entry → ℕ
 greatest_round [] = 0
 greatest_round (e ∷ es) = max (round_in e) (greatest_round es)
+
+-- The floor of a record that took the place of a lost one: of instances up to it nobody knows what the lost record promised and voted for.
+-- It is the first entry; 0 where that is another, or none
+abbrev pub floor_of : List Entry → ℕ
+floor_of (Floor f ∷ es) = f
+floor_of es = 0
+
+-- how far an entry reaches: a vote to its instance, a floor to itself, any other to none
+abbrev pub reach_in : Entry → ℕ
+reach_in (Round r) = 0
+reach_in (Promised i b) = 0
+reach_in (PromisedSpan i k b) = 0
+reach_in (Voted i b v) = i
+reach_in (Learned i v) = 0
+reach_in (Floor f) = f
+
+-- how far the entries reach: the greatest instance of a vote, or the floor where that is greater; 0 where there are neither
+abbrev pub reach_of : List Entry → ℕ
+reach_of [] = 0
+reach_of (e ∷ es) = max (reach_in e) (reach_of es)
 
 -- the entry promises this ballot at the instance. Where a higher one is promised there, it raises nothing
 abbrev pub Raises : Entry → ℕ → BallotOf → Type 0
@@ -68,6 +93,7 @@ Raises (Promised j c) i b = (j ≡ i) × (c ≡ b)
 Raises (PromisedSpan j k c) i b = IsInSpan j k i × (c ≡ b)
 Raises (Voted j c v) i b = (j ≡ i) × (c ≡ b)
 Raises (Learned j v) i b = ⊥
+Raises (Floor f) i b = ⊥
 
 -- the greatest ballot among the promises and votes at the instance
 abbrev pub IsPromise : List Entry → ℕ → Option BallotOf → Type 0

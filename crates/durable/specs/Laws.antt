@@ -1,11 +1,12 @@
 -- What holds of files and disks that keep a record.
-use Rattle.std.specs.Prelude.{◌≡◌, ◌⊎◌, ℕ, Option, None, List, ◌++◌}
+use Rattle.std.specs.Prelude.{◌≡◌, ◌⊎◌, ℕ, Option, None, List, [], ◌∷◌, ◌++◌}
 use Rattle.site_disk.specs.Model.{DiskState, Moment, MayLeave, LeavesOnly, moment, at_rest, after_sync}
 use Rattle.durable.specs.Append.{IsSettled}
-use Rattle.durable.specs.Entries.{Entry}
+use Rattle.durable.specs.Entries.{Entry, Floor}
 use Rattle.durable.specs.Standing.{StandsFor, IsNoRecord, IsOfAnother, IsDamaged}
 use Rattle.durable.specs.Keeping.{Settles, IsFound, Keeps}
 use Rattle.durable.specs.Batches.{IsNoneOrAll, KeepsNoneOrAll}
+use Rattle.durable.specs.Formatting.{IsNoneOrFloor}
 
 -- a file stands for one list of entries at most
 abbrev pub OneList : Type 0
@@ -54,3 +55,7 @@ SyncKeepsBatch = (node cluster : ℕ) (earlier batch : List Entry) (d : DiskStat
 abbrev pub NeverRefusedBatch : Type 0
 NeverRefusedBatch = (node cluster : ℕ) (earlier batch : List Entry) (d : DiskState) → KeepsNoneOrAll node cluster earlier batch d
     → (¬ IsNoRecord d.seen) × (¬ IsOfAnother node cluster d.seen) × (¬ IsDamaged node cluster d.seen)
+
+-- what a format above a floor may leave stands for the floor alone, or for nothing: never for a record without one
+abbrev pub FloorStays : Type 0
+FloorStays = (node cluster floor : ℕ) (file : List ℕ) (entries : List Entry) → IsNoneOrFloor node cluster floor file → StandsFor node cluster file entries → entries ≡ Floor floor ∷ []

@@ -6,7 +6,7 @@ use Rattle.acceptor.specs.Steps.{with_promise, with_vote}
 use Rattle.site_ids.specs.Spans.{IsInSpan}
 use Rattle.durable.specs.Append.{IsOpenAt}
 use Rattle.durable.specs.Raising.{IsRaised}
-use Rattle.durable.specs.Entries.{Entry, Round, Promised, PromisedSpan, Voted, Learned, round_after, round_in}
+use Rattle.durable.specs.Entries.{Entry, Round, Promised, PromisedSpan, Voted, Learned, Floor, round_after, round_in, floor_of, reach_in}
 use Rattle.durable.specs.Histories.{MayFollow}
 use Rattle.durable.specs.Spelling.{block, behind_gate}
 use Rattle.durable.specs.Keeping.{IsFound, Keeps}
@@ -35,18 +35,23 @@ AreSlotsAfter (Promised j b) old new = (cell_at new j ≡ record (cell_at old j)
 AreSlotsAfter (PromisedSpan j k b) old new = ((i : ℕ) → IsInSpan j k i → IsRaised (slot_at old i) b (slot_at new i) × (value_at new i ≡ value_at old i)) × ((i : ℕ) → ¬ IsInSpan j k i → cell_at new i ≡ cell_at old i)
 AreSlotsAfter (Voted j b v) old new = (cell_at new j ≡ record (cell_at old j) { slot = with_vote b v }) × AreOthersKept j old new
 AreSlotsAfter (Learned j v) old new = (cell_at new j ≡ record (cell_at old j) { learned = Some v }) × AreOthersKept j old new
+AreSlotsAfter (Floor f) old new = AreSlotsKept old new
 
 -- what is kept in memory after one entry more
 pub record Remembers (old new : Recorded) (entry : Entry) : Type 0 where
   pub round : new.round ≡ round_after old.round (entry ∷ [])
   pub greatest : new.greatest ≡ max old.greatest (round_in entry)
   pub slots : AreSlotsAfter entry old.slots new.slots
+  pub floor : new.floor ≡ max old.floor (floor_of (entry ∷ []))
+  pub reach : new.reach ≡ max old.reach (reach_in entry)
 
 -- what is kept in memory is as before
 pub record IsMemoryKept (old new : Recorded) : Type 0 where
   pub round : new.round ≡ old.round
   pub greatest : new.greatest ≡ old.greatest
   pub slots : AreSlotsKept old.slots new.slots
+  pub floor : new.floor ≡ old.floor
+  pub reach : new.reach ≡ old.reach
 
 -- The bytes were appended behind the gate. Where they are an entry's, the file stands for it too, after two writes and two syncs, and a crash at
 -- any moment since then leaves the entries, with it or without it.

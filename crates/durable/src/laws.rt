@@ -1,4 +1,4 @@
-ghost use Rattle.durable.specs.Laws.{OneList, SettledKeeps, CrashSettles, OpeningSettles, SyncKeeps, NeverRefused, OpeningSettlesBatch, CrashSettlesBatch, SyncKeepsBatch, NeverRefusedBatch};
+ghost use Rattle.durable.specs.Laws.{OneList, SettledKeeps, CrashSettles, OpeningSettles, SyncKeeps, NeverRefused, FloorStays, OpeningSettlesBatch, CrashSettlesBatch, SyncKeepsBatch, NeverRefusedBatch};
 
 /// A file stands for one list of entries at most.
 pub fn files_stand_for_one_list()
@@ -26,4 +26,9 @@ pub fn batches_settle()
     ensures crash { CrashSettlesBatch }
     ensures sync { SyncKeepsBatch }
     ensures refused { NeverRefusedBatch }
+{}
+
+/// What a format above a floor leaves, whole or cut short, is opened with that floor and nothing else, or not at all.
+pub fn floors_stay()
+    ensures { FloorStays }
 {}

@@ -1,9 +1,11 @@
-//! A node's record: its rounds, promises, votes and learned values, each on the disk before it is acknowledged.
+//! A node's record: its rounds, promises, votes and learned values, each on the disk before it is acknowledged. A record
+//! that takes the place of a lost one has a floor, too.
 #![tactic(auto)]
 
 mod append;
 mod batch;
 mod fault;
+mod formatting;
 mod laws;
 mod parsing;
 mod puts;
@@ -15,5 +17,7 @@ mod spelling;
 mod staged;
 
 pub use fault::RecordFault;
-pub use laws::{batches_settle, files_stand_for_one_list, in_flight_settles, kept_records_open};
+pub use laws::{
+    batches_settle, files_stand_for_one_list, floors_stay, in_flight_settles, kept_records_open,
+};
 pub use record::Record;

@@ -20,6 +20,7 @@ pub(crate) enum EntryRef<'a> {
     PromisedSpan(Instance, u8, Ballot),
     Voted(Instance, Ballot, &'a [u8]),
     Learned(Instance, &'a [u8]),
+    Floor(Instance),
 }
 
 /// What stands at a gate.
@@ -120,6 +121,7 @@ fn entry_of(payload: &[u8], cluster: Cluster) -> Option<EntryRef<'_>>
             let (first, count, ballot) = span_of(span, cluster)?;
             Some(EntryRef::PromisedSpan(first, count, ballot))
         }
+        [5, floor @ ..] => Some(EntryRef::Floor(instance_of(floor)?)),
         [6, learned @ ..] => {
             if learned.len() < INSTANCE || INSTANCE + MAX_VALUE < learned.len() {
                 return None;

@@ -20,7 +20,7 @@ use site_disk::{Armed, Disk};
 use site_ids::{Cluster, Instance, MAX_RECORD, NodeId, Value};
 use std::alloc::Global;
 
-const MARK: [u8; 8] = *b"SITEREC1";
+pub(crate) const MARK: [u8; 8] = *b"SITEREC1";
 
 /// The record of one node: what its file records is kept in memory too.
 #[derive(Drop)]
@@ -151,6 +151,20 @@ impl<D: Disk> Record<D> {
         ensures { result ≡ self.now.recorded.greatest }
     {
         self.recorded.greatest
+    }
+
+    /// The floor of a record that took the place of a lost one, 0 where it took none's.
+    pub fn floor(&self) -> u32
+        ensures { result ≡ self.now.recorded.floor }
+    {
+        self.recorded.floor
+    }
+
+    /// How far it reaches: the greatest instance of a vote, or the floor where that is greater; 0 where there are neither.
+    pub fn reach(&self) -> u32
+        ensures { result ≡ self.now.recorded.reach }
+    {
+        self.recorded.reach
     }
 
     /// Whether the device failed in a put or a seal since the record was opened.

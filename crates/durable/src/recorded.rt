@@ -3,7 +3,7 @@
 //! The acceptor's judges say what an entry must advance, on reading too.
 
 ghost use Rattle.std.specs.Prelude.{◌≡◌, ℕ, []};
-ghost use Rattle.durable.specs.Entries.{Round, Promised, PromisedSpan, Voted, Learned};
+ghost use Rattle.durable.specs.Entries.{Round, Promised, PromisedSpan, Voted, Learned, Floor};
 ghost use Rattle.durable.specs.Raising.{IsSpanned};
 ghost use Rattle.site_ids.specs.Spans.{IsSpan, IsInSpan};
 
@@ -21,8 +21,15 @@ pub(crate) struct Recorded {
     pub(crate) round: u32,
     /// The greatest round that was recorded or promised.
     pub(crate) greatest: u32,
+    /// The floor, 0 where there is none.
+    pub(crate) floor: u32,
+    /// The greatest instance of a vote, or the floor where that is greater.
+    pub(crate) reach: u32,
     pub(crate) slots: Slots,
 }
+
+/// The gate behind the head: where it is the present one, there is no entry yet.
+pub(crate) const FIRST_GATE: u64 = 10;
 
 impl Recorded {
     ghost use Rattle.durable.specs.Puts.{Remembers};
@@ -35,9 +42,11 @@ impl Recorded {
         ensures kept { IsKept [] result }
     {
         Recorded {
-            gate: 10,
+            gate: FIRST_GATE,
             round: 0,
             greatest: 0,
+            floor: 0,
+            reach: 0,
             slots: Slots::new(alloc),
         }
     }
@@ -79,6 +88,7 @@ impl Recorded {
         ensures gate { self.new.gate ≡ self.old.gate }
     {
         self.greatest = self.greatest.max(vote.ballot.round());
+        self.reach = self.reach.max(instance.number());
         self.slots.vote(instance, vote);
     }
 
@@ -89,6 +99,15 @@ impl Recorded {
         ensures gate { self.new.gate ≡ self.old.gate }
     {
         self.slots.learn(instance, value);
+    }
+
+    /// Keeps a floor.
+    fn keep_floor(&mut self, floor: Instance)
+        ensures remembers { Remembers self.old self.new (Floor floor) }
+        ensures gate { self.new.gate ≡ self.old.gate }
+    {
+        self.floor = self.floor.max(floor.number());
+        self.reach = self.reach.max(floor.number());
     }
 
     /// Takes one entry more, if it advances those before it.
@@ -104,6 +123,7 @@ impl Recorded {
                 self.take_vote(alloc, instance, ballot, value)
             }
             EntryRef::Learned(instance, value) => self.take_learned(alloc, instance, value),
+            EntryRef::Floor(floor) => self.take_floor(floor),
         }
     }
 
@@ -172,6 +192,16 @@ impl Recorded {
         let value = Value::copied_from(alloc, value)?;
         self.slots.make_room(instance)?;
         self.keep_learned(instance, value);
+        Ok(())
+    }
+
+    fn take_floor(&mut self, floor: Instance) -> Result<(), RecordFault>
+        ensures { Takes (Floor floor) self.old self.new result }
+    {
+        if self.gate != FIRST_GATE {
+            return Err(RecordFault::Damaged);
+        }
+        self.keep_floor(floor);
         Ok(())
     }
 }

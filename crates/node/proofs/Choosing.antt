@@ -9,7 +9,7 @@ use Rattle.site_ids.specs.Ids.{IsInstance}
 use Rattle.site_ids.proofs.MemberLemmas.{in_get}
 use Rattle.proposer.specs.Attempts.{Attempt}
 use Rattle.node.specs.declared.queue.Waiting.{Waiting}
-use Rattle.node.specs.Nodes.{Value, Node, IsUnknown, IsFirstUnknown}
+use Rattle.node.specs.Nodes.{Value, Node, IsUnknown, IsFirstUnknown, IsMute}
 use Rattle.node.specs.Calls.{IsFree, IsNextFree, IsTried, IsUntried, AreUntried, IsNextSpan}
 use Rattle.node.specs.Tidy.{IsTidy}
 use Rattle.node.specs.Waiting.{AreWaiting}
@@ -35,14 +35,19 @@ one_more_not_free s first past none here j from below free = ⊎_elim
     (λ less. none j from less free)
     (last_or_not j (first + past) (omega (arith, below)))
 
-pub next_found : (s : Node) (first past i : ℕ) → IsFirstUnknown s.known first → NoneFree s first past → past < 64 → i ≡ first + past → IsFree s i → IsNextFree s i
-next_found s first past i is none near at free = record {
+pub next_found : (s : Node) (first past i : ℕ) → IsFirstUnknown s.known first → ¬ IsMute s first → NoneFree s first past → past < 64 → i ≡ first + past → IsFree s i → IsNextFree s i
+next_found s first past i is not_mute none near at free = record {
   first = first;
   is_first = is;
+  not_mute = not_mute;
   near = omega (arith, at, near);
   free = free;
   least = λ j other. ⊎_elim (λ less. absurd (none j (from_first s.known first j is other.instance other.unknown) (omega (arith, less, at)) other)) (λ more. more) (order j i);
 }
+
+-- a node that is mute there takes none
+pub mute_takes_none : (s : Node) (first : ℕ) → IsFirstUnknown s.known first → IsMute s first → (i : ℕ) → ¬ IsNextFree s i
+mute_takes_none s first is mute i next = next.not_mute (subst (IsMute s) (sym (one_first s.known first next.first is next.is_first)) mute)
 
 -- there is none further
 pub no_next : (s : Node) (first past : ℕ) → IsFirstUnknown s.known first → NoneFree s first past → ((j : ℕ) → IsInstance j → j < first + 64 → j < first + past) → (i : ℕ) → ¬ IsNextFree s i

@@ -17,6 +17,7 @@ pub mod Stepping
 pub mod Sealing
 pub mod DeviceCounts
 pub mod Opening
+pub mod Muting
 pub mod Preparing
 pub mod Judging
 pub mod KnownValues

@@ -1,5 +1,5 @@
 -- At a node that runs no call is stuck.
-use Rattle.std.proofs.Common.{◌≡◌, ◌≢◌, ◌⊎◌, inl, inr, ⊎_elim, ℕ, zero, suc, ◌+◌, ◌<◌, ◌≤◌, max, Option, Some, None, Result, Ok, Err, List, [], ◌∷◌, ◌++◌, length, length-append, append_assoc, refl, sym, ap, subst, ◌∙◌, arith}
+use Rattle.std.proofs.Common.{◌≡◌, ◌≢◌, ◌⊎◌, inl, inr, ⊎_elim, ℕ, zero, suc, ◌+◌, ◌<◌, ◌≤◌, max, Option, Some, None, Result, Ok, Err, List, [], ◌∷◌, ◌++◌, length, length-append, append_assoc, map, refl, sym, ap, subst, ◌∙◌, arith}
 use Rattle.site_ids.specs.Ids.{BallotOf, Below, NotAbove, IsInstance}
 use Rattle.site_ids.specs.Lists.{In}
 use Rattle.site_ids.specs.Spans.{IsInSpan}
@@ -15,7 +15,7 @@ use Rattle.acceptor.specs.declared.judging.PrepareVerdict.TheVariants as to_prep
 use Rattle.acceptor.specs.declared.judging.ProposeVerdict.{ProposeVerdict}
 use Rattle.acceptor.specs.declared.judging.ProposeVerdict.TheVariants as to_proposal
 use Rattle.acceptor.specs.Judging.{IsFreeAt, IsVotedAt, IsVotedFor, JudgesPrepare, JudgesProposal}
-use Rattle.durable.specs.Entries.{Entry, Round, Promised, PromisedSpan, Voted, Learned, Raises, IsPromise, IsSlot, last_vote, promise_of}
+use Rattle.durable.specs.Entries.{Entry, Round, Promised, PromisedSpan, Voted, Floor, Learned, Raises, IsPromise, IsSlot, last_vote, promise_of, floor_of}
 use Rattle.command.specs.Action.{Order}
 use Rattle.command.specs.Reading.{value_reading}
 use Rattle.command.specs.declared.fault.CommandFault.{CommandFault}
@@ -24,19 +24,21 @@ use Rattle.proposer.specs.Attempts.{Answer, Attempt, senders, Counts, with_answe
 use Rattle.proposer.specs.Best.{IsBest, value_by}
 use Rattle.proposer.proofs.BestLemmas.{best_chooses}
 use Rattle.node.specs.declared.fault.NodeFault.TheVariants as fault
-use Rattle.node.specs.Nodes.{Value, Node, IsKnown, IsFirstUnknown, AllKnown}
+use Rattle.node.specs.Nodes.{Value, Node, IsKnown, IsFirstUnknown, AllKnown, IsMute, OnlyLearns}
 use Rattle.node.specs.Tickets.{IsHeld}
-use Rattle.node.specs.Effects.{quiet, learned}
-use Rattle.node.specs.Deliveries.{Judged, AreJudged, reached_by, with_vote}
-use Rattle.node.specs.Calls.{submit, tick, widen, ask, tell, deliver, fresh_ballot, HasRound, oldest, IsFree, IsNextFree, IsTried, AreUntried, IsNextSpan, MayWiden, queued, keep, MayKeep}
+use Rattle.node.specs.Effects.{quiet, says, learned}
+use Rattle.node.specs.Deliveries.{Judged, AreJudged, span_out, reached_by, with_vote}
+use Rattle.node.specs.Calls.{submit, tick, widen, ask, tell, deliver, fresh_ballot, HasRound, oldest, IsFree, IsNextFree, IsTried, AreUntried, IsNextSpan, MayWiden, queued, resent, keep, MayKeep}
+use Rattle.node.specs.declared.to.To.TheVariants.{All}
+use Rattle.node.specs.Beginning.{begun}
 use Rattle.node.specs.Tellings.{tells}
 use Rattle.node.specs.Tidy.{IsTidy}
 use Rattle.node.specs.Stuck.{IsStuck, NeverStuck}
-use Rattle.node.proofs.Gaps.{not_all_known}
+use Rattle.node.proofs.Gaps.{not_all_known, one_first}
 use Rattle.node.proofs.Windows.{untried_stays}
 use Rattle.node.proofs.SendingAgain.{open_past, all_in_window}
 use Rattle.node.proofs.FreshAttempts.{ticks, begins}
-use Rattle.node.proofs.Verdicts.{judged_as, steps_so, changes_or_not, proposes}
+use Rattle.node.proofs.Verdicts.{proposal_effect, judged_as, steps_so, changes_or_not, proposes}
 
 -- against a contradiction anything holds or does not
 cases : {P : Type 0} → ((P ⊎ (¬ P)) → ⊥) → ⊥
@@ -78,6 +80,7 @@ raised (Round r) i = inr (λ c k. k)
 raised (Promised j b) i = raised_at (Promised j b) j i b (λ c r. r) (λ is. (is, refl))
 raised (PromisedSpan j k b) i = ⊎_elim (λ within. inl (b, (within, refl), λ c r. r.1)) (λ outside. inr (λ c r. outside r.0)) (in_span j k i)
 raised (Voted j b v) i = raised_at (Voted j b v) j i b (λ c r. r) (λ is. (is, refl))
+raised (Floor f) i = inr (λ c k. k)
 raised (Learned j v) i = inr (λ c k. k)
 
 abbrev Promises : List Entry → ℕ → Type 0
@@ -265,15 +268,28 @@ on_chosen n p s q i v stuck =
     (λ unknown. stuck.no_effect (quiet (learned t i v)) (inl (unknown, refl)))
     (given (s.known i))
 
+mute_or_not : (i floor : ℕ) → (i ≤ floor) ⊎ (¬ (i ≤ floor))
+mute_or_not i floor = grind arith
+
 on_message : (n p : ℕ) (s : Node) (m : Message) → IsStuck n p s (deliver m) → ⊥
 on_message n p s (Prepare q i b k) stuck =
+    let t : Node = record s { reached = reached_by s.reached (Prepare q i b k) } in
+    ⊎_elim
+    (λ (mute : IsMute s i). stuck.no_effect (quiet t) (inl (mute, refl)))
+    (λ (not_mute : ¬ IsMute s i).
     on_span s.entries b k i (λ xs counted each any. ⊎_elim
-    (λ changed. stuck.no_effect _ (record { judged = xs; entry = Some (promise_of i k b); counted = counted; each = each; records = (changed, refl); is = refl }))
-    (λ same. stuck.no_effect _ (record { judged = xs; entry = None; counted = counted; each = each; records = same; is = refl }))
-    any)
+    (λ changed. stuck.no_effect (record { entry = Some (promise_of i k b); after = t; out = span_out p i b xs })
+    (inr (not_mute, record { judged = xs; entry = Some (promise_of i k b); counted = counted; each = each; records = (changed, refl); is = refl })))
+    (λ same. stuck.no_effect (record { entry = None; after = t; out = span_out p i b xs }) (inr (not_mute, record { judged = xs; entry = None; counted = counted; each = each; records = same; is = refl })))
+    any))
+    (mute_or_not i (floor_of s.entries))
 on_message n p s (Propose q i b v) stuck =
     let at = slot s.entries i in
-    on_proposal at.0 b v (λ verdict judged. stuck.no_effect _ (proposes p (record s { reached = reached_by s.reached (Propose q i b v) }) i b v at.0 verdict at.1 judged)) at.0.promised refl
+    let t : Node = record s { reached = reached_by s.reached (Propose q i b v) } in
+    ⊎_elim
+    (λ (mute : IsMute s i). stuck.no_effect (quiet t) (inl (mute, refl)))
+    (λ (not_mute : ¬ IsMute s i). on_proposal at.0 b v (λ verdict judged. stuck.no_effect (proposal_effect p t i b v verdict) (inr (not_mute, proposes p t i b v at.0 verdict at.1 judged))) at.0.promised refl)
+    (mute_or_not i (floor_of s.entries))
 on_message n p s (Promise q i b prior) stuck = on_promise n p s q i b prior stuck
 on_message n p s (Accepted q i b v) stuck = on_accepted n p s q i b v stuck
 on_message n p s (Nack q i b c) stuck = stuck.no_effect (quiet (record s { heard = max s.heard c.round })) refl
@@ -332,8 +348,15 @@ pub never_stuck : NeverStuck
 never_stuck n p s (submit v) runs tidy stuck = on_value n p s v tidy stuck (value_reading v) refl
 never_stuck n p s tick runs tidy stuck =
     at_gap s (λ full. stuck.no_cause fault.InstancesUsedUp (λ e. cc) full)
-    (λ i first. cases (λ (round : HasRound s ⊎ (¬ HasRound s)).
-    ⊎_elim (λ yes. stuck.no_effect _ (ticks p s i (fresh_ballot p s) (oldest s.pending) (open_past s.attempts i 63) (all_in_window s i tidy first) first yes refl refl)) (λ no. stuck.no_cause fault.RoundsUsedUp (λ e. cc) (not_all_known s i first, no)) round))
+    (λ i first. ⊎_elim
+    (λ (mute : IsMute s i). stuck.no_effect (says s All (Ask p i)) (inr (record { asks = record { instance = i; first = first; is = refl }; mute = mute })))
+    (λ (not_mute : ¬ IsMute s i). cases (λ (round : HasRound s ⊎ (¬ HasRound s)). ⊎_elim
+    (λ yes. stuck.no_effect (begun p s i (fresh_ballot p s) (oldest s.pending ∷ []) (map (resent p) (open_past s.attempts i 63)))
+    (inl (ticks p s i (fresh_ballot p s) (oldest s.pending) (open_past s.attempts i 63) (all_in_window s i tidy first) first not_mute yes refl refl)))
+    (λ no. stuck.no_cause fault.RoundsUsedUp (λ e. cc)
+    (not_all_known s i first, (λ (x : OnlyLearns s). not_mute (subst (IsMute s) (one_first s.known i x.0 first x.1) x.2)), no))
+    round))
+    (mute_or_not i (floor_of s.entries)))
 never_stuck n p s widen runs tidy stuck =
     cases (λ (may : MayWiden s ⊎ (¬ MayWiden s)).
     ⊎_elim

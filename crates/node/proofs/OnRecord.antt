@@ -4,7 +4,7 @@ use Rattle.std.specs.Prelude.{nat_eq}
 use Rattle.std.proofs.lemmas.Bool.Decides.{nat_tests}
 use Rattle.site_ids.specs.Lists.{In}
 use Rattle.site_ids.specs.declared.value.Vote.{Vote}
-use Rattle.durable.specs.Entries.{Entry, Round, Promised, PromisedSpan, Voted, Learned, vote_after, learned_at, last_vote}
+use Rattle.durable.specs.Entries.{Entry, Round, Promised, PromisedSpan, Voted, Floor, Learned, vote_after, learned_at, last_vote}
 use Rattle.durable.specs.Histories.{IsInRange, IsHistory}
 
 same_number : (a b : ℕ) → nat_eq a b ≡ true → a ≡ b
@@ -16,6 +16,7 @@ vote_after-in i last [] w e = inr e
 vote_after-in i last (Round s ∷ es) w e = ⊎_elim (λ h. inl (inr h)) (λ h. inr h) (vote_after-in i last es w e)
 vote_after-in i last (Promised j b ∷ es) w e = ⊎_elim (λ h. inl (inr h)) (λ h. inr h) (vote_after-in i last es w e)
 vote_after-in i last (PromisedSpan j k b ∷ es) w e = ⊎_elim (λ h. inl (inr h)) (λ h. inr h) (vote_after-in i last es w e)
+vote_after-in i last (Floor f ∷ es) w e = ⊎_elim (λ h. inl (inr h)) (λ h. inr h) (vote_after-in i last es w e)
 vote_after-in i last (Learned j v ∷ es) w e = ⊎_elim (λ h. inl (inr h)) (λ h. inr h) (vote_after-in i last es w e)
 vote_after-in i last (Voted j b v ∷ es) w e =
     ⊎_elim (λ h. inl (inr h)) (λ h. go (nat_eq j i) refl h) (vote_after-in i (cond (nat_eq j i) (Some (record { ballot = b; value = v })) last) es w e)
@@ -37,6 +38,7 @@ learned_at-in i (Round s ∷ es) v e = inr (learned_at-in i es v e)
 learned_at-in i (Promised j b ∷ es) v e = inr (learned_at-in i es v e)
 learned_at-in i (PromisedSpan j k b ∷ es) v e = inr (learned_at-in i es v e)
 learned_at-in i (Voted j b u ∷ es) v e = inr (learned_at-in i es v e)
+learned_at-in i (Floor f ∷ es) v e = inr (learned_at-in i es v e)
 learned_at-in i (Learned j u ∷ es) v e = go (λ h. learned_at-in i es v h) (nat_eq j i) refl e
   where
     go : (learned_at i es ≡ Some v → In es (Learned i v)) → (t : Bool) → nat_eq j i ≡ t → cond t (Some u) (learned_at i es) ≡ Some v → In (Learned j u ∷ es) (Learned i v)

@@ -12,13 +12,14 @@ use Rattle.durable.specs.Slots.{slot_at}
 use Rattle.wire.specs.declared.message.Message.TheVariants.{Prepare, Propose}
 use Rattle.node.specs.declared.prepared.Judgement.{Judgement}
 use Rattle.node.specs.declared.node.Node.{Node as Running}
-use Rattle.node.specs.Nodes.{Value, Node}
+use Rattle.node.specs.Nodes.{Value, Node, IsMute}
 use Rattle.node.specs.Calls.{deliver, Does}
 use Rattle.node.specs.Deliveries.{span_out}
 use Rattle.node.specs.Endings.{IsAnswered, TakesRoom}
 use Rattle.node.specs.Judgements.{Rises, IsJudgement, IsOwed}
 use Rattle.node.specs.Standing.{IsNodeOf}
 use Rattle.node.proofs.Judging.{judged_by, rising, free_owed, owed_in}
+use Rattle.node.proofs.Muting.{Speaks}
 use Rattle.node.proofs.Stepping.{touched}
 use Rattle.node.proofs.Verdicts.{proposes, proposal_effect}
 
@@ -44,8 +45,9 @@ module _ {D : Type 0} (old : Running D) where
 
   module _ (i : ℕ) (b : BallotOf) (k : ℕ) where
     -- an instance that is owed an answer has one
-    pub prepare_takes : (from : ℕ) → (at : ℕ) × IsInSpan i k at × IsOwed (slots at) b → (s : Node) → IsNodeOf old s → TakesRoom s (Prepare from i b k)
-    prepare_takes from owed s stands = (
+    pub prepare_takes : (from : ℕ) → Speaks old i → (at : ℕ) × IsInSpan i k at × IsOwed (slots at) b → (s : Node) → IsNodeOf old s → TakesRoom s (Prepare from i b k)
+    prepare_takes from speaks owed s stands = (
+      speaks s stands,
       owed.0,
       owed.1,
       record { slot = slots owed.0; after = owed.2.after; answer = owed.2.answer; on_record = stands.parts.on_record.kept.slots owed.0; step = owed.2.step; some = owed.2.some },
@@ -68,37 +70,43 @@ module _ {D : Type 0} (old : Running D) where
       rises_takes rises = let free = rises_where rises in (free.0, free.1, free_owed (slots free.0) b free.2)
 
       -- it goes on record where it rises, and only there
-      pub prepare_rises : (from : ℕ) → told.rises ≡ true → (s : Node) → IsNodeOf old s
+      pub prepare_rises : (from : ℕ) → Speaks old i → told.rises ≡ true → (s : Node) → IsNodeOf old s
           → Does old.cluster old.me s (deliver (Prepare from i b k)) (record { entry = Some (promise_of i k b); after = touched (last_of i k) s; out = span_out old.me i b is.judged })
-      prepare_rises from rises s stands = record {
-        judged = is.judged;
-        entry = Some (promise_of i k b);
-        counted = is.counted;
-        each = judged_by s.entries slots b i is.judged stands.parts.on_record.kept.slots is.each;
-        records = (subst (λ (r : Bool). Rises is.judged r) rises is.rises, refl);
-        is = refl;
-      }
+      prepare_rises from speaks rises s stands = inr (
+        speaks s stands,
+        record {
+          judged = is.judged;
+          entry = Some (promise_of i k b);
+          counted = is.counted;
+          each = judged_by s.entries slots b i is.judged stands.parts.on_record.kept.slots is.each;
+          records = (subst (λ (r : Bool). Rises is.judged r) rises is.rises, refl);
+          is = refl;
+        },
+      )
 
-      pub prepare_stays : (from : ℕ) → told.rises ≡ false → (s : Node) → IsNodeOf old s
+      pub prepare_stays : (from : ℕ) → Speaks old i → told.rises ≡ false → (s : Node) → IsNodeOf old s
           → Does old.cluster old.me s (deliver (Prepare from i b k)) (record { entry = None; after = touched (last_of i k) s; out = span_out old.me i b is.judged })
-      prepare_stays from rises s stands = record {
-        judged = is.judged;
-        entry = None;
-        counted = is.counted;
-        each = judged_by s.entries slots b i is.judged stands.parts.on_record.kept.slots is.each;
-        records = subst (λ (r : Bool). Rises is.judged r) rises is.rises;
-        is = refl;
-      }
+      prepare_stays from speaks rises s stands = inr (
+        speaks s stands,
+        record {
+          judged = is.judged;
+          entry = None;
+          counted = is.counted;
+          each = judged_by s.entries slots b i is.judged stands.parts.on_record.kept.slots is.each;
+          records = subst (λ (r : Bool). Rises is.judged r) rises is.rises;
+          is = refl;
+        },
+      )
 
   -- ---- a proposal at an instance
 
-  module _ (i : ℕ) (slot : Slot) (is : slot ≡ slot_at old.store.recorded.slots i) where
+  module _ (i : ℕ) (slot : Slot) (is : slot ≡ slot_at old.store.recorded.slots i) (speaks : Speaks old i) where
     on_record : (s : Node) → IsNodeOf old s → IsSlot s.entries i slot
     on_record s stands = subst (λ (x : Slot). IsSlot s.entries i x) (sym is) (stands.parts.on_record.kept.slots i)
 
     pub propose_does : (from : ℕ) (b : BallotOf) (v : Value) (verdict : ProposeVerdict) → JudgesProposal slot b v verdict → (s : Node) → IsNodeOf old s
         → Does old.cluster old.me s (deliver (Propose from i b v)) (proposal_effect old.me (touched i s) i b v verdict)
-    propose_does from b v verdict judged s stands = proposes old.me (touched i s) i b v slot verdict (on_record s stands) judged
+    propose_does from b v verdict judged s stands = inr (speaks s stands, proposes old.me (touched i s) i b v slot verdict (on_record s stands) judged)
 
-    pub proposal_takes : (b : BallotOf) (v : Value) (verdict : ProposeVerdict) → JudgesProposal slot b v verdict → verdict ≢ to_proposal.Silent → (s : Node) → IsNodeOf old s → IsAnswered s i (proposal b v)
-    proposal_takes b v verdict judged some s stands = answers_proposal s i b v slot verdict (on_record s stands) judged some
+    pub proposal_takes : (b : BallotOf) (v : Value) (verdict : ProposeVerdict) → JudgesProposal slot b v verdict → verdict ≢ to_proposal.Silent → (s : Node) → IsNodeOf old s → (¬ IsMute s i) × IsAnswered s i (proposal b v)
+    proposal_takes b v verdict judged some s stands = (speaks s stands, answers_proposal s i b v slot verdict (on_record s stands) judged some)

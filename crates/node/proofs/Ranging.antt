@@ -15,7 +15,7 @@ use Rattle.wire.specs.declared.message.Message.TheVariants.{Prepare, Promise, Pr
 use Rattle.wire.specs.Messages.{IsMessage}
 use Rattle.acceptor.specs.declared.slot.Slot.{Slot}
 use Rattle.acceptor.specs.Steps.{Answer as Reply, promise, accepted, nack, no_answer, prepare, proposal, Steps}
-use Rattle.durable.specs.Entries.{Entry, Round, Promised, PromisedSpan, Voted, Learned, Raises, IsPromise, IsSlot, last_vote}
+use Rattle.durable.specs.Entries.{Entry, Round, Promised, PromisedSpan, Voted, Floor, Learned, Raises, IsPromise, IsSlot, last_vote}
 use Rattle.durable.specs.Histories.{IsInRange, IsHistory}
 use Rattle.learner.specs.ToldVotes.{told_vote, HasMajority}
 use Rattle.std.specs.Option.{ok_or}
@@ -29,11 +29,11 @@ use Rattle.command.specs.Reading.{read_row, with_ticket, ticket_of, text_row}
 use Rattle.proposer.specs.Attempts.{Answer, Attempt, opened, opened_span, latest, senders, Chooses, Counts, with_answer, waiting, proposing, TakesPromise}
 use Rattle.node.specs.declared.to.To.{To}
 use Rattle.node.specs.declared.to.To.TheVariants.{One, All}
-use Rattle.node.specs.Nodes.{Value, Node, IsKnown, IsUnknown}
+use Rattle.node.specs.Nodes.{Value, Node, IsKnown, IsUnknown, IsMute}
 use Rattle.node.specs.Tickets.{IsCommand, IsHeld, has_same_ticket}
 use Rattle.node.specs.Effects.{Effect, quiet, says, learned}
-use Rattle.node.specs.Deliveries.{Judged, AreJudged, prepare_out, span_out, propose_out, promise_out, with_vote, Counted, ByKind}
-use Rattle.node.specs.Calls.{Call, submit, tick, widen, ask, tell, deliver, queued, oldest, fresh_ballot, HasRound, resent, Begins, MayWiden, Does, keep, KeepsOne, MayKeep}
+use Rattle.node.specs.Deliveries.{Judged, AreJudged, prepare_out, span_out, propose_out, promise_out, with_vote, Counted, ByKind, OnPrepare, OnPropose}
+use Rattle.node.specs.Calls.{Call, submit, tick, widen, ask, tell, deliver, queued, oldest, fresh_ballot, HasRound, resent, Ticks, AsksInstead, Begins, MayWiden, Does, keep, KeepsOne, MayKeep}
 use Rattle.node.specs.Endings.{Whole, Refused, Failed}
 use Rattle.node.specs.Tellings.{tells, remembered}
 use Rattle.node.specs.Tidy.{IsTidy}
@@ -147,8 +147,16 @@ by_effect : {n : ℕ} (effect e : Effect) → effect ≡ e → HasRanges n e.aft
 by_effect {n = n} effect e is h = subst (λ (x : Effect). HasRanges n x.after) (sym is) h
 
 delivery_ranges : (n p : ℕ) (s : Node) (m : Message) (effect : Effect) → HasRanges n s → IsMessage n m → ByKind n p s m effect → HasRanges n effect.after
-delivery_ranges n p s (Prepare q i b k) effect h m how = by_effect effect (record { entry = how.entry; after = s; out = _ }) how.is h
-delivery_ranges n p s (Propose q i b v) effect h m how = by_effect effect (record { entry = how.entry; after = s; out = _ }) how.is h
+delivery_ranges n p s (Prepare q i b k) effect h m how =
+    ⊎_elim
+    (λ (x : IsMute s i × (effect ≡ quiet s)). by_effect effect (quiet s) x.1 h)
+    (λ (x : (¬ IsMute s i) × OnPrepare p s i b k effect). by_effect effect (record { entry = x.1.entry; after = s; out = _ }) x.1.is h)
+    how
+delivery_ranges n p s (Propose q i b v) effect h m how =
+    ⊎_elim
+    (λ (x : IsMute s i × (effect ≡ quiet s)). by_effect effect (quiet s) x.1 h)
+    (λ (x : (¬ IsMute s i) × OnPropose p s i b v effect). by_effect effect (record { entry = x.1.entry; after = s; out = _ }) x.1.is h)
+    how
 delivery_ranges n p s (Promise q i b prior) effect h m how =
     by_effect effect (record { entry = None; after = record s { attempts = how.attempts }; out = _ }) how.is
     (record { known = h.known; pending = h.pending; attempts = taken_ranges n s.attempts q i b prior how.attempts how.proposed how.step m.fits h.attempts })
@@ -198,9 +206,13 @@ call_ranges n p s (submit v) effect node h m how =
     }))
     how
 call_ranges n p s tick effect node h m how =
-    by_effect effect (record { entry = _; after = record s { attempts = put_at s.attempts how.instance (Some (opened (fresh_ballot p s) (oldest s.pending))) }; out = _ }) how.is
-    (begun_ranges n p s how.instance (oldest s.pending ∷ []) node h how.round
-    (λ v k. ⊎_elim (λ (e : oldest s.pending ≡ v). subst (λ (x : Value). length x ≤ MAX_VALUE) e (oldest_short s.pending h.pending)) (λ none. absurd none) k))
+    ⊎_elim
+    (λ (x : Ticks p s effect).
+    by_effect effect (record { entry = _; after = record s { attempts = put_at s.attempts x.instance (Some (opened (fresh_ballot p s) (oldest s.pending))) }; out = _ }) x.is
+    (begun_ranges n p s x.instance (oldest s.pending ∷ []) node h x.round
+    (λ v k. ⊎_elim (λ (e : oldest s.pending ≡ v). subst (λ (y : Value). length y ≤ MAX_VALUE) e (oldest_short s.pending h.pending)) (λ none. absurd none) k)))
+    (λ (x : AsksInstead p s effect). by_effect effect (says s _ _) x.asks.is h)
+    how
 call_ranges n p s widen effect node h m how =
     ⊎_elim
     (λ (x : Begins p s effect).
@@ -232,6 +244,7 @@ raised_in_range n (Round r) i b range raises = absurd raises
 raised_in_range n (Promised j c) i b range raises = subst (IsBallot n) raises.1 range.1
 raised_in_range n (PromisedSpan j k c) i b range raises = subst (IsBallot n) raises.1 range.2
 raised_in_range n (Voted j c v) i b range raises = subst (IsBallot n) raises.1 range.1
+raised_in_range n (Floor f) i b range raises = absurd raises
 raised_in_range n (Learned j v) i b range raises = absurd raises
 
 promise_in_range : (n : ℕ) (es : List Entry) (i : ℕ) (slot : Slot) (c : BallotOf) → IsHistory n es → IsSlot es i slot → slot.promised ≡ Some c → IsBallot n c
@@ -302,10 +315,19 @@ promise_says n p s q i b prior after (Some v) node instance ballot fits h step =
 
 delivery_says : (n p : ℕ) (s : Node) (m : Message) (effect : Effect) → IsNode n p → IsHistory n s.entries → HasRanges n s → IsMessage n m → ByKind n p s m effect → Says n effect.out
 delivery_says n p s (Prepare q i b k) effect node history h m how =
-    by_out n effect (record { entry = how.entry; after = s; out = span_out p i b how.judged }) how.is
-    (span_says n p i b s.entries how.judged node m.instance.0 (let counted = how.counted in omega (arith, counted, m.fits.3)) m.ballots history how.each)
+    ⊎_elim
+    (λ (x : IsMute s i × (effect ≡ quiet s)). by_out n effect (quiet s) x.1 (no_message n))
+    (λ (x : (¬ IsMute s i) × OnPrepare p s i b k effect).
+    by_out n effect (record { entry = x.1.entry; after = s; out = span_out p i b x.1.judged }) x.1.is
+    (span_says n p i b s.entries x.1.judged node m.instance.0 (let counted = x.1.counted in omega (arith, counted, m.fits.3)) m.ballots history x.1.each))
+    how
 delivery_says n p s (Propose q i b v) effect node history h m how =
-    by_out n effect (record { entry = how.entry; after = s; out = propose_out p i b v how.answer }) how.is (propose_says n p i b v s.entries how.slot how.after how.answer node m.instance m.ballots m.fits history how.on_record how.step)
+    ⊎_elim
+    (λ (x : IsMute s i × (effect ≡ quiet s)). by_out n effect (quiet s) x.1 (no_message n))
+    (λ (x : (¬ IsMute s i) × OnPropose p s i b v effect).
+    by_out n effect (record { entry = x.1.entry; after = s; out = propose_out p i b v x.1.answer }) x.1.is
+    (propose_says n p i b v s.entries x.1.slot x.1.after x.1.answer node m.instance m.ballots m.fits history x.1.on_record x.1.step))
+    how
 delivery_says n p s (Promise q i b prior) effect node history h m how =
     by_out n effect (record { entry = None; after = record s { attempts = how.attempts }; out = promise_out p i b how.proposed }) how.is
     (promise_says n p s q i b prior how.attempts how.proposed node m.instance m.ballots.0 m.fits h how.step)
@@ -370,11 +392,16 @@ call_says n p s (submit v) effect node history tidy h m how =
     (λ (x : IsCommand v × (¬ IsHeld s v) × (length s.pending < 64) × (effect ≡ quiet (queued s v))). by_out n effect (quiet (queued s v)) x.3 (no_message n))
     how
 call_says n p s tick effect node history tidy h m how =
-    let i = how.instance in
+    ⊎_elim
+    (λ (t : Ticks p s effect).
+    let i = t.instance in
     let b = fresh_ballot p s in
-    let again = again_says n p how.elsewhere node (λ x k. let at = (how.open_elsewhere.each x k).1 in ((tidy.attempted x.0 x.1 at).instance, h.attempts x.0 x.1 at)) in
-    by_out n effect (record { entry = _; after = record s { attempts = _ }; out = (All, Prepare p i b 1) ∷ map (resent p) how.elsewhere }) how.is
-    (λ x k. ⊎_elim (λ (e : (All, Prepare p i b 1) ≡ x). subst (λ (y : To × Message). IsMessage n y.1) e (fresh_says n p s i 1 node how.first.instance (span_of_one i how.first.instance) how.round)) (λ later. again x later) k)
+    let again = again_says n p t.elsewhere node (λ x k. let at = (t.open_elsewhere.each x k).1 in ((tidy.attempted x.0 x.1 at).instance, h.attempts x.0 x.1 at)) in
+    by_out n effect (record { entry = _; after = record s { attempts = _ }; out = (All, Prepare p i b 1) ∷ map (resent p) t.elsewhere }) t.is
+    (λ x k. ⊎_elim (λ (e : (All, Prepare p i b 1) ≡ x). subst (λ (y : To × Message). IsMessage n y.1) e (fresh_says n p s i 1 node t.first.instance (span_of_one i t.first.instance) t.round)) (λ later. again x later) k))
+    (λ (t : AsksInstead p s effect).
+    by_out n effect (says s All (Ask p t.asks.instance)) t.asks.is (one_message n All (Ask p t.asks.instance) (record { sender = node; instance = t.asks.first.instance; ballots = tt; fits = tt })))
+    how
 call_says n p s widen effect node history tidy h m how =
     ⊎_elim
     (λ (x : Begins p s effect).

@@ -90,6 +90,8 @@ module _ {D : Type 0} where
     round = ap (λ (r : Record D). r.recorded.round) is;
     greatest = ap (λ (r : Record D). r.recorded.greatest) is;
     slots = λ i. ap (λ (r : Record D). cell_at r.recorded.slots i) is;
+    floor = ap (λ (r : Record D). r.recorded.floor) is;
+    reach = ap (λ (r : Record D). r.recorded.reach) is;
   }
 
   pub same_store : (old new : Record D) → new ≡ old → SeemsSame old new
@@ -113,7 +115,13 @@ module _ {D : Type 0} where
     stopped = ap (λ (r : Record D). r.stopped) unchanged.same;
     staged = unchanged.staged;
     base = unchanged.base;
-    kept = record { round = ap (λ (r : Record D). r.recorded.round) unchanged.same; greatest = ap (λ (r : Record D). r.recorded.greatest) unchanged.same; slots = unchanged.slots };
+    kept = record {
+      round = ap (λ (r : Record D). r.recorded.round) unchanged.same;
+      greatest = ap (λ (r : Record D). r.recorded.greatest) unchanged.same;
+      slots = unchanged.slots;
+      floor = ap (λ (r : Record D). r.recorded.floor) unchanged.same;
+      reach = ap (λ (r : Record D). r.recorded.reach) unchanged.same;
+    };
   }
 
   still_kept : (old new : Record D) (entries : List Entry) → IsMemoryKept old.recorded new.recorded → IsKept entries old.recorded → IsKept entries new.recorded

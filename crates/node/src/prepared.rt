@@ -60,7 +60,8 @@ impl<D: Disk> Node<D> {
     ghost use Rattle.node.specs.Judgements.{IsJudgement, JudgesMore, IsOwed};
 
     /// A promise is on record before it is handed out: that of a span as one entry, whole, also where few of its
-    /// instances rise. The answers are made before, so nothing is left to refuse behind the put.
+    /// instances rise. The answers are made before, so nothing is left to refuse behind the put. A node that is mute at
+    /// the first instance answers at none of the span.
     pub(crate) fn on_prepare(
         &mut self,
         first: Instance,
@@ -77,6 +78,10 @@ impl<D: Disk> Node<D> {
         ensures others { KeepsOthers self.old self.new }
     {
         let reached = self.reached.max(first.number() + count as u32 - 1);
+        if self.is_mute(first) {
+            self.reached = reached;
+            return Ok(());
+        }
         let mut judgement = self.judge_span(first, count, ballot)?;
         outbox.reserve(judgement.answers.len())?;
         if !judgement.rises {

@@ -16,7 +16,7 @@ impl<D: Disk> Node<D> {
     ghost use Rattle.node.specs.Calls.{deliver};
     ghost use Rattle.node.specs.Standing.{IsEvent, OnlyGrows, KeepsOthers, CountsDevice, ending_of};
 
-    /// A vote is on record before it is handed out.
+    /// A vote is on record before it is handed out. A node that is mute there casts none.
     pub(crate) fn on_propose(
         &mut self,
         instance: Instance,
@@ -33,6 +33,10 @@ impl<D: Disk> Node<D> {
         ensures others { KeepsOthers self.old self.new }
     {
         let reached = self.reached.max(instance.number());
+        if self.is_mute(instance) {
+            self.reached = reached;
+            return Ok(());
+        }
         match judge_propose(self.store.slot(instance), ballot, value.as_bytes()) {
             ProposeVerdict::Vote => {
                 outbox.reserve(1)?;

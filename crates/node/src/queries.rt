@@ -15,8 +15,8 @@ use site_disk::Disk;
 use site_ids::{Ballot, Instance};
 
 impl<D: Disk> Node<D> {
-    ghost use Rattle.durable.specs.Entries.{IsSlot, greatest_round as greatest_of};
-    ghost use Rattle.node.specs.Nodes.{Node as AbstractNode, IsFirstUnknown};
+    ghost use Rattle.durable.specs.Entries.{IsSlot, floor_of, reach_of, greatest_round as greatest_of};
+    ghost use Rattle.node.specs.Nodes.{Node as AbstractNode, IsFirstUnknown, IsMute, OnlyLearns};
     ghost use Rattle.node.specs.Calls.{fresh_ballot, HasRound, AreOpenElsewhere};
     ghost use Rattle.node.specs.Standing.{IsNodeOf};
     ghost use Rattle.node.specs.Beginning.{next_of};
@@ -40,6 +40,37 @@ impl<D: Disk> Node<D> {
         ensures { (s : AbstractNode) → IsNodeOf self.now s → result ≡ greatest_of s.entries }
     {
         self.store.greatest_round()
+    }
+
+    /// The floor of its record, up to which it is mute; 0 where that took no lost one's place.
+    pub fn floor(&self) -> u32
+        ensures { (s : AbstractNode) → IsNodeOf self.now s → result ≡ floor_of s.entries }
+    {
+        self.store.floor()
+    }
+
+    /// How far its record reaches: the greatest instance of a vote, or the floor where that is greater; 0 where there are neither.
+    pub fn reach(&self) -> u32
+        ensures { (s : AbstractNode) → IsNodeOf self.now s → result ≡ reach_of s.entries }
+    {
+        self.store.reach()
+    }
+
+    /// Whether it is mute at the instance, which is no higher than its floor then.
+    pub fn is_mute(&self, instance: Instance) -> bool
+        ensures { (s : AbstractNode) → IsNodeOf self.now s → IsTrue result ↔ IsMute s instance }
+    {
+        instance.number() <= self.store.floor()
+    }
+
+    /// Whether it is mute at its first unknown instance, so that it only learns.
+    pub fn only_learns(&self) -> bool
+        ensures { (s : AbstractNode) → IsNodeOf self.now s → IsTrue result ↔ OnlyLearns s }
+    {
+        match self.next_gap() {
+            Some(gap) => self.is_mute(gap),
+            None => false,
+        }
     }
 
     /// The ballot that the next attempt takes, None where rounds are used up.

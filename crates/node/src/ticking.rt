@@ -1,4 +1,4 @@
-//! A tick: a fresh attempt at the first unknown instance, and the other attempts' messages once more.
+//! A tick: a fresh attempt at the first unknown instance, and the other attempts' messages once more. Where the node is mute there it asks instead.
 //!
 //! A tick asks for a round that is left, so effect and RoundsUsedUp exclude each other; resent prepares are of one instance.
 
@@ -10,23 +10,29 @@ use crate::{Node, NodeFault, Outbox};
 use site_disk::Disk;
 
 impl<D: Disk> Node<D> {
+    ghost use Rattle.node.specs.Nodes.{Node as AbstractNode, OnlyLearns};
     ghost use Rattle.node.specs.Calls.{tick as ticking};
-    ghost use Rattle.node.specs.Standing.{IsEvent, OnlyGrows, KeepsOthers, CountsDevice, ending_of};
+    ghost use Rattle.node.specs.Standing.{IsNodeOf, IsEvent, OnlyGrows, KeepsOthers, CountsDevice, ending_of};
 
     /// A fresh round goes on record, and an attempt at the first unknown instance begins with it, for the oldest value
-    /// that is pending. The latest messages of the other attempts are sent again behind its prepare, by instance.
+    /// that is pending. The latest messages of the other attempts are sent again behind its prepare, by instance. A node
+    /// that only learns asks for the first unknown instance instead: it takes no round.
     pub fn tick(&mut self, outbox: &mut Outbox) -> Result<(), NodeFault>
         ensures event { IsEvent D.stands_for self.old self.new ticking (ending_of result) outbox.old.items outbox.new.items }
         ensures counts { CountsDevice result (D.failed self.old.store.disk) (D.failed self.new.store.disk) }
         ensures grows { OnlyGrows outbox.old.items outbox.new.items }
         ensures others { KeepsOthers self.old self.new }
     {
+        if self.only_learns() {
+            return self.ask(outbox);
+        }
         let due = self.next_tick()?;
         self.begin_attempts(due, outbox)
     }
 
     /// What a tick begins.
     fn next_tick(&self) -> Result<Beginning, NodeFault>
+        requires { (s : AbstractNode) → IsNodeOf self.now s → ¬ OnlyLearns s }
         ensures due { IfOk result (λ due. IsDue self.now ticking due) }
         ensures refused { IfErr result (λ fault. IsRefusedBy self.now ticking fault) }
     {

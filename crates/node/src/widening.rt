@@ -71,11 +71,14 @@ impl<D: Disk> Node<D> {
         }))
     }
 
-    /// The least free instance, from the first unknown one on.
+    /// The least free instance, from the first unknown one on. A node that is mute at the first unknown one has none.
     fn next_free(&self, first: Instance) -> Option<Instance>
         ensures least { (s : AbstractNode) → IsNodeOf self.now s → IsFirstUnknown s.known first → MatchOption result ((i : ℕ) → ¬ IsNextFree s i) (λ i. IsNextFree s i) }
         ensures near { IfSome result (λ i. (first ≤ i) × (i < first + MAX_ATTEMPTS)) }
     {
+        if self.is_mute(first) {
+            return None;
+        }
         let mut past = 0;
         while past < WINDOW {
             let instance = Instance::new(first.number() + past)?;

@@ -16,6 +16,8 @@ mod failures;
 #[cfg(test)]
 mod heard;
 #[cfg(test)]
+mod mute;
+#[cfg(test)]
 mod nodes;
 #[cfg(test)]
 mod peer;

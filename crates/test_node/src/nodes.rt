@@ -3,7 +3,7 @@
 ghost use Rattle.site_ids.specs.Ids.{IsNode};
 
 use crate::comparing::{ensure, is_page, same};
-use crate::samples::{Text, value};
+use crate::samples::{Text, instance, value};
 use durable::{Record, RecordFault};
 use node::{Node, NodeFault, Submitted};
 use site_disk::MemDisk;
@@ -78,6 +78,27 @@ pub(crate) fn fresh(rt: &impl Abort, alloc: Global, size: u8) -> Box<Node<MemDis
     let cluster = Cluster::new(size).expect(rt, "a cluster");
     let me = cluster.node(1).expect(rt, "a node");
     let disk = formatted(rt, alloc, cluster, me);
+    boxed(rt, alloc, opened(rt, alloc, cluster, me, disk))
+}
+
+/// A record with a floor, and nothing else.
+fn formatted_above(
+    rt: &impl Abort,
+    alloc: Global,
+    cluster: Cluster,
+    me: NodeId,
+    floor: u32,
+) -> MemDisk {
+    let mut disk = MemDisk::new(alloc);
+    Record::format_above(cluster, me, instance(rt, floor), &mut disk).expect(rt, "a record");
+    disk
+}
+
+/// Node 1 of three, over a record with that floor, which took the place of a lost one.
+pub(crate) fn replaced(rt: &impl Abort, alloc: Global, floor: u32) -> Box<Node<MemDisk>> {
+    let cluster = Cluster::new(3).expect(rt, "a cluster");
+    let me = cluster.node(1).expect(rt, "a node");
+    let disk = formatted_above(rt, alloc, cluster, me, floor);
     boxed(rt, alloc, opened(rt, alloc, cluster, me, disk))
 }
 

@@ -1,7 +1,7 @@
 //! A node over a disk in memory, lent to the rows.
 use crate::comparing::same;
 use crate::heard::{Heard, message};
-use crate::nodes::{again, fresh, submit};
+use crate::nodes::{again, fresh, replaced, submit};
 use crate::samples::{Text, instance, node_of};
 use node::{Node, NodeFault, Outbox, Submitted, To};
 use site_disk::MemDisk;
@@ -54,6 +54,15 @@ impl Peer {
         Peer {
             alloc,
             node: fresh(rt, alloc, size),
+            out: Vec::new(alloc),
+        }
+    }
+
+    /// Node 1 of three, over a record with that floor.
+    pub(crate) fn replaced(rt: &impl Abort, alloc: Global, floor: u32) -> Peer {
+        Peer {
+            alloc,
+            node: replaced(rt, alloc, floor),
             out: Vec::new(alloc),
         }
     }

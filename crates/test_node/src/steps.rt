@@ -45,6 +45,10 @@ pub(crate) enum Step {
     NoPage,
     /// Whether it wants a tick.
     Wants(bool),
+    /// Its floor, and how far its record reaches.
+    Reaches(u32, u32),
+    /// Whether it only learns.
+    Learns(bool),
     Stopped,
 }
 
@@ -72,6 +76,12 @@ fn look(rt: &impl Abort, node: &Peer, step: Step) {
         }
         Step::NoPage => ensure(rt, shows(&node.node, "/", 404, "not found\n"), "/"),
         Step::Wants(wants) => same(rt, node.node.wants_tick(), wants),
+        Step::Reaches(floor, reach) => same(
+            rt,
+            (node.node.floor(), node.node.reach()),
+            (floor, reach),
+        ),
+        Step::Learns(learns) => same(rt, node.node.only_learns(), learns),
         Step::Stopped => same(rt, node.node.is_stopped(), true),
         _ => {}
     }

@@ -2,8 +2,8 @@
 //!
 //! An entry is spelled by its length, its kind, numbers of fixed lengths and, of a vote and of what was learned, its value. Where the byte stands
 //! in the length, the other entry has a beginning of the value, since nothing stands behind the last one; in the kind, it is the other one of a
-//! promise and a vote for the empty value, a vote for one byte in place of a span's promise, or a learned value in place of any of these; and else
-//! in a number or the value. No record here has a vote for one byte, or a learned value of none or of more than two.
+//! promise and a vote for the empty value, or of a round and a floor, a vote for one byte in place of a span's promise, or a learned value in place
+//! of any of these; and else in a number or the value. No record here has a vote for one byte, or a learned value of none or of more than two.
 use crate::samples::value;
 use site_ids::{Ballot, Cluster, Instance, Value, Vote};
 use std::alloc::Global;
@@ -122,6 +122,11 @@ fn learned(
     Some(Entry::Learned(instance, value(rt, alloc, &bytes)))
 }
 
+/// The floor, where that is an instance.
+fn floor_of(number: u32) -> Option<Entry> {
+    Some(Entry::Floor(Instance::new(number)?))
+}
+
 /// How many bytes an entry has behind its kind.
 pub fn places(entry: &Entry) -> usize {
     match entry {
@@ -130,6 +135,7 @@ pub fn places(entry: &Entry) -> usize {
         Entry::PromisedSpan(..) => 10,
         Entry::Voted(_, vote) => vote.value.as_bytes().len().saturating_add(9),
         Entry::Learned(_, value) => value.as_bytes().len().saturating_add(4),
+        Entry::Floor(_) => 4,
     }
 }
 
@@ -163,6 +169,7 @@ pub fn changed(
         }
         Entry::Voted(instance, voted) => vote(rt, alloc, cluster, *instance, voted, place, byte),
         Entry::Learned(instance, value) => learned(rt, alloc, *instance, value, place, byte),
+        Entry::Floor(floor) => floor_of(number(floor.number(), place, byte)),
     }
 }
 
@@ -215,6 +222,7 @@ fn learned_in(rt: &impl Abort, alloc: Global, entry: &Entry) -> Option<Entry> {
             let front = ballot_bytes(vote.ballot);
             learned_of(rt, alloc, *instance, &front, vote.value.as_bytes())
         }
+        Entry::Floor(floor) => learned_of(rt, alloc, *floor, b"", b""),
         Entry::Learned(..) => return None,
     })
 }
@@ -254,7 +262,7 @@ fn other_of_vote(
 }
 
 /// The entries that take an entry's place with another length or kind, by number from 0 on: of a vote those above, of a promise the vote for the
-/// empty value, of a span's a vote for one byte, of a learned value its beginnings. Last comes the learned value that is spelled so, where that is another.
+/// empty value, of a span's a vote for one byte, of a learned value its beginnings, of a round a floor, of a floor a round. Last comes the learned value that is spelled so, where that is another.
 pub fn other(
     rt: &impl Abort,
     alloc: Global,
@@ -266,6 +274,8 @@ pub fn other(
         return learned_in(rt, alloc, entry);
     }
     match entry {
+        Entry::Round(round) if number == 0 => floor_of(*round),
+        Entry::Floor(floor) if number == 0 => Some(Entry::Round(floor.number())),
         Entry::Voted(instance, vote) => other_of_vote(rt, alloc, *instance, vote, number),
         Entry::Promised(instance, ballot) if number == 0 => {
             Some(vote_for(rt, alloc, *instance, *ballot, b""))

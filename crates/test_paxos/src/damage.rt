@@ -1,7 +1,9 @@
 //! A record cut at each byte, and with each byte changed. What these bytes come to is computed from the definition of a record.
 use crate::changes::with_byte;
 use crate::comparing::{ensure, same};
-use crate::listed::{LEARNED, Listed, RECORD, SPANNED, entries, learned, spanned};
+use crate::listed::{
+    FLOORED, LEARNED, Listed, RECORD, SPANNED, entries, floored, learned, spanned,
+};
 use crate::samples::{instance, is_bytes, is_text};
 use crate::stored::{one_of_three, read_bytes};
 use durable::{Record, RecordFault};
@@ -10,7 +12,7 @@ use site_ids::Instance;
 use std::alloc::Global;
 use std::process::Abort;
 use test_record::entry::Entry;
-use test_record::recorded::{self, greatest_round, is_slot, last_round, last_vote};
+use test_record::recorded::{self, floor, greatest_round, is_slot, last_round, last_vote, reach};
 use test_record::standing::{refusal, stands_for};
 
 /// Worked out by hand: a place, a byte there, and of the history for which the record then stands, if it does, how many entries it has, the
@@ -18,7 +20,9 @@ use test_record::standing::{refusal, stands_for};
 const LISTED: &[(usize, u8, Option<(usize, u32, &str)>)] = &[
     (9, 0, None),
     (11, 1, None),
+    (15, 5, Some((3, 0, "ab"))),
     (15, 6, Some((3, 0, "ab"))),
+    (25, 5, None),
     (16, 1, Some((3, 16_777_217, "ab"))),
     (19, 0, None),
     (25, 6, Some((3, 1, "ab"))),
@@ -34,10 +38,10 @@ const LISTED: &[(usize, u8, Option<(usize, u32, &str)>)] = &[
 ];
 
 /// How many histories are listed, worked out by hand too. At each of the four gates each byte but 1; in each of the three kinds that of a learned
-/// value; in a number each byte but its own, less those with which it is 0 or an instance above 1,000,000; and a promise's ballot only up to that
+/// value, in the first that of a floor; in a number each byte but its own, less those with which it is 0 or an instance above 1,000,000; and a promise's ballot only up to that
 /// of the vote behind it.
 const COUNT: usize = 4 * 255
-    + 3
+    + (3 + 1)
     // The round; the promise's kind, instance and ballot.
     + (3 * 255 + 254)
     + 1
@@ -62,6 +66,9 @@ const SPANNED_COUNT: usize = 2 * 255
 
 /// And with the record of a learned value. At its two gates each byte but 1; the two shorter lengths; the instance, the value.
 const LEARNED_COUNT: usize = 2 * 255 + 2 + (15 + 255 + 254) + 2 * 255;
+
+/// And with the record of a floor. At its two gates each byte but 1; the kinds of a round and of a learned value; the instance.
+const FLOORED_COUNT: usize = 2 * 255 + 2 + (15 + 255 + 254);
 
 /// Whether the record tells as learned what a history has so.
 fn is_learned_of(record: &Record<MemDisk>, history: &[Entry], instance: Instance) -> bool {
@@ -99,7 +106,8 @@ fn tells_named(record: &Record<MemDisk>, history: &[Entry]) -> bool {
             Entry::Round(_) => true,
             Entry::Promised(instance, _)
             | Entry::Voted(instance, _)
-            | Entry::Learned(instance, _) => is_slot_of(record, history, *instance),
+            | Entry::Learned(instance, _)
+            | Entry::Floor(instance) => is_slot_of(record, history, *instance),
             Entry::PromisedSpan(first, count, _) => {
                 tells_span(record, history, *first, count.saturating_add(1))
             }
@@ -111,10 +119,16 @@ fn tells_named(record: &Record<MemDisk>, history: &[Entry]) -> bool {
     true
 }
 
-/// Whether the record tells the rounds, the slots of the first three instances, of which a history here names two at most, and those that it names.
+/// Whether the record tells the floor, and how far it reaches.
+fn tells_reach(record: &Record<MemDisk>, history: &[Entry]) -> bool {
+    record.floor() == floor(history) && record.reach() == reach(history)
+}
+
+/// Whether the record tells the rounds, the floor, the slots of the first three instances, of which a history here names two at most, and those that it names.
 fn tells(rt: &impl Abort, record: &Record<MemDisk>, history: &[Entry]) -> bool {
     record.round() == last_round(history)
         && record.greatest_round() == greatest_round(history)
+        && tells_reach(record, history)
         && tells_span(record, history, instance(rt, 1), 3)
         && tells_named(record, history)
 }
@@ -226,6 +240,8 @@ fn a_record_with_each_byte_changed(rt: HostRuntime) {
     change_each_byte(&rt, alloc, listed);
     let listed = Listed::of(&rt, alloc, &LEARNED, learned(&rt, alloc));
     change_each_byte(&rt, alloc, listed);
+    let listed = Listed::of(&rt, alloc, &FLOORED, floored(&rt, alloc));
+    change_each_byte(&rt, alloc, listed);
 }
 
 fn is_voted_for(rt: &impl Abort, history: &[Entry], text: &str) -> bool {
@@ -268,5 +284,8 @@ fn the_list_has_what_is_worked_out(rt: HostRuntime) {
     drop(listed);
     let listed = Listed::of(&rt, alloc, &LEARNED, learned(&rt, alloc));
     same(&rt, listed.len(), LEARNED_COUNT);
+    drop(listed);
+    let listed = Listed::of(&rt, alloc, &FLOORED, floored(&rt, alloc));
+    same(&rt, listed.len(), FLOORED_COUNT);
     drop(listed);
 }

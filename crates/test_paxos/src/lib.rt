@@ -22,6 +22,8 @@ mod failures;
 #[cfg(test)]
 mod files;
 #[cfg(test)]
+mod floors;
+#[cfg(test)]
 mod learned;
 #[cfg(test)]
 mod listed;

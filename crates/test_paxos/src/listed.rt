@@ -52,6 +52,16 @@ pub fn learned(rt: &impl Abort, alloc: Global) -> Vec<Entry> {
     entries
 }
 
+/// The record of node 2 of 3 that took the place of a lost one: its one entry is the floor, 65. At 10 its gate, at 20 the last one.
+pub const FLOORED: [u8; 21] = *b"SITEREC1\x02\x03\x01\x00\x00\x00\x05\x05\x00\x00\x00\x41\x00";
+
+/// Its history.
+pub fn floored(rt: &impl Abort, alloc: Global) -> Vec<Entry> {
+    let mut entries = Vec::new(alloc);
+    push(rt, &mut entries, Entry::Floor(instance(rt, 65)));
+    entries
+}
+
 fn copies(rt: &impl Abort, alloc: Global, entries: &[Entry]) -> Vec<Entry> {
     let mut copies = Vec::new(alloc);
     for entry in entries {

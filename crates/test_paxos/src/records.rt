@@ -52,7 +52,8 @@ fn a_promise_record_is_read_or_refused(rt: HostRuntime) {
     promises(&rt, alloc, &SHUT, None);
 }
 
-fn are_calls(calls: &[Call], letters: &[u8]) -> bool {
+/// Whether these are the calls, a letter each.
+pub fn are_calls(calls: &[Call], letters: &[u8]) -> bool {
     for (call, &letter) in calls.iter().zip(letters) {
         if letter_of(call) != letter {
             return false;

@@ -8,7 +8,7 @@ use crate::member::{Member, Sent, is_made, is_resent, is_sent, three_values};
 use crate::messages::is_written;
 use crate::samples::{ballot, cluster, instance, is_bytes, node, value, vote};
 use crate::steps::{Step, act};
-use crate::stored::{self, ends, one_of_three};
+use crate::stored::{self, ends, format_above, found_floor, one_of_three};
 use chosen_log::{ChosenLog, LearnFault, Learned};
 use durable::{Record, RecordFault};
 use learner::Learner;
@@ -240,6 +240,28 @@ fn formatted(rt: &impl Abort, alloc: Global) -> MemDisk {
     }
 }
 
+/// What a refused growth left is no record, or has the floor.
+fn is_none_or_floor(rt: &impl Abort, alloc: Global, disk: MemDisk) {
+    let found = found_floor(rt, alloc, disk);
+    ensure(
+        rt,
+        found == Ok(65) || found == Err(RecordFault::NotARecord),
+        65,
+    );
+}
+
+/// The disk of a record above instance 65, another one where a growth was refused.
+fn floored(rt: &impl Abort, alloc: Global) -> MemDisk {
+    let mut disk = MemDisk::new(alloc);
+    if format_above(rt, &mut disk).is_ok() {
+        return disk;
+    }
+    is_none_or_floor(rt, alloc, disk);
+    let mut disk = MemDisk::new(alloc);
+    ends(rt, format_above(rt, &mut disk), Ok(()));
+    disk
+}
+
 /// The record on a disk, whose opening is tried twice.
 fn opened(rt: &impl Abort, alloc: Global, disk: MemDisk) -> Record<MemDisk> {
     let (cluster, node) = one_of_three(rt, 2);
@@ -318,4 +340,12 @@ fn batches(rt: HostRuntime) {
     let mut record = opened(&rt, alloc, record.close());
     fill_again(&rt, alloc, &mut record);
     finds(&rt, opened(&rt, alloc, record.close()));
+}
+
+#[test]
+fn floors(rt: HostRuntime) {
+    let alloc = rt.alloc();
+    let record = opened(&rt, alloc, floored(&rt, alloc));
+    same(&rt, (record.floor(), record.reach()), (65, 65));
+    drop(record);
 }

@@ -34,6 +34,9 @@ pub(crate) enum Step {
     /// What is learned at an instance, if anything.
     Learned(u32, Option<&'static str>),
     GreatestRound(u32),
+    Floor(u32),
+    /// How far the record reaches.
+    Reach(u32),
 }
 
 /// What a step came to, where it puts or ends something.
@@ -112,6 +115,8 @@ fn look<D: Disk>(rt: &impl Abort, record: &Record<D>, step: Step) {
             ensure(rt, is_learned(record.learned(instance(rt, at)), text), at);
         }
         Step::GreatestRound(round) => same(rt, record.greatest_round(), round),
+        Step::Floor(floor) => same(rt, record.floor(), floor),
+        Step::Reach(reach) => same(rt, record.reach(), reach),
         _ => {}
     }
 }

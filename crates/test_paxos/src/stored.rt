@@ -75,6 +75,20 @@ pub fn found_round(rt: &impl Abort, alloc: Global, disk: MemDisk) -> u32 {
     round
 }
 
+/// Makes node 2's record above instance 65.
+pub fn format_above<D: Disk>(rt: &impl Abort, disk: &mut D) -> Result<(), RecordFault> {
+    let (cluster, node) = one_of_three(rt, 2);
+    Record::format_above(cluster, node, instance(rt, 65), disk)
+}
+
+/// The floor that the next opening finds, or why that is refused.
+pub fn found_floor(rt: &impl Abort, alloc: Global, disk: MemDisk) -> Result<u32, RecordFault> {
+    let record = read(rt, alloc, 2, disk)?;
+    let floor = record.floor();
+    drop(record);
+    Ok(floor)
+}
+
 /// Node 2's empty record.
 pub fn empty(rt: &impl Abort, alloc: Global) -> Record<MemDisk> {
     opened(rt, alloc, formatted(rt, alloc))

@@ -1,7 +1,7 @@
 -- Histories, entry by entry.
 use Rattle.std.proofs.Common.{◌≡◌, ℕ, ◌+◌, ◌<◌, List, [], ◌∷◌, ◌++◌, length, get_or, take, drop, sym, ◌∙◌, ap, subst, arith, ◌^◌}
 use Rattle.std.proofs.lemmas.List.{take-append-drop, map-append, map_more, drop_more}
-use Rattle.durable.specs.Entries.{Entry, Round, Promised, PromisedSpan, Voted, Learned}
+use Rattle.durable.specs.Entries.{Entry, Round, Promised, PromisedSpan, Voted, Learned, Floor}
 use Rattle.durable.specs.Histories.{IsInRange, MayFollow, IsHistory}
 use Rattle.durable.specs.Spelling.{payload}
 use Rattle.durable.proofs.Push.{history-push}
@@ -36,3 +36,4 @@ payload_fits n entries i e within is history = in_four_bytes n (meaning e) (may_
     in_four_bytes n (PromisedSpan i k b) in_range = omega arith
     in_four_bytes n (Voted i b v) in_range = omega (arith, in_range.2)
     in_four_bytes n (Learned i v) in_range = omega (arith, in_range.1)
+    in_four_bytes n (Floor f) in_range = omega arith

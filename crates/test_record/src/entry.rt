@@ -16,6 +16,7 @@ pub enum Entry {
     PromisedSpan(Instance, u8, Ballot),
     Voted(Instance, Vote),
     Learned(Instance, Value),
+    Floor(Instance),
 }
 
 /// Whether an instance is one of so many, from this one on.
@@ -53,6 +54,7 @@ impl Entry {
             }
             Entry::Voted(instance, vote) => Entry::Voted(*instance, vote.try_clone()?),
             Entry::Learned(instance, value) => Entry::Learned(*instance, value.try_clone()?),
+            Entry::Floor(floor) => Entry::Floor(*floor),
         })
     }
 }

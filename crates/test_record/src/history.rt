@@ -41,6 +41,7 @@ fn is_in_range(cluster: Cluster, entry: &Entry) -> bool
         Entry::Learned(instance, value) => {
             instance.number() <= MAX_INSTANCE && value.as_bytes().len() <= MAX_VALUE
         }
+        Entry::Floor(floor) => floor.number() <= MAX_INSTANCE,
     }
 }
 
@@ -101,6 +102,7 @@ fn advances(earlier: &[Entry], entry: &Entry) -> bool
                 && !is_voted_at(last_vote(earlier, *instance), vote.ballot)
         }
         Entry::Learned(instance, _) => learned(earlier, *instance).is_none(),
+        Entry::Floor(_) => earlier.is_empty(),
     }
 }
 

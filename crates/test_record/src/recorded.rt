@@ -3,7 +3,7 @@
 ghost use Rattle.std.specs.Prelude.{◌≡◌, ◌↔◌, ◌∷◌, ◌++◌, [], List, IsTrue, option_copied};
 ghost use Rattle.acceptor.specs.Judging.{IsFreeAt};
 ghost use Rattle.durable.specs.Entries as entries;
-ghost use Rattle.durable.specs.Entries.{IsPromise, IsSlot, last_round as last_round_of, greatest_round as greatest_round_of, last_vote as last_vote_of, learned_at};
+ghost use Rattle.durable.specs.Entries.{IsPromise, IsSlot, last_round as last_round_of, greatest_round as greatest_round_of, last_vote as last_vote_of, learned_at, floor_of, reach_of};
 ghost use Rattle.test_record.specs.Meaning.{meaning, meanings};
 
 use crate::entry::Entry;
@@ -33,7 +33,7 @@ pub fn greatest_round(entries: &[Entry]) -> u32
             Entry::Round(round) => *round,
             Entry::Promised(_, ballot) | Entry::PromisedSpan(_, _, ballot) => ballot.round(),
             Entry::Voted(_, vote) => vote.ballot.round(),
-            Entry::Learned(..) => 0,
+            Entry::Learned(..) | Entry::Floor(_) => 0,
         };
         greatest = greatest.max(round);
     }
@@ -102,6 +102,31 @@ pub fn learned(entries: &[Entry], instance: Instance) -> Option<&Value>
         }
     }
     None
+}
+
+/// The floor, 0 where there is none.
+pub fn floor(entries: &[Entry]) -> u32
+    ensures { result ≡ floor_of (meanings entries.now) }
+{
+    match entries {
+        [Entry::Floor(floor), ..] => floor.number(),
+        _ => 0,
+    }
+}
+
+/// How far the entries reach: the greatest instance of a vote, or the floor where that is greater; 0 where there are neither.
+pub fn reach(entries: &[Entry]) -> u32
+    ensures { result ≡ reach_of (meanings entries.now) }
+{
+    let mut greatest = 0;
+    for entry in entries {
+        let reached = match entry {
+            Entry::Voted(instance, _) | Entry::Floor(instance) => instance.number(),
+            _ => 0,
+        };
+        greatest = greatest.max(reached);
+    }
+    greatest
 }
 
 fn is_same_vote(one: Option<&Vote>, other: &Option<Vote>) -> bool

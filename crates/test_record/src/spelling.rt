@@ -75,6 +75,11 @@ fn push_block(bytes: &mut Vec<u8>, entry: &Entry) -> Result<(), AllocError>
             bytes.extend_from_slice(&learned_front(size, *instance))?;
             bytes.extend_from_slice(value)
         }
+        Entry::Floor(floor) => {
+            let mut block = [1, 0, 0, 0, 5, 5, 0, 0, 0, 0];
+            BigEndian::write_u32(&mut block[6..], floor.number());
+            bytes.extend_from_slice(&block)
+        }
     }
 }
 

@@ -3,12 +3,15 @@ use Rattle.std.proofs.Common.{◌≡◌, ◌⊎◌, ⊎_elim, ℕ, suc, ◌+◌,
 use Rattle.std.proofs.lemmas.Bool.{false≢true}
 use Rattle.std.specs.Prelude.{◌↔◌, IsTrue, MatchOption, length, slice_get}
 use Rattle.site_ids.specs.Ids.{IsNode, IsInstance}
-use Rattle.node.specs.Nodes.{Value, Node, IsFirstUnknown, IsKnownPrefix}
+use Rattle.node.specs.Nodes.{Value, Node, IsFirstUnknown, IsKnownPrefix, IsMute}
+use Rattle.node.proofs.Gaps.{one_first}
+use Rattle.node.proofs.Queueing.{is_true, true_is}
 use Rattle.world.specs.declared.machine.Machine.{Machine}
 use Rattle.world.specs.declared.world.World.{World as Code}
 use Rattle.world.specs.Worlds.{World}
 use Rattle.world.specs.Standing.{IsMachineOf, IsWorldOf}
-use Rattle.world.specs.Quiet.{IsQuiet, IsQuietAt}
+use Rattle.world.specs.Quiet.{AllRun, IsQuiet, IsQuietAt, MayDecide}
+use Rattle.world.proofs.Bounds.{last_within}
 use Rattle.world.proofs.Firsts.{first_after, none_after}
 
 -- nodes 1 to k are quiet, in whichever world the value stands for
@@ -65,10 +68,57 @@ first_is s known next (Some j) (vs, prefix, is) at some =
     let here : suc (length vs) ≡ j = omega (arith, is, at, same, high) in
     subst (λ (i : ℕ). IsFirstUnknown s.known i) here (first_after s vs prefix (omega arith, omega (arith, here, same, high)))
 
-pub is_quiet : (n p : ℕ) (w : World) (o : Option ℕ) (told : Bool) → FirstIs (w.node p) o → is_some o ≡ true → IsTrue told ↔ AllQuiet n w → IsTrue told ↔ IsQuiet n w p
-is_quiet n p w None told none some all = absurd (false≢true some)
-is_quiet n p w (Some i) told first some all = (λ is. record { each = all.0 is; instance = i; unknown = first }, λ quiet. all.1 quiet.each)
+abbrev pub QuietAt : ℕ → ℕ → World → ℕ → Type 0
+QuietAt n p w i = AllQuiet n w × MayDecide n w p i
 
-pub not_quiet : (n p : ℕ) (w : World) (o : Option ℕ) → FirstIs (w.node p) o → is_some o ≡ false → IsTrue false ↔ IsQuiet n w p
-not_quiet n p w None none some = (λ is. absurd (false≢true is), λ quiet. absurd (none quiet.instance quiet.unknown))
-not_quiet n p w (Some i) first some = absurd (false≢true (sym some))
+pub is_quiet_at : (n p i : ℕ) (w : World) → IsNode n p → IsFirstUnknown (w.node p).known i → QuietAt n p w i → IsQuiet n w p
+is_quiet_at n p i w node first is = record {
+  each = is.0;
+  instance = i;
+  unknown = first;
+  not_mute = is.1.not_mute;
+  none_mute = is.1.none_mute;
+  heard = let rounds = is.1.rounds in omega (arith, rounds);
+}
+
+pub at_quiet : (n p i : ℕ) (w : World) → IsNode n p → IsFirstUnknown (w.node p).known i → IsQuiet n w p → QuietAt n p w i
+at_quiet n p i w node first quiet =
+    let here : quiet.instance ≡ i = one_first (w.node p).known i quiet.instance first quiet.unknown in (
+      quiet.each,
+      record {
+        not_mute = subst (λ (j : ℕ). ¬ IsMute (w.node p) j) here quiet.not_mute;
+        none_mute = λ q at. subst (λ (j : ℕ). ¬ IsMute (w.node q) j) here (quiet.none_mute q at);
+        rounds = let last = last_within 0 (w.node p).entries in let all = (quiet.each p node).rounds in let heard = quiet.heard in omega (arith, last, all, heard);
+      },
+    )
+
+pub all_running : (n : ℕ) (w : World) → AllQuiet n w → AllRun n w
+all_running n w all q node = (all q node).running
+
+-- all are quiet, and then nobody who is needed is mute
+pub quiet_both : (n p i : ℕ) (w : World) (all may : Bool) → IsNode n p → IsFirstUnknown (w.node p).known i → IsTrue all ↔ AllQuiet n w → (AllRun n w → IsTrue may ↔ MayDecide n w p i) → all ≡ true → IsTrue may ↔ IsQuiet n w p
+quiet_both n p i w all may node first tells decides is =
+    let each = tells.0 (is_true all is) in
+    let told = decides (all_running n w each) in
+    (λ t. is_quiet_at n p i w node first (each, told.0 t), λ quiet. told.1 (at_quiet n p i w node first quiet).1)
+
+pub quiet_none : (n p : ℕ) (w : World) (all : Bool) → IsTrue all ↔ AllQuiet n w → all ≡ false → IsTrue false ↔ IsQuiet n w p
+quiet_none n p w all tells is = (λ t. absurd (false≢true t), λ quiet. absurd (false≢true (sym is ∙ true_is all (tells.1 quiet.each))))
+
+pub all_known_unquiet : (n p : ℕ) (w : World) → ((i : ℕ) → ¬ IsFirstUnknown (w.node p).known i) → IsTrue false ↔ IsQuiet n w p
+all_known_unquiet n p w none = (λ t. absurd (false≢true t), λ quiet. absurd (none quiet.instance quiet.unknown))
+
+-- ---- nobody is mute
+
+-- nodes 1 to k are not mute at the instance, in whichever world of running nodes the value stands for
+abbrev pub SpeakTo : Code → ℕ → ℕ → Type 0
+SpeakTo code i k = (w : World) → IsWorldOf code w → AllRun code.cluster w → (q : ℕ) → 1 ≤ q → q ≤ k → ¬ IsMute (w.node q) i
+
+pub none_spoke : (code : Code) (i : ℕ) → SpeakTo code i 0
+none_spoke code i w stands run q one none = absurd (omega (arith, one, none))
+
+pub one_speaks : (code : Code) (i k q : ℕ) → q ≡ k + 1 → SpeakTo code i k → ((w : World) → IsWorldOf code w → AllRun code.cluster w → ¬ IsMute (w.node q) i) → SpeakTo code i (k + 1)
+one_speaks code i k q at so last w stands run r one few = ⊎_elim (λ low. so w stands run r one low) (λ (e : r ≡ q). subst (λ (x : ℕ). ¬ IsMute (w.node x) i) (sym e) (last w stands run)) (before_or_last r k q few at)
+  where
+    before_or_last : (r k q : ℕ) → r ≤ k + 1 → q ≡ k + 1 → (r ≤ k) ⊎ (r ≡ q)
+    before_or_last r k q h e = grind arith

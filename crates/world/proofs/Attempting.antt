@@ -8,12 +8,12 @@ use Rattle.site_ids.proofs.MapLemmas.{put_here}
 use Rattle.site_ids.proofs.MemberLemmas.{in_left, in_push, distinct_within}
 use Rattle.wire.specs.declared.message.Message.{Message}
 use Rattle.wire.specs.declared.message.Message.TheVariants.{Prepare, Propose}
-use Rattle.durable.specs.Entries.{Entry, Round, Raises, last_vote, with_entry}
-use Rattle.durable.proofs.Push.{vote_after-push}
+use Rattle.durable.specs.Entries.{Entry, Round, Raises, last_vote, with_entry, floor_of}
+use Rattle.durable.proofs.Push.{vote_after-push, floor_of-push}
 use Rattle.proposer.specs.Attempts.{Attempt, opened}
-use Rattle.node.specs.Nodes.{Value, Up, Node, IsFirstUnknown}
+use Rattle.node.specs.Nodes.{Value, Up, Node, IsFirstUnknown, IsMute}
 use Rattle.node.specs.Effects.{Effect, messages_of}
-use Rattle.node.specs.Calls.{tick, fresh_ballot, HasRound, oldest, RisesFrom, AreOpenElsewhere, resent}
+use Rattle.node.specs.Calls.{tick, Ticks, AsksInstead, Does, fresh_ballot, HasRound, oldest, RisesFrom, AreOpenElsewhere, resent}
 use Rattle.node.proofs.Gaps.{one_first}
 use Rattle.world.specs.declared.event.Event.{Event}
 use Rattle.world.specs.declared.event.Event.TheVariants.{Tick}
@@ -69,15 +69,24 @@ pub record Ticked (p i : ℕ) (w after : World) (e : ℕ) : Type 0 where
   pub heard : (after.node p).heard ≡ (w.node p).heard
   pub clear : (r : ℕ) (b : BallotOf) → IsClear (w.node r).entries i b → IsClear (after.node r).entries i b
   pub last : (r : ℕ) → last_vote i (after.node r).entries ≡ last_vote i (w.node r).entries
+  pub not_mute : (r : ℕ) → ¬ IsMute (w.node r) i → ¬ IsMute (after.node r) i
   pub kept : (r : ℕ) (x : Entry) → In (w.node r).entries x → In (after.node r).entries x
   pub raised : (r : ℕ) (x : Entry) (c : BallotOf) → In (after.node r).entries x → Raises x i c → In (w.node r).entries x
 
-pub ticked : (n p i : ℕ) (w after : World) (elsewhere : List (ℕ × Attempt)) → IsFirstUnknown (w.node p).known i → HasRound (w.node p) → AreOpenElsewhere (w.node p) i elsewhere → (after.node p).mode ≡ Up → Takes n w (Tick p) after
+-- a node that isn't mute at its first unknown instance begins there
+begins_here : (n p i : ℕ) (s : Node) (effect : Effect) → IsFirstUnknown s.known i → ¬ IsMute s i → Does n p s tick effect → Ticks p s effect
+begins_here n p i s effect first not_mute how =
+    ⊎_elim
+    (λ (x : Ticks p s effect). x)
+    (λ (x : AsksInstead p s effect). absurd (not_mute (subst (IsMute s) (one_first s.known i x.asks.instance first x.asks.first) x.mute)))
+    how
+
+pub ticked : (n p i : ℕ) (w after : World) (elsewhere : List (ℕ × Attempt)) → IsFirstUnknown (w.node p).known i → ¬ IsMute (w.node p) i → HasRound (w.node p) → AreOpenElsewhere (w.node p) i elsewhere → (after.node p).mode ≡ Up → Takes n w (Tick p) after
     → Ticked p i w after (length elsewhere)
-ticked n p i w after elsewhere first round open_elsewhere up how =
+ticked n p i w after elsewhere first not_mute round open_elsewhere up how =
     let s = w.node p in
     let acts = tick_acts n w p i after first round up how in
-    let does = acts.does in
+    let does = begins_here n p i s acts.effect first not_mute acts.does in
     let b = fresh_ballot p s in
     let e : does.instance ≡ i = one_first s.known i does.instance first does.first in
     let same : AreOpenElsewhere s i does.elsewhere = subst (λ j. AreOpenElsewhere s j does.elsewhere) e does.open_elsewhere in
@@ -97,6 +106,7 @@ ticked n p i w after elsewhere first round open_elsewhere up how =
       heard = ap (λ (x : Node). x.heard) acts.at ∙ ap (λ (x : Effect). x.after.heard) does.is;
       clear = λ r c. for_each n w p tick after (λ x y. IsClear x.entries i c → IsClear y.entries i c) (λ x h. h) acts (λ h. subst (λ es. IsClear es i c) (sym entries_here) (round_clear i c s.entries b.round h)) r;
       last = for_each n w p tick after (λ x y. last_vote i y.entries ≡ last_vote i x.entries) (λ x. refl) acts (ap (λ es. last_vote i es) entries_here ∙ vote_after-push i None s.entries (Round b.round ∷ []));
+      not_mute = λ r. for_each n w p tick after (λ x y. ¬ IsMute x i → ¬ IsMute y i) (λ x h. h) acts (λ h mute. h (let f = ap floor_of entries_here ∙ floor_of-push s.entries (Round b.round) refl in omega (arith, f, mute))) r;
       kept = λ r x. for_each n w p tick after (λ y z. In y.entries x → In z.entries x) (λ y h. h) acts (λ h. subst (λ es. In es x) (sym entries_here) (in_left s.entries (Round b.round ∷ []) x h)) r;
       raised = λ r x c. for_each n w p tick after (λ y z. In z.entries x → Raises x i c → In y.entries x) (λ y h k. h) acts
           (λ h k. ⊎_elim (λ z. z) (λ (z : Round b.round ≡ x). absurd (subst (λ y. Raises y i c) (sym z) k)) (in_push s.entries (Round b.round) x (subst (λ es. In es x) entries_here h))) r;
@@ -127,7 +137,7 @@ pub record Decides (n p i : ℕ) (w after : World) : Type 0 where
   pub known : (after.node p).known i ≡ Some value
   pub own : ((q : ℕ) → IsNode n q → last_vote i (w.node q).entries ≡ None) → value ≡ oldest (w.node p).pending
 
-module _ (n p i : ℕ) (w : World) (elsewhere : List (ℕ × Attempt)) (node : IsNode n p) (first : IsFirstUnknown (w.node p).known i) (round : HasRound (w.node p)) (open_elsewhere : AreOpenElsewhere (w.node p) i elsewhere)
+module _ (n p i : ℕ) (w : World) (elsewhere : List (ℕ × Attempt)) (node : IsNode n p) (first : IsFirstUnknown (w.node p).known i) (not_mute : ¬ IsMute (w.node p) i) (round : HasRound (w.node p)) (open_elsewhere : AreOpenElsewhere (w.node p) i elsewhere)
     (clear : (q : ℕ) → IsNode (quorum n) q → IsClear (w.node q).entries i (fresh_ballot p (w.node p)))
   where
     some : 1 ≤ n
@@ -157,7 +167,7 @@ module _ (n p i : ℕ) (w : World) (elsewhere : List (ℕ × Attempt)) (node : I
 
     module _ (w1 : World) (run_1 : AllRun n w1) (tick_taken : Takes n w (Tick p) w1) where
       began : Ticked p i w w1 (length elsewhere)
-      began = ticked n p i w w1 elsewhere first round open_elsewhere (run_1 p node) tick_taken
+      began = ticked n p i w w1 elsewhere first not_mute round open_elsewhere (run_1 p node) tick_taken
 
       long_1 : length w1.sent ≡ length w.sent + 1 + length elsewhere
       long_1 = let l = longer w1.sent w.sent (Prepare p i b 1 ∷ began.again) began.sent in let m = began.many in omega (arith, l, m)
@@ -234,8 +244,8 @@ module _ (n p i : ℕ) (w : World) (elsewhere : List (ℕ × Attempt)) (node : I
     quorum_nodes : (r : ℕ) → 1 ≤ r → r < 1 + quorum n → IsNode n r
     quorum_nodes r low high = quorum_within n r some (in_quorum r low high)
 
-    good_tick : ¬ IsBad n w.sent (Tick p)
-    good_tick bad = ⊎_elim (λ none. none node) (λ none. none) bad
+    good_tick : ¬ IsBad n w (Tick p)
+    good_tick bad = ⊎_elim (λ none. none node) (λ other. ⊎_elim (λ none. none) (λ none. none) other) bad
 
     -- none of its events is bad
     pub never_bad : NeverBad n w (one_attempt n p (length w.sent) (length elsewhere))

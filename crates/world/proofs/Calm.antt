@@ -10,7 +10,7 @@ use Rattle.node.specs.Effects.{Effect, recorded, messages_of}
 use Rattle.node.specs.Calls.{Call, tick, deliver, HasRound, Does}
 use Rattle.node.specs.Endings.{Ending, Whole, Refused, Failed, Ends, Refuses, Contradicts}
 use Rattle.world.specs.declared.event.Event.{Event}
-use Rattle.world.specs.declared.event.Event.TheVariants.{Submit, Tick, Widen, Ask, Tell, Deliver, Arm, Crash, Restart, Keep}
+use Rattle.world.specs.declared.event.Event.TheVariants.{Submit, Tick, Widen, Ask, Tell, Deliver, Arm, Crash, Restart, Replace, Keep}
 use Rattle.world.specs.Worlds.{World, Moves, Becomes, CallsAt, Calls}
 use Rattle.world.specs.Taking.{IsTaken, Takes, TakesAll}
 use Rattle.world.proofs.Moving.{either}
@@ -36,7 +36,7 @@ tick_cause s i first round IsStopped allowed h = h
 tick_cause s i first round QueueFull allowed h = absurd h.1
 tick_cause s i first round (NotACommand why) allowed h = absurd h.1
 tick_cause s i first round InstancesUsedUp allowed h = let known = h.1 i first.instance in absurd (no_value known.0 (sym first.unknown ∙ known.1))
-tick_cause s i first round RoundsUsedUp allowed h = absurd (h.1.1 round)
+tick_cause s i first round RoundsUsedUp allowed h = absurd (h.1.2 round)
 tick_cause s i first round Conflict allowed h = absurd h.1
 
 pub deliver_cause : (s : Node) (m : Message) → ¬ Contradicts s m → (cause : NodeFault) → IsTaken (Refused cause) → Refuses s (deliver m) cause → s.mode ≡ Stopped
@@ -139,6 +139,7 @@ module _ (n : ℕ) where
   run_before (Arm p k ∷ events) w after calm how up = absurd calm
   run_before (Crash p k ∷ events) w after calm how up = absurd calm
   run_before (Restart p ∷ events) w after calm how up = absurd calm
+  run_before (Replace p floor ∷ events) w after calm how up = absurd calm
   run_before (Keep p i ∷ events) w after calm how up = absurd calm
 
   pub split_at : (xs ys : List Event) (w after : World) → TakesAll n w (xs ++ ys) after → (mid : World) × TakesAll n w xs mid × TakesAll n mid ys after
@@ -164,4 +165,5 @@ calm_both (Tell p i ∷ xs) ys a b = absurd a
 calm_both (Arm p k ∷ xs) ys a b = absurd a
 calm_both (Crash p k ∷ xs) ys a b = absurd a
 calm_both (Restart p ∷ xs) ys a b = absurd a
+calm_both (Replace p floor ∷ xs) ys a b = absurd a
 calm_both (Keep p i ∷ xs) ys a b = absurd a

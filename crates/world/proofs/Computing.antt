@@ -1,9 +1,13 @@
 -- Runs of a world by tables, computed, and that each event is taken.
-use Rattle.std.proofs.Common.{◌≡◌, ◌≢◌, inl, inr, ℕ, Bool, true, false, Option, Some, None, List, [], ◌∷◌, ◌++◌, map, refl, sym, subst}
-use Rattle.std.specs.Prelude.{slice_get}
-use Rattle.site_ids.specs.Ids.{IsNode}
+use Rattle.std.proofs.Common.{◌≡◌, ◌≢◌, inl, inr, ⊎_elim, ℕ, zero, suc, ◌+◌, ◌≤◌, Bool, true, false, Option, Some, None, List, [], ◌∷◌, ◌++◌, map, refl, sym, subst}
+use Rattle.std.specs.Prelude.{slice_get, nat_eq}
+use Rattle.site_ids.specs.Ids.{IsNode, IsInstance}
+use Rattle.site_ids.specs.Lists.{In}
+use Rattle.site_ids.specs.Majorities.{Majority}
+use Rattle.proposer.specs.declared.TheConstants.{MAX_ATTEMPTS}
+use Rattle.site_ids.specs.declared.TheConstants.{MAX_INSTANCE}
 use Rattle.wire.specs.declared.message.Message.{Message}
-use Rattle.durable.specs.Entries.{Entry, with_entry}
+use Rattle.durable.specs.Entries.{Entry, Floor, reach_of, with_entry}
 use Rattle.node.specs.declared.to.To.{To}
 use Rattle.node.specs.declared.fault.NodeFault.TheVariants as fault
 use Rattle.node.specs.declared.to.To.TheVariants.{All}
@@ -12,11 +16,11 @@ use Rattle.node.specs.Effects.{messages_of}
 use Rattle.node.specs.Calls.{Call, submit, tick, widen, ask, tell, deliver, keep, Does}
 use Rattle.node.specs.Endings.{Ending, Whole, Refused, Failed, Ends}
 use Rattle.world.specs.declared.event.Event.{Event}
-use Rattle.world.specs.declared.event.Event.TheVariants.{Submit, Tick, Widen, Ask, Tell, Deliver, Arm, Crash, Restart, Keep}
+use Rattle.world.specs.declared.event.Event.TheVariants.{Submit, Tick, Widen, Ask, Tell, Deliver, Arm, Crash, Restart, Replace, Keep}
 use Rattle.world.specs.Worlds.{Moves, Calls}
 use Rattle.world.specs.Taking.{IsTaken, Takes, TakesAll}
 use Rattle.site_ids.proofs.MapLemmas.{put_here, put_other}
-use Rattle.world.proofs.Told.{is_node}
+use Rattle.world.proofs.Told.{Told, both, is_node, no_more, majority}
 use Rattle.world.proofs.Tables.{NodeBy, node_by, opened_by, WorldBy, nodes_of, world_by, find, found}
 use Rattle.world.proofs.DoingVotes.{Done}
 use Rattle.world.proofs.Doing.{done}
@@ -209,13 +213,53 @@ opens false n w p node = record {
   becomes = moves n w p (opened_by Up (left false (find w.nodes p)) None) [] node;
 }
 
+-- ---- a replacement: all other nodes are asked
+
+-- the nodes 1 to n, without p
+abbrev pub others : ℕ → ℕ → List ℕ
+others p zero = []
+others p (suc n) = elim (nat_eq (suc n) p) [ true ↦ others p n | false ↦ suc n ∷ others p n ]
+
+abbrev pub AllAbove : WorldBy → ℕ → List ℕ → Type 0
+AllAbove w floor qs = (q : ℕ) → In qs q → ((find w.nodes q).mode ≢ Down) × (reach_of (find w.nodes q).entries + MAX_ATTEMPTS ≤ floor)
+
+pub down_is_down : ¬ (Down ≢ Down)
+down_is_down other = other refl
+
+abbrev pub not_down : (m : Mode) → Told (m ≢ Down)
+not_down Up = inl (up_not_down Up refl)
+not_down Stopped = inl (stopped_not_down Stopped refl)
+not_down Down = inr down_is_down
+
+abbrev pub all_above : (w : WorldBy) (floor : ℕ) (qs : List ℕ) → Told (AllAbove w floor qs)
+all_above w floor [] = inl (λ q k. absurd k)
+all_above w floor (p ∷ qs) = elim (both (not_down (find w.nodes p).mode) (no_more (reach_of (find w.nodes p).entries + MAX_ATTEMPTS) floor)) [
+  | inr low ↦ inr (λ all. low (all p (inl refl)))
+  | inl here ↦ elim (all_above w floor qs) [
+    | inr low ↦ inr (λ all. low (λ q k. all q (inr k)))
+    | inl later ↦ inl (λ q k. ⊎_elim (λ (same : p ≡ q). subst (λ r. ((find w.nodes r).mode ≢ Down) × (reach_of (find w.nodes r).entries + MAX_ATTEMPTS ≤ floor)) same here) (λ k. later q k) k)
+  ]
+]
+
+pub replaces : (n : ℕ) (w : WorldBy) (p floor : ℕ) (asked : List ℕ) → IsNode n p → IsInstance floor → Majority n asked → AllAbove w floor asked
+    → Takes n (world_by w) (Replace p floor) (world_by (moved w p (opened_by Down (Floor floor ∷ []) None) []))
+replaces n w p floor asked node instance many above = record {
+  is_floor = record {
+    instance = instance;
+    asked = asked;
+    majority = many;
+    answers = λ q k. subst (λ (s : Node). s.mode ≢ Down) (found w.nodes q) (above q k).0;
+    above = λ q k. subst (λ (s : Node). reach_of s.entries + MAX_ATTEMPTS ≤ floor) (found w.nodes q) (above q k).1;
+  };
+  becomes = moves n w p (opened_by Down (Floor floor ∷ []) None) [] node;
+}
+
 abbrev pub happened : Caller → Bool → (n : ℕ) (w : WorldBy) (event : Event) → Option (Happened n w event)
 happened caller keeps n w (Submit p v) = elim (is_node n p) [ inr outside ↦ None | inl node ↦ caller n w p (submit v) node ]
 happened caller keeps n w (Tick p) = elim (is_node n p) [ inr outside ↦ None | inl node ↦ caller n w p tick node ]
 happened caller keeps n w (Widen p) = elim (is_node n p) [ inr outside ↦ None | inl node ↦ caller n w p widen node ]
 happened caller keeps n w (Ask p) = elim (is_node n p) [ inr outside ↦ None | inl node ↦ caller n w p ask node ]
 happened caller keeps n w (Tell p i) = elim (is_node n p) [ inr outside ↦ None | inl node ↦ caller n w p (tell All i) node ]
-happened caller keeps n w (Keep p i) = elim (is_node n p) [ inr outside ↦ None | inl node ↦ caller n w p (keep i) node ]
 happened caller keeps n w (Deliver p index) = elim (is_node n p) [ inr outside ↦ None | inl node ↦ delivered caller n w p index node ]
 happened caller keeps n w (Arm p calls) = elim (is_node n p) [ inr outside ↦ None | inl node ↦ Some (armed n w p calls node) ]
 happened caller keeps n w (Crash p choice) = elim (is_node n p) [
@@ -225,6 +269,20 @@ happened caller keeps n w (Crash p choice) = elim (is_node n p) [
 happened caller keeps n w (Restart p) = elim (is_node n p) [
   | inr outside ↦ None
   | inl node ↦ Some (moved w p (opened_by Up (left keeps (find w.nodes p)) None) [], opens keeps n w p node)
+]
+happened caller keeps n w (Keep p i) = elim (is_node n p) [ inr outside ↦ None | inl node ↦ caller n w p (keep i) node ]
+happened caller keeps n w (Replace p floor) = elim (is_node n p) [
+  | inr outside ↦ None
+  | inl node ↦ elim (both (no_more 1 floor) (no_more floor MAX_INSTANCE)) [
+    | inr outside ↦ None
+    | inl instance ↦ elim (majority n (others p n)) [
+      | inr few ↦ None
+      | inl many ↦ elim (all_above w floor (others p n)) [
+        | inr low ↦ None
+        | inl above ↦ Some (moved w p (opened_by Down (Floor floor ∷ []) None) [], replaces n w p floor (others p n) node instance many above)
+      ]
+    ]
+  ]
 ]
 
 abbrev pub stepped : (n : ℕ) (w : WorldBy) (step : Step) → Option (Happened n w (event_of step))

@@ -7,18 +7,19 @@ use Rattle.site_ids.specs.Majorities.{Majority}
 use Rattle.site_ids.proofs.MapLemmas.{put_here, put_other}
 use Rattle.wire.specs.declared.message.Message.{Message}
 use Rattle.wire.specs.declared.message.Message.TheVariants.{Prepare, Promise, Propose, Accepted, Nack, Ask, Chosen}
+use Rattle.durable.specs.Entries.{Floor}
 use Rattle.learner.specs.ToldVotes.{ToldVote, told_vote, HasMajority}
 use Rattle.node.specs.declared.to.To.TheVariants.{One, All}
-use Rattle.node.specs.Nodes.{Value, Up, Down, Node, IsKnown, IsUnknown, opened}
+use Rattle.node.specs.Nodes.{Value, Up, Down, Node, IsKnown, IsUnknown, IsMute, opened}
 use Rattle.node.specs.Tickets.{IsCommand, IsHeld}
 use Rattle.node.specs.Effects.{Effect, quiet, says, learned}
-use Rattle.node.specs.Deliveries.{with_vote, Counted, ByKind}
-use Rattle.node.specs.Calls.{Call, submit, tick, widen, ask, tell, deliver, keep, queued, Begins, MayWiden, KeepsOne, MayKeep, Does}
+use Rattle.node.specs.Deliveries.{with_vote, OnPrepare, OnPropose, Counted, ByKind}
+use Rattle.node.specs.Calls.{Call, submit, tick, widen, ask, tell, deliver, keep, queued, Ticks, AsksInstead, Begins, MayWiden, KeepsOne, MayKeep, Does}
 use Rattle.node.specs.Tellings.{tells}
 use Rattle.node.specs.Endings.{Ending, Whole, Refused, Failed, Ends}
 use Rattle.node.specs.declared.to.To.{To}
 use Rattle.world.specs.declared.event.Event.{Event}
-use Rattle.world.specs.declared.event.Event.TheVariants.{Submit, Tick, Widen, Ask as AskEvent, Tell, Deliver, Arm, Crash, Restart, Keep}
+use Rattle.world.specs.declared.event.Event.TheVariants.{Submit, Tick, Widen, Ask as AskEvent, Tell, Deliver, Arm, Crash, Restart, Replace, Keep}
 use Rattle.world.specs.Worlds.{World, Moves, Becomes, CallsAt, Calls, AnyEnding, HappensIn, RefusesOpening, Runs}
 use Rattle.world.proofs.Lists.{in_filter}
 use Rattle.world.proofs.Moving.{either}
@@ -88,8 +89,16 @@ module _ (n : ℕ) where
   by_effect effect e is h = subst (λ (x : Effect). IsCounted n x.after) (sym is) h
 
   delivery_counted : (p : ℕ) (s : Node) (m : Message) (effect : Effect) → IsCounted n s → ByKind n p s m effect → IsCounted n effect.after
-  delivery_counted p s (Prepare q i b k) effect h how = by_effect effect (record { entry = how.entry; after = s; out = _ }) how.is h
-  delivery_counted p s (Propose q i b v) effect h how = by_effect effect (record { entry = how.entry; after = s; out = _ }) how.is h
+  delivery_counted p s (Prepare q i b k) effect h how =
+      ⊎_elim
+      (λ (x : IsMute s i × (effect ≡ quiet s)). by_effect effect (quiet s) x.1 h)
+      (λ (x : (¬ IsMute s i) × OnPrepare p s i b k effect). by_effect effect (record { entry = x.1.entry; after = s; out = _ }) x.1.is h)
+      how
+  delivery_counted p s (Propose q i b v) effect h how =
+      ⊎_elim
+      (λ (x : IsMute s i × (effect ≡ quiet s)). by_effect effect (quiet s) x.1 h)
+      (λ (x : (¬ IsMute s i) × OnPropose p s i b v effect). by_effect effect (record { entry = x.1.entry; after = s; out = _ }) x.1.is h)
+      how
   delivery_counted p s (Promise q i b prior) effect h how = by_effect effect (record { entry = None; after = record s { attempts = how.attempts }; out = _ }) how.is h
   delivery_counted p s (Accepted q i b v) effect h how =
       ⊎_elim
@@ -119,7 +128,11 @@ module _ (n : ℕ) where
       (λ (x : IsCommand v × IsHeld s v × (effect ≡ quiet s)). by_effect effect (quiet s) x.2 h)
       (λ (x : IsCommand v × (¬ IsHeld s v) × (length s.pending < 64) × (effect ≡ quiet (queued s v))). by_effect effect (quiet (queued s v)) x.3 h)
       how
-  call_counted p s tick effect h how = by_effect effect (record { entry = _; after = record s { attempts = _ }; out = _ }) how.is h
+  call_counted p s tick effect h how =
+      ⊎_elim
+      (λ (x : Ticks p s effect). by_effect effect (record { entry = _; after = record s { attempts = _ }; out = _ }) x.is h)
+      (λ (x : AsksInstead p s effect). by_effect effect (says s _ _) x.asks.is h)
+      how
   call_counted p s widen effect h how =
       ⊎_elim
       (λ (x : Begins p s effect). by_effect effect (record { entry = _; after = record s { attempts = _ }; out = _ }) x.is h)
@@ -173,6 +186,7 @@ module _ (n : ℕ) where
       how
   happened w after (Crash p choice) all how = moved w after p [] (opened Down how.entries None) all (counted_none n (opened Down how.entries None) refl) how.becomes
   happened w after (Restart p) all how = moved w after p [] (opened Up how.entries None) all (counted_none n (opened Up how.entries None) refl) how.becomes
+  happened w after (Replace p floor) all how = moved w after p [] (opened Down (Floor floor ∷ []) None) all (counted_none n (opened Down (Floor floor ∷ []) None) refl) how.becomes
 
   refused : (w after : World) (event : Event) → AllCounted w → RefusesOpening n w event after → AllCounted after
   refused w after (Submit p v) all how = absurd how
@@ -184,6 +198,7 @@ module _ (n : ℕ) where
   refused w after (Keep p i) all how = absurd how
   refused w after (Arm p calls) all how = absurd how
   refused w after (Crash p choice) all how = absurd how
+  refused w after (Replace p floor) all how = absurd how
   refused w after (Restart p) all how = moved w after p [] (opened Down (w.node p).entries (w.node p).in_flight) all (counted_none n (opened Down (w.node p).entries (w.node p).in_flight) refl) how
 
   pub all_counted : (events : List Event) (w after : World) → AllCounted w → Runs n w events after → AllCounted after

@@ -2,15 +2,15 @@
 use Rattle.std.proofs.Common.{◌≡◌, ◌≢◌, ◌⊎◌, inl, inr, ℕ, zero, suc, ◌+◌, ◌<◌, ◌≤◌, ◌^◌, max, true, false, not, Option, Some, None, Result, Ok, Err, List, [], ◌∷◌, ◌++◌, filter, length, length-append, append_assoc, refl, sym, ap, subst, ⊎_elim, arith, ◌∙◌}
 use Rattle.std.specs.Prelude.{nat_eq}
 use Rattle.site_ids.specs.declared.TheConstants.{MAX_INSTANCE}
-use Rattle.site_ids.specs.Ids.{BallotOf, Below, NotAbove, IsInstance}
-use Rattle.site_ids.specs.Lists.{In, put_at}
+use Rattle.site_ids.specs.Ids.{BallotOf, IsInstance}
+use Rattle.site_ids.specs.Lists.{In}
 use Rattle.site_ids.specs.Spans.{IsInSpan}
 use Rattle.site_ids.specs.declared.value.Vote.{Vote}
 use Rattle.wire.specs.declared.message.Message.{Message}
 use Rattle.wire.specs.declared.message.Message.TheVariants.{Prepare, Promise, Propose, Accepted, Nack, Ask, Chosen}
-use Rattle.durable.specs.Entries.{Round, Learned, last_round, last_vote, learned_at}
+use Rattle.durable.specs.Entries.{Round, Learned, last_round, last_vote, floor_of, learned_at}
 use Rattle.proposer.specs.declared.TheConstants.{MAX_ATTEMPTS}
-use Rattle.proposer.specs.Attempts.{Answer, Attempt, opened as opened_attempt, opened_span, waiting, proposing, senders, with_answer, Counts, ToldNone, Highest, Chooses}
+use Rattle.proposer.specs.Attempts.{Attempt, opened as opened_attempt, opened_span}
 use Rattle.learner.specs.ToldVotes.{ToldVote, told_vote}
 use Rattle.command.specs.Action.{Order}
 use Rattle.command.specs.Reading.{value_reading}
@@ -18,129 +18,17 @@ use Rattle.command.specs.declared.fault.CommandFault.{CommandFault}
 use Rattle.node.specs.declared.to.To.{To}
 use Rattle.node.specs.declared.to.To.TheVariants.{One, All}
 use Rattle.node.specs.Tellings.{tells}
-use Rattle.node.specs.Nodes.{Value, IsFirstUnknown}
+use Rattle.node.specs.Nodes.{Value, IsFirstUnknown, IsMute}
+use Rattle.node.specs.Effects.{Effect}
 use Rattle.node.specs.Tickets.{IsHeld, has_same_ticket}
-use Rattle.node.specs.Deliveries.{reached_by, OnPromise, OnAccepted, OnAsk, OnChosen, ByKind}
+use Rattle.node.specs.Deliveries.{UnlessMute, reached_by, OnAccepted, OnAsk, OnChosen, ByKind}
 use Rattle.node.specs.Calls.{Call, submit, tick, widen, ask, tell, deliver, keep, IsOwnVote, MayKeep, oldest, IsFree, IsNextFree, IsTried, AreUntried, IsNextSpan, Does}
 use Rattle.node.proofs.Windows.{from_first, untried_stays}
 use Rattle.world.proofs.Lists.{put_at_cases}
-use Rattle.world.proofs.Order.{not_above_itself, not_above_trans, below_is_not_above}
-use Rattle.world.proofs.Told.{Told, both, otherwise, numbers, no_more, ballots, ballot_order, values, among, majority, are_many}
+use Rattle.world.proofs.Told.{Told, both, numbers, no_more, ballots, values, among, are_many}
 use Rattle.world.proofs.Tables.{Table, map_of, keys, is_key, NodeBy, node_by}
-use Rattle.world.proofs.DoingVotes.{Done, no_such, nothing_there, inside, on_prepare, on_propose}
-
--- ---- the proposer's step
-
-abbrev pub Chosen_of : List ℕ → List Answer → Type 0
-Chosen_of own answers = (v : Value) × Chooses own answers v
-
-abbrev pub Best : List Answer → Type 0
-Best answers = ToldNone answers ⊎ ((v : Value) × Highest answers v)
-
-pub none_first : (x : Answer) (answers : List Answer) → x.prior ≡ None → ToldNone answers → ToldNone (x ∷ answers)
-none_first x answers is none y k = ⊎_elim (λ (e : x ≡ y). subst (λ (z : Answer). z.prior ≡ None) e is) (λ k. none y k) k
-
-pub highest_later : (x : Answer) (answers : List Answer) (v : Value) → x.prior ≡ None → Highest answers v → Highest (x ∷ answers) v
-highest_later x answers v is h = (
-  h.0,
-  h.1,
-  inr h.2,
-  h.3,
-  λ y w k told. ⊎_elim (λ (e : x ≡ y). absurd (no_such w (sym is ∙ ap (λ (z : Answer). z.prior) e ∙ told))) (λ k. h.4 y w k told) k,
-)
-
-pub told_first : (x y : Answer) (w u : Vote) → x.prior ≡ Some w → x ≡ y → y.prior ≡ Some u → u.ballot ≡ w.ballot
-told_first x y w u is e told = ap (λ (z : Vote). z.ballot) (inside u w (sym told ∙ sym (ap (λ (z : Answer). z.prior) e) ∙ is))
-
-pub highest_first : (x : Answer) (answers : List Answer) (w : Vote) → x.prior ≡ Some w → ((y : Answer) (u : Vote) → In answers y → y.prior ≡ Some u → NotAbove u.ballot w.ballot) → Highest (x ∷ answers) w.value
-highest_first x answers w is most = (
-  x,
-  w.ballot,
-  inl refl,
-  is,
-  λ y u k told. ⊎_elim (λ (e : x ≡ y). subst (λ (c : BallotOf). NotAbove c w.ballot) (sym (told_first x y w u is e told)) (not_above_itself w.ballot)) (λ k. most y u k told) k,
-)
-
-pub highest_kept : (x : Answer) (answers : List Answer) (w : Vote) (v : Value) (h : Highest answers v) → x.prior ≡ Some w → NotAbove w.ballot h.1 → Highest (x ∷ answers) v
-highest_kept x answers w v h is low = (
-  h.0,
-  h.1,
-  inr h.2,
-  h.3,
-  λ y u k told. ⊎_elim (λ (e : x ≡ y). subst (λ (c : BallotOf). NotAbove c h.1) (sym (told_first x y w u is e told)) low) (λ k. h.4 y u k told) k,
-)
-
-pub none_over : (answers : List Answer) (w : Vote) → ToldNone answers → (y : Answer) (u : Vote) → In answers y → y.prior ≡ Some u → NotAbove u.ballot w.ballot
-none_over answers w none y u k told = absurd (no_such u (sym (none y k) ∙ told))
-
-pub all_under : (answers : List Answer) (w : Vote) (v : Value) (h : Highest answers v) → Below h.1 w.ballot → (y : Answer) (u : Vote) → In answers y → y.prior ≡ Some u → NotAbove u.ballot w.ballot
-all_under answers w v h over y u k told = not_above_trans u.ballot h.1 w.ballot (h.4 y u k told) (below_is_not_above h.1 w.ballot over)
-
-abbrev pub with_best : (x : Answer) (answers : List Answer) (prior : Option Vote) → x.prior ≡ prior → Best answers → Best (x ∷ answers)
-with_best x answers None is (inl none) = inl (none_first x answers is none)
-with_best x answers None is (inr h) = inr (h.0, highest_later x answers h.0 is h.1)
-with_best x answers (Some w) is (inl none) = inr (w.value, highest_first x answers w is (none_over answers w none))
-with_best x answers (Some w) is (inr h) = elim (ballot_order w.ballot h.1.1) [
-  | inl low ↦ inr (h.0, highest_kept x answers w h.0 h.1 is low)
-  | inr over ↦ inr (w.value, highest_first x answers w is (all_under answers w h.0 h.1 over))
-]
-
-abbrev pub best : (answers : List Answer) → Best answers
-best [] = inl (λ x k. absurd k)
-best (x ∷ answers) = with_best x answers x.prior refl (best answers)
-
-abbrev pub chosen_of : (own : List ℕ) (answers : List Answer) → Chosen_of own answers
-chosen_of own answers = elim (best answers) [ inl none ↦ (own, inl (none, refl)) | inr h ↦ (h.0, inr h.1) ]
-
-abbrev pub unproposed : (o : Option Value) → Told (o ≡ None)
-unproposed None = inl refl
-unproposed (Some v) = inr (λ e. nothing_there v e)
-
-abbrev pub counts : (a : Attempt) (q : ℕ) (b : BallotOf) → Told (Counts a q b)
-counts a q b = elim (both (ballots a.ballot b) (both (unproposed a.proposal) (otherwise (among numbers (senders a.answers) q)))) [
-  | inl x ↦ inl (x.0, x.1.0, x.1.1)
-  | inr not_so ↦ inr (λ c. not_so (c.0, (c.1, c.2)))
-]
-
-pub none_open : (t : NodeBy) (q i : ℕ) (b : BallotOf) → map_of t.attempts i ≡ None → (a : Attempt) → map_of t.attempts i ≡ Some a → ¬ Counts a q b
-none_open t q i b is a there = absurd (no_such a (sym is ∙ there))
-
-pub counts_not : (t : NodeBy) (q i : ℕ) (b : BallotOf) (a : Attempt) → map_of t.attempts i ≡ Some a → ¬ Counts a q b → (c : Attempt) → map_of t.attempts i ≡ Some c → ¬ Counts c q b
-counts_not t q i b a is none c there = subst (λ x. ¬ Counts x q b) (inside a c (sym is ∙ there)) none
-
-abbrev pub on_promise : (n p : ℕ) (t : NodeBy) (q i : ℕ) (b : BallotOf) (prior : Option Vote) → Done (OnPromise n p (node_by t) q i b prior)
-on_promise n p t q i b prior = elim (map_of t.attempts i) as (λ o. map_of t.attempts i ≡ o → Done (OnPromise n p (node_by t) q i b prior)) [
-  | None ↦ λ is. record {
-    entry = None;
-    after = t;
-    out = [];
-    does = record { attempts = map_of t.attempts; proposed = None; step = inl (none_open t q i b is, refl); is = refl };
-  }
-  | Some a ↦ λ is. elim (counts a q b) [
-    | inr none ↦ record {
-      entry = None;
-      after = t;
-      out = [];
-      does = record { attempts = map_of t.attempts; proposed = None; step = inl (counts_not t q i b a is none, refl); is = refl };
-    }
-    | inl count ↦ elim (majority n (senders (with_answer a q prior))) [
-      | inr few ↦ record {
-        entry = None;
-        after = record t { attempts = (i, Some (waiting a q prior)) ∷ t.attempts };
-        out = [];
-        does = record { attempts = put_at (map_of t.attempts) i (Some (waiting a q prior)); proposed = None; step = inr (a, is, count, few, refl); is = refl };
-      }
-      | inl many ↦
-          let v = chosen_of a.own (with_answer a q prior) in
-          record {
-            entry = None;
-            after = record t { attempts = (i, Some (proposing a q prior v.0)) ∷ t.attempts };
-            out = (All, Propose p i b v.0) ∷ [];
-            does = record { attempts = put_at (map_of t.attempts) i (Some (proposing a q prior v.0)); proposed = Some v.0; step = (a, is, count, many, v.1, refl); is = refl };
-          }
-    ]
-  ]
-] refl
+use Rattle.world.proofs.DoingPromises.{on_promise}
+use Rattle.world.proofs.DoingVotes.{Done, no_such, inside, on_prepare, on_propose}
 
 -- ---- the learner
 
@@ -187,10 +75,16 @@ on_chosen t i v = elim (map_of t.known i) as (λ o. map_of t.known i ≡ o → O
 
 -- ---- a delivery
 
+abbrev pub unless : (t : NodeBy) (i : ℕ) {Does : Effect → Type 0} → Done Does → Done (λ effect. UnlessMute (node_by t) i (Does effect) effect)
+unless t i did = elim (no_more i (floor_of t.entries)) [
+  | inl mute ↦ record { entry = None; after = t; out = []; does = inl (mute, refl) }
+  | inr not_mute ↦ record { entry = did.entry; after = did.after; out = did.out; does = inr (not_mute, did.does) }
+]
+
 abbrev pub by_kind : (n p : ℕ) (t : NodeBy) (m : Message) → Option (Done (ByKind n p (node_by t) m))
-by_kind n p t (Prepare q i b k) = Some (on_prepare p t i b k)
+by_kind n p t (Prepare q i b k) = Some (unless t i (on_prepare p t i b k))
 by_kind n p t (Promise q i b prior) = Some (on_promise n p t q i b prior)
-by_kind n p t (Propose q i b v) = Some (on_propose p t i b v)
+by_kind n p t (Propose q i b v) = Some (unless t i (on_propose p t i b v))
 by_kind n p t (Accepted q i b v) = Some (on_accepted n t q i b v)
 by_kind n p t (Nack q i b c) = Some (record { entry = None; after = record t { heard = max t.heard c.round }; out = []; does = refl })
 by_kind n p t (Ask q i) = Some (on_ask p t q i)
@@ -284,19 +178,23 @@ ticked n p t = elim (first_unknown t) [
     | inr used ↦ None
     | inl round ↦ elim (only_at t.attempts first.0 (keys t.attempts)) [
       | None ↦ None
-      | Some alone ↦ Some (record {
-        entry = Some (Round (fresh_of p t).round);
-        after = record t { attempts = (first.0, Some (opened_attempt (fresh_of p t) (oldest t.pending))) ∷ t.attempts };
-        out = (All, Prepare p first.0 (fresh_of p t) 1) ∷ [];
-        does = record {
-          instance = first.0;
-          elsewhere = [];
-          first = first.1;
-          round = round;
-          open_elsewhere = record { rising = tt; each = λ x k. absurd k; whole = λ j a apart is. absurd (alone j a (is_key t.attempts j a is) apart is) };
-          is = refl;
-        };
-      })
+      | Some alone ↦ Some (elim (no_more first.0 (floor_of t.entries)) [
+        | inl mute ↦ record { entry = None; after = t; out = (All, Ask p first.0) ∷ []; does = inr (record { asks = record { instance = first.0; first = first.1; is = refl }; mute = mute }) }
+        | inr not_mute ↦ record {
+          entry = Some (Round (fresh_of p t).round);
+          after = record t { attempts = (first.0, Some (opened_attempt (fresh_of p t) (oldest t.pending))) ∷ t.attempts };
+          out = (All, Prepare p first.0 (fresh_of p t) 1) ∷ [];
+          does = inl (record {
+            instance = first.0;
+            elsewhere = [];
+            first = first.1;
+            not_mute = not_mute;
+            round = round;
+            open_elsewhere = record { rising = tt; each = λ x k. absurd k; whole = λ j a apart is. absurd (alone j a (is_key t.attempts j a is) apart is) };
+            is = refl;
+          });
+        }
+      ])
     ]
   ]
 ]
@@ -333,15 +231,15 @@ longer_free t i values v free further j within = ⊎_elim (λ inside. free j ins
     by : (j k : ℕ) → (i ≤ j) × (j < i + (k + 1)) → IsInSpan i k j ⊎ (j ≡ i + k)
     by j k h = grind (arith, h.0, h.1)
 
-abbrev pub free_from : (t : NodeBy) (first : ℕ) → IsFirstUnknown (map_of t.known) first → (fuel j : ℕ) → ((k : ℕ) → IsFree (node_by t) k → j ≤ k) → Option ((i : ℕ) × IsNextFree (node_by t) i)
-free_from t first is zero j from = None
-free_from t first is (suc fuel) j from = elim (map_of t.known j) as (λ o. map_of t.known j ≡ o → Option ((i : ℕ) × IsNextFree (node_by t) i)) [
-  | Some v ↦ λ known. free_from t first is fuel (suc j) (past_known t j v known from)
+abbrev pub free_from : (t : NodeBy) (first : ℕ) → IsFirstUnknown (map_of t.known) first → ¬ IsMute (node_by t) first → (fuel j : ℕ) → ((k : ℕ) → IsFree (node_by t) k → j ≤ k) → Option ((i : ℕ) × IsNextFree (node_by t) i)
+free_from t first is not_mute zero j from = None
+free_from t first is not_mute (suc fuel) j from = elim (map_of t.known j) as (λ o. map_of t.known j ≡ o → Option ((i : ℕ) × IsNextFree (node_by t) i)) [
+  | Some v ↦ λ known. free_from t first is not_mute fuel (suc j) (past_known t j v known from)
   | None ↦ λ unknown. elim (map_of t.attempts j) as (λ o. map_of t.attempts j ≡ o → Option ((i : ℕ) × IsNextFree (node_by t) i)) [
-    | Some a ↦ λ tried. free_from t first is fuel (suc j) (past_tried t j a tried from)
+    | Some a ↦ λ tried. free_from t first is not_mute fuel (suc j) (past_tried t j a tried from)
     | None ↦ λ untried. elim (both (both (no_more 1 j) (no_more j MAX_INSTANCE)) (no_more (suc j) (first + MAX_ATTEMPTS))) [
       | inr far ↦ None
-      | inl h ↦ Some (j, record { first = first; is_first = is; near = h.1; free = record { instance = h.0; unknown = unknown; untried = untried }; least = from })
+      | inl h ↦ Some (j, record { first = first; is_first = is; not_mute = not_mute; near = h.1; free = record { instance = h.0; unknown = unknown; untried = untried }; least = from })
     ]
   ] refl
 ] refl
@@ -437,11 +335,14 @@ widened n p t = let u = untried_in t t.pending in elim (u.0) as (λ l. AreUntrie
   | [] ↦ λ none. Some (record { entry = None; after = t; out = []; does = inr ((λ may. untried_stays (node_by t) t.pending [] may.1.0 none may.1.1.0 may.1.1.1), refl) })
   | v ∷ left ↦ λ are. elim (first_unknown t) [
     | None ↦ None
-    | Some first ↦ elim (free_from t first.0 first.1 MAX_ATTEMPTS first.0 (λ k free. from_first (map_of t.known) first.0 k first.1 free.instance free.unknown)) [
-      | None ↦ None
-      | Some free ↦ elim (no_more (suc (suc (max (last_round t.entries) t.heard))) (2 ^ 32)) [
-        | inr used ↦ None
-        | inl round ↦ Some (begun n p t free.0 (grow t free.0 free.1 (v ∷ []) left (omega arith) are (first_near free.0 free.1.first free.1.near) (λ j within. subst (IsFree (node_by t)) (only_one free.0 j within) free.1.free)) round)
+    | Some first ↦ elim (no_more first.0 (floor_of t.entries)) [
+      | inl mute ↦ None
+      | inr not_mute ↦ elim (free_from t first.0 first.1 not_mute MAX_ATTEMPTS first.0 (λ k free. from_first (map_of t.known) first.0 k first.1 free.instance free.unknown)) [
+        | None ↦ None
+        | Some free ↦ elim (no_more (suc (suc (max (last_round t.entries) t.heard))) (2 ^ 32)) [
+          | inr used ↦ None
+          | inl round ↦ Some (begun n p t free.0 (grow t free.0 free.1 (v ∷ []) left (omega arith) are (first_near free.0 free.1.first free.1.near) (λ j within. subst (IsFree (node_by t)) (only_one free.0 j within) free.1.free)) round)
+        ]
       ]
     ]
   ]

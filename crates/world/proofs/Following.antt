@@ -137,7 +137,7 @@ module _ (old mid new : Code) (events : List Event) (k : ℕ) (event : Event) (g
         };
   }
 
-  pub follow_bad : Then (λ w after. (IsBad mid.cluster w.sent event × (after ≡ w)) × StayPublished mid new w after)
+  pub follow_bad : Then (λ w after. (IsBad mid.cluster w event × (after ≡ w)) × StayPublished mid new w after)
       → LeadsTo old new (λ w after. MeetsBadEvent old.cluster w events k after × ArePublished new after (take k events) × StayPublished old new w after)
   follow_bad step = record {
     leads = λ w stands.
@@ -150,7 +150,7 @@ module _ (old mid new : Code) (events : List Event) (k : ℕ) (event : Event) (g
               event = event;
               takes = subst (λ u. TakesAll old.cluster w (take k events) u) (sym b.how.0.1) a.how.0;
               next = got;
-              bad = subst (λ (u : World). IsBad old.cluster u.sent event) (sym b.how.0.1) (subst (λ (n : ℕ). IsBad n a.after.sent event) same b.how.0.0);
+              bad = subst (λ (u : World). IsBad old.cluster u event) (sym b.how.0.1) (subst (λ (n : ℕ). IsBad n a.after event) same b.how.0.0);
             },
             λ e h. b.how.1 (node_of e) (a.how.1 e h),
             λ q was. b.how.1 q (a.how.2 q was),

@@ -7,7 +7,7 @@ use Rattle.node.specs.Nodes.{Down}
 use Rattle.node.specs.Effects.{messages_of}
 use Rattle.node.specs.Calls.{Call, deliver}
 use Rattle.world.specs.declared.event.Event.{Event}
-use Rattle.world.specs.declared.event.Event.TheVariants.{Submit, Tick, Widen, Ask, Tell, Deliver, Arm, Crash, Restart, Keep}
+use Rattle.world.specs.declared.event.Event.TheVariants.{Submit, Tick, Widen, Ask, Tell, Deliver, Arm, Crash, Restart, Replace, Keep}
 use Rattle.world.specs.Worlds.{World, Becomes, CallsAt, Calls}
 use Rattle.world.specs.Taking.{IsTaken, Takes, TakesAll, IsBad}
 use Rattle.world.specs.Quiet.{AllRun, AreCalm, to_each, each_to}
@@ -16,7 +16,7 @@ use Rattle.world.proofs.Calm.{run_before}
 -- the next event isn't bad, nor is any one behind it, as long as all nodes run
 abbrev pub NeverBad : ℕ → World → List Event → Type 0
 NeverBad n w [] = ⊤
-NeverBad n w (event ∷ events) = (¬ IsBad n w.sent event) × ((next : World) → Takes n w event next → AllRun n next → NeverBad n next events)
+NeverBad n w (event ∷ events) = (¬ IsBad n w event) × ((next : World) → Takes n w event next → AllRun n next → NeverBad n next events)
 
 module _ (n : ℕ) where
   pub never_both : (xs ys : List Event) (w : World) → AllRun n w → NeverBad n w xs → ((mid : World) → TakesAll n w xs mid → AllRun n mid → NeverBad n mid ys) → NeverBad n w (xs ++ ys)
@@ -35,6 +35,7 @@ module _ (n : ℕ) where
   calm_take (suc k) (Arm p j ∷ events) calm = absurd calm
   calm_take (suc k) (Crash p j ∷ events) calm = absurd calm
   calm_take (suc k) (Restart p ∷ events) calm = absurd calm
+  calm_take (suc k) (Replace p floor ∷ events) calm = absurd calm
   calm_take (suc k) (Keep p i ∷ events) calm = absurd calm
 
   tail_calm : (x : Event) (events : List Event) → AreCalm (x ∷ events) → AreCalm events
@@ -47,14 +48,15 @@ module _ (n : ℕ) where
   tail_calm (Arm p j) events calm = absurd calm
   tail_calm (Crash p j) events calm = absurd calm
   tail_calm (Restart p) events calm = absurd calm
+  tail_calm (Replace p floor) events calm = absurd calm
   tail_calm (Keep p i) events calm = absurd calm
 
   same_event : (x y : Event) → Some x ≡ Some y → x ≡ y
   same_event x y e = cc
 
-  pub never_at : (k : ℕ) (events : List Event) (w after : World) (event : Event) → AreCalm events → NeverBad n w events → TakesAll n w (take k events) after → AllRun n after → slice_get events k ≡ Some event → ¬ IsBad n after.sent event
+  pub never_at : (k : ℕ) (events : List Event) (w after : World) (event : Event) → AreCalm events → NeverBad n w events → TakesAll n w (take k events) after → AllRun n after → slice_get events k ≡ Some event → ¬ IsBad n after event
   never_at k [] w after event calm h how run at = (cc)
-  never_at zero (x ∷ events) w after event calm h how run at = λ bad. h.0 (subst (λ e. IsBad n w.sent e) (sym (same_event x event at)) (subst (λ (y : World). IsBad n y.sent event) how bad))
+  never_at zero (x ∷ events) w after event calm h how run at = λ bad. h.0 (subst (λ e. IsBad n w e) (sym (same_event x event at)) (subst (λ (y : World). IsBad n y event) how bad))
   never_at (suc k) (x ∷ events) w after event calm h how run at =
       let rest = tail_calm x events calm in
       let up = run_before n (take k events) how.0 after (calm_take k events rest) how.2 run in
@@ -74,8 +76,8 @@ module _ (n : ℕ) where
 
   -- ---- deliveries
 
-  good_delivery : (w : World) (q index : ℕ) → IsNode n q → index < length w.sent → ¬ IsBad n w.sent (Deliver q index)
-  good_delivery w q index node below bad = ⊎_elim (λ none. none node) (λ (h : length w.sent ≤ index). omega (arith, h, below)) bad
+  good_delivery : (w : World) (q index : ℕ) → IsNode n q → index < length w.sent → ¬ IsBad n w (Deliver q index)
+  good_delivery w q index node below bad = ⊎_elim (λ none. none node) (λ other. ⊎_elim (λ (h : length w.sent ≤ index). omega (arith, h, below)) (λ none. none) other) bad
 
   pub never_to_each : (index k q : ℕ) (w : World) → index < length w.sent → ((r : ℕ) → q ≤ r → r < q + k → IsNode n r) → NeverBad n w (to_each index q k)
   never_to_each index zero q w below nodes = tt

@@ -1,16 +1,17 @@
 -- An event at the machine of its node.
-use Rattle.std.proofs.Common.{◌≡◌, ℕ, zero, suc, ◌<◌, ◌≤◌, Result, Some, List, [], ◌∷◌, ◌++◌, length, refl, sym, ap, subst, ◌∙◌, append-nil, arith}
+use Rattle.std.proofs.Common.{◌≡◌, ℕ, zero, suc, ◌<◌, ◌≤◌, Result, Some, None, List, [], ◌∷◌, ◌++◌, length, refl, sym, ap, subst, ◌∙◌, append-nil, arith}
 use Rattle.std.specs.Prelude.{slice_get}
 use Rattle.std.specs.Result.{OnOk, OnErr}
 use Rattle.site_ids.proofs.MemberLemmas.{in_get}
 use Rattle.wire.specs.declared.message.Message.{Message}
 use Rattle.wire.specs.Messages.{IsMessage}
 use Rattle.node.specs.declared.to.To.TheVariants.{All}
-use Rattle.node.specs.Nodes.{Node, Up, Down}
+use Rattle.durable.specs.Entries.{Floor}
+use Rattle.node.specs.Nodes.{Node, Up, Down, opened}
 use Rattle.node.specs.Effects.{messages_of}
 use Rattle.node.specs.Calls.{submit, tick, widen, ask, tell, deliver, keep}
 use Rattle.world.specs.declared.event.Event.{Event}
-use Rattle.world.specs.declared.event.Event.TheVariants.{Submit, Tick, Widen, Ask, Tell, Deliver, Arm, Crash, Restart, Keep}
+use Rattle.world.specs.declared.event.Event.TheVariants.{Submit, Tick, Widen, Ask, Tell, Deliver, Arm, Crash, Restart, Replace, Keep}
 use Rattle.world.specs.declared.machine.Machine.{Machine}
 use Rattle.world.specs.Taking.{node_of, IsUnsent}
 use Rattle.world.specs.Machines.{Handed, NodeTakes, Settled, Turns, Wants, IsUp, CallTurns, CallWants, EventTurns, EventWants}
@@ -82,6 +83,10 @@ module _ {T E : Type 0} (r : Result T E) (n : ℕ) (event : Event) (old new : Ma
       (λ messages. beside n q (λ s out next. NodeTakes n q (messages_of before) s (Keep q i) out next) old new before (turns n q)))
       told
 
+  pub replaces : (q floor : ℕ) → event ≡ Replace q floor → OnOk r (Turns n q (λ s out next. (out ≡ []) × (next ≡ opened Down (Floor floor ∷ []) None)) old new [] []) → OnOk r (EventTurns n event old new before before)
+  replaces q floor is told =
+      on_ok r (λ turns. turns_for n event (Replace q floor) old new before before is (λ messages. beside n q (λ s out next. NodeTakes n q (messages_of before) s (Replace q floor) out next) old new before turns)) told
+
   pub delivers : (q index : ℕ) → event ≡ Deliver q index → index < length before
       → OnOk r ((m : Message) → slice_get (messages_of before) index ≡ Some m → (k p : ℕ) → IsMessage k m → CallTurns k p (deliver m) old new before after) → OnOk r (EventTurns n event old new before after)
   delivers q index is below told =
@@ -121,3 +126,10 @@ module _ {T E : Type 0} (r : Result T E) (n : ℕ) (event : Event) (old new : Ma
 
   pub deliver_wants : (q index : ℕ) → event ≡ Deliver q index → OnErr r ((k p : ℕ) → Wants k p IsUp old new before after) → OnErr r (EventWants n (node_of event) event old new before after)
   deliver_wants q index is told = on_err r (λ wants. wants_for n event (Deliver q index) old new before after is (wants n q)) told
+
+  pub replace_wants : (q floor : ℕ) → event ≡ Replace q floor → OnErr r (new ≡ old) → OnErr r (EventWants n (node_of event) event old new before before)
+  replace_wants q floor is told =
+      on_err r
+      (λ same. wants_for n event (Replace q floor) old new before before is
+      (subst (λ (m : Machine). Wants n q (λ s. Unit {0}) old m before before) (sym same) (record { leads = λ s at. (tt, at, refl, (λ published. published)) })))
+      told

@@ -14,6 +14,7 @@ pub mod Promising
 pub mod Delivering
 pub mod Retelling
 pub mod Ticking
+pub mod Replacing
 pub mod Running
 pub mod Growing
 pub mod Agreed
@@ -22,9 +23,11 @@ pub mod Published
 pub mod Taken
 pub mod Tables
 pub mod DoingVotes
+pub mod DoingPromises
 pub mod Doing
 pub mod Computing
 pub mod Schedules
+pub mod ReplacedWorked
 pub mod Turning
 pub mod Happening
 pub mod Moving
@@ -46,6 +49,7 @@ pub mod Stretching
 mod Firsts
 mod AllQuiet
 mod Overbidders
+mod AllowedFloors
 mod Pushing
 mod QuietPlans
 pub mod QuietWorked

@@ -15,12 +15,13 @@ use Rattle.node.specs.Calls.{Call, submit, tick, widen, ask, tell, deliver, keep
 use Rattle.node.specs.declared.fault.NodeFault.TheVariants.{OutOfMemory}
 use Rattle.node.specs.Endings.{Refuses}
 use Rattle.world.specs.declared.event.Event.{Event}
-use Rattle.world.specs.declared.event.Event.TheVariants.{Submit, Tick, Widen, Ask, Tell, Deliver, Arm, Crash, Restart, Keep}
+use Rattle.world.specs.declared.event.Event.TheVariants.{Submit, Tick, Widen, Ask, Tell, Deliver, Arm, Crash, Restart, Replace, Keep}
 use Rattle.world.specs.declared.machine.Machine.{Machine}
 use Rattle.world.specs.declared.machine.Machine.TheVariants.{Open, Bare}
 use Rattle.world.specs.declared.world.World.{World as Code}
+use Rattle.durable.specs.Entries.{Floor}
 use Rattle.world.specs.Worlds.{World, Moves, Becomes, Calls}
-use Rattle.world.specs.Taking.{node_of, IsTaken, Takes, IsUnsent, IsBad, IsRefused}
+use Rattle.world.specs.Taking.{node_of, IsTaken, Takes, NamesFloor, IsBad, IsRefused}
 use Rattle.world.specs.Standing.{IsMachineOf, HasPublished, IsWorldOf, IsPublishedAt, IsUnpublishedAt}
 use Rattle.world.specs.Machines.{Handed, AtNode, NodeTakes, Wants, IsUp, RefusesOpening, EventTurns, EventWants, AreMessages}
 use Rattle.world.specs.Steps.{LeadsTo, KeepsPublished}
@@ -75,18 +76,19 @@ module _ (n : ℕ) (w : World) (p : ℕ) (next : Node) (out : Handed) (here : Is
       → (((w.node p).mode ≢ Down) × Becomes n w p (record (w.node p) { armed = true }) (moved w p next out)) ⊎ (((w.node p).mode ≡ Down) × Becomes n w p (w.node p) (moved w p next out))
   armed how none = ⊎_elim (λ x. inl (x.0, moves_as (record (w.node p) { armed = true }) none x.1)) (λ x. inr (x.0, moves_as (w.node p) none x.1)) how
 
-pub takes_of : (n : ℕ) (w : World) (event : Event) (next : Node) (out : Handed) → IsNode n (node_of event) → NodeTakes n (node_of event) w.sent (w.node (node_of event)) event out next
+pub takes_of : (n : ℕ) (w : World) (event : Event) (next : Node) (out : Handed) → IsNode n (node_of event) → NamesFloor n w event → NodeTakes n (node_of event) w.sent (w.node (node_of event)) event out next
     → Takes n w event (moved w (node_of event) next out)
-takes_of n w (Submit p v) next out here how = called n w p next out here (submit v) how
-takes_of n w (Tick p) next out here how = called n w p next out here tick how
-takes_of n w (Widen p) next out here how = called n w p next out here widen how
-takes_of n w (Ask p) next out here how = called n w p next out here ask how
-takes_of n w (Tell p i) next out here how = called n w p next out here (tell All i) how
-takes_of n w (Deliver p index) next out here how = record { message = how.0; was_sent = how.1; calls = called n w p next out here (deliver how.0) how.2 }
-takes_of n w (Arm p calls) next out here how = armed n w p next out here how.1 how.0
-takes_of n w (Crash p choice) next out here how = record { entries = how.0; settles = how.1; becomes = moves_as n w p next out here (opened Down how.0 None) how.2 how.3 }
-takes_of n w (Keep p i) next out here how = called n w p next out here (keep i) how
-takes_of n w (Restart p) next out here how = record { entries = how.0; settles = how.1; becomes = moves_as n w p next out here (opened Up how.0 None) how.2 how.3 }
+takes_of n w (Submit p v) next out here floor how = called n w p next out here (submit v) how
+takes_of n w (Tick p) next out here floor how = called n w p next out here tick how
+takes_of n w (Widen p) next out here floor how = called n w p next out here widen how
+takes_of n w (Ask p) next out here floor how = called n w p next out here ask how
+takes_of n w (Tell p i) next out here floor how = called n w p next out here (tell All i) how
+takes_of n w (Deliver p index) next out here floor how = record { message = how.0; was_sent = how.1; calls = called n w p next out here (deliver how.0) how.2 }
+takes_of n w (Arm p calls) next out here floor how = armed n w p next out here how.1 how.0
+takes_of n w (Crash p choice) next out here floor how = record { entries = how.0; settles = how.1; becomes = moves_as n w p next out here (opened Down how.0 None) how.2 how.3 }
+takes_of n w (Keep p i) next out here floor how = called n w p next out here (keep i) how
+takes_of n w (Replace p f) next out here floor how = record { is_floor = floor; becomes = moves_as n w p next out here (opened Down (Floor f ∷ []) None) how.0 how.1 }
+takes_of n w (Restart p) next out here floor how = record { entries = how.0; settles = how.1; becomes = moves_as n w p next out here (opened Up how.0 None) how.2 how.3 }
 
 -- ---- the value with one machine changed
 
@@ -140,7 +142,7 @@ published_down n p (Open code armed) s at down = absurd (not_down code.store.sto
 published_down n p (Bare disk) s at down = tt
 
 module _ (old new : Code) (event : Event) (k : ℕ) (machine mid x : Machine) (here : node_of event ≡ suc k) (below : k < length old.machines.items) (machines : new.machines.items ≡ slice_set old.machines.items k x) (same : new.cluster ≡ old.cluster)
-    (at : IsNode old.cluster (node_of event)) (got : slice_get old.machines.items k ≡ Some machine) where
+    (at : IsNode old.cluster (node_of event)) (floors : (w : World) → IsWorldOf old w → NamesFloor old.cluster w event) (got : slice_get old.machines.items k ≡ Some machine) where
   abbrev How : (World → Type 0) → World → World → Type 0
   How Published w after = Takes old.cluster w event after × KeepsPublished old new event w after × Published after
 
@@ -158,7 +160,7 @@ module _ (old new : Code) (event : Event) (k : ℕ) (machine mid x : Machine) (h
         record {
           after = after;
           how = (
-            takes_of n w event t.next t.out at (subst (λ l. NodeTakes n p l (w.node p) event t.out t.next) (sym stands.sent) t.does),
+            takes_of n w event t.next t.out at (floors w stands) (subst (λ l. NodeTakes n p l (w.node p) event t.out t.next) (sym stands.sent) t.does),
             keeps_others old new k p x here below machines same w after (messages_of t.out) t.next mv,
             published w after (messages_of t.out) t.next mv t.stands,
           );
@@ -249,15 +251,18 @@ step_not_taken old new (Keep p i) k machine x here below machines same at got wa
 step_not_taken old new (Deliver p index) k machine x here below machines same at got wants = step_wanted old new p k machine x here below machines same at got IsUp wants
 step_not_taken old new (Arm p calls) k machine x here below machines same at got wants = absurd wants
 step_not_taken old new (Crash p choice) k machine x here below machines same at got wants = absurd wants
+step_not_taken old new (Replace p floor) k machine x here below machines same at got wants =
+    let led = step_wanted old new p k machine x here below machines same at got (λ s. Unit {0}) wants in
+    record { leads = λ w stands. let l = led.leads w stands in record { after = l.after; how = (l.how.0.1, l.how.1); stands = l.stands } }
 step_not_taken old new (Restart p) k machine x here below machines same at got wants = step_refused old new p k machine x here below machines same at got wants.0 wants.1
 
 -- nothing happens at a bad event
 pub step_bad : (old new : Code) (event : Event) → new.machines.items ≡ old.machines.items → new.sent.items ≡ old.sent.items → new.cluster ≡ old.cluster
-    → (¬ IsNode old.cluster (node_of event)) ⊎ IsUnsent (messages_of old.sent.items) event → LeadsTo old new (λ w after. (IsBad old.cluster w.sent event × (after ≡ w)) × Kept old new w after)
+    → ((w : World) → IsWorldOf old w → IsBad old.cluster w event) → LeadsTo old new (λ w after. (IsBad old.cluster w event × (after ≡ w)) × Kept old new w after)
 step_bad old new event machines sent same bad = record {
   leads = λ w stands. record {
     after = w;
-    how = ((subst (λ l. IsBad old.cluster l event) (sym stands.sent) bad, refl), λ q published j machine is got. published j machine is (ap (λ (l : List Machine). slice_get l j) (sym machines) ∙ got));
+    how = ((bad w stands, refl), λ q published j machine is got. published j machine is (ap (λ (l : List Machine). slice_get l j) (sym machines) ∙ got));
     stands = record {
       machines = λ j machine got.
           subst (λ (n : ℕ). IsMachineOf n (suc j) machine (w.node (suc j))) (sym same) (stands.machines j machine (ap (λ (l : List Machine). slice_get l j) (sym machines) ∙ got));

@@ -6,11 +6,11 @@ use Rattle.site_ids.specs.Spans.{last_of}
 use Rattle.site_ids.proofs.MapLemmas.{put_other}
 use Rattle.wire.specs.declared.message.Message.{Message}
 use Rattle.wire.specs.declared.message.Message.TheVariants.{Prepare, Nack}
-use Rattle.durable.specs.Entries.{Entry, Round, Voted, Raises, last_round, last_vote, greatest_round, with_entry}
+use Rattle.durable.specs.Entries.{Entry, Round, Voted, Raises, last_round, last_vote, greatest_round, with_entry, floor_of}
 use Rattle.durable.proofs.Push.{round_after-push}
 use Rattle.proposer.specs.Attempts.{Attempt, opened}
 use Rattle.node.specs.declared.to.To.{To}
-use Rattle.node.specs.Nodes.{Node, IsFirstUnknown}
+use Rattle.node.specs.Nodes.{Node, IsFirstUnknown, IsMute}
 use Rattle.node.specs.Effects.{Effect, recorded, messages_of}
 use Rattle.node.specs.Calls.{deliver, fresh_ballot, HasRound, oldest, AreOpenElsewhere}
 use Rattle.world.specs.declared.event.Event.TheVariants.{Tick, Deliver}
@@ -27,6 +27,7 @@ use Rattle.world.proofs.Bounds.{raised_within, round_least}
 -- what is left of a refused attempt
 pub record Heard (n p i : ℕ) (w after : World) (elsewhere : List (ℕ × Attempt)) : Type 0 where
   pub first : IsFirstUnknown (after.node p).known i
+  pub not_mute : ¬ IsMute (after.node p) i
   pub round : HasRound (after.node p)
   pub open_elsewhere : AreOpenElsewhere (after.node p) i elsewhere
   pub clear : (r : ℕ) → IsNode (quorum n) r → IsClear (after.node r).entries i (fresh_ballot p (after.node p))
@@ -47,9 +48,9 @@ mind_over s q i r b d effect how = record {
 some_attempt : (a c : Attempt) (o : Option Attempt) → o ≡ Some a → o ≡ Some c → a ≡ c
 some_attempt a c o x y = cc
 
-module _ (n p i : ℕ) (w : World) (elsewhere : List (ℕ × Attempt)) (node : IsNode n p) (first : IsFirstUnknown (w.node p).known i) (round : HasRound (w.node p)) (open_elsewhere : AreOpenElsewhere (w.node p) i elsewhere) (q : ℕ)
+module _ (n p i : ℕ) (w : World) (elsewhere : List (ℕ × Attempt)) (node : IsNode n p) (first : IsFirstUnknown (w.node p).known i) (not_mute : ¬ IsMute (w.node p) i) (round : HasRound (w.node p)) (open_elsewhere : AreOpenElsewhere (w.node p) i elsewhere) (q : ℕ)
     (over : Overbids n w i (fresh_ballot p (w.node p)) q) (last_low : last_round (w.node p).entries ≤ 4294967293) (heard_low : (w.node p).heard ≤ 4294967293)
-    (rounds : (r : ℕ) → IsNode n r → greatest_round (w.node r).entries ≤ 4294967293)
+    (none_mute : (r : ℕ) → IsNode (quorum n) r → ¬ IsMute (w.node r) i) (rounds : (r : ℕ) → IsNode n r → greatest_round (w.node r).entries ≤ 4294967293)
   where
     abbrev b : BallotOf
     b = fresh_ballot p (w.node p)
@@ -62,7 +63,7 @@ module _ (n p i : ℕ) (w : World) (elsewhere : List (ℕ × Attempt)) (node : I
 
     module _ (w1 : World) (run_1 : AllRun n w1) (tick_taken : Takes n w (Tick p) w1) where
       began : Ticked p i w w1 (length elsewhere)
-      began = ticked n p i w w1 elsewhere first round open_elsewhere (run_1 p node) tick_taken
+      began = ticked n p i w w1 elsewhere first not_mute round open_elsewhere (run_1 p node) tick_taken
 
       pub long_1 : length w1.sent ≡ length w.sent + 1 + length elsewhere
       long_1 = let l = longer w1.sent w.sent (Prepare p i b 1 ∷ began.again) began.sent in let m = began.many in omega (arith, l, m)
@@ -73,7 +74,7 @@ module _ (n p i : ℕ) (w : World) (elsewhere : List (ℕ × Attempt)) (node : I
 
         told : Nacks q (record (w1.node q) { reached = max (w1.node q).reached (last_of i 1) }) i b over.promised acts_2.effect
         told =
-            nacks q (record (w1.node q) { reached = max (w1.node q).reached (last_of i 1) }) i b over.promised acts_2.effect over.on_record.0.0 (began.kept q over.on_record.0.0 over.on_record.0.1) over.on_record.0.2 over.above acts_2.does
+            nacks q (record (w1.node q) { reached = max (w1.node q).reached (last_of i 1) }) i b over.promised acts_2.effect over.on_record.0.0 (began.kept q over.on_record.0.0 over.on_record.0.1) over.on_record.0.2 over.above (began.not_mute q (none_mute q over.node)) acts_2.does
 
         entries_2 : (r : ℕ) → (w2.node r).entries ≡ (w1.node r).entries
         entries_2 = for_each n w1 q (deliver (Prepare p i b 1)) w2 (λ s t. t.entries ≡ s.entries) (λ s. refl) acts_2 (ap (λ x. with_entry (w1.node q).entries x) told.entry)
@@ -132,6 +133,7 @@ module _ (n p i : ℕ) (w : World) (elsewhere : List (ℕ × Attempt)) (node : I
           pub refused : Heard n p i w w3 elsewhere
           refused = record {
             first = subst (λ f. IsFirstUnknown f i) (sym known_3) first;
+            not_mute = λ mute. began.not_mute p not_mute (subst (λ es. i ≤ floor_of es) (entries_3 p) mute);
             round = let a = last_3 in let h = heard_3 in let t = told_low in omega (arith, a, h, t, last_low, heard_low);
             open_elsewhere = record {
               rising = open_elsewhere.rising;
@@ -142,6 +144,7 @@ module _ (n p i : ℕ) (w : World) (elsewhere : List (ℕ × Attempt)) (node : I
               below = λ e c k raised. inl (low_3 r e c is k raised);
               unvoted = λ x last same. let h = low_3 r (Voted i x.ballot x.value) x.ballot is (last_vote-in i (w3.node r).entries x last) (refl, refl) in let e : x.ballot.round ≡ (fresh_ballot p (w3.node p)).round = ap (λ (y : BallotOf). y.round) same in
                   omega (arith, h, e);
+              not_mute = λ mute. began.not_mute r (none_mute r is) (subst (λ es. i ≤ floor_of es) (entries_3 r) mute);
             };
             sent = let l = longer w3.sent w2.sent (messages_of acts_3.effect.out) acts_3.sent in let j = long_2 in let none : length (messages_of acts_3.effect.out) ≡ 0 = ap (λ (x : Effect). length (messages_of x.out)) acts_3.does in omega (arith, l, j, none);
             last = λ r. ap (λ es. last_vote i es) (entries_3 r) ∙ began.last r;

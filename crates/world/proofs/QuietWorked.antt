@@ -91,7 +91,14 @@ no_attempt a e = cc
 
 pub start_is_quiet : StartIsQuiet
 start_is_quiet n p node = (
-  record { each = λ q is. record { running = refl; unarmed = refl; rounds = omega arith }; instance = 1; unknown = first_of_all },
+  record {
+    each = λ q is. record { running = refl; unarmed = refl; rounds = omega arith };
+    instance = 1;
+    unknown = first_of_all;
+    not_mute = λ mute. omega (arith, mute);
+    none_mute = λ q is mute. omega (arith, mute);
+    heard = omega arith;
+  },
   record {
     instance = 1;
     unknown = first_of_all;

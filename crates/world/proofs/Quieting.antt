@@ -1,6 +1,8 @@
 -- A plan is short, decides, and has no bad event.
 use Rattle.std.proofs.Common.{◌≡◌, ⊎_elim, ℕ, zero, suc, ◌+◌, ◌*◌, ◌<◌, ◌≤◌, List, [], ◌∷◌, ◌++◌, length, refl, sym, ap, subst, ◌∙◌, arith}
 use Rattle.site_ids.specs.Ids.{IsNode}
+use Rattle.node.specs.Nodes.{IsMute}
+use Rattle.node.proofs.Gaps.{one_first}
 use Rattle.node.specs.Calls.{fresh_ballot, HasRound, oldest}
 use Rattle.world.specs.declared.event.Event.{Event}
 use Rattle.world.specs.declared.event.Event.TheVariants.{Tick, Deliver}
@@ -132,27 +134,36 @@ module _ (n p : ℕ) (past events : List Event) (w : World) (runs : Runs n start
   abbrev e : ℕ
   e = length plan.elsewhere
 
+  same_first : plan.instance ≡ quiet.instance
+  same_first = one_first (w.node p).known quiet.instance plan.instance quiet.unknown plan.unknown
+
+  not_mute : ¬ IsMute (w.node p) plan.instance
+  not_mute = subst (λ j. ¬ IsMute (w.node p) j) (sym same_first) quiet.not_mute
+
+  none_mute : (q : ℕ) → IsNode (quorum n) q → ¬ IsMute (w.node q) plan.instance
+  none_mute q is = subst (λ j. ¬ IsMute (w.node q) j) (sym same_first) (quiet.none_mute q is)
+
   round : HasRound (w.node p)
   round = has_round n p past w runs node quiet
 
   clear : HasNoneAbove n w i (fresh_ballot p (w.node p)) → (q : ℕ) → IsNode (quorum n) q → IsClear (w.node q).entries i (fresh_ballot p (w.node p))
-  clear none q is = record { below = λ x c k raised. none q x c is k raised; unvoted = λ x last. fresh_unvoted n p past w runs q i x last }
+  clear none q is = record { below = λ x c k raised. none q x c is k raised; unvoted = λ x last. fresh_unvoted n p past w runs q i not_mute x last; not_mute = none_mute q is }
 
   -- what is left of the refused attempt
   heard_of : (q : ℕ) → Overbids n w i (fresh_ballot p (w.node p)) q → (w1 : World) → AllRun n w1 → Takes n w (Tick p) w1 → (w2 : World) → AllRun n w2 → Takes n w1 (Deliver q (length w.sent)) w2
       → (w3 : World) → AllRun n w3 → Takes n w2 (Deliver p (length w.sent + 1 + e)) w3 → Heard n p i w w3 plan.elsewhere
   heard_of q over w1 run_1 t1 w2 run_2 t2 w3 run_3 t3 =
-      refused n p i w plan.elsewhere node plan.unknown round plan.open_elsewhere q over (last_low n p past w runs node quiet) (heard_low n p past w runs node quiet) (λ r m. (quiet.each r m).rounds) w1 run_1 t1 w2 run_2 t2 w3 run_3 t3
+      refused n p i w plan.elsewhere node plan.unknown not_mute round plan.open_elsewhere q over (last_low n p past w runs node quiet) (heard_low n p past w runs node quiet) none_mute (λ r m. (quiet.each r m).rounds) w1 run_1 t1 w2 run_2 t2 w3 run_3 t3
 
   decided_after : (w3 after : World) → Heard n p i w w3 plan.elsewhere → AllRun n after → TakesAll n w3 (one_attempt n p (length w.sent + 2 + e) e) after → Decides n p i w3 after
   decided_after w3 after h run how =
-      decides n p i w3 plan.elsewhere node h.first h.round h.open_elsewhere h.clear after run (subst (λ k. TakesAll n w3 (one_attempt n p k e) after) (sym h.sent) how)
+      decides n p i w3 plan.elsewhere node h.first h.not_mute h.round h.open_elsewhere h.clear after run (subst (λ k. TakesAll n w3 (one_attempt n p k e) after) (sym h.sent) how)
 
   learns : (after : World) → AllRun n after → TakesAll n w events after → Learns n w p after
   learns after run how =
       ⊎_elim
       (λ x.
-      let d = decides n p i w plan.elsewhere node plan.unknown round plan.open_elsewhere (clear x.0) after run (subst (λ l. TakesAll n w l after) x.1 how) in
+      let d = decides n p i w plan.elsewhere node plan.unknown not_mute round plan.open_elsewhere (clear x.0) after run (subst (λ l. TakesAll n w l after) x.1 how) in
       record { instance = i; unknown = plan.unknown; value = d.value; known = d.known; own = d.own })
       (λ x.
       let rest = one_attempt n p (length w.sent + 2 + e) e in
@@ -171,16 +182,16 @@ module _ (n p : ℕ) (past events : List Event) (w : World) (runs : Runs n start
       oldest_of : List (List ℕ) → List ℕ
       oldest_of = oldest
 
-  good_tick : ¬ IsBad n w.sent (Tick p)
-  good_tick bad = ⊎_elim (λ none. none node) (λ none. none) bad
+  good_tick : ¬ IsBad n w (Tick p)
+  good_tick bad = ⊎_elim (λ none. none node) (λ other. ⊎_elim (λ none. none) (λ none. none) other) bad
 
-  good_delivery : (u : World) (q k : ℕ) → IsNode n q → k < length u.sent → ¬ IsBad n u.sent (Deliver q k)
-  good_delivery u q k here below bad = ⊎_elim (λ none. none here) (λ (h : length u.sent ≤ k). omega (arith, h, below)) bad
+  good_delivery : (u : World) (q k : ℕ) → IsNode n q → k < length u.sent → ¬ IsBad n u (Deliver q k)
+  good_delivery u q k here below bad = ⊎_elim (λ none. none here) (λ other. ⊎_elim (λ (h : length u.sent ≤ k). omega (arith, h, below)) (λ none. none) other) bad
 
   never : NeverBad n w events
   never =
       ⊎_elim
-      (λ x. subst (λ l. NeverBad n w l) (sym x.1) (never_bad n p i w plan.elsewhere node plan.unknown round plan.open_elsewhere (clear x.0)))
+      (λ x. subst (λ l. NeverBad n w l) (sym x.1) (never_bad n p i w plan.elsewhere node plan.unknown not_mute round plan.open_elsewhere (clear x.0)))
       (λ x.
       let low = last_low n p past w runs node quiet in
       let heard = heard_low n p past w runs node quiet in
@@ -188,14 +199,14 @@ module _ (n p : ℕ) (past events : List Event) (w : World) (runs : Runs n start
       subst (λ l. NeverBad n w l) (sym x.2) (
         good_tick,
         λ w1 t1 run_1.
-            let l1 = long_1 n p i w plan.elsewhere node plan.unknown round plan.open_elsewhere x.0 x.1 low heard (λ r m. (quiet.each r m).rounds) w1 run_1 t1 in (
+            let l1 = long_1 n p i w plan.elsewhere node plan.unknown not_mute round plan.open_elsewhere x.0 x.1 low heard none_mute (λ r m. (quiet.each r m).rounds) w1 run_1 t1 in (
               good_delivery w1 x.0 (length w.sent) there (omega (arith, l1)),
               λ w2 t2 run_2.
-                  let l2 = long_2 n p i w plan.elsewhere node plan.unknown round plan.open_elsewhere x.0 x.1 low heard (λ r m. (quiet.each r m).rounds) w1 run_1 t1 w2 run_2 t2 in (
+                  let l2 = long_2 n p i w plan.elsewhere node plan.unknown not_mute round plan.open_elsewhere x.0 x.1 low heard none_mute (λ r m. (quiet.each r m).rounds) w1 run_1 t1 w2 run_2 t2 in (
                     good_delivery w2 p (length w.sent + 1 + e) node (omega (arith, l2)),
                     λ w3 t3 run_3.
                         let h = heard_of x.0 x.1 w1 run_1 t1 w2 run_2 t2 w3 run_3 t3 in
-                        subst (λ k. NeverBad n w3 (one_attempt n p k e)) h.sent (never_bad n p i w3 plan.elsewhere node h.first h.round h.open_elsewhere h.clear),
+                        subst (λ k. NeverBad n w3 (one_attempt n p k e)) h.sent (never_bad n p i w3 plan.elsewhere node h.first h.not_mute h.round h.open_elsewhere h.clear),
                   ),
             ),
       ))

@@ -5,19 +5,20 @@ use Rattle.site_ids.specs.Lists.{In}
 use Rattle.site_ids.specs.declared.value.Vote.{Vote}
 use Rattle.wire.specs.declared.message.Message.{Message}
 use Rattle.wire.specs.declared.message.Message.TheVariants.{Propose, Accepted, Chosen}
-use Rattle.durable.specs.Entries.{Voted, Learned, last_vote}
+use Rattle.durable.specs.Entries.{Entry, Voted, Learned, last_vote}
 use Rattle.node.specs.declared.to.To.{To}
 use Rattle.node.specs.Nodes.{Value, Node}
 use Rattle.node.specs.Effects.{messages_of}
 use Rattle.node.specs.Tellings.{remembered, tells, told_from, addressed}
 use Rattle.world.specs.Decided.{Decides}
 use Rattle.node.proofs.ToldAgain.{IsToldOf, each_told, remembered_from}
+use Rattle.site_ids.proofs.MemberLemmas.{in_right}
 use Rattle.world.proofs.Lists.{in_map}
 use Rattle.world.proofs.Keeping.{SaysNew}
 use Rattle.world.proofs.Endings.{EffectSound}
 use Rattle.world.proofs.Calling.{Inside, no_entry, plain}
 
-module _ (n : ℕ) (fair : Value → Type 0) (sent : List Message) (p : ℕ) (s : Node)
+module _ (n : ℕ) (fair : Value → Type 0) (sent : List Message) (lost : List Entry) (p : ℕ) (s : Node)
     (one_value : (q r i : ℕ) (b : BallotOf) (v u : Value) → In sent (Propose q i b v) → In sent (Propose r i b u) → v ≡ u)
     (learned : (i : ℕ) (v : Value) → In s.entries (Learned i v) → Decides n sent i v)
     (h : Inside n fair sent p s.entries s)
@@ -41,15 +42,15 @@ module _ (n : ℕ) (fair : Value → Type 0) (sent : List Message) (p : ℕ) (s 
         voted : (w : Vote) → Accepted p j w.ballot w.value ≡ m → ⊥
         voted w e = cc
 
-    says : (m : Message) (j : ℕ) → IsToldOf p s m j → SaysNew n fair sent p s m
+    says : (m : Message) (j : ℕ) → IsToldOf p s m j → SaysNew n fair sent lost p s m
     says m j told =
         ⊎_elim
-        (λ (x : (u : Value) × (remembered s j ≡ Some u) × (m ≡ Chosen p j u)). subst (SaysNew n fair sent p s) (sym x.2) (⊎_elim (λ k. h.known j x.0 k) (λ k. learned j x.0 k) (remembered_from s j x.0 x.1)))
-        (λ (x : (w : Vote) × In s.entries (Voted j w.ballot w.value) × (last_vote j s.entries ≡ Some w) × (remembered s j ≡ None) × (m ≡ Accepted p j w.ballot w.value)). subst (SaysNew n fair sent p s) (sym x.4) (refl, x.1))
+        (λ (x : (u : Value) × (remembered s j ≡ Some u) × (m ≡ Chosen p j u)). subst (SaysNew n fair sent lost p s) (sym x.2) (⊎_elim (λ k. h.known j x.0 k) (λ k. learned j x.0 k) (remembered_from s j x.0 x.1)))
+        (λ (x : (w : Vote) × In s.entries (Voted j w.ballot w.value) × (last_vote j s.entries ≡ Some w) × (remembered s j ≡ None) × (m ≡ Accepted p j w.ballot w.value)). subst (SaysNew n fair sent lost p s) (sym x.4) (refl, in_right lost s.entries (Voted j x.0.ballot x.0.value) x.1))
         told.is
 
-    pub tell_sound : (to : To) (i : ℕ) → EffectSound n fair sent p s.entries (tells p s to i)
+    pub tell_sound : (to : To) (i : ℕ) → EffectSound n fair sent lost p s.entries (tells p s to i)
     tell_sound to i =
-        plain n fair sent p one_value s.entries None s (map (addressed to) (told_from p s i)) (λ e k. absurd (no_entry e k)) h
+        plain n fair sent lost p one_value s.entries None s (map (addressed to) (told_from p s i)) (λ e k. absurd (no_entry e k)) h
         (λ q j b v k. let told = each_of to i (Propose q j b v) k in absurd (no_proposal (Propose q j b v) told.0 told.1 q j b v refl))
         (λ m k. let told = each_of to i m k in inr (says m told.0 told.1))

@@ -13,12 +13,12 @@ use Rattle.site_ids.specs.declared.value.Vote.{Vote}
 use Rattle.site_ids.specs.declared.TheConstants.{MAX_PENDING}
 use Rattle.node.specs.declared.to.To.{To}
 use Rattle.node.specs.declared.to.To.TheVariants.{One, All}
-use Rattle.node.specs.Nodes.{Value, Node, IsKnown, IsUnknown}
+use Rattle.node.specs.Nodes.{Value, Node, IsKnown, IsUnknown, IsMute}
 use Rattle.node.specs.Tickets.{IsCommand, IsHeld}
 use Rattle.node.specs.Effects.{Effect, quiet, says, learned}
-use Rattle.node.specs.Tellings.{remembered, tells, told_from, addressed}
-use Rattle.node.specs.Deliveries.{Judged, prepare_out, span_out, propose_out, promise_out, reached_by, with_vote, Counted, ByKind}
-use Rattle.node.specs.Calls.{Call, submit, tick, widen, ask, tell, deliver, queued, resent, Begins, MayWiden, Does, keep, KeepsOne, MayKeep}
+use Rattle.node.specs.Tellings.{tells, told_from, addressed, remembered}
+use Rattle.node.specs.Deliveries.{Judged, prepare_out, span_out, propose_out, promise_out, reached_by, with_vote, Counted, ByKind, OnPrepare, OnPropose}
+use Rattle.node.specs.Calls.{Call, submit, tick, widen, ask, tell, deliver, queued, resent, Begins, MayWiden, Does, Ticks, AsksInstead, keep, KeepsOne, MayKeep}
 use Rattle.node.specs.Endings.{Ending, Whole, Refused, Failed, Ends}
 use Rattle.world.specs.Batches.{SaysItself}
 use Rattle.node.proofs.ToldAgain.{each_told}
@@ -77,8 +77,16 @@ telling_from p s to i x k =
     told.2.is
 
 delivery_from : (n p : ℕ) (s : Node) (m : Message) (effect : Effect) → ByKind n p s m effect → AreFrom p effect.out
-delivery_from n p s (Prepare q i b k) effect how = of_effect p effect (record { entry = how.entry; after = s; out = span_out p i b how.judged }) how.is (span_from p i b how.judged)
-delivery_from n p s (Propose q i b v) effect how = of_effect p effect (record { entry = how.entry; after = s; out = propose_out p i b v how.answer }) how.is (propose_from p i b v how.answer)
+delivery_from n p s (Prepare q i b k) effect how =
+    ⊎_elim
+    (λ (x : IsMute s i × (effect ≡ quiet s)). of_effect p effect (quiet s) x.1 (none_from p))
+    (λ (x : (¬ IsMute s i) × OnPrepare p s i b k effect). of_effect p effect (record { entry = x.1.entry; after = s; out = span_out p i b x.1.judged }) x.1.is (span_from p i b x.1.judged))
+    how
+delivery_from n p s (Propose q i b v) effect how =
+    ⊎_elim
+    (λ (x : IsMute s i × (effect ≡ quiet s)). of_effect p effect (quiet s) x.1 (none_from p))
+    (λ (x : (¬ IsMute s i) × OnPropose p s i b v effect). of_effect p effect (record { entry = x.1.entry; after = s; out = propose_out p i b v x.1.answer }) x.1.is (propose_from p i b v x.1.answer))
+    how
 delivery_from n p s (Promise q i b prior) effect how =
     of_effect p effect (record { entry = None; after = record s { attempts = how.attempts }; out = promise_out p i b how.proposed }) how.is (promise_from p i b how.proposed)
 delivery_from n p s (Accepted q i b v) effect how =
@@ -110,8 +118,12 @@ call_from n p s (submit v) effect how =
     (λ (x : IsCommand v × (¬ IsHeld s v) × (length s.pending < MAX_PENDING) × (effect ≡ quiet (queued s v))). of_effect p effect (quiet (queued s v)) x.3 (none_from p))
     how
 call_from n p s tick effect how =
-    of_effect p effect (record { entry = _; after = record s { attempts = _ }; out = (All, Prepare p how.instance _ 1) ∷ map (resent p) how.elsewhere }) how.is
-    (first_from p (All, Prepare p how.instance _ 1) (map (resent p) how.elsewhere) refl (again_from p how.elsewhere))
+    ⊎_elim
+    (λ (x : Ticks p s effect).
+    of_effect p effect (record { entry = _; after = record s { attempts = _ }; out = (All, Prepare p x.instance _ 1) ∷ map (resent p) x.elsewhere }) x.is
+    (first_from p (All, Prepare p x.instance _ 1) (map (resent p) x.elsewhere) refl (again_from p x.elsewhere)))
+    (λ (x : AsksInstead p s effect). of_effect p effect (says s All (Ask p x.asks.instance)) x.asks.is (first_from p (All, Ask p x.asks.instance) [] refl (none_from p)))
+    how
 call_from n p s widen effect how =
     ⊎_elim
     (λ (x : Begins p s effect). of_effect p effect (record { entry = _; after = record s { attempts = _ }; out = (All, Prepare p x.instance _ _) ∷ [] }) x.is (first_from p (All, Prepare p x.instance _ _) [] refl (none_from p)))

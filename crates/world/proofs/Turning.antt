@@ -1,6 +1,6 @@
 -- What a call of one node does at its machine.
 use Rattle.std.proofs.Common.{◌≡◌, ◌≢◌, ◌⊎◌, inl, inr, ℕ, zero, suc, get_or, Bool, true, false, if◌then◌else◌, Result, Ok, Err, Some, None, List, [], ◌∷◌, ◌++◌, refl, sym, ap, subst, ◌∙◌, ⊎_elim, append-nil}
-use Rattle.std.specs.Prelude.{slice_get, IsTrue, is_err}
+use Rattle.std.specs.Prelude.{◌↔◌, not, slice_get, IsTrue, is_err}
 use Rattle.std.specs.Result.{OnOk, OnErr}
 use Rattle.site_disk.specs.Model.{DiskState, MayLeave, moment, at_rest, after_sync}
 use Rattle.site_disk.specs.Memory.{MemoryStandsFor}
@@ -10,7 +10,7 @@ use Rattle.wire.specs.declared.message.Message.{Message}
 use Rattle.wire.specs.Messages.{IsMessage}
 use Rattle.durable.specs.Append.{IsSettled}
 use Rattle.durable.specs.Standing.{StandsFor}
-use Rattle.durable.specs.Entries.{Entry}
+use Rattle.durable.specs.Entries.{Entry, Floor}
 use Rattle.durable.specs.Keeping.{Keeps, Settles}
 use Rattle.durable.proofs.Keeping.{crash_settles, settled_keeps, sync_keeps}
 use Rattle.node.specs.declared.to.To.{To}
@@ -26,7 +26,7 @@ use Rattle.world.specs.declared.event.Event.TheVariants.{Arm}
 use Rattle.world.specs.declared.machine.Machine.{Machine}
 use Rattle.world.specs.declared.machine.Machine.TheVariants.{Open, Bare}
 use Rattle.world.specs.Taking.{IsTaken}
-use Rattle.world.specs.Standing.{IsOpen, IsMachineOf}
+use Rattle.world.specs.Standing.{IsOpen, IsBare, IsMachineOf}
 use Rattle.world.specs.Machines.{Handed, AtNode, Turns, Wants, IsUp, RefusesOpening, CallTurns, CallWants, NodeTakes, Settled}
 
 abbrev pub Stands : MemDisk → DiskState → Type 0
@@ -161,6 +161,24 @@ unarmed_at n p q calls here disk is = subst (λ (x : Machine). Turns n p (λ s o
   };
 })
 
+-- ---- what a machine tells
+
+pub open_in : (n p : ℕ) (here : Machine) (node : Running MemDisk) (armed : Bool) → here ≡ Open node armed → (s : Node) → IsMachineOf n p here s → IsOpen n p node armed s
+open_in n p here node armed is s at = subst (λ (x : Machine). IsMachineOf n p x s) is at
+
+pub down_in : (n p : ℕ) (here : Machine) (disk : MemDisk) → here ≡ Bare disk → (s : Node) → IsMachineOf n p here s → s.mode ≡ Down
+down_in n p here disk is s at = let mine : IsBare n p disk s = subst (λ (x : Machine). IsMachineOf n p x s) is at in ap (λ (t : Node). t.mode) mine.down
+
+pub not_up_too : (m : Mode) → m ≡ Down → m ≡ Up → ⊥
+not_up_too m down up = let both : Down ≡ Up = sym down ∙ up in cc
+
+pub not_down_in : (n p : ℕ) (node : Running MemDisk) (armed : Bool) (s : Node) → IsOpen n p node armed s → s.mode ≢ Down
+not_down_in n p node armed s at = not_down node.store.stopped s.mode at.stands.parts.on_record.mode_is
+
+pub opposite : (b : Bool) (P : Type 0) → IsTrue b ↔ P → IsTrue (not b) ↔ (¬ P)
+opposite true P told = (λ t. absurd (cc), λ none. absurd (none (told.0 refl)))
+opposite false P told = (λ t holds. let on = told.1 holds in cc, λ none. refl)
+
 -- ---- a crash, and an opening
 
 -- the disk that is taken away keeps the node's record
@@ -226,6 +244,22 @@ refused_opening {A} n p here disk after taken refuses = record {
       (λ (synced : MemoryStandsFor after (after_sync kept.0)). record { down = refl; state = after_sync kept.0; stands = synced; keeps = (sync_keeps p n s.entries s.in_flight kept.0 kept.2).0 })
       (λ (same : MemoryStandsFor after kept.0 × A). record { down = refl; state = kept.0; stands = same.0; keeps = kept.2 })
       (refuses kept.0 kept.1);
+}
+
+-- ---- a replacement
+
+-- a disk just formatted, with that floor alone on record
+pub replaced : (n p floor : ℕ) (here : Machine) (disk : MemDisk) (d : DiskState) → MemoryStandsFor disk d → IsSettled d → StandsFor p n d.seen (Floor floor ∷ [])
+    → Turns n p (λ s out next. (out ≡ []) × (next ≡ opened Down (Floor floor ∷ []) None)) here (Bare disk) [] []
+replaced n p floor here disk d stands settled reads = record {
+  leads = λ s at. record {
+    next = opened Down (Floor floor ∷ []) None;
+    out = [];
+    does = (refl, refl);
+    stands = record { down = refl; state = d; stands = stands; keeps = settled_keeps p n (Floor floor ∷ []) d settled reads };
+    outbox = refl;
+    messages = λ m k. absurd k;
+  };
 }
 
 -- ---- a delivery

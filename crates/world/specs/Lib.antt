@@ -3,6 +3,7 @@ pub mod Taking
 pub mod Decided
 pub mod Agreement
 pub mod Worked
+pub mod Replaced
 pub mod Standing
 pub mod Machines
 pub mod Opening

@@ -1,9 +1,9 @@
 -- What a call makes of one node's machine.
-use Rattle.std.specs.Prelude.{◌≡◌, ◌≢◌, ◌⊎◌, ℕ, List, Some, None, true, [], ◌++◌, slice_get}
+use Rattle.std.specs.Prelude.{◌≡◌, ◌≢◌, ◌⊎◌, ℕ, List, Some, None, true, [], ◌∷◌, ◌++◌, slice_get, ⊤}
 use Rattle.site_ids.specs.Lists.{In}
 use Rattle.wire.specs.declared.message.Message.{Message}
 use Rattle.wire.specs.Messages.{IsMessage}
-use Rattle.durable.specs.Entries.{Entry}
+use Rattle.durable.specs.Entries.{Entry, Floor}
 use Rattle.durable.specs.Keeping.{Settles}
 use Rattle.node.specs.declared.to.To.{To}
 use Rattle.node.specs.declared.to.To.TheVariants.{All}
@@ -13,7 +13,7 @@ use Rattle.node.specs.Calls.{Call, submit, tick, widen, ask, tell, deliver, keep
 use Rattle.node.specs.declared.fault.NodeFault.TheVariants.{OutOfMemory}
 use Rattle.node.specs.Endings.{Ending, Refuses, Ends}
 use Rattle.world.specs.declared.event.Event.{Event}
-use Rattle.world.specs.declared.event.Event.TheVariants.{Submit, Tick, Widen, Ask, Tell, Deliver, Arm, Crash, Restart, Keep}
+use Rattle.world.specs.declared.event.Event.TheVariants.{Submit, Tick, Widen, Ask, Tell, Deliver, Arm, Crash, Restart, Replace, Keep}
 use Rattle.world.specs.declared.machine.Machine.{Machine}
 use Rattle.world.specs.Taking.{IsTaken, node_of}
 use Rattle.world.specs.Standing.{IsMachineOf, HasPublished}
@@ -32,7 +32,7 @@ AtNode n p s call out next =
 abbrev pub Settled : Mode → Node → Handed → Node → Type 0
 Settled mode s out next = (entries : List Entry) × Settles s.entries s.in_flight entries × (out ≡ []) × (next ≡ opened mode entries None)
 
--- the event at its node, p of n
+-- the event at its node, p of n. Whether a floor is one is asked of the world
 abbrev pub NodeTakes : ℕ → ℕ → List Message → Node → Event → Handed → Node → Type 0
 NodeTakes n p sent s (Submit q v) out next = AtNode n p s (submit v) out next
 NodeTakes n p sent s (Tick q) out next = AtNode n p s tick out next
@@ -43,6 +43,7 @@ NodeTakes n p sent s (Deliver q index) out next = (message : Message) × (slice_
 NodeTakes n p sent s (Arm q calls) out next = (out ≡ []) × (((s.mode ≢ Down) × (next ≡ record s { armed = true })) ⊎ ((s.mode ≡ Down) × (next ≡ s)))
 NodeTakes n p sent s (Crash q choice) out next = Settled Down s out next
 NodeTakes n p sent s (Restart q) out next = Settled Up s out next
+NodeTakes n p sent s (Replace q floor) out next = (out ≡ []) × (next ≡ opened Down (Floor floor ∷ []) None)
 NodeTakes n p sent s (Keep q i) out next = AtNode n p s (keep i) out next
 
 -- with a machine that stands for the node afterwards, and what is handed out at the end of the list
@@ -83,6 +84,7 @@ abbrev pub EventWants : ℕ → ℕ → Event → Machine → Machine → Handed
 EventWants n p (Restart q) old new before after = RefusesOpening n p old new × (after ≡ before)
 EventWants n p (Arm q calls) old new before after = ⊥
 EventWants n p (Crash q choice) old new before after = ⊥
+EventWants n p (Replace q floor) old new before after = Wants n p (λ s. ⊤) old new before after
 EventWants n p (Submit q v) old new before after = CallWants n p (submit v) old new before after
 EventWants n p (Tick q) old new before after = CallWants n p tick old new before after
 EventWants n p (Widen q) old new before after = CallWants n p widen old new before after

@@ -35,7 +35,7 @@ QuietDecides = (n p : ℕ) (past events : List Event) (w after : World) → Runs
 -- and as long as all nodes run, none of its events is a bad one
 abbrev pub PlansAreGood : Type 0
 PlansAreGood = (n p k : ℕ) (past events : List Event) (w after : World) (event : Event) → Runs n start past w → IsNode n p → IsQuiet n w p → IsPlan n w p events
-    → TakesAll n w (take k events) after → AllRun n after → slice_get events k ≡ Some event → ¬ IsBad n after.sent event
+    → TakesAll n w (take k events) after → AllRun n after → slice_get events k ≡ Some event → ¬ IsBad n after event
 
 -- ---- calls
 

@@ -42,7 +42,7 @@ abbrev pub StepEnds : Code → Code → Event → Result (Unit {0}) RunStop → 
 StepEnds old new event (Ok x) = LeadsTo old new (λ w after. Takes old.cluster w event after × KeepsPublished old new event w after × IsPublishedAt new after (node_of event))
 StepEnds old new event (Err Unpublished) = LeadsTo old new (λ w after. Takes old.cluster w event after × KeepsPublished old new event w after × IsUnpublishedAt new after (node_of event))
 StepEnds old new event (Err Wanted) = LeadsTo old new (λ w after. IsRefused old.cluster w event after × StayPublished old new w after)
-StepEnds old new event (Err Bad) = LeadsTo old new (λ w after. (IsBad old.cluster w.sent event × (after ≡ w)) × StayPublished old new w after)
+StepEnds old new event (Err Bad) = LeadsTo old new (λ w after. (IsBad old.cluster w event × (after ≡ w)) × StayPublished old new w after)
 
 -- the node of each of the events has published all that it knows without a gap
 abbrev pub ArePublished : Code → World → List Event → Type 0

@@ -5,6 +5,7 @@ mod batches;
 mod bid;
 mod event;
 mod fault;
+mod floors;
 mod laws;
 mod machine;
 mod node_state;

@@ -1,11 +1,13 @@
 //! One node of a world: running, stopped or down.
 
-ghost use Rattle.std.specs.Prelude.{◌≡◌, ◌≢◌, ◌<◌, ◌⊎◌, ◌↔◌, ℕ, List, [], Some, None, IsTrue, length, slice_get, IfOk, IfErr, OnOk, OnErr, MatchOption};
+ghost use Rattle.std.specs.Prelude.{◌≡◌, ◌≢◌, ◌+◌, ◌<◌, ◌≤◌, ◌⊎◌, ◌↔◌, ℕ, max, List, [], ◌∷◌, Some, None, IsTrue, length, slice_get, IfOk, IfErr, OnOk, OnErr, MatchOption};
+ghost use Rattle.proposer.specs.declared.TheConstants.{MAX_ATTEMPTS as WINDOW};
 
 use crate::Event;
 use crate::passing::passed;
 use durable::{Record, RecordFault};
 use node::{Node, Outbox, To};
+use proposer::MAX_ATTEMPTS;
 use site_disk::MemDisk;
 use site_ids::{Ballot, Cluster, Instance, MAX_ROUND, NodeId, Value};
 use std::alloc::{AllocError, Global};
@@ -28,7 +30,7 @@ impl Machine {
     ghost use Rattle.durable.specs.Keeping.{Keeps};
     ghost use Rattle.wire.specs.declared.message.Message.{Message as AbstractMessage};
     ghost use Rattle.wire.specs.Messages.{IsMessage};
-    ghost use Rattle.node.specs.Nodes.{Node as AbstractNode, Up, Down, opened, IsFirstUnknown};
+    ghost use Rattle.node.specs.Nodes.{Node as AbstractNode, Up, Down, opened, IsFirstUnknown, IsMute};
     ghost use Rattle.node.specs.Effects.{messages_of};
     ghost use Rattle.node.specs.Calls.{submit as submission, tick as ticking, widen as widening, ask as asking, tell as telling, keep as keeping, deliver as delivery, fresh_ballot, HasRound, AreOpenElsewhere};
     ghost use Rattle.proposer.specs.Attempts.{Attempt};
@@ -38,7 +40,7 @@ impl Machine {
     ghost use Rattle.world.specs.Standing.{IsMachineOf, HasPublished};
     ghost use Rattle.world.specs.Quiet.{IsQuietAt};
     ghost use Rattle.acceptor.specs.declared.slot.Slot.{Slot};
-    ghost use Rattle.durable.specs.Entries.{IsSlot};
+    ghost use Rattle.durable.specs.Entries.{IsSlot, Floor, last_round, reach_of};
     ghost use Rattle.world.specs.Taking.{node_of, IsUnsent};
     ghost use Rattle.world.specs.Machines.{EventTurns, EventWants, Turns, Wants, IsUp, RefusesOpening, CallTurns, CallWants, NodeTakes, Settled};
 
@@ -169,6 +171,38 @@ impl Machine {
         }
     }
 
+    /// A node that runs is not mute at an instance.
+    pub(crate) fn speaks_at(&self, instance: Instance) -> bool
+        ensures { (n p : ℕ) (s : AbstractNode) → IsMachineOf n p self.now s → s.mode ≡ Up → IsTrue result ↔ (¬ IsMute s instance) }
+    {
+        match self {
+            Machine::Bare(_) => false,
+            Machine::Open { node, .. } => !node.is_mute(instance),
+        }
+    }
+
+    /// The next round of a node that runs leaves one more.
+    pub(crate) fn has_two_rounds(&self) -> bool
+        ensures { (n p : ℕ) (s : AbstractNode) → IsMachineOf n p self.now s → s.mode ≡ Up → IsTrue result ↔ (max (last_round s.entries) s.heard ≤ 4294967293) }
+    {
+        match self.next_ballot() {
+            Some(ballot) => ballot.round() <= LAST_QUIET_ROUND + 1,
+            None => false,
+        }
+    }
+
+    /// The node is not down, and its record reaches an instance that is `MAX_ATTEMPTS` or more below the floor, or none.
+    pub(crate) fn reaches_below(&self, floor: u32) -> bool
+        ensures { (n p : ℕ) (s : AbstractNode) → IsMachineOf n p self.now s → IsTrue result ↔ ((s.mode ≢ Down) × (reach_of s.entries + WINDOW ≤ floor)) }
+    {
+        match self {
+            Machine::Bare(_) => false,
+            Machine::Open { node, .. } => {
+                node.reach() as u64 + MAX_ATTEMPTS as u64 <= floor as u64
+            }
+        }
+    }
+
     /// What a node that runs has promised at an instance.
     pub(crate) fn promised(&self, instance: Instance) -> Option<Ballot>
         ensures { (n p : ℕ) (s : AbstractNode) → IsMachineOf n p self.now s → s.mode ≡ Up → (slot : Slot) × IsSlot s.entries instance slot × (result ≡ slot.promised) }
@@ -257,6 +291,25 @@ impl Machine {
         }
     }
 
+    /// The node is lost with its disk: it is down, over a new disk with a record of that floor alone.
+    pub(crate) fn replace(
+        &mut self,
+        alloc: Global,
+        cluster: Cluster,
+        me: NodeId,
+        floor: Instance,
+    ) -> Result<(), AllocError>
+        ensures ok { OnOk result (Turns cluster me (λ s out next. (out ≡ []) × (next ≡ opened Down (Floor floor ∷ []) None)) self.old self.new [] []) }
+        ensures err { OnErr result (self.new ≡ self.old) }
+    {
+        let mut disk = MemDisk::new(alloc);
+        if Record::format_above(cluster, me, floor, &mut disk).is_err() {
+            return Err(AllocError);
+        }
+        self.put(Machine::Bare(disk));
+        Ok(())
+    }
+
     /// Publishes all that is known without a gap.
     pub(crate) fn publish(&mut self) -> Result<(), AllocError>
         ensures same { (n p : ℕ) (s : AbstractNode) → IsMachineOf n p self.old s → IsMachineOf n p self.new s }
@@ -308,6 +361,7 @@ impl Machine {
                 Ok(()) => Ok(()),
                 Err(_) => Err(AllocError),
             },
+            Event::Replace { node, floor } => self.replace(alloc, cluster, *node, *floor),
         }
     }
 }

@@ -14,20 +14,27 @@ use std::alloc::AllocError;
 
 impl World {
     ghost use Rattle.site_ids.specs.Ids.{IsNode};
-    ghost use Rattle.node.specs.Nodes.{IsFirstUnknown};
+    ghost use Rattle.node.specs.Nodes.{IsFirstUnknown, IsMute};
     ghost use Rattle.node.specs.Calls.{fresh_ballot};
-    ghost use Rattle.world.specs.Quiet.{AllRun, HasNoneAbove, IsQuiet, IsQuietAt, IsShort, Overbids};
+    ghost use Rattle.world.specs.Quiet.{AllRun, HasNoneAbove, IsQuiet, IsQuietAt, IsShort, MayDecide, Overbids, quorum};
     ghost use Rattle.world.specs.Quieting.{AreUp, LearnsBy, PushesPlan};
     ghost use Rattle.world.specs.Standing.{IsWorldOf};
     ghost use Rattle.world.specs.Steps.{Reached, RunEnds};
 
     /// Whether all nodes run with no disk armed, the node has an unknown instance, and no round that was recorded or
-    /// promised is above 4,294,967,293.
+    /// promised, or that the node heard of, is above 4,294,967,293. At that instance neither the node is mute nor one of
+    /// the first nodes that make a majority.
     pub fn is_quiet(&self, node: NodeId) -> bool
         requires { node ≤ self.now.cluster }
         ensures { (w : AbstractWorld) → IsWorldOf self.now w → IsTrue result ↔ IsQuiet self.now.cluster w node }
     {
-        self.first_unknown(node).is_some() && self.are_quiet()
+        let Some(instance) = self.first_unknown(node) else {
+            return false;
+        };
+        if !self.are_quiet() {
+            return false;
+        }
+        self.may_decide(node, instance)
     }
 
     /// Events by which the node learns its first unknown instance from a quiet state: two ticks and 8 n deliveries at
@@ -65,6 +72,39 @@ impl World {
         let mut seen = 0;
         while let Some(machine) = self.machines.get(seen) {
             if !machine.is_quiet() {
+                return false;
+            }
+            seen += 1;
+        }
+        true
+    }
+
+    // Where all nodes run: nobody who is needed is mute at the instance, and the node's rounds leave two more.
+    fn may_decide(&self, node: NodeId, instance: Instance) -> bool
+        requires { node ≤ self.now.cluster }
+        ensures { (w : AbstractWorld) → IsWorldOf self.now w → AllRun self.now.cluster w → IsTrue result ↔ MayDecide self.now.cluster w node instance }
+    {
+        let machine = self.machine(node);
+        if !machine.speaks_at(instance) {
+            return false;
+        }
+        if !machine.has_two_rounds() {
+            return false;
+        }
+        self.none_mute(instance)
+    }
+
+    // Where all nodes run, none of the first nodes that make a majority is mute at the instance.
+    fn none_mute(&self, instance: Instance) -> bool
+        ensures { (w : AbstractWorld) → IsWorldOf self.now w → AllRun self.now.cluster w → IsTrue result ↔ ((q : ℕ) → IsNode (quorum self.now.cluster) q → ¬ IsMute (w.node q) instance) }
+    {
+        let cluster = self.cluster();
+        let mut seen = 0;
+        while seen < cluster.quorum() {
+            let Some(node) = cluster.node(seen + 1) else {
+                return false;
+            };
+            if !self.machine(node).speaks_at(instance) {
                 return false;
             }
             seen += 1;

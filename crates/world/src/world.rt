@@ -87,6 +87,9 @@ impl World {
         if event.is_unsent(self.sent.len()) {
             return Err(RunStop::Bad);
         }
+        if !self.names_floor(event) {
+            return Err(RunStop::Bad);
+        }
         let at = (me.number() - 1) as usize;
         let machine = &mut self.machines[at];
         if machine

@@ -1,8 +1,9 @@
-use Rattle.std.proofs.Common.{◌≡◌, ◌-◌, ◌++◌, ◌∷◌, [], ℕ, List, Err, length, drop, take, min, refl, ◌∙◌, ap, rules, arith, length-drop, length-take}
+use Rattle.std.proofs.Common.{◌≡◌, ◌-◌, ◌++◌, ◌∷◌, [], ℕ, List, Err, length, drop, take, min, refl, sym, ◌∙◌, ap, rules, arith, length-drop, length-take}
 use Rattle.std.proofs.lemmas.Grind.{common_steps}
 use Rattle.std.proofs.lemmas.Bool.{leb-true}
 use Rattle.durable.specs.declared.fault.RecordFault.TheVariants.{Damaged}
 use Rattle.durable.proofs.Piece.{in_piece, ended, next_piece}
+use Rattle.durable.proofs.Push.{history-none}
 use Rattle.durable.proofs.Results.{passed_on}
 use Rattle.durable.proofs.reading.read_entries.Goals as goal
 
@@ -41,6 +42,17 @@ returns-then-branch-clause-read g c =
           let piece = c.in_ok-read_at.ensures.read d (inside.state d stands) (omega (arith, n_is, size, inside.within)) in
           ended c.args.cluster d.seen c.read_at.new.buf gate n before.0 (before.2 d stands size) piece t.0 t.1 t.3 t.4 (t.5 c.if-branch.true),
     )
+
+pub loop-buffer-init : goal.loop-buffer-init
+loop-buffer-init g c =
+    let gate = c.new-recorded.ensures.gate in
+    record {
+      within = omega (arith, gate, c.requires);
+      room = search rules;
+      none_failed = refl;
+      state = λ d stands. stands;
+      read = ([], record { history = history-none c.args.cluster; gate = gate; kept = c.new-recorded.ensures.kept }, λ d stands size. ap (λ (k : ℕ). drop k d.seen) (sym gate));
+    }
 
 pub loop-buffer-preserved : goal.loop-buffer-preserved
 loop-buffer-preserved g c =

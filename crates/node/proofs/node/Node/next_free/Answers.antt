@@ -1,13 +1,17 @@
 use Rattle.std.proofs.Common.{◌≡◌, ◌+◌, ℕ, None, true, false, sym, ap, subst, ◌∙◌, arith}
 use Rattle.site_ids.specs.Ids.{IsInstance}
-use Rattle.node.specs.Nodes.{Node, IsUnknown}
+use Rattle.node.specs.Nodes.{Node, IsUnknown, IsMute}
 use Rattle.node.specs.Calls.{IsFree}
-use Rattle.node.proofs.Choosing.{one_more_not_free, next_found, no_next, past_last, not_there, all_seen}
+use Rattle.node.proofs.Choosing.{one_more_not_free, next_found, mute_takes_none, no_next, past_last, not_there, all_seen}
+use Rattle.node.proofs.Muting.{so_it_is, so_it_is_not}
 use Rattle.node.proofs.Queueing.{is_true, true_is}
 use Rattle.node.proofs.node.Node.next_free.Goals as goal
 
 off : true ≡ false → ⊥
 off e = cc
+
+pub returns-then-is_mute-clause-least : goal.returns-then-is_mute-clause-least
+returns-then-is_mute-clause-least g c s stands first = mute_takes_none s c.args.first first (so_it_is c.args.self.now c.is_mute.result (λ s. IsMute s c.args.first) c.is_mute.ensures c.if-is_mute.true s stands)
 
 pub returns-in_err-instance-clause-least : goal.returns-in_err-instance-clause-least
 returns-in_err-instance-clause-least g c s stands first =
@@ -17,7 +21,7 @@ returns-in_err-instance-clause-least g c s stands first =
 pub returns-then-is_free-clause-least : goal.returns-then-is_free-clause-least
 returns-then-is_free-clause-least g c s stands first =
     let l = c.loop-past in
-    next_found s c.args.first l.past c.in_ok-instance.instance first (l.invariant.none s stands) c.loop-past-test.true
+    next_found s c.args.first l.past c.in_ok-instance.instance first (so_it_is_not c.args.self.now c.is_mute.result (λ s. IsMute s c.args.first) c.is_mute.ensures c.if-is_mute.false s stands) (l.invariant.none s stands) c.loop-past-test.true
     (c.in_ok-instance.ensures.0 ∙ ap (λ (n : ℕ). n + l.past) c.number.ensures.is)
     (let free = (c.is_free.ensures s stands).0 (is_true c.is_free.result c.if-is_free.true) in record { instance = subst IsInstance (sym c.in_ok-instance.ensures.0) c.in_ok-instance.ensures.1; unknown = free.0; untried = free.1 })
 

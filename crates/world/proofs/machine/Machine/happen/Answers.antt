@@ -1,5 +1,5 @@
 use Rattle.std.proofs.Common.{[], refl}
-use Rattle.world.proofs.Happening.{is_sent, submits, ticks, widens, asks, tells, keeps, delivers, arms, crashes, restarts, submit_wants, tick_wants, widen_wants, ask_wants, tell_wants, keep_wants, deliver_wants}
+use Rattle.world.proofs.Happening.{is_sent, submits, ticks, widens, asks, tells, keeps, delivers, arms, crashes, restarts, replaces, submit_wants, tick_wants, widen_wants, ask_wants, tell_wants, keep_wants, deliver_wants, replace_wants}
 use Rattle.world.proofs.machine.Machine.happen.Goals as goal
 
 pub returns-in-Submit-clause-ok : goal.returns-in-Submit-clause-ok
@@ -55,3 +55,9 @@ returns-in-Crash-clause-ok g = crashes g.args.cluster _ _ _ _ _ _ g.in-Crash.is 
 
 pub returns-in-Ok-clause-ok : goal.returns-in-Ok-clause-ok
 returns-in-Ok-clause-ok g = restarts g.args.cluster _ _ _ _ _ g.in-Restart.is g.in-Ok.ensures.ok
+
+pub returns-in-Replace-clause-ok : goal.returns-in-Replace-clause-ok
+returns-in-Replace-clause-ok g = replaces _ g.args.cluster _ _ _ _ [] _ _ g.in-Replace.is g.replace.ensures.ok
+
+pub returns-in-Replace-clause-err : goal.returns-in-Replace-clause-err
+returns-in-Replace-clause-err g = replace_wants _ g.args.cluster _ _ _ _ [] _ _ g.in-Replace.is g.replace.ensures.err
