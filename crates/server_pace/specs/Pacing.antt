@@ -26,7 +26,7 @@ use Rattle.server_times.specs.declared.times.Times.{Times}
 
 -- none was wanted
 abbrev pub first_ticking : Ticking
-first_ticking = record { since = None; known = 0; ticks = 0; longer = 0; at = None; resumes = false }
+first_ticking = record { since = None; first = None; known = 0; ticks = 0; longer = 0; at = None; resumes = false }
 
 -- a value was just submitted, and nobody tries one: a tick begins to be wanted, and the last batch stirred nothing
 abbrev pub IsFresh : Ticking → Bool → Bool → Type 0
@@ -37,15 +37,24 @@ abbrev pub is_one_more : Option ℕ → ℕ → Bool
 is_one_more None known = false
 is_one_more (Some at) known = nat_eq known (min (at + 1) (2 ^ 32 - 1))
 
--- A tick is waited for since it began to be wanted, or something became known. Ticks in vain are forgotten
--- where that came without a tick that was due; and where it is one value more than at the last tick, of an
--- own attempt, the next instance is tried at once
-abbrev pub noted : Ticking → ℕ → Seen → Ticking
-noted t now seen =
+-- a server with no value of its own leaves it to the others to decide, while their messages come: for so long
+abbrev pub leaves : Ticking → Times → ℕ → Seen → Bool → Bool
+leaves t times now seen stirred = not seen.pending && (stirred && nat_lt (now - unwrap_or t.first now) times.leaving)
+
+-- A tick is waited for since it began to be wanted, or something became known, or the server left it to the
+-- others. Ticks in vain are forgotten where news came without a tick that was due; and where it is one value
+-- more than at the last tick, of an own attempt, the next instance is tried at once
+abbrev pub noted : Ticking → Times → ℕ → Seen → Bool → Ticking
+noted t times now seen stirred =
     if nat_eq seen.known t.known
-    then record t { since = if seen.wanted then Some (unwrap_or t.since now) else None }
+    then record t {
+      since = if not seen.wanted then None
+              else (if leaves t times now seen stirred then Some now else Some (unwrap_or t.since now));
+      first = if seen.wanted then Some (unwrap_or t.first now) else None;
+    }
     else record {
       since = if seen.wanted then Some now else None;
+      first = if seen.wanted then Some now else None;
       known = seen.known;
       ticks = 0;
       longer = if nat_eq t.ticks 0 then 0 else t.longer;
@@ -66,20 +75,14 @@ abbrev pub begun : Ticking → Ticking
 begun t = record t { at = Some t.known; resumes = false }
 
 -- how many times the patience: after each tick once more, up to growth times in all; or longer, after ticks in
--- vain, and at least so much longer while it gives way
+-- vain, and at least so much longer where no value is pending
 abbrev pub waited : Ticking → Times → Bool → ℕ
-waited t times gives_way = max (min (t.ticks + 1) times.growth) (max t.longer (if gives_way then times.longer else 0) + 1)
+waited t times pending = max (min (t.ticks + 1) times.growth) (max t.longer (if pending then 0 else times.longer) + 1)
 
 -- the patience has passed so many times
 abbrev pub Ticks : Ticking → ℕ → ℕ → Times → Bool → Type 0
-Ticks t now patience times gives_way =
-    (since : ℕ) × (t.since ≡ Some since) × (patience * waited t times gives_way ≤ now - since)
-
--- a server gives way where another one's attempt stands at the first unknown instance, and it has nothing to
--- decide there
-abbrev pub gives_way : Option ℕ → ℕ → Bool → Bool
-gives_way None me stake = false
-gives_way (Some q) me stake = not (nat_eq q me) && not stake
+Ticks t now patience times pending =
+    (since : ℕ) × (t.since ≡ Some since) × (patience * waited t times pending ≤ now - since)
 
 -- A tick was in vain where a majority answered since, and nothing became known before the next one: behind
 -- each of a row it waits longer. One that no majority answered ends the row
@@ -194,15 +197,6 @@ IsUntried s = (values : List Value) → IsKnownPrefix s values → IsPromise s.e
 abbrev pub IsVotedBy : Node → ℕ → ℕ → Type 0
 IsVotedBy s i p = (vote : Vote) × (last_vote i s.entries ≡ Some vote) × (vote.ballot.node ≡ p)
 
--- it voted at the instance
-abbrev pub HasVoted : Node → ℕ → Type 0
-HasVoted s i = IsInstance i × IsSome (last_vote i s.entries)
-
--- it has something to decide, where that is the first unknown instance: a value waits to be proposed, or it
--- voted there
-abbrev pub HasStake : Node → ℕ → Type 0
-HasStake s i = (s.pending ≢ []) ⊎ HasVoted s i
-
 -- it has no attempt open
 abbrev pub IsIdle : Node → Type 0
 IsIdle s = (i : ℕ) → s.attempts i ≡ None
@@ -215,13 +209,13 @@ pub record Resumes (s : Node) (me known recorded : ℕ) : Type 0 where
   pub more : known < recorded
   pub idle : IsIdle s
 
--- what node p shows: how many values it knows without a gap, whether it wants a tick, whether it has something
--- to decide at the next instance, and whether it decides again what is on its record
+-- what node p shows: how many values it knows without a gap, whether it wants a tick, whether a value of its own
+-- waits to be proposed, and whether it decides again what is on its record
 pub record IsSeen (s : Node) (p recorded : ℕ) (drained : Bool) (seen : Seen) : Type 0 where
   pub known : (values : List Value) × IsKnownPrefix s values × (seen.known ≡ length values)
   pub wanted : IsTrue seen.wanted ↔ WantsTick s
   pub drained_is : seen.drained ≡ drained
-  pub stake : IsTrue seen.stake ↔ HasStake s (suc seen.known)
+  pub pending : IsTrue seen.pending ↔ (s.pending ≢ [])
   pub resumes : IsTrue seen.resumes ↔ Resumes s p seen.known recorded
 
 -- a server of n begins quiet, over a record whose furthest vote is there; it never asked, and no tick is wanted
@@ -270,7 +264,7 @@ IsYielding p now tries = Yields (noted_tries p.yielding now tries) p.times now p
 -- once that is called
 abbrev pub pace_after : Pace → ℕ → Seen → Option ℕ → Due → LastCall → Pace
 pace_after p now seen tries due last = record p {
-  ticking = ticking_after p.times (noted p.ticking now seen) now due last;
+  ticking = ticking_after p.times (noted p.ticking p.times now seen p.stirred) now due last;
   answered = answers_after p.answered last;
   last = question_after p.last now seen.known last;
   keeping = keeping_after (owed_at p.keeping now seen.known) last;
@@ -283,11 +277,11 @@ pub record IsDue (p : Pace) (now : ℕ) (seen : Seen) (tries : Option ℕ) (bloc
   pub fresh : IsTrue due.fresh ↔ (IsFresh p.ticking seen.wanted p.stirred × (due.yields ≡ false))
   pub kept : due.block ≡ block
   pub told : due.telling ≡ telling
-  pub question : IsTrue due.question ↔ Asks (asking_of p.last p.times now seen p.empty (awaits (noted p.ticking now seen)))
+  pub question : IsTrue due.question ↔ Asks (asking_of p.last p.times now seen p.empty (awaits (noted p.ticking p.times now seen p.stirred)))
   pub tick : IsTrue due.tick
-      ↔ Ticks (noted p.ticking now seen) now p.patience p.times (gives_way tries p.me seen.stake)
+      ↔ Ticks (noted p.ticking p.times now seen p.stirred) now p.patience p.times seen.pending
   pub answered : IsTrue due.answered ↔ IsAnswered p
-  pub goes_on : IsTrue due.goes_on ↔ GoesOn (noted p.ticking now seen)
+  pub goes_on : IsTrue due.goes_on ↔ GoesOn (noted p.ticking p.times now seen p.stirred)
   pub waits : IsTrue due.waits ↔ Waits (noted_tries p.yielding now tries) p.me
   pub yields : IsTrue due.yields ↔ IsYielding p now tries
 

@@ -16,7 +16,7 @@ use crate::keeping::Keeping;
 use crate::last_question::LastQuestion;
 use crate::questions::Questions;
 use crate::resting::Resting;
-use crate::seen::{Seen, first_tried_by, gives_way};
+use crate::seen::{Seen, first_tried_by};
 use crate::ticking::Ticking;
 use crate::yielding::Yielding;
 use node::Node;
@@ -158,15 +158,14 @@ impl Pace {
         ensures news { ¬ IsFresh self.old.ticking seen.wanted self.old.stirred → block ≡ None → telling ≡ None → self.old.last.known < seen.known → seen.drained ≡ true → self.old.last.tried ≡ false → result ≡ Ask }
     {
         let (me, times) = (self.me, self.times);
-        let way = gives_way(&tries, me, seen.stake);
         self.yielding.note(now, tries);
         let waits = self.yielding.waits(me);
         let yields = self.yielding.is_due(times, now, me);
         let fresh = self.is_fresh(seen.wanted, yields);
         self.yielding.pass(now, waits, yields);
-        self.ticking = self.ticking.noted(now, seen);
+        self.ticking = self.ticking.noted(times, now, seen, self.stirred);
         let more = self.ticking.awaits();
-        let tick = self.ticking.is_due(now, self.patience, times, way);
+        let tick = self.ticking.is_due(now, self.patience, times, seen.pending);
         let asking = self.last.asking(self.times, now, seen, self.empty, more);
         self.keeping = self.keeping.noted(now, seen.known);
         let due = Due {

@@ -1,9 +1,9 @@
 //! What a server sees of its node.
 
-ghost use Rattle.std.specs.Prelude.{◌≡◌, ◌↔◌, suc, IsTrue};
+ghost use Rattle.std.specs.Prelude.{◌↔◌, suc, IsTrue};
 ghost use Rattle.node.specs.Nodes.{Node as AbstractNode};
 ghost use Rattle.node.specs.Standing.{IsNodeOf};
-ghost use Rattle.server_pace.specs.Pacing.{gives_way, HasStake, HasVoted, IsIdle, IsSeen, IsTriedBy, IsVotedBy, Resumes};
+ghost use Rattle.server_pace.specs.Pacing.{IsIdle, IsSeen, IsTriedBy, IsVotedBy, Resumes};
 
 use node::Node;
 use site_disk::Disk;
@@ -18,9 +18,8 @@ pub struct Seen {
     pub wanted: bool,
     /// All that had come was taken in.
     pub drained: bool,
-    /// It has something to decide: a value waits to be proposed, or it voted at the first instance that it does
-    /// not know.
-    pub stake: bool,
+    /// A value of its own waits to be proposed.
+    pub pending: bool,
     /// It voted for the last of them at an own ballot, its record had a vote further on as it began, and it has no
     /// attempt open.
     pub resumes: bool,
@@ -45,34 +44,6 @@ fn is_voted_by<D: Disk>(node: &Node<D>, instance: Instance, by: NodeId) -> bool
     }
 }
 
-/// Whether it voted at the first unknown instance, where so many values are known.
-fn has_voted<D: Disk>(node: &Node<D>, known: u32) -> bool
-    ensures { (s : AbstractNode) → IsNodeOf node.now s → IsTrue result ↔ HasVoted s (suc known) }
-{
-    let Some(first) = Instance::new(known.saturating_add(1)) else {
-        return false;
-    };
-    node.slot(first).vote.is_some()
-}
-
-/// Whether it has something to decide at the first unknown instance, where so many values are known.
-fn has_stake<D: Disk>(node: &Node<D>, known: u32) -> bool
-    ensures { (s : AbstractNode) → IsNodeOf node.now s → IsTrue result ↔ HasStake s (suc known) }
-{
-    node.has_pending() || has_voted(node, known)
-}
-
-/// Whether a server gives way: the attempt of another one stands at the first unknown instance, and this one has
-/// nothing to decide there. The other one may be far away, so it is given more time.
-pub(crate) fn gives_way(tries: &Option<NodeId>, me: NodeId, stake: bool) -> bool
-    ensures { result ≡ gives_way tries.now me stake }
-{
-    match tries {
-        Some(other) => other.number() != me.number() && !stake,
-        None => false,
-    }
-}
-
 /// Whether it has no attempt open.
 fn is_idle<D: Disk>(node: &Node<D>) -> bool
     ensures { (s : AbstractNode) → IsNodeOf node.now s → IsTrue result ↔ IsIdle s }
@@ -92,7 +63,7 @@ fn resumes<D: Disk>(node: &Node<D>, me: NodeId, known: u32, recorded: u32) -> bo
 }
 
 impl Seen {
-    /// What is seen of this node, behind a batch that took in all that had come, or not.
+    /// What is seen of this node, after a batch that took in all that had come, or not.
     pub(crate) fn of<D: Disk>(node: &Node<D>, me: NodeId, recorded: u32, drained: bool) -> Seen
         ensures { (s : AbstractNode) → IsNodeOf node.now s → IsSeen s me recorded drained result }
     {
@@ -101,7 +72,7 @@ impl Seen {
             known,
             wanted: node.wants_tick(),
             drained,
-            stake: has_stake(node, known),
+            pending: node.has_pending(),
             resumes: resumes(node, me, known, recorded),
         }
     }

@@ -1,7 +1,7 @@
 //! When a server ticks.
 
 ghost use Rattle.std.specs.Prelude.{◌≡◌, ◌↔◌, IsTrue, None, true, false};
-ghost use Rattle.server_pace.specs.Pacing.{awaits, begun, first_ticking, is_one_more, longer_after, noted, ticked, waited, GoesOn, Ticks};
+ghost use Rattle.server_pace.specs.Pacing.{awaits, begun, first_ticking, is_one_more, leaves, longer_after, noted, ticked, waited, GoesOn, Ticks};
 
 use crate::seen::Seen;
 use server_times::Times;
@@ -9,8 +9,10 @@ use server_times::Times;
 /// Since when a tick is wanted and nothing became known, and how often it ticked since.
 #[derive(Clone, Copy, Debug, PartialEq, Eq, Drop)]
 pub struct Ticking {
-    /// In milliseconds since the server began; never where no tick is wanted.
+    /// A tick is waited for since then, in milliseconds since the server began; never where none is wanted.
     pub since: Option<u64>,
+    /// One was wanted first then, since the last news. `since` moves on from it at ticks, and while the server leaves it to others.
+    pub first: Option<u64>,
     /// So many values were known as it was noted at last.
     pub known: u32,
     /// Ticks that were due since the last news.
@@ -32,6 +34,7 @@ impl Ticking {
     {
         Ticking {
             since: None,
+            first: None,
             known: 0,
             ticks: 0,
             longer: 0,
@@ -57,19 +60,33 @@ impl Ticking {
         }
     }
 
-    /// What stands now that so much is seen. The patience begins anew with news; ticks in vain are forgotten
-    /// where news came without a tick that was due.
-    pub fn noted(self, now: u64, seen: Seen) -> Ticking
-        ensures { result ≡ noted self now seen }
+    /// Whether a server with no value of its own leaves it to the others to decide: a message of an attempt came
+    /// (`stirred`), and it has not done so for too long.
+    fn leaves(self, times: Times, now: u64, seen: Seen, stirred: bool) -> bool
+        ensures { result ≡ leaves self times now seen stirred }
     {
+        let first = self.first.unwrap_or(now);
+        !seen.pending && (stirred && now.saturating_sub(first) < times.leaving)
+    }
+
+    /// What stands now that so much is seen, and messages of attempts came since, or not (`stirred`). The patience
+    /// begins anew with news, and while it is left to others; ticks in vain are forgotten where news came without
+    /// a tick that was due.
+    pub fn noted(self, times: Times, now: u64, seen: Seen, stirred: bool) -> Ticking
+        ensures { result ≡ noted self times now seen stirred }
+    {
+        let wanted = seen.wanted.then_some(now);
         if seen.known == self.known {
+            let leaves = self.leaves(times, now, seen, stirred);
             return Ticking {
-                since: seen.wanted.then_some(self.since.unwrap_or(now)),
+                since: if leaves { wanted } else { wanted.and(self.since.or(wanted)) },
+                first: wanted.and(self.first.or(wanted)),
                 ..self
             };
         }
         Ticking {
-            since: seen.wanted.then_some(now),
+            since: wanted,
+            first: wanted,
             known: seen.known,
             ticks: 0,
             longer: if self.ticks == 0 { 0 } else { self.longer },
@@ -79,21 +96,21 @@ impl Ticking {
     }
 
     /// How many times the patience is waited: once more after each tick, up to a number of times; or longer,
-    /// without a bound, after ticks in vain, and at least so much longer while the server gives way.
-    fn waited(self, times: Times, gives_way: bool) -> u64
-        ensures { result ≡ waited self times gives_way }
+    /// without a bound, after ticks in vain, and at least so much longer where no value is pending.
+    fn waited(self, times: Times, pending: bool) -> u64
+        ensures { result ≡ waited self times pending }
     {
         let tries = u64::from(self.ticks.saturating_add(1).min(times.growth));
-        let least = if gives_way { times.longer } else { 0 };
+        let least = if pending { 0 } else { times.longer };
         tries.max(u64::from(self.longer.max(least)) + 1)
     }
 
-    /// Whether a tick has been wanted for so long that it is due: so many times this patience. The server gives
-    /// way, or it does not (`gives_way`).
-    pub fn is_due(self, now: u64, patience: u64, times: Times, gives_way: bool) -> bool
-        ensures { IsTrue result ↔ Ticks self now patience times gives_way }
+    /// Whether a tick has been wanted for so long that it is due: so many times this patience. A value of
+    /// its own waits to be proposed, or not (`pending`).
+    pub fn is_due(self, now: u64, patience: u64, times: Times, pending: bool) -> bool
+        ensures { IsTrue result ↔ Ticks self now patience times pending }
     {
-        let waited = self.waited(times, gives_way);
+        let waited = self.waited(times, pending);
         match (self.since, patience.checked_mul(waited)) {
             (Some(since), Some(millis)) => now.saturating_sub(since) >= millis,
             _ => false,
@@ -125,7 +142,7 @@ impl Ticking {
         }
     }
 
-    /// How many patiences longer it waits behind a tick, where a majority answered since the one before, or
+    /// How many patiences longer it waits after a tick, where a majority answered since the one before, or
     /// not.
     fn longer_after(self, times: Times, answered: bool) -> u32
         ensures { result ≡ longer_after self times answered }

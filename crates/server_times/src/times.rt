@@ -12,9 +12,12 @@ pub struct Times {
     pub patience: u64,
     /// The patience grows with the tries that brought no news, up to so many times (`Ticking`).
     pub growth: u32,
-    /// Behind each try that a majority answered and that brought no news it waits so many patiences longer,
-    /// without a bound (`Ticking`): so servers far apart do not outbid one another for ever.
+    /// After each try that a majority answered and that brought no news it waits so many patiences longer,
+    /// without a bound; and so many at least while it has no value of its own (`Ticking`). So servers far apart
+    /// do not outbid one another for ever.
     pub longer: u32,
+    /// Milliseconds for which a server with no value of its own leaves it to the others to decide, at most, while their messages come (`Ticking`).
+    pub leaving: u64,
     /// Milliseconds between two questions to the others of which the first brought nothing (`LastQuestion`).
     pub asking: u64,
     /// The same where it is quiet.
@@ -63,6 +66,7 @@ const STANDARD: Times = Times {
     patience: 100,
     growth: 3,
     longer: 10,
+    leaving: 15_000,
     asking: 400,
     quiet_asking: 800,
     quick: 20,

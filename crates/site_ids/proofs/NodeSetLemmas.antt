@@ -3,7 +3,8 @@ use Rattle.std.proofs.Common.{◌≡◌, ◌⊎◌, inl, inr, ⊎_elim, ℕ, zer
 use Rattle.std.proofs.lemmas.List.{get_or-set_same, get_or-set_other}
 use Rattle.site_ids.specs.NodeSets.{count_of}
 
-below_next : (k i : ℕ) → k < suc i → (k ≡ i) ⊎ (k < i)
+-- what is below the next is it or below it
+pub below_next : (k i : ℕ) → k < suc i → (k ≡ i) ⊎ (k < i)
 below_next zero zero l = inl refl
 below_next (suc k) zero l = absurd (omega (arith, l))
 below_next zero (suc i) l = inr (omega arith)

@@ -155,7 +155,7 @@ fn news_begin_the_patience_anew(rt: HostRuntime) {
             longer,
             ..Ticking::new()
         };
-        let is = ticking.noted(9, seen(known, wanted, false));
+        let is = ticking.noted(9, seen(known, wanted, false), false);
         same(&rt, (ticking, wanted, is), (ticking, wanted, noted));
     }
 }
@@ -186,10 +186,10 @@ fn a_server_that_decides_again_goes_on_at_once(rt: HostRuntime) {
             known: noted,
             ..Ticking::new()
         };
-        let then = ticking.noted(9, seen(known, wanted, resumes));
+        let then = ticking.noted(9, seen(known, wanted, resumes), false);
         same(&rt, (ticking, then.goes_on()), (ticking, goes_on));
         // It stays so until it ticks.
-        let later = then.noted(99, seen(known, wanted, false));
+        let later = then.noted(99, seen(known, wanted, false), false);
         same(&rt, (then, later.goes_on()), (then, goes_on));
         let ticked = [then.begun(), then.ticked(TIMES, 9, true)];
         for after in ticked {
@@ -233,29 +233,29 @@ fn the_patience_grows(rt: HostRuntime) {
         };
         same(
             &rt,
-            (ticking, now, ticking.is_due(now, 150, TIMES, false)),
+            (ticking, now, ticking.is_due(now, 150, TIMES, true)),
             (ticking, now, due),
         );
-        ensure(&rt, !ticking.is_due(now, u64::MAX, TIMES, false), ticking);
+        ensure(&rt, !ticking.is_due(now, u64::MAX, TIMES, true), ticking);
     }
 }
 
-/// How many ticks were due, how many patiences longer it waits, whether it gives way; the moment, and whether a
-/// tick is due that is wanted since 1000, of a patience of 150 milliseconds.
-const GIVES_WAY: &[(u32, u32, bool, u64, bool)] = &[
-    (0, 0, false, 1150, true),
-    (0, 0, true, 2649, false),
-    (0, 0, true, 2650, true),
-    (2, 0, true, 2649, false),
-    (2, 0, true, 2650, true),
-    (0, 9, true, 2650, true),
-    (0, 20, true, 4149, false),
-    (0, 20, true, 4150, true),
+/// How many ticks were due, how many patiences longer it waits, whether it has something to decide; the moment,
+/// and whether a tick is due that is wanted since 1000, of a patience of 150 milliseconds.
+const STAKES: &[(u32, u32, bool, u64, bool)] = &[
+    (0, 0, true, 1150, true),
+    (0, 0, false, 2649, false),
+    (0, 0, false, 2650, true),
+    (2, 0, false, 2649, false),
+    (2, 0, false, 2650, true),
+    (0, 9, false, 2650, true),
+    (0, 20, false, 4149, false),
+    (0, 20, false, 4150, true),
 ];
 
 #[test]
-fn who_gives_way_waits_longer(rt: HostRuntime) {
-    for &(ticks, longer, gives_way, now, due) in GIVES_WAY {
+fn who_has_nothing_to_decide_waits_longer(rt: HostRuntime) {
+    for &(ticks, longer, stake, now, due) in STAKES {
         let ticking = Ticking {
             since: Some(1000),
             known: 7,
@@ -263,12 +263,8 @@ fn who_gives_way_waits_longer(rt: HostRuntime) {
             longer,
             ..Ticking::new()
         };
-        let is = ticking.is_due(now, 150, TIMES, gives_way);
-        same(
-            &rt,
-            (ticking, gives_way, now, is),
-            (ticking, gives_way, now, due),
-        );
+        let is = ticking.is_due(now, 150, TIMES, stake);
+        same(&rt, (ticking, stake, now, is), (ticking, stake, now, due));
     }
 }
 

@@ -1,5 +1,5 @@
 use Rattle.std.proofs.Common.{rules, subst, refl, ◌≡◌, Bool, IsTrue, ◌↔◌, true, false}
-use Rattle.server_pace.specs.Pacing.{gives_way, Ticks, Waits, Yields}
+use Rattle.server_pace.specs.Pacing.{Ticks, Waits, Yields}
 use Rattle.server_pace.proofs.pace.Pace.call.Goals as goal
 
 not_true : (b : Bool) → ¬ (IsTrue b) → b ≡ false
@@ -25,9 +25,7 @@ returns-clause-due c = (
     kept = search rules;
     told = search rules;
     question = search rules;
-    tick =
-        subst (λ t. IsTrue c.is_due-tick.result ↔ Ticks t c.args.now c.args.self.now.patience c.args.self.now.times (gives_way c.args.tries c.args.self.now.me c.args.seen.stake)) c.noted-self.ensures
-        (subst (λ b. IsTrue c.is_due-tick.result ↔ Ticks c.noted-self.result c.args.now c.args.self.now.patience c.args.self.now.times b) c.gives_way-way.ensures c.is_due-tick.ensures);
+    tick = subst (λ t. IsTrue c.is_due-tick.result ↔ Ticks t c.args.now c.args.self.now.patience c.args.self.now.times c.args.seen.pending) c.noted-self.ensures c.is_due-tick.ensures;
     answered = search rules;
     goes_on = search rules;
     waits = subst (λ y. IsTrue c.waits-waits.result ↔ Waits y c.args.self.now.me) c.note.ensures c.waits-waits.ensures;

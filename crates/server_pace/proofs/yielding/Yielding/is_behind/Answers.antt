@@ -1,19 +1,11 @@
-use Rattle.std.proofs.Common.{◌≡◌, ◌⊎◌, inl, inr, ⊎_elim, ℕ, zero, suc, ◌<◌, ◌≤◌, ◌-◌, get_or, true, false, refl, ap, sym, ◌∙◌, rules, arith}
+use Rattle.std.proofs.Common.{◌≡◌, ⊎_elim, ℕ, ◌<◌, ◌≤◌, ◌-◌, get_or, true, false, ap, sym, ◌∙◌, arith, rules}
+use Rattle.site_ids.proofs.NodeSetLemmas.{below_next}
 use Rattle.server_pace.specs.Pacing.{places_behind}
 use Rattle.server_pace.proofs.yielding.Yielding.is_behind.Goals as goal
 use Rattle.server_pace.proofs.yielding.Yielding.is_behind.Goals.{else-tried-from-via-then-tried-from+else-places_behind, else-tried-from-via-else-tried-from}
 
 pub returns-then-places_behind : goal.returns-then-places_behind
 returns-then-places_behind c = search rules
-
-last_or_before : (q n : ℕ) → q < suc n → (q ≡ n) ⊎ (q < n)
-last_or_before zero zero l = inl refl
-last_or_before (suc q) zero l = absurd (omega (arith, l))
-last_or_before zero (suc n) l = inr (omega arith)
-last_or_before (suc q) (suc n) l = ⊎_elim
-    (λ (e : q ≡ n). inl (ap suc e))
-    (λ (m : q < n). inr (omega (arith, m)))
-    (last_or_before q n (omega (arith, l)))
 
 not_below : (its own x y : ℕ) → its ≡ x → y ≡ own → y ≤ x → ¬ (its < own)
 not_below its own x y a b least less = omega (arith, a, b, least, less)
@@ -33,4 +25,4 @@ loop-number-preserved c = λ q some below tried before. ⊎_elim
           absurd (cc)
     ])
     (λ (less : q < c.loop-number.number). c.loop-number.invariant q some less tried before)
-    (last_or_before q c.loop-number.number (omega (arith, below)))
+    (below_next q c.loop-number.number (omega (arith, below)))
