@@ -34,11 +34,21 @@ IsRefused fault file = IsRefusal fault (slice_index file 8) (slice_index file 9)
 
 -- ---- its lines
 
--- a floor where there is one
+-- whose it is
+abbrev pub whose_lines : View → List ℕ
+whose_lines v = codes "node: " ++ (decimal v.node ++ (codes "\nnodes: " ++ (decimal v.nodes ++ codes "\n")))
+
+-- what it has over all instances
+abbrev pub counted_lines : View → List ℕ
+counted_lines v = codes "votes: " ++ (decimal v.votes ++ (codes "\nlearned: " ++ (decimal v.learned ++ (codes "\nlast instance: " ++ (decimal v.last ++ codes "\n")))))
+
+-- its floor, where there is one
 abbrev pub floor_line : ℕ → List ℕ
 floor_line floor = if nat_eq floor 0 then [] else codes "floor: " ++ (decimal floor ++ codes "\n")
 
+-- how far it reaches, and its file
+abbrev pub end_lines : View → List ℕ
+end_lines v = codes "reaches: " ++ (decimal v.reach ++ (codes "\nbytes: " ++ (decimal v.bytes ++ codes "\n")))
+
 abbrev pub text_of : View → List ℕ
-text_of v = codes "node: " ++ (decimal v.node ++ (codes "\nnodes: " ++ (decimal v.nodes ++ (codes "\nvotes: " ++ (decimal v.votes
-    ++ (codes "\nlearned: " ++ (decimal v.learned ++ (codes "\nlast instance: " ++ (decimal v.last ++ (codes "\n" ++ (floor_line v.floor
-    ++ (codes "reaches: " ++ (decimal v.reach ++ (codes "\nbytes: " ++ (decimal v.bytes ++ codes "\n")))))))))))))))
+text_of v = whose_lines v ++ (counted_lines v ++ (floor_line v.floor ++ end_lines v))

@@ -25,6 +25,12 @@ fn counted(many: u32, is: bool) -> u32
     if is { many + 1 } else { many }
 }
 
+fn either(a: bool, b: bool) -> bool
+    ensures { result ≡ (a || b) }
+{
+    a || b
+}
+
 /// This one, where it is so.
 fn last_of(last: u32, number: u32, is: bool) -> u32
     ensures { result ≡ (if is then number else last) }
@@ -48,7 +54,7 @@ pub(crate) fn count<D: Disk>(record: &Record<D>, instances: u32) -> Counts
         let knows = record.learned(instance).is_some();
         votes = counted(votes, voted);
         learned = counted(learned, knows);
-        last = last_of(last, past + 1, voted || knows);
+        last = last_of(last, past + 1, either(voted, knows));
     }
     Counts {
         votes,

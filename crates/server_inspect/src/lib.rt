@@ -3,6 +3,7 @@
 
 mod counting;
 mod inspecting;
+mod lines;
 mod snapshot;
 mod view;
 

@@ -3,6 +3,8 @@
 //! A node writes behind its last gate, and opens that then. What stands behind an open gate never changes, so that only the gate at the end might be read open while
 //! what it opens lies past the length that was taken: its byte is read once, between two looks at the length that agree.
 
+ghost use Rattle.std.specs.Prelude.{◌≡◌};
+
 use site_disk::{Disk, DiskFailed, FileDisk};
 use std::fs::File;
 

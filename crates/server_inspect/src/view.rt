@@ -1,17 +1,17 @@
 //! What is told of a record.
 
-ghost use Rattle.std.specs.Prelude.{◌≡◌, IfOk, IfErr, length, List, string_bytes};
+ghost use Rattle.std.specs.Prelude.{◌≡◌, IfOk, IfErr, length, List};
 ghost use Rattle.site_disk.specs.Model.{DiskState};
 ghost use Rattle.durable.specs.Entries.{Entry};
 ghost use Rattle.durable.specs.Reading.{IsKept};
 ghost use Rattle.durable.specs.Standing.{StandsFor};
-ghost use Rattle.server_inspect.specs.Views.{IsViewOf, IsRefused, Names, floor_line, text_of};
+ghost use Rattle.server_inspect.specs.Views.{IsViewOf, IsRefused, Names};
 
 use crate::counting::count;
 use durable::{Record, RecordFault};
 use site_disk::Disk;
 use site_ids::{Cluster, MAX_INSTANCE, NodeId};
-use std::alloc::{AllocError, Global};
+use std::alloc::Global;
 
 const MARK: [u8; 8] = *b"SITEREC1";
 
@@ -93,26 +93,4 @@ impl View {
             Err(refused) => Err(refused),
         }
     }
-}
-
-/// The line of a floor, where there is one.
-fn floor_line(alloc: Global, floor: u32) -> Result<String, AllocError>
-    ensures { IfOk result (λ text. string_bytes text ≡ floor_line floor) }
-{
-    if floor == 0 {
-        return Ok(String::new(alloc));
-    }
-    format!(in alloc; "floor: {floor}\n")
-}
-
-/// The lines that tell it, a name and a value each.
-pub(crate) fn text(alloc: Global, view: &View) -> Result<String, AllocError>
-    ensures { IfOk result (λ text. string_bytes text ≡ text_of view.now) }
-{
-    let (node, nodes) = (view.node.number(), view.nodes.size());
-    let floor = floor_line(alloc, view.floor)?;
-    format!(in alloc;
-        "node: {node}\nnodes: {nodes}\nvotes: {}\nlearned: {}\nlast instance: {}\n{}reaches: {}\nbytes: {}\n",
-        view.votes, view.learned, view.last, floor.as_str(), view.reach, view.bytes
-    )
 }
