@@ -7,7 +7,7 @@ use Rattle.site_ids.specs.Lists.{In, Distinct}
 use Rattle.site_ids.specs.Majorities.{Majority}
 use Rattle.engine_common.specs.Cuts.{Lacks, IsCut}
 use Rattle.engine_common.proofs.CutLemmas.{Same, one_cut}
-use Rattle.server_floor.specs.Told.{Fits, AreFitting, AreOthers, spelled, nodes_of}
+use Rattle.server_floor.specs.Told.{Fits, AreFitting, AreOthers, spelled, nodes_of, furthest}
 use Rattle.server_floor.specs.declared.told.Told.{Told}
 
 -- ---- members
@@ -32,6 +32,16 @@ as_many (t ∷ told) = ap suc (as_many told)
 -- different nodes of the n, enough of them, are a majority
 pub majority_of : (n p : ℕ) (told : List Told) → AreOthers n p told → Distinct (nodes_of told) → n / 2 + 1 ≤ length told → Majority n (nodes_of told)
 majority_of n p told others distinct enough = record { distinct = distinct; nodes = nodes_are n p told others; enough = omega (arith, enough, as_many told) }
+
+-- what is told of a node that was asked
+pub told_of : (told : List Told) (q : ℕ) → In (nodes_of told) q → (t : Told) × In told t × (t.node ≡ q)
+told_of [] q h = absurd h
+told_of (t ∷ told) q h = ⊎_elim (λ (e : t.node ≡ q). (t, inl refl, e)) (λ k. let r = told_of told q k in (r.0, inr r.1, r.2)) h
+
+-- no reach is further than the furthest
+pub within_furthest : (told : List Told) (t : Told) → In told t → t.reach ≤ furthest told
+within_furthest [] t h = absurd h
+within_furthest (s ∷ told) t h = ⊎_elim (λ (e : s ≡ t). let same : s.reach ≡ t.reach = ap (λ (x : Told). x.reach) e in omega (arith, same)) (λ k. let r = within_furthest told t k in omega (arith, r)) h
 
 -- ---- words
 

@@ -3,7 +3,7 @@
 ghost use Rattle.http_read.specs.Bytes.{end_of};
 ghost use Rattle.server_inspect.specs.Inspecting.{HasInspected, HasShown, Refuses};
 
-use crate::lines::text;
+use crate::lines::lines_of;
 use crate::snapshot::{End, Snapshot};
 use crate::view::View;
 use durable::RecordFault;
@@ -89,7 +89,7 @@ fn show<W: Write, E: Write>(
 ) -> u8
     ensures { HasShown (end_of W.contents out.old out.new) (end_of E.contents err.old err.new) result }
 {
-    match text(alloc, view) {
+    match lines_of(alloc, view) {
         Ok(text) => match write_all(out, text.as_bytes()) {
             Ok(()) => 0,
             Err(_) => say_line(err, "write failed\n"),

@@ -8,5 +8,6 @@ mod snapshot;
 mod view;
 
 pub use inspecting::inspect;
+pub use lines::lines_of;
 pub use snapshot::Snapshot;
 pub use view::View;

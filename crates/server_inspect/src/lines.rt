@@ -40,8 +40,8 @@ fn end(alloc: Global, view: &View) -> Result<String, AllocError>
     format!(in alloc; "reaches: {reach}\nbytes: {bytes}\n")
 }
 
-/// All lines.
-pub(crate) fn text(alloc: Global, view: &View) -> Result<String, AllocError>
+/// All lines, each a name and a value.
+pub fn lines_of(alloc: Global, view: &View) -> Result<String, AllocError>
     ensures { IfOk result (λ text. string_bytes text ≡ text_of view.now) }
 {
     let whose = whose(alloc, view)?;

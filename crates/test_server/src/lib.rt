@@ -13,6 +13,8 @@ mod comparing;
 #[cfg(test)]
 mod far;
 #[cfg(test)]
+mod floors;
+#[cfg(test)]
 mod group;
 #[cfg(test)]
 mod keeping;
@@ -40,6 +42,8 @@ mod resting;
 mod scripts;
 #[cfg(test)]
 mod seats;
+#[cfg(test)]
+mod views;
 #[cfg(test)]
 mod written_clock;
 #[cfg(test)]
