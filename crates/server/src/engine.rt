@@ -71,7 +71,7 @@ fn open_server<R: Files<File = File>>(
         cause,
     )?;
     let recorded = Recorded::of(&served.node, MAX_INSTANCE);
-    let server = Server::new(alloc, me, served, desk, times, recorded.last);
+    let server = Server::new(alloc, me, served, desk, times, recorded);
     Ok((boxed(alloc, server)?, recorded.votes))
 }
 

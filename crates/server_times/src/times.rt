@@ -51,6 +51,8 @@ pub struct Times {
     pub between_requests: u64,
     /// Milliseconds that a request which has begun, or a response which its client does not read, is given without a byte that moves.
     pub without_progress: u64,
+    /// Milliseconds for which a server that begins leaves requests, at most, while it knows less than its record has (`Returning`).
+    pub returning: u64,
     /// Milliseconds for which what a client still sends behind its last response is read and dropped, at most, so that the response is not lost (RFC 9112,
     /// section 9.6): a client that reads it closes within that (`Linger`).
     pub lingering: u64,
@@ -83,6 +85,7 @@ const STANDARD: Times = Times {
     quiet_rest: 20_000,
     between_requests: 5000,
     without_progress: 1000,
+    returning: 2000,
     lingering: 2000,
     receipts: 100,
     serve_ms: None,
