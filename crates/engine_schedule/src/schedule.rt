@@ -174,7 +174,8 @@ fn node_line(head: &[u8]) -> Option<Line<'_>>
 /// A line of a word, a node and a number.
 fn number_line(head: &[u8]) -> Option<Line<'_>>
     ensures { MatchOption result (((p index : ℕ) → IsNode 9 p → index < 2 ^ 64 → head.now ≢ joined (words (deliver_line p index))) × ((p first : ℕ) → IsNode 9 p → IsInstance first → head.now ≢ joined (words (tell_line p first)))
-        × ((p i : ℕ) → IsNode 9 p → IsInstance i → head.now ≢ joined (words (keep_line p i))) × ((p floor : ℕ) → IsNode 9 p → IsInstance floor → head.now ≢ joined (words (replace_line p floor)))
+        × ((p i : ℕ) → IsNode 9 p → IsInstance i → head.now ≢ joined (words (keep_line p i)))
+        × ((p floor : ℕ) → IsNode 9 p → IsInstance floor → head.now ≢ joined (words (replace_line p floor)))
         × ((p calls : ℕ) → IsNode 9 p → calls < 2 ^ 32 → head.now ≢ joined (words (arm_line p calls))) × ((p choice : ℕ) → IsNode 9 p → choice < 2 ^ 8 → head.now ≢ joined (words (crash_line p choice))))
         (λ l. Fits (line_view l) × (body (line_view l) ≡ []) × (head.now ≡ joined (words (line_view l)))) }
 {
