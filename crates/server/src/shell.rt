@@ -212,7 +212,7 @@ impl Shell {
     /// Seats the clients that have come, each perhaps for one that was silent for long. One that fails at once is passed over.
     fn accept(&mut self, seats: &mut Seats<TcpStream>, now: u64) -> Result<(), AllocError> {
         for _ in 0..ACCEPTED {
-            if !seats.has_room() {
+            if !seats.has_room(now) {
                 self.watch.fill();
                 return Ok(());
             }
@@ -223,7 +223,7 @@ impl Shell {
                 continue;
             }
             let _ = stream.set_nodelay(true);
-            if let Some(gone) = seats.make_room() {
+            if let Some(gone) = seats.make_room(now) {
                 self.part_with(gone, now);
                 self.watch.displace();
             }

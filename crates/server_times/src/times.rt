@@ -56,6 +56,9 @@ pub struct Times {
     /// Milliseconds for which what a client still sends behind its last response is read and dropped, at most, so that the response is not lost (RFC 9112,
     /// section 9.6): a client that reads it closes within that (`Linger`).
     pub lingering: u64,
+    /// Milliseconds for which a request keeps a seat from others: one that takes longer, as its client sends or reads slowly, goes for another client where
+    /// all seats are taken (`Seats::make_room`).
+    pub keeps_seat: u64,
     /// Milliseconds for which a request for a receipt that is not there yet is left, behind the last bytes that its client sent: most values are known by
     /// then, and a client asks once.
     pub receipts: u64,
@@ -87,6 +90,7 @@ const STANDARD: Times = Times {
     without_progress: 1000,
     returning: 2000,
     lingering: 2000,
+    keeps_seat: 2000,
     receipts: 100,
     serve_ms: None,
 };
