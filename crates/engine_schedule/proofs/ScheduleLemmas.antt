@@ -1,16 +1,16 @@
 -- Which bytes have a line of a schedule at their front.
-use Rattle.std.proofs.Common.{◌≡◌, ◌≢◌, ℕ, suc, ◌≤◌, ◌+◌, List, [], ◌∷◌, ◌++◌, length, codes, decimal, refl, sym, ap, ◌∙◌, arith, append_assoc, length-append}
+use Rattle.std.proofs.Common.{◌≡◌, ◌≢◌, ℕ, ◌≤◌, List, [], ◌∷◌, ◌++◌, length, codes, decimal, refl, sym, ap, ◌∙◌, arith, append_assoc}
 use Rattle.std.proofs.lemmas.Fmt.{decimal_injective}
 use Rattle.site_ids.specs.Ids.{IsNode}
 use Rattle.site_ids.specs.declared.Ticket.{Ticket}
 use Rattle.engine_common.specs.Cuts.{Lacks, IsCut}
 use Rattle.engine_schedule.specs.Schedule.{Line, submit_line, tick_line, widen_line, ask_line, tell_line, keep_line, restart_line, replace_line, deliver_line, arm_line, crash_line, settle_line, quiet_line, show_line, get_line, trace_line, submit_words, words, body, spelled, Fits, HasNoLine, GetsNoLine, spelled_nodes, HasNoNodes, GetsNoNodes}
 use Rattle.engine_common.specs.Submissions.{joined, FitsSubmission}
-use Rattle.engine_common.proofs.CutLemmas.{Same, no_cut, one_cut}
+use Rattle.engine_common.proofs.CutLemmas.{no_cut, one_cut}
 use Rattle.engine_common.proofs.CutLemmas.{lacks-decimal}
 use Rattle.engine_common.proofs.LineLemmas.{same_submission, number_cut}
 use Rattle.engine_common.proofs.Lines as lines
-use Rattle.engine_common.proofs.Texts.{lacks-codes, lacks-last, lacks-number, lacks-behind, begins_so, behind_text, cut_more, HasText}
+use Rattle.engine_common.proofs.Texts.{lacks-codes, lacks-last, lacks-number, lacks-behind, begins_so, cut_more, HasText}
 
 -- ---- no newline stands in the words of a line
 
