@@ -4,6 +4,7 @@
 mod addresses;
 mod engine;
 mod mail;
+mod making;
 mod openings;
 mod packing;
 mod passes;

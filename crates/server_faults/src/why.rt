@@ -126,15 +126,15 @@ fn wrong_with_reaches(fault: FloorFault) -> &'static str {
 pub fn say_why_of_record<E: Write>(
     alloc: Global,
     err: &mut Counted<E>,
-    record: &str,
+    path: &str,
     fault: RecordFault,
     cause: &Cause,
     above: bool,
 )
-    ensures { GivesWhy (end_of E.contents err.old err.new) (codes "record ") record.now }
+    ensures { GivesWhy (end_of E.contents err.old err.new) (codes "record ") path.now }
 {
     let other = wrong_with(fault, cause, above);
-    tell_cause(alloc, err, "record ", record, cause.error, other);
+    tell_cause(alloc, err, "record ", path, cause.error, other);
 }
 
 /// Says why it halted so, where that is more than its line says.
