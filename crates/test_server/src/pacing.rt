@@ -10,6 +10,7 @@ const TIMES: Times = Times {
     patience: 100,
     growth: 3,
     longer: 10,
+    leaving: 15_000,
     asking: 400,
     quiet_asking: 800,
     quick: 20,
@@ -26,7 +27,9 @@ const TIMES: Times = Times {
     quiet_rest: 20_000,
     between_requests: 5000,
     without_progress: 1000,
+    returning: 2000,
     lingering: 2000,
+    keeps_seat: 2000,
     receipts: 100,
     serve_ms: None,
 };
@@ -341,6 +344,7 @@ fn a_tick_that_a_majority_answers_in_vain_is_counted(rt: HostRuntime) {
         };
         let ticked = Ticking {
             since: Some(9),
+            first: None,
             known: 7,
             ticks: due,
             longer: then,
