@@ -84,8 +84,16 @@ fn open<R: Net<Listener = TcpListener, Stream = TcpStream> + Files<File = File> 
     let (cluster, me) = (addresses.cluster, addresses.me);
     let making = read_making(alloc, cluster, me, options)?;
     let times = Times::new(options.patience, options.serve_ms);
-    let (server, votes) =
-        open_server(rt, alloc, cluster, me, times, making, options.record, cause)?;
+    let (server, votes) = open_server(
+        rt,
+        alloc,
+        cluster,
+        me,
+        times,
+        making,
+        options.record,
+        cause,
+    )?;
     let notes = Notes::new(cluster, me, votes, server.served.node.floor());
     let shell = open_sockets(rt, alloc, addresses, times, notes, cause)?;
     Ok((server, shell))

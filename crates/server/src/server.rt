@@ -1,12 +1,11 @@
 //! A server without sockets and clock.
 
-ghost use Rattle.std.specs.Prelude.{◌≡◌, ◌⊎◌, ◌↔◌, ◌||◌, ◌≤◌, [], ℕ, IfOk, IfErr, IfSome, IsFalse, IsSome, OnOk, length, true, false};
+ghost use Rattle.std.specs.Prelude.{◌≡◌, ◌⊎◌, ◌↔◌, ◌||◌, [], ℕ, IfOk, IfErr, IfSome, IsFalse, IsSome, OnOk, length, true, false};
 ghost use Rattle.node.specs.Standing.{KeepsOthers, failures};
 ghost use Rattle.site_drive.specs.Batches.{TakesBatch, LeadsSealed};
 ghost use Rattle.site_drive.specs.Leading.{StaysWhose};
 ghost use Rattle.site_drive.specs.Posting.{spelled_of};
 ghost use Rattle.site_drive.specs.declared.last_call.LastCall.{LastCall};
-ghost use Rattle.http_serve.specs.Services.{MaySubmitMany};
 ghost use Rattle.server_clients.specs.Answering.{TellsAnswered};
 ghost use Rattle.server_faults.specs.ServerFaults.{CountsNone, EndsLaps};
 ghost use Rattle.server_pace.specs.Pacing.{empty_after, first_pace, resting_of, Rests};
@@ -18,6 +17,7 @@ ghost use Rattle.server.specs.Passes.{AreSenders, TakesStep, BreaksStep, LosesSt
 ghost use Rattle.server_clients.specs.Served.{offered};
 ghost use Rattle.server_clients.specs.declared.served.Served.{Served};
 
+use crate::answering::{answer, is_returning};
 use crate::mail::Mail;
 use crate::recorded::Recorded;
 use server_clients::{Seats, Served};
@@ -26,7 +26,7 @@ use server_pace::{Pace, Returning, Times};
 use site_disk::Disk;
 use site_drive::Desk;
 use site_ids::{NodeId, NodeSet};
-use std::alloc::{AllocError, Global};
+use std::alloc::Global;
 
 /// A server without sockets and clock: a node, its mail, its clients, and when it tries and asks.
 ///
@@ -132,20 +132,7 @@ impl<D: Disk + Drop, S: Drop> Server<D, S> {
         ensures returns { result ≡ true → ComesBack self.now.returning now self.now.served.node }
         ensures back { result ≡ false → IsBack self.now.returning now self.now.served.node }
     {
-        self.returning.is_due(now, self.served.node.known())
-    }
-
-    /// Answers requests, but for those that are left: all of them while it comes back.
-    fn answer(&mut self, now: u64) -> Result<bool, AllocError>
-        ensures each { OnOk result (AnswersOrLeaves self.old.returning now self.old.seats.times self.old.served self.new.served self.old.seats.seats.items self.new.seats.seats.items) }
-        ensures tells { IfOk result (λ answered. TellsAnswered answered (length self.old.seats.seats.items) self.old.seats.seats.items self.new.seats.seats.items) }
-        ensures taken { (n : ℕ) × (n ≤ 64) × MaySubmitMany offered n self.old.served self.new.served }
-        ensures same { self.new ≡ record self.old { served = self.new.served; seats = self.new.seats } }
-    {
-        if self.is_returning(now) {
-            return Ok(false);
-        }
-        self.seats.answer_each(&mut self.served, now)
+        is_returning(self.returning, &self.served.node, now)
     }
 
     /// One step, so many milliseconds after the server began, and never less than before: all that waits is one batch, behind which the node publishes, and what that
@@ -171,7 +158,7 @@ impl<D: Disk + Drop, S: Drop> Server<D, S> {
     {
         let came = !self.mail.is_empty();
         let batched = self.take_batch(now)?;
-        let answered = self.answer(now)?;
+        let answered = answer(self.returning, &mut self.seats, &mut self.served, now)?;
         Ok(Stepped {
             came,
             malformed: batched.malformed,

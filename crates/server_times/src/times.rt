@@ -13,10 +13,10 @@ pub struct Times {
     /// The patience grows with the tries that brought no news, up to so many times (`Ticking`).
     pub growth: u32,
     /// After each try that a majority answered and that brought no news it waits so many patiences longer,
-    /// without a bound; and so many at least while it has no value of its own (`Ticking`). So servers far apart
+    /// without a bound; and so many at least without a stake (`Ticking`). So servers far apart
     /// do not outbid one another for ever.
     pub longer: u32,
-    /// Milliseconds for which a server with no value of its own leaves it to the others to decide, at most, while their messages come (`Ticking`).
+    /// Milliseconds for which a server without a stake leaves it to the others to decide, at most, while their messages come (`Ticking`).
     pub leaving: u64,
     /// Milliseconds between two questions to the others of which the first brought nothing (`LastQuestion`).
     pub asking: u64,

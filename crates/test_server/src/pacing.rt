@@ -136,7 +136,7 @@ fn seen(known: u32, wanted: bool, resumes: bool) -> Seen {
         known,
         wanted,
         drained: true,
-        pending: true,
+        stake: true,
         resumes,
     }
 }
@@ -244,8 +244,8 @@ fn the_patience_grows(rt: HostRuntime) {
     }
 }
 
-/// Since when a tick is waited for, since when one was wanted first; whether a value is pending, whether messages
-/// of an attempt came, the moment; and since when it is waited for then.
+/// Since when a tick is waited for, since when one was wanted first; whether the server has a stake, whether
+/// messages of an attempt came, the moment; and since when it is waited for then.
 const LEFT: &[(Option<u64>, Option<u64>, bool, bool, u64, Option<u64>)] = &[
     (None, None, false, true, 100, Some(100)),
     (Some(100), Some(100), false, true, 900, Some(900)),
@@ -253,14 +253,14 @@ const LEFT: &[(Option<u64>, Option<u64>, bool, bool, u64, Option<u64>)] = &[
     // For fifteen seconds at most.
     (Some(15_099), Some(100), false, true, 15_100, Some(15_099)),
     (Some(15_099), Some(100), false, true, 90_000, Some(15_099)),
-    // Its own value it leaves to nobody, and without messages nothing is put off.
+    // With a stake it leaves it to nobody, and without messages nothing is put off.
     (Some(100), Some(100), true, true, 900, Some(100)),
     (Some(100), Some(100), false, false, 900, Some(100)),
 ];
 
 #[test]
-fn who_has_no_value_leaves_it_to_the_others(rt: HostRuntime) {
-    for &(since, first, pending, stirred, now, then) in LEFT {
+fn who_has_no_stake_leaves_it_to_the_others(rt: HostRuntime) {
+    for &(since, first, stake, stirred, now, then) in LEFT {
         let ticking = Ticking {
             since,
             first,
@@ -268,7 +268,7 @@ fn who_has_no_value_leaves_it_to_the_others(rt: HostRuntime) {
             ..Ticking::new()
         };
         let seen = Seen {
-            pending,
+            stake,
             ..seen(7, true, false)
         };
         let is = ticking.noted(TIMES, now, seen, stirred);
@@ -291,8 +291,7 @@ fn who_has_no_value_leaves_it_to_the_others(rt: HostRuntime) {
     }
 }
 
-/// How many ticks were due, how many patiences longer it waits, whether a value of its own is pending; the
-/// moment, and whether a tick is due that is waited for since 1000, of a patience of 150 milliseconds.
+/// How many ticks were due, how many patiences longer it waits, whether the server has a stake; the moment, and whether a tick is due that is waited for since 1000, of a patience of 150 milliseconds.
 const LONGER: &[(u32, u32, bool, u64, bool)] = &[
     (0, 0, true, 1150, true),
     (0, 0, false, 2649, false),
@@ -305,8 +304,8 @@ const LONGER: &[(u32, u32, bool, u64, bool)] = &[
 ];
 
 #[test]
-fn who_has_no_value_waits_longer(rt: HostRuntime) {
-    for &(ticks, longer, pending, now, due) in LONGER {
+fn who_has_no_stake_waits_longer(rt: HostRuntime) {
+    for &(ticks, longer, stake, now, due) in LONGER {
         let ticking = Ticking {
             since: Some(1000),
             known: 7,
@@ -314,8 +313,8 @@ fn who_has_no_value_waits_longer(rt: HostRuntime) {
             longer,
             ..Ticking::new()
         };
-        let is = ticking.is_due(now, 150, TIMES, pending);
-        same(&rt, (ticking, pending, now, is), (ticking, pending, now, due));
+        let is = ticking.is_due(now, 150, TIMES, stake);
+        same(&rt, (ticking, stake, now, is), (ticking, stake, now, due));
     }
 }
 
@@ -391,7 +390,7 @@ fn a_server_asks_in_its_time_and_behind_news(rt: HostRuntime) {
             known,
             wanted: false,
             drained,
-            pending: true,
+            stake: true,
             resumes: false,
         };
         let asking = last.asking(TIMES, now, seen, empty, more);

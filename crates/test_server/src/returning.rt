@@ -9,8 +9,7 @@ use std::process::Abort;
 
 const ASKS: &[u8] = b"GET /_newest HTTP/1.1\r\nHost: a\r\n\r\n";
 
-const POSTS: &[u8] =
-    b"POST /_submit/2/1 HTTP/1.1\r\nHost: a\r\nContent-Length: 8\r\n\r\nrelease\n";
+const POSTS: &[u8] = b"POST /_submit/2/1 HTTP/1.1\r\nHost: a\r\nContent-Length: 8\r\n\r\nrelease\n";
 
 const NONE: &[u8] =
     b"HTTP/1.1 200 OK\r\nContent-Type: text/plain; charset=utf-8\r\nContent-Length: 2\r\n\r\n0\n";

@@ -9,5 +9,5 @@ returns g c = λ s is.
     let next : c.in_ok-first.first ≡ suc c.args.known = search rules in
     let told = subst (λ p. IsPromise s.entries c.in_ok-first.first p) c.in_ok-ballot.was (c.slot.ensures s is).promise in
     let promise : IsPromise s.entries (suc c.args.known) (Some ballot) =
-        subst (λ (i : ℕ). IsPromise s.entries i (Some ballot)) next told in
+    subst (λ (i : ℕ). IsPromise s.entries i (Some ballot)) next told in
     (search rules, (ballot, promise, sym c.node.ensures.is))
