@@ -9,7 +9,7 @@ use Rattle.node.specs.declared.to.To.{To}
 use Rattle.node.specs.declared.to.To.TheVariants.{One}
 use Rattle.node.specs.declared.node.Node.{Node as Running}
 use Rattle.node.specs.Nodes.{Node, IsKnownPrefix}
-use Rattle.node.specs.Calls.{Call, tick, widen, ask, tell, keep, Begins, MayWiden, MayKeep, KeepsOne, Ticks, AsksInstead, Does}
+use Rattle.node.specs.Calls.{Call, tick, widen, ask, tell, keep, Begins, MayWiden, MayKeep, KeepsOne, Does}
 use Rattle.node.specs.Effects.{Effect, quiet}
 use Rattle.node.specs.Endings.{Ending, Whole, Refused, Failed, Ends}
 use Rattle.node.specs.Standing.{ending_by}
@@ -95,8 +95,8 @@ same_known n p s next call (Refused cause) out same h = ap (λ u. u.known) h.nod
 same_known n p s next call Failed out same h = ap (λ u. u.known) h.node
 
 tick_knows : (n p : ℕ) (s : Node) (effect : Effect) → Does n p s tick effect → effect.after.known ≡ s.known
-tick_knows n p s effect how =
-    ⊎_elim (λ (x : Ticks p s effect). ap (λ (e : Effect). e.after.known) x.is) (λ (x : AsksInstead p s effect). ap (λ (e : Effect). e.after.known) x.asks.is) how
+tick_knows n p s effect (inl begins) = ap (λ (e : Effect). e.after.known) begins.is
+tick_knows n p s effect (inr instead) = ap (λ (e : Effect). e.after.known) instead.asks.is
 
 ask_knows : (n p : ℕ) (s : Node) (effect : Effect) → Does n p s ask effect → effect.after.known ≡ s.known
 ask_knows n p s effect how = ap (λ (e : Effect). e.after.known) how.is
