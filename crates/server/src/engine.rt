@@ -65,7 +65,7 @@ fn open_server<R: Files<File = File>>(
     let desk = Desk::new(alloc)?;
     let served = open_node(rt, alloc, cluster, me, record, making, cause)?;
     let recorded = Recorded::of(&served.node, MAX_INSTANCE);
-    let server = Server::new(alloc, me, served, desk, times, recorded.last);
+    let server = Server::new(alloc, me, served, desk, times, recorded);
     Ok((boxed(alloc, server)?, recorded.votes))
 }
 
@@ -84,8 +84,16 @@ fn open<R: Net<Listener = TcpListener, Stream = TcpStream> + Files<File = File> 
     let (cluster, me) = (addresses.cluster, addresses.me);
     let making = read_making(alloc, cluster, me, options)?;
     let times = Times::new(options.patience, options.serve_ms);
-    let (server, votes) =
-        open_server(rt, alloc, cluster, me, times, making, options.record, cause)?;
+    let (server, votes) = open_server(
+        rt,
+        alloc,
+        cluster,
+        me,
+        times,
+        making,
+        options.record,
+        cause,
+    )?;
     let notes = Notes::new(cluster, me, votes, server.served.node.floor());
     let shell = open_sockets(rt, alloc, addresses, times, notes, cause)?;
     Ok((server, shell))

@@ -2,6 +2,7 @@
 #![tactic(auto)]
 
 mod addresses;
+mod answering;
 mod engine;
 mod mail;
 mod making;

@@ -39,6 +39,8 @@ mod refusals;
 #[cfg(test)]
 mod resting;
 #[cfg(test)]
+mod returning;
+#[cfg(test)]
 mod scripts;
 #[cfg(test)]
 mod seats;
