@@ -116,7 +116,7 @@ fn serve_matches<'a>(alloc: Global, words: &'a [String]) -> Result<ArgMatches<'a
     ensures serving { IfOk result (λ m. (t : List ℕ) → one_text (found_of m) (codes "serve-ms") ≡ Some t → IsUnsignedIn 0 18446744073709551615 t) }
 {
     let example =
-        "Example, server 1 of 3 on one machine:\n  sited --id 1 --record /var/lib/sited/1.record --format --http 127.0.0.1:8001 --rounds 4294967295 127.0.0.1:7001 127.0.0.1:7002 127.0.0.1:7003\n\nA lost machine of three, its record with it, behind 'sited --inspect FILE' at both others: their lines 'node: 2', 'reaches: 57', and 'node: 3', 'reaches: 60'\n  sited --id 1 --record /var/lib/sited/1.record --format --above 2:57 --above 3:60 --http 127.0.0.1:8001 --rounds 0 127.0.0.1:7001 127.0.0.1:7002 127.0.0.1:7003\n\n--inspect FILE alone prints what a record holds, also while a server runs over it\n--version prints the program's version";
+        "Example, server 1 of 3 on one machine:\n  sited --id 1 --record /var/lib/sited/1.record --format --http 127.0.0.1:8001 --rounds 4294967295 127.0.0.1:7001 127.0.0.1:7002 127.0.0.1:7003\n\nIn the place of server 1 that is lost with its record, where '--inspect' tells 'reaches: 57' of server 2 and 'reaches: 60' of server 3:\n  sited --id 1 --record /var/lib/sited/1.record --format --above 2:57 --above 3:60 --http 127.0.0.1:8001 --rounds 0 127.0.0.1:7001 127.0.0.1:7002 127.0.0.1:7003\n\n--inspect FILE alone prints what a record holds, also while a server runs over it\n--version prints the program's version";
     let args = vec![in alloc;
         id_option(alloc),
         required_option(
