@@ -24,12 +24,7 @@ const ROWS: &[Row] = &[
     (9, 1, &["2:1", "3:1", "4:1", "5:1"], Err(FloorFault::TooFew)),
     (2, 1, &["2:57"], Err(FloorFault::TooFew)),
     // too far
-    (
-        3,
-        1,
-        &["2:999937", "3:0"],
-        Err(FloorFault::TooFar),
-    ),
+    (3, 1, &["2:999937", "3:0"], Err(FloorFault::TooFar)),
     (
         3,
         1,

@@ -13,16 +13,12 @@ type Row = (&'static [u8], Result<&'static str, RecordFault>);
 const ROWS: &[Row] = &[
     (
         b"SITEREC1\x02\x03\x00",
-        Ok(
-            "node: 2\nnodes: 3\nvotes: 0\nlearned: 0\nlast instance: 0\nreaches: 0\nbytes: 11\n",
-        ),
+        Ok("node: 2\nnodes: 3\nvotes: 0\nlearned: 0\nlast instance: 0\nreaches: 0\nbytes: 11\n"),
     ),
     // a promise and a round are neither votes nor learned
     (
         b"SITEREC1\x01\x03\x01\x00\x00\x00\x0a\x02\x00\x00\x00\x09\x00\x00\x00\x01\x01\x01\x00\x00\x00\x05\x01\x00\x00\x00\x07\x00",
-        Ok(
-            "node: 1\nnodes: 3\nvotes: 0\nlearned: 0\nlast instance: 0\nreaches: 0\nbytes: 36\n",
-        ),
+        Ok("node: 1\nnodes: 3\nvotes: 0\nlearned: 0\nlast instance: 0\nreaches: 0\nbytes: 36\n"),
     ),
     // a floor
     (

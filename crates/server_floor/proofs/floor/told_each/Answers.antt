@@ -21,5 +21,5 @@ loop-word-preserved c =
     let next : suc c.loop-word.word-index ≡ c.loop-word.word-index + 1 = omega arith in (
       λ t h. ⊎_elim (λ k. c.loop-word.invariant.0 t k) (λ (e : c.in-Some.one ≡ t). subst Fits e c.in-Some.ensures.0) (in_push c.loop-word.told.items c.in-Some.one t (subst (λ (l : List Told). In l t) items h)),
       ap (map spelled) items ∙ map-append spelled c.loop-word.told.items (c.in-Some.one ∷ []) ∙ ap₂ (λ a b. a ++ b ∷ []) c.loop-word.invariant.1 (sym c.in-Some.ensures.1)
-      ∙ sym (words_more c.args.words.now c.loop-word.word-index _ c.loop-word-test.true) ∙ ap (λ k. take k (map (λ (w : Bor (List ℕ)). w.now) c.args.words.now)) next,
+          ∙ sym (words_more c.args.words.now c.loop-word.word-index _ c.loop-word-test.true) ∙ ap (λ k. take k (map (λ (w : Bor (List ℕ)). w.now) c.args.words.now)) next,
     )
