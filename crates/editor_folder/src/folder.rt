@@ -5,16 +5,17 @@ ghost use Rattle.editor_folder.specs.Texts.{IsCommandText, AreCommands};
 use crate::file::SiteFile;
 use crate::finding::Finding;
 use crate::judging::{Refusal, refused};
+use crate::keys::{Key, keys_of};
 use crate::lines::{
     Line, RedirectLine, RouteLine, kind_word, lines_in, redirect_in, removal_in, route_in,
 };
 use crate::place::{Place, place_of};
-use crate::reasons::{fault_in, file_fault, no_text};
+use crate::reasons::{fault_in, file_fault, no_text, warning_in};
 use crate::roles::{Role, role_of};
-use crate::template_reasons::calls_of;
+use crate::template_reasons::{Call, calls_of, names_of};
 use command::{CommandFault, Kind};
 use std::alloc::{AllocError, Global};
-use std::collections::BTreeMap;
+use std::collections::{BTreeMap, BTreeSet};
 
 /// A command of a folder: its text.
 #[derive(Drop)]
@@ -39,9 +40,9 @@ pub struct Redirect {
     pub line: usize,
 }
 
-/// A partial that a file calls.
+/// A partial that a file calls, or a name of a value that it has.
 #[derive(Drop)]
-pub(crate) struct PartialCall {
+pub(crate) struct TagName {
     pub name: String,
     pub file: String,
     pub place: Place,
@@ -65,7 +66,12 @@ pub(crate) struct Reading {
     pub found: BTreeMap<String, usize>,
     /// What is removed, in the same way, and its line of `removes`.
     pub removed: BTreeMap<String, usize>,
-    pub calls: Vec<PartialCall>,
+    pub calls: Vec<TagName>,
+    /// The names of values that templates and partials have.
+    pub names: Vec<TagName>,
+    /// The keys of all data, whether there are any or not.
+    pub keys: BTreeSet<String>,
+    pub has_data: bool,
 }
 
 /// A kind and a name, parted by a space.
@@ -83,6 +89,37 @@ fn take(commands: &mut Vec<FolderCommand>, text: Vec<u8>) -> Result<(), AllocErr
     Ok(())
 }
 
+/// Adds tags of a file's text.
+fn push_tags(
+    alloc: Global,
+    tags: &mut Vec<TagName>,
+    path: &str,
+    body: &str,
+    found: &[Call<'_>],
+) -> Result<(), AllocError> {
+    for call in found {
+        tags.push(TagName {
+            name: String::from_str(alloc, call.name)?,
+            file: String::from_str(alloc, path)?,
+            place: place_of(body.as_bytes(), call.at),
+        })?;
+    }
+    Ok(())
+}
+
+/// Whether the object of a key had none of that name before.
+fn is_new(alloc: Global, before: &mut BTreeSet<String>, key: &Key) -> Result<bool, AllocError> {
+    let (object, name) = (key.object, key.name.as_str());
+    Ok(before.insert(format!(in alloc; "{object} {name}")?)?)
+}
+
+/// A key stands twice in one object.
+fn doubled_key(alloc: Global, path: &str, body: &str, key: &Key) -> Result<Finding, AllocError> {
+    let name = key.name.as_str();
+    let reason = format!(in alloc; "the key `{name}` stands twice here: the later value counts")?;
+    warning_in(alloc, path, place_of(body.as_bytes(), key.at), reason)
+}
+
 impl Reading {
     fn new(alloc: Global) -> Reading
         ensures { AreCommands result.folder.commands.items }
@@ -98,6 +135,9 @@ impl Reading {
             found: BTreeMap::new(alloc),
             removed: BTreeMap::new(alloc),
             calls: Vec::new(alloc),
+            names: Vec::new(alloc),
+            keys: BTreeSet::new(alloc),
+            has_data: false,
         }
     }
 
@@ -152,15 +192,33 @@ impl Reading {
         }
     }
 
-    /// Takes the text of a template, a partial or data, and the partials that it calls.
+    /// Takes the text of a template, a partial or data, and the names in it.
     fn body(&mut self, kind: Kind, name: &str, path: &str, body: &str) -> Result<(), AllocError>
         ensures { AreCommands self.old.folder.commands.items → AreCommands self.new.folder.commands.items }
     {
         let word = kind_word(kind);
         let head = format!(in self.alloc; "put {word} {name}\n")?;
-        let taken = self.judge_body(path, head.as_str(), body)?;
-        if taken && matches!(kind, Kind::Template | Kind::Partial) {
-            return self.partials(path, body);
+        if !self.judge_body(path, head.as_str(), body)? {
+            return Ok(());
+        }
+        match kind {
+            Kind::Data => self.keys(path, body),
+            _ => self.tags(path, body),
+        }
+    }
+
+    /// Takes the keys of data.
+    fn keys(&mut self, path: &str, body: &str) -> Result<(), AllocError>
+        ensures { AreCommands self.old.folder.commands.items → AreCommands self.new.folder.commands.items }
+    {
+        self.has_data = true;
+        let mut before = BTreeSet::new(self.alloc);
+        for key in keys_of(self.alloc, body)? {
+            if !is_new(self.alloc, &mut before, &key)? {
+                let finding = doubled_key(self.alloc, path, body, &key)?;
+                self.find(finding)?;
+            }
+            let _ = self.keys.insert(key.name)?;
         }
         Ok(())
     }
@@ -176,18 +234,14 @@ impl Reading {
         }
     }
 
-    /// Takes the partials that a text calls.
-    fn partials(&mut self, path: &str, body: &str) -> Result<(), AllocError>
+    /// Takes the partials that a text calls, and the names of values that it has.
+    fn tags(&mut self, path: &str, body: &str) -> Result<(), AllocError>
         ensures { AreCommands self.old.folder.commands.items → AreCommands self.new.folder.commands.items }
     {
-        for call in calls_of(self.alloc, body)?.iter() {
-            self.calls.push(PartialCall {
-                name: String::from_str(self.alloc, call.name)?,
-                file: String::from_str(self.alloc, path)?,
-                place: place_of(body.as_bytes(), call.at),
-            })?;
-        }
-        Ok(())
+        let calls = calls_of(self.alloc, body)?;
+        push_tags(self.alloc, &mut self.calls, path, body, &calls)?;
+        let names = names_of(self.alloc, body)?;
+        push_tags(self.alloc, &mut self.names, path, body, &names)
     }
 
     /// A fault of a line.

@@ -138,6 +138,33 @@ impl<'a> Nesting<'a> {
         })
     }
 
+    /// How many templates and partials there are.
+    pub(crate) fn len(&self) -> usize {
+        self.sources.len()
+    }
+
+    /// The kind and the name of a number, parted by a space.
+    pub(crate) fn key(&self, number: usize) -> &'a str {
+        match self.sources.get(number) {
+            Some(source) => source.key,
+            None => "",
+        }
+    }
+
+    /// The number of a template, where it is there.
+    pub(crate) fn template(&self, alloc: Global, name: &str) -> Result<Option<usize>, AllocError> {
+        let key = format!(in alloc; "template {name}")?;
+        Ok(self.numbers.get(key.as_str()).copied())
+    }
+
+    /// The numbers of the partials that a number calls.
+    pub(crate) fn called_by(&self, number: usize) -> &[usize] {
+        match self.calls.get(number) {
+            Some(partials) => partials.as_slice(),
+            None => &[],
+        }
+    }
+
     fn depth(&self, number: usize) -> usize {
         self.depths.get(number).copied().unwrap_or(0)
     }
@@ -149,10 +176,7 @@ impl<'a> Nesting<'a> {
 
     /// The first partial that a source calls below which they can nest without end; itself where there is none.
     fn endless_within(&self, number: usize) -> usize {
-        let Some(partials) = self.calls.get(number) else {
-            return number;
-        };
-        for partial in partials {
+        for partial in self.called_by(number) {
             if self.is_endless(*partial) {
                 return *partial;
             }
@@ -166,16 +190,12 @@ impl<'a> Nesting<'a> {
         for _ in 0..self.sources.len() {
             at = self.endless_within(at);
         }
-        match self.sources.get(at) {
-            Some(source) => source.key,
-            None => "",
-        }
+        self.key(at)
     }
 
     /// Why the page of a template is over limit, and what to do.
     pub(crate) fn reason(&self, alloc: Global, template: &str) -> Result<String, AllocError> {
-        let key = format!(in alloc; "template {template}")?;
-        let number = self.numbers.get(key.as_str()).copied();
+        let number = self.template(alloc, template)?;
         let number = number.unwrap_or(self.sources.len());
         let (depth, most) = (self.depth(number), most_nested());
         if self.is_endless(number) {

@@ -387,7 +387,8 @@ fn word_of<'a>(
     }))
 }
 
-/// Reads the words of a command line, the program's name first. `clap` says why it refuses others, help among it.
+/// Reads the words of a command line, the program's name first. `clap` says why it refuses others, help among
+/// it.
 pub fn word_in<'a>(alloc: Global, words: &'a [String]) -> Result<Option<Word<'a>>, Error> {
     let matches = matches_of(alloc, words)?;
     match matches.subcommand() {

@@ -1,6 +1,6 @@
 //! Which pages a publication changes, and whether its release shows them.
 //!
-//! Behind an interrupted run all pages are compared, else those that changed.
+//! After an interrupted run all pages are compared, else those that changed.
 
 use editor_common::{EditorFault, say_made};
 use editor_folder::{View, path_in, views_of};

@@ -1,5 +1,5 @@
 //! What an editor works with, as tables: folders, their faults, pages and static copies; files of ledgers and plans; what is asked of nodes, answers in
-//! pieces, paces, standings; publications (`interruptions` of a ledger, `flights` into a group) that are cut off and go on with another folder; each
+//! pieces, paces, what is told meanwhile, standings, releases that a log does not tell; publications (`interruptions` of a ledger, `flights` into a group) that are cut off and go on with another folder; each
 //! growth refused.
 
 mod answers;
@@ -15,7 +15,9 @@ mod limits;
 mod old_files;
 mod places;
 mod plans;
+mod progresses;
 mod questions;
 mod refusals;
 mod standings;
 mod tickets;
+mod unlogged;
