@@ -14,6 +14,6 @@ mod saving;
 
 pub use files::{below, is_free, write_file};
 pub use holding::hold;
-pub use reading::{Clean, read_clean, texts_of};
+pub use reading::{Clean, Read, read_clean, read_folder, tell_findings, texts_of};
 pub use saved::Saved;
 pub use saving::{new_editor, read_ledger, save};

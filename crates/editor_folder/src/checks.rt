@@ -1,11 +1,12 @@
-//! What is wrong with a folder beyond its files: routes that name what isn't there, redirects that lead nowhere, partials that aren't there, and paths
-//! that readers take for one.
+//! What is wrong with a folder beyond its files: routes that name what isn't there, redirects that lead
+//! nowhere, partials that aren't there, and paths that readers take for one.
 ghost use Rattle.editor_folder.specs.Texts.{AreCommands};
 
 use crate::finding::Finding;
-use crate::folder::{Reading, Redirect, Route, TagName, key_of};
+use crate::folder::{Reading, Redirect, Route, key_of};
 use crate::place::Place;
 use crate::reasons::{line_fault, warning_in};
+use crate::tags::TagName;
 use crate::unreached::mark_in;
 use command::Kind;
 use std::alloc::{AllocError, Global};

@@ -5,14 +5,15 @@ ghost use Rattle.editor_folder.specs.Texts.{IsCommandText, AreCommands};
 use crate::file::SiteFile;
 use crate::finding::Finding;
 use crate::judging::{Refusal, refused};
-use crate::keys::{Key, keys_of};
+use crate::keys::keys_of;
 use crate::lines::{
     Line, RedirectLine, RouteLine, kind_word, lines_in, redirect_in, removal_in, route_in,
 };
-use crate::place::{Place, place_of};
-use crate::reasons::{fault_in, file_fault, no_text, warning_in};
+use crate::place::Place;
+use crate::reasons::{fault_in, file_fault, no_text};
 use crate::roles::{Role, role_of};
-use crate::template_reasons::{Call, calls_of, names_of};
+use crate::tags::{TagName, doubled_key, is_new, push_tags};
+use crate::template_reasons::{calls_of, names_of};
 use command::{CommandFault, Kind};
 use std::alloc::{AllocError, Global};
 use std::collections::{BTreeMap, BTreeSet};
@@ -40,15 +41,8 @@ pub struct Redirect {
     pub line: usize,
 }
 
-/// A partial that a file calls, or a name of a value that it has.
-#[derive(Drop)]
-pub(crate) struct TagName {
-    pub name: String,
-    pub file: String,
-    pub place: Place,
-}
-
-/// What a folder is: its commands in order, all but the release; its pages, and those that moved; and what is wrong with it.
+/// What a folder is: its commands in order, all but the release; its pages, and those that moved; and what is
+/// wrong with it.
 #[derive(Drop)]
 pub struct Folder {
     pub commands: Vec<FolderCommand>,
@@ -87,37 +81,6 @@ fn take(commands: &mut Vec<FolderCommand>, text: Vec<u8>) -> Result<(), AllocErr
 {
     commands.push(FolderCommand { text })?;
     Ok(())
-}
-
-/// Adds tags of a file's text.
-fn push_tags(
-    alloc: Global,
-    tags: &mut Vec<TagName>,
-    path: &str,
-    body: &str,
-    found: &[Call<'_>],
-) -> Result<(), AllocError> {
-    for call in found {
-        tags.push(TagName {
-            name: String::from_str(alloc, call.name)?,
-            file: String::from_str(alloc, path)?,
-            place: place_of(body.as_bytes(), call.at),
-        })?;
-    }
-    Ok(())
-}
-
-/// Whether the object of a key had none of that name before.
-fn is_new(alloc: Global, before: &mut BTreeSet<String>, key: &Key) -> Result<bool, AllocError> {
-    let (object, name) = (key.object, key.name.as_str());
-    Ok(before.insert(format!(in alloc; "{object} {name}")?)?)
-}
-
-/// A key stands twice in one object.
-fn doubled_key(alloc: Global, path: &str, body: &str, key: &Key) -> Result<Finding, AllocError> {
-    let name = key.name.as_str();
-    let reason = format!(in alloc; "the key `{name}` stands twice here: the later value counts")?;
-    warning_in(alloc, path, place_of(body.as_bytes(), key.at), reason)
 }
 
 impl Reading {

@@ -17,17 +17,14 @@ fn name_in(alloc: Global, literal: &str) -> Result<String, AllocError> {
         return String::from_str(alloc, literal.trim_matches('"'));
     }
     match Value::from_slice(alloc, literal.as_bytes()) {
-        Ok(Value::String(name)) => Ok(name),
-        Ok(other) => {
-            drop(other);
-            String::from_str(alloc, literal)
-        }
+        Ok(value) => String::from_str(alloc, value.as_str().unwrap_or(literal)),
         Err(fault) if fault.is_memory() => Err(AllocError),
-        Err(_) => String::from_str(alloc, literal),
+        Err(_fault) => String::from_str(alloc, literal),
     }
 }
 
-/// Where the reading of a text of JSON is: the last text that ended, and the objects that are open, the innermost last.
+/// Where the reading of a text of JSON is: the last text that ended, and the objects that are open, the
+/// innermost last.
 #[derive(Drop)]
 struct Walk<'a> {
     alloc: Global,

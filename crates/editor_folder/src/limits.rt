@@ -1,7 +1,8 @@
 //! Which limit a page passes that is over limit, and what to do.
 //!
-//! A node says no more than that it is: those words are a format's. A page passes how deep partials may nest, or what it may cost; so where its partials
-//! cannot nest that deep, as the calls stand in the folder's files, it is the cost.
+//! A node says no more than that it is: those words are a format's. A page passes how deep partials may nest,
+//! or what it may cost; so where its partials cannot nest that deep, as the calls stand in the folder's
+//! files, it is the cost.
 ghost use Rattle.std.specs.Prelude.{◌≡◌};
 ghost use Rattle.render.specs.Meaning.{max_nested};
 
@@ -99,7 +100,8 @@ fn depths_above(
     Ok(above)
 }
 
-/// How deep partials can nest below each source: deeper than there are sources where one comes to call itself.
+/// How deep partials can nest below each source: deeper than there are sources where one comes to call
+/// itself.
 fn depths_of(alloc: Global, calls: &[Vec<usize>]) -> Result<Vec<usize>, AllocError> {
     let mut depths = vec![in alloc; 0usize; calls.len()]?;
     for _ in 0..=calls.len() {
@@ -174,7 +176,8 @@ impl<'a> Nesting<'a> {
         self.depth(number) > self.sources.len()
     }
 
-    /// The first partial that a source calls below which they can nest without end; itself where there is none.
+    /// The first partial that a source calls below which they can nest without end; itself where there is
+    /// none.
     fn endless_within(&self, number: usize) -> usize {
         for partial in self.called_by(number) {
             if self.is_endless(*partial) {
@@ -184,7 +187,8 @@ impl<'a> Nesting<'a> {
         number
     }
 
-    /// A partial that comes to call itself, below a source where they can nest without end: after as many steps as there are sources one came twice.
+    /// A partial that comes to call itself, below a source where they can nest without end: after as many
+    /// steps as there are sources one came twice.
     fn round_below(&self, number: usize) -> &'a str {
         let mut at = number;
         for _ in 0..self.sources.len() {

@@ -141,7 +141,8 @@ fn pages_by(
     pages_in(alloc, folder, releases)
 }
 
-/// The pages of a folder in a release of its commands alone: of its routes, then of its redirects whose paths have no route, each in order.
+/// The pages of a folder in a release of its commands alone: of its routes, then of its redirects whose paths
+/// have no route, each in order.
 pub fn pages_of(alloc: Global, folder: &Folder) -> Result<Vec<Page>, AllocError> {
     let mut releases = Releases::new(alloc);
     let pages = pages_by(alloc, folder, &mut releases);

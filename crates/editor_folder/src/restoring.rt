@@ -100,8 +100,8 @@ fn push_lines(
     push(alloc, files, String::from_str(alloc, path)?, body.as_str())
 }
 
-/// The files of a folder that puts what these texts put: lines of `routes` and `redirects` by their bytes. What texts
-/// remove has no file.
+/// The files of a folder that puts what these texts put: lines of `routes` and `redirects` by their bytes.
+/// What texts remove has no file.
 pub fn files_of(alloc: Global, texts: &[&str]) -> Result<Vec<SiteFile>, AllocError> {
     let mut files = Vec::new(alloc);
     push_bodies(alloc, &mut files, texts)?;

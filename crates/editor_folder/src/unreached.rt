@@ -1,8 +1,8 @@
 //! Paths that a link has to spell otherwise.
 use std::alloc::{AllocError, Global};
 
-/// A mark that browsers read as something else than a part of a path: what a link has to write for it, and as what they
-/// read it.
+/// A mark that browsers read as something else than a part of a path: what a link has to write for it, and as
+/// what they read it.
 const MARKS: [(char, &str, &str); 3] = [
     ('?', "%3F", "where a query begins"),
     ('#', "%23", "where a place in the page begins"),

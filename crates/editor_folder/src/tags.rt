@@ -1,0 +1,56 @@
+//! The names in a folder's files: of partials and values in templates, and of keys in data.
+use crate::finding::Finding;
+use crate::keys::Key;
+use crate::place::{Place, place_of};
+use crate::reasons::warning_in;
+use crate::template_reasons::Call;
+use std::alloc::{AllocError, Global};
+use std::collections::BTreeSet;
+
+/// A partial that a file calls, or a name of a value that it has.
+#[derive(Drop)]
+pub(crate) struct TagName {
+    pub name: String,
+    pub file: String,
+    pub place: Place,
+}
+
+/// Adds tags of a file's text.
+pub(crate) fn push_tags(
+    alloc: Global,
+    tags: &mut Vec<TagName>,
+    path: &str,
+    body: &str,
+    found: &[Call<'_>],
+) -> Result<(), AllocError> {
+    for call in found {
+        tags.push(TagName {
+            name: String::from_str(alloc, call.name)?,
+            file: String::from_str(alloc, path)?,
+            place: place_of(body.as_bytes(), call.at),
+        })?;
+    }
+    Ok(())
+}
+
+/// Whether the object of a key had none of that name before.
+pub(crate) fn is_new(
+    alloc: Global,
+    before: &mut BTreeSet<String>,
+    key: &Key,
+) -> Result<bool, AllocError> {
+    let (object, name) = (key.object, key.name.as_str());
+    Ok(before.insert(format!(in alloc; "{object} {name}")?)?)
+}
+
+/// A key stands twice in one object.
+pub(crate) fn doubled_key(
+    alloc: Global,
+    path: &str,
+    body: &str,
+    key: &Key,
+) -> Result<Finding, AllocError> {
+    let name = key.name.as_str();
+    let reason = format!(in alloc; "the key `{name}` stands twice here: the later value counts")?;
+    warning_in(alloc, path, place_of(body.as_bytes(), key.at), reason)
+}
