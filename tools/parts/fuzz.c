@@ -271,13 +271,14 @@ static const char *schedules(void) {
     text(line);
     for (size_t left = chance(60); left; left--) {
         const int p = mostly(9) ? 1 + (int)chance(nodes ? nodes : 1) : (int)chance(12);
-        switch (chance(8)) {
+        switch (chance(9)) {
         case 0: snprintf(line, sizeof line, "submit %d ", p); framed(line); text("\n"); break;
         case 1: text(chance(4) ? "settle\n" : "trace\n"); break;
         case 2: snprintf(line, sizeof line, "deliver %d %d\n", p, (int)chance(40)); text(line); break;
         case 3: snprintf(line, sizeof line, "arm %d %d\n", p, (int)chance(12)); text(line); break;
         case 4: snprintf(line, sizeof line, "crash %d %d\nrestart %d\n", p, (int)chance(256), p); text(line); break;
         case 5: snprintf(line, sizeof line, "get %d %s /\n", p, some_number()); text(line); break;
+        case 6: snprintf(line, sizeof line, "replace %d %d\n", p, 63 + (int)chance(80)); text(line); break;
         default: snprintf(line, sizeof line, "%s %d\n", SOME(events), p); text(line);
         }
     }

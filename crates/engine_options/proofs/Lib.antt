@@ -4,3 +4,4 @@ pub mod SimpleCommands
 pub mod Chains
 pub mod ServeLemmas
 pub mod TwoWords
+pub mod ThreeWords

@@ -1,5 +1,5 @@
 -- A name and one word more.
-use Rattle.std.proofs.Common.{◌≡◌, ℕ, ◌<◌, ◌≤◌, slice_index_or, List, [], ◌∷◌, length, map, String, string_bytes, codes, sym, ap, ◌∙◌, arith}
+use Rattle.std.proofs.Common.{◌≡◌, ℕ, ◌<◌, ◌≤◌, slice_index_or, List, [], ◌∷◌, length, String, string_bytes, codes, sym, ap, ◌∙◌, arith}
 use Rattle.std.specs.declared.alloc.Global.{Global}
 use Rattle.engine_options.specs.Options.{words_of}
 use Rattle.engine_options.specs.Versions.{AskVersion}

@@ -5,3 +5,4 @@ pub mod SimOptions
 pub mod ServeOptions
 pub mod ClusterOptions
 pub mod Versions
+pub mod Inspections

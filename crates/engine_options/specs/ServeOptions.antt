@@ -1,10 +1,10 @@
 -- The command line of `sited`, by clap's definition of a simple command.
-use Rattle.std.specs.Prelude.{◌≡◌, ◌<◌, ℕ, Bool, pos, true, false, List, [], map, Option, Some, None, codes, unwrap_or}
+use Rattle.std.specs.Prelude.{◌≡◌, ◌<◌, ℕ, Bool, pos, false, List, [], map, Option, Some, None, codes, unwrap_or}
 use Rattle.std.specs.Str.{bytes_eq}
 use Rattle.std.specs.Str.Parse.{IsNumeral, digits_value, without_leading_plus}
 use Rattle.clap.specs.Words.{App, Rule, Row, Text, new_app, new_rule, with_rule, first_of, one_of, all_of}
-use Rattle.clap.specs.declared.builder.value_parser.ValueParser.TheVariants.{Signed, Unsigned}
-use Rattle.clap.specs.declared.builder.action.ArgAction.TheVariants.{Set, SetTrue, Append}
+use Rattle.clap.specs.declared.builder.value_parser.ValueParser.TheVariants.{Signed}
+use Rattle.clap.specs.declared.builder.action.ArgAction.TheVariants.{SetTrue, Append}
 use Rattle.engine_options.specs.Arguments.{number_rule, required_rule}
 use Rattle.engine_options.specs.Options.{IsNumberOf}
 use Rattle.server_faults.specs.declared.serve_options.ServeOptions.{ServeOptions}
@@ -21,6 +21,10 @@ rounds_rule = record (required_rule (codes "rounds")) { parser = Some (Signed (p
 abbrev pub format_rule : Rule
 format_rule = record (new_rule (codes "format")) { long = Some (codes "format"); action = Some SetTrue }
 
+-- `--above P:REACH`, any number of them
+abbrev pub above_rule : Rule
+above_rule = record (new_rule (codes "above")) { long = Some (codes "above"); value_names = 1; action = Some Append }
+
 -- `--verbose`, which may be there
 abbrev pub verbose_rule : Rule
 verbose_rule = record (new_rule (codes "verbose")) { long = Some (codes "verbose"); action = Some SetTrue }
@@ -29,10 +33,10 @@ verbose_rule = record (new_rule (codes "verbose")) { long = Some (codes "verbose
 abbrev pub address_rule : Rule
 address_rule = record (new_rule (codes "address")) { value_names = 1; action = Some Append }
 
--- `sited --id P --record FILE --http ADDRESS --rounds R [--format] [--patience-ms N] [--serve-ms N] [--verbose] [ADDRESS]...`
+-- `sited --id P --record FILE --http ADDRESS --rounds R [--format] [--above P:REACH]... [--patience-ms N] [--serve-ms N] [--verbose] [ADDRESS]...`
 abbrev pub serve_app : App
-serve_app = with_rule (with_rule (with_rule (with_rule (with_rule (with_rule (with_rule (with_rule (with_rule (new_app (codes "sited"))
-    id_rule) (required_rule (codes "record"))) (required_rule (codes "http"))) rounds_rule) format_rule)
+serve_app = with_rule (with_rule (with_rule (with_rule (with_rule (with_rule (with_rule (with_rule (with_rule (with_rule (new_app (codes "sited"))
+    id_rule) (required_rule (codes "record"))) (required_rule (codes "http"))) rounds_rule) format_rule) above_rule)
     (number_rule (codes "patience-ms"))) (number_rule (codes "serve-ms"))) verbose_rule) address_rule
 
 -- a flag is set where its text is `true`
@@ -52,6 +56,7 @@ pub record GivesServe (rows : List Row) (o : ServeOptions) : Type 0 where
   pub http : first_of (codes "http") rows ≡ Some o.http.now
   pub rounds : IsNumberOf (one_of (codes "rounds") rows) (Some o.rounds)
   pub format : o.format ≡ is_set (one_of (codes "format") rows)
+  pub above : map (λ s. s.now) o.above.items ≡ unwrap_or (all_of (codes "above") rows) []
   pub patience : IsNumberOf (one_of (codes "patience-ms") rows) o.patience
   pub serve_ms : IsNumberOf (one_of (codes "serve-ms") rows) o.serve_ms
   pub verbose : o.verbose ≡ is_set (one_of (codes "verbose") rows)

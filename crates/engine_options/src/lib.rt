@@ -4,6 +4,7 @@
 mod arguments;
 mod cluster_line;
 mod commands;
+mod inspection;
 mod matched;
 mod misuse;
 mod render_line;
@@ -12,6 +13,7 @@ mod sim_line;
 mod version;
 
 pub use cluster_line::cluster_options;
+pub use inspection::inspected;
 pub use misuse::{Misuse, command_line, refuse};
 pub use render_line::{RenderOptions, render_options};
 pub use serve_line::sited_options;

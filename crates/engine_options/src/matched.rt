@@ -1,5 +1,5 @@
 //! What the words gave to one argument.
-ghost use Rattle.std.specs.Prelude.{◌≡◌, ◌^◌, ℕ, List, Some, map, [], IfOk, true, is_some, codes, unwrap_or};
+ghost use Rattle.std.specs.Prelude.{◌≡◌, ◌^◌, ℕ, List, Some, map, [], IfOk, true, is_some, unwrap_or};
 ghost use Rattle.clap.specs.Words.{found_of, first_value, one_text, rows_of, all_of, IsUnsignedIn};
 ghost use Rattle.engine_options.specs.Options.{IsNumberOf};
 ghost use Rattle.engine_options.specs.ServeOptions.{SpellsBelow, is_set};
@@ -55,14 +55,15 @@ pub(crate) fn flag_in(matches: &ArgMatches<'_>, id: &str) -> bool
     matches.get_one::<bool>(id).unwrap_or(false)
 }
 
-/// All that were given as an address.
-pub(crate) fn addresses_in<'a>(
+/// All texts of an argument that may have several.
+pub(crate) fn texts_in<'a>(
     alloc: Global,
     matches: &ArgMatches<'a>,
+    id: &str,
 ) -> Result<Vec<&'a str>, AllocError>
-    ensures { IfOk result (λ v. map (λ s. s.now) v.items ≡ unwrap_or (all_of (codes "address") (rows_of (found_of matches.now))) []) }
+    ensures { IfOk result (λ v. map (λ s. s.now) v.items ≡ unwrap_or (all_of id.now (rows_of (found_of matches.now))) []) }
 {
-    match matches.get_strs("address") {
+    match matches.get_strs(id) {
         Some(given) => Vec::from_slice(alloc, given),
         None => Ok(Vec::new(alloc)),
     }

@@ -4,11 +4,11 @@ ghost use Rattle.clap.specs.Built.{TakesValue};
 ghost use Rattle.clap.specs.Words.{found_of, first_value, one_text, rows_of, rule_of, matches_of, takes, kind_of, FailsBy, fault_of, IsUnsignedIn, IsPlainArg};
 ghost use Rattle.clap.specs.declared.builder.value_parser.ValueParser.TheVariants.{Signed};
 ghost use Rattle.engine_options.specs.Options.{words_of};
-ghost use Rattle.engine_options.specs.ServeOptions.{serve_app, id_rule, rounds_rule, format_rule, verbose_rule, address_rule, SpellsBelow, GivesServe};
+ghost use Rattle.engine_options.specs.ServeOptions.{serve_app, id_rule, rounds_rule, format_rule, above_rule, verbose_rule, address_rule, SpellsBelow, GivesServe};
 
 use crate::arguments::{number_option, required_option};
 use crate::commands::described;
-use crate::matched::{addresses_in, byte_in, flag_in, number_in, some_number_in, text_in};
+use crate::matched::{byte_in, flag_in, number_in, some_number_in, text_in, texts_in};
 use clap::error::ErrorKind;
 use clap::{Arg, ArgAction, ArgMatches, Error};
 use server_faults::ServeOptions;
@@ -56,8 +56,25 @@ fn format_flag<'a>(alloc: Global) -> Arg<'a>
 {
     Arg::new(alloc, "format")
         .long("format")
-        .help("Makes a new record first, where FILE is empty or missing")
+        .help(
+            "Makes an empty record first, where FILE is empty or missing: for a new group alone, as an old number without its record needs --above",
+        )
         .action(ArgAction::SetTrue)
+}
+
+fn above_option<'a>(alloc: Global) -> Arg<'a>
+    ensures rule { rule_of result ≡ above_rule }
+    ensures id { result.id.now ≡ codes "above" }
+    ensures plain { IsPlainArg result }
+    ensures local { result.global ≡ false }
+{
+    Arg::new(alloc, "above")
+        .long("above")
+        .value_name("P:REACH")
+        .help(
+            "Makes a new record first for a node whose own is lost: once for each of more than half of the group's nodes, none of them this one, as '--inspect' tells of its record",
+        )
+        .action(ArgAction::Append)
 }
 
 fn verbose_flag<'a>(alloc: Global) -> Arg<'a>
@@ -99,7 +116,7 @@ fn serve_matches<'a>(alloc: Global, words: &'a [String]) -> Result<ArgMatches<'a
     ensures serving { IfOk result (λ m. (t : List ℕ) → one_text (found_of m) (codes "serve-ms") ≡ Some t → IsUnsignedIn 0 18446744073709551615 t) }
 {
     let example =
-        "Example, server 1 of 3 on one machine:\n  sited --id 1 --record /var/lib/sited/1.record --format --http 127.0.0.1:8001 --rounds 4294967295 127.0.0.1:7001 127.0.0.1:7002 127.0.0.1:7003\n\n--version prints the program's version";
+        "Example, server 1 of 3 on one machine:\n  sited --id 1 --record /var/lib/sited/1.record --format --http 127.0.0.1:8001 --rounds 4294967295 127.0.0.1:7001 127.0.0.1:7002 127.0.0.1:7003\n\nA lost machine of three, its record with it, behind 'sited --inspect FILE' at both others: their lines 'node: 2', 'reaches: 57', and 'node: 3', 'reaches: 60'\n  sited --id 1 --record /var/lib/sited/1.record --format --above 2:57 --above 3:60 --http 127.0.0.1:8001 --rounds 0 127.0.0.1:7001 127.0.0.1:7002 127.0.0.1:7003\n\n--inspect FILE alone prints what a record holds, also while a server runs over it\n--version prints the program's version";
     let args = vec![in alloc;
         id_option(alloc),
         required_option(
@@ -116,6 +133,7 @@ fn serve_matches<'a>(alloc: Global, words: &'a [String]) -> Result<ArgMatches<'a
         ),
         rounds_option(alloc),
         format_flag(alloc),
+        above_option(alloc),
         number_option(
             alloc,
             "patience-ms",
@@ -140,13 +158,15 @@ pub fn sited_options<'a>(alloc: Global, words: &'a [String]) -> Result<ServeOpti
     ensures refused { FailsBy (fault_of serve_app (words_of words.entry.now)) result }
 {
     let matches = serve_matches(alloc, words)?;
-    let peers = addresses_in(alloc, &matches)?;
+    let peers = texts_in(alloc, &matches, "address")?;
+    let above = texts_in(alloc, &matches, "above")?;
     Ok(ServeOptions {
         id: byte_in(&matches, "id"),
         record: text_in(&matches, "record"),
         http: text_in(&matches, "http"),
         rounds: number_in(&matches, "rounds"),
         format: flag_in(&matches, "format"),
+        above,
         patience: some_number_in(&matches, "patience-ms"),
         serve_ms: some_number_in(&matches, "serve-ms"),
         verbose: flag_in(&matches, "verbose"),

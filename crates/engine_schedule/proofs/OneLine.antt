@@ -1,9 +1,9 @@
 -- No two lines spell the same bytes.
-use Rattle.std.proofs.Common.{◌≡◌, ℕ, ◌<◌, ◌^◌, List, [], ◌∷◌, ◌++◌, length, codes, decimal, refl, sym, ap, ap₂, ◌∙◌, arith, append_assoc}
+use Rattle.std.proofs.Common.{◌≡◌, ℕ, ◌<◌, ◌^◌, List, [], ◌∷◌, ◌++◌, length, get_or, codes, decimal, refl, sym, ap, ap₂, ◌∙◌, arith, append_assoc}
 use Rattle.std.proofs.lemmas.Fmt.{decimal_injective}
 use Rattle.std.proofs.lemmas.List.{append_cancel_left}
 use Rattle.site_ids.specs.Ids.{IsNode}
-use Rattle.engine_schedule.specs.Schedule.{Line, submit_line, tick_line, widen_line, ask_line, tell_line, keep_line, restart_line, deliver_line, arm_line, crash_line, settle_line, quiet_line, show_line, get_line, trace_line, words, body, spelled, Fits}
+use Rattle.engine_schedule.specs.Schedule.{Line, submit_line, tick_line, widen_line, ask_line, tell_line, keep_line, restart_line, replace_line, deliver_line, arm_line, crash_line, settle_line, quiet_line, show_line, get_line, trace_line, words, body, spelled, Fits}
 use Rattle.engine_common.specs.Submissions.{joined}
 use Rattle.engine_schedule.specs.Laws.{OneLine}
 use Rattle.engine_common.proofs.CutLemmas.{lacks-decimal}
@@ -16,6 +16,10 @@ use Rattle.engine_common.proofs.Texts.{one_text}
 -- two lines of the same words, and what follows them
 abbrev pub IsOne : Line → Line → List ℕ → List ℕ → Type 0
 IsOne l m rest others = (l ≡ m) × (rest ≡ others)
+
+-- two words that begin alike may part at their third letter
+third_same : (xs ys : List ℕ) → xs ≡ ys → get_or xs 2 0 ≡ get_or ys 2 0
+third_same xs ys e = ap (λ zs. get_or zs 2 0) e
 
 one_node : (make : ℕ → Line) (front : List ℕ) (p q : ℕ) (rest others : List ℕ) → IsNode 9 p → IsNode 9 q → front ++ decimal p ≡ front ++ decimal q → rest ≡ others → IsOne (make p) (make q) rest others
 one_node make front p q rest others hp hq e more = (ap make (decimal_injective p q (omega arith) (omega arith) (append_cancel_left front (decimal p) (decimal q) e)), more)
@@ -43,6 +47,7 @@ same_line (submit_line p t x) (ask_line p') rest others hl hm e more = let start
 same_line (submit_line p t x) (tell_line p' i') rest others hl hm e more = let starts = begins_so _ _ e in absurd (omega (arith, starts.0, starts.1))
 same_line (submit_line p t x) (keep_line p' i') rest others hl hm e more = let starts = begins_so _ _ e in absurd (omega (arith, starts.0, starts.1))
 same_line (submit_line p t x) (restart_line p') rest others hl hm e more = let starts = begins_so _ _ e in absurd (omega (arith, starts.0, starts.1))
+same_line (submit_line p t x) (replace_line p' i') rest others hl hm e more = let starts = begins_so _ _ e in absurd (omega (arith, starts.0, starts.1))
 same_line (submit_line p t x) (deliver_line p' i') rest others hl hm e more = let starts = begins_so _ _ e in absurd (omega (arith, starts.0, starts.1))
 same_line (submit_line p t x) (arm_line p' i') rest others hl hm e more = let starts = begins_so _ _ e in absurd (omega (arith, starts.0, starts.1))
 same_line (submit_line p t x) (crash_line p' i') rest others hl hm e more = let starts = begins_so _ _ e in absurd (omega (arith, starts.0, starts.1))
@@ -58,6 +63,7 @@ same_line (tick_line p) (ask_line p') rest others hl hm e more = let starts = be
 same_line (tick_line p) (tell_line p' i') rest others hl hm e more = let starts = begins_so _ _ e in absurd (omega (arith, starts.0, starts.1))
 same_line (tick_line p) (keep_line p' i') rest others hl hm e more = let starts = begins_so _ _ e in absurd (omega (arith, starts.0, starts.1))
 same_line (tick_line p) (restart_line p') rest others hl hm e more = let starts = begins_so _ _ e in absurd (omega (arith, starts.0, starts.1))
+same_line (tick_line p) (replace_line p' i') rest others hl hm e more = let starts = begins_so _ _ e in absurd (omega (arith, starts.0, starts.1))
 same_line (tick_line p) (deliver_line p' i') rest others hl hm e more = let starts = begins_so _ _ e in absurd (omega (arith, starts.0, starts.1))
 same_line (tick_line p) (arm_line p' i') rest others hl hm e more = let starts = begins_so _ _ e in absurd (omega (arith, starts.0, starts.1))
 same_line (tick_line p) (crash_line p' i') rest others hl hm e more = let starts = begins_so _ _ e in absurd (omega (arith, starts.0, starts.1))
@@ -73,6 +79,7 @@ same_line (widen_line p) (ask_line p') rest others hl hm e more = let starts = b
 same_line (widen_line p) (tell_line p' i') rest others hl hm e more = let starts = begins_so _ _ e in absurd (omega (arith, starts.0, starts.1))
 same_line (widen_line p) (keep_line p' i') rest others hl hm e more = let starts = begins_so _ _ e in absurd (omega (arith, starts.0, starts.1))
 same_line (widen_line p) (restart_line p') rest others hl hm e more = let starts = begins_so _ _ e in absurd (omega (arith, starts.0, starts.1))
+same_line (widen_line p) (replace_line p' i') rest others hl hm e more = let starts = begins_so _ _ e in absurd (omega (arith, starts.0, starts.1))
 same_line (widen_line p) (deliver_line p' i') rest others hl hm e more = let starts = begins_so _ _ e in absurd (omega (arith, starts.0, starts.1))
 same_line (widen_line p) (arm_line p' i') rest others hl hm e more = let starts = begins_so _ _ e in absurd (omega (arith, starts.0, starts.1))
 same_line (widen_line p) (crash_line p' i') rest others hl hm e more = let starts = begins_so _ _ e in absurd (omega (arith, starts.0, starts.1))
@@ -88,6 +95,7 @@ same_line (ask_line p) (ask_line p') rest others hl hm e more = one_node ask_lin
 same_line (ask_line p) (tell_line p' i') rest others hl hm e more = let starts = begins_so _ _ e in absurd (omega (arith, starts.0, starts.1))
 same_line (ask_line p) (keep_line p' i') rest others hl hm e more = let starts = begins_so _ _ e in absurd (omega (arith, starts.0, starts.1))
 same_line (ask_line p) (restart_line p') rest others hl hm e more = let starts = begins_so _ _ e in absurd (omega (arith, starts.0, starts.1))
+same_line (ask_line p) (replace_line p' i') rest others hl hm e more = let starts = begins_so _ _ e in absurd (omega (arith, starts.0, starts.1))
 same_line (ask_line p) (deliver_line p' i') rest others hl hm e more = let starts = begins_so _ _ e in absurd (omega (arith, starts.0, starts.1))
 same_line (ask_line p) (arm_line p' i') rest others hl hm e more = let starts = begins_so _ _ e in absurd (omega (arith, starts.0, starts.1))
 same_line (ask_line p) (crash_line p' i') rest others hl hm e more = let starts = begins_so _ _ e in absurd (omega (arith, starts.0, starts.1))
@@ -103,6 +111,7 @@ same_line (tell_line p i) (ask_line p') rest others hl hm e more = let starts = 
 same_line (tell_line p i) (tell_line p' i') rest others hl hm e more = one_pair tell_line (codes "tell ") p i p' i' rest others hl.0 hm.0 (omega arith) (omega arith) e more
 same_line (tell_line p i) (keep_line p' i') rest others hl hm e more = let starts = begins_so _ _ e in absurd (omega (arith, starts.0, starts.1))
 same_line (tell_line p i) (restart_line p') rest others hl hm e more = let starts = begins_so _ _ e in absurd (omega (arith, starts.0, starts.1))
+same_line (tell_line p i) (replace_line p' i') rest others hl hm e more = let starts = begins_so _ _ e in absurd (omega (arith, starts.0, starts.1))
 same_line (tell_line p i) (deliver_line p' i') rest others hl hm e more = let starts = begins_so _ _ e in absurd (omega (arith, starts.0, starts.1))
 same_line (tell_line p i) (arm_line p' i') rest others hl hm e more = let starts = begins_so _ _ e in absurd (omega (arith, starts.0, starts.1))
 same_line (tell_line p i) (crash_line p' i') rest others hl hm e more = let starts = begins_so _ _ e in absurd (omega (arith, starts.0, starts.1))
@@ -118,6 +127,7 @@ same_line (keep_line p i) (ask_line p') rest others hl hm e more = let starts = 
 same_line (keep_line p i) (tell_line p' i') rest others hl hm e more = let starts = begins_so _ _ e in absurd (omega (arith, starts.0, starts.1))
 same_line (keep_line p i) (keep_line p' i') rest others hl hm e more = one_pair keep_line (codes "keep ") p i p' i' rest others hl.0 hm.0 (omega arith) (omega arith) e more
 same_line (keep_line p i) (restart_line p') rest others hl hm e more = let starts = begins_so _ _ e in absurd (omega (arith, starts.0, starts.1))
+same_line (keep_line p i) (replace_line p' i') rest others hl hm e more = let starts = begins_so _ _ e in absurd (omega (arith, starts.0, starts.1))
 same_line (keep_line p i) (deliver_line p' i') rest others hl hm e more = let starts = begins_so _ _ e in absurd (omega (arith, starts.0, starts.1))
 same_line (keep_line p i) (arm_line p' i') rest others hl hm e more = let starts = begins_so _ _ e in absurd (omega (arith, starts.0, starts.1))
 same_line (keep_line p i) (crash_line p' i') rest others hl hm e more = let starts = begins_so _ _ e in absurd (omega (arith, starts.0, starts.1))
@@ -133,6 +143,7 @@ same_line (restart_line p) (ask_line p') rest others hl hm e more = let starts =
 same_line (restart_line p) (tell_line p' i') rest others hl hm e more = let starts = begins_so _ _ e in absurd (omega (arith, starts.0, starts.1))
 same_line (restart_line p) (keep_line p' i') rest others hl hm e more = let starts = begins_so _ _ e in absurd (omega (arith, starts.0, starts.1))
 same_line (restart_line p) (restart_line p') rest others hl hm e more = one_node restart_line (codes "restart ") p p' rest others hl hm e more
+same_line (restart_line p) (replace_line p' i') rest others hl hm e more = absurd (omega (arith, third_same _ _ e))
 same_line (restart_line p) (deliver_line p' i') rest others hl hm e more = let starts = begins_so _ _ e in absurd (omega (arith, starts.0, starts.1))
 same_line (restart_line p) (arm_line p' i') rest others hl hm e more = let starts = begins_so _ _ e in absurd (omega (arith, starts.0, starts.1))
 same_line (restart_line p) (crash_line p' i') rest others hl hm e more = let starts = begins_so _ _ e in absurd (omega (arith, starts.0, starts.1))
@@ -141,6 +152,22 @@ same_line (restart_line p) (quiet_line p') rest others hl hm e more = let starts
 same_line (restart_line p) (show_line p') rest others hl hm e more = let starts = begins_so _ _ e in absurd (omega (arith, starts.0, starts.1))
 same_line (restart_line p) (get_line p' n' path') rest others hl hm e more = let starts = begins_so _ _ e in absurd (omega (arith, starts.0, starts.1))
 same_line (restart_line p) trace_line rest others hl hm e more = let starts = begins_so _ _ e in absurd (omega (arith, starts.0, starts.1))
+same_line (replace_line p i) (submit_line p' t' x') rest others hl hm e more = let starts = begins_so _ _ e in absurd (omega (arith, starts.0, starts.1))
+same_line (replace_line p i) (tick_line p') rest others hl hm e more = let starts = begins_so _ _ e in absurd (omega (arith, starts.0, starts.1))
+same_line (replace_line p i) (widen_line p') rest others hl hm e more = let starts = begins_so _ _ e in absurd (omega (arith, starts.0, starts.1))
+same_line (replace_line p i) (ask_line p') rest others hl hm e more = let starts = begins_so _ _ e in absurd (omega (arith, starts.0, starts.1))
+same_line (replace_line p i) (tell_line p' i') rest others hl hm e more = let starts = begins_so _ _ e in absurd (omega (arith, starts.0, starts.1))
+same_line (replace_line p i) (keep_line p' i') rest others hl hm e more = let starts = begins_so _ _ e in absurd (omega (arith, starts.0, starts.1))
+same_line (replace_line p i) (restart_line p') rest others hl hm e more = absurd (omega (arith, third_same _ _ e))
+same_line (replace_line p i) (replace_line p' i') rest others hl hm e more = one_pair replace_line (codes "replace ") p i p' i' rest others hl.0 hm.0 (omega arith) (omega arith) e more
+same_line (replace_line p i) (deliver_line p' i') rest others hl hm e more = let starts = begins_so _ _ e in absurd (omega (arith, starts.0, starts.1))
+same_line (replace_line p i) (arm_line p' i') rest others hl hm e more = let starts = begins_so _ _ e in absurd (omega (arith, starts.0, starts.1))
+same_line (replace_line p i) (crash_line p' i') rest others hl hm e more = let starts = begins_so _ _ e in absurd (omega (arith, starts.0, starts.1))
+same_line (replace_line p i) settle_line rest others hl hm e more = let starts = begins_so _ _ e in absurd (omega (arith, starts.0, starts.1))
+same_line (replace_line p i) (quiet_line p') rest others hl hm e more = let starts = begins_so _ _ e in absurd (omega (arith, starts.0, starts.1))
+same_line (replace_line p i) (show_line p') rest others hl hm e more = let starts = begins_so _ _ e in absurd (omega (arith, starts.0, starts.1))
+same_line (replace_line p i) (get_line p' n' path') rest others hl hm e more = let starts = begins_so _ _ e in absurd (omega (arith, starts.0, starts.1))
+same_line (replace_line p i) trace_line rest others hl hm e more = let starts = begins_so _ _ e in absurd (omega (arith, starts.0, starts.1))
 same_line (deliver_line p i) (submit_line p' t' x') rest others hl hm e more = let starts = begins_so _ _ e in absurd (omega (arith, starts.0, starts.1))
 same_line (deliver_line p i) (tick_line p') rest others hl hm e more = let starts = begins_so _ _ e in absurd (omega (arith, starts.0, starts.1))
 same_line (deliver_line p i) (widen_line p') rest others hl hm e more = let starts = begins_so _ _ e in absurd (omega (arith, starts.0, starts.1))
@@ -148,6 +175,7 @@ same_line (deliver_line p i) (ask_line p') rest others hl hm e more = let starts
 same_line (deliver_line p i) (tell_line p' i') rest others hl hm e more = let starts = begins_so _ _ e in absurd (omega (arith, starts.0, starts.1))
 same_line (deliver_line p i) (keep_line p' i') rest others hl hm e more = let starts = begins_so _ _ e in absurd (omega (arith, starts.0, starts.1))
 same_line (deliver_line p i) (restart_line p') rest others hl hm e more = let starts = begins_so _ _ e in absurd (omega (arith, starts.0, starts.1))
+same_line (deliver_line p i) (replace_line p' i') rest others hl hm e more = let starts = begins_so _ _ e in absurd (omega (arith, starts.0, starts.1))
 same_line (deliver_line p i) (deliver_line p' i') rest others hl hm e more = one_pair deliver_line (codes "deliver ") p i p' i' rest others hl.0 hm.0 (omega arith) (omega arith) e more
 same_line (deliver_line p i) (arm_line p' i') rest others hl hm e more = let starts = begins_so _ _ e in absurd (omega (arith, starts.0, starts.1))
 same_line (deliver_line p i) (crash_line p' i') rest others hl hm e more = let starts = begins_so _ _ e in absurd (omega (arith, starts.0, starts.1))
@@ -163,6 +191,7 @@ same_line (arm_line p i) (ask_line p') rest others hl hm e more = let starts = b
 same_line (arm_line p i) (tell_line p' i') rest others hl hm e more = let starts = begins_so _ _ e in absurd (omega (arith, starts.0, starts.1))
 same_line (arm_line p i) (keep_line p' i') rest others hl hm e more = let starts = begins_so _ _ e in absurd (omega (arith, starts.0, starts.1))
 same_line (arm_line p i) (restart_line p') rest others hl hm e more = let starts = begins_so _ _ e in absurd (omega (arith, starts.0, starts.1))
+same_line (arm_line p i) (replace_line p' i') rest others hl hm e more = let starts = begins_so _ _ e in absurd (omega (arith, starts.0, starts.1))
 same_line (arm_line p i) (deliver_line p' i') rest others hl hm e more = let starts = begins_so _ _ e in absurd (omega (arith, starts.0, starts.1))
 same_line (arm_line p i) (arm_line p' i') rest others hl hm e more = one_pair arm_line (codes "arm ") p i p' i' rest others hl.0 hm.0 (omega arith) (omega arith) e more
 same_line (arm_line p i) (crash_line p' i') rest others hl hm e more = let starts = begins_so _ _ e in absurd (omega (arith, starts.0, starts.1))
@@ -178,6 +207,7 @@ same_line (crash_line p i) (ask_line p') rest others hl hm e more = let starts =
 same_line (crash_line p i) (tell_line p' i') rest others hl hm e more = let starts = begins_so _ _ e in absurd (omega (arith, starts.0, starts.1))
 same_line (crash_line p i) (keep_line p' i') rest others hl hm e more = let starts = begins_so _ _ e in absurd (omega (arith, starts.0, starts.1))
 same_line (crash_line p i) (restart_line p') rest others hl hm e more = let starts = begins_so _ _ e in absurd (omega (arith, starts.0, starts.1))
+same_line (crash_line p i) (replace_line p' i') rest others hl hm e more = let starts = begins_so _ _ e in absurd (omega (arith, starts.0, starts.1))
 same_line (crash_line p i) (deliver_line p' i') rest others hl hm e more = let starts = begins_so _ _ e in absurd (omega (arith, starts.0, starts.1))
 same_line (crash_line p i) (arm_line p' i') rest others hl hm e more = let starts = begins_so _ _ e in absurd (omega (arith, starts.0, starts.1))
 same_line (crash_line p i) (crash_line p' i') rest others hl hm e more = one_pair crash_line (codes "crash ") p i p' i' rest others hl.0 hm.0 (omega arith) (omega arith) e more
@@ -193,6 +223,7 @@ same_line settle_line (ask_line p') rest others hl hm e more = let starts = begi
 same_line settle_line (tell_line p' i') rest others hl hm e more = let starts = begins_so _ _ e in absurd (omega (arith, starts.0, starts.1))
 same_line settle_line (keep_line p' i') rest others hl hm e more = let starts = begins_so _ _ e in absurd (omega (arith, starts.0, starts.1))
 same_line settle_line (restart_line p') rest others hl hm e more = let starts = begins_so _ _ e in absurd (omega (arith, starts.0, starts.1))
+same_line settle_line (replace_line p' i') rest others hl hm e more = let starts = begins_so _ _ e in absurd (omega (arith, starts.0, starts.1))
 same_line settle_line (deliver_line p' i') rest others hl hm e more = let starts = begins_so _ _ e in absurd (omega (arith, starts.0, starts.1))
 same_line settle_line (arm_line p' i') rest others hl hm e more = let starts = begins_so _ _ e in absurd (omega (arith, starts.0, starts.1))
 same_line settle_line (crash_line p' i') rest others hl hm e more = let starts = begins_so _ _ e in absurd (omega (arith, starts.0, starts.1))
@@ -208,6 +239,7 @@ same_line (quiet_line p) (ask_line p') rest others hl hm e more = let starts = b
 same_line (quiet_line p) (tell_line p' i') rest others hl hm e more = let starts = begins_so _ _ e in absurd (omega (arith, starts.0, starts.1))
 same_line (quiet_line p) (keep_line p' i') rest others hl hm e more = let starts = begins_so _ _ e in absurd (omega (arith, starts.0, starts.1))
 same_line (quiet_line p) (restart_line p') rest others hl hm e more = let starts = begins_so _ _ e in absurd (omega (arith, starts.0, starts.1))
+same_line (quiet_line p) (replace_line p' i') rest others hl hm e more = let starts = begins_so _ _ e in absurd (omega (arith, starts.0, starts.1))
 same_line (quiet_line p) (deliver_line p' i') rest others hl hm e more = let starts = begins_so _ _ e in absurd (omega (arith, starts.0, starts.1))
 same_line (quiet_line p) (arm_line p' i') rest others hl hm e more = let starts = begins_so _ _ e in absurd (omega (arith, starts.0, starts.1))
 same_line (quiet_line p) (crash_line p' i') rest others hl hm e more = let starts = begins_so _ _ e in absurd (omega (arith, starts.0, starts.1))
@@ -223,6 +255,7 @@ same_line (show_line p) (ask_line p') rest others hl hm e more = let starts = be
 same_line (show_line p) (tell_line p' i') rest others hl hm e more = let starts = begins_so _ _ e in absurd (omega (arith, starts.0, starts.1))
 same_line (show_line p) (keep_line p' i') rest others hl hm e more = let starts = begins_so _ _ e in absurd (omega (arith, starts.0, starts.1))
 same_line (show_line p) (restart_line p') rest others hl hm e more = let starts = begins_so _ _ e in absurd (omega (arith, starts.0, starts.1))
+same_line (show_line p) (replace_line p' i') rest others hl hm e more = let starts = begins_so _ _ e in absurd (omega (arith, starts.0, starts.1))
 same_line (show_line p) (deliver_line p' i') rest others hl hm e more = let starts = begins_so _ _ e in absurd (omega (arith, starts.0, starts.1))
 same_line (show_line p) (arm_line p' i') rest others hl hm e more = let starts = begins_so _ _ e in absurd (omega (arith, starts.0, starts.1))
 same_line (show_line p) (crash_line p' i') rest others hl hm e more = let starts = begins_so _ _ e in absurd (omega (arith, starts.0, starts.1))
@@ -238,6 +271,7 @@ same_line (get_line p n path) (ask_line p') rest others hl hm e more = let start
 same_line (get_line p n path) (tell_line p' i') rest others hl hm e more = let starts = begins_so _ _ e in absurd (omega (arith, starts.0, starts.1))
 same_line (get_line p n path) (keep_line p' i') rest others hl hm e more = let starts = begins_so _ _ e in absurd (omega (arith, starts.0, starts.1))
 same_line (get_line p n path) (restart_line p') rest others hl hm e more = let starts = begins_so _ _ e in absurd (omega (arith, starts.0, starts.1))
+same_line (get_line p n path) (replace_line p' i') rest others hl hm e more = let starts = begins_so _ _ e in absurd (omega (arith, starts.0, starts.1))
 same_line (get_line p n path) (deliver_line p' i') rest others hl hm e more = let starts = begins_so _ _ e in absurd (omega (arith, starts.0, starts.1))
 same_line (get_line p n path) (arm_line p' i') rest others hl hm e more = let starts = begins_so _ _ e in absurd (omega (arith, starts.0, starts.1))
 same_line (get_line p n path) (crash_line p' i') rest others hl hm e more = let starts = begins_so _ _ e in absurd (omega (arith, starts.0, starts.1))
@@ -259,6 +293,7 @@ same_line trace_line (ask_line p') rest others hl hm e more = let starts = begin
 same_line trace_line (tell_line p' i') rest others hl hm e more = let starts = begins_so _ _ e in absurd (omega (arith, starts.0, starts.1))
 same_line trace_line (keep_line p' i') rest others hl hm e more = let starts = begins_so _ _ e in absurd (omega (arith, starts.0, starts.1))
 same_line trace_line (restart_line p') rest others hl hm e more = let starts = begins_so _ _ e in absurd (omega (arith, starts.0, starts.1))
+same_line trace_line (replace_line p' i') rest others hl hm e more = let starts = begins_so _ _ e in absurd (omega (arith, starts.0, starts.1))
 same_line trace_line (deliver_line p' i') rest others hl hm e more = let starts = begins_so _ _ e in absurd (omega (arith, starts.0, starts.1))
 same_line trace_line (arm_line p' i') rest others hl hm e more = let starts = begins_so _ _ e in absurd (omega (arith, starts.0, starts.1))
 same_line trace_line (crash_line p' i') rest others hl hm e more = let starts = begins_so _ _ e in absurd (omega (arith, starts.0, starts.1))

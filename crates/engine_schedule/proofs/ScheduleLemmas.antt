@@ -1,16 +1,16 @@
 -- Which bytes have a line of a schedule at their front.
-use Rattle.std.proofs.Common.{◌≡◌, ◌≢◌, ℕ, suc, ◌≤◌, ◌+◌, List, [], ◌∷◌, ◌++◌, length, codes, decimal, refl, sym, ap, ◌∙◌, arith, append_assoc, length-append}
+use Rattle.std.proofs.Common.{◌≡◌, ◌≢◌, ℕ, ◌≤◌, List, [], ◌∷◌, ◌++◌, length, codes, decimal, refl, sym, ap, ◌∙◌, arith, append_assoc}
 use Rattle.std.proofs.lemmas.Fmt.{decimal_injective}
 use Rattle.site_ids.specs.Ids.{IsNode}
 use Rattle.site_ids.specs.declared.Ticket.{Ticket}
 use Rattle.engine_common.specs.Cuts.{Lacks, IsCut}
-use Rattle.engine_schedule.specs.Schedule.{Line, submit_line, tick_line, widen_line, ask_line, tell_line, keep_line, restart_line, deliver_line, arm_line, crash_line, settle_line, quiet_line, show_line, get_line, trace_line, submit_words, words, body, spelled, Fits, HasNoLine, GetsNoLine, spelled_nodes, HasNoNodes, GetsNoNodes}
+use Rattle.engine_schedule.specs.Schedule.{Line, submit_line, tick_line, widen_line, ask_line, tell_line, keep_line, restart_line, replace_line, deliver_line, arm_line, crash_line, settle_line, quiet_line, show_line, get_line, trace_line, submit_words, words, body, spelled, Fits, HasNoLine, GetsNoLine, spelled_nodes, HasNoNodes, GetsNoNodes}
 use Rattle.engine_common.specs.Submissions.{joined, FitsSubmission}
-use Rattle.engine_common.proofs.CutLemmas.{Same, no_cut, one_cut}
+use Rattle.engine_common.proofs.CutLemmas.{no_cut, one_cut}
 use Rattle.engine_common.proofs.CutLemmas.{lacks-decimal}
 use Rattle.engine_common.proofs.LineLemmas.{same_submission, number_cut}
 use Rattle.engine_common.proofs.Lines as lines
-use Rattle.engine_common.proofs.Texts.{lacks-codes, lacks-last, lacks-number, lacks-behind, begins_so, behind_text, cut_more, HasText}
+use Rattle.engine_common.proofs.Texts.{lacks-codes, lacks-last, lacks-number, lacks-behind, begins_so, cut_more, HasText}
 
 -- ---- no newline stands in the words of a line
 
@@ -26,6 +26,7 @@ lacks-words (ask_line p) ok = lacks-behind (codes "ask ") _ refl (lacks-last p (
 lacks-words (tell_line p first) ok = lacks-behind (codes "tell ") _ refl (lacks-number p _ (omega arith) (lacks-last first (omega arith)))
 lacks-words (keep_line p first) ok = lacks-behind (codes "keep ") _ refl (lacks-number p _ (omega arith) (lacks-last first (omega arith)))
 lacks-words (restart_line p) ok = lacks-behind (codes "restart ") _ refl (lacks-last p (omega arith))
+lacks-words (replace_line p floor) ok = lacks-behind (codes "replace ") _ refl (lacks-number p _ (omega arith) (lacks-last floor (omega arith)))
 lacks-words (deliver_line p index) ok = lacks-behind (codes "deliver ") _ refl (lacks-number p _ (omega arith) (lacks-last index (omega arith)))
 lacks-words (arm_line p calls) ok = lacks-behind (codes "arm ") _ refl (lacks-number p _ (omega arith) (lacks-last calls (omega arith)))
 lacks-words (crash_line p choice) ok = lacks-behind (codes "crash ") _ refl (lacks-number p _ (omega arith) (lacks-last choice (omega arith)))
@@ -55,6 +56,7 @@ of_neither head (ask_line p) plain submission ok e = plain (ask_line p) ok refl 
 of_neither head (tell_line p first) plain submission ok e = plain (tell_line p first) ok refl e
 of_neither head (keep_line p first) plain submission ok e = plain (keep_line p first) ok refl e
 of_neither head (restart_line p) plain submission ok e = plain (restart_line p) ok refl e
+of_neither head (replace_line p floor) plain submission ok e = plain (replace_line p floor) ok refl e
 of_neither head (deliver_line p index) plain submission ok e = plain (deliver_line p index) ok refl e
 of_neither head (arm_line p calls) plain submission ok e = plain (arm_line p calls) ok refl e
 of_neither head (crash_line p choice) plain submission ok e = plain (crash_line p choice) ok refl e
@@ -85,6 +87,7 @@ text_of p ticket len after (widen_line q) rest hp ok is whole = let starts = beg
 text_of p ticket len after (ask_line q) rest hp ok is whole = let starts = begins_so _ _ is in absurd (omega (arith, starts.0, starts.1))
 text_of p ticket len after (tell_line q i) rest hp ok is whole = let starts = begins_so _ _ is in absurd (omega (arith, starts.0, starts.1))
 text_of p ticket len after (keep_line q i) rest hp ok is whole = let starts = begins_so _ _ is in absurd (omega (arith, starts.0, starts.1))
+text_of p ticket len after (replace_line q i) rest hp ok is whole = let starts = begins_so _ _ is in absurd (omega (arith, starts.0, starts.1))
 text_of p ticket len after (restart_line q) rest hp ok is whole = let starts = begins_so _ _ is in absurd (omega (arith, starts.0, starts.1))
 text_of p ticket len after (deliver_line q index) rest hp ok is whole = let starts = begins_so _ _ is in absurd (omega (arith, starts.0, starts.1))
 text_of p ticket len after (arm_line q calls) rest hp ok is whole = let starts = begins_so _ _ is in absurd (omega (arith, starts.0, starts.1))

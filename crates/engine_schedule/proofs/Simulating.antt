@@ -35,7 +35,7 @@ use Rattle.engine_schedule.specs.declared.schedule.Line.{Line as LineCode}
 use Rattle.engine_schedule.specs.declared.schedule.Found.{Found}
 use Rattle.engine_schedule.specs.declared.schedule.Found.TheVariants as found
 use Rattle.engine_schedule.specs.ScheduleView.{IsFound}
-use Rattle.engine_schedule.specs.Schedule.{Line, spelled, Fits, submit_line, tick_line, widen_line, ask_line, tell_line, keep_line, restart_line, deliver_line, arm_line, crash_line, settle_line, quiet_line, show_line, get_line, trace_line}
+use Rattle.engine_schedule.specs.Schedule.{Line, spelled, Fits, submit_line, tick_line, widen_line, ask_line, tell_line, keep_line, restart_line, replace_line, deliver_line, arm_line, crash_line, settle_line, quiet_line, show_line, get_line, trace_line}
 use Rattle.engine_schedule.specs.Tracing.{message_line}
 use Rattle.engine_schedule.specs.Simulation.{Moment, IsMoment, Takes, to_each, deliveries, event_of, HasRelease, IsPage, IsNoPage, Does, TakesOne, TakesPlan}
 use Rattle.engine_schedule.specs.SimulationEnds.{IsStart}
@@ -44,14 +44,14 @@ use Rattle.engine_schedule.specs.Stepping.{HasLine, FillEnds, NextEnds, BeginEnd
 use Rattle.engine_common.proofs.Fed.{taken_then}
 
 -- a run of one event meets no other
-pub met_bad : (n k : ℕ) (w after : World) (event : Event) → MeetsBadEvent n w (event ∷ []) k after → IsBad n w.sent event
+pub met_bad : (n k : ℕ) (w after : World) (event : Event) → MeetsBadEvent n w (event ∷ []) k after → IsBad n w event
 met_bad n zero w after event m =
     let same : event ≡ m.event = cc in
     let there : after ≡ w = m.takes in
-    subst (λ u. IsBad n u.sent event) there (subst (λ e. IsBad n after.sent e) (sym same) m.bad)
+    subst (λ u. IsBad n u event) there (subst (λ e. IsBad n after e) (sym same) m.bad)
 met_bad n (suc k) w after event m = let none = m.next in cc
 
-pub bad_run : (old new : Code) (event : Event) (events : List Event) (fault : WorldFault) (k : ℕ) (w : World) → RunEnds old new events (Err fault) → fault ≡ BadEvent k → events ≡ event ∷ [] → IsWorldOf old w → IsBad old.cluster w.sent event
+pub bad_run : (old new : Code) (event : Event) (events : List Event) (fault : WorldFault) (k : ℕ) (w : World) → RunEnds old new events (Err fault) → fault ≡ BadEvent k → events ≡ event ∷ [] → IsWorldOf old w → IsBad old.cluster w event
 bad_run old new event events fault k w ends is one stands =
     let led : RunEnds old new (event ∷ []) (Err (BadEvent k)) = subst (λ es. RunEnds old new es (Err (BadEvent k))) one (subst (λ f. RunEnds old new events (Err f)) is ends) in
     let l = led.leads w stands in met_bad old.cluster k w l.after event l.how.0
@@ -207,10 +207,10 @@ settle_fault old new line sim.Read r is (inr k) bad = cc
 
 -- the fault of an event
 pub take_fault : (old new : Simulation) (line : Line) (event : Event) (e : SimFault) (r : Result (String Global) SimFault) → r ≡ Err e → event_of line ≡ Some event → (e ≡ sim.BadEvent) ⊎ (e ≡ sim.OutOfMemory)
-    → (e ≡ sim.BadEvent → (w : World) → IsWorldOf old.world w → IsBad old.world.cluster w.sent event) → HappenEnds old new line r
+    → (e ≡ sim.BadEvent → (w : World) → IsWorldOf old.world w → IsBad old.world.cluster w event) → HappenEnds old new line r
 take_fault old new line event sim.BadLine r is at (inl k) bad = cc
 take_fault old new line event sim.BadLine r is at (inr k) bad = cc
-take_fault old new line event sim.BadEvent r is at k bad = rw is (λ n events m. record { event = event; is = at; bad = λ w stands. subst (λ c. IsBad c w.sent event) m.whose (bad refl w stands) })
+take_fault old new line event sim.BadEvent r is at k bad = rw is (λ n events m. record { event = event; is = at; bad = λ w stands. subst (λ c. IsBad c w event) m.whose (bad refl w stands) })
 take_fault old new line event sim.OutOfMemory r is at k bad = rw is tt
 take_fault old new line event sim.Read r is at (inl k) bad = cc
 take_fault old new line event sim.Read r is at (inr k) bad = cc
@@ -238,6 +238,7 @@ does_one n old new (ask_line p) event printed is t = t
 does_one n old new (tell_line p first) event printed is t = t
 does_one n old new (keep_line p i) event printed is t = t
 does_one n old new (restart_line p) event printed is t = t
+does_one n old new (replace_line p floor) event printed is t = t
 does_one n old new (deliver_line p index) event printed is t = t
 does_one n old new (arm_line p calls) event printed is t = t
 does_one n old new (crash_line p choice) event printed is t = t
@@ -314,7 +315,7 @@ quiet_ends old new p d (Err e) said told ok faults bad = plan_fault old new p e 
 
 pub event_ends : (old new : Simulation) (line : Line) (event : Event) (d : Result ⊤ SimFault) (r : Result (String Global) SimFault) → event_of line ≡ Some event → IfOk r (λ text. (string_bytes text ≡ []) × (d ≡ Ok tt)) → IfErr r (λ e. d ≡ Err e)
     → new.settled ≡ old.settled → OnOk d ((n : ℕ) (events : List Event) → IsMoment n (moment_of old events) → Takes n (moment_of old events) (event ∷ []) (moment_of new (events ++ event ∷ [])))
-    → IfErr d (λ e. (e ≡ sim.BadEvent) ⊎ (e ≡ sim.OutOfMemory)) → (IsErrOf d sim.BadEvent → (w : World) → IsWorldOf old.world w → IsBad old.world.cluster w.sent event) → HappenEnds old new line r
+    → IfErr d (λ e. (e ≡ sim.BadEvent) ⊎ (e ≡ sim.OutOfMemory)) → (IsErrOf d sim.BadEvent → (w : World) → IsWorldOf old.world w → IsBad old.world.cluster w event) → HappenEnds old new line r
 event_ends old new line event d (Ok text) has said told same ok faults bad = happened_one old new line event text has said.0 same (rw said.1 at ok)
 event_ends old new line event d (Err e) has said told same ok faults bad = take_fault old new line event e (Err e) refl has (rw told at faults) (λ is. bad (told ∙ ap Err is))
 
@@ -345,6 +346,7 @@ settled_more n from count index old mid world s t events is settled told =
     (took_as n (moment_of old events) (deliveries n from count ++ to_each n index) world _ s t both)
 
 -- a message that was handed out, to a node of the cluster, is no bad event
-pub not_bad : (n node index : ℕ) (world : Code) (w : World) → IsNode n node → index < length (messages_of world.sent.items) → IsWorldOf world w → ¬ IsBad n w.sent (Deliver node index)
+pub not_bad : (n node index : ℕ) (world : Code) (w : World) → IsNode n node → index < length (messages_of world.sent.items) → IsWorldOf world w → ¬ IsBad n w (Deliver node index)
 not_bad n node index world w ok there stands (inl none) = none ok
-not_bad n node index world w ok there stands (inr unsent) = let same : length w.sent ≡ length (messages_of world.sent.items) = ap length stands.sent in omega (arith, same, unsent, there)
+not_bad n node index world w ok there stands (inr (inl unsent)) = let same : length w.sent ≡ length (messages_of world.sent.items) = ap length stands.sent in omega (arith, same, unsent, there)
+not_bad n node index world w ok there stands (inr (inr none)) = absurd none

@@ -15,6 +15,7 @@ pub data Line : Type 0 where
   tell_line : (p first : ℕ) → Line
   keep_line : (p i : ℕ) → Line
   restart_line : (p : ℕ) → Line
+  replace_line : (p floor : ℕ) → Line
   deliver_line : (p index : ℕ) → Line
   arm_line : (p calls : ℕ) → Line
   crash_line : (p choice : ℕ) → Line
@@ -35,6 +36,7 @@ words (ask_line p) = codes "ask" ∷ decimal p ∷ []
 words (tell_line p first) = codes "tell" ∷ decimal p ∷ decimal first ∷ []
 words (keep_line p i) = codes "keep" ∷ decimal p ∷ decimal i ∷ []
 words (restart_line p) = codes "restart" ∷ decimal p ∷ []
+words (replace_line p floor) = codes "replace" ∷ decimal p ∷ decimal floor ∷ []
 words (deliver_line p index) = codes "deliver" ∷ decimal p ∷ decimal index ∷ []
 words (arm_line p calls) = codes "arm" ∷ decimal p ∷ decimal calls ∷ []
 words (crash_line p choice) = codes "crash" ∷ decimal p ∷ decimal choice ∷ []
@@ -67,6 +69,7 @@ Fits (ask_line p) = IsNode 9 p
 Fits (tell_line p first) = IsNode 9 p × IsInstance first
 Fits (keep_line p i) = IsNode 9 p × IsInstance i
 Fits (restart_line p) = IsNode 9 p
+Fits (replace_line p floor) = IsNode 9 p × IsInstance floor
 Fits (deliver_line p index) = IsNode 9 p × (index < 2 ^ 64)
 Fits (arm_line p calls) = IsNode 9 p × (calls < 2 ^ 32)
 Fits (crash_line p choice) = IsNode 9 p × (choice < 2 ^ 8)

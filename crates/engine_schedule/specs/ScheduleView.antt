@@ -8,7 +8,7 @@ use Rattle.engine_schedule.specs.declared.schedule.Found.TheVariants as found
 use Rattle.engine_schedule.specs.declared.schedule.FoundNodes.{FoundNodes}
 use Rattle.engine_schedule.specs.declared.schedule.FoundNodes.TheVariants as found_nodes
 use Rattle.engine_common.specs.declared.words.SubmissionLine.{SubmissionLine}
-use Rattle.engine_schedule.specs.Schedule.{Line, submit_line, tick_line, widen_line, ask_line, tell_line, keep_line, restart_line, deliver_line, arm_line, crash_line, settle_line, quiet_line, show_line, get_line, trace_line, submit_words, Fits, spelled, HasNoLine, GetsNoLine, spelled_nodes, HasNoNodes, GetsNoNodes}
+use Rattle.engine_schedule.specs.Schedule.{Line, submit_line, tick_line, widen_line, ask_line, tell_line, keep_line, restart_line, replace_line, deliver_line, arm_line, crash_line, settle_line, quiet_line, show_line, get_line, trace_line, submit_words, Fits, spelled, HasNoLine, GetsNoLine, spelled_nodes, HasNoNodes, GetsNoNodes}
 
 abbrev pub line_view : Code → Line
 line_view (code.Submit node ticket text) = submit_line node ticket text.now
@@ -18,6 +18,7 @@ line_view (code.Ask node) = ask_line node
 line_view (code.Tell node first) = tell_line node first
 line_view (code.Keep node at) = keep_line node at
 line_view (code.Restart node) = restart_line node
+line_view (code.Replace node floor) = replace_line node floor
 line_view (code.Deliver node index) = deliver_line node index
 line_view (code.Arm node calls) = arm_line node calls
 line_view (code.Crash node choice) = crash_line node choice

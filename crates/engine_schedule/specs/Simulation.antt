@@ -9,7 +9,7 @@ use Rattle.node.specs.Nodes.{Value, Down, Node, IsKnownPrefix}
 use Rattle.release.specs.Page.{Page}
 use Rattle.site_ids.specs.Ids.{IsNode}
 use Rattle.world.specs.declared.event.Event.{Event}
-use Rattle.world.specs.declared.event.Event.TheVariants.{Submit, Tick, Widen, Ask, Tell, Deliver, Arm, Crash, Restart, Keep}
+use Rattle.world.specs.declared.event.Event.TheVariants.{Submit, Tick, Widen, Ask, Tell, Deliver, Arm, Crash, Restart, Replace, Keep}
 use Rattle.world.specs.declared.node_state.NodeState.{NodeState}
 use Rattle.world.specs.declared.node_state.NodeState.TheVariants as told
 use Rattle.world.specs.declared.world.World.{World as Code}
@@ -20,7 +20,7 @@ use Rattle.world.specs.Steps.{LeadsTo, Reached, IsAnswer}
 use Rattle.world.specs.Taking.{TakesAll, IsBad}
 use Rattle.world.specs.Telling.{mode_told}
 use Rattle.world.specs.Worlds.{World}
-use Rattle.engine_schedule.specs.Schedule.{Line, submit_line, tick_line, widen_line, ask_line, tell_line, keep_line, restart_line, deliver_line, arm_line, crash_line, settle_line, quiet_line, show_line, get_line, trace_line}
+use Rattle.engine_schedule.specs.Schedule.{Line, submit_line, tick_line, widen_line, ask_line, tell_line, keep_line, restart_line, replace_line, deliver_line, arm_line, crash_line, settle_line, quiet_line, show_line, get_line, trace_line}
 use Rattle.engine_schedule.specs.Tracing.{message_line}
 use Rattle.engine_common.specs.Answers.{answer_lines}
 
@@ -47,6 +47,7 @@ event_of (ask_line p) = Some (Ask p)
 event_of (tell_line p first) = Some (Tell p first)
 event_of (keep_line p i) = Some (Keep p i)
 event_of (restart_line p) = Some (Restart p)
+event_of (replace_line p floor) = Some (Replace p floor)
 event_of (deliver_line p index) = Some (Deliver p index)
 event_of (arm_line p calls) = Some (Arm p calls)
 event_of (crash_line p choice) = Some (Crash p choice)
@@ -157,11 +158,11 @@ AsksNone n (show_line p) = ¬ IsNode n p
 AsksNone n (get_line p r path) = ¬ IsNode n p
 AsksNone n _ = ⊥
 
--- an event that can't be taken: of none of the nodes, or of a message that was never handed out
+-- an event that can't be taken: of none of the nodes, of a message that was never handed out, or of a floor that is none
 pub record IsBadEvent (n : ℕ) (m : Moment) (line : Line) : Type 0 where
   pub event : Event
   pub is : event_of line ≡ Some event
-  pub bad : (w : World) → IsWorldOf m.world w → IsBad n w.sent event
+  pub bad : (w : World) → IsWorldOf m.world w → IsBad n w event
 
 -- the lines one after another, and all that they print
 abbrev pub DoesAll : ℕ → Moment → List Line → List ℕ → Moment → Type 0

@@ -7,7 +7,7 @@ ghost use Rattle.std.specs.Prelude.{◌≡◌, ◌≢◌, ℕ, List, ◌∷◌, 
 ghost use Rattle.site_ids.specs.Ids.{IsNode, IsInstance};
 ghost use Rattle.engine_common.specs.Cuts.{Lacks, IsCut};
 ghost use Rattle.site_ids.specs.declared.Ticket.{Ticket as AbstractTicket};
-ghost use Rattle.engine_schedule.specs.Schedule.{Line as AbstractLine, words, submit_words, Fits, IsPath, body, tick_line, widen_line, ask_line, tell_line, keep_line, restart_line, deliver_line, arm_line, crash_line, quiet_line, show_line, get_line};
+ghost use Rattle.engine_schedule.specs.Schedule.{Line as AbstractLine, words, submit_words, Fits, IsPath, body, tick_line, widen_line, ask_line, tell_line, keep_line, restart_line, replace_line, deliver_line, arm_line, crash_line, quiet_line, show_line, get_line};
 ghost use Rattle.engine_common.specs.Submissions.{joined, FitsSubmission};
 ghost use Rattle.engine_schedule.specs.ScheduleView.{line_view, submission_words, IsFound, IsFoundNodes};
 ghost use Rattle.engine_common.specs.Submissions.{submission_fits};
@@ -45,6 +45,10 @@ pub(crate) enum Line<'a> {
     },
     Restart {
         node: NodeId,
+    },
+    Replace {
+        node: NodeId,
+        floor: Instance,
     },
     Deliver {
         node: NodeId,
@@ -171,6 +175,7 @@ fn node_line(head: &[u8]) -> Option<Line<'_>>
 fn number_line(head: &[u8]) -> Option<Line<'_>>
     ensures { MatchOption result (((p index : ℕ) → IsNode 9 p → index < 2 ^ 64 → head.now ≢ joined (words (deliver_line p index))) × ((p first : ℕ) → IsNode 9 p → IsInstance first → head.now ≢ joined (words (tell_line p first)))
         × ((p i : ℕ) → IsNode 9 p → IsInstance i → head.now ≢ joined (words (keep_line p i)))
+        × ((p floor : ℕ) → IsNode 9 p → IsInstance floor → head.now ≢ joined (words (replace_line p floor)))
         × ((p calls : ℕ) → IsNode 9 p → calls < 2 ^ 32 → head.now ≢ joined (words (arm_line p calls))) × ((p choice : ℕ) → IsNode 9 p → choice < 2 ^ 8 → head.now ≢ joined (words (crash_line p choice))))
         (λ l. Fits (line_view l) × (body (line_view l) ≡ []) × (head.now ≡ joined (words (line_view l)))) }
 {
@@ -182,6 +187,9 @@ fn number_line(head: &[u8]) -> Option<Line<'_>>
     }
     if let Some((node, at)) = instance_at_node(head, "keep ") {
         return Some(Line::Keep { node, at });
+    }
+    if let Some((node, floor)) = instance_at_node(head, "replace ") {
+        return Some(Line::Replace { node, floor });
     }
     if let Some((node, calls)) = arming(head) {
         return Some(Line::Arm { node, calls });

@@ -97,6 +97,10 @@ fn event_in(alloc: Global, line: &Line<'_>) -> Result<Option<Event>, AllocError>
             instance: *at,
         },
         Line::Restart { node } => Event::Restart { node: *node },
+        Line::Replace { node, floor } => Event::Replace {
+            node: *node,
+            floor: *floor,
+        },
         Line::Deliver { node, index } => Event::Deliver {
             node: *node,
             index: *index as usize,
@@ -168,7 +172,7 @@ impl Simulation {
 
     fn take(&mut self, event: Event) -> Result<(), SimFault>
         ensures ok { OnOk result ((n : ℕ) (events : List AbstractEvent) → IsMoment n (moment_of self.old events) → Takes n (moment_of self.old events) (event ∷ []) (moment_of self.new (events ++ event ∷ []))) }
-        ensures bad { IsErrOf result SimFault.BadEvent → (w : AbstractWorld) → IsWorldOf self.old.world w → IsBad self.old.world.cluster w.sent event }
+        ensures bad { IsErrOf result SimFault.BadEvent → (w : AbstractWorld) → IsWorldOf self.old.world w → IsBad self.old.world.cluster w event }
         ensures faults { IfErr result (λ e. (e ≡ SimFault.BadEvent) ⊎ (e ≡ SimFault.OutOfMemory)) }
         ensures grows { length (messages_of self.old.world.sent.items) ≤ length (messages_of self.new.world.sent.items) }
         ensures settled { self.new.settled ≡ self.old.settled }

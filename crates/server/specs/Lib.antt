@@ -1,6 +1,8 @@
 pub mod Placing
 pub mod Speaking
 pub mod Mailing
+pub mod Returning
+pub mod Making
 pub mod Passes
 pub mod Noted
 pub mod Running

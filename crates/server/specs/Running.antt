@@ -3,6 +3,7 @@ use Rattle.std.specs.Prelude.{ℕ, ◌≡◌, ◌⊎◌, List, ◌++◌, codes, 
 use Rattle.http_read.specs.Bytes.{End, IsSilent, IsWritten, IsBroken, IsGiven}
 use Rattle.server_faults.specs.ServerFaults.{IsSaid, EndsOpening, EndsBinding, EndsLaps}
 use Rattle.server.specs.Noted.{GivesNotes, HasNoted, EndsBy}
+use Rattle.server.specs.Making.{HasNoFloor}
 use Rattle.server.specs.Placing.{IsPlaced}
 use Rattle.server_faults.specs.Why.{GivesFault}
 use Rattle.server_faults.specs.declared.server_fault.ServerFault.{ServerFault}
@@ -19,9 +20,9 @@ done_line = codes "rounds done\n"
 abbrev pub printed : ℕ → List ℕ
 printed p = ready_line p ++ done_line
 
--- before it is ready: the options are no place; or they are one, and record or sockets are not opened; or memory is wanted
+-- before it is ready: the options are no place; or they are one, and record or sockets are not opened, or the reaches that they tell give no floor; or memory is wanted
 abbrev pub EndsBefore : ServeOptions → ServerFault → Type 0
-EndsBefore o why = ((why ≡ server_fault.BadAddress) × ¬ IsPlaced o) ⊎ (IsPlaced o × (EndsOpening why ⊎ EndsBinding why)) ⊎ (why ≡ server_fault.OutOfMemory)
+EndsBefore o why = ((why ≡ server_fault.BadAddress) × ¬ IsPlaced o) ⊎ (IsPlaced o × (EndsOpening why ⊎ EndsBinding why ⊎ HasNoFloor o why)) ⊎ (why ≡ server_fault.OutOfMemory)
 
 -- it was ready, and did all its laps; on standard error lines of notes where that was asked for, and nothing else
 pub record Finished (out err : End) (o : ServeOptions) (status : ℕ) : Type 0 where

@@ -10,6 +10,7 @@ ghost use Rattle.server.specs.Runs.{IsOpened, IsRun};
 ghost use Rattle.server.specs.Running.{EndsBefore, WorkEnds, RunEnds, HasServed};
 
 use crate::addresses::read_addresses;
+use crate::making::{Making, read_making};
 use crate::openings::open_node;
 use crate::passes::take_passes;
 use crate::recorded::Recorded;
@@ -53,7 +54,8 @@ fn open_server<R: Files<File = File>>(
     cluster: Cluster,
     me: NodeId,
     times: Times,
-    options: &ServeOptions<'_>,
+    making: Making,
+    record: &str,
     cause: &mut Cause,
 ) -> Result<(Box<FileServer>, u32), ServerFault>
     requires { IsNode cluster me }
@@ -61,17 +63,9 @@ fn open_server<R: Files<File = File>>(
     ensures fault { IfErr result EndsOpening }
 {
     let desk = Desk::new(alloc)?;
-    let served = open_node(
-        rt,
-        alloc,
-        cluster,
-        me,
-        options.record,
-        options.format,
-        cause,
-    )?;
+    let served = open_node(rt, alloc, cluster, me, record, making, cause)?;
     let recorded = Recorded::of(&served.node, MAX_INSTANCE);
-    let server = Server::new(alloc, me, served, desk, times, recorded.last);
+    let server = Server::new(alloc, me, served, desk, times, recorded);
     Ok((boxed(alloc, server)?, recorded.votes))
 }
 
@@ -88,9 +82,19 @@ fn open<R: Net<Listener = TcpListener, Stream = TcpStream> + Files<File = File> 
 {
     let addresses = read_addresses(alloc, options)?;
     let (cluster, me) = (addresses.cluster, addresses.me);
+    let making = read_making(alloc, cluster, me, options)?;
     let times = Times::new(options.patience, options.serve_ms);
-    let (server, votes) = open_server(rt, alloc, cluster, me, times, options, cause)?;
-    let notes = Notes::new(cluster, me, votes);
+    let (server, votes) = open_server(
+        rt,
+        alloc,
+        cluster,
+        me,
+        times,
+        making,
+        options.record,
+        cause,
+    )?;
+    let notes = Notes::new(cluster, me, votes, server.served.node.floor());
     let shell = open_sockets(rt, alloc, addresses, times, notes, cause)?;
     Ok((server, shell))
 }

@@ -2,8 +2,10 @@
 #![tactic(auto)]
 
 mod addresses;
+mod answering;
 mod engine;
 mod mail;
+mod making;
 mod openings;
 mod packing;
 mod passes;

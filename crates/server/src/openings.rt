@@ -5,6 +5,7 @@ ghost use Rattle.site_ids.specs.Ids.{IsNode};
 ghost use Rattle.server_faults.specs.ServerFaults.{EndsOpening};
 ghost use Rattle.server.specs.Runs.{IsOpened};
 
+use crate::making::Making;
 use durable::{Record, RecordFault};
 use node::Node;
 use server_clients::Served;
@@ -79,31 +80,43 @@ fn sync_folder<R: Files<File = File>>(
     }
 }
 
-/// Makes an empty file an empty record.
-fn format_empty(cluster: Cluster, me: NodeId, disk: &mut FileDisk) -> Result<bool, RecordFault> {
-    let empty = disk.len()? == 0;
-    if empty {
-        Record::format(cluster, me, disk)?;
+/// Makes an empty file the record that is asked for, and tells whether it did. A file that is not empty stays as it is: it may be an empty record's
+/// place no more, and never that of one with a floor.
+fn make(
+    cluster: Cluster,
+    me: NodeId,
+    making: Making,
+    disk: &mut FileDisk,
+) -> Result<bool, RecordFault> {
+    match making {
+        Making::Nothing => Ok(false),
+        Making::Empty => {
+            let empty = disk.len()? == 0;
+            if empty {
+                Record::format(cluster, me, disk)?;
+            }
+            Ok(empty)
+        }
+        Making::Above(floor) => {
+            Record::format_above(cluster, me, floor, disk)?;
+            Ok(true)
+        }
     }
-    Ok(empty)
 }
 
-/// The disk of a record at a path. Where that is asked, an empty or absent file becomes an empty record first.
+/// The disk of a record at a path. Where that is asked, an empty or absent file becomes a record first.
 fn open_disk<R: Files<File = File>>(
     rt: &R,
     cluster: Cluster,
     me: NodeId,
     path: &str,
-    format: bool,
+    making: Making,
     cause: &mut Cause,
 ) -> Result<FileDisk, ServerFault>
     ensures { IfErr result EndsOpening }
 {
-    let mut disk = FileDisk::new(file(rt, path, format, cause)?);
-    if !format {
-        return Ok(disk);
-    }
-    match format_empty(cluster, me, &mut disk) {
+    let mut disk = FileDisk::new(file(rt, path, making.makes(), cause)?);
+    match make(cluster, me, making, &mut disk) {
         Ok(true) => sync_folder(rt, path, cause)?,
         Ok(false) => {}
         Err(fault) => {
@@ -114,21 +127,21 @@ fn open_disk<R: Files<File = File>>(
     Ok(disk)
 }
 
-/// Opens a node over the record at a path. Where that is asked, an empty or absent file becomes an empty record first.
+/// Opens a node over the record at a path. Where that is asked, an empty or absent file becomes a record first.
 pub(crate) fn open_node<R: Files<File = File>>(
     rt: &R,
     alloc: Global,
     cluster: Cluster,
     me: NodeId,
     path: &str,
-    format: bool,
+    making: Making,
     cause: &mut Cause,
 ) -> Result<Served<FileDisk>, ServerFault>
     requires { IsNode cluster me }
     ensures opened { IfOk result (λ served. IsOpened ⟦<FileDisk as Disk>⟧.stands_for cluster me served.node) }
     ensures fault { IfErr result EndsOpening }
 {
-    let disk = open_disk(rt, cluster, me, path, format, cause)?;
+    let disk = open_disk(rt, cluster, me, path, making, cause)?;
     match Node::open(alloc, cluster, me, disk) {
         Ok(node) => Ok(Served { node }),
         Err((fault, disk)) => {

@@ -53,9 +53,11 @@ fn take_pass<D: Disk + Drop, C: Clock>(
     let heard = shell.take_in(&mut server.mail, &mut server.seats, now)?;
     let stepped = server.step(now)?;
     let told = shell.give_out(&mut server.mail, &mut server.seats, now);
+    let left = server.is_returning(now);
+    let dropped = shell.part(&mut server.seats, now, left);
     let node = &server.served.node;
     shell.watch.pass(now, node.known(), node.reached(), stepped);
-    rest_behind(clock, shell, server, stepped, heard || told);
+    rest_behind(clock, shell, server, stepped, heard || told || dropped);
     Ok(())
 }
 

@@ -30,7 +30,7 @@ fn tell_note<E: Write>(alloc: Global, err: &mut Counted<E>, note: &Note)
     }
 }
 
-/// Writes all that is to be said behind a pass, of each of the nine kinds a line at most, where that was asked for.
+/// Writes all that is to be said behind a pass, of each of the eleven kinds a line at most, where that was asked for.
 pub(crate) fn tell_notes<E: Write>(
     alloc: Global,
     err: &mut Counted<E>,
@@ -42,7 +42,7 @@ pub(crate) fn tell_notes<E: Write>(
     if !asked {
         return;
     }
-    for _ in 0..9 {
+    for _ in 0..11 {
         match watch.next() {
             Some(note) => tell_note(alloc, err, &note),
             None => return,

@@ -1,24 +1,28 @@
 //! A server without sockets and clock.
 
-ghost use Rattle.std.specs.Prelude.{◌≡◌, ◌⊎◌, ◌↔◌, ◌||◌, [], ℕ, IfOk, IfErr, IfSome, IsFalse, IsSome, OnOk, length};
+ghost use Rattle.std.specs.Prelude.{◌≡◌, ◌⊎◌, ◌↔◌, ◌||◌, [], ℕ, IfOk, IfErr, IfSome, IsFalse, IsSome, OnOk, length, true, false};
 ghost use Rattle.node.specs.Standing.{KeepsOthers, failures};
 ghost use Rattle.site_drive.specs.Batches.{TakesBatch, LeadsSealed};
 ghost use Rattle.site_drive.specs.Leading.{StaysWhose};
 ghost use Rattle.site_drive.specs.Posting.{spelled_of};
 ghost use Rattle.site_drive.specs.declared.last_call.LastCall.{LastCall};
-ghost use Rattle.server_clients.specs.Answering.{AreAnswered, TellsAnswered};
+ghost use Rattle.server_clients.specs.Answering.{TellsAnswered};
 ghost use Rattle.server_faults.specs.ServerFaults.{CountsNone, EndsLaps};
 ghost use Rattle.server_pace.specs.Pacing.{empty_after, first_pace, resting_of, Rests};
+ghost use Rattle.server_pace.specs.Returning.{returning_of};
 ghost use Rattle.server_times.specs.Timing.{rest_after};
+ghost use Rattle.server.specs.Returning.{AnswersOrLeaves, ComesBack, IsBack};
 ghost use Rattle.server.specs.Mailing.{waiting_of, posted_of, own_of, has_come};
 ghost use Rattle.server.specs.Passes.{AreSenders, TakesStep, BreaksStep, LosesStep, IsBatchOf, MaySend, Paces};
 ghost use Rattle.server_clients.specs.Served.{offered};
 ghost use Rattle.server_clients.specs.declared.served.Served.{Served};
 
+use crate::answering::{answer, is_returning};
 use crate::mail::Mail;
+use crate::recorded::Recorded;
 use server_clients::{Seats, Served};
 use server_faults::ServerFault;
-use server_pace::{Pace, Times};
+use server_pace::{Pace, Returning, Times};
 use site_disk::Disk;
 use site_drive::Desk;
 use site_ids::{NodeId, NodeSet};
@@ -36,6 +40,7 @@ pub struct Server<D, S> {
     pub seats: Seats<S>,
     desk: Desk,
     pace: Pace,
+    returning: Returning,
 }
 
 /// What a step came to.
@@ -61,20 +66,21 @@ struct Batched {
 }
 
 impl<D: Disk + Drop, S: Drop> Server<D, S> {
-    /// This node serves nobody yet, and has heard nothing; the furthest vote on its record is at that instance, or 0. The desk is an empty one.
+    /// This node serves nobody yet, and has heard nothing. The desk is an empty one.
     pub fn new(
         alloc: Global,
         me: NodeId,
         served: Served<D>,
         desk: Desk,
         times: Times,
-        recorded: u32,
+        recorded: Recorded,
     ) -> Server<D, S>
         requires { me ≡ served.node.me }
         ensures node { (result.served ≡ served) × (result.me ≡ me) }
         ensures mail { (waiting_of result.mail ≡ []) × (posted_of result.mail ≡ []) }
         ensures clients { (result.seats.seats.items ≡ []) × (result.seats.times ≡ times) }
-        ensures pace { result.pace ≡ first_pace times served.node.cluster me recorded }
+        ensures pace { result.pace ≡ first_pace times served.node.cluster me recorded.last }
+        ensures returning { result.returning ≡ returning_of times recorded.furthest }
     {
         let cluster = served.node.cluster();
         Server {
@@ -83,7 +89,8 @@ impl<D: Disk + Drop, S: Drop> Server<D, S> {
             mail: Mail::new(alloc, cluster, times),
             seats: Seats::new(alloc, times),
             desk,
-            pace: Pace::new(times, cluster, me, recorded),
+            pace: Pace::new(times, cluster, me, recorded.last),
+            returning: Returning::new(times, recorded.furthest),
         }
     }
 
@@ -96,6 +103,7 @@ impl<D: Disk + Drop, S: Drop> Server<D, S> {
         ensures own { OnOk result (waiting_of self.new.mail ≡ own_of self.old.me (posted_of self.new.mail)) }
         ensures peers { self.new.mail.peers ≡ self.old.mail.peers }
         ensures seats { self.new.seats ≡ self.old.seats }
+        ensures returning { self.new.returning ≡ self.old.returning }
         ensures fault { IfErr result (λ why. LeadsSealed D.stands_for self.old.served.node self.new.served.node (BreaksStep self.old.served.node.cluster self.old.served.node.me (waiting_of self.old.mail) why)
             ⊎ LosesStep D.stands_for (waiting_of self.old.mail) self.old.served.node self.new.served.node why) }
         ensures may_send { IfErr result (λ why.
@@ -119,11 +127,20 @@ impl<D: Disk + Drop, S: Drop> Server<D, S> {
         })
     }
 
+    /// Whether it comes back, so many milliseconds after it began: requests are left.
+    pub fn is_returning(&self, now: u64) -> bool
+        ensures returns { result ≡ true → ComesBack self.now.returning now self.now.served.node }
+        ensures back { result ≡ false → IsBack self.now.returning now self.now.served.node }
+    {
+        is_returning(self.returning, &self.served.node, now)
+    }
+
     /// One step, so many milliseconds after the server began, and never less than before: all that waits is one batch, behind which the node publishes, and what that
-    /// hands out are the mail's letters; then requests are answered, but for those that are left.
+    /// hands out are the mail's letters; then requests are answered, but for those that are left. While the server comes back all are.
     pub fn step(&mut self, now: u64) -> Result<Stepped, ServerFault>
         ensures clients { IfOk result (λ stepped. (mid : Served D) × (last : LastCall) × IsBatchOf D.stands_for last (waiting_of self.old.mail) stepped.malformed (posted_of self.new.mail) self.old.served.node mid.node
-            × Paces self.old.served.node self.old.mail now last self.old.pace self.new.pace × AreAnswered offered self.old.seats.times now mid self.new.served self.old.seats.seats.items self.new.seats.seats.items) }
+            × Paces self.old.served.node self.old.mail now last self.old.pace self.new.pace
+            × AnswersOrLeaves self.old.returning now self.old.seats.times mid self.new.served self.old.seats.seats.items self.new.seats.seats.items) }
         ensures heard { IfOk result (λ stepped.
             AreSenders self.old.served.node.cluster (waiting_of self.old.mail) stepped.heard) }
         ensures came { IfOk result (λ stepped. IsFalse stepped.came ↔ (waiting_of self.old.mail ≡ [])) }
@@ -141,7 +158,7 @@ impl<D: Disk + Drop, S: Drop> Server<D, S> {
     {
         let came = !self.mail.is_empty();
         let batched = self.take_batch(now)?;
-        let answered = self.seats.answer_each(&mut self.served, now)?;
+        let answered = answer(self.returning, &mut self.seats, &mut self.served, now)?;
         Ok(Stepped {
             came,
             malformed: batched.malformed,

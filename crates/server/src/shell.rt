@@ -181,7 +181,7 @@ impl Shell {
         seats.read_each(now)
     }
 
-    /// Sends the letters and what clients are owed, and parts with the clients that leave: whether anything went to a client, or came of one that left.
+    /// Sends the letters and what clients are owed: whether anything went to a client.
     pub(crate) fn give_out(
         &mut self,
         mail: &mut Mail,
@@ -189,10 +189,7 @@ impl Shell {
         now: u64,
     ) -> bool {
         self.send(mail, now);
-        let told = seats.write_each(now);
-        self.part(seats, now);
-        let dropped = self.partings.read_each(now);
-        told || dropped
+        seats.write_each(now)
     }
 
     /// Receives what has come, as far as the mail has room. A failure is a loss.
@@ -215,7 +212,7 @@ impl Shell {
     /// Seats the clients that have come, each perhaps for one that was silent for long. One that fails at once is passed over.
     fn accept(&mut self, seats: &mut Seats<TcpStream>, now: u64) -> Result<(), AllocError> {
         for _ in 0..ACCEPTED {
-            if !seats.has_room() {
+            if !seats.has_room(now) {
                 self.watch.fill();
                 return Ok(());
             }
@@ -226,7 +223,7 @@ impl Shell {
                 continue;
             }
             let _ = stream.set_nodelay(true);
-            if let Some(gone) = seats.make_room() {
+            if let Some(gone) = seats.make_room(now) {
                 self.part_with(gone, now);
                 self.watch.displace();
             }
@@ -270,8 +267,17 @@ impl Shell {
         }
     }
 
-    /// Parts with the clients that leave.
-    fn part(&mut self, seats: &mut Seats<TcpStream>, now: u64) {
+    /// Parts with the clients that leave: whether anything came of one that left. None leaves while their requests are left, as
+    /// they wait longer then than a request may.
+    pub(crate) fn part(&mut self, seats: &mut Seats<TcpStream>, now: u64, left: bool) -> bool {
+        if !left {
+            self.part_each(seats, now);
+        }
+        self.partings.read_each(now)
+    }
+
+    /// Parts with the clients that leave, with so many at most.
+    fn part_each(&mut self, seats: &mut Seats<TcpStream>, now: u64) {
         for _ in 0..ACCEPTED {
             match seats.leave(now) {
                 Some(stream) => self.part_with(stream, now),

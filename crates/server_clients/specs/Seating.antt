@@ -28,9 +28,13 @@ stay_of now seat = record { still = now - seat.moved; busy = busy_of now seat.be
 abbrev pub IsLeaving : {T : Type 0} → Times → ℕ → Seat T → Type 0
 IsLeaving times now seat = IsDone seat.connection ⊎ IsTooLong (stay_of now seat) times
 
--- it may go for another client: it is owed nothing
-abbrev pub MayGo : {T : Type 0} → Seat T → Type 0
-MayGo seat = length (owed seat.connection) ≡ 0
+-- its request takes longer than one may keep others from a seat
+abbrev pub IsSlow : {T : Type 0} → Times → ℕ → Seat T → Type 0
+IsSlow times now seat = (begun : ℕ) × (seat.begun ≡ Some begun) × (times.keeps_seat ≤ now - begun)
+
+-- it may go for another client: it is owed nothing, or is slow
+abbrev pub MayGo : {T : Type 0} → Times → ℕ → Seat T → Type 0
+MayGo times now seat = (length (owed seat.connection) ≡ 0) ⊎ IsSlow times now seat
 
 -- of a seat found so far, with the moment since when it was silent, and the next one: whichever was silent
 -- longer; where both were as long, the one found
@@ -40,17 +44,17 @@ earlier None i (Some since) = Some (i, since)
 earlier (Some (at, least)) i (Some since) = if nat_le least since then Some (at, least) else Some (i, since)
 
 -- the seat that goes first: it may go, none that may was silent for longer, and none before it for as long
-pub record IsFirstToGo {T : Type 0} (seats : List (Seat T)) (i : ℕ) : Type 0 where
+pub record IsFirstToGo {T : Type 0} (times : Times) (now : ℕ) (seats : List (Seat T)) (i : ℕ) : Type 0 where
   pub below : i < length seats
-  pub may : (none : Seat T) → MayGo (get_or seats i none)
-  pub longest : (j : ℕ) → j < length seats → (none : Seat T) → MayGo (get_or seats j none)
+  pub may : (none : Seat T) → MayGo times now (get_or seats i none)
+  pub longest : (j : ℕ) → j < length seats → (none : Seat T) → MayGo times now (get_or seats j none)
       → (get_or seats i none).moved ≤ (get_or seats j none).moved
-  pub first : (j : ℕ) → j < i → (none : Seat T) → MayGo (get_or seats j none)
+  pub first : (j : ℕ) → j < i → (none : Seat T) → MayGo times now (get_or seats j none)
       → (get_or seats i none).moved < (get_or seats j none).moved
 
 -- no seat may go
-abbrev pub NoneGoes : {T : Type 0} → List (Seat T) → Type 0
-NoneGoes {T} seats = (i : ℕ) → i < length seats → (none : Seat T) → ¬ (MayGo (get_or seats i none))
+abbrev pub NoneGoes : {T : Type 0} → Times → ℕ → List (Seat T) → Type 0
+NoneGoes {T} times now seats = (i : ℕ) → i < length seats → (none : Seat T) → ¬ (MayGo times now (get_or seats i none))
 
 -- seat i is given up, and its stream handed out: the last seat takes its place
 pub record HandsOut {T : Type 0} (old new : List (Seat T)) (i : ℕ) (stream : T) : Type 0 where
@@ -65,11 +69,12 @@ IsAdmitted {T} stream now old new None =
     (length old < 64) × (seat : Seat T) × IsFresh stream now seat × (new ≡ old ++ seat ∷ [])
 IsAdmitted stream now old new (Some back) = (64 ≤ length old) × (back ≡ stream) × (new ≡ old)
 
--- Where all seats are taken, the one that goes first is given up; none is where one is free, or where all are
--- owed something
-abbrev pub MakesRoom : {T : Type 0} → List (Seat T) → List (Seat T) → Option T → Type 0
-MakesRoom old new (Some stream) = (64 ≤ length old) × (i : ℕ) × IsFirstToGo old i × HandsOut old new i stream
-MakesRoom old new None = (new ≡ old) × ((length old < 64) ⊎ NoneGoes old)
+-- Where all seats are taken, the one that goes first is given up; none is where one is free, or where none may
+-- go
+abbrev pub MakesRoom : {T : Type 0} → Times → ℕ → List (Seat T) → List (Seat T) → Option T → Type 0
+MakesRoom times now old new (Some stream) =
+    (64 ≤ length old) × (i : ℕ) × IsFirstToGo times now old i × HandsOut old new i stream
+MakesRoom times now old new None = (new ≡ old) × ((length old < 64) ⊎ NoneGoes times now old)
 
 -- none of the first k is to be closed
 abbrev pub StayBefore : {T : Type 0} → ℕ → Times → ℕ → List (Seat T) → Type 0

@@ -5,7 +5,7 @@ ghost use Rattle.http_read.specs.Counted.{inside};
 ghost use Rattle.http_serve.specs.Services.{MaySubmit};
 ghost use Rattle.server_clients.specs.Answering.{CountsAnswered, IsLeft, IsTurn};
 ghost use Rattle.server_clients.specs.Moving.{IsReadOnce, IsWrittenOnce, MayBeRead};
-ghost use Rattle.server_clients.specs.Seating.{IsFresh, IsLeaving, MayGo, stay_of};
+ghost use Rattle.server_clients.specs.Seating.{IsFresh, IsLeaving, IsSlow, MayGo, stay_of};
 ghost use Rattle.server_clients.specs.Served.{offered};
 
 use crate::served::Served;
@@ -65,12 +65,22 @@ impl<S> Seat<S> {
         self.connection.is_done() || self.stay(now).is_too_long(times)
     }
 
-    /// Since when nothing moved, where it owes no response: then it may be given up for another client.
-    pub(crate) fn idle_since(&self) -> Option<u64>
-        ensures { MatchOption result
-            (¬ (MayGo self.now)) (λ since. MayGo self.now × (since ≡ self.now.moved)) }
+    /// Whether its request takes longer than one may keep others from a seat: its client sends or reads slowly.
+    fn is_slow(&self, times: Times, now: u64) -> bool
+        ensures { IsTrue result ↔ IsSlow times now self.now }
     {
-        if self.connection.owes() {
+        match self.begun {
+            Some(begun) => now.saturating_sub(begun) >= times.keeps_seat,
+            None => false,
+        }
+    }
+
+    /// Since when nothing moved, where it may be given up for another client: it owes no response, or is slow.
+    pub(crate) fn goes_since(&self, times: Times, now: u64) -> Option<u64>
+        ensures { MatchOption result
+            (¬ (MayGo times now self.now)) (λ since. MayGo times now self.now × (since ≡ self.now.moved)) }
+    {
+        if self.connection.owes() && !self.is_slow(times, now) {
             None
         } else {
             Some(self.moved)

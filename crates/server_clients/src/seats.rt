@@ -69,14 +69,14 @@ impl<S: Drop> Seats<S> {
         self.seats.len()
     }
 
-    /// The seat of the client that was silent longest and is owed nothing.
-    fn first_to_go(&self) -> Option<usize>
-        ensures { MatchOption result (NoneGoes self.now.seats.items) (IsFirstToGo self.now.seats.items) }
+    /// The seat of the client that was silent longest, of those that may go for another one.
+    fn first_to_go(&self, now: u64) -> Option<usize>
+        ensures { MatchOption result (NoneGoes self.now.times now self.now.seats.items) (IsFirstToGo self.now.times now self.now.seats.items) }
     {
         let mut first = None;
         let mut i = 0;
         while i < self.seats.len() {
-            let since = self.seats[i].idle_since();
+            let since = self.seats[i].goes_since(self.times, now);
             first = earlier(first, i, since);
             i += 1;
         }
@@ -86,24 +86,25 @@ impl<S: Drop> Seats<S> {
         }
     }
 
-    /// The stream of the client that goes for another one, where all seats are taken: whoever was silent longest, unless a response is owed to it.
-    pub fn make_room(&mut self) -> Option<S>
-        ensures room { MakesRoom self.old.seats.items self.new.seats.items result }
+    /// The stream of the client that goes for another one, where all seats are taken: whoever was silent longest, of those to whom no response is
+    /// owed, or for too long.
+    pub fn make_room(&mut self, now: u64) -> Option<S>
+        ensures room { MakesRoom self.old.times now self.old.seats.items self.new.seats.items result }
         ensures same { (self.new.times ≡ self.old.times) × (self.new.alloc ≡ self.old.alloc) }
     {
         if self.seats.len() < SEATS {
             return None;
         }
-        let first = self.first_to_go()?;
+        let first = self.first_to_go(now)?;
         Some(self.seats.swap_remove(first).into_stream())
     }
 
     /// Whether a client may be seated, perhaps for another one.
-    pub fn has_room(&self) -> bool
-        ensures { IsTrue result ↔
-            ((length self.now.seats.items < 64) ⊎ ((i : ℕ) × IsFirstToGo self.now.seats.items i)) }
+    pub fn has_room(&self, now: u64) -> bool
+        ensures { IsTrue result ↔ ((length self.now.seats.items < 64)
+            ⊎ ((i : ℕ) × IsFirstToGo self.now.times now self.now.seats.items i)) }
     {
-        self.seats.len() < SEATS || self.first_to_go().is_some()
+        self.seats.len() < SEATS || self.first_to_go(now).is_some()
     }
 
     /// A client takes a seat, where one is free. Otherwise its stream is given back.

@@ -5,12 +5,15 @@ use Rattle.durable.specs.declared.fault.RecordFault.{RecordFault}
 use Rattle.durable.specs.declared.fault.RecordFault.TheVariants as record_fault
 use Rattle.node.specs.declared.fault.NodeFault.{NodeFault}
 use Rattle.node.specs.declared.fault.NodeFault.TheVariants as node_fault
+use Rattle.server_floor.specs.declared.fault.FloorFault.{FloorFault}
+use Rattle.server_floor.specs.declared.fault.FloorFault.TheVariants as floor_fault
 use Rattle.server_faults.specs.declared.server_fault.ServerFault.{ServerFault}
 use Rattle.server_faults.specs.declared.server_fault.ServerFault.TheVariants as server_fault
 
 -- the one line of each
 abbrev pub line_of : ServerFault → List ℕ
 line_of server_fault.BadAddress = codes "bad address\n"
+line_of (server_fault.BadFloor fault) = codes "bad floor\n"
 line_of (server_fault.Record fault) = codes "record: " ++ (label fault ++ codes "\n")
 line_of server_fault.Socket = codes "socket failed\n"
 line_of server_fault.OutOfMemory = codes "out of memory\n"
@@ -23,6 +26,11 @@ line_of server_fault.Write = codes "write failed\n"
 abbrev pub IsSaid : ServerFault → List ℕ → Type 0
 IsSaid (server_fault.Record fault) said = (said ≡ line_of (server_fault.Record fault)) ⊎ (said ≡ line_of server_fault.OutOfMemory)
 IsSaid why said = said ≡ line_of why
+
+-- what a fault of reaches is to a server
+abbrev pub of_floor : FloorFault → ServerFault
+of_floor floor_fault.OutOfMemory = server_fault.OutOfMemory
+of_floor fault = server_fault.BadFloor fault
 
 -- what a record's fault is to a server
 abbrev pub of_record : RecordFault → ServerFault

@@ -24,10 +24,11 @@ why_line what which cause = what ++ (which ++ (codes ": " ++ (cause ++ codes "\n
 abbrev pub GivesWhy : End → List ℕ → List ℕ → Type 0
 GivesWhy e what which = GivesNone e ⊎ ((cause : List ℕ) × IsGiven e (why_line what which cause))
 
--- Of a fault of the record it is about the record that was named, of one of a socket about an address, of one of the command line about a word; behind
+-- Of a fault of the record it is about the record that was named, of one of a socket about an address, of one of the command line about a word or an option; behind
 -- any other fault there is none. Of the cause nothing is claimed
 abbrev pub SaysWhy : End → ServeOptions → ServerFault → Type 0
 SaysWhy e o server_fault.BadAddress = (word : List ℕ) × GivesWhy e (codes "bad address ") word
+SaysWhy e o (server_fault.BadFloor _) = GivesWhy e (codes "bad floor ") (codes "--above")
 SaysWhy e o (server_fault.Record _) = GivesWhy e (codes "record ") o.record.now
 SaysWhy e o server_fault.Stopped = GivesWhy e (codes "record ") o.record.now
 SaysWhy e o server_fault.Socket = (word : List ℕ) × GivesWhy e (codes "address ") word

@@ -27,6 +27,7 @@ pub fn say<E: Write>(alloc: Global, err: &mut Counted<E>, fault: ServerFault) ->
 {
     match fault {
         ServerFault::BadAddress => say_line(err, "bad address\n"),
+        ServerFault::BadFloor(_) => say_line(err, "bad floor\n"),
         ServerFault::Record(fault) => match record_line(alloc, fault) {
             Ok(line) => say_line(err, line.as_str()),
             Err(_) => say_line(err, "out of memory\n"),

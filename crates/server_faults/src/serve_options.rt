@@ -13,6 +13,8 @@ pub struct ServeOptions<'a> {
     pub rounds: u32,
     /// Whether an empty or missing file becomes an empty record first.
     pub format: bool,
+    /// What `--above` tells of others' records, each a node and its reach: where there are such, an empty or missing file becomes a record with a floor.
+    pub above: Vec<&'a str>,
     /// Whether it says on standard error what it sees, and behind a fault's line why it was.
     pub verbose: bool,
     /// How many milliseconds it waits, at least, before it tries again; where none are named, 100.

@@ -2,6 +2,7 @@
 
 use durable::RecordFault;
 use node::NodeFault;
+use server_floor::FloorFault;
 use std::alloc::AllocError;
 use thiserror::Error;
 
@@ -10,6 +11,8 @@ use thiserror::Error;
 pub enum ServerFault {
     #[error("bad address")]
     BadAddress,
+    #[error("the reaches give no floor")]
+    BadFloor(FloorFault),
     #[error("the record was refused: {0}")]
     Record(RecordFault),
     #[error("a socket failed")]
@@ -35,6 +38,20 @@ impl From<AllocError> for ServerFault {
 
     fn from(_refused: AllocError) -> ServerFault {
         ServerFault::OutOfMemory
+    }
+}
+
+impl From<FloorFault> for ServerFault {
+    ghost use Rattle.std.specs.Prelude.{◌≡◌};
+    ghost use Rattle.server_faults.specs.ServerFaults.{of_floor};
+
+    ghost from_gives = { λ fault h. h ≡ of_floor fault };
+
+    fn from(fault: FloorFault) -> ServerFault {
+        match fault {
+            FloorFault::OutOfMemory => ServerFault::OutOfMemory,
+            _ => ServerFault::BadFloor(fault),
+        }
     }
 }
 

@@ -2,7 +2,7 @@
 //!
 //! It stands in a line of its own, so that each line of a fault stays as the formats have it.
 
-ghost use Rattle.std.specs.Prelude.{◌≡◌, ℕ, List, IfOk, string_bytes};
+ghost use Rattle.std.specs.Prelude.{◌≡◌, ℕ, List, IfOk, codes, string_bytes};
 ghost use Rattle.http_read.specs.Bytes.{end_of};
 ghost use Rattle.server_faults.specs.Why.{why_line, GivesWhy, SaysWhy, SaysWhyIf};
 
@@ -10,6 +10,7 @@ use crate::{Cause, ServeOptions, ServerFault};
 use durable::RecordFault;
 use engine_common::give;
 use http_read::Counted;
+use server_floor::FloorFault;
 use site_ids::MAX_NODES;
 use std::alloc::{AllocError, Global};
 use std::io;
@@ -58,9 +59,12 @@ fn tell_cause<E: Write>(
     }
 }
 
-/// What is wrong with a record of which the system said nothing.
-fn wrong_with(fault: RecordFault, cause: &Cause) -> &'static str {
+/// What is wrong with a record of which the system said nothing; it was to be made above a floor, or not.
+fn wrong_with(fault: RecordFault, cause: &Cause, above: bool) -> &'static str {
     match fault {
+        RecordFault::NotARecord if above => {
+            "there is a file already, and --above makes a record in an empty or absent one alone"
+        }
         RecordFault::NotARecord => "empty, or another file",
         RecordFault::WrongNode => "of another node, or of another number of nodes",
         RecordFault::Damaged => "it has bytes that no node wrote",
@@ -106,6 +110,33 @@ fn bad_word<'a>(options: &ServeOptions<'a>) -> (&'a str, &'static str) {
     )
 }
 
+/// Why reaches give no floor.
+fn wrong_with_reaches(fault: FloorFault) -> &'static str {
+    match fault {
+        FloorFault::NotTold => "a node, a colon and its reach are wanted, as 2:57",
+        FloorFault::NotAnother => "reaches of other nodes of the group are wanted",
+        FloorFault::Twice => "a node stands there twice",
+        FloorFault::TooFew => "reaches of more than half of the group's nodes are wanted",
+        FloorFault::TooFar => "no instance is left above such a reach",
+        FloorFault::OutOfMemory => "memory is wanted",
+    }
+}
+
+/// Says why a record is refused, which was to be made above a floor, or not.
+pub fn say_why_of_record<E: Write>(
+    alloc: Global,
+    err: &mut Counted<E>,
+    path: &str,
+    fault: RecordFault,
+    cause: &Cause,
+    above: bool,
+)
+    ensures { GivesWhy (end_of E.contents err.old err.new) (codes "record ") path.now }
+{
+    let other = wrong_with(fault, cause, above);
+    tell_cause(alloc, err, "record ", path, cause.error, other);
+}
+
 /// Says why it halted so, where that is more than its line says.
 fn say_cause<E: Write>(
     alloc: Global,
@@ -121,9 +152,18 @@ fn say_cause<E: Write>(
             let (word, why) = bad_word(options);
             tell(alloc, err, "bad address ", word, why);
         }
+        ServerFault::BadFloor(fault) => {
+            tell(
+                alloc,
+                err,
+                "bad floor ",
+                "--above",
+                wrong_with_reaches(fault),
+            );
+        }
         ServerFault::Record(fault) => {
-            let other = wrong_with(fault, cause);
-            tell_cause(alloc, err, "record ", options.record, cause.error, other);
+            let above = !options.above.is_empty();
+            say_why_of_record(alloc, err, options.record, fault, cause, above);
         }
         ServerFault::Stopped => tell_cause(
             alloc,

@@ -1,23 +1,26 @@
 -- What a server has to say, and what it may say. Moments are milliseconds since it began.
 use Rattle.std.specs.Prelude.{◌≡◌, ℕ, ◌-◌, ◌/◌, ◌<◌, List, [], ◌∷◌, replicate, get_or, set, Bool, true, false, nat_eq, nat_le, if◌then◌else◌, Option, Some, None}
 use Rattle.server_notes.specs.Listening.{first_listening, silence_at, FindsSilent, FindsEnded}
+use Rattle.server_notes.specs.Muteness.{first_muteness, mute_note, ended_note}
 use Rattle.server_notes.specs.Noting.{silence_of, told_at, ended_told, joined_at, learned_at, has_settled, is_long}
 use Rattle.server_notes.specs.declared.catching.Catching.{Catching}
 use Rattle.server_notes.specs.declared.catching.Catching.TheVariants.{Done, Alone}
+use Rattle.server_notes.specs.declared.muteness.Muteness.TheVariants.{Over, Said}
 use Rattle.server_notes.specs.declared.note.Note.{Note}
 use Rattle.server_notes.specs.declared.note.Note.TheVariants as note
 use Rattle.server_notes.specs.declared.notes.Notes.{Notes}
 use Rattle.server_notes.specs.declared.notes.TheConstants.{EACH}
 
-abbrev pub first_notes : ℕ → ℕ → ℕ → Notes
-first_notes n me votes = record {
+abbrev pub first_notes : ℕ → ℕ → ℕ → ℕ → Notes
+first_notes n me votes floor = record {
   votes = Some votes;
+  muteness = first_muteness floor;
   catching = Alone;
   listening = first_listening n me;
   malformed = 0;
   displaced = 0;
   full = false;
-  said = replicate 9 None;
+  said = replicate 11 None;
 }
 
 -- where it stands once so many values are known and what was heard of reaches so far, and a majority is heard or not
@@ -49,6 +52,8 @@ abbrev pub due_notes : Notes → ℕ → ℕ → Option (ℕ × ℕ) → Option 
 due_notes n now known silent ended =
     let m = n.listening.majority in
     opened_of n.votes
+    ∷ mute_note n.muteness
+    ∷ ended_note n.muteness known
     ∷ due_if (has_settled n.catching now known) (note.CaughtUp known)
     ∷ due_if (is_long m now) (note.NoMajority (silence_of m now / 1000))
     ∷ counted m.ended (note.Majority (m.ended / 1000))
@@ -70,6 +75,8 @@ may_say said now due kind = if is_free (get_or said kind None) now then get_or d
 -- it was said: it is due no more
 abbrev pub settled : Notes → ℕ → Note → Notes
 settled n now (note.Opened votes) = record n { votes = None }
+settled n now (note.Mute instance) = record n { muteness = Said instance }
+settled n now note.NoLongerMute = record n { muteness = Over }
 settled n now (note.CaughtUp instance) = record n { catching = Done }
 settled n now (note.NoMajority seconds) = record n { catching = Alone; listening = record n.listening { majority = told_at n.listening.majority now } }
 settled n now (note.Majority seconds) = record n { listening = record n.listening { majority = ended_told n.listening.majority } }
@@ -82,7 +89,7 @@ settled n now note.Full = record n { full = false }
 -- this is the first that is due and may be said; then a second goes by before a line of its kind is said again
 pub record IsNext (old : Notes) (now : ℕ) (due : List (Option Note)) (note : Note) (new : Notes) : Type 0 where
   pub kind : ℕ
-  pub below : kind < 9
+  pub below : kind < 11
   pub is : may_say old.said now due kind ≡ Some note
   pub first : (k : ℕ) → k < kind → may_say old.said now due k ≡ None
   pub after : new ≡ record (settled old now note) { said = set old.said kind (Some now) }
@@ -90,7 +97,7 @@ pub record IsNext (old : Notes) (now : ℕ) (due : List (Option Note)) (note : N
 -- that is said, or nothing is to be said
 abbrev pub SaysOf : Notes → ℕ → List (Option Note) → Option Note → Notes → Type 0
 SaysOf old now due (Some note) new = IsNext old now due note new
-SaysOf old now due None new = ((k : ℕ) → k < 9 → may_say old.said now due k ≡ None) × (new ≡ old)
+SaysOf old now due None new = ((k : ℕ) → k < 11 → may_say old.said now due k ≡ None) × (new ≡ old)
 
 -- A server says so much next
 pub record Says (old : Notes) (now known : ℕ) (next : Option Note) (new : Notes) : Type 0 where

@@ -1,4 +1,5 @@
 pub mod Lines
 pub mod Noting
 pub mod Listening
+pub mod Muteness
 pub mod Due

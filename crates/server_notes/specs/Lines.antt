@@ -6,6 +6,8 @@ use Rattle.server_notes.specs.declared.note.Note.TheVariants as note
 -- without the newline
 abbrev pub text_of : Note → List ℕ
 text_of (note.Opened votes) = codes "opened: votes on record: " ++ decimal votes
+text_of (note.Mute instance) = codes "mute up to instance " ++ decimal instance
+text_of note.NoLongerMute = codes "no longer mute"
 text_of (note.CaughtUp instance) = codes "caught up to instance " ++ decimal instance
 text_of (note.NoMajority seconds) = codes "no majority heard for " ++ (decimal seconds ++ codes " s")
 text_of (note.Majority seconds) = codes "a majority is heard again, after " ++ (decimal seconds ++ codes " s")

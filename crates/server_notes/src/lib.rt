@@ -3,12 +3,14 @@
 
 mod catching;
 mod listening;
+mod muteness;
 mod note;
 mod notes;
 mod silence;
 
 pub use catching::Catching;
 pub use listening::Listening;
+pub use muteness::Muteness;
 pub use note::Note;
 pub use notes::{EACH, Notes};
 pub use silence::{LONG, Silence};

@@ -8,6 +8,10 @@ use std::fmt;
 pub enum Note {
     /// The server is ready, and its record has so many votes.
     Opened { votes: u32 },
+    /// Its record took the place of a lost one: it promises and votes for nothing up to this instance, and tries nothing before it knows that far.
+    Mute { instance: u32 },
+    /// It knows so far: it takes part in all that follows.
+    NoLongerMute,
     /// After a start or an absence: it knows all values up to this instance and all that it heard of, but for the last moments; and little more comes.
     CaughtUp { instance: u32 },
     /// For so long no majority was heard, itself included.
@@ -35,6 +39,8 @@ impl fmt::Display for Note {
     fn fmt<W: fmt::Write>(&self, f: &mut fmt::Formatter<W>) -> fmt::Result {
         match self {
             Note::Opened { votes } => write!(f, "opened: votes on record: {votes}"),
+            Note::Mute { instance } => write!(f, "mute up to instance {instance}"),
+            Note::NoLongerMute => f.write_str("no longer mute"),
             Note::CaughtUp { instance } => write!(f, "caught up to instance {instance}"),
             Note::NoMajority { seconds } => write!(f, "no majority heard for {seconds} s"),
             Note::Majority { seconds } => write!(f, "a majority is heard again, after {seconds} s"),

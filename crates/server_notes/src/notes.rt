@@ -8,6 +8,7 @@ ghost use Rattle.server_notes.specs.Listening.{Hears};
 
 use crate::catching::Catching;
 use crate::listening::Listening;
+use crate::muteness::Muteness;
 use crate::note::Note;
 use site_ids::{Cluster, NodeId, NodeSet};
 
@@ -19,28 +20,30 @@ pub const EACH: u64 = 1000;
 pub struct Notes {
     // of the record, until that is said
     votes: Option<u32>,
+    muteness: Muteness,
     catching: Catching,
     listening: Listening,
     malformed: u64,
     displaced: u64,
     full: bool,
     // when a line of each kind was said last, in the order of the kinds of `Note`
-    said: [Option<u64>; 9],
+    said: [Option<u64>; 11],
 }
 
 impl Notes {
-    /// The server begins, over a record with so many votes.
-    pub fn new(cluster: Cluster, me: NodeId, votes: u32) -> Notes
-        ensures { result ≡ first_notes cluster me votes }
+    /// The server begins, over a record with so many votes and that floor, 0 where it has none.
+    pub fn new(cluster: Cluster, me: NodeId, votes: u32, floor: u32) -> Notes
+        ensures { result ≡ first_notes cluster me votes floor }
     {
         Notes {
             votes: Some(votes),
+            muteness: Muteness::new(floor),
             catching: Catching::Alone,
             listening: Listening::new(cluster, me),
             malformed: 0,
             displaced: 0,
             full: false,
-            said: [None; 9],
+            said: [None; 11],
         }
     }
 
@@ -71,7 +74,7 @@ impl Notes {
         known: u32,
         silent: Option<(NodeId, u64)>,
         ended: Option<(NodeId, u64)>,
-    ) -> [Option<Note>; 9]
+    ) -> [Option<Note>; 11]
         ensures { result ≡ due_notes self.now now known silent ended }
     {
         let majority = self.listening.majority;
@@ -79,6 +82,8 @@ impl Notes {
         let (malformed, displaced) = (self.malformed, self.displaced);
         [
             opened(self.votes),
+            self.muteness.beginning(),
+            self.muteness.end(known),
             due_if(
                 self.catching.has_settled(now, known),
                 Note::CaughtUp { instance: known },
@@ -99,6 +104,8 @@ impl Notes {
     {
         match *note {
             Note::Opened { .. } => self.votes = None,
+            Note::Mute { instance } => self.muteness = Muteness::Said { floor: instance },
+            Note::NoLongerMute => self.muteness = Muteness::Over,
             Note::CaughtUp { .. } => self.catching = Catching::Done,
             Note::NoMajority { .. } => {
                 self.catching = Catching::Alone;
@@ -116,10 +123,10 @@ impl Notes {
     }
 
     /// What of this is said next, if anything. It is due no more then.
-    fn say(&mut self, now: u64, due: [Option<Note>; 9]) -> Option<Note>
+    fn say(&mut self, now: u64, due: [Option<Note>; 11]) -> Option<Note>
         ensures { SaysOf self.old now due result self.new }
     {
-        for kind in 0..9 {
+        for kind in 0..11 {
             if let Some(note) = may_say(self.said[kind], now, due[kind]) {
                 self.settle(now, &note);
                 self.said[kind] = Some(now);

@@ -1,4 +1,5 @@
 pub mod Keeping
 pub mod Questioning
 pub mod Turns
+pub mod Returning
 pub mod Pacing

@@ -37,9 +37,9 @@ abbrev pub is_one_more : Option ℕ → ℕ → Bool
 is_one_more None known = false
 is_one_more (Some at) known = nat_eq known (min (at + 1) (2 ^ 32 - 1))
 
--- a server with no value of its own leaves it to the others to decide, while their messages come: for so long
+-- a server without a stake leaves it to the others to decide, while their messages come: for so long
 abbrev pub leaves : Ticking → Times → ℕ → Seen → Bool → Bool
-leaves t times now seen stirred = not seen.pending && (stirred && nat_lt (now - unwrap_or t.first now) times.leaving)
+leaves t times now seen stirred = not seen.stake && (stirred && nat_lt (now - unwrap_or t.first now) times.leaving)
 
 -- A tick is waited for since it began to be wanted, or something became known, or the server left it to the
 -- others. Ticks in vain are forgotten where news came without a tick that was due; and where it is one value
@@ -49,7 +49,7 @@ noted t times now seen stirred =
     if nat_eq seen.known t.known
     then record t {
       since = if not seen.wanted then None
-              else (if leaves t times now seen stirred then Some now else Some (unwrap_or t.since now));
+          else (if leaves t times now seen stirred then Some now else Some (unwrap_or t.since now));
       first = if seen.wanted then Some (unwrap_or t.first now) else None;
     }
     else record {
@@ -75,14 +75,14 @@ abbrev pub begun : Ticking → Ticking
 begun t = record t { at = Some t.known; resumes = false }
 
 -- how many times the patience: after each tick once more, up to growth times in all; or longer, after ticks in
--- vain, and at least so much longer where no value is pending
+-- vain, and at least so much longer without a stake
 abbrev pub waited : Ticking → Times → Bool → ℕ
-waited t times pending = max (min (t.ticks + 1) times.growth) (max t.longer (if pending then 0 else times.longer) + 1)
+waited t times stake = max (min (t.ticks + 1) times.growth) (max t.longer (if stake then 0 else times.longer) + 1)
 
 -- the patience has passed so many times
 abbrev pub Ticks : Ticking → ℕ → ℕ → Times → Bool → Type 0
-Ticks t now patience times pending =
-    (since : ℕ) × (t.since ≡ Some since) × (patience * waited t times pending ≤ now - since)
+Ticks t now patience times stake =
+    (since : ℕ) × (t.since ≡ Some since) × (patience * waited t times stake ≤ now - since)
 
 -- A tick was in vain where a majority answered since, and nothing became known before the next one: behind
 -- each of a row it waits longer. One that no majority answered ends the row
@@ -197,6 +197,11 @@ IsUntried s = (values : List Value) → IsKnownPrefix s values → IsPromise s.e
 abbrev pub IsVotedBy : Node → ℕ → ℕ → Type 0
 IsVotedBy s i p = (vote : Vote) × (last_vote i s.entries ≡ Some vote) × (vote.ballot.node ≡ p)
 
+-- it has something to decide, where it knows so many values: one of its own waits to be proposed, or its record
+-- had a vote further on as it began
+abbrev pub HasStake : Node → ℕ → ℕ → Type 0
+HasStake s known recorded = (s.pending ≢ []) ⊎ (known < recorded)
+
 -- it has no attempt open
 abbrev pub IsIdle : Node → Type 0
 IsIdle s = (i : ℕ) → s.attempts i ≡ None
@@ -209,13 +214,13 @@ pub record Resumes (s : Node) (me known recorded : ℕ) : Type 0 where
   pub more : known < recorded
   pub idle : IsIdle s
 
--- what node p shows: how many values it knows without a gap, whether it wants a tick, whether a value of its own
--- waits to be proposed, and whether it decides again what is on its record
+-- what node p shows: how many values it knows without a gap, whether it wants a tick, whether it has a stake,
+-- and whether it decides again what is on its record
 pub record IsSeen (s : Node) (p recorded : ℕ) (drained : Bool) (seen : Seen) : Type 0 where
   pub known : (values : List Value) × IsKnownPrefix s values × (seen.known ≡ length values)
   pub wanted : IsTrue seen.wanted ↔ WantsTick s
   pub drained_is : seen.drained ≡ drained
-  pub pending : IsTrue seen.pending ↔ (s.pending ≢ [])
+  pub stake : IsTrue seen.stake ↔ HasStake s seen.known recorded
   pub resumes : IsTrue seen.resumes ↔ Resumes s p seen.known recorded
 
 -- a server of n begins quiet, over a record whose furthest vote is there; it never asked, and no tick is wanted
@@ -279,7 +284,7 @@ pub record IsDue (p : Pace) (now : ℕ) (seen : Seen) (tries : Option ℕ) (bloc
   pub told : due.telling ≡ telling
   pub question : IsTrue due.question ↔ Asks (asking_of p.last p.times now seen p.empty (awaits (noted p.ticking p.times now seen p.stirred)))
   pub tick : IsTrue due.tick
-      ↔ Ticks (noted p.ticking p.times now seen p.stirred) now p.patience p.times seen.pending
+      ↔ Ticks (noted p.ticking p.times now seen p.stirred) now p.patience p.times seen.stake
   pub answered : IsTrue due.answered ↔ IsAnswered p
   pub goes_on : IsTrue due.goes_on ↔ GoesOn (noted p.ticking p.times now seen p.stirred)
   pub waits : IsTrue due.waits ↔ Waits (noted_tries p.yielding now tries) p.me

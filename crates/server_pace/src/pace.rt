@@ -165,7 +165,7 @@ impl Pace {
         self.yielding.pass(now, waits, yields);
         self.ticking = self.ticking.noted(times, now, seen, self.stirred);
         let more = self.ticking.awaits();
-        let tick = self.ticking.is_due(now, self.patience, times, seen.pending);
+        let tick = self.ticking.is_due(now, self.patience, times, seen.stake);
         let asking = self.last.asking(self.times, now, seen, self.empty, more);
         self.keeping = self.keeping.noted(now, seen.known);
         let due = Due {

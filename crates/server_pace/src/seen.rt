@@ -3,7 +3,7 @@
 ghost use Rattle.std.specs.Prelude.{◌↔◌, suc, IsTrue};
 ghost use Rattle.node.specs.Nodes.{Node as AbstractNode};
 ghost use Rattle.node.specs.Standing.{IsNodeOf};
-ghost use Rattle.server_pace.specs.Pacing.{IsIdle, IsSeen, IsTriedBy, IsVotedBy, Resumes};
+ghost use Rattle.server_pace.specs.Pacing.{HasStake, IsIdle, IsSeen, IsTriedBy, IsVotedBy, Resumes};
 
 use node::Node;
 use site_disk::Disk;
@@ -18,8 +18,9 @@ pub struct Seen {
     pub wanted: bool,
     /// All that had come was taken in.
     pub drained: bool,
-    /// A value of its own waits to be proposed.
-    pub pending: bool,
+    /// It has something to decide: a value of its own waits to be proposed, or its record had a vote further on as
+    /// it began.
+    pub stake: bool,
     /// It voted for the last of them at an own ballot, its record had a vote further on as it began, and it has no
     /// attempt open.
     pub resumes: bool,
@@ -42,6 +43,14 @@ fn is_voted_by<D: Disk>(node: &Node<D>, instance: Instance, by: NodeId) -> bool
         Some(vote) => vote.ballot.node().number() == by.number(),
         None => false,
     }
+}
+
+/// Whether it has something to decide, where so many values are known, and the furthest vote of the record as it
+/// began is there.
+fn has_stake<D: Disk>(node: &Node<D>, known: u32, recorded: u32) -> bool
+    ensures { (s : AbstractNode) → IsNodeOf node.now s → IsTrue result ↔ HasStake s known recorded }
+{
+    node.has_pending() || known < recorded
 }
 
 /// Whether it has no attempt open.
@@ -72,7 +81,7 @@ impl Seen {
             known,
             wanted: node.wants_tick(),
             drained,
-            pending: node.has_pending(),
+            stake: has_stake(node, known, recorded),
             resumes: resumes(node, me, known, recorded),
         }
     }

@@ -60,13 +60,13 @@ impl Ticking {
         }
     }
 
-    /// Whether a server with no value of its own leaves it to the others to decide: a message of an attempt came
+    /// Whether the server leaves it to the others to decide: it has no stake, a message of an attempt came
     /// (`stirred`), and it has not done so for too long.
     fn leaves(self, times: Times, now: u64, seen: Seen, stirred: bool) -> bool
         ensures { result ≡ leaves self times now seen stirred }
     {
         let first = self.first.unwrap_or(now);
-        !seen.pending && (stirred && now.saturating_sub(first) < times.leaving)
+        !seen.stake && (stirred && now.saturating_sub(first) < times.leaving)
     }
 
     /// What stands now that so much is seen, and messages of attempts came since, or not (`stirred`). The patience
@@ -79,7 +79,11 @@ impl Ticking {
         if seen.known == self.known {
             let leaves = self.leaves(times, now, seen, stirred);
             return Ticking {
-                since: if leaves { wanted } else { wanted.and(self.since.or(wanted)) },
+                since: if leaves {
+                    wanted
+                } else {
+                    wanted.and(self.since.or(wanted))
+                },
                 first: wanted.and(self.first.or(wanted)),
                 ..self
             };
@@ -96,21 +100,21 @@ impl Ticking {
     }
 
     /// How many times the patience is waited: once more after each tick, up to a number of times; or longer,
-    /// without a bound, after ticks in vain, and at least so much longer where no value is pending.
-    fn waited(self, times: Times, pending: bool) -> u64
-        ensures { result ≡ waited self times pending }
+    /// without a bound, after ticks in vain, and at least so much longer by a server without a stake.
+    fn waited(self, times: Times, stake: bool) -> u64
+        ensures { result ≡ waited self times stake }
     {
         let tries = u64::from(self.ticks.saturating_add(1).min(times.growth));
-        let least = if pending { 0 } else { times.longer };
+        let least = if stake { 0 } else { times.longer };
         tries.max(u64::from(self.longer.max(least)) + 1)
     }
 
-    /// Whether a tick has been wanted for so long that it is due: so many times this patience. A value of
-    /// its own waits to be proposed, or not (`pending`).
-    pub fn is_due(self, now: u64, patience: u64, times: Times, pending: bool) -> bool
-        ensures { IsTrue result ↔ Ticks self now patience times pending }
+    /// Whether a tick has been wanted for so long that it is due: so many times this patience. The server has
+    /// something to decide, or not (`stake`).
+    pub fn is_due(self, now: u64, patience: u64, times: Times, stake: bool) -> bool
+        ensures { IsTrue result ↔ Ticks self now patience times stake }
     {
-        let waited = self.waited(times, pending);
+        let waited = self.waited(times, stake);
         match (self.since, patience.checked_mul(waited)) {
             (Some(since), Some(millis)) => now.saturating_sub(since) >= millis,
             _ => false,

@@ -13,10 +13,10 @@ pub struct Times {
     /// The patience grows with the tries that brought no news, up to so many times (`Ticking`).
     pub growth: u32,
     /// After each try that a majority answered and that brought no news it waits so many patiences longer,
-    /// without a bound; and so many at least while it has no value of its own (`Ticking`). So servers far apart
+    /// without a bound; and so many at least without a stake (`Ticking`). So servers far apart
     /// do not outbid one another for ever.
     pub longer: u32,
-    /// Milliseconds for which a server with no value of its own leaves it to the others to decide, at most, while their messages come (`Ticking`).
+    /// Milliseconds for which a server without a stake leaves it to the others to decide, at most, while their messages come (`Ticking`).
     pub leaving: u64,
     /// Milliseconds between two questions to the others of which the first brought nothing (`LastQuestion`).
     pub asking: u64,
@@ -51,9 +51,14 @@ pub struct Times {
     pub between_requests: u64,
     /// Milliseconds that a request which has begun, or a response which its client does not read, is given without a byte that moves.
     pub without_progress: u64,
+    /// Milliseconds for which a server that begins leaves requests, at most, while it knows less than its record has (`Returning`).
+    pub returning: u64,
     /// Milliseconds for which what a client still sends behind its last response is read and dropped, at most, so that the response is not lost (RFC 9112,
     /// section 9.6): a client that reads it closes within that (`Linger`).
     pub lingering: u64,
+    /// Milliseconds for which a request keeps a seat from others: one that takes longer, as its client sends or reads slowly, goes for another client where
+    /// all seats are taken (`Seats::make_room`).
+    pub keeps_seat: u64,
     /// Milliseconds for which a request for a receipt that is not there yet is left, behind the last bytes that its client sent: most values are known by
     /// then, and a client asks once.
     pub receipts: u64,
@@ -83,7 +88,9 @@ const STANDARD: Times = Times {
     quiet_rest: 20_000,
     between_requests: 5000,
     without_progress: 1000,
+    returning: 2000,
     lingering: 2000,
+    keeps_seat: 2000,
     receipts: 100,
     serve_ms: None,
 };

@@ -95,7 +95,8 @@ same_known n p s next call (Refused cause) out same h = ap (λ u. u.known) h.nod
 same_known n p s next call Failed out same h = ap (λ u. u.known) h.node
 
 tick_knows : (n p : ℕ) (s : Node) (effect : Effect) → Does n p s tick effect → effect.after.known ≡ s.known
-tick_knows n p s effect how = ap (λ (e : Effect). e.after.known) how.is
+tick_knows n p s effect (inl begins) = ap (λ (e : Effect). e.after.known) begins.is
+tick_knows n p s effect (inr instead) = ap (λ (e : Effect). e.after.known) instead.asks.is
 
 ask_knows : (n p : ℕ) (s : Node) (effect : Effect) → Does n p s ask effect → effect.after.known ≡ s.known
 ask_knows n p s effect how = ap (λ (e : Effect). e.after.known) how.is

@@ -1,9 +1,13 @@
-//! `sited --id P --record FILE --http ADDRESS --rounds R [--format] ADDRESS..`: one node of a group, over UDP and HTTP.
+//! `sited --id P --record FILE --http ADDRESS --rounds R [--format] [--above P:REACH].. ADDRESS..`: one node of a group, over UDP and HTTP.
+//! `sited --inspect FILE`: what a record holds.
 #![tactic(auto)]
 
-use engine_options::{Misuse, asks_version, command_line, refuse, sited_options, tell_version};
+use engine_options::{
+    Misuse, asks_version, command_line, inspected, refuse, sited_options, tell_version,
+};
 use http_read::Counted;
 use server::sited;
+use server_inspect::inspect;
 use std::io::Write;
 use std::process::ExitCode;
 
@@ -13,6 +17,10 @@ fn run<E: Write>(rt: &HostRuntime, err: &mut Counted<E>) -> Result<u8, Misuse> {
     let words = command_line(rt)?;
     if asks_version(words.as_slice()) {
         return Ok(tell_version(alloc, &mut Counted::new(rt.stdout()), "sited")?);
+    }
+    if let Some(file) = inspected(words.as_slice()) {
+        let mut out = Counted::new(rt.stdout());
+        return Ok(inspect(rt, alloc, &mut out, err, file));
     }
     let options = sited_options(alloc, words.as_slice())?;
     let mut out = Counted::new(rt.stdout());

@@ -131,8 +131,11 @@ const ROWS: &[Row] = &[
     (2, 160, &[1, 2], 80, 5_000),
     (5, 125, &[1, 2, 3, 4, 5], 0, 5_000),
     (9, 160, &[1, 9], 333, 5_000),
+    (3, 160, &[2, 1], 6_000, 2_000),
     (3, 400, &[1], 0, 5_000),
     (3, 400, &[2], 0, 5_000),
+    (3, 400, &[3], 0, 5_000),
+    (3, 400, &[2, 3], 6_000, 5_000),
     (2, 400, &[1, 2], 80, 15_000),
     (3, 400, &[1, 2], 80, 15_000),
     (9, 400, &[1, 5, 9], 0, 15_000),
@@ -148,12 +151,13 @@ fn check(rt: &impl Abort, alloc: Global, &(size, takes, at, apart, bound): &Row)
         step,
         flights: VecDeque::new(alloc),
     };
-    for &number in at {
-        let value = release(rt, alloc, number);
-        far.submit(rt, number, &value);
-        for _ in 0..apart / step {
+    for (&number, place) in at.iter().zip(0_u64..) {
+        let waits = if place == 0 { 0 } else { apart / step };
+        for _ in 0..waits {
             far.goes_on(rt, size);
         }
+        let value = release(rt, alloc, number);
+        far.submit(rt, number, &value);
     }
     let millis = far.shows(rt, size, at.len() as u64, bound);
     ensure(rt, millis <= bound, (size, takes, millis));

@@ -37,10 +37,10 @@ fn served(alloc: Global, cluster: Cluster, me: NodeId, disk: MemDisk) -> Option<
         return None;
     };
     let times = Times::new(None, None);
-    let last = Recorded::of(&node, INSTANCES).last;
+    let recorded = Recorded::of(&node, INSTANCES);
     Box::new(
         alloc,
-        Server::new(alloc, me, Served { node }, desk, times, last),
+        Server::new(alloc, me, Served { node }, desk, times, recorded),
     )
     .ok()
 }

@@ -13,6 +13,8 @@ mod comparing;
 #[cfg(test)]
 mod far;
 #[cfg(test)]
+mod floors;
+#[cfg(test)]
 mod group;
 #[cfg(test)]
 mod keeping;
@@ -37,9 +39,13 @@ mod refusals;
 #[cfg(test)]
 mod resting;
 #[cfg(test)]
+mod returning;
+#[cfg(test)]
 mod scripts;
 #[cfg(test)]
 mod seats;
+#[cfg(test)]
+mod views;
 #[cfg(test)]
 mod written_clock;
 #[cfg(test)]

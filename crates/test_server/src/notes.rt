@@ -115,6 +115,35 @@ const OF_ONE: &[Pass] = &[
     (100000, 1, NOBODY, FINE, &[]),
 ];
 
+/// Of node 1 of three, over a record with a floor and no vote.
+const REPLACED: &[Pass] = &[
+    (
+        0,
+        0,
+        NOBODY,
+        FINE,
+        &["opened: votes on record: 0", "mute up to instance 65"],
+    ),
+    (10, 64, BOTH, FINE, &[]),
+    (20, 65, BOTH, FINE, &["no longer mute"]),
+    (2009, 65, BOTH, FINE, &[]),
+    (2010, 65, BOTH, FINE, &["caught up to instance 65"]),
+    (2011, 66, BOTH, FINE, &[]),
+];
+
+/// The same, where all up to the floor is known behind the first pass.
+const TOLD_ITSELF: &[Pass] = &[(
+    0,
+    70,
+    NOBODY,
+    FINE,
+    &[
+        "opened: votes on record: 0",
+        "mute up to instance 65",
+        "no longer mute",
+    ],
+)];
+
 /// Of node 1 of three that hears both, over a record of seven votes: the moment, how many values are known, how far what it heard of reaches, and what is said.
 type Behind = (u64, u32, u32, &'static [&'static str]);
 
@@ -161,10 +190,11 @@ fn pass(rt: &impl Abort, alloc: Global, notes: &mut Notes, pass: Pass) {
     ensure(rt, notes.next(now, known).is_none(), now);
 }
 
-fn passes(rt: &impl Abort, alloc: Global, size: u8, votes: u32, all: &[Pass]) {
+fn passes(rt: &impl Abort, alloc: Global, size: u8, record: (u32, u32), all: &[Pass]) {
+    let (votes, floor) = record;
     let cluster = Cluster::new(size).expect(rt, "a cluster");
     let me = cluster.node(1).expect(rt, "a node");
-    let mut notes = Notes::new(cluster, me, votes);
+    let mut notes = Notes::new(cluster, me, votes, floor);
     for &one in all {
         pass(rt, alloc, &mut notes, one);
     }
@@ -172,12 +202,19 @@ fn passes(rt: &impl Abort, alloc: Global, size: u8, votes: u32, all: &[Pass]) {
 
 #[test]
 fn each_kind_has_a_line_a_second_at_most(rt: HostRuntime) {
-    passes(&rt, rt.alloc(), 3, 7, OF_THREE);
+    passes(&rt, rt.alloc(), 3, (7, 0), OF_THREE);
 }
 
 #[test]
 fn a_node_alone_is_a_majority(rt: HostRuntime) {
-    passes(&rt, rt.alloc(), 1, 0, OF_ONE);
+    passes(&rt, rt.alloc(), 1, (0, 0), OF_ONE);
+}
+
+#[test]
+fn a_node_with_a_floor_says_that_it_is_mute_and_when_no_longer(rt: HostRuntime) {
+    for all in [REPLACED, TOLD_ITSELF] {
+        passes(&rt, rt.alloc(), 3, (0, 65), all);
+    }
 }
 
 #[test]
@@ -185,7 +222,7 @@ fn a_server_that_heard_of_more_has_not_caught_up(rt: HostRuntime) {
     let cluster = Cluster::new(3).expect(&rt, "a cluster");
     let me = cluster.node(1).expect(&rt, "a node");
     for rows in [SLOW, BUSY] {
-        let mut notes = Notes::new(cluster, me, 7);
+        let mut notes = Notes::new(cluster, me, 7, 0);
         for &(now, known, reached, lines) in rows {
             notes.hear(now, known, reached, nodes_of(&rt, BOTH));
             for &line in lines {

@@ -10,6 +10,7 @@ const TIMES: Times = Times {
     patience: 100,
     growth: 3,
     longer: 10,
+    leaving: 15_000,
     asking: 400,
     quiet_asking: 800,
     quick: 20,
@@ -26,7 +27,9 @@ const TIMES: Times = Times {
     quiet_rest: 20_000,
     between_requests: 5000,
     without_progress: 1000,
+    returning: 2000,
     lingering: 2000,
+    keeps_seat: 2000,
     receipts: 100,
     serve_ms: None,
 };
@@ -133,7 +136,7 @@ fn seen(known: u32, wanted: bool, resumes: bool) -> Seen {
         known,
         wanted,
         drained: true,
-        stake: false,
+        stake: true,
         resumes,
     }
 }
@@ -150,12 +153,13 @@ fn news_begin_the_patience_anew(rt: HostRuntime) {
         };
         let noted = Ticking {
             since: then,
+            first: then.and(Some(9)),
             known,
             ticks: due,
             longer,
             ..Ticking::new()
         };
-        let is = ticking.noted(9, seen(known, wanted, false), false);
+        let is = ticking.noted(TIMES, 9, seen(known, wanted, false), true);
         same(&rt, (ticking, wanted, is), (ticking, wanted, noted));
     }
 }
@@ -186,10 +190,10 @@ fn a_server_that_decides_again_goes_on_at_once(rt: HostRuntime) {
             known: noted,
             ..Ticking::new()
         };
-        let then = ticking.noted(9, seen(known, wanted, resumes), false);
+        let then = ticking.noted(TIMES, 9, seen(known, wanted, resumes), false);
         same(&rt, (ticking, then.goes_on()), (ticking, goes_on));
         // It stays so until it ticks.
-        let later = then.noted(99, seen(known, wanted, false), false);
+        let later = then.noted(TIMES, 99, seen(known, wanted, false), false);
         same(&rt, (then, later.goes_on()), (then, goes_on));
         let ticked = [then.begun(), then.ticked(TIMES, 9, true)];
         for after in ticked {
@@ -240,9 +244,55 @@ fn the_patience_grows(rt: HostRuntime) {
     }
 }
 
-/// How many ticks were due, how many patiences longer it waits, whether it has something to decide; the moment,
-/// and whether a tick is due that is wanted since 1000, of a patience of 150 milliseconds.
-const STAKES: &[(u32, u32, bool, u64, bool)] = &[
+/// Since when a tick is waited for, since when one was wanted first; whether the server has a stake, whether
+/// messages of an attempt came, the moment; and since when it is waited for then.
+const LEFT: &[(Option<u64>, Option<u64>, bool, bool, u64, Option<u64>)] = &[
+    (None, None, false, true, 100, Some(100)),
+    (Some(100), Some(100), false, true, 900, Some(900)),
+    (Some(900), Some(100), false, true, 15_099, Some(15_099)),
+    // For fifteen seconds at most.
+    (Some(15_099), Some(100), false, true, 15_100, Some(15_099)),
+    (Some(15_099), Some(100), false, true, 90_000, Some(15_099)),
+    // With a stake it leaves it to nobody, and without messages nothing is put off.
+    (Some(100), Some(100), true, true, 900, Some(100)),
+    (Some(100), Some(100), false, false, 900, Some(100)),
+];
+
+#[test]
+fn who_has_no_stake_leaves_it_to_the_others(rt: HostRuntime) {
+    for &(since, first, stake, stirred, now, then) in LEFT {
+        let ticking = Ticking {
+            since,
+            first,
+            known: 7,
+            ..Ticking::new()
+        };
+        let seen = Seen {
+            stake,
+            ..seen(7, true, false)
+        };
+        let is = ticking.noted(TIMES, now, seen, stirred);
+        let noted = Ticking {
+            since: then,
+            first: first.or(Some(now)),
+            ..ticking
+        };
+        same(&rt, (ticking, now, is), (ticking, now, noted));
+        // News, or no tick wanted, begin it anew.
+        let unwanted = Seen {
+            wanted: false,
+            ..seen
+        };
+        let is = ticking.noted(TIMES, now, unwanted, stirred);
+        same(&rt, (is.since, is.first), (None, None));
+        let news = Seen { known: 8, ..seen };
+        let is = ticking.noted(TIMES, now, news, stirred);
+        same(&rt, (is.since, is.first), (Some(now), Some(now)));
+    }
+}
+
+/// How many ticks were due, how many patiences longer it waits, whether the server has a stake; the moment, and whether a tick is due that is waited for since 1000, of a patience of 150 milliseconds.
+const LONGER: &[(u32, u32, bool, u64, bool)] = &[
     (0, 0, true, 1150, true),
     (0, 0, false, 2649, false),
     (0, 0, false, 2650, true),
@@ -254,8 +304,8 @@ const STAKES: &[(u32, u32, bool, u64, bool)] = &[
 ];
 
 #[test]
-fn who_has_nothing_to_decide_waits_longer(rt: HostRuntime) {
-    for &(ticks, longer, stake, now, due) in STAKES {
+fn who_has_no_stake_waits_longer(rt: HostRuntime) {
+    for &(ticks, longer, stake, now, due) in LONGER {
         let ticking = Ticking {
             since: Some(1000),
             known: 7,
@@ -293,6 +343,7 @@ fn a_tick_that_a_majority_answers_in_vain_is_counted(rt: HostRuntime) {
         };
         let ticked = Ticking {
             since: Some(9),
+            first: None,
             known: 7,
             ticks: due,
             longer: then,
@@ -339,7 +390,7 @@ fn a_server_asks_in_its_time_and_behind_news(rt: HostRuntime) {
             known,
             wanted: false,
             drained,
-            stake: false,
+            stake: true,
             resumes: false,
         };
         let asking = last.asking(TIMES, now, seen, empty, more);

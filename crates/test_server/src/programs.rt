@@ -1,6 +1,7 @@
 //! The renderer and the simulator over memory, with readers and writers that fail; command lines.
 
 mod ends;
+mod inspections;
 mod misuses;
 mod options;
 mod refusals;

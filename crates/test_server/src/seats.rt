@@ -1,7 +1,7 @@
 //! Seats: who goes for the 65th client, and how long a connection stays.
 use crate::client::Client;
 use crate::comparing::{ensure, same};
-use crate::group::is_seated;
+use crate::group::{Group, is_seated};
 use server::{Seats, Stay};
 use server_pace::Times;
 use std::alloc::Global;
@@ -59,7 +59,7 @@ fn was_silent(gone: Option<Client>) -> Option<bool> {
 fn full(rt: &impl Abort, alloc: Global, asking: u64) -> Seats<Client> {
     let mut seats = Seats::new(alloc, Times::new(None, None));
     for k in 0..64 {
-        let stay = seats.has_room() && was_silent(seats.make_room()).is_none();
+        let stay = seats.has_room(k) && was_silent(seats.make_room(k)).is_none();
         let sends: &[u8] = if k < asking { GET } else { b"" };
         ensure(rt, stay && comes(rt, alloc, &mut seats, sends, k), k);
     }
@@ -73,7 +73,7 @@ fn the_client_that_was_silent_longest_goes_for_another_one(rt: HostRuntime) {
     same(&rt, comes(&rt, rt.alloc(), &mut seats, GET, 64), false);
     // The first two send now, so the third was silent longest; it has sent nothing.
     same(&rt, seats.read_each(100), Ok(true));
-    same(&rt, was_silent(seats.make_room()), Some(true));
+    same(&rt, was_silent(seats.make_room(100)), Some(true));
     same(&rt, seats.len(), 63);
     same(&rt, comes(&rt, rt.alloc(), &mut seats, GET, 101), true);
     drop(seats);
@@ -85,10 +85,26 @@ fn clients_of_the_last_moment_go_too(rt: HostRuntime) {
     for k in 0..64 {
         ensure(&rt, comes(&rt, rt.alloc(), &mut seats, b"", u64::MAX), k);
     }
-    ensure(&rt, seats.has_room(), 64);
-    same(&rt, was_silent(seats.make_room()), Some(true));
+    ensure(&rt, seats.has_room(u64::MAX), 64);
+    same(&rt, was_silent(seats.make_room(u64::MAX)), Some(true));
     same(&rt, seats.len(), 63);
     drop(seats);
+}
+
+#[test]
+fn who_reads_slowly_goes_for_another_one(rt: HostRuntime) {
+    let mut group = Group::new(&rt, rt.alloc(), 1);
+    for _ in 0..64 {
+        group.comes(&rt, 1, GET, 1);
+    }
+    // Each sends a byte in a millisecond, and reads one.
+    group.goes_on(&rt, 60, &[]);
+    let seats = &mut group.server(&rt, 1).seats;
+    ensure(&rt, !seats.has_room(2_000), 2_000);
+    same(&rt, was_silent(seats.make_room(2_000)), None);
+    ensure(&rt, seats.has_room(2_001), 2_001);
+    same(&rt, was_silent(seats.make_room(2_001)), Some(false));
+    same(&rt, seats.len(), 63);
 }
 
 /// When clients leave, and whether the one that does was silent. The first one's request is unanswered for a second; the second one came at 1 and sent

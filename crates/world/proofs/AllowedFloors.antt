@@ -1,10 +1,9 @@
 -- Which floors a world allows, one machine after another.
-use Rattle.std.proofs.Common.{◌≡◌, ◌≢◌, ⊎_elim, inl, inr, ◌⊎◌, ℕ, suc, ◌+◌, ◌<◌, ◌≤◌, if◌then◌else◌, ◌/◌, Bool, true, false, List, [], ◌∷◌, length, refl, sym, ap, subst, ◌∙◌, arith}
+use Rattle.std.proofs.Common.{◌≡◌, ◌≢◌, ⊎_elim, inl, inr, ◌⊎◌, ℕ, suc, ◌+◌, ◌≤◌, if◌then◌else◌, ◌/◌, Bool, true, false, List, [], ◌∷◌, length, refl, sym, subst, ◌∙◌, arith}
 use Rattle.std.proofs.lemmas.Bool.{false≢true}
 use Rattle.std.specs.Prelude.{◌↔◌, IsTrue, Some, slice_get}
 use Rattle.site_ids.specs.Ids.{IsNode, IsInstance}
 use Rattle.site_ids.specs.Lists.{In, Distinct}
-use Rattle.site_ids.specs.Majorities.{Majority}
 use Rattle.site_ids.proofs.MemberLemmas.{distinct_within}
 use Rattle.proposer.specs.declared.TheConstants.{MAX_ATTEMPTS}
 use Rattle.durable.specs.Entries.{reach_of}

@@ -9,9 +9,10 @@ use std::process::Abort;
 /// What a line names.
 fn shown(rt: &impl Abort, alloc: Global, o: &ServeOptions<'_>) -> String {
     let (id, rounds, format) = (o.id, o.rounds, o.format);
-    let (patience, serve, verbose, peers) = (o.patience, o.serve_ms, o.verbose, o.peers.as_slice());
+    let (patience, serve, verbose) = (o.patience, o.serve_ms, o.verbose);
+    let (above, peers) = (o.above.as_slice(), o.peers.as_slice());
     format!(in alloc;
-        "{id} {} {} {rounds} {format} {patience:?} {serve:?} {verbose} {peers:?}",
+        "{id} {} {} {rounds} {format} {above:?} {patience:?} {serve:?} {verbose} {peers:?}",
         o.record, o.http
     )
     .expect(rt, "memory")
@@ -21,19 +22,23 @@ fn shown(rt: &impl Abort, alloc: Global, o: &ServeOptions<'_>) -> String {
 const SERVERS: &[(&str, &str)] = &[
     (
         "sited --id 1 --record r --http h --rounds 2",
-        "1 r h 2 false None None false []",
+        "1 r h 2 false [] None None false []",
     ),
     (
         "sited a:1 --format --id=+3 b:2 --record=/x --http 127.0.0.1:0 --rounds 4294967295 c:3",
-        "3 /x 127.0.0.1:0 4294967295 true None None false [\"a:1\", \"b:2\", \"c:3\"]",
+        "3 /x 127.0.0.1:0 4294967295 true [] None None false [\"a:1\", \"b:2\", \"c:3\"]",
     ),
     (
         "other --rounds 00 --http h --record r --id 255 -- --format",
-        "255 r h 0 false None None false [\"--format\"]",
+        "255 r h 0 false [] None None false [\"--format\"]",
     ),
     (
         "sited --verbose --patience-ms 100 --id 1 --record r --http h --rounds 2 --serve-ms=+2000 a:1",
-        "1 r h 2 false Some(100) Some(2000) true [\"a:1\"]",
+        "1 r h 2 false [] Some(100) Some(2000) true [\"a:1\"]",
+    ),
+    (
+        "sited --format --above 2:57 --id 1 --above=x --record r --http h --rounds 0 a:1",
+        "1 r h 0 true [\"2:57\", \"x\"] None None false [\"a:1\"]",
     ),
     (
         "sited --id=-0 --record --http --http h --rounds 1 not-an-address",
@@ -101,6 +106,12 @@ const REFUSED: &[(&str, ErrorKind)] = &[
         ErrorKind::ArgumentConflict,
     ),
     ("sited --format=yes", ErrorKind::TooManyValues),
+    (
+        "sited --id 1 --record r --http h --rounds 2 --above",
+        ErrorKind::InvalidValue,
+    ),
+    ("sited --inspect", ErrorKind::UnknownArgument),
+    ("sited --inspect r --id 1", ErrorKind::UnknownArgument),
     ("sited --verbose=yes", ErrorKind::TooManyValues),
     (
         "sited --verbose --id 1 --verbose",

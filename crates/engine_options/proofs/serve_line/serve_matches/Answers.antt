@@ -1,9 +1,8 @@
-use Rattle.std.proofs.Common.{ap, refl, sym, subst, Some, true, false, ℕ, List, [], ◌∷◌, codes, is_some, ◌≡◌, ◌∙◌, ◌^◌, arith}
+use Rattle.std.proofs.Common.{ap, refl, sym, subst, Some, true, ℕ, List, [], ◌∷◌, codes, is_some, ◌≡◌, ◌∙◌, ◌^◌, arith}
 use Rattle.std.proofs.lemmas.Result.{IfOk-weaker}
 use Rattle.clap.specs.Words.{AddsArg, app_of, is_simple_and_free, found_of, one_text, first_value}
 use Rattle.clap.specs.Built.{AddsInTurn}
 use Rattle.clap.specs.declared.builder.arg.Arg.{Arg}
-use Rattle.clap.specs.declared.builder.command.Command.{Command}
 use Rattle.clap.proofs.OnLiterals.{clap_on_literals}
 use Rattle.engine_options.specs.ServeOptions.{serve_app, SpellsBelow}
 use Rattle.engine_options.proofs.Chains.{IsChain, adds, chain_given, chain_accepted}
@@ -16,11 +15,11 @@ unfolding clap_on_literals
 free = refl
 
 abbrev ids : List (List ℕ)
-ids = codes "id" ∷ codes "record" ∷ codes "http" ∷ codes "rounds" ∷ codes "format" ∷ codes "patience-ms" ∷ codes "serve-ms" ∷ codes "verbose" ∷ codes "address" ∷ []
+ids = codes "id" ∷ codes "record" ∷ codes "http" ∷ codes "rounds" ∷ codes "format" ∷ codes "above" ∷ codes "patience-ms" ∷ codes "serve-ms" ∷ codes "verbose" ∷ codes "address" ∷ []
 
 abbrev args : (c : goal.After-try_get_matches_from) → List Arg
 args c =
-    c.id_option.result ∷ c.required_option.result ∷ c.required_option-2.result ∷ c.rounds_option.result ∷ c.format_flag.result ∷ c.number_option.result ∷ c.number_option-2.result ∷
+    c.id_option.result ∷ c.required_option.result ∷ c.required_option-2.result ∷ c.rounds_option.result ∷ c.format_flag.result ∷ c.above_option.result ∷ c.number_option.result ∷ c.number_option-2.result ∷
     c.verbose_flag.result ∷ c.address_arguments.result ∷ []
 
 added : (c : goal.After-try_get_matches_from) → AddsInTurn AddsArg c.described.result (args c) c.in_ok-command.command
@@ -33,6 +32,7 @@ made c =
     let http = c.required_option-2.ensures in
     let rounds = c.rounds_option.ensures in
     let format = c.format_flag.ensures in
+    let above = c.above_option.ensures in
     let patience = c.number_option.ensures in
     let serving = c.number_option-2.ensures in
     let verbose = c.verbose_flag.ensures in
@@ -51,12 +51,15 @@ made c =
               (
                 record { is = format.id; plain = format.plain; local = format.local },
                 (
-                  record { is = patience.id; plain = patience.plain; local = patience.local },
+                  record { is = above.id; plain = above.plain; local = above.local },
                   (
-                    record { is = serving.id; plain = serving.plain; local = serving.local },
+                    record { is = patience.id; plain = patience.plain; local = patience.local },
                     (
-                      record { is = verbose.id; plain = verbose.plain; local = verbose.local },
-                      (record { is = address.id; plain = address.plain; local = address.local }, tt),
+                      record { is = serving.id; plain = serving.plain; local = serving.local },
+                      (
+                        record { is = verbose.id; plain = verbose.plain; local = verbose.local },
+                        (record { is = address.id; plain = address.plain; local = address.local }, tt),
+                      ),
                     ),
                   ),
                 ),
@@ -76,7 +79,8 @@ app_is c =
     let http = file.2 in
     let rounds = http.2 in
     let format = rounds.2 in
-    let patience = format.2 in
+    let above = format.2 in
+    let patience = above.2 in
     let serving = patience.2 in
     let verbose = serving.2 in
     let address = verbose.2 in
@@ -84,6 +88,7 @@ app_is c =
     (adds _ _ _ _ _ verbose.1 c.verbose_flag.ensures.local
     (adds _ _ _ _ _ serving.1 c.number_option-2.ensures.local
     (adds _ _ _ _ _ patience.1 c.number_option.ensures.local
+    (adds _ _ _ _ _ above.1 c.above_option.ensures.local
     (adds _ _ _ _ _ format.1 c.format_flag.ensures.local
     (adds _ _ _ _ _ rounds.1 c.rounds_option.ensures.local
     (adds _ _ _ _ _ http.1 c.required_option-2.ensures.local
@@ -93,6 +98,7 @@ app_is c =
     c.required_option-2.ensures.rule)
     c.rounds_option.ensures.rule)
     c.format_flag.ensures.rule)
+    c.above_option.ensures.rule)
     c.number_option.ensures.rule)
     c.number_option-2.ensures.rule)
     c.verbose_flag.ensures.rule)
@@ -113,8 +119,8 @@ returns c =
           (chain_given _ _ (args c) ids 2 c.id_option.result m (made c) (omega arith) c.required_option-2.ensures.takes h)) parse.ensures.parsed;
       rounds = IfOk-weaker parse.result _ _ (λ m h. subst (λ (w : List ℕ). SpellsBelow (2 ^ 32) (one_text (found_of m) w)) c.rounds_option.ensures.id
           (chain_number _ _ (args c) ids 3 c.id_option.result 4294967295 (2 ^ 32) m (made c) (omega arith) c.rounds_option.ensures.takes c.rounds_option.ensures.parser (omega arith) h)) parse.ensures.parsed;
-      patience = IfOk-weaker parse.result _ _ (λ m h t found. chain_accepted _ _ (args c) ids 5 c.id_option.result _ m t (made c) (omega arith) c.number_option.ensures.parser refl h
+      patience = IfOk-weaker parse.result _ _ (λ m h t found. chain_accepted _ _ (args c) ids 6 c.id_option.result _ m t (made c) (omega arith) c.number_option.ensures.parser refl h
           (subst (λ (w : List ℕ). one_text (found_of m) w ≡ Some t) (sym c.number_option.ensures.id) found)) parse.ensures.parsed;
-      serving = IfOk-weaker parse.result _ _ (λ m h t found. chain_accepted _ _ (args c) ids 6 c.id_option.result _ m t (made c) (omega arith) c.number_option-2.ensures.parser refl h
+      serving = IfOk-weaker parse.result _ _ (λ m h t found. chain_accepted _ _ (args c) ids 7 c.id_option.result _ m t (made c) (omega arith) c.number_option-2.ensures.parser refl h
           (subst (λ (w : List ℕ). one_text (found_of m) w ≡ Some t) (sym c.number_option-2.ensures.id) found)) parse.ensures.parsed;
     }

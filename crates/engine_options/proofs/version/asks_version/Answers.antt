@@ -1,4 +1,4 @@
-use Rattle.std.proofs.Common.{◌≡◌, sym, ◌∙◌, codes}
+use Rattle.std.proofs.Common.{sym, ◌∙◌, codes}
 use Rattle.std.proofs.lemmas.Slice.Eq.{bytes_eq-Decides}
 use Rattle.engine_options.proofs.TwoWords.{two_words}
 use Rattle.engine_options.proofs.version.asks_version.Goals as goal

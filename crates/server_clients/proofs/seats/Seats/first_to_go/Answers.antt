@@ -16,16 +16,16 @@ loop-i-preserved g c =
     λ d. get_or_default seats c.loop-i.i d x below ∙ sym c.index.ensures in
     record {
       within = omega (arith, below);
-      first = first_next seats c.loop-i.i c.loop-i.first c.earlier-first.result c.idle_since-since.result x
-          c.earlier-first.ensures at c.loop-i.invariant.first c.idle_since-since.ensures;
+      first = first_next c.args.self.now.times c.args.now seats c.loop-i.i c.loop-i.first c.earlier-first.result c.goes_since-since.result x
+          c.earlier-first.ensures at c.loop-i.invariant.first c.goes_since-since.ensures;
     }
 
 pub returns-in-Some : goal.returns-in-Some
 returns-in-Some g c =
-    found_first c.args.self.now.seats.items c.loop-i.i c.loop-i.first _ c.in-Some.is
+    found_first c.args.self.now.times c.args.now c.args.self.now.seats.items c.loop-i.i c.loop-i.first _ c.in-Some.is
     (omega (arith, c.loop-i-test.false, c.len.ensures, c.loop-i.invariant.within)) c.loop-i.invariant.first
 
 pub returns-in-None : goal.returns-in-None
 returns-in-None g c =
-    found_none c.args.self.now.seats.items c.loop-i.i c.loop-i.first c.in-None.is
+    found_none c.args.self.now.times c.args.now c.args.self.now.seats.items c.loop-i.i c.loop-i.first c.in-None.is
     (omega (arith, c.loop-i-test.false, c.len.ensures, c.loop-i.invariant.within)) c.loop-i.invariant.first

@@ -7,6 +7,6 @@ returns g c = λ s h. record {
   known = c.known-known.ensures s h;
   wanted = c.wants_tick.ensures s h;
   drained_is = refl;
-  pending = c.has_pending.ensures s h;
+  stake = c.has_stake.ensures s h;
   resumes = c.resumes.ensures s h;
 }

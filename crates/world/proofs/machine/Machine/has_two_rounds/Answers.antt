@@ -1,4 +1,4 @@
-use Rattle.std.proofs.Common.{◌≡◌, ap, arith}
+use Rattle.std.proofs.Common.{ap, arith}
 use Rattle.std.proofs.lemmas.Bool.{false≢true}
 use Rattle.site_ids.specs.Ids.{BallotOf}
 use Rattle.node.proofs.Queueing.{le_is}

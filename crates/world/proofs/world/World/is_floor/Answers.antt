@@ -1,6 +1,5 @@
-use Rattle.std.proofs.Common.{◌≡◌, ◌+◌, ◌<◌, ◌≤◌, if◌then◌else◌, ℕ, Bool, true, false, List, Some, length, sym, subst, ◌∙◌, arith, rules}
-use Rattle.std.specs.Prelude.{◌↔◌, IsTrue, slice_get}
-use Rattle.site_ids.specs.Ids.{IsInstance}
+use Rattle.std.proofs.Common.{◌≡◌, ◌+◌, ◌<◌, ◌≤◌, if◌then◌else◌, ℕ, Bool, true, false, List, Some, length, sym, subst, arith, rules}
+use Rattle.std.specs.Prelude.{slice_get}
 use Rattle.node.proofs.Queueing.{le_is}
 use Rattle.world.specs.declared.machine.Machine.{Machine}
 use Rattle.world.specs.Worlds.{IsFloor}

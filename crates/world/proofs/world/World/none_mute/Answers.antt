@@ -1,12 +1,7 @@
 use Rattle.std.proofs.Common.{◌≡◌, ◌+◌, ◌≤◌, ℕ, sym, subst, ◌∙◌, refl, arith}
 use Rattle.std.proofs.lemmas.Bool.{false≢true}
-use Rattle.std.specs.Prelude.{◌↔◌, IsTrue}
 use Rattle.site_ids.specs.Ids.{IsNode}
-use Rattle.node.specs.Nodes.{IsMute}
 use Rattle.node.proofs.Queueing.{is_true, true_is}
-use Rattle.world.specs.Worlds.{World}
-use Rattle.world.specs.Standing.{IsWorldOf}
-use Rattle.world.specs.Quiet.{AllRun}
 use Rattle.world.proofs.Asked.{machine_at}
 use Rattle.world.proofs.AllQuiet.{none_spoke, one_speaks}
 use Rattle.world.proofs.world.World.none_mute.Goals as goal

@@ -1,0 +1,14 @@
+//! The words that ask what a record holds.
+ghost use Rattle.std.specs.Prelude.{MatchOption, List, ℕ};
+ghost use Rattle.engine_options.specs.Options.{words_of};
+ghost use Rattle.engine_options.specs.Inspections.{AskInspection};
+
+/// The file of a record, where the words are a program's name, `--inspect` and that file alone.
+pub fn inspected(words: &[String]) -> Option<&str>
+    ensures { MatchOption result ((file : List ℕ) → ¬ AskInspection file (words_of words.entry.now)) (λ file. AskInspection file.now (words_of words.entry.now)) }
+{
+    match words {
+        [_, word, file] if word.as_str() == "--inspect" => Some(file.as_str()),
+        _ => None,
+    }
+}

@@ -1,0 +1,26 @@
+-- What an empty or absent file of a record becomes.
+use Rattle.std.specs.Prelude.{◌≡◌, ◌⊎◌, ℕ, List, [], map, length, true, false}
+use Rattle.server_floor.specs.Floors.{NamesFloor, RefusesWords}
+use Rattle.server_floor.specs.declared.fault.FloorFault.{FloorFault}
+use Rattle.server_faults.specs.declared.server_fault.ServerFault.{ServerFault}
+use Rattle.server_faults.specs.declared.server_fault.ServerFault.TheVariants as server_fault
+use Rattle.server_faults.specs.declared.serve_options.ServeOptions.{ServeOptions}
+use Rattle.server.specs.declared.making.Making.{Making}
+use Rattle.server.specs.declared.making.Making.TheVariants.{Nothing, Empty, Above}
+
+-- what the options tell of the reaches of others
+abbrev pub told_by : ServeOptions → List (List ℕ)
+told_by o = map (λ text. text.now) o.above.items
+
+-- the record of a floor where reaches are told, which give it; else an empty one where that is asked
+abbrev pub Makes : ServeOptions → Making → Type 0
+Makes o Nothing = (o.above.items ≡ []) × (o.format ≡ false)
+Makes o Empty = (o.above.items ≡ []) × (o.format ≡ true)
+Makes o (Above floor) = NamesFloor (length o.peers.items) o.id (told_by o) floor
+
+-- the reaches give none
+abbrev pub HasNoFloor : ServeOptions → ServerFault → Type 0
+HasNoFloor o why = (fault : FloorFault) × (why ≡ server_fault.BadFloor fault) × RefusesWords (length o.peers.items) o.id (told_by o) fault
+
+abbrev pub MakesNone : ServeOptions → ServerFault → Type 0
+MakesNone o why = HasNoFloor o why ⊎ (why ≡ server_fault.OutOfMemory)

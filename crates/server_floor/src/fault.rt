@@ -1,0 +1,30 @@
+//! Why reaches give no floor.
+
+use std::alloc::AllocError;
+
+/// Why reaches give no floor: the first of these that fits.
+#[derive(Clone, Copy, Debug, Drop, PartialEq, Eq)]
+pub enum FloorFault {
+    OutOfMemory,
+    /// A word is no node and its reach.
+    NotTold,
+    /// A node is none of the group, or is the one in whose place the record is made.
+    NotAnother,
+    /// A node was asked twice.
+    Twice,
+    /// Those asked are no majority of the group.
+    TooFew,
+    /// No instance is so far above the furthest reach.
+    TooFar,
+}
+
+impl From<AllocError> for FloorFault {
+    ghost use Rattle.std.specs.Prelude.{◌≡◌};
+    ghost use Rattle.server_floor.specs.declared.fault.FloorFault.TheVariants.{OutOfMemory};
+
+    ghost from_gives = { λ _ e. e ≡ OutOfMemory };
+
+    fn from(_refused: AllocError) -> FloorFault {
+        FloorFault::OutOfMemory
+    }
+}

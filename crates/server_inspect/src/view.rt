@@ -1,0 +1,96 @@
+//! What is told of a record.
+
+ghost use Rattle.std.specs.Prelude.{◌≡◌, IfOk, IfErr, length, List};
+ghost use Rattle.site_disk.specs.Model.{DiskState};
+ghost use Rattle.durable.specs.Entries.{Entry};
+ghost use Rattle.durable.specs.Reading.{IsKept};
+ghost use Rattle.durable.specs.Standing.{StandsFor};
+ghost use Rattle.server_inspect.specs.Views.{IsViewOf, IsRefused, Names};
+
+use crate::counting::count;
+use durable::{Record, RecordFault};
+use site_disk::Disk;
+use site_ids::{Cluster, MAX_INSTANCE, NodeId};
+use std::alloc::Global;
+
+const MARK: [u8; 8] = *b"SITEREC1";
+
+/// What is told of a record: whose it is, and what its entries come to.
+#[derive(Clone, Copy, Drop)]
+pub struct View {
+    pub node: NodeId,
+    /// How many nodes its group has.
+    pub nodes: Cluster,
+    /// At how many instances it has a vote.
+    pub votes: u32,
+    /// At how many instances it has a learned value.
+    pub learned: u32,
+    /// The last instance at which it has either; 0 where it has neither.
+    pub last: u32,
+    /// Its floor, where it took a lost record's place, and else 0.
+    pub floor: u32,
+    /// The greatest instance of a vote, or the floor where that is greater; 0 where it has neither.
+    pub reach: u32,
+    /// The length of its file.
+    pub bytes: u64,
+}
+
+/// The length of a file, and the node and the group that its head names.
+fn head<D: Disk>(disk: &mut D) -> Result<(u64, NodeId, Cluster), RecordFault>
+    ensures state { (d : DiskState) → D.stands_for disk.old d → D.stands_for disk.new d }
+    ensures named { IfOk result (λ p. (d : DiskState) → D.stands_for disk.old d → (p.0 ≡ length d.seen) × Names p.1 p.2 d.seen) }
+    ensures fault { IfErr result (λ fault. (d : DiskState) → D.stands_for disk.old d → IsRefused fault d.seen) }
+{
+    let bytes = disk.len()?;
+    if bytes < 11 {
+        return Err(RecordFault::NotARecord);
+    }
+    let mut head = [0; 10];
+    disk.read_at(0, &mut head)?;
+    if !head.starts_with(&MARK) {
+        return Err(RecordFault::NotARecord);
+    }
+    let Some(nodes) = Cluster::new(head[9]) else {
+        return Err(RecordFault::WrongNode);
+    };
+    match nodes.node(head[8]) {
+        Some(node) => Ok((bytes, node, nodes)),
+        None => Err(RecordFault::WrongNode),
+    }
+}
+
+impl View {
+    /// What a record has that was opened over a file of so many bytes.
+    fn of_record<D: Disk>(record: &Record<D>, node: NodeId, nodes: Cluster, bytes: u64) -> View
+        ensures view { (entries : List Entry) → IsKept entries record.now.recorded → IsViewOf entries result }
+        ensures whose { (result.node ≡ node) × (result.nodes ≡ nodes) × (result.bytes ≡ bytes) }
+    {
+        let counts = count(record, MAX_INSTANCE);
+        View {
+            node,
+            nodes,
+            votes: counts.votes,
+            learned: counts.learned,
+            last: counts.last,
+            floor: record.floor(),
+            reach: record.reach(),
+            bytes,
+        }
+    }
+
+    /// What is told of the record on a disk. A refusal gives the disk back.
+    pub fn of<D: Disk + Drop>(alloc: Global, disk: D) -> Result<View, (RecordFault, D)>
+        ensures viewed { IfOk result (λ v. (entries : List Entry) × IsViewOf entries v × ((d : DiskState) → D.stands_for disk d → StandsFor v.node v.nodes d.seen entries × (v.bytes ≡ length d.seen))) }
+        ensures refused { IfErr result (λ p. (d : DiskState) → D.stands_for disk d → IsRefused p.0 d.seen) }
+    {
+        let mut disk = disk;
+        let (bytes, node, nodes) = match head(&mut disk) {
+            Ok(named) => named,
+            Err(fault) => return Err((fault, disk)),
+        };
+        match Record::open(alloc, nodes, node, disk) {
+            Ok(record) => Ok(View::of_record(&record, node, nodes, bytes)),
+            Err(refused) => Err(refused),
+        }
+    }
+}
