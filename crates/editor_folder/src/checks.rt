@@ -2,7 +2,7 @@
 //! nowhere, partials that aren't there, and paths that readers take for one.
 ghost use Rattle.editor_folder.specs.Texts.{AreCommands};
 
-use crate::finding::Finding;
+use crate::finding::{Finding, Weight};
 use crate::folder::{Reading, Redirect, Route, key_of};
 use crate::place::Place;
 use crate::reasons::{line_fault, warning_in};
@@ -220,9 +220,15 @@ impl Reading {
             .find(|part| !part.is_empty() && !self.keys.contains(*part))
     }
 
-    /// Warns of names that no data have, where the folder has data.
+    /// Whether a file of data has a fault, so that not all keys are known.
+    fn lacks_keys(&self) -> bool {
+        self.folder.findings.iter().any(|found| found.weight == Weight::Fault
+            && found.file.as_str().starts_with("data/"))
+    }
+
+    /// Warns of names that no data have, where the folder has data, and all of them could be read.
     fn check_names(&self, findings: &mut Vec<Finding>) -> Result<(), AllocError> {
-        if !self.has_data {
+        if !self.has_data || self.lacks_keys() {
             return Ok(());
         }
         for tag in self.names.iter() {

@@ -213,11 +213,12 @@ fn files_that_are_passed_over(rt: HostRuntime) {
     }
 }
 
-/// Files with faults of every sort, and the lines that they are told by.
+/// Files with faults of every sort, and the lines that they are told by. Of names nothing is told, as not all data could
+/// be read.
 const FAULTY: &[(&str, &[u8])] = &[
     ("data/b.json", b"[1,]"),
     ("data/c.json", b"{}"),
-    ("partials/q.mustache", b"{{>p}}\n {{>q}}{{>p}}"),
+    ("partials/q.mustache", b"{{>p}}\n {{>q}}{{>p}}{{name}}"),
     ("routes", b"/ t b\n/a u c\n/a/ u c\n/ u d\n"),
     ("templates/t.mustache", b"{{/x}}"),
 ];
