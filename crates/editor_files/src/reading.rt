@@ -101,7 +101,10 @@ fn tell_more<E: Write>(
         let more = count.saturating_sub(TOLD);
         if more > 0 {
             let reason = reason.as_str();
-            say_made(err, format!(in alloc; "{folder}: and {more} more: {reason}"))?;
+            say_made(
+                err,
+                format!(in alloc; "{folder}: and {more} more: {reason}"),
+            )?;
         }
     }
     Ok(())

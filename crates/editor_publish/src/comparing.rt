@@ -123,7 +123,10 @@ fn tell_more<E: Write>(
     if more == 0 {
         return Ok(());
     }
-    say_made(err, format!(in alloc; "{url}/@{release}/: and {more} more pages"))
+    say_made(
+        err,
+        format!(in alloc; "{url}/@{release}/: and {more} more pages"),
+    )
 }
 
 /// Tells each page that was not answered as it is wanted. Whether there is one is the answer.
