@@ -100,6 +100,17 @@ impl Search {
         Ok(())
     }
 
+    /// Puts what is no part of a site: a folder where a file of one would be has a slash after its name.
+    fn put_other(&mut self, alloc: Global, path: &str) -> Result<(), AllocError> {
+        let path = if is_of_site(path) {
+            format!(in alloc; "{path}/")?
+        } else {
+            String::from_str(alloc, path)?
+        };
+        drop(self.files.insert(path, Vec::new(alloc))?);
+        Ok(())
+    }
+
     fn put(&mut self, alloc: Global, path: &str, bytes: Vec<u8>) -> Result<(), AllocError> {
         drop(self.files.insert(String::from_str(alloc, path)?, bytes)?);
         Ok(())
@@ -118,7 +129,7 @@ fn take_at<R: Files + AllocGlobal>(
         Kind::Part => search.put_off(alloc, path)?,
         Kind::Site => search.put(alloc, path, at(alloc, whole, fs::read(rt, whole))?)?,
         Kind::Other if search.ignore => search.pass_over(),
-        Kind::Other => search.put(alloc, path, Vec::new(alloc))?,
+        Kind::Other => search.put_other(alloc, path)?,
     }
     Ok(())
 }

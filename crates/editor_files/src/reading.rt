@@ -1,56 +1,25 @@
 //! A folder read, and what is wrong with it told.
 use crate::files::files_of;
-use editor_common::{EditorFault, say};
+use editor_common::{EditorFault, say_made};
 use editor_folder::{Finding, Folder, Page, Weight, folder_of, page_faults, pages_of};
 use std::alloc::{AllocError, Global};
+use std::collections::BTreeMap;
 use std::io::Write;
 use std::rt::Files;
 
-/// Writes what is wrong with a folder, as one line.
-fn tell<E: Write>(
-    alloc: Global,
-    err: &mut E,
-    folder: &str,
-    finding: &Finding,
-) -> Result<(), EditorFault> {
-    let line = format!(in alloc; "{folder}/{finding}")?;
-    say(err, line.as_str())
-}
+/// So many findings of one reason are told, and then how many more there are.
+const TOLD: usize = 10;
 
-/// Writes all that is wrong with a folder, or with its pages. Whether a fault is among it is the answer.
-fn tell_all<E: Write>(
-    alloc: Global,
-    err: &mut E,
-    folder: &str,
-    findings: &[Finding],
-) -> Result<bool, EditorFault> {
-    let mut bad = false;
-    for finding in findings {
-        tell(alloc, err, folder, finding)?;
-        bad = bad || finding.weight == Weight::Fault;
-    }
-    Ok(bad)
-}
-
-/// Writes how many files and folders were passed over, if any.
-fn tell_passed_over<E: Write>(
-    alloc: Global,
-    err: &mut E,
-    folder: &str,
-    count: usize,
-) -> Result<(), EditorFault> {
-    if count == 0 {
-        return Ok(());
-    }
-    let noun = if count == 1 {
-        "file or folder"
-    } else {
-        "files and folders"
-    };
-    let line = format!(in alloc;
-        "{folder}: {count} {noun} passed over: names with a dot before or a ~ behind, README, and by --ignore others"
-    )?;
-    say(err, line.as_str())
+/// A folder as it was read.
+#[derive(Drop)]
+pub struct Read {
+    pub folder: Folder,
+    /// Its pages, where its files have no fault.
+    pub pages: Vec<Page>,
+    /// What is wrong with its files, and then with its pages.
+    pub findings: Vec<Finding>,
+    /// How many files and folders were passed over.
+    pub passed_over: usize,
 }
 
 /// A folder without a fault, and its pages.
@@ -60,34 +29,101 @@ pub struct Clean {
     pub pages: Vec<Page>,
 }
 
-/// Reads the files of a folder, and what they say.
-fn read_files<R: Files + AllocGlobal + Clone + Drop, E: Write>(
-    rt: &R,
-    err: &mut E,
-    name: &str,
-    ignore: bool,
-) -> Result<Folder, EditorFault> {
-    let found = files_of(rt, name, ignore)?;
-    tell_passed_over(rt.alloc(), err, name, found.passed_over)?;
-    Ok(folder_of(rt.alloc(), &found.files)?)
+fn is_fault(finding: &Finding) -> bool {
+    finding.weight == Weight::Fault
 }
 
-/// The pages of a folder; nothing where it or one of them has a fault. All that is wrong is told.
-fn clean_pages<E: Write>(
+fn has_fault(findings: &[Finding]) -> bool {
+    findings.iter().any(|finding| is_fault(finding))
+}
+
+impl Read {
+    /// Whether it can't be published.
+    pub fn has_fault(&self) -> bool {
+        has_fault(&self.findings)
+    }
+}
+
+/// The pages of a folder whose files have no fault, and what is wrong with them is added.
+fn read_pages(
     alloc: Global,
-    err: &mut E,
-    name: &str,
     folder: &Folder,
-) -> Result<Option<Vec<Page>>, EditorFault> {
-    if tell_all(alloc, err, name, &folder.findings)? {
-        return Ok(None);
+    findings: &mut Vec<Finding>,
+) -> Result<Vec<Page>, AllocError> {
+    if has_fault(findings.as_slice()) {
+        return Ok(Vec::new(alloc));
     }
     let pages = pages_of(alloc, folder)?;
-    let faults = page_faults(alloc, folder, &pages)?;
-    if tell_all(alloc, err, name, &faults)? {
-        return Ok(None);
+    let mut faults = page_faults(alloc, folder, &pages)?;
+    findings.append(&mut faults)?;
+    Ok(pages)
+}
+
+/// Reads a folder. What is wrong with it is not told.
+pub fn read_folder<R: Files + AllocGlobal + Clone + Drop>(
+    rt: &R,
+    name: &str,
+    ignore: bool,
+) -> Result<Read, EditorFault> {
+    let alloc = rt.alloc();
+    let found = files_of(rt, name, ignore)?;
+    let mut folder = folder_of(alloc, &found.files)?;
+    let mut findings = Vec::new(alloc);
+    findings.append(&mut folder.findings)?;
+    let pages = read_pages(alloc, &folder, &mut findings)?;
+    Ok(Read {
+        folder,
+        pages,
+        findings,
+        passed_over: found.passed_over,
+    })
+}
+
+/// How often each reason came, counted with one more.
+fn count(
+    alloc: Global,
+    counts: &mut BTreeMap<String, usize>,
+    reason: &str,
+) -> Result<usize, AllocError> {
+    let count = counts.get(reason).copied().unwrap_or(0).saturating_add(1);
+    drop(counts.insert(String::from_str(alloc, reason)?, count)?);
+    Ok(count)
+}
+
+/// Writes how many findings more each reason has than were told.
+fn tell_more<E: Write>(
+    alloc: Global,
+    err: &mut E,
+    folder: &str,
+    counts: &BTreeMap<String, usize>,
+) -> Result<(), EditorFault> {
+    for (reason, count) in counts.iter() {
+        let more = count.saturating_sub(TOLD);
+        if more > 0 {
+            let reason = reason.as_str();
+            say_made(
+                err,
+                format!(in alloc; "{folder}: and {more} more: {reason}"),
+            )?;
+        }
     }
-    Ok(Some(pages))
+    Ok(())
+}
+
+/// Writes what is wrong with a folder, a line each; of many with one reason the first, and how many more there are.
+pub fn tell_findings<E: Write>(
+    alloc: Global,
+    err: &mut E,
+    folder: &str,
+    findings: &[Finding],
+) -> Result<(), EditorFault> {
+    let mut counts = BTreeMap::new(alloc);
+    for finding in findings {
+        if count(alloc, &mut counts, finding.reason.as_str())? <= TOLD {
+            say_made(err, format!(in alloc; "{folder}/{finding}"))?;
+        }
+    }
+    tell_more(alloc, err, folder, &counts)
 }
 
 /// Reads a folder, and tells all that is wrong with it; nothing where that is a fault.
@@ -97,11 +133,15 @@ pub fn read_clean<R: Files + AllocGlobal + Clone + Drop, E: Write>(
     name: &str,
     ignore: bool,
 ) -> Result<Option<Clean>, EditorFault> {
-    let folder = read_files(rt, err, name, ignore)?;
-    match clean_pages(rt.alloc(), err, name, &folder)? {
-        Some(pages) => Ok(Some(Clean { folder, pages })),
-        None => Ok(None),
+    let read = read_folder(rt, name, ignore)?;
+    tell_findings(rt.alloc(), err, name, &read.findings)?;
+    if read.has_fault() {
+        return Ok(None);
     }
+    Ok(Some(Clean {
+        folder: read.folder,
+        pages: read.pages,
+    }))
 }
 
 /// The texts of a folder's commands, which are UTF-8.

@@ -6,8 +6,8 @@ use editor_ledger::Ledger;
 use editor_plan::{Ask, Flight, Heard};
 use std::alloc::AllocError;
 
-/// A ledger whose folder has it in its file, but for receipts that came since: what is on its way may be sent.
-/// `save` alone makes one, so no text is sent under a ticket of which the file does not know.
+/// A ledger whose folder has it in its file, but for receipts that came since: what is on its way may be
+/// sent. `save` alone makes one, so no text is sent under a ticket of which the file does not know.
 #[derive(Drop)]
 pub struct Saved<'a> {
     pub(crate) ledger: &'a mut Ledger,
@@ -20,7 +20,8 @@ impl Saved<'_> {
         self.ledger
     }
 
-    /// Hears the status of an answer: a receipt takes its command off its way, and nothing else changes the ledger.
+    /// Hears the status of an answer: a receipt takes its command off its way, and nothing else changes the
+    /// ledger.
     pub fn hear(&mut self, flight: &mut Flight, ask: Ask, status: u16) -> Result<Heard, AllocError>
         ensures heard { IfOk result (λ heard. heard ≡ heard_of ask status) }
         ensures ledger { OnOk result (self.new.ledger.now ≡ after_hearing ask status self.old.ledger.now) }

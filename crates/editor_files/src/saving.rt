@@ -66,7 +66,8 @@ fn replace<R: Files>(rt: &R, folder: &str, fresh: &str, path: &str, text: &str) 
     File::open(rt, folder)?.sync_all()
 }
 
-/// Saves a folder's ledger: the file is the one before, or the whole of this one, whenever it is interrupted, and this one once it is saved.
+/// Saves a folder's ledger: the file is the one before, or the whole of this one, whenever it is interrupted,
+/// and this one once it is saved.
 pub fn save<'a, R: Files + AllocGlobal>(
     rt: &R,
     folder: &str,

@@ -1,4 +1,5 @@
-/// The files of a small site to start from, each with its path: a layout by two partials, a start page with a list, an about page, and a style.
+/// The files of a small site to start from, each with its path: a layout by two partials, a start page with a
+/// list, an about page, and a style.
 pub const BEGINNING: [(&str, &str); 8] = [
     (
         "data/about.json",

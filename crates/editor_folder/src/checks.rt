@@ -1,13 +1,16 @@
-//! What is wrong with a folder beyond its files: routes that name what isn't there, redirects that lead nowhere, partials that aren't there, and paths
-//! that readers take for one.
+//! What is wrong with a folder beyond its files: routes that name what isn't there, redirects that lead
+//! nowhere, partials that aren't there, and paths that readers take for one.
 ghost use Rattle.editor_folder.specs.Texts.{AreCommands};
 
-use crate::finding::Finding;
-use crate::folder::{PartialCall, Reading, Redirect, Route, key_of};
+use crate::finding::{Finding, Weight};
+use crate::folder::{Reading, Redirect, Route, key_of};
 use crate::place::Place;
 use crate::reasons::{line_fault, warning_in};
+use crate::tags::TagName;
+use crate::unreached::mark_in;
 use command::Kind;
 use std::alloc::{AllocError, Global};
+use std::collections::BTreeMap;
 
 /// A route's template isn't there.
 fn missing_template(alloc: Global, route: &Route) -> Result<Finding, AllocError> {
@@ -29,20 +32,48 @@ fn missing_data(alloc: Global, route: &Route) -> Result<Finding, AllocError> {
 fn two_paths(alloc: Global, route: &Route, bare: &str) -> Result<Finding, AllocError> {
     let path = route.path.as_str();
     let reason = format!(in alloc; "{path} and {bare} are two paths, which readers take for one")?;
-    let place = Place {
-        line: route.line,
-        column: 1,
-    };
-    warning_in(alloc, "routes", place, reason)
+    line_warning(alloc, "routes", route.line, reason)
 }
 
 /// A partial that is called isn't there.
-fn missing_partial(alloc: Global, call: &PartialCall) -> Result<Finding, AllocError> {
+fn missing_partial(alloc: Global, call: &TagName) -> Result<Finding, AllocError> {
     let name = call.name.as_str();
     let reason = format!(in alloc;
         "there is no partials/{name}.mustache, so nothing is printed here"
     )?;
     warning_in(alloc, call.file.as_str(), call.place, reason)
+}
+
+/// No data have a name.
+fn missing_name(alloc: Global, tag: &TagName, name: &str) -> Result<Finding, AllocError> {
+    let reason = format!(in alloc; "no data of this folder have the name `{name}`")?;
+    warning_in(alloc, tag.file.as_str(), tag.place, reason)
+}
+
+/// That a target leads in a circle, where it does: after as many steps as there are redirects one came twice.
+fn circle(
+    alloc: Global,
+    targets: &BTreeMap<String, String>,
+    target: &str,
+) -> Result<Option<String>, AllocError> {
+    let mut at = target;
+    for _ in 0..=targets.len() {
+        match targets.get(at) {
+            Some(next) => at = next.as_str(),
+            None => return Ok(None),
+        }
+    }
+    Ok(Some(format!(in alloc; "{target} leads in a circle, so browsers give up")?))
+}
+
+/// A warning of a line of `routes` or `redirects`.
+fn line_warning(
+    alloc: Global,
+    file: &str,
+    line: usize,
+    reason: String,
+) -> Result<Finding, AllocError> {
+    warning_in(alloc, file, Place { line, column: 1 }, reason)
 }
 
 impl Reading {
@@ -54,7 +85,9 @@ impl Reading {
         self.check_routes(&mut findings)?;
         self.check_redirects(&mut findings)?;
         self.check_slashes(&mut findings)?;
+        self.check_marks(&mut findings)?;
         self.check_calls(&mut findings)?;
+        self.check_names(&mut findings)?;
         self.folder.findings.append(&mut findings)
     }
 
@@ -83,32 +116,76 @@ impl Reading {
         Ok(())
     }
 
+    /// Where redirects lead, by their paths; those whose paths have a route left out.
+    fn targets(&self) -> Result<BTreeMap<String, String>, AllocError> {
+        let mut targets = BTreeMap::new(self.alloc);
+        for redirect in self.folder.redirects.iter() {
+            if !self.has_route(redirect.path.as_str())? {
+                let (path, target) = (redirect.path.clone()?, redirect.target.clone()?);
+                drop(targets.insert(path, target)?);
+            }
+        }
+        Ok(targets)
+    }
+
+    fn has_route(&self, path: &str) -> Result<bool, AllocError> {
+        Ok(self.line_of(Kind::Route, path)?.is_some())
+    }
+
+    /// Why a target is no page of the folder, and leads to none.
+    fn lost(
+        &self,
+        targets: &BTreeMap<String, String>,
+        target: &str,
+    ) -> Result<Option<String>, AllocError> {
+        if self.has_route(target)? {
+            return Ok(None);
+        }
+        if targets.contains_key(target) {
+            return circle(self.alloc, targets, target);
+        }
+        if let Some(reason) = mark_in(self.alloc, target)? {
+            return Ok(Some(reason));
+        }
+        Ok(Some(format!(in self.alloc; "no route of this folder has the path {target}")?))
+    }
+
     /// Why nobody follows a redirect, as its path has a route, or why it leads to no page of the folder.
-    fn astray(&self, redirect: &Redirect) -> Result<Option<String>, AllocError> {
+    fn astray(
+        &self,
+        targets: &BTreeMap<String, String>,
+        redirect: &Redirect,
+    ) -> Result<Option<String>, AllocError> {
         let path = redirect.path.as_str();
-        let target = redirect.target.as_str();
         if let Some(line) = self.line_of(Kind::Route, path)? {
             return Ok(Some(format!(in self.alloc;
                 "{path} has a route too, in line {line} of routes: its page is shown, and nobody is led on"
             )?));
         }
-        if self.line_of(Kind::Route, target)?.is_none() {
-            return Ok(Some(format!(in self.alloc;
-                "no route of this folder has the path {target}"
-            )?));
-        }
-        Ok(None)
+        self.lost(targets, redirect.target.as_str())
     }
 
     /// Warns of redirects that nobody follows, and of those that lead to no page of the folder.
     fn check_redirects(&self, findings: &mut Vec<Finding>) -> Result<(), AllocError> {
+        let targets = self.targets()?;
         for redirect in self.folder.redirects.iter() {
-            if let Some(reason) = self.astray(redirect)? {
-                let place = Place {
-                    line: redirect.line,
-                    column: 1,
-                };
-                findings.push(warning_in(self.alloc, "redirects", place, reason)?)?;
+            if let Some(reason) = self.astray(&targets, redirect)? {
+                findings.push(line_warning(self.alloc, "redirects", redirect.line, reason)?)?;
+            }
+        }
+        Ok(())
+    }
+
+    /// Warns of paths that a link has to spell otherwise.
+    fn check_marks(&self, findings: &mut Vec<Finding>) -> Result<(), AllocError> {
+        for route in self.folder.routes.iter() {
+            if let Some(reason) = mark_in(self.alloc, route.path.as_str())? {
+                findings.push(line_warning(self.alloc, "routes", route.line, reason)?)?;
+            }
+        }
+        for redirect in self.folder.redirects.iter() {
+            if let Some(reason) = mark_in(self.alloc, redirect.path.as_str())? {
+                findings.push(line_warning(self.alloc, "redirects", redirect.line, reason)?)?;
             }
         }
         Ok(())
@@ -132,6 +209,31 @@ impl Reading {
         for call in self.calls.iter() {
             if self.line_of(Kind::Partial, call.name.as_str())?.is_none() {
                 findings.push(missing_partial(self.alloc, call)?)?;
+            }
+        }
+        Ok(())
+    }
+
+    /// The first part of a name that no data have.
+    fn lacking<'a>(&self, name: &'a str) -> Option<&'a str> {
+        name.split('.')
+            .find(|part| !part.is_empty() && !self.keys.contains(*part))
+    }
+
+    /// Whether a file of data has a fault, so that not all keys are known.
+    fn lacks_keys(&self) -> bool {
+        self.folder.findings.iter().any(|found| found.weight == Weight::Fault
+            && found.file.as_str().starts_with("data/"))
+    }
+
+    /// Warns of names that no data have, where the folder has data, and all of them could be read.
+    fn check_names(&self, findings: &mut Vec<Finding>) -> Result<(), AllocError> {
+        if !self.has_data || self.lacks_keys() {
+            return Ok(());
+        }
+        for tag in self.names.iter() {
+            if let Some(name) = self.lacking(tag.name.as_str()) {
+                findings.push(missing_name(self.alloc, tag, name)?)?;
             }
         }
         Ok(())

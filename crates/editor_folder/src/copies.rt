@@ -39,7 +39,8 @@ fn names_file(path: &str) -> bool {
     ENDINGS.iter().any(|ending| path.ends_with(*ending))
 }
 
-/// The file of a page without regard to others: `index.html` for `/`, `a/index.html` for `/a` and `/a/`, `a.css` for `/a.css`.
+/// The file of a page without regard to others: `index.html` for `/`, `a/index.html` for `/a` and `/a/`,
+/// `a.css` for `/a.css`.
 fn file_of(alloc: Global, path: &str) -> Result<Option<String>, AllocError> {
     let below = path.strip_prefix('/').unwrap_or(path);
     let bare = below.strip_suffix('/').unwrap_or(below);

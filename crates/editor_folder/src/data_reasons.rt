@@ -49,6 +49,16 @@ fn is_start(b: u8) -> bool {
     matches!(b, b'"' | b'{' | b'[' | b'-' | b'0'..=b'9' | b'a'..=b'z' | b'A'..=b'Z')
 }
 
+/// Whether a value or a key is wanted after the byte.
+fn is_open(b: u8) -> bool {
+    matches!(b, b'{' | b'[' | b',' | b':')
+}
+
+/// What no key or text begins with: `true`, `false` and `null` begin so.
+fn is_word(b: u8) -> bool {
+    matches!(b, b'a'..=b'z' | b'A'..=b'Z' | b'_') && !matches!(b, b't' | b'f' | b'n')
+}
+
 /// Why a byte can't stand behind what stands before it.
 fn reason_at(alloc: Global, before: u8, here: u8) -> Result<String, AllocError> {
     let reason = match (before, here) {
@@ -56,11 +66,9 @@ fn reason_at(alloc: Global, before: u8, here: u8) -> Result<String, AllocError> 
         (b',', b',') => "no JSON: one comma too many",
         (_, b'\'') => "no JSON: texts and keys stand between double quotes",
         (_, b'/' | b'#') => "no JSON: there are no comments",
-        (_, b'\n' | b'\r' | b'\t') => {
-            "no JSON: a text holds no line break and no tab: write \\n or \\t, or close it with a double quote"
-        }
+        (before, here) if is_open(before) && is_word(here) => NO_QUOTE,
         (before, here) if is_end(before) && is_start(here) => {
-            "no JSON: a comma is missing before this, or a colon behind a key"
+            "no JSON: a comma is missing before this, or a colon after a key"
         }
         (_, here) if (33..127).contains(&here) => {
             let c = char::from(here);
@@ -71,9 +79,72 @@ fn reason_at(alloc: Global, before: u8, here: u8) -> Result<String, AllocError> 
     String::from_str(alloc, reason)
 }
 
+/// What texts and keys stand between.
+const NO_QUOTE: &str = "no JSON: texts and keys stand between double quotes";
+
+/// The quotes of word processors.
+const QUOTES: [&str; 7] = [
+    "\u{201c}", "\u{201d}", "\u{201e}", "\u{2018}", "\u{2019}", "\u{ab}", "\u{bb}",
+];
+
+/// The quote of a word processor that stands at the front.
+fn quote_at(bytes: &[u8]) -> Option<&'static str> {
+    QUOTES
+        .iter()
+        .copied()
+        .find(|quote| bytes.starts_with(quote.as_bytes()))
+}
+
 fn slip_at(alloc: Global, at: usize, reason: &str) -> Result<Slip, AllocError> {
     let reason = String::from_str(alloc, reason)?;
     Ok(Slip { at, reason })
+}
+
+/// Whether what follows a backslash in a text is an escape.
+fn is_escape(behind: &[u8]) -> bool {
+    match behind {
+        [b'u', a, b, c, d, ..] => [*a, *b, *c, *d]
+            .iter()
+            .all(|digit| digit.is_ascii_hexdigit()),
+        [b'"' | b'\\' | b'/' | b'b' | b'f' | b'n' | b'r' | b't', ..] => true,
+        _ => false,
+    }
+}
+
+/// Why a text of JSON can't hold what stands at a byte; nothing where it can.
+fn wrong_within(inside: Inside, behind: &[u8]) -> Option<&'static str> {
+    match (inside, behind.first()) {
+        (_, Some(0..=31)) => {
+            Some(
+                "no JSON: a text holds no line break and no tab: write \\n or \\t, or close it with a double quote",
+            )
+        }
+        (Inside::Text, Some(b'\\')) if !is_escape(behind.get(1..).unwrap_or(&[])) => {
+            Some(
+                "no JSON: a backslash stands before one of \" \\ / b f n r t, or u and four digits: write \\\\ for itself",
+            )
+        }
+        _ => None,
+    }
+}
+
+/// Why the text is none that begins at a byte; nothing where none begins there, or it is one.
+fn text_slip(alloc: Global, bytes: &[u8], from: usize) -> Result<Option<Slip>, AllocError> {
+    if bytes.get(from) != Some(&b'"') {
+        return Ok(None);
+    }
+    let mut inside = Inside::Nothing;
+    for at in from..bytes.len() {
+        if let Some(reason) = wrong_within(inside, &bytes[at..]) {
+            return Ok(Some(slip_at(alloc, at, reason)?));
+        }
+        inside = step(inside, bytes[at]);
+        if inside == Inside::Nothing {
+            return Ok(None);
+        }
+    }
+    let reason = "no JSON: the file ends within a text: a double quote is missing";
+    Ok(Some(slip_at(alloc, bytes.len(), reason)?))
 }
 
 /// Why bytes are no JSON that a parser refuses at a place.
@@ -88,11 +159,17 @@ fn refused_at(
     let at = start
         .saturating_add(column.saturating_sub(1))
         .min(bytes.len());
+    if let Some(slip) = text_slip(alloc, bytes, at)? {
+        return Ok(slip);
+    }
     if is_end || at == bytes.len() {
         let reason = "no JSON: the file ends too early: a `}`, a `]` or a double quote is missing";
         return slip_at(alloc, bytes.len(), reason);
     }
-    let reason = reason_at(alloc, last_of(&bytes[..at]), bytes[at])?;
+    let reason = match quote_at(&bytes[at..]) {
+        Some(quote) => format!(in alloc; "{NO_QUOTE} (`\"`), and this is `{quote}`")?,
+        None => reason_at(alloc, last_of(&bytes[..at]), bytes[at])?,
+    };
     Ok(Slip { at, reason })
 }
 
@@ -123,13 +200,14 @@ fn is_whole(number: &str) -> bool {
 
 /// Where the reading of a text of JSON is: outside of its texts, in one, or behind a backslash in one.
 #[derive(Clone, Copy, PartialEq, Eq)]
-enum Inside {
+pub(crate) enum Inside {
     Nothing,
     Text,
     Escape,
 }
 
-fn step(inside: Inside, b: u8) -> Inside {
+/// Where it is after the byte.
+pub(crate) fn step(inside: Inside, b: u8) -> Inside {
     match (inside, b) {
         (Inside::Nothing, b'"') => Inside::Text,
         (Inside::Nothing, _) => Inside::Nothing,

@@ -10,8 +10,8 @@ pub enum Weight {
     Warning,
 }
 
-/// What is wrong with a folder: in which file, where in it if that is known, why and what to do, and the line of fault by which the formats call it, if
-/// they do.
+/// What is wrong with a folder: in which file, where in it if that is known, why and what to do, and the line
+/// of fault by which the formats call it, if they do.
 #[derive(Drop)]
 pub struct Finding {
     pub weight: Weight,

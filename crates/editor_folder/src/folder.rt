@@ -5,16 +5,18 @@ ghost use Rattle.editor_folder.specs.Texts.{IsCommandText, AreCommands};
 use crate::file::SiteFile;
 use crate::finding::Finding;
 use crate::judging::{Refusal, refused};
+use crate::keys::keys_of;
 use crate::lines::{
     Line, RedirectLine, RouteLine, kind_word, lines_in, redirect_in, removal_in, route_in,
 };
-use crate::place::{Place, place_of};
+use crate::place::Place;
 use crate::reasons::{fault_in, file_fault, no_text};
 use crate::roles::{Role, role_of};
-use crate::template_reasons::calls_of;
+use crate::tags::{TagName, add_keys, doubled_keys, push_tags};
+use crate::template_reasons::{calls_of, names_of};
 use command::{CommandFault, Kind};
 use std::alloc::{AllocError, Global};
-use std::collections::BTreeMap;
+use std::collections::{BTreeMap, BTreeSet};
 
 /// A command of a folder: its text.
 #[derive(Drop)]
@@ -39,15 +41,8 @@ pub struct Redirect {
     pub line: usize,
 }
 
-/// A partial that a file calls.
-#[derive(Drop)]
-pub(crate) struct PartialCall {
-    pub name: String,
-    pub file: String,
-    pub place: Place,
-}
-
-/// What a folder is: its commands in order, all but the release; its pages, and those that moved; and what is wrong with it.
+/// What a folder is: its commands in order, all but the release; its pages, and those that moved; and what is
+/// wrong with it.
 #[derive(Drop)]
 pub struct Folder {
     pub commands: Vec<FolderCommand>,
@@ -65,7 +60,12 @@ pub(crate) struct Reading {
     pub found: BTreeMap<String, usize>,
     /// What is removed, in the same way, and its line of `removes`.
     pub removed: BTreeMap<String, usize>,
-    pub calls: Vec<PartialCall>,
+    pub calls: Vec<TagName>,
+    /// The names of values that templates and partials have.
+    pub names: Vec<TagName>,
+    /// The keys of all data, whether there are any or not.
+    pub keys: BTreeSet<String>,
+    pub has_data: bool,
 }
 
 /// A kind and a name, parted by a space.
@@ -98,6 +98,9 @@ impl Reading {
             found: BTreeMap::new(alloc),
             removed: BTreeMap::new(alloc),
             calls: Vec::new(alloc),
+            names: Vec::new(alloc),
+            keys: BTreeSet::new(alloc),
+            has_data: false,
         }
     }
 
@@ -152,17 +155,30 @@ impl Reading {
         }
     }
 
-    /// Takes the text of a template, a partial or data, and the partials that it calls.
+    /// Takes the text of a template, a partial or data, and the names in it.
     fn body(&mut self, kind: Kind, name: &str, path: &str, body: &str) -> Result<(), AllocError>
         ensures { AreCommands self.old.folder.commands.items → AreCommands self.new.folder.commands.items }
     {
         let word = kind_word(kind);
         let head = format!(in self.alloc; "put {word} {name}\n")?;
-        let taken = self.judge_body(path, head.as_str(), body)?;
-        if taken && matches!(kind, Kind::Template | Kind::Partial) {
-            return self.partials(path, body);
+        if !self.judge_body(path, head.as_str(), body)? {
+            return Ok(());
         }
-        Ok(())
+        match kind {
+            Kind::Data => self.keys(path, body),
+            _ => self.tags(path, body),
+        }
+    }
+
+    /// Takes the keys of data.
+    fn keys(&mut self, path: &str, body: &str) -> Result<(), AllocError>
+        ensures { AreCommands self.old.folder.commands.items → AreCommands self.new.folder.commands.items }
+    {
+        self.has_data = true;
+        let keys = keys_of(self.alloc, body)?;
+        let mut doubled = doubled_keys(self.alloc, path, body, &keys)?;
+        add_keys(&mut self.keys, keys)?;
+        self.folder.findings.append(&mut doubled)
     }
 
     /// Takes a file that is the text of a template, a partial or data.
@@ -176,18 +192,14 @@ impl Reading {
         }
     }
 
-    /// Takes the partials that a text calls.
-    fn partials(&mut self, path: &str, body: &str) -> Result<(), AllocError>
+    /// Takes the partials that a text calls, and the names of values that it has.
+    fn tags(&mut self, path: &str, body: &str) -> Result<(), AllocError>
         ensures { AreCommands self.old.folder.commands.items → AreCommands self.new.folder.commands.items }
     {
-        for call in calls_of(self.alloc, body)?.iter() {
-            self.calls.push(PartialCall {
-                name: String::from_str(self.alloc, call.name)?,
-                file: String::from_str(self.alloc, path)?,
-                place: place_of(body.as_bytes(), call.at),
-            })?;
-        }
-        Ok(())
+        let calls = calls_of(self.alloc, body)?;
+        push_tags(self.alloc, &mut self.calls, path, body, &calls)?;
+        let names = names_of(self.alloc, body)?;
+        push_tags(self.alloc, &mut self.names, path, body, &names)
     }
 
     /// A fault of a line.

@@ -1,10 +1,14 @@
 //! A folder of a site as data: its files in, its commands and all that is wrong with it out.
 //!
-//! Nothing here reads a file: `editor_files` does. `folder.rt` goes over the files, `judging.rt` asks `command` whether a text is a command, and
-//! where it is none `template_reasons.rt`, `data_reasons.rt` and `reasons.rt` say why, for people: the place, and what to do. `lines.rt` reads
-//! `routes`, `redirects` and `removes`. `checks.rt` looks for what is named and isn't there. `pages.rt` renders each route, as a node would, `limits.rt` says
-//! which limit one passes, `moved.rt` makes the file of a page that moved, and `copies.rt` says which file of a static copy a page is. `views.rt` says
-//! what a node shows of any texts. `beginning.rt` has a small site to start from.
+//! Nothing here reads a file: `editor_files` does. `folder.rt` goes over the files, `judging.rt` asks
+//! `command` whether a text is a command, and where it is none `template_reasons.rt`, `data_reasons.rt` and
+//! `reasons.rt` say why, for people: the place, and what to do. `lines.rt` reads `routes`, `redirects` and
+//! `removes`, `keys.rt` the keys of data, and `tags.rt` keeps names. `checks.rt` looks for what is named and
+//! isn't there, `unreached.rt` for paths that no link leads to, `unused.rt` for what no page comes to.
+//! `pages.rt` renders each route, as a node would, `limits.rt` says which limit one passes, `moved.rt` makes
+//! the file of a page that moved, and `copies.rt` says which file of a static copy a page is. `views.rt` says
+//! what a node shows of any texts, `restoring.rt` which files put them. `beginning.rt` has a small site to
+//! start from.
 #![tactic(auto)]
 
 mod beginning;
@@ -15,14 +19,19 @@ mod file;
 mod finding;
 mod folder;
 mod judging;
+mod keys;
 mod limits;
 mod lines;
 mod moved;
 mod pages;
 mod place;
 mod reasons;
+mod restoring;
 mod roles;
+mod tags;
 mod template_reasons;
+mod unreached;
+mod unused;
 mod views;
 
 pub use beginning::BEGINNING;
@@ -32,5 +41,7 @@ pub use finding::{Finding, Weight};
 pub use folder::{Folder, FolderCommand, Redirect, Route, folder_of};
 pub use pages::{Page, page_faults, pages_of, release_of};
 pub use place::{Place, place_of};
+pub use restoring::files_of;
 pub use roles::{is_of_site, is_part, is_passed_over};
+pub use unused::unused_of;
 pub use views::{View, path_in, views_of};

@@ -1,7 +1,8 @@
 //! Which limit a page passes that is over limit, and what to do.
 //!
-//! A node says no more than that it is: those words are a format's. A page passes how deep partials may nest, or what it may cost; so where its partials
-//! cannot nest that deep, as the calls stand in the folder's files, it is the cost.
+//! A node says no more than that it is: those words are a format's. A page passes how deep partials may nest,
+//! or what it may cost; so where its partials cannot nest that deep, as the calls stand in the folder's
+//! files, it is the cost.
 ghost use Rattle.std.specs.Prelude.{◌≡◌};
 ghost use Rattle.render.specs.Meaning.{max_nested};
 
@@ -99,7 +100,8 @@ fn depths_above(
     Ok(above)
 }
 
-/// How deep partials can nest below each source: deeper than there are sources where one comes to call itself.
+/// How deep partials can nest below each source: deeper than there are sources where one comes to call
+/// itself.
 fn depths_of(alloc: Global, calls: &[Vec<usize>]) -> Result<Vec<usize>, AllocError> {
     let mut depths = vec![in alloc; 0usize; calls.len()]?;
     for _ in 0..=calls.len() {
@@ -138,6 +140,33 @@ impl<'a> Nesting<'a> {
         })
     }
 
+    /// How many templates and partials there are.
+    pub(crate) fn len(&self) -> usize {
+        self.sources.len()
+    }
+
+    /// The kind and the name of a number, parted by a space.
+    pub(crate) fn key(&self, number: usize) -> &'a str {
+        match self.sources.get(number) {
+            Some(source) => source.key,
+            None => "",
+        }
+    }
+
+    /// The number of a template, where it is there.
+    pub(crate) fn template(&self, alloc: Global, name: &str) -> Result<Option<usize>, AllocError> {
+        let key = format!(in alloc; "template {name}")?;
+        Ok(self.numbers.get(key.as_str()).copied())
+    }
+
+    /// The numbers of the partials that a number calls.
+    pub(crate) fn called_by(&self, number: usize) -> &[usize] {
+        match self.calls.get(number) {
+            Some(partials) => partials.as_slice(),
+            None => &[],
+        }
+    }
+
     fn depth(&self, number: usize) -> usize {
         self.depths.get(number).copied().unwrap_or(0)
     }
@@ -147,12 +176,10 @@ impl<'a> Nesting<'a> {
         self.depth(number) > self.sources.len()
     }
 
-    /// The first partial that a source calls below which they can nest without end; itself where there is none.
+    /// The first partial that a source calls below which they can nest without end; itself where there is
+    /// none.
     fn endless_within(&self, number: usize) -> usize {
-        let Some(partials) = self.calls.get(number) else {
-            return number;
-        };
-        for partial in partials {
+        for partial in self.called_by(number) {
             if self.is_endless(*partial) {
                 return *partial;
             }
@@ -160,22 +187,19 @@ impl<'a> Nesting<'a> {
         number
     }
 
-    /// A partial that comes to call itself, below a source where they can nest without end: after as many steps as there are sources one came twice.
+    /// A partial that comes to call itself, below a source where they can nest without end: after as many
+    /// steps as there are sources one came twice.
     fn round_below(&self, number: usize) -> &'a str {
         let mut at = number;
         for _ in 0..self.sources.len() {
             at = self.endless_within(at);
         }
-        match self.sources.get(at) {
-            Some(source) => source.key,
-            None => "",
-        }
+        self.key(at)
     }
 
     /// Why the page of a template is over limit, and what to do.
     pub(crate) fn reason(&self, alloc: Global, template: &str) -> Result<String, AllocError> {
-        let key = format!(in alloc; "template {template}")?;
-        let number = self.numbers.get(key.as_str()).copied();
+        let number = self.template(alloc, template)?;
         let number = number.unwrap_or(self.sources.len());
         let (depth, most) = (self.depth(number), most_nested());
         if self.is_endless(number) {

@@ -25,8 +25,8 @@ pub(crate) struct Line<'a> {
     pub number: usize,
 }
 
-/// The lines of a text that say something: neither empty nor a comment, which begins with `#`. Words are parted by any blanks, and a carriage
-/// return is one.
+/// The lines of a text that say something: neither empty nor a comment, which begins with `#`. Words are
+/// parted by any blanks, and a carriage return is one.
 pub(crate) fn lines_in(alloc: Global, text: &str) -> Result<Vec<Line<'_>>, AllocError> {
     let mut found = Vec::new(alloc);
     for (i, line) in text.split('\n').enumerate() {

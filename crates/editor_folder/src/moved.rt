@@ -6,7 +6,8 @@ use percent_encoding::{AsciiSet, NON_ALPHANUMERIC, ascii_set, utf8_percent_encod
 use render::escape_into;
 use std::alloc::{AllocError, Global};
 
-/// What an address escapes, as a node does in a `Location` line: each byte but letters, digits and these marks (RFC 3986, section 2.3), and the slash.
+/// What an address escapes, as a node does in a `Location` line: each byte but letters, digits and these
+/// marks (RFC 3986, section 2.3), and the slash.
 pub(crate) const ESCAPED: AsciiSet = ascii_set!(
     NON_ALPHANUMERIC
         .remove(b'-')

@@ -41,7 +41,7 @@ pub(crate) fn page_at(releases: &Releases, path: &str) -> Result<Option<Answer>,
     }
 }
 
-/// Feeds a folder's commands, and a release behind them.
+/// Feeds a folder's commands, and a release after them.
 fn feed_folder(alloc: Global, releases: &mut Releases, folder: &Folder) -> Result<(), AllocError> {
     for command in folder.commands.iter() {
         feed(alloc, releases, &command.text)?;
@@ -141,7 +141,8 @@ fn pages_by(
     pages_in(alloc, folder, releases)
 }
 
-/// The pages of a folder in a release of its commands alone: of its routes, then of its redirects whose paths have no route, each in order.
+/// The pages of a folder in a release of its commands alone: of its routes, then of its redirects whose paths
+/// have no route, each in order.
 pub fn pages_of(alloc: Global, folder: &Folder) -> Result<Vec<Page>, AllocError> {
     let mut releases = Releases::new(alloc);
     let pages = pages_by(alloc, folder, &mut releases);
@@ -171,7 +172,7 @@ fn template_of<'a>(folder: &'a Folder, page: &Page) -> &'a str {
     ""
 }
 
-/// Why a page is none: in a node's words, and behind a limit which one it is.
+/// Why a page is none: in a node's words, and where it passes a limit which one.
 fn page_reason(
     alloc: Global,
     folder: &Folder,

@@ -60,6 +60,12 @@ pub(crate) fn warning_in(
     finding(alloc, Weight::Warning, file, Some(place), reason, None)
 }
 
+/// A warning of a file as a whole.
+pub(crate) fn file_warning(alloc: Global, file: &str, reason: &str) -> Result<Finding, AllocError> {
+    let reason = String::from_str(alloc, reason)?;
+    finding(alloc, Weight::Warning, file, None, reason, None)
+}
+
 /// The bytes of a file that are no UTF-8, by the first.
 pub(crate) fn no_text(
     alloc: Global,

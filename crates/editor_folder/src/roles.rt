@@ -23,8 +23,8 @@ fn is_hidden(name: &str) -> bool {
     name.starts_with('.') || name.ends_with('~')
 }
 
-/// Whether the file or folder at a path below a site's folder is none of the site's, and meant so: a name in it begins with a dot or ends in `~`, or it
-/// is a `README`.
+/// Whether the file or folder at a path below a site's folder is none of the site's, and meant so: a name in
+/// it begins with a dot or ends in `~`, or it is a `README`.
 pub fn is_passed_over(path: &str) -> bool {
     path.starts_with("README") || path.split('/').any(|name| is_hidden(name))
 }

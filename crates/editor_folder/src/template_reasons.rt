@@ -82,6 +82,15 @@ fn nesting_reason(alloc: Global, source: &str, fault: TemplateFault) -> Result<S
     }
 }
 
+/// Whether the tag at a place, which two braces end, has one brace alone before these.
+fn has_one_brace(source: &str, place: usize) -> bool {
+    let behind = source.get(place..).unwrap_or("");
+    match behind.split_once("}}") {
+        Some((tag, _)) => tag.starts_with("{{") && tag.contains('}'),
+        None => false,
+    }
+}
+
 /// Why the text is no template, and what to do.
 pub(crate) fn template_reason(
     alloc: Global,
@@ -89,8 +98,11 @@ pub(crate) fn template_reason(
     fault: TemplateFault,
 ) -> Result<String, AllocError> {
     let reason = match fault.kind {
-        FaultKind::UnclosedTag => "the tag has no end: write `}}` behind its name",
+        FaultKind::UnclosedTag => "the tag has no end: write `}}` after its name",
         FaultKind::EmptyName => "the tag has no name: write one into it, or take it away",
+        FaultKind::BadName if has_one_brace(source, fault.place) => {
+            "the tag has one brace at its end: write `}}` after its name"
+        }
         FaultKind::BadName => "a name has no blank within, and no empty part between dots",
         FaultKind::BadDelimiters => "the tag has to name two delimiters: `{{=<% %>=}}`",
         FaultKind::OutOfMemory => return Err(AllocError),
@@ -99,21 +111,42 @@ pub(crate) fn template_reason(
     String::from_str(alloc, reason)
 }
 
-/// A partial that a template calls, and the byte at which its tag begins.
+/// A partial that a template calls, or a name that it has, and the byte at which the tag begins.
 #[derive(Clone, Copy)]
 pub(crate) struct Call<'a> {
     pub name: &'a str,
     pub at: usize,
 }
 
-/// The partials that a template calls, in order.
-pub(crate) fn calls_of(alloc: Global, source: &str) -> Result<Vec<Call<'_>>, AllocError> {
+/// Which tags of a template are looked for.
+#[derive(Clone, Copy)]
+enum Wanted {
+    /// Those that call a partial.
+    Calls,
+    /// Those that print a value, or ask for one.
+    Names,
+}
+
+impl Wanted {
+    fn is(self, kind: TokenKind) -> bool {
+        match self {
+            Wanted::Calls => kind == TokenKind::Partial,
+            Wanted::Names => matches!(
+                kind,
+                TokenKind::Variable | TokenKind::Raw | TokenKind::Section | TokenKind::Inverted
+            ),
+        }
+    }
+}
+
+/// The tags of a template that are looked for, in order.
+fn tags_of(alloc: Global, source: &str, wanted: Wanted) -> Result<Vec<Call<'_>>, AllocError> {
     let Ok(tokens) = scan(alloc, source) else {
         return Err(AllocError);
     };
     let mut calls = Vec::new(alloc);
     for token in &tokens {
-        if token.kind == TokenKind::Partial {
+        if wanted.is(token.kind) {
             calls.push(Call {
                 name: token.inside,
                 at: token.place,
@@ -121,4 +154,14 @@ pub(crate) fn calls_of(alloc: Global, source: &str) -> Result<Vec<Call<'_>>, All
         }
     }
     Ok(calls)
+}
+
+/// The partials that a template calls, in order.
+pub(crate) fn calls_of(alloc: Global, source: &str) -> Result<Vec<Call<'_>>, AllocError> {
+    tags_of(alloc, source, Wanted::Calls)
+}
+
+/// The names of values that a template has, in order.
+pub(crate) fn names_of(alloc: Global, source: &str) -> Result<Vec<Call<'_>>, AllocError> {
+    tags_of(alloc, source, Wanted::Names)
 }

@@ -12,7 +12,7 @@ pub struct View {
     pub body: String,
 }
 
-/// Feeds command texts, and a release behind them.
+/// Feeds command texts, and a release after them.
 fn feed_texts(alloc: Global, releases: &mut Releases, texts: &[&str]) -> Result<(), AllocError> {
     for text in texts {
         feed(alloc, releases, text.as_bytes())?;

@@ -14,7 +14,7 @@ const CONNECTING: u64 = 3;
 /// How many seconds a call of a connection may wait: a node that is busy with others answers late.
 const WAITING: u64 = 10;
 
-/// The most questions of a connection: a node closes one behind a hundred.
+/// The most questions of a connection: a node closes one after a hundred.
 const QUESTIONS: usize = 100;
 
 /// Has what is written sent at once, and calls wait for so long.
@@ -114,8 +114,9 @@ fn converse(
     read_answers(alloc, stream, questions.len(), answers)
 }
 
-/// Asks a node all at once over a connection, and reads its answers, which come in the same order: as many as come before the connection fails or
-/// ends. Then the connection is closed, since it holds one of the node's 64 seats.
+/// Asks a node all at once over a connection, and reads its answers, which come in the same order: as many as
+/// come before the connection fails or ends. Then the connection is closed, since it holds one of the node's
+/// 64 seats.
 fn ask_once<N: Net<Stream = TcpStream>>(
     net: &N,
     alloc: Global,

@@ -6,13 +6,13 @@ ghost use Rattle.editor_plan.specs.Moves.{HearsAnswers};
 use crate::address::Address;
 use crate::asking::ask;
 use crate::group::Group;
-use crate::progress::{Progress, tell_progress};
+use crate::progress::tell_progress;
 use crate::stop::stop;
 use editor_common::{EditorFault, now, passed, rest};
 use editor_files::Saved;
 use editor_http::{NodeAnswer, Question};
 use editor_ledger::Ledger;
-use editor_plan::{Ask, Came, DeliveryClock, Flight, Heard, LONGEST_REST, Step};
+use editor_plan::{Ask, Came, DeliveryClock, Flight, Heard, LONGEST_REST, Progress, Step};
 use site_ids::Ticket;
 use std::alloc::{AllocError, Global};
 use std::io::Write;
@@ -187,8 +187,8 @@ fn deliver_at<R: Net<Stream = TcpStream> + Clock + AllocGlobal, E: Write>(
     Err(EditorFault::Clock)
 }
 
-/// Sends what is on its way in a ledger that was saved, until each has its receipt. It stays with a node while receipts
-/// come there, and gives up where none came for so many seconds.
+/// Sends what is on its way in a ledger that was saved, until each has its receipt. It stays with a node
+/// while receipts come there, and gives up where none came for so many seconds.
 pub fn deliver<R: Net<Stream = TcpStream> + Clock + AllocGlobal, E: Write>(
     rt: &R,
     err: &mut E,

@@ -43,7 +43,8 @@ impl Group {
         }
     }
 
-    /// Speaks to the node of that place from now on, counted from 0; to the one as before where none is named.
+    /// Speaks to the node of that place from now on, counted from 0; to the one as before where none is
+    /// named.
     pub(crate) fn speak_to(&mut self, place: Option<usize>) {
         self.at = place.unwrap_or(self.at);
     }

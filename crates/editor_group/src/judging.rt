@@ -17,7 +17,8 @@ use std::time::Instant;
 /// How many milliseconds lie between two times that all nodes are asked.
 const AGAIN: u64 = 500;
 
-/// An editor, the last ticket that has its receipt by a ledger, and the next one; and the newest release that the group has shown of the folder.
+/// An editor, the last ticket that has its receipt by a ledger, and the next one; and the newest release that
+/// the group has shown of the folder.
 #[derive(Clone, Copy)]
 struct Claim {
     editor: u32,
@@ -243,8 +244,8 @@ fn settled<R: Net<Stream = TcpStream> + Clock + AllocGlobal, E: Write>(
     Err(EditorFault::Clock)
 }
 
-/// Asks until a node confirms that a folder's ledger is the newest of its editor, which is spoken to from then on; or one says that there is a newer one,
-/// or so many seconds have passed: then it is refused.
+/// Asks until a node confirms that a folder's ledger is the newest of its editor, which is spoken to from
+/// then on; or one says that there is a newer one, or so many seconds have passed: then it is refused.
 pub fn confirm<R: Net<Stream = TcpStream> + Clock + AllocGlobal, E: Write>(
     rt: &R,
     err: &mut E,

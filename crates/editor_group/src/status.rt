@@ -9,7 +9,8 @@ use std::io::Write;
 use std::net::{Net, TcpStream};
 use std::rt::Clock;
 
-/// A node: how many milliseconds it took to answer, and its newest release, if it told one; and its start page in the newest release that all have.
+/// A node: how many milliseconds it took to answer, and its newest release, if it told one; and its start
+/// page in the newest release that all have.
 #[derive(Drop)]
 struct Report {
     millis: u64,
@@ -169,7 +170,8 @@ fn tell_all<W: Write>(
     Ok(well)
 }
 
-/// Writes that no node shows a folder's last release, where that is so of those that answer. Whether all is well is the answer.
+/// Writes that no node shows a folder's last release, where that is so of those that answer. Whether all is
+/// well is the answer.
 fn tell_returning<W: Write>(
     alloc: Global,
     out: &mut W,
@@ -203,9 +205,9 @@ fn tell_nodes<R: Net<Stream = TcpStream> + Clock + AllocGlobal, W: Write>(
     Ok(tell_returning(rt.alloc(), out, range.last, shown)? && well)
 }
 
-/// Writes a table of nodes: URL, milliseconds to an answer, newest release, how many releases it is behind, and whether its start page in the newest
-/// release that all have is that of the others. Status 1 where one is silent, behind or differs, or where no node shows a release that a folder made, 0 for
-/// none.
+/// Writes a table of nodes: URL, milliseconds to an answer, newest release, how many releases it is behind,
+/// and whether its start page in the newest release that all have is that of the others. Status 1 where one
+/// is silent, behind or differs, or where no node shows a release that a folder made, 0 for none.
 pub fn tell_status<R: Net<Stream = TcpStream> + Clock + AllocGlobal, W: Write>(
     rt: &R,
     out: &mut W,

@@ -22,6 +22,7 @@ pub enum Word<'a> {
     Check {
         folder: &'a str,
         ignore: bool,
+        unused: bool,
     },
     /// Writes a static copy of a folder's pages.
     Export {
@@ -145,7 +146,13 @@ fn new_word<'a>(alloc: Global) -> Result<Command<'a>, AllocError> {
 
 fn check_word<'a>(alloc: Global) -> Result<Command<'a>, AllocError> {
     let about = "Tells what is wrong with a folder, each fault with its place and what to do";
-    taking(site_word(alloc, "check", about), ignore_flag(alloc))
+    let unused = flag(
+        alloc,
+        "unused",
+        "Warns of templates, partials and data to which no page comes",
+    );
+    let word = taking(site_word(alloc, "check", about), unused);
+    taking(word, ignore_flag(alloc))
 }
 
 fn out_argument<'a>(alloc: Global) -> Arg<'a> {
@@ -371,6 +378,7 @@ fn word_of<'a>(
         "check" => Word::Check {
             folder: text(found, "folder"),
             ignore: found.get_flag("ignore"),
+            unused: found.get_flag("unused"),
         },
         "export" => export_in(found),
         "frame" => frame_in(found),
@@ -387,7 +395,8 @@ fn word_of<'a>(
     }))
 }
 
-/// Reads the words of a command line, the program's name first. `clap` says why it refuses others, help among it.
+/// Reads the words of a command line, the program's name first. `clap` says why it refuses others, help among
+/// it.
 pub fn word_in<'a>(alloc: Global, words: &'a [String]) -> Result<Option<Word<'a>>, Error> {
     let matches = matches_of(alloc, words)?;
     match matches.subcommand() {

@@ -1,4 +1,4 @@
--- How a delivery goes on behind an exchange with a node; all times in milliseconds since it began.
+-- How a delivery goes on after an exchange with a node; all times in milliseconds since it began.
 use Rattle.std.specs.Prelude.{ℕ, ◌-◌, ◌*◌, ◌/◌, min, nat_le, Bool, true, false, if◌then◌else◌}
 use Rattle.editor_plan.specs.declared.delivery_clock.TheConstants.{STAYING, FIRST_REST, LONGEST_REST}
 use Rattle.editor_plan.specs.declared.delivery_clock.Came.{Came}

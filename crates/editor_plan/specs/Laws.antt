@@ -6,7 +6,8 @@ use Rattle.editor_ledger.specs.Laws.{AreApart, AreAbout}
 use Rattle.editor_plan.specs.Courses.{IsDone}
 use Rattle.editor_plan.specs.Moves.{Move, moved_all}
 
--- whatever folders were published and interrupted, and whatever nodes answered, before and between: a ticket has one text
+-- whatever folders were published and interrupted, and whatever nodes answered, before and between: a ticket
+-- has one text
 abbrev pub TicketsHaveOneText : Type 0
 TicketsHaveOneText = (editor : ℕ) (moves more : List Move) (g h : Given)
     → Contains (moved_all moves (fresh editor)).sent g

@@ -1,4 +1,5 @@
--- What happens to a ledger in publications, one after the other, whatever is interrupted in between: an interruption leaves the ledger that was saved last.
+-- What happens to a ledger in publications, one after the other, whatever is interrupted in between: an
+-- interruption leaves the ledger that was saved last.
 use Rattle.std.specs.Prelude.{◌≡◌, ℕ, List, [], ◌∷◌, map}
 use Rattle.editor_ledger.specs.Books.{Book}
 use Rattle.editor_ledger.specs.Steps.{logged}

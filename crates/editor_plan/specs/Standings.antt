@@ -24,7 +24,8 @@ is_unknown Given = false
 is_unknown Unknown = true
 is_unknown Nothing = false
 
--- with nothing on its way the ticket before the next one, else that of the last release: it has its receipt by the ledger
+-- with nothing on its way the ticket before the next one, else that of the last release: it has its receipt
+-- by the ledger
 abbrev pub last_ticket : Book → ℕ
 last_ticket book = if is_idle book then book.next - 1 else book.last_release
 
@@ -49,7 +50,8 @@ confirms last w = is_unknown w.next && (last == 0 || is_given w.last)
 abbrev pub is_elsewhere : ℕ → Witness → Bool
 is_elsewhere shown w = is_unknown w.next && not (is_behind shown w.newest)
 
--- newest is what a node confirms, and no node knows more; where all that answer are behind, the group is still coming back
+-- newest is what a node confirms, and no node knows more; where all that answer are behind, the group is
+-- still coming back
 abbrev pub standing_of : ℕ → ℕ → List Witness → Standing
 standing_of last shown ws =
     if list_any (λ w. is_given w.next) ws then Older
@@ -57,6 +59,7 @@ standing_of last shown ws =
     else (if list_any (is_elsewhere shown) ws then Elsewhere
     else (if list_any (λ w. is_unknown w.next) ws then Returning else Unanswered)))
 
--- a path for which the folder has no receipt is taken over where the group answers it so, and not as the folder's own texts do
+-- a path for which the folder has no receipt is taken over where the group answers it so, and not as the
+-- folder's own texts do
 abbrev pub takes_over : ℕ → Bool → Bool
 takes_over status own = not (status == 404) && not own

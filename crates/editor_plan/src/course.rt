@@ -50,8 +50,9 @@ fn plan_next(alloc: Global, ledger: &mut Ledger, wanted: &[&str]) -> Result<(), 
     Ok(())
 }
 
-/// Plans what is to be sent next of a folder of these texts: nothing more while something is on its way; else the texts that the group has not and the
-/// removals of those that it has and the folder has not; else their release. It lacks tickets only where their numbers no longer fit 64 bits.
+/// Plans what is to be sent next of a folder of these texts: nothing more while something is on its way; else
+/// the texts that the group has not and the removals of those that it has and the folder has not; else their
+/// release. It lacks tickets only where their numbers no longer fit 64 bits.
 pub fn advance(alloc: Global, ledger: &mut Ledger, wanted: &[&str]) -> Result<Stage, LedgerFault>
     ensures ok { OnOk result (ledger.new ≡ advanced (map (λ t. t.now) wanted.now) ledger.old) }
     ensures stage { IfOk result (λ stage. stage ≡ stage_of ledger.new) }

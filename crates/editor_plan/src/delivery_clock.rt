@@ -5,7 +5,8 @@ ghost use Rattle.editor_plan.specs.DeliveryClocks.{first_clock, turns, clock_aft
 /// How many milliseconds a node may give no receipt before the next one is spoken to.
 pub(crate) const STAYING: u64 = 5_000;
 
-/// How many milliseconds lie between two exchanges with a node at first: twice as many each time that no receipt came.
+/// How many milliseconds lie between two exchanges with a node at first: twice as many each time that no
+/// receipt came.
 pub(crate) const FIRST_REST: u64 = 2;
 
 /// How many lie between them at most, and between two rounds over all nodes.
@@ -92,7 +93,7 @@ impl DeliveryClock {
         }
     }
 
-    /// How it goes on behind an exchange that ended now, where so many seconds may pass without a receipt.
+    /// How it goes on after an exchange that ended now, where so many seconds may pass without a receipt.
     pub fn step(&mut self, came: Came, now: u64, patience: u64) -> Step
         ensures clock { self.new ≡ clock_after came now self.old }
         ensures step { result ≡ step_of came now patience self.old }

@@ -105,8 +105,9 @@ impl Flight {
         }
     }
 
-    /// What is asked of the node next, in this order, for what is on its way: the receipts of what it has taken, and then to take what it was not given
-    /// yet, as far as there is room. The answers are heard in the same order.
+    /// What is asked of the node next, in this order, for what is on its way: the receipts of what it has
+    /// taken, and then to take what it was not given yet, as far as there is room. The answers are heard in
+    /// the same order.
     pub fn asks(&self, alloc: Global, sent: &[Sent]) -> Result<Vec<Ask>, AllocError>
         ensures { IfOk result (λ asks. asks.items ≡ asks_of self.now (map (λ s. s.number) sent.now)) }
     {
@@ -130,7 +131,8 @@ impl Flight {
         self.taken.retain(|n| *n != number);
     }
 
-    /// Hears the status of an answer: a receipt takes its command off its way in the ledger, and nothing else does.
+    /// Hears the status of an answer: a receipt takes its command off its way in the ledger, and nothing else
+    /// does.
     pub fn hear(&mut self, ledger: &mut Ledger, ask: Ask, status: u16) -> Result<Heard, AllocError>
         ensures heard { IfOk result (λ heard. heard ≡ heard_of ask status) }
         ensures ledger { OnOk result (ledger.new ≡ after_hearing ask status ledger.old) }

@@ -26,14 +26,15 @@ pub enum Standing {
     Older,
     /// No node knows its last ticket, though one shows as many releases: it is of another group.
     Elsewhere,
-    /// No node knows its last ticket, and each that answers shows an older release than this folder's last one: the nodes have not learned again what
-    /// they had.
+    /// No node knows its last ticket, and each that answers shows an older release than this folder's last
+    /// one: the nodes have not learned again what they had.
     Returning,
     /// No node answers.
     Unanswered,
 }
 
-/// The ticket whose receipt has to stand; 0 where none was given. With something on its way it is that of the last release.
+/// The ticket whose receipt has to stand; 0 where none was given. With something on its way it is that of the
+/// last release.
 pub fn last_ticket(ledger: &Ledger) -> u64
     ensures { result ≡ last_ticket ledger.now }
 {
@@ -115,7 +116,8 @@ fn some_answers(witnesses: &[Witness]) -> bool
     witnesses.iter().any(|witness| answers(*witness))
 }
 
-/// How a ledger with this last ticket, of a folder whose last release that is, stands to a group of which some nodes were asked.
+/// How a ledger with this last ticket, of a folder whose last release that is, stands to a group of which
+/// some nodes were asked.
 pub fn standing_of(last: u64, shown: u64, witnesses: &[Witness]) -> Standing
     ensures { result ≡ standing_of last shown witnesses.now }
 {

@@ -1,6 +1,6 @@
 //! Which pages a publication changes, and whether its release shows them.
 //!
-//! Behind an interrupted run all pages are compared, else those that changed.
+//! After an interrupted run all pages are compared, else those that changed.
 
 use editor_common::{EditorFault, say_made};
 use editor_folder::{View, path_in, views_of};
@@ -108,6 +108,27 @@ fn tell_difference<E: Write>(
     say_made(err, format!(in alloc; "{url}/@{release}{path}: {why}"))
 }
 
+/// So many pages are told one by one, and then how many more there are.
+const TOLD: usize = 10;
+
+/// Tells how many pages more are not shown than were told.
+fn tell_more<E: Write>(
+    alloc: Global,
+    err: &mut E,
+    url: &str,
+    release: u64,
+    differing: usize,
+) -> Result<(), EditorFault> {
+    let more = differing.saturating_sub(TOLD);
+    if more == 0 {
+        return Ok(());
+    }
+    say_made(
+        err,
+        format!(in alloc; "{url}/@{release}/: and {more} more pages"),
+    )
+}
+
 /// Tells each page that was not answered as it is wanted. Whether there is one is the answer.
 fn tell_all<E: Write>(
     alloc: Global,
@@ -117,15 +138,18 @@ fn tell_all<E: Write>(
     changes: &[Change],
     answers: &[NodeAnswer],
 ) -> Result<bool, EditorFault> {
-    let mut bad = false;
+    let mut differing = 0usize;
     for (i, change) in changes.iter().enumerate() {
         if !is_shown(answers.get(i), &change.view) {
-            bad = true;
-            let path = change.view.path.as_str();
-            tell_difference(alloc, err, url, release, path, i < answers.len())?;
+            if differing < TOLD {
+                let path = change.view.path.as_str();
+                tell_difference(alloc, err, url, release, path, i < answers.len())?;
+            }
+            differing = differing.saturating_add(1);
         }
     }
-    Ok(bad)
+    tell_more(alloc, err, url, release, differing)?;
+    Ok(differing > 0)
 }
 
 /// The answers of a node for the pages of a release that change.

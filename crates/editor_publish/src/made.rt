@@ -4,7 +4,8 @@ use editor_ledger::Ledger;
 use std::alloc::{AllocError, Global};
 use std::io::Write;
 
-/// A release that was made: its number, or one above it where others released as well, and how many commands it shows that none showed before.
+/// A release that was made: its number, or one above it where others released as well, and how many commands
+/// it shows that none showed before.
 #[derive(Clone, Copy)]
 pub(crate) struct Made {
     pub release: u64,
@@ -30,6 +31,13 @@ pub(crate) fn commands_of(ledger: &Ledger, ticket: u64) -> u64 {
 /// Why nothing goes on at a node that does not tell its newest release.
 pub(crate) fn untold(alloc: Global, url: &str) -> Result<EditorFault, AllocError> {
     Ok(EditorFault::Stop(format!(in alloc; "{url}: does not tell its newest release")?))
+}
+
+/// Why nothing goes on at a node that made a release and does not tell its number.
+pub(crate) fn unnumbered(alloc: Global, url: &str) -> Result<EditorFault, AllocError> {
+    Ok(EditorFault::Stop(format!(in alloc;
+        "{url}: does not tell the number of the release that was made: run it again, and it stands in the log"
+    )?))
 }
 
 /// Writes which release was made.

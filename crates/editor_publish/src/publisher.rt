@@ -1,21 +1,22 @@
 //! A publication under way.
 use crate::comparing::{Change, changes_of, changes_since, tell_differences};
 use crate::dry_run::tell_plan;
-use crate::made::{Made, commands_of, release_ticket, tell_made, untold};
+use crate::made::{Made, commands_of, release_ticket, tell_made, unnumbered, untold};
 use crate::publishing::Publishing;
 use crate::taking_over::{taken_over, tell_taken_over};
 use editor_common::{EditorFault, say};
 use editor_files::save;
 use editor_group::{Group, confirm, deliver, newest};
 use editor_ledger::{Ledger, Released};
-use editor_plan::{Stage, advance};
+use editor_plan::{Stage, advance, last_shown, unlogged};
 use std::alloc::AllocError;
 use std::io::Write;
 use std::net::{Net, TcpStream};
 use std::rt::{Clock, Files};
 use std::time::{SystemTime, UNIX_EPOCH};
 
-/// A publication under way: the group that it goes to, and the ledger that it is kept in, which is saved as it changes. Causes are told to `err`.
+/// A publication under way: the group that it goes to, and the ledger that it is kept in, which is saved as
+/// it changes. Causes are told to `err`.
 #[derive(Drop)]
 pub(crate) struct Publisher<'a, R, E> {
     pub rt: &'a R,
@@ -60,7 +61,17 @@ impl<R: Files + Net<Stream = TcpStream> + Clock + AllocGlobal, E: Write> Publish
         }
     }
 
-    /// The number that a release made now has if nobody else makes one, where the node that is spoken to tells it.
+    /// The number of the release that was made, by the node that is spoken to.
+    fn number_made(&self) -> Result<u64, EditorFault> {
+        let node = self.group.node()?;
+        match newest(self.rt, self.rt.alloc(), node)? {
+            Some(release) => Ok(release),
+            None => Err(unnumbered(self.rt.alloc(), node.url.as_str())?),
+        }
+    }
+
+    /// The number that a release made now has if nobody else makes one, where the node that is spoken to
+    /// tells it.
     fn next(&self) -> Result<Option<u64>, EditorFault> {
         let newest = newest(self.rt, self.rt.alloc(), self.group.node()?)?;
         Ok(newest.map(|release| release.saturating_add(1)))
@@ -77,12 +88,28 @@ impl<R: Files + Net<Stream = TcpStream> + Clock + AllocGlobal, E: Write> Publish
         self.save()
     }
 
-    /// Sends the release that is on its way, which was planned now or by a run that was interrupted, and tells it in the log.
+    /// Tells, and keeps in the log, a release that was made by a run that was not told its number.
+    fn note_unlogged<W: Write>(&mut self, out: &mut W) -> Result<(), EditorFault> {
+        let Some(commands) = unlogged(self.ledger) else {
+            return Ok(());
+        };
+        let release = self.newest()?;
+        let made = Made {
+            release,
+            exact: release == last_shown(self.ledger).saturating_add(1),
+            commands,
+        };
+        self.note(made)?;
+        tell_made(self.rt.alloc(), out, self.group.node()?.url.as_str(), made)
+    }
+
+    /// Sends the release that is on its way, which was planned now or by a run that was interrupted, and
+    /// tells it in the log.
     fn release(&mut self, ticket: u64, fresh: bool) -> Result<Made, EditorFault> {
         let commands = commands_of(self.ledger, ticket);
         let next = self.next()?;
         self.send()?;
-        let release = self.newest()?;
+        let release = self.number_made()?;
         let made = Made {
             release,
             exact: fresh && next == Some(release),
@@ -103,7 +130,8 @@ impl<R: Files + Net<Stream = TcpStream> + Clock + AllocGlobal, E: Write> Publish
         }
     }
 
-    /// Brings a folder of these texts into the group, and releases it: the release that was made last, or nothing where nothing has changed.
+    /// Brings a folder of these texts into the group, and releases it: the release that was made last, or
+    /// nothing where nothing has changed.
     fn bring(&mut self, wanted: &[&str]) -> Result<Option<Made>, EditorFault> {
         let mut made = None;
         let mut fresh = self.ledger.is_idle();
@@ -117,7 +145,8 @@ impl<R: Files + Net<Stream = TcpStream> + Clock + AllocGlobal, E: Write> Publish
         Ok(made)
     }
 
-    /// The pages that a publication of these texts changes: all of them where one was interrupted, since what it changed is not known any more.
+    /// The pages that a publication of these texts changes: all of them where one was interrupted, since what
+    /// it changed is not known any more.
     fn changes(&self, wanted: &[&str]) -> Result<Vec<Change>, AllocError> {
         let alloc = self.rt.alloc();
         if self.ledger.is_idle() && !self.ledger.has_unshown() {
@@ -147,7 +176,8 @@ impl<R: Files + Net<Stream = TcpStream> + Clock + AllocGlobal, E: Write> Publish
         Ok(differs)
     }
 
-    /// Publishes texts whose ledger the group confirmed, and tells the release that was made, if one was. Whether they are not shown then is the answer.
+    /// Publishes texts whose ledger the group confirmed, and tells the release that was made, if one was.
+    /// Whether they are not shown then is the answer.
     fn publish_texts<W: Write>(
         &mut self,
         out: &mut W,
@@ -183,6 +213,7 @@ impl<R: Files + Net<Stream = TcpStream> + Clock + AllocGlobal, E: Write> Publish
     ) -> Result<bool, EditorFault> {
         let (folder, patience) = (self.how.folder, self.how.patience);
         confirm(self.rt, self.err, folder, self.group, self.ledger, patience)?;
+        self.note_unlogged(out)?;
         self.ask_to_take_over(wanted)?;
         self.publish_texts(out, wanted)
     }

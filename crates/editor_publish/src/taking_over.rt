@@ -1,7 +1,7 @@
 //! Which paths a publication would take over from others who have published in the group.
 //!
-//! A folder owns the paths for whose commands it has receipts. Any other path is taken over where the group answers it, and not as this folder does.
-//! Names of templates, partials and data are not seen from outside.
+//! A folder owns the paths for whose commands it has receipts. Any other path is taken over where the group
+//! answers it, and not as this folder does. Names of templates, partials and data are not seen from outside.
 use crate::comparing::is_shown;
 use crate::made::untold;
 use editor_common::{EditorFault, say_made};
@@ -87,7 +87,8 @@ fn unanswered(alloc: Global, url: &str, path: &str) -> Result<EditorFault, Alloc
     Ok(EditorFault::Stop(format!(in alloc; "{url}{path}: was not answered")?))
 }
 
-/// Those of the paths that are taken over, by a node's answers, where the folder shows these views then, or those before.
+/// Those of the paths that are taken over, by a node's answers, where the folder shows these views then, or
+/// those before.
 fn taken_of(
     alloc: Global,
     url: &str,

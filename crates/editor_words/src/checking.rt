@@ -1,34 +1,110 @@
 //! What is wrong with a folder.
-use editor_common::{EditorFault, say};
-use editor_files::{Clean, read_clean};
+use editor_common::{EditorFault, say_made};
+use editor_files::{Read, read_folder, tell_findings};
+use editor_folder::unused_of;
 use std::alloc::Global;
 use std::io::Write;
 use std::rt::Files;
+
+/// How a folder is checked.
+#[derive(Clone, Copy)]
+pub struct Checking<'a> {
+    pub folder: &'a str,
+    /// Files that are no part of a site are passed over.
+    pub ignore: bool,
+    /// What no page comes to is told too.
+    pub unused: bool,
+}
+
+/// Writes how many files and folders were passed over, if any.
+fn tell_passed_over<E: Write>(
+    alloc: Global,
+    err: &mut E,
+    folder: &str,
+    count: usize,
+) -> Result<(), EditorFault> {
+    if count == 0 {
+        return Ok(());
+    }
+    let noun = if count == 1 {
+        "file or folder"
+    } else {
+        "files and folders"
+    };
+    say_made(
+        err,
+        format!(in alloc;
+            "{folder}: {count} {noun} passed over: names with a dot before or a ~ behind, README, and by --ignore others"
+        ),
+    )
+}
 
 /// Writes that a folder has no fault.
 fn tell_clean<W: Write>(
     alloc: Global,
     out: &mut W,
     folder: &str,
-    clean: &Clean,
+    read: &Read,
+) -> Result<(), EditorFault> {
+    let commands = read.folder.commands.len();
+    let pages = read.pages.len();
+    say_made(
+        out,
+        format!(in alloc; "{folder}: no fault; commands: {commands}, pages: {pages}"),
+    )
+}
+
+/// Writes that a folder has no page.
+fn tell_no_page<E: Write>(alloc: Global, err: &mut E, folder: &str) -> Result<(), EditorFault> {
+    say_made(
+        err,
+        format!(in alloc; "{folder}: no page, so publish refuses it: a site has a file routes"),
+    )
+}
+
+/// Writes what no page of a folder comes to.
+fn tell_unused<E: Write>(
+    alloc: Global,
+    err: &mut E,
+    how: Checking<'_>,
+    read: &Read,
+) -> Result<(), EditorFault> {
+    if !how.unused {
+        return Ok(());
+    }
+    let findings = unused_of(alloc, &read.folder)?;
+    tell_findings(alloc, err, how.folder, &findings)
+}
+
+/// Writes all that is wrong with a folder that was read, or that nothing is, and gives the exit status.
+fn tell<W: Write, E: Write>(
+    alloc: Global,
+    out: &mut W,
+    err: &mut E,
+    how: Checking<'_>,
+    read: &Read,
 ) -> Result<u8, EditorFault> {
-    let commands = clean.folder.commands.len();
-    let pages = clean.pages.len();
-    let line = format!(in alloc; "{folder}: no fault; commands: {commands}, pages: {pages}")?;
-    say(out, line.as_str())?;
+    tell_passed_over(alloc, err, how.folder, read.passed_over)?;
+    tell_findings(alloc, err, how.folder, &read.findings)?;
+    if read.has_fault() {
+        return Ok(1);
+    }
+    tell_unused(alloc, err, how, read)?;
+    tell_clean(alloc, out, how.folder, read)?;
+    if read.pages.is_empty() {
+        tell_no_page(alloc, err, how.folder)?;
+        return Ok(1);
+    }
     Ok(0)
 }
 
-/// Writes each fault of a folder, or that it has none, and gives the exit status.
+/// Writes each fault of a folder, or that it has none, and gives the exit status: 1 too for a folder without a page.
 pub fn check<R: Files + AllocGlobal + Clone + Drop, W: Write, E: Write>(
     rt: &R,
     out: &mut W,
     err: &mut E,
-    folder: &str,
-    ignore: bool,
+    how: Checking<'_>,
 ) -> Result<u8, EditorFault> {
-    match read_clean(rt, err, folder, ignore)? {
-        Some(clean) => tell_clean(rt.alloc(), out, folder, &clean),
-        None => Ok(1),
-    }
+    let read = read_folder(rt, how.folder, how.ignore)?;
+    tell(rt.alloc(), out, err, how, &read)
 }

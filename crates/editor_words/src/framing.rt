@@ -33,7 +33,7 @@ fn frames_of(alloc: Global, editor: u32, texts: &[&str]) -> Result<String, Alloc
     Ok(frames)
 }
 
-/// The frames of a folder's commands, and of a release behind them.
+/// The frames of a folder's commands, and of a release after them.
 fn input_of(alloc: Global, editor: u32, folder: &Folder) -> Result<String, AllocError> {
     let mut texts = texts_of(alloc, folder)?;
     texts.push(RELEASE)?;

@@ -8,7 +8,7 @@ mod exporting;
 mod framing;
 mod log_word;
 
-pub use checking::check;
+pub use checking::{Checking, check};
 pub use exporting::{begin, export};
 pub use framing::frame;
 pub use log_word::tell_log;

@@ -7,7 +7,7 @@ use editor_options::{Word, word_in};
 use editor_plan::last_shown;
 use editor_preview::preview;
 use editor_publish::{Publishing, publish};
-use editor_words::{begin, check, export, frame, tell_log};
+use editor_words::{Checking, begin, check, export, frame, tell_log};
 use std::env;
 use std::fmt::Display;
 use std::fs::File;
@@ -59,7 +59,20 @@ fn done<
 >(rt: &R, out: &mut W, err: &mut E, word: &Word<'_>) -> Result<u8, EditorFault> {
     match *word {
         Word::New { folder } => begin(rt, out, err, folder),
-        Word::Check { folder, ignore } => check(rt, out, err, folder, ignore),
+        Word::Check {
+            folder,
+            ignore,
+            unused,
+        } => check(
+            rt,
+            out,
+            err,
+            Checking {
+                folder,
+                ignore,
+                unused,
+            },
+        ),
         Word::Export {
             folder,
             out: to,

@@ -1,6 +1,7 @@
-//! What an editor works with, as tables: folders, their faults, pages and static copies; files of ledgers and plans; what is asked of nodes, answers in
-//! pieces, paces, standings; publications (`interruptions` of a ledger, `flights` into a group) that are cut off and go on with another folder; each
-//! growth refused.
+//! What an editor works with, as tables: folders, their faults, pages, static copies and what is not shown of them; files of
+//! ledgers and plans; what is asked of nodes, answers in pieces, paces, what is told meanwhile, standings, releases that a log
+//! does not tell; publications (`interruptions` of a ledger, `flights` into a group) that are cut off and go on with another
+//! folder; each growth refused.
 
 mod answers;
 mod copies;
@@ -15,7 +16,11 @@ mod limits;
 mod old_files;
 mod places;
 mod plans;
+mod progresses;
 mod questions;
 mod refusals;
+mod restored;
 mod standings;
 mod tickets;
+mod unlogged;
+mod unused;

@@ -46,7 +46,7 @@ fn delivery_clocks(rt: HostRuntime) {
     }
 }
 
-/// With no patience it gives up behind the first exchange that brought nothing.
+/// With no patience it gives up after the first exchange that brought nothing.
 #[test]
 fn no_patience(rt: HostRuntime) {
     steps(

@@ -25,7 +25,7 @@ const FILES: &[(&str, &[u8], &str)] = &[
     (
         "partials/a.mustache",
         b"<h1>{{title</h1>",
-        "partials/a.mustache:1:5: the tag has no end: write `}}` behind its name [5 Template 1 UnclosedTag at 4]\n",
+        "partials/a.mustache:1:5: the tag has no end: write `}}` after its name [5 Template 1 UnclosedTag at 4]\n",
     ),
     (
         "partials/a.mustache",
@@ -45,7 +45,7 @@ const FILES: &[(&str, &[u8], &str)] = &[
     (
         "data/a.json",
         b"{\"a\":1\n \"b\":2}",
-        "data/a.json:2:2: no JSON: a comma is missing before this, or a colon behind a key [6 Data 1 NotJson]\n",
+        "data/a.json:2:2: no JSON: a comma is missing before this, or a colon after a key [6 Data 1 NotJson]\n",
     ),
     (
         "data/a.json",
@@ -80,7 +80,7 @@ const FILES: &[(&str, &[u8], &str)] = &[
     (
         "data/a.json",
         b"{\"a\" 1}",
-        "data/a.json:1:6: no JSON: a comma is missing before this, or a colon behind a key [6 Data 1 NotJson]\n",
+        "data/a.json:1:6: no JSON: a comma is missing before this, or a colon after a key [6 Data 1 NotJson]\n",
     ),
     (
         "data/a.json",
@@ -91,6 +91,51 @@ const FILES: &[(&str, &[u8], &str)] = &[
         "data/a.json",
         b"{\"v 2.5\": 1,\n \"price\": 1.50}",
         "data/a.json:2:11: the number 1.50 is not whole, or too large: write it as a text, \"1.50\" [6 Data 2 NotWhole]\n",
+    ),
+    (
+        "partials/a.mustache",
+        b"a {{name} b\n{{x}}",
+        "partials/a.mustache:1:3: the tag has one brace at its end: write `}}` after its name [5 Template 3 BadName at 2]\n",
+    ),
+    (
+        "data/a.json",
+        b"{\"a\": \"x,\n \"b\": \"y\"}",
+        "data/a.json:1:10: no JSON: a text holds no line break and no tab: write \\n or \\t, or close it with a double quote [6 Data 1 NotJson]\n",
+    ),
+    (
+        "data/a.json",
+        b"{\"a\": \"x\ty\"}",
+        "data/a.json:1:9: no JSON: a text holds no line break and no tab: write \\n or \\t, or close it with a double quote [6 Data 1 NotJson]\n",
+    ),
+    (
+        "data/a.json",
+        b"{\"\xc3\xa4\": \"C:\\temp\\x\"}",
+        "data/a.json:1:15: no JSON: a backslash stands before one of \" \\ / b f n r t, or u and four digits: write \\\\ for itself [6 Data 1 NotJson]\n",
+    ),
+    (
+        "data/a.json",
+        b"[\"\\u00zz\"]",
+        "data/a.json:1:3: no JSON: a backslash stands before one of \" \\ / b f n r t, or u and four digits: write \\\\ for itself [6 Data 1 NotJson]\n",
+    ),
+    (
+        "data/a.json",
+        b"{\"a\": \"x}",
+        "data/a.json:1:10: no JSON: the file ends within a text: a double quote is missing [6 Data 1 NotJson]\n",
+    ),
+    (
+        "data/a.json",
+        b"{a: 1}",
+        "data/a.json:1:2: no JSON: texts and keys stand between double quotes [6 Data 1 NotJson]\n",
+    ),
+    (
+        "data/a.json",
+        b"{\"a\": \xe2\x80\x9cx\xe2\x80\x9d}",
+        "data/a.json:1:7: no JSON: texts and keys stand between double quotes (`\"`), and this is `\u{201c}` [6 Data 1 NotJson]\n",
+    ),
+    (
+        "data/a.json",
+        b"{\"a\": 1, \"b\": {\"a\": 2, \"c\": [\"a:\"]}, \"\\u0061\": 3}",
+        "data/a.json:1:38: warning: the key `a` stands twice here: the later value counts\n",
     ),
     (
         "data/a.json",
@@ -130,7 +175,7 @@ const FILES: &[(&str, &[u8], &str)] = &[
     (
         "redirects",
         b"/a\n/a b\n/a //b\n/@a /b\n/a /a\n/a /b c\n/a /c\n",
-        "redirects:1:1: a line is PATH TARGET, two words\nredirects:2:1: a path and its target begin with /, with neither /_ nor /@, have 200 bytes at most, and no blank; a target begins with one / alone\nredirects:3:1: a path and its target begin with /, with neither /_ nor /@, have 200 bytes at most, and no blank; a target begins with one / alone\nredirects:4:1: a path and its target begin with /, with neither /_ nor /@, have 200 bytes at most, and no blank; a target begins with one / alone\nredirects:6:1: a line is PATH TARGET, two words\nredirects:7:1: the redirect /a stands in line 5 already: take one of both away\nredirects:5:1: warning: no route of this folder has the path /a\nredirects:7:1: warning: no route of this folder has the path /c\n",
+        "redirects:1:1: a line is PATH TARGET, two words\nredirects:2:1: a path and its target begin with /, with neither /_ nor /@, have 200 bytes at most, and no blank; a target begins with one / alone\nredirects:3:1: a path and its target begin with /, with neither /_ nor /@, have 200 bytes at most, and no blank; a target begins with one / alone\nredirects:4:1: a path and its target begin with /, with neither /_ nor /@, have 200 bytes at most, and no blank; a target begins with one / alone\nredirects:6:1: a line is PATH TARGET, two words\nredirects:7:1: the redirect /a stands in line 5 already: take one of both away\nredirects:7:1: warning: no route of this folder has the path /c\n",
     ),
     (
         "removes",
@@ -168,11 +213,12 @@ fn files_that_are_passed_over(rt: HostRuntime) {
     }
 }
 
-/// Files with faults of every sort, and the lines that they are told by.
+/// Files with faults of every sort, and the lines that they are told by. Of names nothing is told, as not all data could
+/// be read.
 const FAULTY: &[(&str, &[u8])] = &[
     ("data/b.json", b"[1,]"),
     ("data/c.json", b"{}"),
-    ("partials/q.mustache", b"{{>p}}\n {{>q}}{{>p}}"),
+    ("partials/q.mustache", b"{{>p}}\n {{>q}}{{>p}}{{name}}"),
     ("routes", b"/ t b\n/a u c\n/a/ u c\n/ u d\n"),
     ("templates/t.mustache", b"{{/x}}"),
 ];
@@ -193,6 +239,43 @@ partials/q.mustache:2:8: warning: there is no partials/p.mustache, so nothing is
 #[test]
 fn all_faults_of_all_files(rt: HostRuntime) {
     is_told(&rt, rt.alloc(), &folder(&rt, rt.alloc(), FAULTY), TOLD);
+}
+
+/// Names that no data have, each by its part; paths that a link has to spell otherwise; redirects that lead on, in a circle,
+/// and astray.
+const WARNED: &[(&str, &[u8])] = &[
+    ("data/a.json", b"{\"x\": {\"y\": [{\"z\\u0021\": 1}]}}"),
+    ("partials/p.mustache", b"{{x.y.z!}}{{.}}{{&x}}"),
+    (
+        "redirects",
+        b"/c /d\n/d /\n/e /f\n/f /g\n/g /f\n/h /h\n/i /d#y\n/j?k /\n/l /none\n",
+    ),
+    ("routes", b"/ t a\n/a?x=1 t a\n/b#c t a\n/%C3%BC t a\n"),
+    (
+        "templates/t.mustache",
+        b"{{x}} {{txet}}\n{{#x.yy}}{{/x.yy}}{{^no}}{{/no}}{{{raw}}}{{>p}}{{!c}}",
+    ),
+];
+
+const WARNINGS: &str = "redirects:3:1: warning: /f leads in a circle, so browsers give up
+redirects:4:1: warning: /g leads in a circle, so browsers give up
+redirects:5:1: warning: /f leads in a circle, so browsers give up
+redirects:6:1: warning: /h leads in a circle, so browsers give up
+redirects:7:1: warning: in /d#y `#` is part of the path, so a link has to spell it %23: browsers read it as where a place in the page begins
+redirects:9:1: warning: no route of this folder has the path /none
+routes:2:1: warning: in /a?x=1 `?` is part of the path, so a link has to spell it %3F: browsers read it as where a query begins
+routes:3:1: warning: in /b#c `#` is part of the path, so a link has to spell it %23: browsers read it as where a place in the page begins
+routes:4:1: warning: in /%C3%BC `%` is part of the path, so a link has to spell it %25: browsers read it as the first of three that stand for another character
+redirects:8:1: warning: in /j?k `?` is part of the path, so a link has to spell it %3F: browsers read it as where a query begins
+templates/t.mustache:1:7: warning: no data of this folder have the name `txet`
+templates/t.mustache:2:1: warning: no data of this folder have the name `yy`
+templates/t.mustache:2:19: warning: no data of this folder have the name `no`
+templates/t.mustache:2:33: warning: no data of this folder have the name `raw`
+";
+
+#[test]
+fn what_may_not_be_meant(rt: HostRuntime) {
+    is_told(&rt, rt.alloc(), &folder(&rt, rt.alloc(), WARNED), WARNINGS);
 }
 
 /// How many bytes a template has, and how that is told.

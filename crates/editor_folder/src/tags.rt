@@ -1,0 +1,72 @@
+//! The names in a folder's files: of partials and values in templates, and of keys in data.
+use crate::finding::Finding;
+use crate::keys::Key;
+use crate::place::{Place, place_of};
+use crate::reasons::warning_in;
+use crate::template_reasons::Call;
+use std::alloc::{AllocError, Global};
+use std::collections::BTreeSet;
+
+/// A partial that a file calls, or a name of a value that it has.
+#[derive(Drop)]
+pub(crate) struct TagName {
+    pub name: String,
+    pub file: String,
+    pub place: Place,
+}
+
+/// Adds tags of a file's text.
+pub(crate) fn push_tags(
+    alloc: Global,
+    tags: &mut Vec<TagName>,
+    path: &str,
+    body: &str,
+    found: &[Call<'_>],
+) -> Result<(), AllocError> {
+    for call in found {
+        tags.push(TagName {
+            name: String::from_str(alloc, call.name)?,
+            file: String::from_str(alloc, path)?,
+            place: place_of(body.as_bytes(), call.at),
+        })?;
+    }
+    Ok(())
+}
+
+/// Whether the object of a key had none of that name before.
+fn is_new(alloc: Global, before: &mut BTreeSet<String>, key: &Key) -> Result<bool, AllocError> {
+    let (object, name) = (key.object, key.name.as_str());
+    Ok(before.insert(format!(in alloc; "{object} {name}")?)?)
+}
+
+/// A key stands twice in one object.
+fn doubled_key(alloc: Global, path: &str, body: &str, key: &Key) -> Result<Finding, AllocError> {
+    let name = key.name.as_str();
+    let reason = format!(in alloc; "the key `{name}` stands twice here: the later value counts")?;
+    warning_in(alloc, path, place_of(body.as_bytes(), key.at), reason)
+}
+
+/// The keys that stand twice in one object.
+pub(crate) fn doubled_keys(
+    alloc: Global,
+    path: &str,
+    body: &str,
+    keys: &[Key],
+) -> Result<Vec<Finding>, AllocError> {
+    let mut before = BTreeSet::new(alloc);
+    let mut findings = Vec::new(alloc);
+    for key in keys {
+        if !is_new(alloc, &mut before, key)? {
+            findings.push(doubled_key(alloc, path, body, key)?)?;
+        }
+    }
+    Ok(findings)
+}
+
+/// Adds the names of keys.
+pub(crate) fn add_keys(names: &mut BTreeSet<String>, keys: Vec<Key>) -> Result<(), AllocError> {
+    for key in keys {
+        let _ = names.insert(key.name)?;
+    }
+    Ok(())
+}

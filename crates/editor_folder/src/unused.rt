@@ -1,0 +1,150 @@
+//! What no page of a folder comes to.
+use crate::finding::Finding;
+use crate::folder::{Folder, FolderCommand};
+use crate::limits::Nesting;
+use crate::reasons::file_warning;
+use std::alloc::{AllocError, Global};
+use std::collections::BTreeSet;
+
+/// Which templates and partials a folder's pages come to, by their numbers.
+#[derive(Drop)]
+struct Reached {
+    is: Vec<bool>,
+}
+
+impl Reached {
+    /// Notes that pages come to a number. Whether that is new is the answer.
+    fn note(&mut self, number: usize) -> bool {
+        match self.is.get_mut(number) {
+            Some(is) if !*is => {
+                *is = true;
+                true
+            }
+            _ => false,
+        }
+    }
+
+    fn has(&self, number: usize) -> bool {
+        self.is.get(number).copied().unwrap_or(false)
+    }
+
+    /// Notes the partials that a number calls, where pages come to it. Whether one is new is the answer.
+    fn spread(&mut self, nesting: &Nesting<'_>, number: usize) -> bool {
+        let mut more = false;
+        if self.has(number) {
+            for partial in nesting.called_by(number) {
+                more = self.note(*partial) || more;
+            }
+        }
+        more
+    }
+
+    /// The same of each.
+    fn spread_all(&mut self, nesting: &Nesting<'_>) -> bool {
+        let mut more = false;
+        for number in 0..nesting.len() {
+            more = self.spread(nesting, number) || more;
+        }
+        more
+    }
+}
+
+/// What the pages of a folder come to.
+fn all_reached(
+    alloc: Global,
+    folder: &Folder,
+    nesting: &Nesting<'_>,
+) -> Result<Reached, AllocError> {
+    let mut reached = Reached {
+        is: vec![in alloc; false; nesting.len()]?,
+    };
+    for route in folder.routes.iter() {
+        if let Some(number) = nesting.template(alloc, route.template.as_str())? {
+            let _ = reached.note(number);
+        }
+    }
+    for _ in 0..nesting.len() {
+        if !reached.spread_all(nesting) {
+            break;
+        }
+    }
+    Ok(reached)
+}
+
+/// The file that a kind and a name stand for, parted by a space.
+fn file_of(alloc: Global, key: &str) -> Result<String, AllocError> {
+    match key.split_once(' ') {
+        Some(("template", name)) => format!(in alloc; "templates/{name}.mustache"),
+        Some(("partial", name)) => format!(in alloc; "partials/{name}.mustache"),
+        Some((_, name)) => format!(in alloc; "data/{name}.json"),
+        None => String::from_str(alloc, key),
+    }
+}
+
+/// A file of which nothing is shown.
+fn unused(alloc: Global, key: &str) -> Result<Finding, AllocError> {
+    let file = file_of(alloc, key)?;
+    file_warning(alloc, file.as_str(), "no page of this folder comes to it")
+}
+
+/// Adds the templates and partials to which no page comes.
+fn push_sources(
+    alloc: Global,
+    folder: &Folder,
+    findings: &mut Vec<Finding>,
+) -> Result<(), AllocError> {
+    let nesting = Nesting::of(alloc, folder)?;
+    let reached = all_reached(alloc, folder, &nesting)?;
+    for number in 0..nesting.len() {
+        if !reached.has(number) {
+            findings.push(unused(alloc, nesting.key(number))?)?;
+        }
+    }
+    Ok(())
+}
+
+/// The data that routes name, each as a kind and a name.
+fn data_named(alloc: Global, folder: &Folder) -> Result<BTreeSet<String>, AllocError> {
+    let mut named = BTreeSet::new(alloc);
+    for route in folder.routes.iter() {
+        let name = route.page_data.as_str();
+        let _ = named.insert(format!(in alloc; "data {name}")?)?;
+    }
+    Ok(named)
+}
+
+/// The kind and the name of the data that a command puts, if it puts some.
+fn data_in(command: &FolderCommand) -> Option<&str> {
+    let text = str::from_utf8(&command.text).ok()?;
+    let (key, _) = text.strip_prefix("put ")?.split_once('\n')?;
+    if key.starts_with("data ") {
+        Some(key)
+    } else {
+        None
+    }
+}
+
+/// Adds the data that no route names.
+fn push_data(
+    alloc: Global,
+    folder: &Folder,
+    findings: &mut Vec<Finding>,
+) -> Result<(), AllocError> {
+    let named = data_named(alloc, folder)?;
+    for command in folder.commands.iter() {
+        if let Some(key) = data_in(command) {
+            if !named.contains(key) {
+                findings.push(unused(alloc, key)?)?;
+            }
+        }
+    }
+    Ok(())
+}
+
+/// Warns of the templates, the partials and the data of a folder to which none of its pages comes.
+pub fn unused_of(alloc: Global, folder: &Folder) -> Result<Vec<Finding>, AllocError> {
+    let mut findings = Vec::new(alloc);
+    push_sources(alloc, folder, &mut findings)?;
+    push_data(alloc, folder, &mut findings)?;
+    Ok(findings)
+}

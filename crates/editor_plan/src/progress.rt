@@ -1,0 +1,86 @@
+//! What is told of a delivery while it is under way, and when.
+ghost use Rattle.std.specs.Prelude.{◌≡◌};
+ghost use Rattle.editor_plan.specs.Progresses.{first_progress, is_counted, count_told, after_count, falls_silent, after_exchange};
+
+use crate::delivery_clock::Came;
+
+/// How many commands have their receipts is told once in so many milliseconds.
+pub(crate) const EACH: u64 = 1_000;
+
+/// That no receipt came is told after so many milliseconds.
+pub(crate) const SILENCE: u64 = 2_000;
+
+/// What was told of a delivery, and when, in milliseconds since it began.
+#[derive(Clone, Copy, Drop)]
+pub struct Progress {
+    /// So many commands are brought in all.
+    all: usize,
+    /// So many of them had their receipts when that was told last.
+    told: usize,
+    /// When that was.
+    at: u64,
+    /// When a receipt came last.
+    moved: u64,
+    /// Whether it was told that none came since.
+    silent: bool,
+}
+
+impl Progress {
+    /// That of a delivery of so many commands, which begins.
+    pub fn new(all: usize) -> Progress
+        ensures { result ≡ first_progress all }
+    {
+        Progress {
+            all,
+            told: 0,
+            at: 0,
+            moved: 0,
+            silent: false,
+        }
+    }
+
+    /// How many commands are brought in all.
+    pub fn all(&self) -> usize
+        ensures { result ≡ self.now.all }
+    {
+        self.all
+    }
+
+    /// Whether it is to be told now that so many have their receipts.
+    fn is_counted(&self, now: u64, has: usize) -> bool
+        ensures { result ≡ is_counted now has self.now }
+    {
+        has != self.told && now.saturating_sub(self.at) >= EACH
+    }
+
+    /// How many commands have their receipts, so many being left, where that is to be told now.
+    pub fn count(&mut self, now: u64, left: usize) -> Option<usize>
+        ensures count { result ≡ count_told now left self.old }
+        ensures progress { self.new ≡ after_count now left self.old }
+    {
+        let has = self.all.saturating_sub(left);
+        if !self.is_counted(now, has) {
+            return None;
+        }
+        self.told = has;
+        self.at = now;
+        Some(has)
+    }
+
+    /// Whether it is to be told now, after an exchange, that no receipt comes.
+    pub fn falls_silent(&mut self, now: u64, came: Came) -> bool
+        ensures silent { result ≡ falls_silent came now self.old }
+        ensures progress { self.new ≡ after_exchange came now self.old }
+    {
+        if came == Came::Receipt {
+            self.moved = now;
+            self.silent = false;
+            return false;
+        }
+        if self.silent || now.saturating_sub(self.moved) < SILENCE {
+            return false;
+        }
+        self.silent = true;
+        true
+    }
+}

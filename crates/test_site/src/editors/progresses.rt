@@ -1,0 +1,34 @@
+//! What is told of a delivery while it is under way, as a table.
+use crate::comparing::{ensure, same};
+use editor_plan::{Came, Progress};
+
+/// What exchanges came to, when each ended and how many commands were left then; how many have their receipts, where that is told, and whether it
+/// is told that none comes.
+const STEPS: &[(Came, u64, usize, Option<usize>, bool)] = &[
+    (Came::Answers, 5, 9, None, false),
+    (Came::Receipt, 10, 7, None, false),
+    // A second after it began, and then a second after what was told last, where that is another number.
+    (Came::Receipt, 999, 6, None, false),
+    (Came::Receipt, 1_000, 6, Some(3), false),
+    (Came::Receipt, 1_999, 5, None, false),
+    (Came::Receipt, 2_000, 5, Some(4), false),
+    (Came::Answers, 3_999, 5, None, false),
+    // Two seconds after the last receipt, and once.
+    (Came::Silence, 4_000, 5, None, true),
+    (Came::Answers, 9_000, 5, None, false),
+    (Came::Receipt, 9_001, 4, Some(5), false),
+    (Came::Answers, 11_000, 4, None, false),
+    (Came::Answers, 11_001, 4, None, true),
+    (Came::Silence, 99_000, 4, None, false),
+    (Came::Receipt, 99_001, 0, Some(9), false),
+];
+
+#[test]
+fn progresses(rt: HostRuntime) {
+    let mut progress = Progress::new(9);
+    for &(came, now, left, told, silent) in STEPS {
+        same(&rt, progress.count(now, left), told);
+        ensure(&rt, progress.falls_silent(now, came) == silent, now);
+    }
+    same(&rt, progress.all(), 9);
+}

@@ -1,0 +1,47 @@
+//! Releases that a log does not tell, as a table.
+use crate::comparing::same;
+use editor_ledger::Ledger;
+use editor_plan::unlogged;
+use std::alloc::Global;
+use std::process::Abort;
+
+/// The file of a ledger, and how many commands its release shows that the log does not tell.
+const FILES: &[(&str, Option<u64>)] = &[
+    ("published 2\neditor 7\nnext 1\nlast_release 0\n", None),
+    ("published 2\neditor 7\nnext 10\nlast_release 0\n", None),
+    ("published 2\neditor 7\nnext 11\nlast_release 10\n", Some(9)),
+    (
+        "published 2\neditor 7\nnext 11\nlast_release 10\nreleased 4 1700000000 9\n",
+        None,
+    ),
+    // What has no release yet is none.
+    (
+        "published 2\neditor 7\nnext 14\nlast_release 10\nreleased 4 1700000000 9\n",
+        None,
+    ),
+    (
+        "published 2\neditor 7\nnext 13\nlast_release 12\nreleased 4 1700000000 9\n",
+        Some(1),
+    ),
+    (
+        "published 2\neditor 7\nnext 13\nlast_release 12\nreleased 4 1700000000 9\nreleased 6 1700000009 1\n",
+        None,
+    ),
+    // A log that tells more than there is.
+    (
+        "published 2\neditor 7\nnext 3\nlast_release 2\nreleased 4 1700000000 18446744073709551615\n",
+        None,
+    ),
+];
+
+fn unlogged_in(rt: &impl Abort, alloc: Global, file: &str) -> Option<u64> {
+    let ledger = Ledger::read(alloc, file).expect(rt, "a ledger");
+    unlogged(&ledger)
+}
+
+#[test]
+fn unlogged_releases(rt: HostRuntime) {
+    for &(file, wanted) in FILES {
+        same(&rt, unlogged_in(&rt, rt.alloc(), file), wanted);
+    }
+}
