@@ -57,7 +57,7 @@ fn circle(
     target: &str,
 ) -> Result<Option<String>, AllocError> {
     let mut at = target;
-    for _ in 0..targets.len() {
+    for _ in 0..=targets.len() {
         match targets.get(at) {
             Some(next) => at = next.as_str(),
             None => return Ok(None),
