@@ -12,7 +12,7 @@ use crate::lines::{
 use crate::place::Place;
 use crate::reasons::{fault_in, file_fault, no_text};
 use crate::roles::{Role, role_of};
-use crate::tags::{TagName, doubled_key, is_new, push_tags};
+use crate::tags::{TagName, add_keys, doubled_keys, push_tags};
 use crate::template_reasons::{calls_of, names_of};
 use command::{CommandFault, Kind};
 use std::alloc::{AllocError, Global};
@@ -175,15 +175,10 @@ impl Reading {
         ensures { AreCommands self.old.folder.commands.items → AreCommands self.new.folder.commands.items }
     {
         self.has_data = true;
-        let mut before = BTreeSet::new(self.alloc);
-        for key in keys_of(self.alloc, body)? {
-            if !is_new(self.alloc, &mut before, &key)? {
-                let finding = doubled_key(self.alloc, path, body, &key)?;
-                self.find(finding)?;
-            }
-            let _ = self.keys.insert(key.name)?;
-        }
-        Ok(())
+        let keys = keys_of(self.alloc, body)?;
+        let mut doubled = doubled_keys(self.alloc, path, body, &keys)?;
+        add_keys(&mut self.keys, keys)?;
+        self.folder.findings.append(&mut doubled)
     }
 
     /// Takes a file that is the text of a template, a partial or data.

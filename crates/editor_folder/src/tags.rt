@@ -34,23 +34,39 @@ pub(crate) fn push_tags(
 }
 
 /// Whether the object of a key had none of that name before.
-pub(crate) fn is_new(
-    alloc: Global,
-    before: &mut BTreeSet<String>,
-    key: &Key,
-) -> Result<bool, AllocError> {
+fn is_new(alloc: Global, before: &mut BTreeSet<String>, key: &Key) -> Result<bool, AllocError> {
     let (object, name) = (key.object, key.name.as_str());
     Ok(before.insert(format!(in alloc; "{object} {name}")?)?)
 }
 
 /// A key stands twice in one object.
-pub(crate) fn doubled_key(
-    alloc: Global,
-    path: &str,
-    body: &str,
-    key: &Key,
-) -> Result<Finding, AllocError> {
+fn doubled_key(alloc: Global, path: &str, body: &str, key: &Key) -> Result<Finding, AllocError> {
     let name = key.name.as_str();
     let reason = format!(in alloc; "the key `{name}` stands twice here: the later value counts")?;
     warning_in(alloc, path, place_of(body.as_bytes(), key.at), reason)
+}
+
+/// The keys that stand twice in one object.
+pub(crate) fn doubled_keys(
+    alloc: Global,
+    path: &str,
+    body: &str,
+    keys: &[Key],
+) -> Result<Vec<Finding>, AllocError> {
+    let mut before = BTreeSet::new(alloc);
+    let mut findings = Vec::new(alloc);
+    for key in keys {
+        if !is_new(alloc, &mut before, key)? {
+            findings.push(doubled_key(alloc, path, body, key)?)?;
+        }
+    }
+    Ok(findings)
+}
+
+/// Adds the names of keys.
+pub(crate) fn add_keys(names: &mut BTreeSet<String>, keys: Vec<Key>) -> Result<(), AllocError> {
+    for key in keys {
+        let _ = names.insert(key.name)?;
+    }
+    Ok(())
 }
