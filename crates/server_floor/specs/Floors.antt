@@ -34,7 +34,7 @@ pub record NamesFloor (n p : ℕ) (words : List (List ℕ)) (floor : ℕ) : Type
   pub spell : map spelled told ≡ words
   pub is : IsFloorAbove n p told floor
 
--- a word is none; or what they tell is refused
+-- a word is not a node and its reach; or what they say is refused
 abbrev pub RefusesWords : ℕ → ℕ → List (List ℕ) → FloorFault → Type 0
 RefusesWords n p words NotTold = (told : List Told) → AreFitting told → map spelled told ≢ words
 RefusesWords n p words OutOfMemory = ⊥

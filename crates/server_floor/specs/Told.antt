@@ -18,7 +18,7 @@ spelled t = decimal t.node ++ (58 ∷ decimal t.reach)
 abbrev pub nodes_of : List Told → List ℕ
 nodes_of = map (λ t. t.node)
 
--- the furthest reach, 0 where none is told
+-- the furthest reach; 0 if there is none
 abbrev pub furthest : List Told → ℕ
 furthest [] = 0
 furthest (t ∷ told) = max t.reach (furthest told)

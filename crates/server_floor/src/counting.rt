@@ -45,7 +45,7 @@ pub(crate) fn are_distinct(told: &[Told]) -> bool
     true
 }
 
-/// The furthest reach, 0 where none is told.
+/// The furthest reach; 0 if there is none.
 pub(crate) fn furthest(told: &[Told]) -> u64
     ensures { result ≡ furthest told.now }
 {

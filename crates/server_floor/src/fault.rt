@@ -8,7 +8,7 @@ pub enum FloorFault {
     OutOfMemory,
     /// A word is no node and its reach.
     NotTold,
-    /// A node is none of the group, or is the one in whose place the record is made.
+    /// A node is not one of the group, or is the one in whose place the record is made.
     NotAnother,
     /// A node was asked twice.
     Twice,

@@ -15,7 +15,7 @@ use std::alloc::Global;
 /// The last reach above which there is a floor.
 const LAST: u64 = MAX_INSTANCE as u64 - MAX_ATTEMPTS as u64;
 
-/// What is told, where the words tell it.
+/// What the words say, if they say it.
 fn told_each(alloc: Global, words: &[&str]) -> Result<Vec<Told>, FloorFault>
     ensures told { IfOk result (λ told. AreFitting told.items × (map spelled told.items ≡ map (λ w. w.now) words.now)) }
     ensures fault { IfErr result (λ fault. (fault ≡ FloorFault.OutOfMemory) ⊎ ((fault ≡ FloorFault.NotTold) × ((told : List AnyTold) → AreFitting told → map spelled told ≢ map (λ w. w.now) words.now))) }

@@ -1,4 +1,4 @@
--- What is told of a record: a function of its entries, of whose it is, and of its file's length.
+-- What is reported of a record: a function of its entries, of whose it is, and of its file's length.
 use Rattle.std.specs.Prelude.{◌≡◌, ℕ, List, [], ◌++◌, codes, decimal, is_some, nat_eq, if◌then◌else◌, Bool, ◌||◌, slice_index}
 use Rattle.site_ids.specs.Ids.{IsNode}
 use Rattle.site_ids.specs.declared.TheConstants.{MAX_INSTANCE}

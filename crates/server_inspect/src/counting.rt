@@ -38,20 +38,20 @@ fn last_of(last: u32, number: u32, is: bool) -> u32
     if is { number } else { last }
 }
 
-/// What it has at the first so many instances.
-pub(crate) fn count<D: Disk>(record: &Record<D>, instances: u32) -> Counts
+/// What it has at the first `instances` instances.
+pub(crate) fn count<D: Disk>(opened: &Record<D>, instances: u32) -> Counts
     requires { instances ≤ MAX_INSTANCE }
-    ensures votes { result.votes ≡ count_to (λ i. is_some (slot_at record.now.recorded.slots i).vote) instances }
-    ensures learned { result.learned ≡ count_to (λ i. is_some (value_at record.now.recorded.slots i)) instances }
-    ensures last { result.last ≡ last_to (λ i. is_some (slot_at record.now.recorded.slots i).vote || is_some (value_at record.now.recorded.slots i)) instances }
+    ensures votes { result.votes ≡ count_to (λ i. is_some (slot_at opened.now.recorded.slots i).vote) instances }
+    ensures learned { result.learned ≡ count_to (λ i. is_some (value_at opened.now.recorded.slots i)) instances }
+    ensures last { result.last ≡ last_to (λ i. is_some (slot_at opened.now.recorded.slots i).vote || is_some (value_at opened.now.recorded.slots i)) instances }
 {
     let (mut votes, mut learned, mut last) = (0, 0, 0);
     for past in 0..instances {
         let Some(instance) = Instance::new(past + 1) else {
             unreachable!()
         };
-        let voted = record.slot(instance).vote.is_some();
-        let knows = record.learned(instance).is_some();
+        let voted = opened.slot(instance).vote.is_some();
+        let knows = opened.learned(instance).is_some();
         votes = counted(votes, voted);
         learned = counted(learned, knows);
         last = last_of(last, past + 1, either(voted, knows));

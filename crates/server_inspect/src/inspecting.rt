@@ -16,7 +16,7 @@ use std::io;
 use std::io::Write;
 use std::rt::Files;
 
-/// So often a file is read that seems damaged, as a node may have written over a torn end while it was read.
+/// How often a file is read that seems damaged: a node may have written over a torn end while it was read.
 const READS: u32 = 10;
 
 /// The file as it stands now.
@@ -41,7 +41,7 @@ fn open<R: Files<File = File>>(
     }
 }
 
-/// What is told of the record; where it is refused, with the end of its file.
+/// What is reported of the record; or why it is refused, with the end of its file.
 fn look<R: Files<File = File>>(
     rt: &R,
     alloc: Global,
@@ -80,7 +80,7 @@ fn look_again<R: Files<File = File>>(
     Err(RecordFault::Damaged)
 }
 
-/// Prints what is told of it.
+/// Prints what is reported of it.
 fn show<W: Write, E: Write>(
     alloc: Global,
     out: &mut Counted<W>,

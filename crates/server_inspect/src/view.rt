@@ -1,4 +1,4 @@
-//! What is told of a record.
+//! What is reported of a record.
 
 ghost use Rattle.std.specs.Prelude.{◌≡◌, IfOk, IfErr, length, List};
 ghost use Rattle.site_disk.specs.Model.{DiskState};
@@ -15,7 +15,7 @@ use std::alloc::Global;
 
 const MARK: [u8; 8] = *b"SITEREC1";
 
-/// What is told of a record: whose it is, and what its entries come to.
+/// What is reported of a record: whose it is, and what its entries amount to.
 #[derive(Clone, Copy, Drop)]
 pub struct View {
     pub node: NodeId,
@@ -60,25 +60,25 @@ fn head<D: Disk>(disk: &mut D) -> Result<(u64, NodeId, Cluster), RecordFault>
 }
 
 impl View {
-    /// What a record has that was opened over a file of so many bytes.
-    fn of_record<D: Disk>(record: &Record<D>, node: NodeId, nodes: Cluster, bytes: u64) -> View
-        ensures view { (entries : List Entry) → IsKept entries record.now.recorded → IsViewOf entries result }
+    /// What a record has that was opened over a file of `bytes` bytes.
+    fn of_record<D: Disk>(opened: &Record<D>, node: NodeId, nodes: Cluster, bytes: u64) -> View
+        ensures view { (entries : List Entry) → IsKept entries opened.now.recorded → IsViewOf entries result }
         ensures whose { (result.node ≡ node) × (result.nodes ≡ nodes) × (result.bytes ≡ bytes) }
     {
-        let counts = count(record, MAX_INSTANCE);
+        let counts = count(opened, MAX_INSTANCE);
         View {
             node,
             nodes,
             votes: counts.votes,
             learned: counts.learned,
             last: counts.last,
-            floor: record.floor(),
-            reach: record.reach(),
+            floor: opened.floor(),
+            reach: opened.reach(),
             bytes,
         }
     }
 
-    /// What is told of the record on a disk. A refusal gives the disk back.
+    /// What is reported of the record on a disk. A refusal gives the disk back.
     pub fn of<D: Disk + Drop>(alloc: Global, disk: D) -> Result<View, (RecordFault, D)>
         ensures viewed { IfOk result (λ v. (entries : List Entry) × IsViewOf entries v × ((d : DiskState) → D.stands_for disk d → StandsFor v.node v.nodes d.seen entries × (v.bytes ≡ length d.seen))) }
         ensures refused { IfErr result (λ p. (d : DiskState) → D.stands_for disk d → IsRefused p.0 d.seen) }

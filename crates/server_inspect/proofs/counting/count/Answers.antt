@@ -9,7 +9,7 @@ loop-past-init g c = record { votes = count_none _; learned = count_none _; last
 
 pub loop-past-preserved : goal.loop-past-preserved
 loop-past-preserved g c =
-    let slots = c.args.record.now.recorded.slots in
+    let slots = c.args.opened.now.recorded.slots in
     let at = sym c.in-Some.ensures.0 in
     let votes = ap (λ i. is_some (slot_at slots i).vote) at ∙ ap (λ (s : Slot). is_some s.vote) (sym c.slot.ensures) ∙ sym c.is_some-voted.ensures in
     let learned = ap (λ i. is_some (value_at slots i)) at ∙ ap is_some (sym c.learned.ensures) ∙ copied_some c.learned.result ∙ sym c.is_some-knows.ensures in

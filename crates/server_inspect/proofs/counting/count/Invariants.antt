@@ -6,9 +6,9 @@ use Rattle.server_inspect.proofs.counting.count.Given as goal
 -- so it is of the first so many instances
 abbrev pub invariant-loop-past : goal.invariant-loop-past
 invariant-loop-past g l = record {
-  votes : l.votes ≡ count_to (λ i. is_some (slot_at l.fn.record.recorded.slots i).vote) l.past;
-  learned : l.learned ≡ count_to (λ i. is_some (value_at l.fn.record.recorded.slots i)) l.past;
-  last : l.last ≡ last_to (λ i. is_some (slot_at l.fn.record.recorded.slots i).vote || is_some (value_at l.fn.record.recorded.slots i)) l.past;
+  votes : l.votes ≡ count_to (λ i. is_some (slot_at l.fn.opened.recorded.slots i).vote) l.past;
+  learned : l.learned ≡ count_to (λ i. is_some (value_at l.fn.opened.recorded.slots i)) l.past;
+  last : l.last ≡ last_to (λ i. is_some (slot_at l.fn.opened.recorded.slots i).vote || is_some (value_at l.fn.opened.recorded.slots i)) l.past;
   few : l.votes ≤ l.past;
   few_learned : l.learned ≤ l.past;
 }
