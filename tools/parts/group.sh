@@ -91,7 +91,7 @@ runs() { [ -e "$group/$1.pid" ] && kill -0 "$(process "$1")" 2> /dev/null && ! g
 
 # what it said but its notes (docs/OPERATING.md): P
 faults_of() {
-    grep -vE '^(opened: |mute up to instance |no longer mute$|caught up to instance |no majority heard |a majority is heard |node [1-9] (not|is) heard |datagrams that are no message: |silent connections closed |all 64 connections wait )' \
+    grep -vE '^(opened: |mute up to instance |no longer mute$|caught up to instance |no majority heard |a majority is heard |node [1-9] (not|is) heard |datagrams that are no message: |silent connections closed |all 64 connections wait |published release=|publishing instance=|figures instance=)' \
         "$group/$1.err" || true
 }
 

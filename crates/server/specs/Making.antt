@@ -1,5 +1,9 @@
 -- What an empty or absent file of a record becomes.
-use Rattle.std.specs.Prelude.{◌≡◌, ◌⊎◌, ℕ, List, [], map, length, true, false}
+use Rattle.std.specs.Prelude.{◌≡◌, ◌⊎◌, ◌<◌, ℕ, List, [], map, length, Bool, true, false}
+use Rattle.site_disk.specs.Model.{DiskState}
+use Rattle.durable.specs.Append.{IsSettled}
+use Rattle.durable.specs.Formatting.{FormatsAbove}
+use Rattle.durable.specs.Standing.{StandsFor}
 use Rattle.server_floor.specs.Floors.{NamesFloor, RefusesWords}
 use Rattle.server_floor.specs.declared.fault.FloorFault.{FloorFault}
 use Rattle.server_faults.specs.declared.server_fault.ServerFault.{ServerFault}
@@ -24,3 +28,14 @@ HasNoFloor o why = (fault : FloorFault) × (why ≡ server_fault.BadFloor fault)
 
 abbrev pub MakesNone : ServeOptions → ServerFault → Type 0
 MakesNone o why = HasNoFloor o why ⊎ (why ≡ server_fault.OutOfMemory)
+
+-- The disk of node p of n becomes what is asked: an empty one an empty record, and one that is not empty stays. Where
+-- a floor is asked it was empty, and holds the record of that floor alone
+abbrev pub IsMade : {D : Type 0} → (D → DiskState → Type 0) → D → D → ℕ → ℕ → Making → Bool
+    → Type 0
+IsMade stands_for old new n p Nothing made = (made ≡ false) × (new ≡ old)
+IsMade stands_for old new n p Empty true = (d : DiskState) → stands_for old d
+    → (d.seen ≡ []) × (e : DiskState) × stands_for new e × IsSettled e × StandsFor p n e.seen []
+IsMade stands_for old new n p Empty false = (d : DiskState) → stands_for old d
+    → stands_for new d × (0 < length d.seen)
+IsMade stands_for old new n p (Above floor) made = (made ≡ true) × FormatsAbove stands_for old new p n floor

@@ -107,30 +107,30 @@ fn count_passes(node: u8, rounds: u32) -> u64
 }
 
 /// Says that the node is ready, takes so many passes, and says that its laps are done.
-fn work<C: Clock, W: Write, E: Write>(
-    clock: &C,
+fn work<R: Files<File = File> + Clock, W: Write, E: Write>(
+    rt: &R,
     alloc: Global,
     out: &mut Counted<W>,
     err: &mut Counted<E>,
     shell: &mut Shell,
     server: &mut FileServer,
-    id: u8,
     count: u64,
-    verbose: bool,
+    options: &ServeOptions<'_>,
 ) -> Result<(), ServerFault>
-    ensures said { WorkEnds verbose (end_of W.contents out.old out.new) (end_of E.contents err.old err.new) id result }
+    ensures said { WorkEnds options.now.verbose (end_of W.contents out.old out.new)
+        (end_of E.contents err.old err.new) options.now.id result }
     ensures passes { OnOk result (Led ⟦<FileDisk as Disk>⟧.stands_for server.old.served.node server.new.served.node (TakesPasses server.old.served.node.cluster server.old.served.node.me count server.new.served.node.releases)) }
     ensures halted { IfErr result (λ why. Led ⟦<FileDisk as Disk>⟧.stands_for server.old.served.node server.new.served.node (BreaksWork server.old.served.node.cluster server.old.served.node.me count why)
         ⊎ LosesPasses ⟦<FileDisk as Disk>⟧.stands_for server.old.served.node server.new.served.node count why) }
 {
-    say_ready(alloc, out, id)?;
-    take_passes(clock, alloc, err, shell, server, count, verbose)?;
+    say_ready(alloc, out, options.id)?;
+    take_passes(rt, alloc, err, shell, server, count, options)?;
     say_done(out)
 }
 
 /// Does a node's work, with the laps that were asked for.
-fn start<C: Clock, W: Write, E: Write>(
-    clock: &C,
+fn start<R: Files<File = File> + Clock, W: Write, E: Write>(
+    rt: &R,
     alloc: Global,
     out: &mut Counted<W>,
     err: &mut Counted<E>,
@@ -144,8 +144,7 @@ fn start<C: Clock, W: Write, E: Write>(
         ⊎ LosesPasses ⟦<FileDisk as Disk>⟧.stands_for server.old.served.node server.new.served.node (passes_of options.now.id options.now.rounds) why) }
 {
     let count = count_passes(options.id, options.rounds);
-    let (id, verbose) = (options.id, options.verbose);
-    work(clock, alloc, out, err, shell, server, id, count, verbose)
+    work(rt, alloc, out, err, shell, server, count, options)
 }
 
 /// Opens a node, and does its work.

@@ -4,6 +4,7 @@
 mod addresses;
 mod answering;
 mod engine;
+mod figures;
 mod mail;
 mod making;
 mod openings;

@@ -3,6 +3,7 @@
 ghost use Rattle.std.specs.Prelude.{IfOk, IfErr};
 ghost use Rattle.site_ids.specs.Ids.{IsNode};
 ghost use Rattle.server_faults.specs.ServerFaults.{EndsOpening};
+ghost use Rattle.server.specs.Making.{IsMade};
 ghost use Rattle.server.specs.Runs.{IsOpened};
 
 use crate::making::Making;
@@ -82,12 +83,14 @@ fn sync_folder<R: Files<File = File>>(
 
 /// Makes an empty file the record that is asked for, and tells whether it did. A file that is not empty stays as it is: it may be an empty record's
 /// place no more, and never that of one with a floor.
-fn make(
+fn make<D: Disk>(
     cluster: Cluster,
     me: NodeId,
     making: Making,
-    disk: &mut FileDisk,
-) -> Result<bool, RecordFault> {
+    disk: &mut D,
+) -> Result<bool, RecordFault>
+    ensures { IfOk result (IsMade D.stands_for disk.old disk.new cluster me making) }
+{
     match making {
         Making::Nothing => Ok(false),
         Making::Empty => {

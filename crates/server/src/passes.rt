@@ -15,12 +15,13 @@ use crate::saying::tell_notes;
 use crate::server::{Server, Stepped};
 use crate::shell::Shell;
 use http_read::Counted;
-use server_faults::ServerFault;
+use server_faults::{ServeOptions, ServerFault};
 use site_disk::Disk;
 use std::alloc::Global;
+use std::fs::File;
 use std::io::Write;
 use std::net::TcpStream;
-use std::rt::Clock;
+use std::rt::{Clock, Files};
 
 /// Rests behind a step, where it is to.
 fn rest_behind<D: Disk + Drop, C: Clock>(
@@ -56,31 +57,33 @@ fn take_pass<D: Disk + Drop, C: Clock>(
     let left = server.is_returning(now);
     let dropped = shell.part(&mut server.seats, now, left);
     let node = &server.served.node;
-    shell.watch.pass(now, node.known(), node.reached(), stepped);
+    shell
+        .watch
+        .pass(now, node.known(), node.reached(), node.newest(), stepped);
     rest_behind(clock, shell, server, stepped, heard || told || dropped);
     Ok(())
 }
 
-/// So many passes, and what is to be said behind each.
-pub(crate) fn take_passes<D: Disk + Drop, C: Clock, E: Write>(
-    clock: &C,
+/// Takes `count` passes, and reports after each what is due.
+pub(crate) fn take_passes<D: Disk + Drop, R: Files<File = File> + Clock, E: Write>(
+    rt: &R,
     alloc: Global,
     err: &mut Counted<E>,
     shell: &mut Shell,
     server: &mut Server<D, TcpStream>,
     count: u64,
-    verbose: bool,
+    options: &ServeOptions<'_>,
 ) -> Result<(), ServerFault>
     ensures ok { OnOk result (Led D.stands_for server.old.served.node server.new.served.node (TakesPasses server.old.served.node.cluster server.old.served.node.me count server.new.served.node.releases)) }
     ensures fault { IfErr result (λ why. Led D.stands_for server.old.served.node server.new.served.node (BreaksPasses server.old.served.node.cluster server.old.served.node.me count why) ⊎ LosesPasses D.stands_for server.old.served.node server.new.served.node count why) }
     ensures ends { IfErr result EndsLaps }
     ensures whose { StaysWhose server.old.served.node server.new.served.node }
     ensures counts { CountsNone result (failures D.failed server.old.served.node) (failures D.failed server.new.served.node) }
-    ensures noted { HasNoted verbose (end_of E.contents err.old err.new) }
+    ensures noted { HasNoted options.now.verbose (end_of E.contents err.old err.new) }
 {
     for _ in 0..count {
-        take_pass(clock, shell, server)?;
-        tell_notes(alloc, err, &mut shell.watch, verbose);
+        take_pass(rt, shell, server)?;
+        tell_notes(rt, alloc, err, &mut shell.watch, options);
     }
     Ok(())
 }

@@ -6,13 +6,16 @@ ghost use Rattle.server_notes.specs.Lines.{line_of_note};
 ghost use Rattle.server.specs.Noted.{HasNoted};
 ghost use Rattle.server.specs.Running.{ReadyEnds, DoneEnds};
 
+use crate::figures::take_figures;
 use crate::watch::Watch;
 use engine_common::give;
 use http_read::{Counted, write_all};
-use server_faults::ServerFault;
+use server_faults::{ServeOptions, ServerFault};
 use server_notes::Note;
 use std::alloc::{AllocError, Global};
+use std::fs::File;
 use std::io::Write;
+use std::rt::Files;
 
 /// The line of a note.
 fn note_line(alloc: Global, note: &Note) -> Result<String, AllocError>
@@ -30,19 +33,23 @@ fn tell_note<E: Write>(alloc: Global, err: &mut Counted<E>, note: &Note)
     }
 }
 
-/// Writes all that is to be said behind a pass, of each of the eleven kinds a line at most, where that was asked for.
-pub(crate) fn tell_notes<E: Write>(
+/// Writes all that is to be said after a pass, of each of the fourteen kinds a line at most, if options ask for that.
+pub(crate) fn tell_notes<R: Files<File = File>, E: Write>(
+    rt: &R,
     alloc: Global,
     err: &mut Counted<E>,
     watch: &mut Watch,
-    asked: bool,
+    options: &ServeOptions<'_>,
 )
-    ensures { HasNoted asked (end_of E.contents err.old err.new) }
+    ensures { HasNoted options.now.verbose (end_of E.contents err.old err.new) }
 {
-    if !asked {
+    if !options.verbose {
         return;
     }
-    for _ in 0..11 {
+    if watch.is_hour() {
+        watch.figure(take_figures(rt, options.record));
+    }
+    for _ in 0..14 {
         match watch.next() {
             Some(note) => tell_note(alloc, err, &note),
             None => return,

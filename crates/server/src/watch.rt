@@ -3,15 +3,16 @@
 //! A message counts for the node that it names as its sender, as the server's node takes it: by addresses nobody would be heard where those are translated.
 
 use crate::server::Stepped;
-use server_notes::{Note, Notes};
+use server_notes::{Figures, Note, Notes};
 
 /// What became of clients in a pass, beside the notes of all passes before it.
 #[derive(Drop)]
 pub(crate) struct Watch {
     notes: Notes,
-    // the moment of the last pass, in milliseconds since the server began, and how many values were known behind it
+    // the moment of the last pass, in milliseconds since the server began, and how many values were known and which release was the newest after it
     now: u64,
     known: u32,
+    newest: u64,
     displaced: u64,
     full: bool,
 }
@@ -23,6 +24,7 @@ impl Watch {
             notes,
             now: 0,
             known: 0,
+            newest: 0,
             displaced: 0,
             full: false,
         }
@@ -38,19 +40,38 @@ impl Watch {
         self.full = true;
     }
 
-    /// The pass is over, whose step came to this: so many values are known, and what was heard of reaches so far.
-    pub(crate) fn pass(&mut self, now: u64, known: u32, reached: u32, stepped: Stepped) {
+    /// The pass is over, whose step saw this. `known` values are known, values up to `reached` were heard of, and
+    /// `newest` is the newest release.
+    pub(crate) fn pass(
+        &mut self,
+        now: u64,
+        known: u32,
+        reached: u32,
+        newest: u64,
+        stepped: Stepped,
+    ) {
         self.notes.hear(now, known, reached, stepped.heard);
         self.notes
             .count(stepped.malformed, self.displaced, self.full);
         self.now = now;
         self.known = known;
+        self.newest = newest;
         self.displaced = 0;
         self.full = false;
     }
 
+    /// Whether the figures of the hour are to be taken.
+    pub(crate) fn is_hour(&self) -> bool {
+        self.notes.is_hour(self.now)
+    }
+
+    /// These were taken.
+    pub(crate) fn figure(&mut self, figures: Figures) {
+        self.notes.figure(figures);
+    }
+
     /// What is said next, if anything.
     pub(crate) fn next(&mut self) -> Option<Note> {
-        self.notes.next(self.now, self.known)
+        self.notes.next(self.now, self.known, self.newest)
     }
 }

@@ -1,7 +1,9 @@
 -- What a server has to say, and what it may say. Moments are milliseconds since it began.
 use Rattle.std.specs.Prelude.{◌≡◌, ℕ, ◌-◌, ◌/◌, ◌<◌, List, [], ◌∷◌, replicate, get_or, set, Bool, true, false, nat_eq, nat_le, if◌then◌else◌, Option, Some, None}
 use Rattle.server_notes.specs.Listening.{first_listening, silence_at, FindsSilent, FindsEnded}
+use Rattle.server_notes.specs.Hours.{no_hour, hour_after, figures_note}
 use Rattle.server_notes.specs.Muteness.{first_muteness, mute_note, ended_note}
+use Rattle.server_notes.specs.Publishing.{nothing_said, began_note, release_note}
 use Rattle.server_notes.specs.Noting.{silence_of, told_at, ended_told, joined_at, learned_at, has_settled, is_long}
 use Rattle.server_notes.specs.declared.catching.Catching.{Catching}
 use Rattle.server_notes.specs.declared.catching.Catching.TheVariants.{Done, Alone}
@@ -20,10 +22,12 @@ first_notes n me votes floor = record {
   malformed = 0;
   displaced = 0;
   full = false;
-  said = replicate 11 None;
+  publishing = nothing_said;
+  hours = no_hour;
+  said = replicate 14 None;
 }
 
--- where it stands once so many values are known and what was heard of reaches so far, and a majority is heard or not
+-- where it stands once that many values are known, values up to `reached` were heard of, and a majority is heard or not
 abbrev pub following : Catching → Bool → ℕ → ℕ → ℕ → Catching
 following c majority now known reached = learned_at (if majority then joined_at c now known reached else c) now known reached
 
@@ -48,8 +52,8 @@ heard_of None = None
 heard_of (Some (p, millis)) = Some (note.Heard p (millis / 1000))
 
 -- what is due, of each kind in its place, where these nodes are silent and heard again
-abbrev pub due_notes : Notes → ℕ → ℕ → Option (ℕ × ℕ) → Option (ℕ × ℕ) → List (Option Note)
-due_notes n now known silent ended =
+abbrev pub due_notes : Notes → ℕ → ℕ → ℕ → Option (ℕ × ℕ) → Option (ℕ × ℕ) → List (Option Note)
+due_notes n now known newest silent ended =
     let m = n.listening.majority in
     opened_of n.votes
     ∷ mute_note n.muteness
@@ -62,6 +66,9 @@ due_notes n now known silent ended =
     ∷ counted n.malformed (note.Malformed n.malformed)
     ∷ counted n.displaced (note.Displaced n.displaced)
     ∷ due_if n.full note.Full
+    ∷ release_note n.publishing known newest
+    ∷ began_note n.publishing known newest
+    ∷ figures_note n.hours known newest
     ∷ []
 
 -- a line of a kind that was said last then, or never, may be said where a second has passed since
@@ -85,11 +92,14 @@ settled n now (note.Heard p seconds) = record n { listening = record n.listening
 settled n now (note.Malformed count) = record n { malformed = 0 }
 settled n now (note.Displaced count) = record n { displaced = 0 }
 settled n now note.Full = record n { full = false }
+settled n now (note.Published release instance) = record n { publishing = record { release = release; known = instance; began = false } }
+settled n now (note.Began instance) = record n { publishing = record n.publishing { began = true } }
+settled n now (note.Figures instance release bytes memory) = record n { hours = hour_after now }
 
 -- this is the first that is due and may be said; then a second goes by before a line of its kind is said again
 pub record IsNext (old : Notes) (now : ℕ) (due : List (Option Note)) (note : Note) (new : Notes) : Type 0 where
   pub kind : ℕ
-  pub below : kind < 11
+  pub below : kind < 14
   pub is : may_say old.said now due kind ≡ Some note
   pub first : (k : ℕ) → k < kind → may_say old.said now due k ≡ None
   pub after : new ≡ record (settled old now note) { said = set old.said kind (Some now) }
@@ -97,12 +107,12 @@ pub record IsNext (old : Notes) (now : ℕ) (due : List (Option Note)) (note : N
 -- that is said, or nothing is to be said
 abbrev pub SaysOf : Notes → ℕ → List (Option Note) → Option Note → Notes → Type 0
 SaysOf old now due (Some note) new = IsNext old now due note new
-SaysOf old now due None new = ((k : ℕ) → k < 11 → may_say old.said now due k ≡ None) × (new ≡ old)
+SaysOf old now due None new = ((k : ℕ) → k < 14 → may_say old.said now due k ≡ None) × (new ≡ old)
 
--- A server says so much next
-pub record Says (old : Notes) (now known : ℕ) (next : Option Note) (new : Notes) : Type 0 where
+-- A server says this next, where that many values are known and that release is the newest
+pub record Says (old : Notes) (now known newest : ℕ) (next : Option Note) (new : Notes) : Type 0 where
   pub silent : Option (ℕ × ℕ)
   pub ended : Option (ℕ × ℕ)
   pub finds_silent : FindsSilent old.listening now silent
   pub finds_ended : FindsEnded old.listening ended
-  pub says : SaysOf old now (due_notes old now known silent ended) next new
+  pub says : SaysOf old now (due_notes old now known newest silent ended) next new

@@ -6,27 +6,27 @@ ghost use Rattle.server_notes.specs.Noting.{joined_at, learned_at, has_settled};
 /// Milliseconds in which few values become known where a server has caught up.
 const SETTLING: u64 = 2000;
 
-/// What is heard of in so many of them, from the first on, is to be known by their end: enough for a question and its answer; what is heard of later may be
-/// tried just then.
+/// What is heard of in the first that many of them is to be known by their end, which is enough for a question and its
+/// answer. What is heard of later may be tried just then.
 const HEARING: u64 = 1500;
 
-/// So many values in that time are not few: one whole telling of another node.
+/// This many values in that time are not few: one whole telling of another node.
 const MANY: u32 = 64;
 
-/// Where a server stands behind its start or an absence.
+/// Where a server stands after its start or an absence.
 #[derive(Clone, Copy, Drop)]
 pub enum Catching {
     /// It was said that it caught up.
     Done,
     /// It hears no majority.
     Alone,
-    /// It hears a majority, and few values became known since this moment, in milliseconds since it began, at which it knew so many; and what it heard of
-    /// reached so far.
+    /// It hears a majority, and few values became known since the moment `at`, in milliseconds since it began. `known`
+    /// values were known then, and values up to `reach` were heard of.
     Since { at: u64, known: u32, reach: u32 },
 }
 
 impl Catching {
-    /// A majority is heard, where so many values are known, and what was heard of reaches so far.
+    /// A majority is heard. `known` values are known, and values up to `reached` were heard of.
     pub fn joined(self, now: u64, known: u32, reached: u32) -> Catching
         ensures { result ≡ joined_at self now known reached }
     {
@@ -40,7 +40,7 @@ impl Catching {
         }
     }
 
-    /// So many values are known now, and what was heard of reaches so far.
+    /// `known` values are known now, and values up to `reached` were heard of.
     pub fn learned(self, now: u64, known: u32, reached: u32) -> Catching
         ensures { result ≡ learned_at self now known reached }
     {
@@ -69,7 +69,7 @@ impl Catching {
         }
     }
 
-    /// Whether it has caught up, which was not said yet, where so many values are known.
+    /// Whether it has caught up, which was not reported yet, with `known` values known.
     pub fn has_settled(self, now: u64, known: u32) -> bool
         ensures { result ≡ has_settled self now known }
     {

@@ -8,7 +8,8 @@ ghost use Rattle.server_notes.specs.Noting.{told_at, ended_told};
 use crate::silence::Silence;
 use site_ids::{Cluster, NodeId, NodeSet};
 
-/// Of each node how long it was not heard, and of a majority, which is heard each time that so many different nodes were. A server hears itself.
+/// How long each node was not heard, and a majority. A majority is heard each time that as many different nodes were. A
+/// server hears itself.
 #[derive(Clone, Copy, Drop)]
 pub struct Listening {
     cluster: Cluster,
@@ -40,7 +41,7 @@ fn hear_each(silences: [Silence; 9], heard: [bool; 9], now: u64) -> [Silence; 9]
 }
 
 impl Listening {
-    /// The server of that number begins, in a group of so many.
+    /// The server `me` of a group of that size begins.
     pub fn new(cluster: Cluster, me: NodeId) -> Listening
         ensures { result ≡ first_listening cluster me }
     {
@@ -68,7 +69,7 @@ impl Listening {
         true
     }
 
-    /// The first node whose silence is to be told, and how many milliseconds it is long.
+    /// The first node whose silence is due to be reported, and its length in milliseconds.
     pub fn first_silent(&self, now: u64) -> Option<(NodeId, u64)>
         ensures { FindsSilent self.now now result }
     {
@@ -82,7 +83,7 @@ impl Listening {
         None
     }
 
-    /// The first node the end of whose silence is to be told, and how many milliseconds it was long.
+    /// The first node the end of whose silence is due to be reported, and its length in milliseconds.
     pub fn first_ended(&self) -> Option<(NodeId, u64)>
         ensures { FindsEnded self.now result }
     {
@@ -96,7 +97,7 @@ impl Listening {
         None
     }
 
-    /// The silence of that node is told.
+    /// The silence of that node was reported.
     pub(crate) fn tell_silent(&mut self, node: NodeId, now: u64)
         ensures { self.new ≡ record self.old { silences = set self.old.silences (node - 1) (told_at (silence_at self.old.silences (node - 1)) now) } }
     {
@@ -104,7 +105,7 @@ impl Listening {
         self.silences[at] = self.silences[at].told(now);
     }
 
-    /// The end of that node's silence is told.
+    /// The end of that node's silence was reported.
     pub(crate) fn tell_ended(&mut self, node: NodeId)
         ensures { self.new ≡ record self.old { silences = set self.old.silences (node - 1) (ended_told (silence_at self.old.silences (node - 1))) } }
     {

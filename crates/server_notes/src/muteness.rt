@@ -38,7 +38,7 @@ impl Muteness {
         }
     }
 
-    /// What is to be said at its end, where so many values are known.
+    /// The line of its end, which is due once all values up to its floor are known.
     pub(crate) fn end(self, known: u32) -> Option<Note>
         ensures { result ≡ ended_note self known }
     {

@@ -6,28 +6,64 @@ use std::fmt;
 /// An event that matters to who runs a server. Its `Display` is its line, without the newline.
 #[derive(Clone, Copy, Debug, PartialEq, Eq, Drop)]
 pub enum Note {
-    /// The server is ready, and its record has so many votes.
-    Opened { votes: u32 },
+    /// The server is ready, and its record has that many votes.
+    Opened {
+        votes: u32,
+    },
     /// Its record took the place of a lost one: it promises and votes for nothing up to this instance, and tries nothing before it knows that far.
-    Mute { instance: u32 },
-    /// It knows so far: it takes part in all that follows.
+    Mute {
+        instance: u32,
+    },
+    /// It knows all values up to its floor: it takes part in all that follows.
     NoLongerMute,
     /// After a start or an absence: it knows all values up to this instance and all that it heard of, but for the last moments; and little more comes.
-    CaughtUp { instance: u32 },
-    /// For so long no majority was heard, itself included.
-    NoMajority { seconds: u64 },
-    /// A majority is heard, as it was not for so long.
-    Majority { seconds: u64 },
-    /// For so long this node was not heard.
-    Silent { node: NodeId, seconds: u64 },
-    /// This node is heard, as it was not for so long.
-    Heard { node: NodeId, seconds: u64 },
-    /// So many datagrams came that spell no message.
-    Malformed { count: u64 },
-    /// So many connections, each the one that was silent longest, were closed for further clients.
-    Displaced { count: u64 },
+    CaughtUp {
+        instance: u32,
+    },
+    /// For that long no majority was heard, itself included.
+    NoMajority {
+        seconds: u64,
+    },
+    /// A majority is heard, after it was not for that long.
+    Majority {
+        seconds: u64,
+    },
+    /// For that long this node was not heard.
+    Silent {
+        node: NodeId,
+        seconds: u64,
+    },
+    /// This node is heard, after it was not for that long.
+    Heard {
+        node: NodeId,
+        seconds: u64,
+    },
+    /// That many datagrams came that spell no message.
+    Malformed {
+        count: u64,
+    },
+    /// That many connections, each the one that was silent longest, were closed for further clients.
+    Displaced {
+        count: u64,
+    },
     /// A response is owed on each connection, so that further clients wait.
     Full,
+    /// This is the newest release, and was not reported yet; all values up to this instance are known.
+    Published {
+        release: u64,
+        instance: u32,
+    },
+    /// The value of this instance is known, the first that became known after the newest release was reported.
+    Began {
+        instance: u32,
+    },
+    /// Each hour: how far it knows, its newest release, how many bytes its record has, and how many of memory it takes.
+    Figures {
+        instance: u32,
+        release: u64,
+        bytes: u64,
+        memory: u64,
+    },
 }
 
 impl fmt::Display for Note {
@@ -58,6 +94,19 @@ impl fmt::Display for Note {
             }
             Note::Full => f.write_str(
                 "all 64 connections wait for a response: further clients wait",
+            ),
+            Note::Published { release, instance } => {
+                write!(f, "published release={release} instance={instance}")
+            }
+            Note::Began { instance } => write!(f, "publishing instance={instance}"),
+            Note::Figures {
+                instance,
+                release,
+                bytes,
+                memory,
+            } => write!(
+                f,
+                "figures instance={instance} release={release} record_bytes={bytes} memory_bytes={memory}"
             ),
         }
     }

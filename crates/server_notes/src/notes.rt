@@ -2,20 +2,24 @@
 //!
 //! Kinds have an order, and each its second, so that a flood of one keeps no other from being said.
 
-ghost use Rattle.std.specs.Prelude.{◌≡◌, ◌+◌, ◌^◌, ◌-◌, min, Bool, None, if◌then◌else◌, ◌||◌};
+ghost use Rattle.std.specs.Prelude.{◌≡◌, ◌+◌, ◌^◌, ◌-◌, min, Bool, None, Some, if◌then◌else◌, ◌||◌};
 ghost use Rattle.server_notes.specs.Due.{counted, due_if, due_notes, first_notes, following, heard_of, is_free, opened_of, settled, silent_of, Says, SaysOf};
+ghost use Rattle.server_notes.specs.Hours.{is_hour};
 ghost use Rattle.server_notes.specs.Listening.{Hears};
 
 use crate::catching::Catching;
+use crate::hours::{Figures, Hours};
 use crate::listening::Listening;
 use crate::muteness::Muteness;
 use crate::note::Note;
+use crate::publishing::Publishing;
 use site_ids::{Cluster, NodeId, NodeSet};
 
 /// Milliseconds between two lines of one kind, at least.
 pub const EACH: u64 = 1000;
 
-/// What a server heard of whom, what it counted, and what it said last, and when. Moments are milliseconds since it began, none of them less than the one before.
+/// What a server heard of whom, what it counted, what it said last, and when. Moments are milliseconds since it began,
+/// none of them less than the one before.
 #[derive(Clone, Copy, Drop)]
 pub struct Notes {
     // of the record, until that is said
@@ -26,12 +30,14 @@ pub struct Notes {
     malformed: u64,
     displaced: u64,
     full: bool,
+    publishing: Publishing,
+    hours: Hours,
     // when a line of each kind was said last, in the order of the kinds of `Note`
-    said: [Option<u64>; 11],
+    said: [Option<u64>; 14],
 }
 
 impl Notes {
-    /// The server begins, over a record with so many votes and that floor, 0 where it has none.
+    /// The server begins, over a record with that many votes and that floor; 0 means no floor.
     pub fn new(cluster: Cluster, me: NodeId, votes: u32, floor: u32) -> Notes
         ensures { result ≡ first_notes cluster me votes floor }
     {
@@ -43,11 +49,13 @@ impl Notes {
             malformed: 0,
             displaced: 0,
             full: false,
-            said: [None; 11],
+            publishing: Publishing::new(),
+            hours: Hours::new(),
+            said: [None; 14],
         }
     }
 
-    /// Something came of these nodes; so many values are known, and what was heard of reaches so far.
+    /// Messages of these nodes came. `known` values are known, and values up to `reached` were heard of.
     pub fn hear(&mut self, now: u64, known: u32, reached: u32, heard: NodeSet)
         ensures { (majority : Bool) × Hears self.old.listening now heard majority self.new.listening
             × (self.new ≡ record self.old { listening = self.new.listening; catching = following self.old.catching majority now known reached }) }
@@ -58,7 +66,8 @@ impl Notes {
         self.catching = self.catching.learned(now, known, reached);
     }
 
-    /// So many datagrams spelled no message, so many connections were closed for further clients, and whether further clients found no place.
+    /// `malformed` datagrams spelled no message, and `displaced` connections were closed for further clients. `full` says
+    /// whether further clients found no place.
     pub fn count(&mut self, malformed: u64, displaced: u64, full: bool)
         ensures { self.new ≡ record self.old { malformed = min (self.old.malformed + malformed) (2 ^ 64 - 1); displaced = min (self.old.displaced + displaced) (2 ^ 64 - 1); full = self.old.full || full } }
     {
@@ -72,10 +81,11 @@ impl Notes {
         &self,
         now: u64,
         known: u32,
+        newest: u64,
         silent: Option<(NodeId, u64)>,
         ended: Option<(NodeId, u64)>,
-    ) -> [Option<Note>; 11]
-        ensures { result ≡ due_notes self.now now known silent ended }
+    ) -> [Option<Note>; 14]
+        ensures { result ≡ due_notes self.now now known newest silent ended }
     {
         let majority = self.listening.majority;
         let (alone, again) = (majority.length(now) / 1000, majority.ended / 1000);
@@ -95,6 +105,9 @@ impl Notes {
             counted(malformed, Note::Malformed { count: malformed }),
             counted(displaced, Note::Displaced { count: displaced }),
             due_if(self.full, Note::Full),
+            self.publishing.release(known, newest),
+            self.publishing.beginning(known, newest),
+            self.hours.figures(known, newest),
         ]
     }
 
@@ -119,14 +132,19 @@ impl Notes {
             Note::Malformed { .. } => self.malformed = 0,
             Note::Displaced { .. } => self.displaced = 0,
             Note::Full => self.full = false,
+            Note::Published { release, instance } => {
+                self.publishing = Publishing::released(release, instance);
+            }
+            Note::Began { .. } => self.publishing = self.publishing.begun(),
+            Note::Figures { .. } => self.hours = Hours::said(now),
         }
     }
 
     /// What of this is said next, if anything. It is due no more then.
-    fn say(&mut self, now: u64, due: [Option<Note>; 11]) -> Option<Note>
+    fn say(&mut self, now: u64, due: [Option<Note>; 14]) -> Option<Note>
         ensures { SaysOf self.old now due result self.new }
     {
-        for kind in 0..11 {
+        for kind in 0..14 {
             if let Some(note) = may_say(self.said[kind], now, due[kind]) {
                 self.settle(now, &note);
                 self.said[kind] = Some(now);
@@ -136,13 +154,28 @@ impl Notes {
         None
     }
 
-    /// What is said next, if anything: at most one line of each kind in a second. It is due no more then.
-    pub fn next(&mut self, now: u64, known: u32) -> Option<Note>
-        ensures { Says self.old now known result self.new }
+    /// Whether the figures of the hour are to be taken.
+    pub fn is_hour(&self, now: u64) -> bool
+        ensures { result ≡ is_hour self.now.hours now }
+    {
+        self.hours.is_hour(now)
+    }
+
+    /// The figures of the hour were taken.
+    pub fn figure(&mut self, figures: Figures)
+        ensures { self.new ≡ record self.old { hours = record self.old.hours { taken = Some figures } } }
+    {
+        self.hours = self.hours.taken(figures);
+    }
+
+    /// The next line, if one is due: at most one of each kind in a second. `known` values are known, and `newest` is the
+    /// newest release. A line that was said is no longer due.
+    pub fn next(&mut self, now: u64, known: u32, newest: u64) -> Option<Note>
+        ensures { Says self.old now known newest result self.new }
     {
         let silent = self.listening.first_silent(now);
         let ended = self.listening.first_ended();
-        self.say(now, self.due(now, known, silent, ended))
+        self.say(now, self.due(now, known, newest, silent, ended))
     }
 }
 

@@ -3,7 +3,7 @@
 ghost use Rattle.std.specs.Prelude.{◌≡◌, if◌then◌else◌};
 ghost use Rattle.server_notes.specs.Noting.{no_silence, heard_at, told_at, ended_told, silence_of, is_long};
 
-/// Milliseconds of silence behind which it is told first.
+/// Milliseconds of silence after which it is first reported.
 pub const LONG: u64 = 5000;
 
 /// When somebody was heard last, and what was told of it. Moments and lengths are milliseconds, moments since the server began.
@@ -13,7 +13,7 @@ pub struct Silence {
     pub heard: u64,
     /// So long a silence was told last, 0 where none was told since it was heard.
     pub told: u64,
-    /// So long was a silence that was told and has ended, 0 where there is none or its end was told.
+    /// The length of a silence that was reported and has ended; 0 if there is none, or its end was reported.
     pub ended: u64,
 }
 
@@ -58,7 +58,7 @@ impl Silence {
         if heard { self.heard(now) } else { self }
     }
 
-    /// Whether its silence is to be told: behind 5 seconds, and then each time that it is twice as long as was told last.
+    /// Whether its silence is due to be reported: after 5 seconds, and then each time that it is twice as long as last reported.
     pub fn is_long(self, now: u64) -> bool
         ensures { result ≡ is_long self now }
     {
@@ -66,7 +66,7 @@ impl Silence {
         length >= LONG && length / 2 >= self.told
     }
 
-    /// Its silence is told.
+    /// Its silence was reported.
     pub fn told(self, now: u64) -> Silence
         ensures { result ≡ told_at self now }
     {
@@ -76,7 +76,7 @@ impl Silence {
         }
     }
 
-    /// The end of its silence is told.
+    /// The end of its silence was reported.
     pub fn ended_told(self) -> Silence
         ensures { result ≡ ended_told self }
     {

@@ -1,7 +1,7 @@
 //! What a server says of itself, and when.
 use crate::comparing::{ensure, same};
 use crate::group::nodes_of;
-use server_notes::{Note, Notes};
+use server_notes::{Figures, HOUR, Note, Notes};
 use site_ids::Cluster;
 use std::alloc::Global;
 use std::process::Abort;
@@ -29,7 +29,7 @@ const OF_THREE: &[Pass] = &[
     (0, 0, NOBODY, FINE, &["opened: votes on record: 7"]),
     (10, 0, BOTH, FINE, &[]),
     // a whole telling came: two seconds begin anew
-    (1000, 64, TWO, FINE, &[]),
+    (1000, 64, TWO, FINE, &["publishing instance=1"]),
     (2500, 70, TWO, FINE, &[]),
     (3000, 70, TWO, FINE, &["caught up to instance 70"]),
     (
@@ -109,7 +109,7 @@ const OF_THREE: &[Pass] = &[
 /// Of node 1 of one, over a new record: it is a majority.
 const OF_ONE: &[Pass] = &[
     (0, 0, NOBODY, FINE, &["opened: votes on record: 0"]),
-    (1999, 1, NOBODY, FINE, &[]),
+    (1999, 1, NOBODY, FINE, &["publishing instance=1"]),
     (2000, 1, NOBODY, FINE, &["caught up to instance 1"]),
     (2001, 1, NOBODY, FINE, &[]),
     (100000, 1, NOBODY, FINE, &[]),
@@ -124,7 +124,7 @@ const REPLACED: &[Pass] = &[
         FINE,
         &["opened: votes on record: 0", "mute up to instance 65"],
     ),
-    (10, 64, BOTH, FINE, &[]),
+    (10, 64, BOTH, FINE, &["publishing instance=1"]),
     (20, 65, BOTH, FINE, &["no longer mute"]),
     (2009, 65, BOTH, FINE, &[]),
     (2010, 65, BOTH, FINE, &["caught up to instance 65"]),
@@ -141,6 +141,7 @@ const TOLD_ITSELF: &[Pass] = &[(
         "opened: votes on record: 0",
         "mute up to instance 65",
         "no longer mute",
+        "publishing instance=1",
     ],
 )];
 
@@ -149,7 +150,12 @@ type Behind = (u64, u32, u32, &'static [&'static str]);
 
 /// Few values become known, and far more is heard of.
 const SLOW: &[Behind] = &[
-    (0, 20, 0, &["opened: votes on record: 7"]),
+    (
+        0,
+        20,
+        0,
+        &["opened: votes on record: 7", "publishing instance=1"],
+    ),
     (400, 21, 84, &[]),
     // two seconds begin anew, as 84 are not known, and again
     (2000, 40, 104, &[]),
@@ -166,7 +172,12 @@ const SLOW: &[Behind] = &[
 
 /// Values become known as they are submitted: one is tried at each moment.
 const BUSY: &[Behind] = &[
-    (0, 20, 21, &["opened: votes on record: 7"]),
+    (
+        0,
+        20,
+        21,
+        &["opened: votes on record: 7", "publishing instance=1"],
+    ),
     (1499, 25, 26, &[]),
     (1500, 26, 27, &[]),
     (1999, 30, 31, &[]),
@@ -185,9 +196,9 @@ fn pass(rt: &impl Abort, alloc: Global, notes: &mut Notes, pass: Pass) {
     notes.hear(now, known, known, nodes_of(rt, heard));
     notes.count(malformed, displaced, full);
     for &line in lines {
-        reads(rt, alloc, notes.next(now, known).expect(rt, line), line);
+        reads(rt, alloc, notes.next(now, known, 0).expect(rt, line), line);
     }
-    ensure(rt, notes.next(now, known).is_none(), now);
+    ensure(rt, notes.next(now, known, 0).is_none(), now);
 }
 
 fn passes(rt: &impl Abort, alloc: Global, size: u8, record: (u32, u32), all: &[Pass]) {
@@ -229,11 +240,119 @@ fn a_server_that_heard_of_more_has_not_caught_up(rt: HostRuntime) {
                 reads(
                     &rt,
                     rt.alloc(),
-                    notes.next(now, known).expect(&rt, line),
+                    notes.next(now, known, 0).expect(&rt, line),
                     line,
                 );
             }
-            ensure(&rt, notes.next(now, known).is_none(), now);
+            ensure(&rt, notes.next(now, known, 0).is_none(), now);
         }
+    }
+}
+
+/// What node 1 of one says, over a record with that many votes.
+fn alone(rt: &impl Abort, votes: u32) -> Notes {
+    let cluster = Cluster::new(1).expect(rt, "a cluster");
+    let me = cluster.node(1).expect(rt, "a node");
+    Notes::new(cluster, me, votes, 0)
+}
+
+/// Of node 1 of one: the moment, how many values are known, which release is the newest, and what is said.
+type Publication = (u64, u32, u64, &'static [&'static str]);
+
+const PUBLICATIONS: &[Publication] = &[
+    (
+        0,
+        57,
+        3,
+        &[
+            "opened: votes on record: 57",
+            "published release=3 instance=57",
+        ],
+    ),
+    (500, 57, 3, &[]),
+    (600, 60, 3, &["publishing instance=58"]),
+    (700, 80, 3, &[]),
+    // a second has passed since one was said
+    (999, 90, 4, &[]),
+    (1000, 95, 4, &["published release=4 instance=95"]),
+    // within the second neither a release nor what comes after the last one is said
+    (1100, 99, 6, &[]),
+    (
+        2000,
+        99,
+        7,
+        &[
+            "caught up to instance 99",
+            "published release=7 instance=99",
+        ],
+    ),
+    (2001, 99, 7, &[]),
+    (9000, 100, 7, &["publishing instance=100"]),
+    (99000, 101, 7, &[]),
+];
+
+#[test]
+fn a_release_and_what_comes_first_after_it_have_a_line(rt: HostRuntime) {
+    let mut notes = alone(&rt, 57);
+    for &(now, known, newest, lines) in PUBLICATIONS {
+        notes.hear(now, known, known, nodes_of(&rt, NOBODY));
+        for &line in lines {
+            let note = notes.next(now, known, newest).expect(&rt, line);
+            reads(&rt, rt.alloc(), note, line);
+        }
+        ensure(&rt, notes.next(now, known, newest).is_none(), now);
+    }
+}
+
+/// Of node 1 of one, over a new record: the moment, and what is said. Its record has as many bytes as milliseconds have passed.
+const HOURS: &[(u64, &[&str])] = &[
+    (
+        0,
+        &[
+            "opened: votes on record: 0",
+            "figures instance=0 release=0 record_bytes=0 memory_bytes=8192",
+        ],
+    ),
+    (6, &[]),
+    (2000, &["caught up to instance 0"]),
+    (HOUR - 1, &[]),
+    (
+        HOUR + 7,
+        &["figures instance=0 release=0 record_bytes=3600007 memory_bytes=8192"],
+    ),
+    (HOUR + 1008, &[]),
+    (2 * HOUR - 1, &[]),
+    // hours in which nothing passed have no figures
+    (
+        5 * HOUR,
+        &["figures instance=0 release=0 record_bytes=18000000 memory_bytes=8192"],
+    ),
+    (6 * HOUR - 1, &[]),
+    (
+        6 * HOUR,
+        &["figures instance=0 release=0 record_bytes=21600000 memory_bytes=8192"],
+    ),
+];
+
+#[test]
+fn figures_are_said_once_an_hour(rt: HostRuntime) {
+    let mut notes = alone(&rt, 0);
+    for &(now, lines) in HOURS {
+        notes.hear(now, 0, 0, nodes_of(&rt, NOBODY));
+        if notes.is_hour(now) {
+            notes.figure(Figures {
+                bytes: now,
+                memory: 8192,
+            });
+        }
+        for &line in lines {
+            reads(
+                &rt,
+                rt.alloc(),
+                notes.next(now, 0, 0).expect(&rt, line),
+                line,
+            );
+        }
+        ensure(&rt, notes.next(now, 0, 0).is_none(), now);
     }
 }

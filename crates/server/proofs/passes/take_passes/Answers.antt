@@ -27,7 +27,7 @@ loop-preserved g c = record {
       one_pass_more g.D.Disk.stands_for c.args.server.now.served.node c.loop.server.served.node c.take_pass.new.server.served.node
       c.loop.invariant.whose c.loop.counter _ c.loop.invariant.leads c.take_pass.new.server.served.node.releases c.in_ok-take_pass.ensures.ok;
   whose = stays_on _ _ _ c.loop.invariant.whose c.take_pass.ensures.whose;
-  noted = noted_on c.args.verbose _ _ _ _ _ _ c.loop.invariant.noted c.tell_notes.ensures;
+  noted = noted_on c.args.options.now.verbose _ _ _ _ _ _ c.loop.invariant.noted c.tell_notes.ensures;
   counts = none_failed _ _ _ c.in_ok-take_pass.ensures.counts ∙ c.loop.invariant.counts;
 }
 
