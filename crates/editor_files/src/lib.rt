@@ -2,18 +2,21 @@
 //!
 //! `files.rt` reads the files of a folder and writes some, `holding.rt` keeps other processes from publishing
 //! it meanwhile, `reading.rt` tells what is wrong with them, as `editor_folder` says, and `saving.rt` keeps
-//! the file `published`: it alone makes the `Saved` of `saved.rt`, out of which commands are sent. What a
-//! real file gives and takes is tested, not proved.
+//! the file `published`: it alone makes the `Saved` of `saved.rt`, out of which commands are sent.
+//! `released.rt` has the texts of a release from there. What a real file gives and takes is tested, not
+//! proved.
 #![tactic(auto)]
 
 mod files;
 mod holding;
 mod reading;
+mod released;
 mod saved;
 mod saving;
 
 pub use files::{below, is_free, write_file};
 pub use holding::hold;
 pub use reading::{Clean, Read, read_clean, read_folder, tell_findings, texts_of};
+pub use released::{lent, release_texts};
 pub use saved::Saved;
 pub use saving::{new_editor, read_ledger, save};

@@ -54,6 +54,8 @@ fn shown(alloc: Global, editor: u32, next: u64, kept: Vec<String>) -> Ledger
         kept,
         sent: Vec::new(alloc),
         log: Vec::new(alloc),
+        past: Vec::new(alloc),
+        messages: Vec::new(alloc),
     }
 }
 

@@ -44,6 +44,7 @@ pub enum Word<'a> {
         patience: u64,
         dry_run: bool,
         take_over: bool,
+        release: Option<u64>,
         ignore: bool,
     },
     /// Serves a folder as it is on disk.
@@ -51,6 +52,12 @@ pub enum Word<'a> {
         folder: &'a str,
         http: &'a str,
         ignore: bool,
+    },
+    /// Writes a folder as it was at a release.
+    Restore {
+        folder: &'a str,
+        release: u64,
+        out: &'a str,
     },
     /// Tells the releases of a folder.
     Log {
@@ -217,6 +224,16 @@ fn take_over_flag<'a>(alloc: Global) -> Arg<'a> {
     flag(alloc, "take-over", "Puts paths that others have put too")
 }
 
+fn release_option<'a>(alloc: Global) -> Arg<'a> {
+    option(
+        alloc,
+        "release",
+        "N",
+        "Makes release N of this folder the next one, from what FOLDER/published keeps; its files stay as they are",
+    )
+    .value_parser(clap::value_parser!(u64))
+}
+
 fn publish_word<'a>(alloc: Global) -> Result<Command<'a>, AllocError> {
     let about = "Makes a folder the next release of a group, and goes on where it was interrupted";
     let word = site_word(alloc, "publish", about);
@@ -229,7 +246,29 @@ fn publish_word<'a>(alloc: Global) -> Result<Command<'a>, AllocError> {
     let word = taking(word, patience_option(alloc));
     let word = taking(word, dry_run_flag(alloc));
     let word = taking(word, take_over_flag(alloc));
+    let word = taking(word, release_option(alloc));
     taking(word, ignore_flag(alloc))
+}
+
+fn release_argument<'a>(alloc: Global) -> Arg<'a> {
+    value(
+        alloc,
+        "release",
+        "N",
+        "The number of a release of this folder",
+    )
+    .value_parser(clap::value_parser!(u64))
+    .required(true)
+}
+
+fn restore_word<'a>(alloc: Global) -> Result<Command<'a>, AllocError> {
+    let word = site_word(
+        alloc,
+        "restore",
+        "Writes the files of a folder as they were at one of its releases",
+    );
+    let word = taking(word, release_argument(alloc));
+    taking(word, out_argument(alloc))
 }
 
 fn address_option<'a>(alloc: Global) -> Arg<'a> {
@@ -308,6 +347,7 @@ fn command<'a>(alloc: Global) -> Result<Command<'a>, AllocError> {
     let command = with_word(command, frame_word(alloc));
     let command = with_word(command, preview_word(alloc));
     let command = with_word(command, publish_word(alloc));
+    let command = with_word(command, restore_word(alloc));
     let command = with_word(command, log_word(alloc));
     with_word(command, status_word(alloc))
 }
@@ -337,6 +377,7 @@ fn publish_in<'a>(alloc: Global, found: &ArgMatches<'a>) -> Result<Word<'a>, All
         patience: found.get_one::<u64>("patience").unwrap_or(PATIENCE),
         dry_run: found.get_flag("dry-run"),
         take_over: found.get_flag("take-over"),
+        release: found.get_one::<u64>("release"),
         ignore: found.get_flag("ignore"),
     })
 }
@@ -384,6 +425,11 @@ fn word_of<'a>(
         "frame" => frame_in(found),
         "publish" => publish_in(alloc, found)?,
         "preview" => preview_in(found),
+        "restore" => Word::Restore {
+            folder: text(found, "folder"),
+            release: found.get_one::<u64>("release").unwrap_or(0),
+            out: text(found, "out"),
+        },
         "log" => Word::Log {
             folder: text(found, "folder"),
         },

@@ -1,7 +1,10 @@
 //! A folder becomes the next release of a group.
+use crate::going_back::tell_disk;
 use crate::publisher::Publisher;
 use editor_common::{EditorFault, say_made};
-use editor_files::{Clean, hold, new_editor, read_clean, read_ledger, texts_of};
+use editor_files::{
+    Clean, hold, lent, new_editor, read_clean, read_ledger, release_texts, texts_of,
+};
 use editor_group::Group;
 use editor_ledger::Ledger;
 use std::alloc::{AllocError, Global};
@@ -24,6 +27,8 @@ pub struct Publishing<'a> {
     pub dry_run: bool,
     /// What others have put is taken over.
     pub take_over: bool,
+    /// The release of this folder that becomes the next one; without one the folder does.
+    pub release: Option<u64>,
     /// Files that are no part of a site are passed over.
     pub ignore: bool,
 }
@@ -73,9 +78,9 @@ fn publish_wanted<
     err: &'a mut E,
     group: &'a mut Group,
     how: &'a Publishing<'a>,
+    mut ledger: Ledger,
     wanted: &[&str],
 ) -> Result<bool, EditorFault> {
-    let mut ledger = ledger_of(rt, how.folder, how.editor)?;
     let mut publisher = Publisher {
         rt,
         err,
@@ -116,7 +121,8 @@ fn publish_clean<
         return Ok(true);
     }
     let wanted = texts_of(rt.alloc(), &clean.folder)?;
-    publish_wanted(rt, out, err, group, how, &wanted)
+    let ledger = ledger_of(rt, how.folder, how.editor)?;
+    publish_wanted(rt, out, err, group, how, ledger, &wanted)
 }
 
 /// Reads a folder, and publishes it where it has no fault: whether it had one, or is not shown then.
@@ -134,6 +140,60 @@ fn publish_folder<
     match read_clean(rt, err, how.folder, how.ignore)? {
         Some(clean) => publish_clean(rt, out, err, group, how, &clean),
         None => Ok(true),
+    }
+}
+
+/// The ledger of a folder that has published.
+fn ledger_there<R: Files + RandomSource + AllocGlobal>(
+    rt: &R,
+    how: &Publishing<'_>,
+) -> Result<Ledger, EditorFault> {
+    let ledger = ledger_of(rt, how.folder, how.editor)?;
+    if ledger.next() == 1 {
+        let folder = how.folder;
+        return Err(EditorFault::Stop(format!(in rt.alloc();
+            "{folder}: nothing was published from here"
+        )?));
+    }
+    Ok(ledger)
+}
+
+/// Publishes a release of a folder's history once more: whether it is not shown then. The folder's files stay as they are.
+fn publish_release<
+    R: Files + Net<Stream = TcpStream> + Clock + RandomSource + AllocGlobal + Clone + Drop,
+    W: Write,
+    E: Write,
+>(
+    rt: &R,
+    out: &mut W,
+    err: &mut E,
+    group: &mut Group,
+    how: &Publishing<'_>,
+    release: u64,
+) -> Result<bool, EditorFault> {
+    let ledger = ledger_there(rt, how)?;
+    let texts = release_texts(rt.alloc(), how.folder, &ledger, release)?;
+    let wanted = lent(rt.alloc(), &texts)?;
+    let bad = publish_wanted(rt, out, err, group, how, ledger, &wanted)?;
+    tell_disk(rt, err, how.folder, how.ignore, release, &wanted)?;
+    Ok(bad)
+}
+
+/// Publishes what is to become the next release: whether that has a fault, or is not shown then.
+fn publish_next<
+    R: Files + Net<Stream = TcpStream> + Clock + RandomSource + AllocGlobal + Clone + Drop,
+    W: Write,
+    E: Write,
+>(
+    rt: &R,
+    out: &mut W,
+    err: &mut E,
+    group: &mut Group,
+    how: &Publishing<'_>,
+) -> Result<bool, EditorFault> {
+    match how.release {
+        Some(release) => publish_release(rt, out, err, group, how, release),
+        None => publish_folder(rt, out, err, group, how),
     }
 }
 
@@ -165,7 +225,7 @@ pub fn publish<
     }
     let mut group = Group::of(rt.alloc(), how.urls)?;
     let held = held(rt, &how)?;
-    let bad = publish_folder(rt, out, err, &mut group, &how)?;
+    let bad = publish_next(rt, out, err, &mut group, &how)?;
     drop(held);
     Ok(if bad { 1 } else { 0 })
 }

@@ -59,7 +59,7 @@ fn add_files<E: Write>(
     Ok(bad)
 }
 
-fn write_at<R: Files + AllocGlobal>(
+pub(crate) fn write_at<R: Files + AllocGlobal>(
     rt: &R,
     to: &str,
     file: &str,
@@ -104,7 +104,7 @@ fn tell_full<E: Write>(alloc: Global, err: &mut E, folder: &str) -> Result<(), E
 }
 
 /// Whether files can be written into a folder, as it is absent or empty. That it isn't is told.
-fn takes_files<R: Files + AllocGlobal + Clone + Drop, E: Write>(
+pub(crate) fn takes_files<R: Files + AllocGlobal + Clone + Drop, E: Write>(
     rt: &R,
     err: &mut E,
     folder: &str,

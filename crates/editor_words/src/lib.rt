@@ -7,8 +7,10 @@ mod checking;
 mod exporting;
 mod framing;
 mod log_word;
+mod restoring;
 
 pub use checking::{Checking, check};
 pub use exporting::{begin, export};
 pub use framing::frame;
 pub use log_word::tell_log;
+pub use restoring::restore;

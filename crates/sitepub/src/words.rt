@@ -7,7 +7,7 @@ use editor_options::{Word, word_in};
 use editor_plan::last_shown;
 use editor_preview::preview;
 use editor_publish::{Publishing, publish};
-use editor_words::{Checking, begin, check, export, frame, tell_log};
+use editor_words::{Checking, begin, check, export, frame, restore, tell_log};
 use std::env;
 use std::fmt::Display;
 use std::fs::File;
@@ -90,6 +90,7 @@ fn done<
             patience,
             dry_run,
             take_over,
+            release,
             ignore,
         } => publish(
             rt,
@@ -102,6 +103,7 @@ fn done<
                 patience,
                 dry_run,
                 take_over,
+                release,
                 ignore,
             },
         ),
@@ -110,6 +112,11 @@ fn done<
             http,
             ignore,
         } => preview(rt, out, folder, http, ignore),
+        Word::Restore {
+            folder,
+            release,
+            out: to,
+        } => restore(rt, err, folder, release, to),
         Word::Log { folder } => tell_log(rt, out, err, folder),
         Word::Status { folder, ref urls } => tell_status(
             rt,

@@ -14,6 +14,7 @@ mod ledger_files;
 mod ledgers;
 mod limits;
 mod old_files;
+mod pasts;
 mod places;
 mod plans;
 mod progresses;
