@@ -145,6 +145,10 @@ grows_all (event ∷ later) texts book of =
 of_fresh : (editor : ℕ) → IsOf [] (fresh editor)
 of_fresh editor = record { next = refl; each = All-nil _; last = λ some. absurd (omega (arith, some)) }
 
+-- a history has all its texts
+pub of_history : (editor : ℕ) (events : List Event) → (texts : List (List ℕ)) × IsOf texts (after_all events (fresh editor))
+of_history editor events = grows_all events [] (fresh editor) (of_fresh editor)
+
 same_number : (texts more : List (List ℕ)) (m n : ℕ) (t u : List ℕ) → IsNumberOf texts m t → IsNumberOf (texts ++ more) n u → m ≡ n → t ≡ u
 same_number texts more m n t u first second same =
     let place : first.0 ≡ second.0 = omega (arith, first.1, second.1, same) in

@@ -159,7 +159,7 @@ receives_all kept plan (n ∷ numbers) book apart some coming =
 
 -- ---- kept texts stay apart
 
-text_apart : (text : List ℕ) (kept : List (List ℕ)) → AreApart kept → AreApart (with_text text kept)
+pub text_apart : (text : List ℕ) (kept : List (List ℕ)) → AreApart kept → AreApart (with_text text kept)
 text_apart text kept apart t u first second one = by_cases (Contains-push_cases others text t first) (Contains-push_cases others text u second)
   where
     others : List (List ℕ)
@@ -198,7 +198,7 @@ event_apart (receives number) book apart = received_apart number (find (λ (h : 
 event_apart (notes released) book apart = apart
 event_apart (says release text) book apart = apart
 
-events_apart : (events : List Event) (book : Book) → AreApart book.kept → AreApart (after_all events book).kept
+pub events_apart : (events : List Event) (book : Book) → AreApart book.kept → AreApart (after_all events book).kept
 events_apart [] book apart = apart
 events_apart (event ∷ rest) book apart = events_apart rest (after event book) (event_apart event book apart)
 

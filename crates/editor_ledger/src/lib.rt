@@ -20,7 +20,7 @@ mod sent;
 mod spelling;
 
 pub use fault::{LedgerFault, LedgerReadFault};
-pub use laws::{each_ticket_has_one_text, files_keep_ledgers, plans_turn_sites};
+pub use laws::{each_ticket_has_one_text, files_keep_ledgers, pasts_stay, plans_turn_sites};
 pub use ledger::Ledger;
 pub use message::Message;
 pub use past::Past;
