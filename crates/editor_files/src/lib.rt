@@ -3,12 +3,13 @@
 //! `files.rt` reads the files of a folder and writes some, `holding.rt` keeps other processes from publishing
 //! it meanwhile, `reading.rt` tells what is wrong with them, as `editor_folder` says, and `saving.rt` keeps
 //! the file `published`: it alone makes the `Saved` of `saved.rt`, out of which commands are sent.
-//! `released.rt` has the texts of a release from there. What a real file gives and takes is tested, not
+//! `released.rt` has the texts of a release from there, `listing.rt` findings for programs. What a real file gives and takes is tested, not
 //! proved.
 #![tactic(auto)]
 
 mod files;
 mod holding;
+mod listing;
 mod reading;
 mod released;
 mod saved;
@@ -16,7 +17,8 @@ mod saving;
 
 pub use files::{below, is_free, write_file};
 pub use holding::hold;
-pub use reading::{Clean, Read, read_clean, read_folder, tell_findings, texts_of};
+pub use listing::list_findings;
+pub use reading::{Clean, Read, clean_of, read_clean, read_folder, tell_findings, texts_of};
 pub use released::{lent, release_texts};
 pub use saved::Saved;
 pub use saving::{new_editor, read_ledger, save};

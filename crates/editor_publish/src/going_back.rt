@@ -1,6 +1,8 @@
 //! A release of a folder's history becomes the next one.
-use editor_common::{EditorFault, say_made};
+use crate::publishing::Publishing;
+use editor_common::{EditorFault, Outcome, say_made};
 use editor_files::{Read, read_folder, texts_of};
+use serde_json::Value;
 use std::alloc::{AllocError, Global};
 use std::collections::BTreeSet;
 use std::io::Write;
@@ -35,14 +37,16 @@ fn has_texts(alloc: Global, read: &Read, texts: &[&str]) -> Result<bool, AllocEr
 pub(crate) fn tell_disk<R: Files + AllocGlobal + Clone + Drop, E: Write>(
     rt: &R,
     err: &mut E,
-    folder: &str,
-    ignore: bool,
+    outcome: &mut Outcome,
+    how: &Publishing<'_>,
     release: u64,
     texts: &[&str],
 ) -> Result<(), EditorFault> {
-    let alloc = rt.alloc();
-    let read = read_folder(rt, folder, ignore)?;
-    if has_texts(alloc, &read, texts)? {
+    let (alloc, folder) = (rt.alloc(), how.folder);
+    let read = read_folder(rt, folder, how.ignore)?;
+    let same = has_texts(alloc, &read, texts)?;
+    outcome.put(alloc, "files_differ", Value::from(!same))?;
+    if same {
         return Ok(());
     }
     say_made(
