@@ -2,8 +2,8 @@
 //!
 //! `files.rt` reads the files of a folder and writes some, `holding.rt` keeps other processes from publishing
 //! it meanwhile, `reading.rt` tells what is wrong with them, as `editor_folder` says, and `saving.rt` keeps
-//! the file `published`: it alone makes the `Saved` of `saved.rt`, out of which commands are sent. What a
-//! real file gives and takes is tested, not proved.
+//! the file `published`: it alone makes the `Saved` of `saved.rt`, out of which commands are sent. `secrets.rt`
+//! reads a file that has passwords. What a real file gives and takes is tested, not proved.
 #![tactic(auto)]
 
 mod files;
@@ -11,9 +11,11 @@ mod holding;
 mod reading;
 mod saved;
 mod saving;
+mod secrets;
 
 pub use files::{below, is_free, write_file};
 pub use holding::hold;
 pub use reading::{Clean, Read, read_clean, read_folder, tell_findings, texts_of};
 pub use saved::Saved;
 pub use saving::{new_editor, read_ledger, save};
+pub use secrets::read_secret;

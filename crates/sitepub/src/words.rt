@@ -2,12 +2,13 @@
 use clap::error::ErrorKind;
 use editor_common::EditorFault;
 use editor_files::read_ledger;
-use editor_group::tell_status;
+use editor_group::{tell_status, with_logins};
 use editor_options::{Word, word_in};
 use editor_plan::last_shown;
 use editor_preview::preview;
 use editor_publish::{Publishing, publish};
 use editor_words::{Checking, begin, check, export, frame, tell_log};
+use std::alloc::{AllocError, Global};
 use std::env;
 use std::fmt::Display;
 use std::fs::File;
@@ -43,6 +44,48 @@ fn last_release_of<R: Files + AllocGlobal>(
         Some(ledger) => Ok(last_shown(&ledger)),
         None => Ok(0),
     }
+}
+
+/// The URLs as they are lent.
+fn lent<'a>(alloc: Global, urls: &'a [String]) -> Result<Vec<&'a str>, AllocError> {
+    urls.iter().map(|url| url.as_str()).collect(alloc)
+}
+
+/// Publishes a folder at nodes whose logins a file may have.
+fn publish_by<
+    R: Files<File = File>
+        + Net<Stream = TcpStream>
+        + Clock
+        + RandomSource
+        + AllocGlobal
+        + Clone
+        + Drop,
+    W: Write,
+    E: Write,
+>(
+    rt: &R,
+    out: &mut W,
+    err: &mut E,
+    how: Publishing<'_>,
+    logins: Option<&str>,
+) -> Result<u8, EditorFault> {
+    let urls = with_logins(rt, how.urls, logins)?;
+    let lent = lent(rt.alloc(), &urls)?;
+    let how = Publishing { urls: &lent, ..how };
+    publish(rt, out, err, how)
+}
+
+/// Tells what nodes say of themselves whose logins a file may have.
+fn status_by<R: Files + Net<Stream = TcpStream> + Clock + AllocGlobal, W: Write>(
+    rt: &R,
+    out: &mut W,
+    urls: &[&str],
+    logins: Option<&str>,
+    folder: Option<&str>,
+) -> Result<u8, EditorFault> {
+    let urls = with_logins(rt, urls, logins)?;
+    let lent = lent(rt.alloc(), &urls)?;
+    tell_status(rt, out, &lent, last_release_of(rt, folder)?)
 }
 
 /// Does what a word says.
@@ -86,12 +129,13 @@ fn done<
         Word::Publish {
             folder,
             ref urls,
+            logins,
             editor,
             patience,
             dry_run,
             take_over,
             ignore,
-        } => publish(
+        } => publish_by(
             rt,
             out,
             err,
@@ -104,6 +148,7 @@ fn done<
                 take_over,
                 ignore,
             },
+            logins,
         ),
         Word::Preview {
             folder,
@@ -111,12 +156,11 @@ fn done<
             ignore,
         } => preview(rt, out, folder, http, ignore),
         Word::Log { folder } => tell_log(rt, out, err, folder),
-        Word::Status { folder, ref urls } => tell_status(
-            rt,
-            out,
-            urls,
-            last_release_of(rt, folder)?,
-        ),
+        Word::Status {
+            folder,
+            ref urls,
+            logins,
+        } => status_by(rt, out, urls, logins, folder),
     }
 }
 
