@@ -3,8 +3,8 @@
 //! `files.rt` reads the files of a folder and writes some, `holding.rt` keeps other processes from publishing
 //! it meanwhile, `reading.rt` tells what is wrong with them, as `editor_folder` says, and `saving.rt` keeps
 //! the file `published`: it alone makes the `Saved` of `saved.rt`, out of which commands are sent.
-//! `released.rt` has the texts of a release from there, `listing.rt` findings for programs. What a real file gives and takes is tested, not
-//! proved.
+//! `released.rt` has the texts of a release from there, `listing.rt` findings for programs, `secrets.rt` reads
+//! a file that has passwords. What a real file gives and takes is tested, not proved.
 #![tactic(auto)]
 
 mod files;
@@ -14,6 +14,7 @@ mod reading;
 mod released;
 mod saved;
 mod saving;
+mod secrets;
 
 pub use files::{below, is_free, write_file};
 pub use holding::hold;
@@ -22,3 +23,4 @@ pub use reading::{Clean, Read, clean_of, read_clean, read_folder, tell_findings,
 pub use released::{lent, release_texts};
 pub use saved::Saved;
 pub use saving::{new_editor, read_ledger, save};
+pub use secrets::read_secret;

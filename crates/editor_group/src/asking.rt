@@ -1,6 +1,6 @@
 //! Questions to a node over one connection.
 use crate::address::Address;
-use editor_http::{NodeAnswer, NodeAnswerFault, Question, read_answer};
+use editor_http::{Authority, NodeAnswer, NodeAnswerFault, Question, read_answer};
 use engine_common::Feed;
 use http_read::{Counted, write_all};
 use std::alloc::{AllocError, Global};
@@ -47,11 +47,11 @@ fn connect<N: Net<Stream = TcpStream>>(net: &N, host: &str) -> io::Result<TcpStr
 fn write_question(
     alloc: Global,
     stream: &TcpStream,
-    host: &str,
+    to: &Authority,
     question: &Question<'_>,
     last: bool,
 ) -> Result<bool, AllocError> {
-    let request = question.spelled(alloc, host, last)?;
+    let request = question.spelled(alloc, to, last)?;
     Ok(write_all(&mut Counted::new(stream), request.as_bytes()).is_ok())
 }
 
@@ -59,12 +59,12 @@ fn write_question(
 fn write_questions(
     alloc: Global,
     stream: &TcpStream,
-    host: &str,
+    to: &Authority,
     questions: &[Question<'_>],
 ) -> Result<(), AllocError> {
     let last = questions.len().saturating_sub(1);
     for (i, question) in questions.iter().enumerate() {
-        if !write_question(alloc, stream, host, question, i == last)? {
+        if !write_question(alloc, stream, to, question, i == last)? {
             break;
         }
     }
@@ -106,11 +106,11 @@ fn read_answers(
 fn converse(
     alloc: Global,
     stream: &TcpStream,
-    host: &str,
+    to: &Authority,
     questions: &[Question<'_>],
     answers: &mut Vec<NodeAnswer>,
 ) -> Result<(), AllocError> {
-    write_questions(alloc, stream, host, questions)?;
+    write_questions(alloc, stream, to, questions)?;
     read_answers(alloc, stream, questions.len(), answers)
 }
 
@@ -120,12 +120,12 @@ fn converse(
 fn ask_once<N: Net<Stream = TcpStream>>(
     net: &N,
     alloc: Global,
-    host: &str,
+    to: &Authority,
     questions: &[Question<'_>],
     answers: &mut Vec<NodeAnswer>,
 ) -> Result<(), AllocError> {
-    match connect(net, host) {
-        Ok(stream) => converse(alloc, &stream, host, questions, answers),
+    match connect(net, to.host.as_str()) {
+        Ok(stream) => converse(alloc, &stream, to, questions, answers),
         Err(fault) if fault.kind() == io::ErrorKind::OutOfMemory => Err(AllocError),
         Err(_) => Ok(()),
     }
@@ -135,13 +135,13 @@ fn ask_once<N: Net<Stream = TcpStream>>(
 fn ask_all<N: Net<Stream = TcpStream>>(
     net: &N,
     alloc: Global,
-    host: &str,
+    to: &Authority,
     questions: &[Question<'_>],
     answers: &mut Vec<NodeAnswer>,
 ) -> Result<(), AllocError> {
     let mut asked: usize = 0;
     for some in questions.chunks(QUESTIONS) {
-        ask_once(net, alloc, host, some, answers)?;
+        ask_once(net, alloc, to, some, answers)?;
         asked = some.len().saturating_add(asked);
         if answers.len() < asked {
             break;
@@ -158,13 +158,13 @@ pub fn ask<N: Net<Stream = TcpStream>>(
     questions: &[Question<'_>],
 ) -> Result<Vec<NodeAnswer>, AllocError> {
     let mut answers = Vec::new(alloc);
-    ask_all(net, alloc, node.host.as_str(), questions, &mut answers)?;
+    ask_all(net, alloc, &node.authority, questions, &mut answers)?;
     Ok(answers)
 }
 
 /// Why a node can't be connected to; nothing where it can.
 pub(crate) fn unreached<N: Net<Stream = TcpStream>>(net: &N, node: &Address) -> Option<io::Error> {
-    connect(net, node.host.as_str()).err()
+    connect(net, node.authority.host.as_str()).err()
 }
 
 /// The number that a node answers.

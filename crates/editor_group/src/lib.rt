@@ -1,6 +1,6 @@
 //! A group of nodes, spoken to over sockets: what a publication asks of it and sends.
 //!
-//! `address.rt` reads addresses, `group.rt` says which node is spoken to, `asking.rt` asks one over a
+//! `address.rt` reads addresses, `logins.rt` the file of their logins, `group.rt` says which node is spoken to, `asking.rt` asks one over a
 //! connection, with the bytes of `editor_http`. `judging.rt` asks the group whether a ledger is the newest,
 //! and `delivering.rt` sends what is on its way in a ledger that was saved, until each command has its
 //! receipt; what is asked next and what answers mean, `editor_plan` says. `progress.rt` tells meanwhile how
@@ -13,6 +13,7 @@ mod asking;
 mod delivering;
 mod group;
 mod judging;
+mod logins;
 mod progress;
 mod status;
 mod stop;
@@ -22,4 +23,5 @@ pub use asking::{ask, newest};
 pub use delivering::deliver;
 pub use group::Group;
 pub use judging::confirm;
+pub use logins::with_logins;
 pub use status::tell_status;

@@ -2,7 +2,7 @@
 use clap::error::ErrorKind;
 use editor_common::EditorFault;
 use editor_files::read_ledger;
-use editor_group::tell_status;
+use editor_group::{tell_status, with_logins};
 use editor_options::{Word, word_in};
 use editor_plan::last_shown;
 use editor_preview::preview;
@@ -43,6 +43,48 @@ fn last_release_of<R: Files + AllocGlobal>(
         Some(ledger) => Ok(last_shown(&ledger)),
         None => Ok(0),
     }
+}
+
+/// The URLs as they are lent.
+fn lent<'a>(alloc: Global, urls: &'a [String]) -> Result<Vec<&'a str>, AllocError> {
+    urls.iter().map(|url| url.as_str()).collect(alloc)
+}
+
+/// Publishes a folder at nodes whose logins a file may have.
+fn publish_by<
+    R: Files<File = File>
+        + Net<Stream = TcpStream>
+        + Clock
+        + RandomSource
+        + AllocGlobal
+        + Clone
+        + Drop,
+    W: Write,
+    E: Write,
+>(
+    rt: &R,
+    out: &mut W,
+    err: &mut E,
+    how: Publishing<'_>,
+    logins: Option<&str>,
+) -> Result<u8, EditorFault> {
+    let urls = with_logins(rt, how.urls, logins)?;
+    let lent = lent(rt.alloc(), &urls)?;
+    let how = Publishing { urls: &lent, ..how };
+    publish(rt, out, err, how)
+}
+
+/// Tells what nodes say of themselves whose logins a file may have.
+fn status_by<R: Files + Net<Stream = TcpStream> + Clock + AllocGlobal, W: Write>(
+    rt: &R,
+    out: &mut W,
+    urls: &[&str],
+    logins: Option<&str>,
+    folder: Option<&str>,
+) -> Result<u8, EditorFault> {
+    let urls = with_logins(rt, urls, logins)?;
+    let lent = lent(rt.alloc(), &urls)?;
+    tell_status(rt, out, &lent, last_release_of(rt, folder)?)
 }
 
 /// Does what a word says.
@@ -86,13 +128,14 @@ fn done<
         Word::Publish {
             folder,
             ref urls,
+            logins,
             editor,
             patience,
             dry_run,
             take_over,
             release,
             ignore,
-        } => publish(
+        } => publish_by(
             rt,
             out,
             err,
@@ -106,6 +149,7 @@ fn done<
                 release,
                 ignore,
             },
+            logins,
         ),
         Word::Preview {
             folder,
@@ -118,12 +162,11 @@ fn done<
             out: to,
         } => restore(rt, err, folder, release, to),
         Word::Log { folder } => tell_log(rt, out, err, folder),
-        Word::Status { folder, ref urls } => tell_status(
-            rt,
-            out,
-            urls,
-            last_release_of(rt, folder)?,
-        ),
+        Word::Status {
+            folder,
+            ref urls,
+            logins,
+        } => status_by(rt, out, urls, logins, folder),
     }
 }
 

@@ -1,4 +1,4 @@
-use Rattle.editor_http.proofs.question.submit_request.Goals as goal
+use Rattle.editor_http.proofs.question.fields.Goals as goal
 
 pub returns : goal.returns
 returns c = rw (← c.closing-closing.ensures) c.format.ensures.ok
