@@ -33,11 +33,11 @@ fn finding_value(alloc: Global, finding: &Finding) -> Result<Value, AllocError> 
     let column = finding.place.as_ref().map(column_of);
     let code = text_of(alloc, finding.label.as_ref())?;
     json!(in alloc; {
-        "weight": (weight_name(finding.weight)),
-        "file": (finding.file.as_str()),
+        "weight": weight_name(finding.weight),
+        "file": &finding.file,
         "line": line,
         "column": column,
-        "reason": (finding.reason.as_str()),
+        "reason": &finding.reason,
         "code": code
     })
 }

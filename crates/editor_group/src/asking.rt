@@ -8,8 +8,8 @@ use std::io;
 use std::net::{Net, SocketAddr, TcpStream, ToSocketAddrs};
 use std::time::Duration;
 
-/// How many seconds a connection may take to come about.
-const CONNECTING: u64 = 3;
+/// How long a connection may take to come about.
+const CONNECTING: Duration = Duration::from_secs(3);
 
 /// How many seconds a call of a connection may wait: a node that is busy with others answers late.
 const WAITING: u64 = 10;
@@ -25,22 +25,34 @@ fn set_waiting(stream: &TcpStream) -> io::Result<()> {
     stream.set_write_timeout(wait)
 }
 
-fn connect_to<N: Net<Stream = TcpStream>>(net: &N, address: &SocketAddr) -> io::Result<TcpStream> {
-    let stream = TcpStream::connect_timeout(net, address, Duration::from_secs(CONNECTING))?;
+fn connect_to<N: Net<Stream = TcpStream>>(
+    net: &N,
+    address: &SocketAddr,
+    within: Duration,
+) -> io::Result<TcpStream> {
+    let stream = TcpStream::connect_timeout(net, address, within)?;
     set_waiting(&stream)?;
     Ok(stream)
 }
 
-/// A connection to the first address of a host that takes one.
-fn connect<N: Net<Stream = TcpStream>>(net: &N, host: &str) -> io::Result<TcpStream> {
+/// A connection to the first address of a host that takes one within so long.
+pub(crate) fn connect_within<N: Net<Stream = TcpStream>>(
+    net: &N,
+    host: &str,
+    within: Duration,
+) -> io::Result<TcpStream> {
     let mut tried = Err(io::Error::from(io::ErrorKind::NotFound));
     for address in host.to_socket_addrs(net)? {
-        tried = connect_to(net, &address);
+        tried = connect_to(net, &address, within);
         if tried.is_ok() {
             break;
         }
     }
     tried
+}
+
+fn connect<N: Net<Stream = TcpStream>>(net: &N, host: &str) -> io::Result<TcpStream> {
+    connect_within(net, host, CONNECTING)
 }
 
 /// Writes a question: whether it was written.
@@ -56,7 +68,7 @@ fn write_question(
 }
 
 /// Writes questions, the last of which ends the connection, as far as they can be written.
-fn write_questions(
+pub(crate) fn write_questions(
     alloc: Global,
     stream: &TcpStream,
     to: &Authority,
@@ -85,7 +97,7 @@ fn next_answer(
 }
 
 /// Reads the answers to so many questions: as many as come.
-fn read_answers(
+pub(crate) fn read_answers(
     alloc: Global,
     stream: &TcpStream,
     count: usize,

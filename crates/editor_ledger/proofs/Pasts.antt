@@ -99,8 +99,10 @@ found_before kept p h None head_is is =
     let removed : head_of (removal h) ≡ Some (record { verb = codes "remove"; kind = h.kind; name = h.name }) = removal_about p h head_is in
     record {
       one = about_one p (removal h) h (record { verb = codes "remove"; kind = h.kind; name = h.name }) head_is removed refl refl;
-      is = inr (removal_puts_none p h head_is,
-      λ t there. ap (λ o. is_same_subject o (head_of t)) removed ∙ same_about (codes "remove") h (head_of t) ∙ none_found (λ u. is_about h (head_of u)) kept t is there);
+      is = inr (
+        removal_puts_none p h head_is,
+        λ t there. ap (λ o. is_same_subject o (head_of t)) removed ∙ same_about (codes "remove") h (head_of t) ∙ none_found (λ u. is_about h (head_of u)) kept t is there,
+      );
     }
 found_before kept p h (Some u) head_is is =
     let test : is_about h (head_of u) ≡ true = found_passes (λ t. is_about h (head_of t)) kept u is in
@@ -221,9 +223,10 @@ all_more ticket next kept [] olds lt apart before = (unchanged kept olds, λ x i
 all_more ticket next kept (y ∷ xs) olds lt apart before =
     let first = before y (here y xs) in
     let one = one_more ticket next kept olds first.0 y (is_among olds y) lt apart first.1 refl in
-    let rest = all_more ticket next kept xs (with_first ticket olds (entry next y)) lt apart (λ x is. before x (later y xs x is)) in
-    (joins kept olds (with_first ticket olds (entry next y)) (fold (with_first ticket) (with_first ticket olds (entry next y)) (map (entry next) xs)) one.0 rest.0,
-    λ x is. by_cases x one.1 rest.0.more rest.1 (cases y xs x is))
+    let rest = all_more ticket next kept xs (with_first ticket olds (entry next y)) lt apart (λ x is. before x (later y xs x is)) in (
+      joins kept olds (with_first ticket olds (entry next y)) (fold (with_first ticket) (with_first ticket olds (entry next y)) (map (entry next) xs)) one.0 rest.0,
+      λ x is. by_cases x one.1 rest.0.more rest.1 (cases y xs x is),
+    )
   where
     by_cases : (x : List ℕ) → is_among (with_first ticket olds (entry next y)) y ≡ true
         → ((t : List ℕ) → is_among (with_first ticket olds (entry next y)) t ≡ true → is_among (fold (with_first ticket) (with_first ticket olds (entry next y)) (map (entry next) xs)) t ≡ true)
@@ -250,8 +253,10 @@ plans_more : (texts : List (List ℕ)) (ticket : ℕ) (plan : List (List ℕ)) (
 plans_more texts ticket plan book is = record {
   below = omega (arith, is.below);
   apart = is.apart;
-  same = λ t put. (λ there. (is.same t put).0 ((grown.0.same t put).0 (subst (λ os. Contains (stood os book.kept) t) appended there)),
-  λ there. subst (λ os. Contains (stood os book.kept) t) (sym appended) ((grown.0.same t put).1 ((is.same t put).1 there)));
+  same = λ t put. (
+    λ there. (is.same t put).0 ((grown.0.same t put).0 (subst (λ os. Contains (stood os book.kept) t) appended there)),
+    λ there. subst (λ os. Contains (stood os book.kept) t) (sym appended) ((grown.0.same t put).1 ((is.same t put).1 there)),
+  );
   covered = λ g there some. ap (λ os. is_among os g.text) appended ∙ covers g.text (ticket_place book.next plan g there).3 (some_head g.text (head_of g.text) refl some);
 }
   where
@@ -298,8 +303,10 @@ comes : (texts : List (List ℕ)) (ticket number : ℕ) (book : Book) (g : Given
 comes texts ticket number book g there is apart = record {
   below = is.below;
   apart = apart;
-  same = λ t put. (λ among. (is.same t put).0 (back t put (stood_cases (olds_since ticket book.past) (with_text g.text book.kept) t among)),
-  λ among. forth t (stood_cases (olds_since ticket book.past) book.kept t ((is.same t put).1 among)));
+  same = λ t put. (
+    λ among. (is.same t put).0 (back t put (stood_cases (olds_since ticket book.past) (with_text g.text book.kept) t among)),
+    λ among. forth t (stood_cases (olds_since ticket book.past) book.kept t ((is.same t put).1 among)),
+  );
   covered = λ h on some. is.covered h (filtered (λ k. not (eqb k.number number)) book.sent h on) some;
 }
   where
@@ -439,8 +446,10 @@ begins : (book : Book) → book.sent ≡ [] → 0 < book.next → AreApart book.
 begins book idle some apart is = record {
   below = omega (arith, some);
   apart = apart;
-  same = λ t put. (λ there. all_kept t (stood_cases [] book.kept t (subst (λ os. Contains (stood os book.kept) t) none there)),
-  λ there. subst (λ os. Contains (stood os book.kept) t) (sym none) (stood_kept [] book.kept t there refl));
+  same = λ t put. (
+    λ there. all_kept t (stood_cases [] book.kept t (subst (λ os. Contains (stood os book.kept) t) none there)),
+    λ there. subst (λ os. Contains (stood os book.kept) t) (sym none) (stood_kept [] book.kept t there refl),
+  );
   covered = λ g there with_head. absurd (nowhere g (subst (λ gs. Contains gs g) idle there));
 }
   where

@@ -40,7 +40,7 @@ PastsStay = (editor : ℕ) (events more : List Event)
     → (after_all events (fresh editor)).sent ≡ []
     → (t : List ℕ) → is_put t ≡ true
     → Contains (texts_at ((after_all events (fresh editor)).next - 1) (after_all more (after_all events (fresh editor)))) t
-        ↔ Contains (after_all events (fresh editor)).kept t
+    ↔ Contains (after_all events (fresh editor)).kept t
 
 -- a text spells one ledger at most: what is read back is what was written
 abbrev pub SpellsOne : Type 0

@@ -1,4 +1,8 @@
 //! The command line of `sitepub`.
+use crate::arguments::{
+    flag, folder_word, ignore_flag, option, site_word, taking, value, with_word,
+};
+use crate::manner::{Manner, manner_in, speaking};
 use clap::{Arg, ArgAction, ArgMatches, Command, Error};
 use std::alloc::{AllocError, Global};
 
@@ -21,6 +25,7 @@ pub enum Word<'a> {
     /// Tells what is wrong with a folder.
     Check {
         folder: &'a str,
+        manner: Manner,
         ignore: bool,
         unused: bool,
     },
@@ -43,9 +48,12 @@ pub enum Word<'a> {
         logins: Option<&'a str>,
         editor: Option<u32>,
         patience: u64,
+        manner: Manner,
         dry_run: bool,
+        exit_code: bool,
         take_over: bool,
         release: Option<u64>,
+        message: Option<&'a str>,
         ignore: bool,
     },
     /// Serves a folder as it is on disk.
@@ -63,85 +71,15 @@ pub enum Word<'a> {
     /// Tells the releases of a folder.
     Log {
         folder: &'a str,
+        manner: Manner,
     },
     /// Tells what each node says of itself, and whether the group shows what a folder made.
     Status {
         folder: Option<&'a str>,
         urls: Vec<&'a str>,
         logins: Option<&'a str>,
+        manner: Manner,
     },
-}
-
-/// An argument of one value, which help calls so.
-fn value<'a>(
-    alloc: Global,
-    name: &'static str,
-    called: &'static str,
-    help: &'static str,
-) -> Arg<'a> {
-    Arg::new(alloc, name)
-        .value_name(called)
-        .help(help)
-        .action(ArgAction::Set)
-}
-
-/// An option of one value.
-fn option<'a>(
-    alloc: Global,
-    name: &'static str,
-    called: &'static str,
-    help: &'static str,
-) -> Arg<'a> {
-    value(alloc, name, called, help).long(name)
-}
-
-fn flag<'a>(alloc: Global, name: &'static str, help: &'static str) -> Arg<'a> {
-    Arg::new(alloc, name)
-        .long(name)
-        .help(help)
-        .action(ArgAction::SetTrue)
-}
-
-fn ignore_flag<'a>(alloc: Global) -> Arg<'a> {
-    flag(
-        alloc,
-        "ignore",
-        "Passes over files that are no part of a site",
-    )
-}
-
-/// A word that takes one argument more, where it could be made.
-fn taking<'a>(
-    word: Result<Command<'a>, AllocError>,
-    argument: Arg<'a>,
-) -> Result<Command<'a>, AllocError> {
-    match word {
-        Ok(word) => word.arg(argument),
-        Err(refused) => {
-            drop(argument);
-            Err(refused)
-        }
-    }
-}
-
-/// A word that is followed by a folder.
-fn folder_word<'a>(
-    alloc: Global,
-    name: &'static str,
-    about: &'static str,
-    folder: &'static str,
-) -> Result<Command<'a>, AllocError> {
-    let folder = value(alloc, "folder", "FOLDER", folder).required(true);
-    Command::new(alloc, name).about(about).arg(folder)
-}
-
-/// A word that is followed by the folder of a site.
-fn site_word<'a>(
-    alloc: Global,
-    name: &'static str,
-    about: &'static str,
-) -> Result<Command<'a>, AllocError> {
-    folder_word(alloc, name, about, "The folder of the site")
 }
 
 fn new_word<'a>(alloc: Global) -> Result<Command<'a>, AllocError> {
@@ -161,6 +99,7 @@ fn check_word<'a>(alloc: Global) -> Result<Command<'a>, AllocError> {
         "Warns of templates, partials and data to which no page comes",
     );
     let word = taking(site_word(alloc, "check", about), unused);
+    let word = speaking(alloc, word);
     taking(word, ignore_flag(alloc))
 }
 
@@ -245,6 +184,24 @@ fn release_option<'a>(alloc: Global) -> Arg<'a> {
     .value_parser(clap::value_parser!(u64))
 }
 
+fn exit_code_flag<'a>(alloc: Global) -> Arg<'a> {
+    flag(
+        alloc,
+        "exit-code",
+        "With --dry-run: status 3 where something would be sent, 0 where nothing would",
+    )
+}
+
+fn message_option<'a>(alloc: Global) -> Arg<'a> {
+    option(
+        alloc,
+        "message",
+        "MESSAGE",
+        "What `log` tells of the release; FOLDER/published keeps it",
+    )
+    .short('m')
+}
+
 fn publish_word<'a>(alloc: Global) -> Result<Command<'a>, AllocError> {
     let about = "Makes a folder the next release of a group, and goes on where it was interrupted";
     let word = site_word(alloc, "publish", about);
@@ -257,6 +214,9 @@ fn publish_word<'a>(alloc: Global) -> Result<Command<'a>, AllocError> {
     let word = taking(word, editor);
     let word = taking(word, patience_option(alloc));
     let word = taking(word, dry_run_flag(alloc));
+    let word = taking(word, exit_code_flag(alloc));
+    let word = taking(word, message_option(alloc));
+    let word = speaking(alloc, word);
     let word = taking(word, take_over_flag(alloc));
     let word = taking(word, release_option(alloc));
     taking(word, ignore_flag(alloc))
@@ -300,11 +260,12 @@ fn preview_word<'a>(alloc: Global) -> Result<Command<'a>, AllocError> {
 }
 
 fn log_word<'a>(alloc: Global) -> Result<Command<'a>, AllocError> {
-    site_word(
+    let word = site_word(
         alloc,
         "log",
-        "Tells the releases that were made of a folder: number, time, how many commands",
-    )
+        "Tells the releases that were made of a folder: number, time, how many commands, and what was said of them",
+    );
+    speaking(alloc, word)
 }
 
 fn of_option<'a>(alloc: Global) -> Arg<'a> {
@@ -323,27 +284,8 @@ fn status_word<'a>(alloc: Global) -> Result<Command<'a>, AllocError> {
         )
         .arg(urls_argument(alloc).required(true));
     let word = taking(word, logins_option(alloc));
+    let word = speaking(alloc, word);
     taking(word, of_option(alloc))
-}
-
-/// A command that has one word more, where both could be made.
-fn with_word<'a>(
-    command: Result<Command<'a>, AllocError>,
-    word: Result<Command<'a>, AllocError>,
-) -> Result<Command<'a>, AllocError> {
-    match command {
-        Ok(command) => match word {
-            Ok(word) => command.subcommand(word),
-            Err(refused) => {
-                drop(command);
-                Err(refused)
-            }
-        },
-        Err(refused) => {
-            drop(word);
-            Err(refused)
-        }
-    }
 }
 
 /// What `sitepub` takes.
@@ -389,9 +331,12 @@ fn publish_in<'a>(alloc: Global, found: &ArgMatches<'a>) -> Result<Word<'a>, All
         logins: found.get_str("logins"),
         editor: found.get_one::<u32>("editor"),
         patience: found.get_one::<u64>("patience").unwrap_or(PATIENCE),
+        manner: manner_in(found),
         dry_run: found.get_flag("dry-run"),
+        exit_code: found.get_flag("exit-code"),
         take_over: found.get_flag("take-over"),
         release: found.get_one::<u64>("release"),
+        message: found.get_str("message"),
         ignore: found.get_flag("ignore"),
     })
 }
@@ -432,6 +377,7 @@ fn word_of<'a>(
         },
         "check" => Word::Check {
             folder: text(found, "folder"),
+            manner: manner_in(found),
             ignore: found.get_flag("ignore"),
             unused: found.get_flag("unused"),
         },
@@ -446,11 +392,13 @@ fn word_of<'a>(
         },
         "log" => Word::Log {
             folder: text(found, "folder"),
+            manner: manner_in(found),
         },
         "status" => Word::Status {
             folder: found.get_str("of"),
             urls: urls(alloc, found)?,
             logins: found.get_str("logins"),
+            manner: manner_in(found),
         },
         _ => return Ok(None),
     }))

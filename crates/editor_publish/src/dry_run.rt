@@ -41,8 +41,8 @@ fn tell_sent<W: Write>(alloc: Global, out: &mut W, sent: &[Sent]) -> Result<(), 
     Ok(())
 }
 
-/// How a page changes.
-fn manner_of(change: &Change) -> &'static str {
+/// What becomes of a page.
+fn change_name(change: &Change) -> &'static str {
     match (change.before, change.view.status) {
         (404, _) => "is new",
         (_, 404) => "goes",
@@ -51,7 +51,7 @@ fn manner_of(change: &Change) -> &'static str {
 }
 
 fn tell_page<W: Write>(alloc: Global, out: &mut W, change: &Change) -> Result<(), EditorFault> {
-    let (path, what) = (change.view.path.as_str(), manner_of(change));
+    let (path, what) = (change.view.path.as_str(), change_name(change));
     say_made(out, format!(in alloc; "page {path} {what}"))
 }
 
@@ -60,7 +60,8 @@ fn pages_value(alloc: Global, changes: &[Change]) -> Result<Value, AllocError> {
     let mut pages = Vec::new(alloc);
     for change in changes {
         let path = change.view.path.as_str();
-        pages.push(json!(in alloc; {"path": path, "page": (manner_of(change))})?)?;
+        let page = json!(in alloc; {"path": path, "page": change_name(change)})?;
+        pages.push(page)?;
     }
     Ok(Value::Array(pages))
 }

@@ -78,5 +78,5 @@ pub(crate) fn made_value(alloc: Global, url: &str, made: Made) -> Result<Value, 
         commands,
     } = made;
     let address = format!(in alloc; "{url}/@{release}/")?;
-    json!(in alloc; {"number": release, "exact": exact, "commands": commands, "url": (&address)})
+    json!(in alloc; {"number": release, "exact": exact, "commands": commands, "url": &address})
 }

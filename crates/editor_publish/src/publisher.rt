@@ -186,7 +186,8 @@ impl<R: Files + Net<Stream = TcpStream> + Clock + AllocGlobal, E: Write> Publish
         let node = self.group.node()?;
         let paths = tell_differences(self.rt, alloc, self.err, node, release, changes)?;
         let differs = !paths.is_empty();
-        self.outcome.put(alloc, "not_shown", texts_value(alloc, &paths)?)?;
+        self.outcome
+            .put(alloc, "not_shown", texts_value(alloc, &paths)?)?;
         Ok(differs)
     }
 
@@ -245,7 +246,8 @@ impl<R: Files + Net<Stream = TcpStream> + Clock + AllocGlobal, E: Write> Publish
         let alloc = self.rt.alloc();
         let node = self.group.node()?;
         let paths = taken_over(self.rt, alloc, node, self.ledger, wanted)?;
-        self.outcome.put(alloc, "takes_over", texts_value(alloc, &paths)?)?;
+        self.outcome
+            .put(alloc, "takes_over", texts_value(alloc, &paths)?)?;
         tell_taken_over(alloc, self.err, &paths)?;
         if paths.is_empty() || self.how.take_over {
             return Ok(());
@@ -272,7 +274,8 @@ impl<R: Files + Net<Stream = TcpStream> + Clock + AllocGlobal, E: Write> Publish
         let node = self.group.node()?;
         match taken_over(self.rt, alloc, node, self.ledger, wanted) {
             Ok(paths) => {
-                self.outcome.put(alloc, "takes_over", texts_value(alloc, &paths)?)?;
+                self.outcome
+                    .put(alloc, "takes_over", texts_value(alloc, &paths)?)?;
                 tell_taken_over(alloc, out, &paths)
             }
             Err(EditorFault::Stop(why)) => say(self.err, why.as_str()),

@@ -58,10 +58,10 @@ fn release_value(
         None => Value::Null,
     };
     json!(in alloc; {
-        "release": (released.release),
+        "release": released.release,
         "time": time,
-        "seconds": (released.time),
-        "commands": (released.commands),
+        "seconds": released.time,
+        "commands": released.commands,
         "message": said
     })
 }
