@@ -210,6 +210,10 @@ pub fn tell_status<R: Net<Stream = TcpStream> + Clock + AllocGlobal, W: Write>(
     tell_barred(alloc, out, group.nodes(), &reports)?;
     tell_commands(alloc, out, outcome, &reports)?;
     let shown = tell_returning(alloc, out, range.last, published.release)?;
-    outcome.put(alloc, "shows_folder", Value::from(shown))?;
+    let shows = match published.release {
+        0 => None,
+        _ => Some(shown),
+    };
+    outcome.put(alloc, "shows_folder", Value::from(shows))?;
     Ok(if well && shown { 0 } else { 1 })
 }
