@@ -110,7 +110,8 @@ fn tell_more<E: Write>(
     Ok(())
 }
 
-/// Writes what is wrong with a folder, a line each; of many with one reason the first, and how many more there are.
+/// Writes what is wrong with a folder, a line each; of many with one reason the first, and how many more
+/// there are.
 pub fn tell_findings<E: Write>(
     alloc: Global,
     err: &mut E,

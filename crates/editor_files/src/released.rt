@@ -1,4 +1,7 @@
 //! The texts of a release that a folder made.
+ghost use Rattle.std.specs.Prelude.{◌≡◌, map, IfOk, string_bytes};
+ghost use Rattle.editor_files.specs.Releases.{HasTexts};
+
 use editor_common::EditorFault;
 use editor_ledger::Ledger;
 use editor_plan::ticket_of;
@@ -28,7 +31,9 @@ pub fn release_texts(
     folder: &str,
     ledger: &Ledger,
     release: u64,
-) -> Result<Vec<String>, EditorFault> {
+) -> Result<Vec<String>, EditorFault>
+    ensures { IfOk result (λ texts. HasTexts release ledger.now (map string_bytes texts.items)) }
+{
     let ticket = ticket_of(ledger, release);
     match ticket {
         Some(last) if ledger.reaches(last) => Ok(ledger.texts_at(alloc, last)?),
@@ -37,6 +42,8 @@ pub fn release_texts(
 }
 
 /// Texts, lent.
-pub fn lent(alloc: Global, texts: &[String]) -> Result<Vec<&str>, AllocError> {
+pub fn lent(alloc: Global, texts: &[String]) -> Result<Vec<&str>, AllocError>
+    ensures { IfOk result (λ lent. map (λ t. t.now) lent.items ≡ map string_bytes texts.now) }
+{
     texts.iter().map(|text| text.as_str()).collect(alloc)
 }

@@ -2,8 +2,8 @@
 use editor_http::{Authority, Barred, NodeAnswer, authority_in, barred_by};
 use std::alloc::{AllocError, Global};
 
-/// A node that is asked: its URL as it is told, without a login and without a slash at its end, and whom to ask
-/// there as whom.
+/// A node that is asked: its URL as it is told, without a login and without a slash at its end, and whom to
+/// ask there as whom.
 #[derive(Drop)]
 pub struct Address {
     pub url: String,

@@ -25,8 +25,8 @@ struct Talk {
     since: Instant,
 }
 
-/// What a node said: how many milliseconds passed until then, and its answers, in the order of the questions; fewer than these
-/// where it fell silent.
+/// What a node said: how many milliseconds passed until then, and its answers, in the order of the
+/// questions; fewer than these where it fell silent.
 #[derive(Drop)]
 pub(crate) struct Said {
     pub millis: u64,

@@ -1,7 +1,8 @@
 //! A file of logins, so that no password stands on a command line.
 //!
-//! A line is the address of a node with its login, as a command line has it too, and as `git credential-store`
-//! keeps them. Empty lines and those that begin with `#` are passed over. No message has a line's text.
+//! A line is the address of a node with its login, as a command line has it too, and as `git
+//! credential-store` keeps them. Empty lines and those that begin with `#` are passed over. No message has a
+//! line's text.
 use crate::address::{Address, address_in};
 use crate::stop::stop;
 use editor_common::EditorFault;

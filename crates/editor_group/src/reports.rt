@@ -15,8 +15,8 @@ use std::alloc::{AllocError, Global};
 use std::net::{Net, TcpStream};
 use std::rt::Clock;
 
-/// What a folder has published: the newest release that its group has shown of it, 0 for none, and the last ticket that has its
-/// receipt, if one has.
+/// What a folder has published: the newest release that its group has shown of it, 0 for none, and the last
+/// ticket that has its receipt, if one has.
 #[derive(Clone, Copy, Debug, Drop, PartialEq, Eq)]
 pub struct Published {
     pub release: u64,
@@ -47,8 +47,9 @@ impl Published {
     }
 }
 
-/// A node: how many milliseconds it took to answer, why it keeps this client out if it does, its newest release, if it told
-/// one, the instance of a folder's last ticket, if it told that; and its start page in the newest release that all have.
+/// A node: how many milliseconds it took to answer, why it keeps this client out if it does, its newest
+/// release, if it told one, the instance of a folder's last ticket, if it told that; and its start page in
+/// the newest release that all have.
 #[derive(Drop)]
 pub(crate) struct Report {
     pub millis: u64,

@@ -192,9 +192,9 @@ fn tell_returning<W: Write>(
 }
 
 /// Writes a table of nodes: URL, milliseconds to an answer, newest release, how many releases it is behind,
-/// and whether its start page in the newest release that all have is that of the others; and how many commands
-/// the group has at least, by the last ticket of a folder. Status 1 where a node is silent, behind or differs,
-/// or where no node shows a release that the folder made. All of it is kept in the outcome.
+/// and whether its start page in the newest release that all have is that of the others; and how many
+/// commands the group has at least, by the last ticket of a folder. Status 1 where a node is silent, behind
+/// or differs, or where no node shows a release that the folder made. All of it is kept in the outcome.
 pub fn tell_status<R: Net<Stream = TcpStream> + Clock + AllocGlobal, W: Write>(
     rt: &R,
     out: &mut W,

@@ -8,7 +8,8 @@ use percent_encoding::{AsciiSet, NON_ALPHANUMERIC, ascii_set, utf8_percent_encod
 use site_ids::Ticket;
 use std::alloc::{AllocError, Global};
 
-/// What a target escapes of a path: each byte but letters, digits and these marks (RFC 3986, section 2.3), and the slash.
+/// What a target escapes of a path: each byte but letters, digits and these marks (RFC 3986, section 2.3),
+/// and the slash.
 pub(crate) const ESCAPED: AsciiSet = ascii_set!(
     NON_ALPHANUMERIC
         .remove(b'-')

@@ -180,8 +180,8 @@ impl Ledger {
         Ok(())
     }
 
-    /// Plans what turns the texts that the group has into the wanted ones, each about another kind and name. What stood before
-    /// each is kept.
+    /// Plans what turns the texts that the group has into the wanted ones, each about another kind and name.
+    /// What stood before each is kept.
     pub fn plan(&mut self, alloc: Global, wanted: &[&str]) -> Result<(), LedgerFault>
         requires { is_idle self.old ≡ true }
         ensures ok { OnOk result (self.new ≡ planned (map (λ t. t.now) wanted.now) self.old) }
@@ -213,8 +213,8 @@ impl Ledger {
         self.give(alloc, texts)
     }
 
-    /// Puts the last release on its way once more, under its own ticket, where there is one: nodes that were all down learn their log once
-    /// something is decided, and a ticket that was given does no harm.
+    /// Puts the last release on its way once more, under its own ticket, where there is one: nodes that were
+    /// all down learn their log once something is decided, and a ticket that was given does no harm.
     pub fn release_again(&mut self, alloc: Global) -> Result<(), AllocError>
         requires { is_idle self.old ≡ true }
         ensures ok { OnOk result (self.new ≡ released_again self.old) }

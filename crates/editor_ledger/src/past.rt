@@ -53,8 +53,9 @@ fn others(alloc: Global, kept: &[String], olds: &[String]) -> Result<Vec<String>
 }
 
 impl Ledger {
-    /// The texts that stood when the ticket was the last one: of each kind and name the first that was overtaken since, or
-    /// what the group has. They are those of a release with that ticket where the ledger reaches it.
+    /// The texts that stood when the ticket was the last one: of each kind and name the first that was
+    /// overtaken since, or what the group has. They are those of a release with that ticket where the ledger
+    /// reaches it.
     pub fn texts_at(&self, alloc: Global, ticket: u64) -> Result<Vec<String>, AllocError>
         ensures { IfOk result (λ v. map string_bytes v.items ≡ texts_at ticket self.now) }
     {

@@ -107,7 +107,8 @@ impl<'a> Rest<'a> {
         })
     }
 
-    /// The number and the text of an entry, whose numbers stand in the first line; its text stands behind that.
+    /// The number and the text of an entry, whose numbers stand in the first line; its text stands behind
+    /// that.
     fn numbered(
         self,
         numbers: &str,
@@ -256,8 +257,9 @@ impl Ledger {
         }
     }
 
-    /// Reads the text of a file back. What it reads is spelled by that very text, so that another spelling of a number, or entries in another order,
-    /// are a fault in the first line that a ledger would spell otherwise.
+    /// Reads the text of a file back. What it reads is spelled by that very text, so that another spelling
+    /// of a number, or entries in another order, are a fault in the first line that a ledger would spell
+    /// otherwise.
     pub fn read(alloc: Global, text: &str) -> Result<Ledger, LedgerReadFault>
         ensures ok { IfOk result (λ ledger. spelled ledger ≡ text.now) }
         ensures old { result ≡ Err LedgerReadFault.Old ↔ starts_with nat_eq text.now (codes "editor ") ≡ true }

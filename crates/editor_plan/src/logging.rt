@@ -1,11 +1,12 @@
-//! What the log tells of tickets: that of a release, and a release that has its receipt, and that the log does not tell.
+//! What the log tells of tickets: that of a release, and a release that has its receipt, and that the log
+//! does not tell.
 ghost use Rattle.std.specs.Prelude.{◌≡◌, None};
 ghost use Rattle.editor_plan.specs.Unlogged.{tickets_left, unlogged, ticket_in, ticket_of};
 
 use editor_ledger::{Ledger, Released};
 
-/// How many tickets up to the last release a log tells nothing of: each of its releases has its own, and those of its
-/// commands.
+/// How many tickets up to the last release a log tells nothing of: each of its releases has its own, and
+/// those of its commands.
 fn tickets_left(last: u64, log: &[Released]) -> u64
     ensures { result ≡ tickets_left last log.now }
 {
@@ -40,7 +41,8 @@ fn ticket_in(release: u64, last: u64, log: &[Released]) -> Option<u64>
     found
 }
 
-/// The ticket of a release of a folder, by what the log tells of it and those before; of several with that number the last.
+/// The ticket of a release of a folder, by what the log tells of it and those before; of several with that
+/// number the last.
 pub fn ticket_of(ledger: &Ledger, release: u64) -> Option<u64>
     ensures { result ≡ ticket_of release ledger.now }
 {

@@ -85,8 +85,8 @@ fn tell_planned<W: Write>(
     Ok(())
 }
 
-/// Tells what would be put and removed of a ledger with nothing on its way, and which pages change. Whether anything would be
-/// is the answer.
+/// Tells what would be put and removed of a ledger with nothing on its way, and which pages change. Whether
+/// anything would be is the answer.
 fn tell_next<W: Write>(
     alloc: Global,
     out: &mut W,
@@ -106,8 +106,8 @@ fn tell_next<W: Write>(
     Ok(stage == Stage::Sends)
 }
 
-/// Tells what would be put and removed, and which pages change. Nothing is asked, sent or saved. Whether anything would be sent
-/// is the answer.
+/// Tells what would be put and removed, and which pages change. Nothing is asked, sent or saved. Whether
+/// anything would be sent is the answer.
 pub(crate) fn tell_plan<W: Write>(
     alloc: Global,
     out: &mut W,

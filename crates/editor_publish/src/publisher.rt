@@ -205,8 +205,8 @@ impl<R: Files + Net<Stream = TcpStream> + Clock + AllocGlobal, E: Write> Publish
         Ok(differs)
     }
 
-    /// Nothing was to be sent: what is to be said of this publication is said of the release that an earlier run made and this
-    /// one found, if it did.
+    /// Nothing was to be sent: what is to be said of this publication is said of the release that an earlier
+    /// run made and this one found, if it did.
     fn say_of_found(&mut self, found: Option<Made>) -> Result<(), EditorFault> {
         let alloc = self.rt.alloc();
         self.outcome.put(alloc, "release", Value::Null)?;
@@ -283,8 +283,8 @@ impl<R: Files + Net<Stream = TcpStream> + Clock + AllocGlobal, E: Write> Publish
         }
     }
 
-    /// Tells what a publication of these texts would put, remove and take over. Nothing is sent or saved. Whether anything
-    /// would be sent is the answer.
+    /// Tells what a publication of these texts would put, remove and take over. Nothing is sent or saved.
+    /// Whether anything would be sent is the answer.
     pub(crate) fn tell_plan<W: Write>(
         &mut self,
         out: &mut W,

@@ -230,8 +230,8 @@ fn held<R: Files<File = File> + AllocGlobal>(
     Ok(Some(hold(rt, how.folder)?))
 }
 
-/// Publishes a folder, and gives the exit status: 1 where it has a fault, or is not shown then. What it came to is kept in the
-/// outcome.
+/// Publishes a folder, and gives the exit status: 1 where it has a fault, or is not shown then. What it came
+/// to is kept in the outcome.
 pub fn publish<
     R: Files<File = File>
         + Net<Stream = TcpStream>

@@ -111,8 +111,8 @@ fn tell<W: Write, E: Write>(
     Ok(0)
 }
 
-/// Writes each fault of a folder, or that it has none, and gives the exit status: 1 too for a folder without a page.
-/// What was found is kept in the outcome.
+/// Writes each fault of a folder, or that it has none, and gives the exit status: 1 too for a folder without
+/// a page. What was found is kept in the outcome.
 pub fn check<R: Files + AllocGlobal + Clone + Drop, W: Write, E: Write>(
     rt: &R,
     out: &mut W,

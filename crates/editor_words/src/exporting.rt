@@ -40,7 +40,8 @@ fn file_of<E: Write>(
     }
 }
 
-/// Adds the files of pages, each below the copy's folder. Whether a page has none is the answer; each is told.
+/// Adds the files of pages, each below the copy's folder. Whether a page has none is the answer; each is
+/// told.
 fn add_files<E: Write>(
     alloc: Global,
     err: &mut E,

@@ -27,8 +27,8 @@ fn time_of(alloc: Global, released: &Released) -> Result<String, AllocError> {
     }
 }
 
-/// Writes a release: its number, when it was seen first, and how many commands it shows that none showed before; and the
-/// lines that were said of it, each behind four blanks.
+/// Writes a release: its number, when it was seen first, and how many commands it shows that none showed
+/// before; and the lines that were said of it, each behind four blanks.
 fn tell<W: Write>(
     alloc: Global,
     out: &mut W,
@@ -88,8 +88,8 @@ fn tell_none<E: Write>(alloc: Global, err: &mut E, folder: &str) -> Result<(), E
     say(err, line.as_str())
 }
 
-/// Writes the releases that were made of a folder, the oldest first, and gives the exit status. The releases are kept in the
-/// outcome, none where nothing was published.
+/// Writes the releases that were made of a folder, the oldest first, and gives the exit status. The releases
+/// are kept in the outcome, none where nothing was published.
 pub fn tell_log<R: Files + AllocGlobal, W: Write, E: Write>(
     rt: &R,
     out: &mut W,

@@ -50,7 +50,8 @@ fn write_release<R: Files + AllocGlobal>(
     write_files(rt, folder, to, &files)
 }
 
-/// Writes a folder as it was at one of its releases, from what its file `published` keeps, and gives the exit status.
+/// Writes a folder as it was at one of its releases, from what its file `published` keeps, and gives the
+/// exit status.
 pub fn restore<R: Files + AllocGlobal + Clone + Drop, E: Write>(
     rt: &R,
     err: &mut E,

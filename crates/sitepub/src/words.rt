@@ -321,8 +321,8 @@ fn by_words<
     }
 }
 
-/// Does what the command line says, and gives the exit status: 1 where something was refused or came to no end, 2 for a line that is none. Either is
-/// told on the other writer.
+/// Does what the command line says, and gives the exit status: 1 where something was refused or came to no
+/// end, 2 for a line that is none. Either is told on the other writer.
 pub fn sitepub<
     R: Files<File = File>
         + Env
