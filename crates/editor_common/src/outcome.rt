@@ -48,7 +48,7 @@ impl Outcome {
 
     /// The object in one line, its members by their names.
     pub fn spelled(self, alloc: Global) -> Result<String, AllocError>
-        ensures { IfOk result (λ line. has_float (object self.now) ≡ false → string_bytes line ≡ compact_text (object self.now)) }
+        ensures { IfOk result (λ line. has_float (object self) ≡ false → string_bytes line ≡ compact_text (object self)) }
     {
         serde_json::Value::Object(self.members).to_string(alloc)
     }

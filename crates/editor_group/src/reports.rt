@@ -1,5 +1,5 @@
 //! What nodes say of themselves, all asked at once.
-ghost use Rattle.std.specs.Prelude.{◌≡◌, Some, None};
+ghost use Rattle.std.specs.Prelude.{◌≡◌, None};
 ghost use Rattle.editor_plan.specs.Standings.{last_shown};
 ghost use Rattle.editor_group.specs.Published.{ticket_of};
 
@@ -25,10 +25,15 @@ pub struct Published {
 
 impl Published {
     /// Of no folder.
-    pub const NOTHING: Published = Published {
-        release: 0,
-        last: None,
-    };
+    pub fn nothing() -> Published
+        ensures release { result.release ≡ 0 }
+        ensures last { result.last ≡ None }
+    {
+        Published {
+            release: 0,
+            last: None,
+        }
+    }
 
     /// As a folder's ledger has it.
     pub fn of(ledger: &Ledger) -> Published

@@ -38,11 +38,11 @@ fn published_by<R: Files + AllocGlobal>(
     folder: Option<&str>,
 ) -> Result<Published, EditorFault> {
     let Some(folder) = folder else {
-        return Ok(Published::NOTHING);
+        return Ok(Published::nothing());
     };
     match read_ledger(rt, folder)? {
         Some(ledger) => Ok(Published::of(&ledger)),
-        None => Ok(Published::NOTHING),
+        None => Ok(Published::nothing()),
     }
 }
 
