@@ -93,6 +93,17 @@ none_found {X} p (y ∷ xs) x none is = by_cases (tested (p y)) (cases y xs x is
     by_cases (inr no) (inl same) = ap p (sym same) ∙ no
     by_cases (inr no) (inr rest) = none_found p xs x (sym (ap (λ b. cond b (Some y) (find p xs)) no) ∙ none) rest
 
+found_passes : {X : Type 0} (q : X → Bool) (xs : List X) (x : X) → find q xs ≡ Some x → q x ≡ true
+found_passes q [] x is = absurd (cc)
+found_passes {X} q (y ∷ xs) x is = by_test (tested (q y))
+  where
+    by_test : (q y ≡ true) ⊎ (q y ≡ false) → q x ≡ true
+    by_test (inl yes) =
+        let same : Some y ≡ Some x = sym (ap (λ b. cond b (Some y) (find q xs)) yes) ∙ is in
+        let equal : y ≡ x = cc in
+        ap q (sym equal) ∙ yes
+    by_test (inr no) = found_passes q xs x (sym (ap (λ b. cond b (Some y) (find q xs)) no) ∙ is)
+
 found_before : (kept : List (List ℕ)) (p : List ℕ) (h : Head) (o : Option (List ℕ)) → head_of p ≡ Some h
     → find (λ t. is_about h (head_of t)) kept ≡ o → Before kept p (or_removal h o)
 found_before kept p h None head_is is =
@@ -110,17 +121,6 @@ found_before kept p h (Some u) head_is is =
       one = ap (λ o. is_same_subject o (head_of u)) head_is ∙ test;
       is = inl (found (λ t. is_about h (head_of t)) (Contains kept) kept u (All-contains_itself kept) is);
     }
-  where
-    found_passes : (q : List ℕ → Bool) (xs : List (List ℕ)) (x : List ℕ) → find q xs ≡ Some x → q x ≡ true
-    found_passes q [] x is = absurd (cc)
-    found_passes q (y ∷ xs) x is = by_test (tested (q y))
-      where
-        by_test : (q y ≡ true) ⊎ (q y ≡ false) → q x ≡ true
-        by_test (inl yes) =
-            let same : Some y ≡ Some x = sym (ap (λ b. cond b (Some y) (find q xs)) yes) ∙ is in
-            let equal : y ≡ x = cc in
-            ap q (sym equal) ∙ yes
-        by_test (inr no) = found_passes q xs x (sym (ap (λ b. cond b (Some y) (find q xs)) no) ∙ is)
 
 before_is : (kept : List (List ℕ)) (p : List ℕ) (h : Head) → head_of p ≡ Some h → Before kept p (before_by kept h)
 before_is kept p h is = found_before kept p h (find (λ t. is_about h (head_of t)) kept) is refl
@@ -465,7 +465,6 @@ begins book idle some apart is = record {
 
 pub pasts_stay : PastsStay
 pasts_stay editor events more idle t put =
-    let book : Book = after_all events (fresh editor) in
     let of = of_history editor events in
     let start : Remembers (after_all events (fresh editor)).kept ((after_all events (fresh editor)).next - 1) (after_all events (fresh editor)) =
     begins (after_all events (fresh editor)) idle (omega (arith, of.1.next))
