@@ -38,8 +38,8 @@ any_passes : {X : Type 0} (p : X → Bool) (xs : List X) (x : X) → Contains xs
 any_passes {X} p xs x is test = by_cases (tested (list_any p xs))
   where
     by_cases : (list_any p xs ≡ true) ⊎ (list_any p xs ≡ false) → list_any p xs ≡ true
-    by_cases (inl yes) = yes
-    by_cases (inr no) = let none : p x ≡ false = none_passes p xs x no is in absurd (cc)
+    by_cases (inl some) = some
+    by_cases (inr lacks) = let none : p x ≡ false = none_passes p xs x lacks is in absurd (cc)
 
 -- one of the texts is about what another text is about
 among_too : (olds : List (List ℕ)) (t u : List ℕ) → is_among olds t ≡ true → are_about_one u t ≡ true → is_among olds u ≡ true
@@ -84,25 +84,25 @@ same_about verb h (Some other) = refl
 
 none_found : {X : Type 0} (p : X → Bool) (xs : List X) (x : X) → find p xs ≡ None → Contains xs x → p x ≡ false
 none_found p [] x none is = absurd (nowhere x is)
-none_found {X} p (y ∷ xs) x none is = by_cases (tested (p y)) (cases y xs x is)
+none_found {X} p (y ∷ xs) x none is = by_cases (tested (p y)) (cases y xs x is) (none_found p xs x)
   where
-    by_cases : (p y ≡ true) ⊎ (p y ≡ false) → (y ≡ x) ⊎ Contains xs x → p x ≡ false
-    by_cases (inl yes) rest =
-        let no : Some y ≡ None = sym (ap (λ b. cond b (Some y) (find p xs)) yes) ∙ none in
+    by_cases : (p y ≡ true) ⊎ (p y ≡ false) → (y ≡ x) ⊎ Contains xs x → (find p xs ≡ None → Contains xs x → p x ≡ false) → p x ≡ false
+    by_cases (inl test) place more =
+        let never : Some y ≡ None = sym (ap (λ b. cond b (Some y) (find p xs)) test) ∙ none in
         absurd (cc)
-    by_cases (inr no) (inl same) = ap p (sym same) ∙ no
-    by_cases (inr no) (inr rest) = none_found p xs x (sym (ap (λ b. cond b (Some y) (find p xs)) no) ∙ none) rest
+    by_cases (inr fails) (inl same) more = ap p (sym same) ∙ fails
+    by_cases (inr fails) (inr rest) more = more (sym (ap (λ b. cond b (Some y) (find p xs)) fails) ∙ none) rest
 
 found_passes : {X : Type 0} (q : X → Bool) (xs : List X) (x : X) → find q xs ≡ Some x → q x ≡ true
 found_passes q [] x is = absurd (cc)
-found_passes {X} q (y ∷ xs) x is = by_test (tested (q y))
+found_passes {X} q (y ∷ xs) x is = by_test (tested (q y)) (found_passes q xs x)
   where
-    by_test : (q y ≡ true) ⊎ (q y ≡ false) → q x ≡ true
-    by_test (inl yes) =
-        let same : Some y ≡ Some x = sym (ap (λ b. cond b (Some y) (find q xs)) yes) ∙ is in
+    by_test : (q y ≡ true) ⊎ (q y ≡ false) → (find q xs ≡ Some x → q x ≡ true) → q x ≡ true
+    by_test (inl test) more =
+        let same : Some y ≡ Some x = sym (ap (λ b. cond b (Some y) (find q xs)) test) ∙ is in
         let equal : y ≡ x = cc in
-        ap q (sym equal) ∙ yes
-    by_test (inr no) = found_passes q xs x (sym (ap (λ b. cond b (Some y) (find q xs)) no) ∙ is)
+        ap q (sym equal) ∙ test
+    by_test (inr fails) more = more (sym (ap (λ b. cond b (Some y) (find q xs)) fails) ∙ is)
 
 found_before : (kept : List (List ℕ)) (p : List ℕ) (h : Head) (o : Option (List ℕ)) → head_of p ≡ Some h
     → find (λ t. is_about h (head_of t)) kept ≡ o → Before kept p (or_removal h o)
@@ -160,8 +160,8 @@ not_before : (olds : List (List ℕ)) (x t : List ℕ) → is_among (olds ++ x �
 not_before olds x t none = by_cases (tested (is_among olds t))
   where
     by_cases : (is_among olds t ≡ true) ⊎ (is_among olds t ≡ false) → is_among olds t ≡ false
-    by_cases (inl yes) = let no : is_among (olds ++ x ∷ []) t ≡ true = among_more olds x t yes in absurd (cc)
-    by_cases (inr no) = no
+    by_cases (inl some) = let more : is_among (olds ++ x ∷ []) t ≡ true = among_more olds x t some in absurd (cc)
+    by_cases (inr lacks) = lacks
 
 grown_by : (kept olds : List (List ℕ)) (p x : List ℕ) → AreApart kept → Before kept p x → is_among olds x ≡ false → Grown kept olds (olds ++ x ∷ [])
 grown_by kept olds p x apart before none = record {
@@ -189,14 +189,14 @@ grown_by kept olds p x apart before none = record {
         absurd (cc)
 
     which : (t y : List ℕ) → Contains kept t → is_among olds t ≡ false → are_about_one t y ≡ true → Contains olds y ⊎ (x ≡ y) → Contains (stood (olds ++ x ∷ []) kept) t
-    which t y there no one (inl old) = let yes : is_among olds t ≡ true = any_passes (are_about_one t) olds y old one in absurd (cc)
-    which t y there no one (inr same) = is_x t there (ap (are_about_one t) same ∙ one) before.is
+    which t y there lacks one (inl old) = let yes : is_among olds t ≡ true = any_passes (are_about_one t) olds y old one in absurd (cc)
+    which t y there lacks one (inr same) = is_x t there (ap (are_about_one t) same ∙ one) before.is
 
     still : (t : List ℕ) → Contains kept t → is_among olds t ≡ false → (is_among (olds ++ x ∷ []) t ≡ true) ⊎ (is_among (olds ++ x ∷ []) t ≡ false) → Contains (stood (olds ++ x ∷ []) kept) t
-    still t there no (inr none_more) = stood_kept (olds ++ x ∷ []) kept t there none_more
-    still t there no (inl yes) =
-        let other = some_passes (are_about_one t) (olds ++ x ∷ []) yes in
-        which t other.0 there no other.2 (Contains-push_cases olds x other.0 other.1)
+    still t there lacks (inr none_more) = stood_kept (olds ++ x ∷ []) kept t there none_more
+    still t there lacks (inl some) =
+        let other = some_passes (are_about_one t) (olds ++ x ∷ []) some in
+        which t other.0 there lacks other.2 (Contains-push_cases olds x other.0 other.1)
 
     forth : (t : List ℕ) → is_put t ≡ true → (Contains kept t × (is_among olds t ≡ false)) ⊎ Contains olds t → Contains (stood (olds ++ x ∷ []) kept) t
     forth t put (inl one) = still t one.0 one.1 (tested (is_among (olds ++ x ∷ []) t))
@@ -391,11 +391,11 @@ Behind book = (g : Given) → Contains book.past g → g.number < book.next
 
 entry_is : (next : ℕ) (xs : List (List ℕ)) (g : Given) → Contains (map (entry next) xs) g → (g.number ≡ next) × Contains xs g.text
 entry_is next [] g is = absurd (nowhere g is)
-entry_is next (x ∷ xs) g is = by_cases (cases (entry next x) (map (entry next) xs) g is)
+entry_is next (x ∷ xs) g is = by_cases (cases (entry next x) (map (entry next) xs) g is) (entry_is next xs g)
   where
-    by_cases : (entry next x ≡ g) ⊎ Contains (map (entry next) xs) g → (g.number ≡ next) × Contains (x ∷ xs) g.text
-    by_cases (inl same) = (sym (ap (λ (h : Given). h.number) same), subst (λ t. Contains (x ∷ xs) t) (ap (λ (h : Given). h.text) same) (here x xs))
-    by_cases (inr rest) = let one = entry_is next xs g rest in (one.0, later x xs g.text one.1)
+    by_cases : (entry next x ≡ g) ⊎ Contains (map (entry next) xs) g → (Contains (map (entry next) xs) g → (g.number ≡ next) × Contains xs g.text) → (g.number ≡ next) × Contains (x ∷ xs) g.text
+    by_cases (inl same) more = (sym (ap (λ (h : Given). h.number) same), subst (λ t. Contains (x ∷ xs) t) (ap (λ (h : Given). h.text) same) (here x xs))
+    by_cases (inr rest) more = let one = more rest in (one.0, later x xs g.text one.1)
 
 behind_plan : (plan : List (List ℕ)) (book : Book) → Behind book → Behind (with_tickets plan (with_past plan book))
 behind_plan plan book is g there = by_cases (Contains-append_cases book.past (overtaken book.next book.kept plan) g there)

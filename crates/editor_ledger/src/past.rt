@@ -31,9 +31,9 @@ fn olds_since(alloc: Global, ticket: u64, past: &[Past]) -> Result<Vec<String>, 
     ensures { IfOk result (λ v. map string_bytes v.items ≡ olds_since ticket (map past_view past.now)) }
 {
     let mut olds = Vec::new(alloc);
-    for past in past {
-        if ticket < past.since && !is_among(&olds, past.text.as_str()) {
-            olds.push(past.text.clone()?)?;
+    for had in past {
+        if ticket < had.since && !is_among(&olds, had.text.as_str()) {
+            olds.push(had.text.clone()?)?;
         }
     }
     Ok(olds)
