@@ -1,12 +1,11 @@
 //! What a word came to, for programs.
 ghost use Rattle.std.specs.Prelude.{◌≡◌, false, IfOk, OnOk, OnErr, string_bytes};
 ghost use Rattle.serde_json.specs.Data.{put as with_member, no_members, object};
-ghost use Rattle.serde_json.specs.View.{view};
+ghost use Rattle.serde_json.specs.View.{view, members_view};
 ghost use Rattle.serde_json.specs.Written.{has_float, compact_text};
 
 use serde_json::Map;
 use std::alloc::{AllocError, Global};
-use std::marker::Model;
 
 /// What a word came to: the members of one JSON object.
 #[derive(Drop)]
@@ -14,19 +13,10 @@ pub struct Outcome {
     members: Map<String, serde_json::Value>,
 }
 
-impl Model for Outcome {
-    ghost use Rattle.serde_json.specs.Data.{Members};
-    ghost use Rattle.serde_json.specs.View.{members_view};
-
-    ghost Value = { Members };
-
-    ghost view = { λ o. members_view o.members.entries };
-}
-
 impl Outcome {
     /// Nothing is known yet.
     pub fn new(alloc: Global) -> Outcome
-        ensures { result ≡ no_members }
+        ensures { members_view result.members.entries ≡ no_members }
     {
         Outcome {
             members: Map::new(alloc),
@@ -40,15 +30,17 @@ impl Outcome {
         name: &str,
         value: serde_json::Value,
     ) -> Result<(), AllocError>
-        ensures ok { OnOk result (self.new ≡ with_member name.now (view value) self.old) }
-        ensures err { OnErr result (self.new ≡ self.old) }
+        ensures ok { OnOk result (members_view self.new.members.entries
+            ≡ with_member name.now (view value) (members_view self.old.members.entries)) }
+        ensures err { OnErr result (self.new.members.entries ≡ self.old.members.entries) }
     {
         serde_json::put(&mut self.members, alloc, name, value)
     }
 
     /// The object in one line, its members by their names.
     pub fn spelled(self, alloc: Global) -> Result<String, AllocError>
-        ensures { IfOk result (λ line. has_float (object self) ≡ false → string_bytes line ≡ compact_text (object self)) }
+        ensures { IfOk result (λ line. has_float (object (members_view self.members.entries)) ≡ false
+            → string_bytes line ≡ compact_text (object (members_view self.members.entries))) }
     {
         serde_json::Value::Object(self.members).to_string(alloc)
     }
