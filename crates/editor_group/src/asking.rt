@@ -8,8 +8,8 @@ use std::io;
 use std::net::{Net, SocketAddr, TcpStream, ToSocketAddrs};
 use std::time::Duration;
 
-/// How long a connection may take to come about.
-const CONNECTING: Duration = Duration::from_secs(3);
+/// How many seconds a connection may take to come about.
+const CONNECTING: u64 = 3;
 
 /// How many seconds a call of a connection may wait: a node that is busy with others answers late.
 const WAITING: u64 = 10;
@@ -52,7 +52,7 @@ pub(crate) fn connect_within<N: Net<Stream = TcpStream>>(
 }
 
 fn connect<N: Net<Stream = TcpStream>>(net: &N, host: &str) -> io::Result<TcpStream> {
-    connect_within(net, host, CONNECTING)
+    connect_within(net, host, Duration::from_secs(CONNECTING))
 }
 
 /// Writes a question: whether it was written.
