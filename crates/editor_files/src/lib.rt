@@ -13,7 +13,7 @@ mod saved;
 mod saving;
 mod secrets;
 
-pub use files::{below, is_free, write_file};
+pub use files::{below, is_free, seen_in, write_file};
 pub use holding::hold;
 pub use reading::{Clean, Read, read_clean, read_folder, tell_findings, texts_of};
 pub use saved::Saved;

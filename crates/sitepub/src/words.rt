@@ -154,7 +154,7 @@ fn done<
             folder,
             http,
             ignore,
-        } => preview(rt, out, folder, http, ignore),
+        } => preview(rt, out, err, folder, http, ignore),
         Word::Log { folder } => tell_log(rt, out, err, folder),
         Word::Status {
             folder,
