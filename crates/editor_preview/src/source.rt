@@ -64,11 +64,11 @@ impl<'a> Source<'a> {
     ) -> Result<Shown, EditorFault> {
         match read_clean(rt, told, self.folder, self.ignore) {
             Ok(Some(clean)) => Ok(Shown::Pages(release_of(rt.alloc(), &clean.folder)?)),
-            Ok(None) => Ok(faults_of(rt.alloc(), told)?),
+            Ok(None) => Ok(faults_of(rt.alloc(), told.as_slice())?),
             Err(EditorFault::OutOfMemory) => Err(EditorFault::OutOfMemory),
             Err(fault) => {
                 say_made(told, format!(in rt.alloc(); "{fault}"))?;
-                Ok(faults_of(rt.alloc(), told)?)
+                Ok(faults_of(rt.alloc(), told.as_slice())?)
             }
         }
     }
