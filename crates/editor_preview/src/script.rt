@@ -21,8 +21,11 @@ pub(crate) const BEFORE: &str = "<script>
   }
   function compare(newest) {
     if (Number(newest) === shown) return;
-    shown = Number(newest);
-    return fetch(location.href, { cache: 'no-store' }).then(show);
+    return fetch(location.href, { cache: 'no-store' })
+      .then(function (page) {
+        shown = Number(newest);
+        return show(page);
+      });
   }
   function look() {
     fetch('/_newest', { cache: 'no-store' })
