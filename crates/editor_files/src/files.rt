@@ -3,6 +3,8 @@ use editor_common::EditorFault;
 use editor_folder::{SiteFile, is_of_site, is_part, is_passed_over};
 use std::alloc::{AllocError, Global};
 use std::collections::BTreeMap;
+use std::fs::Metadata;
+use std::os::unix::fs::MetadataExt;
 use std::rt::Files;
 use std::{fs, io};
 
@@ -11,6 +13,15 @@ const MAX_FOLDERS: u32 = 10_000;
 
 /// What an editor's program keeps in a folder beside the site's files.
 const KEPT: &str = "published";
+
+/// What is taken of a file.
+#[derive(Clone, Copy)]
+enum Taking {
+    /// Its bytes.
+    Bytes,
+    /// How it looks from outside: another text once it was written.
+    Looks,
+}
 
 /// The files of a folder, in the order of their paths, and how many files and folders were passed over.
 #[derive(Drop)]
@@ -29,6 +40,7 @@ struct Search {
     passed_over: usize,
     /// Whether files that are no part of a site are passed over.
     ignore: bool,
+    taking: Taking,
 }
 
 /// What stands at a path below a folder.
@@ -76,9 +88,11 @@ fn kind_at(is_folder: bool, path: &str) -> Kind {
     }
 }
 
-fn kind_of<R: Files + AllocGlobal>(rt: &R, whole: &str, path: &str) -> Result<Kind, EditorFault> {
-    let found = at(rt.alloc(), whole, fs::metadata(rt, whole))?;
-    Ok(kind_at(found.is_dir(), path))
+/// How a file looks from outside.
+fn looks_of(alloc: Global, found: &Metadata) -> Result<Vec<u8>, AllocError> {
+    let (size, inode) = (found.size(), found.ino());
+    let (seconds, nanos) = (found.mtime(), found.mtime_nsec());
+    Ok(format!(in alloc; "{size} {inode} {seconds} {nanos}")?.into_bytes())
 }
 
 /// The names in a folder.
@@ -117,6 +131,19 @@ impl Search {
     }
 }
 
+/// What is taken of a file at a path, of which the system says that.
+fn taken_of<R: Files + AllocGlobal>(
+    rt: &R,
+    whole: &str,
+    found: &Metadata,
+    taking: Taking,
+) -> Result<Vec<u8>, EditorFault> {
+    match taking {
+        Taking::Bytes => at(rt.alloc(), whole, fs::read(rt, whole)),
+        Taking::Looks => Ok(looks_of(rt.alloc(), found)?),
+    }
+}
+
 /// Takes what stands at a path below the folder; that is it as a whole.
 fn take_at<R: Files + AllocGlobal>(
     rt: &R,
@@ -125,9 +152,13 @@ fn take_at<R: Files + AllocGlobal>(
     search: &mut Search,
 ) -> Result<(), EditorFault> {
     let alloc = rt.alloc();
-    match kind_of(rt, whole, path)? {
+    let found = at(alloc, whole, fs::metadata(rt, whole))?;
+    match kind_at(found.is_dir(), path) {
         Kind::Part => search.put_off(alloc, path)?,
-        Kind::Site => search.put(alloc, path, at(alloc, whole, fs::read(rt, whole))?)?,
+        Kind::Site => {
+            let taken = taken_of(rt, whole, &found, search.taking)?;
+            search.put(alloc, path, taken)?
+        }
         Kind::Other if search.ignore => search.pass_over(),
         Kind::Other => search.put_other(alloc, path)?,
     }
@@ -198,11 +229,12 @@ fn look_around<R: Files + AllocGlobal + Clone + Drop>(
     Err(EditorFault::ManyFolders)
 }
 
-/// Reads the files of a folder.
-pub(crate) fn files_of<R: Files + AllocGlobal + Clone + Drop>(
+/// Looks for the files of a folder, and takes that of each.
+fn look_for<R: Files + AllocGlobal + Clone + Drop>(
     rt: &R,
     root: &str,
     ignore: bool,
+    taking: Taking,
 ) -> Result<Found, EditorFault> {
     let alloc = rt.alloc();
     let mut search = Search {
@@ -210,9 +242,42 @@ pub(crate) fn files_of<R: Files + AllocGlobal + Clone + Drop>(
         pending: Vec::new(alloc),
         passed_over: 0,
         ignore,
+        taking,
     };
     look_around(rt, root, &mut search)?;
     found_in(alloc, search)
+}
+
+/// Reads the files of a folder.
+pub(crate) fn files_of<R: Files + AllocGlobal + Clone + Drop>(
+    rt: &R,
+    root: &str,
+    ignore: bool,
+) -> Result<Found, EditorFault> {
+    look_for(rt, root, ignore, Taking::Bytes)
+}
+
+/// A line for each file, its path first.
+fn lines_of(alloc: Global, files: &[SiteFile]) -> Result<String, AllocError> {
+    let mut lines = String::new(alloc);
+    for file in files {
+        lines.push_str(file.path.as_str())?;
+        lines.push(' ')?;
+        lines.push_str(str::from_utf8(&file.bytes).unwrap_or(""))?;
+        lines.push('\n')?;
+    }
+    Ok(lines)
+}
+
+/// How the files of a folder look from outside, none of which is read: another text where one came or went, or was written, as
+/// its time, size or inode tells.
+pub fn seen_in<R: Files + AllocGlobal + Clone + Drop>(
+    rt: &R,
+    root: &str,
+    ignore: bool,
+) -> Result<String, EditorFault> {
+    let found = look_for(rt, root, ignore, Taking::Looks)?;
+    Ok(lines_of(rt.alloc(), &found.files)?)
 }
 
 /// What was found.

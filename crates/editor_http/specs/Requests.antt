@@ -43,8 +43,12 @@ receipt_target ticket = codes "/_ticket/" ++ (decimal ticket.editor ++ (codes "/
 abbrev pub page_target : ℕ → List ℕ → List ℕ
 page_target release path = codes "/@" ++ (decimal release ++ percent_encode ESCAPED path)
 
+-- a request with these field lines
+abbrev pub request_with : List ℕ → Question → List ℕ
+request_with fields (Submit ticket text) = submit_request fields ticket text.now
+request_with fields (Receipt ticket) = get_request fields (receipt_target ticket)
+request_with fields Newest = get_request fields (codes "/_newest")
+request_with fields (Page release path) = get_request fields (page_target release path.now)
+
 abbrev pub request_of : Authority → Bool → Question → List ℕ
-request_of to last (Submit ticket text) = submit_request (fields_of to last) ticket text.now
-request_of to last (Receipt ticket) = get_request (fields_of to last) (receipt_target ticket)
-request_of to last Newest = get_request (fields_of to last) (codes "/_newest")
-request_of to last (Page release path) = get_request (fields_of to last) (page_target release path.now)
+request_of to last question = request_with (fields_of to last) question

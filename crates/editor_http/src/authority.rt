@@ -30,7 +30,7 @@ fn decoded(alloc: Global, text: &str) -> Result<Vec<u8>, AllocError>
     Ok(bytes)
 }
 
-fn login(alloc: Global, user: &str, password: &str) -> Result<Login, AllocError>
+fn login_by(alloc: Global, user: &str, password: &str) -> Result<Login, AllocError>
     ensures { IfOk result (λ login. login_shown login ≡ (decoded_of user.now, decoded_of password.now)) }
 {
     Ok(Login {
@@ -44,8 +44,8 @@ fn login_in(alloc: Global, text: &str) -> Result<Login, AllocError>
     ensures { IfOk result (λ login. login_shown login ≡ login_of text.now) }
 {
     match text.split_once(':') {
-        Some((user, password)) => login(alloc, user, password),
-        None => login(alloc, text, ""),
+        Some((user, password)) => login_by(alloc, user, password),
+        None => login_by(alloc, text, ""),
     }
 }
 

@@ -1,6 +1,6 @@
 //! What can be asked of a node, as the bytes of a request.
 ghost use Rattle.std.specs.Prelude.{◌≡◌, Bool, true, false, IfOk, string_bytes};
-ghost use Rattle.editor_http.specs.Requests.{closing, fields_of, receipt_target, page_target, submit_request, get_request, request_of};
+ghost use Rattle.editor_http.specs.Requests.{closing, fields_of, receipt_target, page_target, submit_request, get_request, request_with, request_of};
 
 use crate::authority::Authority;
 use crate::authorization::authorization;
@@ -87,24 +87,29 @@ fn page_target(alloc: Global, release: u64, path: &str) -> Result<String, AllocE
 }
 
 impl Question<'_> {
+    /// The request with these field lines.
+    fn spelled_with(&self, alloc: Global, fields: &str) -> Result<String, AllocError>
+        ensures { IfOk result (λ request. string_bytes request ≡ request_with fields.now self.now) }
+    {
+        match self {
+            Question::Submit(ticket, text) => submit_request(alloc, fields, *ticket, text),
+            Question::Receipt(ticket) => {
+                let target = receipt_target(alloc, *ticket)?;
+                get_request(alloc, fields, target.as_str())
+            }
+            Question::Newest => get_request(alloc, fields, "/_newest"),
+            Question::Page(release, path) => {
+                let target = page_target(alloc, *release, path)?;
+                get_request(alloc, fields, target.as_str())
+            }
+        }
+    }
+
     /// The bytes of the request to a host. Behind the last one of a connection the node closes it.
     pub fn spelled(&self, alloc: Global, to: &Authority, last: bool) -> Result<String, AllocError>
         ensures { IfOk result (λ request. string_bytes request ≡ request_of to.now last self.now) }
     {
         let fields = fields(alloc, to, last)?;
-        match self {
-            Question::Submit(ticket, text) => {
-                submit_request(alloc, fields.as_str(), *ticket, text)
-            }
-            Question::Receipt(ticket) => {
-                let target = receipt_target(alloc, *ticket)?;
-                get_request(alloc, fields.as_str(), target.as_str())
-            }
-            Question::Newest => get_request(alloc, fields.as_str(), "/_newest"),
-            Question::Page(release, path) => {
-                let target = page_target(alloc, *release, path)?;
-                get_request(alloc, fields.as_str(), target.as_str())
-            }
-        }
+        self.spelled_with(alloc, fields.as_str())
     }
 }

@@ -119,14 +119,8 @@ fn export_word<'a>(alloc: Global) -> Result<Command<'a>, AllocError> {
     taking(word, ignore_flag(alloc))
 }
 
-fn urls_argument<'a>(alloc: Global) -> Arg<'a> {
-    value(
-        alloc,
-        "url",
-        "URL",
-        "The address of a node, as http://127.0.0.1:8001; the first that answers is kept to",
-    )
-    .action(ArgAction::Append)
+fn urls_argument<'a>(alloc: Global, help: &'static str) -> Arg<'a> {
+    value(alloc, "url", "URL", help).action(ArgAction::Append)
 }
 
 fn logins_option<'a>(alloc: Global) -> Arg<'a> {
@@ -205,7 +199,11 @@ fn message_option<'a>(alloc: Global) -> Arg<'a> {
 fn publish_word<'a>(alloc: Global) -> Result<Command<'a>, AllocError> {
     let about = "Makes a folder the next release of a group, and goes on where it was interrupted";
     let word = site_word(alloc, "publish", about);
-    let word = taking(word, urls_argument(alloc));
+    let urls = urls_argument(
+        alloc,
+        "The address of a node, as http://127.0.0.1:8001; the first that answers is kept to",
+    );
+    let word = taking(word, urls);
     let word = taking(word, logins_option(alloc));
     let editor = editor_option(
         alloc,
@@ -280,9 +278,11 @@ fn of_option<'a>(alloc: Global) -> Arg<'a> {
 fn status_word<'a>(alloc: Global) -> Result<Command<'a>, AllocError> {
     let word = Command::new(alloc, "status")
         .about(
-            "Tells of each node whether it answers, its newest release, and whether it shows the same; status 1 where one is silent, behind or differs",
+            "Tells of each node in how many milliseconds it answers, its newest release, how many it is behind, and whether its start page in the newest that all have is the same; status 1 where one is silent, behind or differs",
         )
-        .arg(urls_argument(alloc).required(true));
+        .arg(urls_argument(alloc, "The address of a node, as http://127.0.0.1:8001").required(
+            true,
+        ));
     let word = taking(word, logins_option(alloc));
     let word = speaking(alloc, word);
     taking(word, of_option(alloc))

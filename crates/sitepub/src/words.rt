@@ -168,7 +168,7 @@ fn done<
             folder,
             http,
             ignore,
-        } => preview(rt, out, folder, http, ignore),
+        } => preview(rt, out, err, folder, http, ignore),
         Word::Restore {
             folder,
             release,
