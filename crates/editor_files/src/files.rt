@@ -27,8 +27,16 @@ struct Search {
     /// Folders that are still to be looked into.
     pending: Vec<String>,
     passed_over: usize,
-    /// Whether files that are no part of a site are passed over.
-    ignore: bool,
+    wanted: Wanted,
+}
+
+/// What is looked for in a folder.
+#[derive(Clone, Copy)]
+enum Wanted {
+    /// The files of a site; whether others are passed over.
+    Site { ignore: bool },
+    /// A generator's pages, and its sitemap; of other files the names.
+    Pages,
 }
 
 /// What stands at a path below a folder.
@@ -38,7 +46,9 @@ enum Kind {
     Part,
     /// A file of a site.
     Site,
-    /// Neither.
+    /// A file of which the name alone is wanted.
+    Named,
+    /// None of these.
     Other,
 }
 
@@ -61,8 +71,19 @@ pub(crate) fn at<T>(alloc: Global, path: &str, given: io::Result<T>) -> Result<T
     }
 }
 
+/// What a folder or a file at a path below a generator's is to it.
+fn page_kind(is_folder: bool, path: &str) -> Kind {
+    if is_folder {
+        Kind::Part
+    } else if path.ends_with(".html") || path == "sitemap.xml" {
+        Kind::Site
+    } else {
+        Kind::Named
+    }
+}
+
 /// What a folder or a file at a path below the folder is to a site.
-fn kind_at(is_folder: bool, path: &str) -> Kind {
+fn site_kind(is_folder: bool, path: &str) -> Kind {
     if is_folder {
         if is_part(path) {
             Kind::Part
@@ -76,9 +97,45 @@ fn kind_at(is_folder: bool, path: &str) -> Kind {
     }
 }
 
-fn kind_of<R: Files + AllocGlobal>(rt: &R, whole: &str, path: &str) -> Result<Kind, EditorFault> {
+impl Wanted {
+    /// Whether what stands at a path is not looked at.
+    fn skips(self, path: &str) -> bool {
+        match self {
+            Wanted::Site { .. } => path == KEPT,
+            Wanted::Pages => false,
+        }
+    }
+
+    /// Whether what stands at a path is passed over.
+    fn passes_over(self, path: &str) -> bool {
+        match self {
+            Wanted::Site { .. } => is_passed_over(path),
+            Wanted::Pages => path.split('/').any(|name| name.starts_with('.')),
+        }
+    }
+
+    /// What a folder or a file at a path is.
+    fn kind_at(self, is_folder: bool, path: &str) -> Kind {
+        match self {
+            Wanted::Site { .. } => site_kind(is_folder, path),
+            Wanted::Pages => page_kind(is_folder, path),
+        }
+    }
+
+    /// Whether files of no kind are passed over.
+    fn ignores(self) -> bool {
+        matches!(self, Wanted::Site { ignore: true })
+    }
+}
+
+fn kind_of<R: Files + AllocGlobal>(
+    rt: &R,
+    whole: &str,
+    path: &str,
+    wanted: Wanted,
+) -> Result<Kind, EditorFault> {
     let found = at(rt.alloc(), whole, fs::metadata(rt, whole))?;
-    Ok(kind_at(found.is_dir(), path))
+    Ok(wanted.kind_at(found.is_dir(), path))
 }
 
 /// The names in a folder.
@@ -125,10 +182,11 @@ fn take_at<R: Files + AllocGlobal>(
     search: &mut Search,
 ) -> Result<(), EditorFault> {
     let alloc = rt.alloc();
-    match kind_of(rt, whole, path)? {
+    match kind_of(rt, whole, path, search.wanted)? {
         Kind::Part => search.put_off(alloc, path)?,
         Kind::Site => search.put(alloc, path, at(alloc, whole, fs::read(rt, whole))?)?,
-        Kind::Other if search.ignore => search.pass_over(),
+        Kind::Named => search.put(alloc, path, Vec::new(alloc))?,
+        Kind::Other if search.wanted.ignores() => search.pass_over(),
         Kind::Other => search.put_other(alloc, path)?,
     }
     Ok(())
@@ -141,10 +199,10 @@ fn take<R: Files + AllocGlobal>(
     path: &str,
     search: &mut Search,
 ) -> Result<(), EditorFault> {
-    if path == KEPT {
+    if search.wanted.skips(path) {
         return Ok(());
     }
-    if is_passed_over(path) {
+    if search.wanted.passes_over(path) {
         search.pass_over();
         return Ok(());
     }
@@ -198,21 +256,39 @@ fn look_around<R: Files + AllocGlobal + Clone + Drop>(
     Err(EditorFault::ManyFolders)
 }
 
-/// Reads the files of a folder.
-pub(crate) fn files_of<R: Files + AllocGlobal + Clone + Drop>(
+/// What a folder has of what is looked for.
+fn found_below<R: Files + AllocGlobal + Clone + Drop>(
     rt: &R,
     root: &str,
-    ignore: bool,
+    wanted: Wanted,
 ) -> Result<Found, EditorFault> {
     let alloc = rt.alloc();
     let mut search = Search {
         files: BTreeMap::new(alloc),
         pending: Vec::new(alloc),
         passed_over: 0,
-        ignore,
+        wanted,
     };
     look_around(rt, root, &mut search)?;
     found_in(alloc, search)
+}
+
+/// Reads the files of a folder.
+pub(crate) fn files_of<R: Files + AllocGlobal + Clone + Drop>(
+    rt: &R,
+    root: &str,
+    ignore: bool,
+) -> Result<Found, EditorFault> {
+    found_below(rt, root, Wanted::Site { ignore })
+}
+
+/// The files below a folder of another generator's pages, in the order of their paths: of pages, whose names end
+/// in `.html`, and of `sitemap.xml` with their bytes, of others without. Names with a dot before are passed over.
+pub fn pages_below<R: Files + AllocGlobal + Clone + Drop>(
+    rt: &R,
+    root: &str,
+) -> Result<Vec<SiteFile>, EditorFault> {
+    Ok(found_below(rt, root, Wanted::Pages)?.files)
 }
 
 /// What was found.

@@ -12,7 +12,7 @@ mod reading;
 mod saved;
 mod saving;
 
-pub use files::{below, is_free, write_file};
+pub use files::{below, is_free, pages_below, write_file};
 pub use holding::hold;
 pub use reading::{Clean, Read, read_clean, read_folder, tell_findings, texts_of};
 pub use saved::Saved;

@@ -9,6 +9,6 @@ mod framing;
 mod log_word;
 
 pub use checking::{Checking, check};
-pub use exporting::{begin, export};
+pub use exporting::{begin, export, takes_files};
 pub use framing::frame;
 pub use log_word::tell_log;

@@ -3,6 +3,7 @@ use clap::error::ErrorKind;
 use editor_common::EditorFault;
 use editor_files::read_ledger;
 use editor_group::tell_status;
+use editor_import::import;
 use editor_options::{Word, word_in};
 use editor_plan::last_shown;
 use editor_preview::preview;
@@ -59,6 +60,7 @@ fn done<
 >(rt: &R, out: &mut W, err: &mut E, word: &Word<'_>) -> Result<u8, EditorFault> {
     match *word {
         Word::New { folder } => begin(rt, out, err, folder),
+        Word::Import { pages, folder } => import(rt, out, err, pages, folder),
         Word::Check {
             folder,
             ignore,

@@ -1,0 +1,5 @@
+pub mod Verbatim
+pub mod Routes
+pub mod Refreshes
+pub mod Leading
+pub mod Pages
