@@ -57,7 +57,7 @@ fn path_at(alloc: Global, own: &Url, url: &Url) -> Result<Option<String>, AllocE
 }
 
 /// The path to which an address leads from the page at a path of a site, if it leads to a page of that site.
-pub fn target_of(
+pub(crate) fn target_of(
     alloc: Global,
     site: &Url,
     from: &str,

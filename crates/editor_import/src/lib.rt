@@ -18,7 +18,6 @@ mod template;
 pub use imported::{Imported, SiteText, imported};
 pub use imported_page::{ImportedPage, page_of};
 pub use importing::import;
-pub use leading::target_of;
 pub use left_out::{LeftOut, NotTaken};
 pub use refresh::alias_of;
 pub use route::route_of;
