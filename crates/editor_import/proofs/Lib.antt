@@ -1,1 +1,3 @@
 pub mod VerbatimLemmas
+pub mod RouteLemmas
+pub mod CutLemmas
