@@ -10,7 +10,7 @@ start_front() {
     sed "${words[@]}" -e "s/listen 127.0.0.1:8080/listen 127.0.0.1:$port/" -e "s,/var/lib/nginx/deskrauf,$group/cache," \
         -e "s,/var/log/nginx/deskrauf.log,$group/access.log," examples/operating/nginx.conf > "$group/site.conf"
     sed -e "s/listen 127.0.0.1:8081/listen 127.0.0.1:$outer_port/" -e "s,/srv/pages,$group/pages," -e "s,http://127.0.0.1:8080,http://127.0.0.1:$port," \
-        examples/operating/nginx-beside.conf > "$group/beside.conf"
+        -e "s,/var/log/nginx/deskrauf-beside.log,$group/outer.log," examples/operating/nginx-beside.conf > "$group/beside.conf"
     mkdir "$group/rooms"
     {
         echo "daemon off; pid $group/nginx.pid; error_log $group/error.log; events { worker_connections 512; }"

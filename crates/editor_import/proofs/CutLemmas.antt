@@ -22,13 +22,13 @@ module _ (part t : List ℕ) (some : 0 < length part) where
   pub found_is : (a b : List ℕ) → SplitsAroundMatch (FindsText part) t a b → cut part t ≡ Some (a, b)
   found_is a b h =
       let i : ℕ = h.0 in
-      let j : ℕ = h.1.0 in
-      let finds : FindsText part t (Some (i, j)) = h.1.1.0 in
-      let front : a ≡ take i t = h.1.1.1.0 in
-      let back : b ≡ drop j t = h.1.1.1.1.0 in
-      let long : length a ≡ i = h.1.1.1.1.1.1.0 in
+      let j : ℕ = h.1 in
+      let finds : FindsText part t (Some (i, j)) = h.2 in
+      let front : a ≡ take i t = h.3 in
+      let back : b ≡ drop j t = h.4 in
+      let long : length a ≡ i = h.6 in
       let whole : t ≡ a ++ (part ++ b) =
-        sym (take-append-drop i t) ∙ ap (λ l. take i t ++ l) (finds.1.split ∙ ap (λ l. part ++ l) (sym back)) ∙ ap (λ l. l ++ (part ++ b)) (sym front) in
+      sym (take-append-drop i t) ∙ ap (λ l. take i t ++ l) (finds.1.split ∙ ap (λ l. part ++ l) (sym back)) ∙ ap (λ l. l ++ (part ++ b)) (sym front) in
       (cut_is_first part t a b some).1 (record {
         whole = whole;
         first = λ c e is. ⊎_elim (λ before. absurd (finds.0 (length c) before e (seam c e is))) (λ not_before. omega (arith, long)) (cases_lt (length c) i);
