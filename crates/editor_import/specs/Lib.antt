@@ -3,3 +3,4 @@ pub mod Routes
 pub mod Refreshes
 pub mod Leading
 pub mod Pages
+pub mod Imports

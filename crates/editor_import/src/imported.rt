@@ -260,7 +260,7 @@ fn folder_of(gathered: Gathering) -> Result<Imported, AllocError> {
 
 /// The folder of a site that shows the pages of a generator's files, each at the path at which that generator
 /// links it. A page that leads on to another one at once is a redirect; so is the name of an `index.html`.
-pub fn imported(alloc: Global, files: &[SiteFile]) -> Result<Imported, AllocError> {
+pub fn import_of(alloc: Global, files: &[SiteFile]) -> Result<Imported, AllocError> {
     let site = match url_of(alloc, address_in(files))? {
         Some(site) => site,
         None => match url_of(alloc, NOWHERE)? {

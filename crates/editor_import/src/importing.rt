@@ -1,5 +1,5 @@
 //! A generator's pages, read from their folder and written as the folder of a site.
-use crate::imported::{Imported, SiteText, imported};
+use crate::imported::{Imported, SiteText, import_of};
 use crate::left_out::LeftOut;
 use editor_common::{EditorFault, say_made};
 use editor_files::{below, pages_below, write_file};
@@ -69,7 +69,7 @@ pub fn import<R: Files + AllocGlobal + Clone + Drop, W: Write, E: Write>(
         return Ok(1);
     }
     let files = pages_below(rt, pages)?;
-    let made = imported(rt.alloc(), &files)?;
+    let made = import_of(rt.alloc(), &files)?;
     tell_left_out(rt.alloc(), out, &made.left_out)?;
     if made.pages == 0 {
         tell_no_page(rt.alloc(), err, pages)?;

@@ -2,7 +2,7 @@
 use crate::comparing::{ensure, same};
 use crate::editors::folders::{files, is_told, push_file};
 use editor_folder::{Folder, SiteFile, folder_of, pages_of, unused_of, views_of};
-use editor_import::{Imported, LeftOut, NotTaken, alias_of, imported, route_of, template_of};
+use editor_import::{Imported, LeftOut, NotTaken, alias_of, import_of, route_of, template_of};
 use std::alloc::{AllocError, Global};
 use std::process::Abort;
 
@@ -195,7 +195,7 @@ const LEFT_OUT: &[(&str, &str)] = &[
 
 fn taken(alloc: Global, rows: &[(&str, &[u8])]) -> Result<Imported, AllocError> {
     let found = files(alloc, rows)?;
-    imported(alloc, &found)
+    import_of(alloc, &found)
 }
 
 fn has_files(rt: &impl Abort, made: &Imported) {
@@ -259,7 +259,7 @@ fn long_page(alloc: Global, len: usize) -> Result<Vec<SiteFile>, AllocError> {
 
 fn takes_page(alloc: Global, len: usize) -> Result<Option<NotTaken>, AllocError> {
     let found = long_page(alloc, len)?;
-    let made = imported(alloc, &found)?;
+    let made = import_of(alloc, &found)?;
     Ok(made.left_out.first().map(|left| left.why))
 }
 
