@@ -1,12 +1,11 @@
 -- What `split_once` finds is a cut at the first place of a part.
-use Rattle.std.proofs.Common.{◌≡◌, ◌≢◌, ℕ, ◌+◌, ◌<◌, ◌≤◌, List, [], ◌∷◌, ◌++◌, length, take, drop, Option, Some, None, sym, ap, ◌∙◌, arith, ⊎_elim, length-append, take-append-drop}
+use Rattle.std.proofs.Common.{◌≡◌, ℕ, ◌<◌, ◌≤◌, List, ◌++◌, length, take, drop, Option, Some, None, sym, ap, ◌∙◌, arith, ⊎_elim, length-append, take-append-drop}
 use Rattle.std.proofs.Math.Seq.{drop-append_seam}
 use Rattle.std.proofs.lemmas.Bool.{cases_lt}
 use Rattle.std.specs.Borrow.{Bor}
 use Rattle.std.specs.Option.{MatchOption, option_map}
-use Rattle.std.specs.Str.Pattern.{FindsText, SplitsAroundMatch, LacksTextAt}
+use Rattle.std.specs.Str.Pattern.{FindsText, SplitsAroundMatch}
 use Rattle.mustache_scan.specs.Cutting.{cut}
-use Rattle.mustache_scan.specs.Laws.{IsFirstCut}
 use Rattle.mustache_scan.proofs.FirstCutLemmas.{cut_is_first, no_cut_is_nowhere}
 
 module _ (part t : List ℕ) (some : 0 < length part) where
@@ -33,3 +32,9 @@ module _ (part t : List ℕ) (some : 0 < length part) where
         whole = whole;
         first = λ c e is. ⊎_elim (λ before. absurd (finds.0 (length c) before e (seam c e is))) (λ not_before. omega (arith, long)) (cases_lt (length c) i);
       })
+
+  -- the clause of `split_once`
+  pub split_is : (r : Option (Bor (List ℕ) × Bor (List ℕ))) → MatchOption r (FindsText part t None) (λ x. SplitsAroundMatch (FindsText part) t x.0.now x.1.now)
+      → option_map (λ (x : Bor (List ℕ) × Bor (List ℕ)). (x.0.now, x.1.now)) r ≡ cut part t
+  split_is None h = sym (nowhere_is h)
+  split_is (Some x) h = sym (found_is x.0.now x.1.now h)

@@ -2,10 +2,12 @@
 use Rattle.std.proofs.Common.{◌≡◌, ℕ, zero, suc, ◌+◌, ◌-◌, ◌<◌, Bool, true, false, not, ◌&&◌, ◌||◌, ◌==◌, if◌then◌else◌, cond, List, [], ◌∷◌, ◌++◌, length, take, drop, max, nat_eq, Option, Some, None, Ok, refl, sym, ap, ◌∙◌, arith, append_assoc, append-nil, length-append, slice_range, is_some}
 use Rattle.std.proofs.Math.Seq.{take-append_seam, drop-append_seam, drop-append-add}
 use Rattle.std.proofs.lemmas.Bool.{false≢true}
+use Rattle.std.proofs.lemmas.Bool.Decides.{nat_tests}
 use Rattle.std.proofs.lemmas.List.{reverse-append, take_all}
 use Rattle.std.proofs.lemmas.List.Folds.{list_any-append}
 use Rattle.std.proofs.lemmas.List.Sums.{sum_by-append}
-use Rattle.std.specs.List.{repeat, list_any, prefix_len, suffix_len, position_or_len, before_first, starts_with, take_while, count_by, pointwise}
+use Rattle.std.specs.List.{repeat, list_any, prefix_len, suffix_len, position_or_len, before_first, starts_with, take_while, count_by}
+use Rattle.std.specs.Cmp.Lexicographic.{pointwise}
 use Rattle.context.specs.Whole.{Whole}
 use Rattle.mustache_scan.specs.Cutting.{is_padding, is_blank, unpadded, stripped, cut, behind}
 use Rattle.mustache_scan.specs.Names.{Pair, braces, is_empty, is_sequence, delimiters_in}
@@ -42,16 +44,21 @@ row_any : (p : ℕ → Bool) (n : ℕ) → p 94 ≡ false → list_any p (row n)
 row_any p zero h = refl
 row_any p (suc n) h = ap (λ b. b || list_any p (row n)) h ∙ row_any p n h
 
-row_count : (n : ℕ) → count_by is_caret (row n) ≡ n
-row_count zero = refl
-row_count (suc n) = ap suc (row_count n)
-
 row_last : (n : ℕ) → row (suc n) ≡ row n ++ 94 ∷ []
 row_last zero = refl
 row_last (suc n) = ap (λ l. 94 ∷ l) (row_last n)
 
 count-append : (xs ys : List ℕ) → count_by is_caret (xs ++ ys) ≡ count_by is_caret xs + count_by is_caret ys
 count-append xs ys = sum_by-append (λ x. cond (is_caret x) 1 0) xs ys
+
+row_count : (n : ℕ) → count_by is_caret (row n) ≡ n
+row_count zero = refl
+row_count (suc n) =
+    let one : count_by is_caret (94 ∷ []) ≡ 1 = refl in
+    count-append (94 ∷ []) (row n) ∙ omega (arith, one, row_count n)
+
+not_zero : (n : ℕ) → (suc n == 0) ≡ false
+not_zero n = grind (arith, nat_tests)
 
 -- more carets in a row than a text has stand nowhere in it
 none_there : (n : ℕ) (t : List ℕ) → count_by is_caret t < n → cut (row n) t ≡ None
@@ -85,7 +92,7 @@ unpadded_last xs n =
 
 first_len : (n : ℕ) (ys : List ℕ) → position_or_len is_padding (row n ++ (32 ∷ ys)) ≡ length (row n)
 first_len zero ys = refl
-first_len (suc n) ys = ap suc (first_len n ys)
+first_len (suc n) ys = let step : 1 + length (row n) ≡ suc (length (row n)) = omega arith in ap (λ k. 1 + k) (first_len n ys) ∙ step
 
 line_end_is : (page : List ℕ) → line_end (10 ∷ page) ≡ Some 1
 line_end_is [] = refl
@@ -139,12 +146,13 @@ module _ (n : ℕ) (page : List ℕ) (more : count_by is_caret page < suc n) whe
   stripped_is = ap (λ k. take (length inside - k) inside) unpadded_is ∙ take_all (length inside - 0) inside (omega arith)
 
   sequence : is_sequence marks ≡ true
-  sequence = ap (λ b. not (is_empty marks) && not b) (row_any (λ b. is_padding b || b == 61) (suc n) refl)
+  sequence = ap (λ b. not (is_empty marks) && not b) (row_any (λ b. is_padding b || b == 61) (suc n) refl) ∙ ap (λ b. not b && true) (not_zero (length (row n)))
 
   first_is : before_first is_padding inside ≡ marks
   first_is = ap (λ k. take k inside) (first_len (suc n) marks) ∙ take-append_seam marks (32 ∷ marks)
 
   delimiters_are : delimiters_in inside ≡ Some pair
+  unfolding chosen
   delimiters_are =
       ap (λ first. chosen first (unpadded (drop (length first) inside))) first_is
       ∙ ap (λ second. chosen marks (unpadded second)) (drop-append_seam marks (32 ∷ marks))
@@ -204,7 +212,7 @@ module _ (n : ℕ) (page : List ℕ) (more : count_by is_caret page < suc n) whe
       tree_is whole (tag_at whole Delimiters inside 0 past ∷ literal_at (past + 1) page) (Ok (text_onto page nothing))
       (ends_well whole rest pair (past + 1) (tag_at whole Delimiters inside 0 past ∷ []) read_to sequence (none_there (suc n) rest more)
       ∙ ap (λ l. Ok (tag_at whole Delimiters inside 0 past ∷ literal_at (past + 1) l)) page_is)
-      (nested_is _ _ _ page 0 (past + 1))
+      (nested_is [] (slice_range whole 0 past) [] page 0 (past + 1))
 
 -- ---- what it renders to
 

@@ -1,5 +1,5 @@
 -- The path of a file's page.
-use Rattle.std.specs.Prelude.{◌≡◌, ◌≢◌, ℕ, List, [], ◌∷◌, ◌++◌, codes}
+use Rattle.std.specs.Prelude.{◌≡◌, ◌≢◌, ℕ, List, ◌∷◌, ◌++◌, codes}
 
 -- that of an index.html is its folder's, with a slash at its end, and that of another file is the file's own
 pub record IsRoute (path file : List ℕ) : Type 0 where
