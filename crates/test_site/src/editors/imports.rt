@@ -93,10 +93,7 @@ const ALIASES: &[(&str, Option<&str>)] = &[
         "<meta http-equiv=\"refresh\" content=\"0; url=../a\"><meta http-equiv=\"refresh\" content=\"0; url=../b\">",
         Some("../a"),
     ),
-    (
-        "<meta http-equiv=\"refresh\" content=\"0; url=",
-        None,
-    ),
+    ("<meta http-equiv=\"refresh\" content=\"0; url=", None),
     (
         "<meta http-equiv=\"refresh\" content=\"5; url=/later/\">",
         None,
