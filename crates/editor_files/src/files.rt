@@ -38,9 +38,17 @@ struct Search {
     /// Folders that are still to be looked into.
     pending: Vec<String>,
     passed_over: usize,
-    /// Whether files that are no part of a site are passed over.
-    ignore: bool,
+    wanted: Wanted,
     taking: Taking,
+}
+
+/// What is looked for in a folder.
+#[derive(Clone, Copy)]
+enum Wanted {
+    /// The files of a site; whether others are passed over.
+    Site { ignore: bool },
+    /// A generator's pages, and its sitemap; of other files the names.
+    Pages,
 }
 
 /// What stands at a path below a folder.
@@ -50,7 +58,9 @@ enum Kind {
     Part,
     /// A file of a site.
     Site,
-    /// Neither.
+    /// A file of which the name alone is wanted.
+    Named,
+    /// None of these.
     Other,
 }
 
@@ -73,8 +83,19 @@ pub(crate) fn at<T>(alloc: Global, path: &str, given: io::Result<T>) -> Result<T
     }
 }
 
+/// What a folder or a file at a path below a generator's is to it.
+fn page_kind(is_folder: bool, path: &str) -> Kind {
+    if is_folder {
+        Kind::Part
+    } else if path.ends_with(".html") || path == "sitemap.xml" {
+        Kind::Site
+    } else {
+        Kind::Named
+    }
+}
+
 /// What a folder or a file at a path below the folder is to a site.
-fn kind_at(is_folder: bool, path: &str) -> Kind {
+fn site_kind(is_folder: bool, path: &str) -> Kind {
     if is_folder {
         if is_part(path) {
             Kind::Part
@@ -85,6 +106,37 @@ fn kind_at(is_folder: bool, path: &str) -> Kind {
         Kind::Site
     } else {
         Kind::Other
+    }
+}
+
+impl Wanted {
+    /// Whether what stands at a path is not looked at.
+    fn skips(self, path: &str) -> bool {
+        match self {
+            Wanted::Site { .. } => path == KEPT,
+            Wanted::Pages => false,
+        }
+    }
+
+    /// Whether what stands at a path is passed over.
+    fn passes_over(self, path: &str) -> bool {
+        match self {
+            Wanted::Site { .. } => is_passed_over(path),
+            Wanted::Pages => path.split('/').any(|name| name.starts_with('.')),
+        }
+    }
+
+    /// What a folder or a file at a path is.
+    fn kind_at(self, is_folder: bool, path: &str) -> Kind {
+        match self {
+            Wanted::Site { .. } => site_kind(is_folder, path),
+            Wanted::Pages => page_kind(is_folder, path),
+        }
+    }
+
+    /// Whether files of no kind are passed over.
+    fn ignores(self) -> bool {
+        matches!(self, Wanted::Site { ignore: true })
     }
 }
 
@@ -153,13 +205,14 @@ fn take_at<R: Files + AllocGlobal>(
 ) -> Result<(), EditorFault> {
     let alloc = rt.alloc();
     let found = at(alloc, whole, fs::metadata(rt, whole))?;
-    match kind_at(found.is_dir(), path) {
+    match search.wanted.kind_at(found.is_dir(), path) {
         Kind::Part => search.put_off(alloc, path)?,
         Kind::Site => {
             let taken = taken_of(rt, whole, &found, search.taking)?;
             search.put(alloc, path, taken)?
         }
-        Kind::Other if search.ignore => search.pass_over(),
+        Kind::Named => search.put(alloc, path, Vec::new(alloc))?,
+        Kind::Other if search.wanted.ignores() => search.pass_over(),
         Kind::Other => search.put_other(alloc, path)?,
     }
     Ok(())
@@ -172,10 +225,10 @@ fn take<R: Files + AllocGlobal>(
     path: &str,
     search: &mut Search,
 ) -> Result<(), EditorFault> {
-    if path == KEPT {
+    if search.wanted.skips(path) {
         return Ok(());
     }
-    if is_passed_over(path) {
+    if search.wanted.passes_over(path) {
         search.pass_over();
         return Ok(());
     }
@@ -233,7 +286,7 @@ fn look_around<R: Files + AllocGlobal + Clone + Drop>(
 fn look_for<R: Files + AllocGlobal + Clone + Drop>(
     rt: &R,
     root: &str,
-    ignore: bool,
+    wanted: Wanted,
     taking: Taking,
 ) -> Result<Found, EditorFault> {
     let alloc = rt.alloc();
@@ -241,7 +294,7 @@ fn look_for<R: Files + AllocGlobal + Clone + Drop>(
         files: BTreeMap::new(alloc),
         pending: Vec::new(alloc),
         passed_over: 0,
-        ignore,
+        wanted,
         taking,
     };
     look_around(rt, root, &mut search)?;
@@ -254,7 +307,7 @@ pub(crate) fn files_of<R: Files + AllocGlobal + Clone + Drop>(
     root: &str,
     ignore: bool,
 ) -> Result<Found, EditorFault> {
-    look_for(rt, root, ignore, Taking::Bytes)
+    look_for(rt, root, Wanted::Site { ignore }, Taking::Bytes)
 }
 
 /// A line for each file, its path first.
@@ -276,8 +329,17 @@ pub fn seen_in<R: Files + AllocGlobal + Clone + Drop>(
     root: &str,
     ignore: bool,
 ) -> Result<String, EditorFault> {
-    let found = look_for(rt, root, ignore, Taking::Looks)?;
+    let found = look_for(rt, root, Wanted::Site { ignore }, Taking::Looks)?;
     Ok(lines_of(rt.alloc(), &found.files)?)
+}
+
+/// The files below a folder of another generator's pages, in the order of their paths: of pages, whose names end
+/// in `.html`, and of `sitemap.xml` with their bytes, of others without. Names with a dot before are passed over.
+pub fn pages_below<R: Files + AllocGlobal + Clone + Drop>(
+    rt: &R,
+    root: &str,
+) -> Result<Vec<SiteFile>, EditorFault> {
+    Ok(look_for(rt, root, Wanted::Pages, Taking::Bytes)?.files)
 }
 
 /// What was found.

@@ -16,7 +16,7 @@ mod saved;
 mod saving;
 mod secrets;
 
-pub use files::{below, is_free, seen_in, write_file};
+pub use files::{below, is_free, pages_below, seen_in, write_file};
 pub use holding::hold;
 pub use listing::list_findings;
 pub use reading::{Clean, Read, clean_of, read_clean, read_folder, tell_findings, texts_of};

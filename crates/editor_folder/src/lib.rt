@@ -40,6 +40,8 @@ pub use copies::{Copies, NoCopy};
 pub use file::SiteFile;
 pub use finding::{Finding, Weight};
 pub use folder::{Folder, FolderCommand, Redirect, Route, folder_of};
+pub use judging::{Refusal, refused};
+pub use moved::ESCAPED;
 pub use pages::{Page, page_faults, pages_of, release_of};
 pub use place::{Place, place_of};
 pub use restoring::files_of;

@@ -22,6 +22,11 @@ pub enum Word<'a> {
     New {
         folder: &'a str,
     },
+    /// Makes a folder of another generator's pages.
+    Import {
+        pages: &'a str,
+        folder: &'a str,
+    },
     /// Tells what is wrong with a folder.
     Check {
         folder: &'a str,
@@ -89,6 +94,31 @@ fn new_word<'a>(alloc: Global) -> Result<Command<'a>, AllocError> {
         "Writes a small site to start from",
         "The folder of the site, empty or absent",
     )
+}
+
+fn pages_argument<'a>(alloc: Global) -> Arg<'a> {
+    value(
+        alloc,
+        "pages",
+        "PAGES",
+        "The folder that the generator wrote, as hugo's public or mkdocs' site",
+    )
+    .required(true)
+}
+
+fn import_word<'a>(alloc: Global) -> Result<Command<'a>, AllocError> {
+    let word = Command::new(alloc, "import")
+        .about(
+            "Makes a folder of the pages that another generator wrote, and tells which of its files are left out",
+        )
+        .arg(pages_argument(alloc));
+    let folder = value(
+        alloc,
+        "folder",
+        "FOLDER",
+        "The folder of the site, empty or absent",
+    );
+    taking(word, folder.required(true))
 }
 
 fn check_word<'a>(alloc: Global) -> Result<Command<'a>, AllocError> {
@@ -297,6 +327,7 @@ fn command<'a>(alloc: Global) -> Result<Command<'a>, AllocError> {
         )
         .subcommand_required(true);
     let command = with_word(Ok(command), new_word(alloc));
+    let command = with_word(command, import_word(alloc));
     let command = with_word(command, check_word(alloc));
     let command = with_word(command, export_word(alloc));
     let command = with_word(command, frame_word(alloc));
@@ -349,6 +380,13 @@ fn preview_in<'a>(found: &ArgMatches<'a>) -> Word<'a> {
     }
 }
 
+fn import_in<'a>(found: &ArgMatches<'a>) -> Word<'a> {
+    Word::Import {
+        pages: text(found, "pages"),
+        folder: text(found, "folder"),
+    }
+}
+
 fn export_in<'a>(found: &ArgMatches<'a>) -> Word<'a> {
     Word::Export {
         folder: text(found, "folder"),
@@ -381,6 +419,7 @@ fn word_of<'a>(
             ignore: found.get_flag("ignore"),
             unused: found.get_flag("unused"),
         },
+        "import" => import_in(found),
         "export" => export_in(found),
         "frame" => frame_in(found),
         "publish" => publish_in(alloc, found)?,

@@ -105,7 +105,7 @@ fn tell_full<E: Write>(alloc: Global, err: &mut E, folder: &str) -> Result<(), E
 }
 
 /// Whether files can be written into a folder, as it is absent or empty. That it isn't is told.
-pub(crate) fn takes_files<R: Files + AllocGlobal + Clone + Drop, E: Write>(
+pub fn takes_files<R: Files + AllocGlobal + Clone + Drop, E: Write>(
     rt: &R,
     err: &mut E,
     folder: &str,

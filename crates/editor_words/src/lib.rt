@@ -11,7 +11,7 @@ mod log_word;
 mod restoring;
 
 pub use checking::{Checking, check};
-pub use exporting::{begin, export};
+pub use exporting::{begin, export, takes_files};
 pub use framing::frame;
 pub use log_word::tell_log;
 pub use restoring::restore;

@@ -3,6 +3,7 @@ use clap::error::ErrorKind;
 use editor_common::{EditorFault, Outcome, say_made};
 use editor_files::{lent, read_ledger};
 use editor_group::{Published, tell_status, with_logins};
+use editor_import::import;
 use editor_options::{Manner, Word, word_in};
 use editor_preview::preview;
 use editor_publish::{Publishing, publish};
@@ -106,6 +107,7 @@ fn done<
 ) -> Result<u8, EditorFault> {
     match *word {
         Word::New { folder } => begin(rt, out, err, folder),
+        Word::Import { pages, folder } => import(rt, out, err, pages, folder),
         Word::Check {
             folder,
             ignore,

@@ -1,0 +1,3 @@
+pub mod VerbatimLemmas
+pub mod RouteLemmas
+pub mod CutLemmas
