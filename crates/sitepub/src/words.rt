@@ -47,31 +47,6 @@ fn published_by<R: Files + AllocGlobal>(
     }
 }
 
-/// Publishes a folder at nodes whose logins a file may have.
-fn publish_by<
-    R: Files<File = File>
-        + Net<Stream = TcpStream>
-        + Clock
-        + RandomSource
-        + AllocGlobal
-        + Clone
-        + Drop,
-    W: Write,
-    E: Write,
->(
-    rt: &R,
-    out: &mut W,
-    err: &mut E,
-    outcome: &mut Outcome,
-    how: Publishing<'_>,
-    logins: Option<&str>,
-) -> Result<u8, EditorFault> {
-    let urls = with_logins(rt, how.urls, logins)?;
-    let lent = lent(rt.alloc(), &urls)?;
-    let how = Publishing { urls: &lent, ..how };
-    publish(rt, out, err, outcome, how)
-}
-
 /// Tells what nodes say of themselves whose logins a file may have.
 fn status_by<R: Files + Net<Stream = TcpStream> + Clock + AllocGlobal, W: Write>(
     rt: &R,
@@ -147,25 +122,28 @@ fn done<
             message,
             ignore,
             ..
-        } => publish_by(
-            rt,
-            out,
-            err,
-            outcome,
-            Publishing {
-                folder,
-                urls,
-                editor,
-                patience,
-                dry_run,
-                exit_code,
-                take_over,
-                release,
-                message,
-                ignore,
-            },
-            logins,
-        ),
+        } => {
+            let urls = with_logins(rt, urls, logins)?;
+            let lent = lent(rt.alloc(), &urls)?;
+            publish(
+                rt,
+                out,
+                err,
+                outcome,
+                Publishing {
+                    folder,
+                    urls: &lent,
+                    editor,
+                    patience,
+                    dry_run,
+                    exit_code,
+                    take_over,
+                    release,
+                    message,
+                    ignore,
+                },
+            )
+        }
         Word::Preview {
             folder,
             http,
