@@ -322,8 +322,8 @@ fn lines_of(alloc: Global, files: &[SiteFile]) -> Result<String, AllocError> {
     Ok(lines)
 }
 
-/// How the files of a folder look from outside, none of which is read: another text where one came or went, or was written, as
-/// its time, size or inode tells.
+/// How the files of a folder look from outside, none of which is read: another text where one came or went,
+/// or was written, as its time, size or inode tells.
 pub fn seen_in<R: Files + AllocGlobal + Clone + Drop>(
     rt: &R,
     root: &str,
@@ -333,8 +333,9 @@ pub fn seen_in<R: Files + AllocGlobal + Clone + Drop>(
     Ok(lines_of(rt.alloc(), &found.files)?)
 }
 
-/// The files below a folder of another generator's pages, in the order of their paths: of pages, whose names end
-/// in `.html`, and of `sitemap.xml` with their bytes, of others without. Names with a dot before are passed over.
+/// The files below a folder of another generator's pages, in the order of their paths: of pages, whose names
+/// end in `.html`, and of `sitemap.xml` with their bytes, of others without. Names with a dot before are
+/// passed over.
 pub fn pages_below<R: Files + AllocGlobal + Clone + Drop>(
     rt: &R,
     root: &str,

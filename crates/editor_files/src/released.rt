@@ -45,5 +45,9 @@ pub fn release_texts(
 pub fn lent(alloc: Global, texts: &[String]) -> Result<Vec<&str>, AllocError>
     ensures { IfOk result (λ lent. map (λ t. t.now) lent.items ≡ map string_bytes texts.now) }
 {
-    texts.iter().map(|text| text.as_str()).collect(alloc)
+    let mut lent = Vec::new(alloc);
+    for text in texts {
+        lent.push(text.as_str())?;
+    }
+    Ok(lent)
 }
