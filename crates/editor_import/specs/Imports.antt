@@ -4,6 +4,8 @@ use Rattle.std.specs.List.{ends_with}
 use Rattle.editor_folder.specs.declared.file.SiteFile.{SiteFile}
 use Rattle.editor_import.specs.Pages.{IsPageOf, IsLeftOut}
 use Rattle.editor_import.specs.declared.imported.Candidate.{Candidate}
+use Rattle.editor_import.specs.declared.imported.Gathering.{Gathering}
+use Rattle.editor_import.specs.declared.imported.Imported.{Imported}
 use Rattle.editor_import.specs.declared.left_out.LeftOut.{LeftOut}
 use Rattle.editor_import.specs.declared.left_out.NotTaken.{NotTaken}
 use Rattle.editor_import.specs.declared.left_out.NotTaken.TheVariants.{Other, NoText, NoCommand}
@@ -34,3 +36,12 @@ pub data Sorts : List SiteFile → List Candidate → List LeftOut → Type 0 wh
       → Sorts files taken left → IsTaken candidate file → Sorts (files ++ file ∷ []) (taken ++ candidate ∷ []) left
   one_left : (files : List SiteFile) (taken : List Candidate) (left : List LeftOut) (file : SiteFile) (out : LeftOut)
       → Sorts files taken left → IsLeft out file → Sorts (files ++ file ∷ []) taken (left ++ out ∷ [])
+
+-- one more file is taken or left out
+abbrev pub SortsAnother : Gathering → Gathering → SiteFile → Type 0
+SortsAnother before after file =
+    (files : List SiteFile) → Sorts files before.candidates.items before.left_out.items → Sorts (files ++ file ∷ []) after.candidates.items after.left_out.items
+
+-- what is told as left out is just what is not taken
+abbrev pub IsImportOf : Imported → List SiteFile → Type 0
+IsImportOf made files = (taken : List Candidate) × Sorts files taken made.left_out.items

@@ -1,6 +1,5 @@
 -- The page of a file, and why a file has none.
-use Rattle.std.specs.Prelude.{◌≡◌, ◌≢◌, ℕ, false, List, ◌++◌, codes, Err, string_bytes}
-use Rattle.std.specs.Str.{is_utf8}
+use Rattle.std.specs.Prelude.{◌≡◌, ◌⊎◌, ℕ, List, ◌++◌, codes, Err, IsUtf8, string_bytes}
 use Rattle.command.specs.Reading.{value_reading}
 use Rattle.command.specs.Written.{value_of}
 use Rattle.command.specs.declared.fault.CommandFault.{CommandFault}
@@ -44,5 +43,5 @@ pub record IsPageOf (p : ImportedPage) (file : SiteFile) : Type 0 where
 -- A file has no page: it is no text, or one of the commands of its page is none.
 abbrev pub IsLeftOut : NotTaken → SiteFile → Type 0
 IsLeftOut Other file = ⊥
-IsLeftOut NoText file = is_utf8 file.bytes.items ≡ false
+IsLeftOut NoText file = ¬ (IsUtf8 file.bytes.items)
 IsLeftOut (NoCommand fault) file = (p : ImportedPage) × IsDraft p (string_bytes file.path) file.bytes.items × WhyNot p fault

@@ -1,4 +1,8 @@
 //! The folder of a site that another generator's pages make.
+ghost use Rattle.std.specs.Prelude.{◌≡◌, true, IfOk, OnOk, string_bytes};
+ghost use Rattle.editor_import.specs.Imports.{is_html, WhyLeft, SortsAnother, Sorts, IsImportOf};
+ghost use Rattle.editor_import.specs.Pages.{IsPageOf};
+
 use crate::imported_page::{DATA, ImportedPage, page_of};
 use crate::leading::target_of;
 use crate::left_out::{LeftOut, NotTaken};
@@ -87,13 +91,20 @@ impl Gathering {
         }
     }
 
-    fn leave_out(&mut self, file: &SiteFile, why: NotTaken) -> Result<(), AllocError> {
+    fn leave_out(&mut self, file: &SiteFile, why: NotTaken) -> Result<(), AllocError>
+        requires { WhyLeft why file.now }
+        ensures { OnOk result (SortsAnother self.old self.new file.now) }
+    {
         let file = file.path.clone()?;
         self.left_out.push(LeftOut { file, why })?;
         Ok(())
     }
 
-    fn add(&mut self, file: &SiteFile, page: ImportedPage) -> Result<(), AllocError> {
+    fn add(&mut self, file: &SiteFile, page: ImportedPage) -> Result<(), AllocError>
+        requires html { is_html (string_bytes file.now.path) ≡ true }
+        requires page { IsPageOf page file.now }
+        ensures { OnOk result (SortsAnother self.old self.new file.now) }
+    {
         let leads = self.leads(&page, &file.bytes)?;
         let file = file.path.clone()?;
         self.candidates.push(Candidate { file, page, leads })?;
@@ -101,8 +112,10 @@ impl Gathering {
     }
 
     /// Takes a file: as a page that may be one of the folder, or as one that is left out.
-    fn take(&mut self, file: &SiteFile) -> Result<(), AllocError> {
-        if !file.path.as_str().ends_with(".html") {
+    fn take(&mut self, file: &SiteFile) -> Result<(), AllocError>
+        ensures { OnOk result (SortsAnother self.old self.new file.now) }
+    {
+        if !file.path.as_bytes().ends_with(b".html") {
             return self.leave_out(file, NotTaken::Other);
         }
         match page_of(self.alloc, file)? {
@@ -110,13 +123,22 @@ impl Gathering {
             Err(why) => self.leave_out(file, why),
         }
     }
+}
 
-    fn take_all(&mut self, files: &[SiteFile]) -> Result<(), AllocError> {
-        for file in files {
-            self.take(file)?;
-        }
-        Ok(())
+/// All files, each as one or the other.
+fn gathered(alloc: Global, site: Url, files: &[SiteFile]) -> Result<Gathering, AllocError>
+    ensures { IfOk result (λ g. Sorts files.now g.candidates.items g.left_out.items) }
+{
+    let mut gathering = Gathering {
+        alloc,
+        site,
+        candidates: Vec::new(alloc),
+        left_out: Vec::new(alloc),
+    };
+    for file in files {
+        gathering.take(file)?;
     }
+    Ok(gathering)
 }
 
 /// The paths of the pages that lead nowhere else.
@@ -207,7 +229,9 @@ impl Writing {
     }
 
     /// The folder, with what was left out of it.
-    fn finish(self, left_out: Vec<LeftOut>) -> Result<Imported, AllocError> {
+    fn finish(self, left_out: Vec<LeftOut>) -> Result<Imported, AllocError>
+        ensures { IfOk result (λ made. made.left_out ≡ left_out) }
+    {
         let Writing {
             alloc,
             templates,
@@ -239,7 +263,9 @@ impl Writing {
 }
 
 /// What was gathered, as a folder.
-fn folder_of(gathered: Gathering) -> Result<Imported, AllocError> {
+fn folder_of(gathered: Gathering) -> Result<Imported, AllocError>
+    ensures { IfOk result (λ made. made.left_out ≡ gathered.left_out) }
+{
     let Gathering {
         alloc,
         candidates,
@@ -258,22 +284,22 @@ fn folder_of(gathered: Gathering) -> Result<Imported, AllocError> {
     writing.finish(left_out)
 }
 
+/// The address of a site, as its files tell it, or the one that stands for none.
+fn site_of(alloc: Global, files: &[SiteFile]) -> Result<Url, AllocError> {
+    if let Some(site) = url_of(alloc, address_in(files))? {
+        return Ok(site);
+    }
+    match url_of(alloc, NOWHERE)? {
+        Some(site) => Ok(site),
+        None => Err(AllocError),
+    }
+}
+
 /// The folder of a site that shows the pages of a generator's files, each at the path at which that generator
 /// links it. A page that leads on to another one at once is a redirect; so is the name of an `index.html`.
-pub fn import_of(alloc: Global, files: &[SiteFile]) -> Result<Imported, AllocError> {
-    let site = match url_of(alloc, address_in(files))? {
-        Some(site) => site,
-        None => match url_of(alloc, NOWHERE)? {
-            Some(site) => site,
-            None => return Err(AllocError),
-        },
-    };
-    let mut gathering = Gathering {
-        alloc,
-        site,
-        candidates: Vec::new(alloc),
-        left_out: Vec::new(alloc),
-    };
-    gathering.take_all(files)?;
-    folder_of(gathering)
+pub fn import_of(alloc: Global, files: &[SiteFile]) -> Result<Imported, AllocError>
+    ensures { IfOk result (λ made. IsImportOf made files.now) }
+{
+    let site = site_of(alloc, files)?;
+    folder_of(gathered(alloc, site, files)?)
 }

@@ -1,23 +1,22 @@
 //! Which path of the same site an address is.
-ghost use Rattle.std.specs.Prelude.{◌≡◌, None, Some, Ok, IfOk, MatchOption, option_copied, string_bytes, IsTrue, IsUtf8, ¬};
+ghost use Rattle.std.specs.Prelude.{◌≡◌, ◌↔◌, ℕ, List, Some, Ok, IfOk, MatchOption, string_bytes, IsTrue, IsUtf8};
 ghost use Rattle.percent_encoding.specs.Percent.{percent_decode as decoded_form};
-ghost use Rattle.editor_folder.specs.Moved.{address_of};
 ghost use Rattle.url.specs.Parser.{parse_url};
 ghost use Rattle.url.specs.Parts.{Parts};
-ghost use Rattle.editor_import.specs.Leading.{Leads, Parses, IsWhole, HasHostOf};
+ghost use Rattle.editor_import.specs.Leading.{Leads, IsAt, IsWhole, HasHostOf};
 
 use editor_folder::ESCAPED;
 use percent_encoding::{percent_decode, utf8_percent_encode};
 use std::alloc::{AllocError, Global};
 use url::{ParseError, Url};
 
-/// The URL that an address gives from another one, if it is one.
+/// The URL that an address gives from another one, if it is one. One of 4 GB is as one for which memory lacks.
 fn joined(from: &Url, address: &str) -> Result<Option<Url>, AllocError>
     ensures { IfOk result (λ o. MatchOption o ((url : Parts) → ¬ (parse_url (Some from.now) address.now ≡ Ok url)) (λ url. parse_url (Some from.now) address.now ≡ Ok url)) }
 {
     match from.join(address) {
         Ok(url) => Ok(Some(url)),
-        Err(ParseError::OutOfMemory) => Err(AllocError),
+        Err(ParseError::OutOfMemory | ParseError::Overflow) => Err(AllocError),
         Err(_) => Ok(None),
     }
 }
@@ -48,15 +47,26 @@ fn decoded(alloc: Global, text: &str) -> Result<Option<String>, AllocError>
     }
 }
 
+/// Whether a URL names a page as a whole, of the same host.
+fn is_page_at(own: &Url, url: &Url) -> bool
+    ensures { IsTrue result ↔ (HasHostOf own.now url.now × IsWhole url.now) }
+{
+    has_host_of(own, url) && is_whole(url)
+}
+
 /// The path of a URL that is of the same host, and a page as a whole.
-fn path_at(alloc: Global, own: &Url, url: &Url) -> Result<Option<String>, AllocError> {
-    if !has_host_of(own, url) || !is_whole(url) {
+#[tactic(auto, using(crate::proofs::LeadingLemmas::none_at, crate::proofs::LeadingLemmas::is_decoded))]
+fn path_at(alloc: Global, own: &Url, url: &Url) -> Result<Option<String>, AllocError>
+    ensures { IfOk result (λ o. MatchOption o ((path : List ℕ) → IsUtf8 path → ¬ (IsAt own.now url.now path)) (λ path. IsAt own.now url.now (string_bytes path))) }
+{
+    if !is_page_at(own, url) {
         return Ok(None);
     }
     decoded(alloc, url.path())
 }
 
 /// The path to which an address leads from the page at a path of a site, if it leads to a page of that site.
+#[tactic(auto, using(crate::proofs::LeadingLemmas::leads_to))]
 pub(crate) fn target_of(
     alloc: Global,
     site: &Url,

@@ -1,5 +1,5 @@
 //! A folder as a service: one release, of the folder as it was read; or what is wrong with it at each path.
-ghost use Rattle.std.specs.Prelude.{◌≡◌, ◌≢◌, ◌↔◌, ◌<◌, ◌-◌, ◌^◌, suc, string_bytes, None, ⊤, IfOk, IsErrOf, IsTrue};
+ghost use Rattle.std.specs.Prelude.{◌≡◌, ◌↔◌, ◌<◌, ◌-◌, ◌^◌, suc, string_bytes, Some, None, ⊤, IfOk, IsErrOf, IsTrue};
 ghost use Rattle.release.specs.Standing.{answer_view};
 ghost use Rattle.editor_preview.specs.Previews.{page_in, shown_at};
 
