@@ -195,9 +195,8 @@ fn publish_release<
     let ledger = ledger_there(rt, how)?;
     let texts = release_texts(rt.alloc(), how.folder, &ledger, release)?;
     let wanted = lent(rt.alloc(), &texts)?;
-    let ending = publish_wanted(rt, out, err, outcome, group, how, ledger, &wanted)?;
     tell_disk(rt, err, outcome, how, release, &wanted)?;
-    Ok(ending)
+    publish_wanted(rt, out, err, outcome, group, how, ledger, &wanted)
 }
 
 /// Publishes what is to become the next release.
