@@ -29,7 +29,7 @@ fn publish(rt: &impl Abort, alloc: Global, ledger: &mut Ledger, letters: &str, r
         receive(rt, ledger, number);
     }
     plan_release(rt, alloc, ledger);
-    same(rt, ledger.next(), release + 1);
+    same(rt, ledger.next(), release.saturating_add(1));
     receive(rt, ledger, release);
 }
 
