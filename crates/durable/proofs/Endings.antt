@@ -1,9 +1,9 @@
 -- What a put answers that succeeds.
-use Rattle.std.proofs.Common.{◌≡◌, ◌+◌, ℕ, List, [], ◌∷◌, ◌++◌, length, Bool, true, false, Ok, refl, ◌∙◌, ap, subst, arith, length-append, append_assoc}
+use Rattle.std.proofs.Common.{◌≡◌, ◌+◌, ◌-◌, ℕ, List, [], ◌∷◌, ◌++◌, length, take, Bool, true, false, Ok, refl, sym, ◌∙◌, ap, subst, arith, length-append, append_assoc}
 use Rattle.site_disk.specs.Model.{DiskState}
 use Rattle.durable.specs.Entries.{Entry}
 use Rattle.durable.specs.Histories.{MayFollow}
-use Rattle.durable.specs.Spelling.{payload, block, behind_gate}
+use Rattle.durable.specs.Spelling.{block, behind_gate}
 use Rattle.durable.specs.Reading.{IsKept}
 use Rattle.durable.specs.Ready.{IsStored, IsReady}
 use Rattle.durable.specs.Batches.{GoesAhead}
@@ -12,8 +12,9 @@ use Rattle.durable.specs.Puts.{Puts, IsPut, Acknowledges, IsFullFor, IsMemoryKep
 use Rattle.durable.specs.declared.record.Record.{Record}
 use Rattle.durable.specs.declared.recorded.Recorded.{Recorded}
 use Rattle.durable.specs.declared.slots.Slots.{Slots}
+use Rattle.durable.specs.declared.tail.Tail.{Tail}
 use Rattle.durable.proofs.Kept.{kept_same, kept_more, remembers_through}
-use Rattle.durable.proofs.Ready.{stored_with}
+use Rattle.durable.proofs.Ready.{stored_with, all_but_last}
 use Rattle.durable.proofs.Batches.{staged_with}
 
 -- the bytes behind a value's front, by the value that was measured
@@ -36,20 +37,20 @@ module _ {D : Type 0} (stands_for : D → DiskState → Type 0) (failed : D → 
     stored_so : (d : DiskState) (entries : List Entry) → IsReady stands_for old d entries → IsStored stands_for ready_for d entries
     stored_so d entries ready = stored_with stands_for old roomy d entries refl ready.stored
 
-    block_size : length (behind_gate entry) ≡ length (block entry)
-    block_size = omega (arith, length-append (payload entry) (0 ∷ []))
+    written : 1 ∷ take (length bytes - 1) bytes ≡ block entry
+    written = subst (λ (b : List ℕ). 1 ∷ take (length b - 1) b ≡ block entry) (sym is) (all_but_last entry)
 
-    module _ (writes : Writes stands_for failed ready_for app bytes (Ok tt)) (r : Recorded) (remembers : Remembers app.recorded r entry) (same_gate : r.gate ≡ app.recorded.gate) where
+    module _ (writes : Writes stands_for failed ready_for app bytes (Ok tt)) (r : Recorded) (remembers : Remembers app.recorded r entry) (tail : r.tail ≡ app.recorded.tail) where
       abbrev new : Record D
       new = record app { recorded = r }
 
       same_memory : IsMemoryKept old.recorded app.recorded
       same_memory = record {
-        round = ap (λ (x : Recorded). x.round) writes.recorded;
-        greatest = ap (λ (x : Recorded). x.greatest) writes.recorded;
-        slots = λ i. ap (λ (x : Recorded). cell_at x.slots i) writes.recorded ∙ same_slots i;
-        floor = ap (λ (x : Recorded). x.floor) writes.recorded;
-        reach = ap (λ (x : Recorded). x.reach) writes.recorded;
+        round = ap (λ (x : Recorded). x.round) writes.recorded.1;
+        greatest = ap (λ (x : Recorded). x.greatest) writes.recorded.1;
+        slots = λ i. ap (λ (x : Recorded). cell_at x.slots i) writes.recorded.1 ∙ same_slots i;
+        floor = ap (λ (x : Recorded). x.floor) writes.recorded.1;
+        reach = ap (λ (x : Recorded). x.reach) writes.recorded.1;
       }
 
       more : (entries : List Entry) → IsKept entries old.recorded → IsKept (entries ++ entry ∷ []) r
@@ -60,7 +61,7 @@ module _ {D : Type 0} (stands_for : D → DiskState → Type 0) (failed : D → 
         follows = follows;
         remembers = remembers_through entry old.recorded app.recorded r same_memory remembers;
         kept = more;
-        gate = omega (arith, same_gate, ap (λ (x : Recorded). x.gate) writes.recorded, ap length is, block_size);
+        gate = omega (arith, ap (λ (t : Tail). t.gate) tail, writes.recorded.0.gate, ap length written);
         running = writes.running.0;
         none_failed = writes.running.1;
       }
@@ -68,12 +69,12 @@ module _ {D : Type 0} (stands_for : D → DiskState → Type 0) (failed : D → 
       acknowledged : Acknowledges stands_for old new entry
       acknowledged d entries ready =
           let after = writes.appends d entries entry (stored_so d entries ready) (follows entries ready.kept) is in
-          (after.0, record { stored = stored_with stands_for app r after.0 _ same_gate after.1; kept = more entries ready.kept }, after.2, after.3, after.4)
+          (after.0, record { stored = stored_with stands_for app r after.0 _ tail after.1; kept = more entries ready.kept }, after.2, after.3, after.4)
 
       ahead : GoesAhead stands_for old new entry
       ahead d earlier batch has =
           let after = writes.stages d earlier batch entry (staged_with stands_for old roomy d earlier batch refl has.staged) (follows (earlier ++ batch) has.kept) is in
-          record { staged = staged_with stands_for app r d earlier _ same_gate after; kept = subst (λ (l : List Entry). IsKept l r) (append_assoc earlier batch (entry ∷ [])) (more (earlier ++ batch) has.kept) }
+          record { staged = staged_with stands_for app r d earlier _ tail after; kept = subst (λ (l : List Entry). IsKept l r) (append_assoc earlier batch (entry ∷ [])) (more (earlier ++ batch) has.kept) }
 
       pub written_put : Puts stands_for failed old new entry (Ok tt)
       written_put = record {

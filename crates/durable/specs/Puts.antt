@@ -5,6 +5,7 @@ use Rattle.site_disk.specs.Model.{DiskState, LeavesOnly}
 use Rattle.acceptor.specs.Steps.{with_promise, with_vote}
 use Rattle.site_ids.specs.Spans.{IsInSpan}
 use Rattle.durable.specs.Append.{IsOpenAt}
+use Rattle.durable.specs.Passing.{Passes}
 use Rattle.durable.specs.Raising.{IsRaised}
 use Rattle.durable.specs.Entries.{Entry, Round, Promised, PromisedSpan, Voted, Learned, Floor, round_after, round_in, floor_of, reach_in}
 use Rattle.durable.specs.Histories.{MayFollow}
@@ -58,7 +59,7 @@ pub record IsMemoryKept (old new : Recorded) : Type 0 where
 abbrev pub Appends : {D : Type 0} → (D → DiskState → Type 0) → Record D → Record D → List ℕ → Type 0
 Appends stands_for old new bytes = (d : DiskState) (entries : List Entry) (entry : Entry) → IsStored stands_for old d entries → MayFollow old.cluster entries entry → bytes ≡ behind_gate entry
     → (e : DiskState) × IsStored stands_for new e (entries ++ entry ∷ []) × LeavesOnly d e (IsFound old.node old.cluster entries (Some entry))
-    × (length e.past ≡ 4 + length d.past) × IsOpenAt old.recorded.gate d.seen (behind_gate entry) e.seen
+    × (length e.past ≡ 4 + length d.past) × IsOpenAt old.recorded.tail.gate d.seen (behind_gate entry) e.seen
 
 -- An append of the bytes was cut short. Where they are an entry's, it is in flight.
 abbrev pub BreaksOff : {D : Type 0} → (D → DiskState → Type 0) → Record D → Record D → List ℕ → Type 0
@@ -70,7 +71,7 @@ BreaksOff stands_for old new bytes = (d : DiskState) (entries : List Entry) (ent
 pub record Writes {D : Type 0} (stands_for : D → DiskState → Type 0) (failed : D → ℕ) (old new : Record D) (bytes : List ℕ) (result : Result (Unit {0}) RecordFault) : Type 0 where
   pub appends : OnOk result (Appends stands_for old new bytes)
   pub stages : OnOk result (Stages stands_for old new bytes)
-  pub recorded : OnOk result (new.recorded ≡ record old.recorded { gate = old.recorded.gate + length bytes })
+  pub recorded : OnOk result (Passes old.recorded.tail new.recorded.tail bytes × (new.recorded ≡ record old.recorded { tail = new.recorded.tail }))
   pub running : OnOk result ((new.stopped ≡ false) × (failed new.disk ≡ failed old.disk))
   pub breaks_off : IsErrOf result Device → BreaksOff stands_for old new bytes × (new.stopped ≡ true) × (new.recorded ≡ old.recorded) × ((failed old.disk < failed new.disk) ⊎ (failed old.disk ≡ 2 ^ 64 - 1))
   pub no_memory : IsErrOf result OutOfMemory → IsBatchOpen old × IsUnchanged old new
@@ -84,7 +85,7 @@ pub record IsPut {D : Type 0} (failed : D → ℕ) (old new : Record D) (entry :
   pub follows : (entries : List Entry) → IsKept entries old.recorded → MayFollow old.cluster entries entry
   pub remembers : Remembers old.recorded new.recorded entry
   pub kept : (entries : List Entry) → IsKept entries old.recorded → IsKept (entries ++ entry ∷ []) new.recorded
-  pub gate : new.recorded.gate ≡ old.recorded.gate + length (block entry)
+  pub gate : new.recorded.tail.gate ≡ old.recorded.tail.gate + length (block entry)
   pub running : new.stopped ≡ false
   pub none_failed : failed new.disk ≡ failed old.disk
 
@@ -93,7 +94,7 @@ pub record IsPut {D : Type 0} (failed : D → ℕ) (old new : Record D) (entry :
 abbrev pub Acknowledges : {D : Type 0} → (D → DiskState → Type 0) → Record D → Record D → Entry → Type 0
 Acknowledges stands_for old new entry = (d : DiskState) (entries : List Entry) → IsReady stands_for old d entries
     → (e : DiskState) × IsReady stands_for new e (entries ++ entry ∷ []) × LeavesOnly d e (IsFound old.node old.cluster entries (Some entry))
-    × (length e.past ≡ 4 + length d.past) × IsOpenAt old.recorded.gate d.seen (behind_gate entry) e.seen
+    × (length e.past ≡ 4 + length d.past) × IsOpenAt old.recorded.tail.gate d.seen (behind_gate entry) e.seen
 
 -- A put of the entry has failed by the device: the entry is in flight. A crash at any moment since then leaves the entries with it or without it,
 -- and so does none.
@@ -110,7 +111,7 @@ pub record IsCutShort {D : Type 0} (stands_for : D → DiskState → Type 0) (fa
 
 -- the file would pass its limit with the entry
 abbrev pub IsFullFor : {D : Type 0} → Record D → Entry → Type 0
-IsFullFor store entry = MAX_RECORD < store.recorded.gate + 1 + length (behind_gate entry)
+IsFullFor store entry = MAX_RECORD < store.recorded.tail.gate + 1 + length (behind_gate entry)
 
 -- A put of the entry while a batch is open: the batch has it too, and no call of the disk is made
 pub record IsBatched {D : Type 0} (stands_for : D → DiskState → Type 0) (old new : Record D) (entry : Entry) (result : Result (Unit {0}) RecordFault) : Type 0 where

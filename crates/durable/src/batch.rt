@@ -11,6 +11,7 @@ use std::alloc::AllocError;
 
 impl<D: Disk> Record<D> {
     ghost use Rattle.durable.specs.Batches.{IsBatchOpen, Begins, Stages, Seals, LeavesBatch};
+    ghost use Rattle.durable.specs.Passing.{Passes};
     ghost use Rattle.durable.specs.Ready.{IsUnchanged};
 
     /// Opens a batch: from now until it is sealed, a put takes its entry into memory alone, and nothing of it may be told.
@@ -42,8 +43,8 @@ impl<D: Disk> Record<D> {
         ensures was_stopped { IsErrOf result RecordFault.Stopped ↔ (self.old.stopped ≡ true) }
         ensures refused { IsErrOf result RecordFault.Stopped → self.new ≡ self.old }
         ensures others { OnErr result (IsErrOf result RecordFault.Stopped ⊎ IsErrOf result RecordFault.Device) }
-        ensures stops { OnErr result (self.new ≡ record self.old { disk = self.new.disk; stopped = true }) }
-        ensures same { self.new ≡ record self.old { disk = self.new.disk; stopped = self.new.stopped; staged = self.new.staged } }
+        ensures stops { OnErr result (self.new.stopped ≡ true) }
+        ensures same { self.new ≡ record self.old { disk = self.new.disk; stopped = self.new.stopped; staged = self.new.staged; recorded = record self.old.recorded { tail = self.new.recorded.tail } } }
     {
         if self.stopped {
             return Err(RecordFault::Stopped);
@@ -52,25 +53,31 @@ impl<D: Disk> Record<D> {
             self.staged.close();
             return Ok(());
         }
+        let base = self.staged.base;
+        let mut bytes = self.staged.take(self.alloc);
+        self.recorded.tail.sum_up(&mut bytes);
         self.stopped = true;
-        append(&mut self.disk, self.staged.base, self.staged.behind_base())?;
+        let written = append(&mut self.disk, base, &bytes[1..]);
+        self.staged.keep(bytes);
+        written?;
         self.stopped = false;
-        self.staged.close();
         Ok(())
     }
 
     // Takes an entry's bytes into the batch that is open.
     pub(crate) fn stage(&mut self, bytes: &[u8]) -> Result<(), AllocError>
         requires open { IsBatchOpen self.old }
-        requires near { self.old.recorded.gate + length bytes.now < 2 ^ 63 }
+        requires some { 0 < length bytes.now }
+        requires near { self.old.recorded.tail.gate + length bytes.now < 2 ^ 63 }
         ensures staged { OnOk result (Stages D.stands_for self.old self.new bytes.now) }
-        ensures recorded { OnOk result (self.new.recorded ≡ record self.old.recorded { gate = self.old.recorded.gate + length bytes.now }) }
+        ensures passes { OnOk result (Passes self.old.recorded.tail self.new.recorded.tail bytes.now) }
+        ensures recorded { self.new.recorded ≡ record self.old.recorded { tail = self.new.recorded.tail } }
         ensures open { IsBatchOpen self.new }
         ensures refused { OnErr result (IsUnchanged self.old self.new) }
         ensures same { self.new ≡ record self.old { recorded = self.new.recorded; staged = self.new.staged } }
     {
-        self.staged.push(self.recorded.gate, bytes)?;
-        self.recorded.gate += bytes.len() as u64;
+        self.staged.push(self.recorded.tail.gate, bytes)?;
+        self.recorded.tail.pass(bytes);
         Ok(())
     }
 }

@@ -10,8 +10,8 @@ ghost use Rattle.durable.specs.Formatting.{blank_head, FormatsAbove, FormatsInPa
 
 use crate::append::write_through;
 use crate::record::MARK;
-use crate::recorded::FIRST_GATE;
 use crate::spelling::floor_block;
+use crate::tail::FIRST_GATE;
 use crate::{Record, RecordFault};
 use site_disk::{Disk, DiskFailed};
 use site_ids::{Cluster, Instance, NodeId};

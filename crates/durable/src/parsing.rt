@@ -1,6 +1,6 @@
 //! What stands at a gate.
 
-ghost use Rattle.std.specs.Prelude.{◌≡◌, ◌≢◌, ◌<◌, ◌≤◌, ◌^◌, ℕ, ◌∷◌, ◌++◌, MatchOption};
+ghost use Rattle.std.specs.Prelude.{◌≡◌, ◌≢◌, ◌<◌, ◌≤◌, ◌^◌, ℕ, List, ◌∷◌, ◌++◌, length, MatchOption};
 ghost use Rattle.byteorder.specs.Endian.{big_bytes};
 ghost use Rattle.site_ids.specs.Ids.{BallotOf, IsBallot, IsInstance};
 ghost use Rattle.site_ids.specs.Spans.{IsSpan};
@@ -10,6 +10,7 @@ ghost use Rattle.durable.specs.Histories.{IsInRange};
 ghost use Rattle.durable.specs.Spelling.{payload as payload_of};
 ghost use Rattle.durable.specs.Reading.{IsNext, meaning};
 
+use crate::tail::SUM;
 use site_ids::{Ballot, Cluster, Instance, MAX_VALUE};
 
 /// An entry, whose value still stands in the file's bytes.
@@ -30,6 +31,8 @@ pub(crate) enum Next<'a> {
     Damaged,
     /// An entry, and the length of its block.
     Found(EntryRef<'a>, usize),
+    /// The sum of the blocks before it, and the length of its own.
+    Summed(&'a [u8], usize),
 }
 
 // The ballot that the bytes spell.
@@ -133,8 +136,18 @@ fn entry_of(payload: &[u8], cluster: Cluster) -> Option<EntryRef<'_>>
     }
 }
 
+// The sum that a payload spells.
+fn sum_of(payload: &[u8]) -> Option<&[u8]>
+    ensures { MatchOption result ((sum : List ℕ) → length sum ≡ 8 → payload.now ≢ 7 ∷ sum) (λ sum. (length sum.now ≡ 8) × (payload.now ≡ 7 ∷ sum.now)) }
+{
+    match payload {
+        [7, sum @ ..] if sum.len() == SUM => Some(sum),
+        _ => None,
+    }
+}
+
 /// What stands at a gate, in the bytes from it on.
-pub(crate) fn next_entry(bytes: &[u8], cluster: Cluster) -> Next<'_>
+pub(crate) fn next_item(bytes: &[u8], cluster: Cluster) -> Next<'_>
     ensures { IsNext cluster bytes.now result }
 {
     match bytes {
@@ -143,7 +156,11 @@ pub(crate) fn next_entry(bytes: &[u8], cluster: Cluster) -> Next<'_>
             if rest.len() <= size {
                 return Next::Damaged;
             }
-            match entry_of(&rest[..size], cluster) {
+            let payload = &rest[..size];
+            if let Some(sum) = sum_of(payload) {
+                return Next::Summed(sum, size + 5);
+            }
+            match entry_of(payload, cluster) {
                 Some(entry) => Next::Found(entry, size + 5),
                 None => Next::Damaged,
             }

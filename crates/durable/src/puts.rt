@@ -18,6 +18,7 @@ use site_ids::{Ballot, Instance, Value};
 
 impl<D: Disk> Record<D> {
     ghost use Rattle.durable.specs.Batches.{IsBatchOpen};
+    ghost use Rattle.durable.specs.Passing.{Passes};
     ghost use Rattle.durable.specs.Puts.{Puts, Writes, Appends, BreaksOff};
     ghost use Rattle.durable.specs.Slots.{slot_at, value_at};
 
@@ -105,9 +106,9 @@ impl<D: Disk> Record<D> {
     // Refuses a payload of so many bytes where the record has stopped, or its file would pass its limit.
     fn check_room(&self, payload: usize) -> Result<(), RecordFault>
         ensures was_stopped { IsErrOf result RecordFault.Stopped ↔ (self.now.stopped ≡ true) }
-        ensures full { IsErrOf result RecordFault.Full ↔ ((self.now.stopped ≡ false) × (MAX_RECORD < self.now.recorded.gate + 6 + payload)) }
+        ensures full { IsErrOf result RecordFault.Full ↔ ((self.now.stopped ≡ false) × (MAX_RECORD < self.now.recorded.tail.gate + 6 + payload)) }
         ensures others { OnErr result (IsErrOf result RecordFault.Stopped ⊎ IsErrOf result RecordFault.Full) }
-        ensures running { OnOk result ((self.now.stopped ≡ false) × (self.now.recorded.gate + 6 + payload ≤ MAX_RECORD)) }
+        ensures running { OnOk result ((self.now.stopped ≡ false) × (self.now.recorded.tail.gate + 6 + payload ≤ MAX_RECORD)) }
     {
         if self.stopped {
             return Err(RecordFault::Stopped);
@@ -121,7 +122,8 @@ impl<D: Disk> Record<D> {
     // Writes an entry's bytes behind the gate: into the batch that is open, else to the disk.
     fn write(&mut self, bytes: &[u8]) -> Result<(), RecordFault>
         requires running { self.old.stopped ≡ false }
-        requires near { self.old.recorded.gate + length bytes.now < 2 ^ 63 }
+        requires some { 0 < length bytes.now }
+        requires near { self.old.recorded.tail.gate + length bytes.now < 2 ^ 63 }
         ensures { Writes D.stands_for D.failed self.old self.new bytes.now result }
     {
         if self.staged.is_open() {
@@ -133,10 +135,12 @@ impl<D: Disk> Record<D> {
 
     // Appends an entry. The record is stopped while it does, and from a failure on.
     fn append(&mut self, bytes: &[u8]) -> Result<(), DiskFailed>
-        requires { self.old.recorded.gate + length bytes.now < 2 ^ 63 }
+        requires some { 0 < length bytes.now }
+        requires near { self.old.recorded.tail.gate + length bytes.now < 2 ^ 63 }
         ensures done { OnOk result (Appends D.stands_for self.old self.new bytes.now) }
         ensures failed { OnErr result (BreaksOff D.stands_for self.old self.new bytes.now) }
-        ensures gate { OnOk result (self.new.recorded ≡ record self.old.recorded { gate = self.old.recorded.gate + length bytes.now }) }
+        ensures passes { OnOk result (Passes self.old.recorded.tail self.new.recorded.tail bytes.now) }
+        ensures recorded { self.new.recorded ≡ record self.old.recorded { tail = self.new.recorded.tail } }
         ensures runs { OnOk result (self.new.stopped ≡ false) }
         ensures stops { OnErr result ((self.new.stopped ≡ true) × (self.new.recorded ≡ self.old.recorded)) }
         ensures cause { CountsFailure result (D.failed self.old.disk) (D.failed self.new.disk) }
@@ -144,8 +148,8 @@ impl<D: Disk> Record<D> {
         ensures staged { self.new.staged ≡ self.old.staged }
     {
         self.stopped = true;
-        append(&mut self.disk, self.recorded.gate, bytes)?;
-        self.recorded.gate += bytes.len() as u64;
+        append(&mut self.disk, self.recorded.tail.gate, bytes)?;
+        self.recorded.tail.pass(bytes);
         self.stopped = false;
         Ok(())
     }

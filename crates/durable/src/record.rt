@@ -7,7 +7,8 @@ ghost use Rattle.site_disk.specs.Model.{DiskState, after_sync};
 ghost use Rattle.durable.specs.Append.{IsSettled};
 ghost use Rattle.durable.specs.Entries.{Entry};
 ghost use Rattle.durable.specs.Spelling.{head};
-ghost use Rattle.durable.specs.Standing.{StandsFor, IsRefusal};
+ghost use Rattle.durable.specs.Items.{Item};
+ghost use Rattle.durable.specs.Standing.{StandsFor, IsLaid, IsRefusal};
 ghost use Rattle.durable.specs.Keeping.{Keeps};
 ghost use Rattle.durable.specs.Reading.{AreRead};
 
@@ -54,7 +55,7 @@ fn read<D: Disk>(
     node: NodeId,
     disk: &mut D,
 ) -> Result<Recorded, RecordFault>
-    ensures read { IfOk result (λ recorded. (entries : List Entry) × AreRead cluster entries recorded × ((d : DiskState) → D.stands_for disk.old d → D.stands_for disk.new (after_sync d) × StandsFor node cluster d.seen entries)) }
+    ensures read { IfOk result (λ recorded. (items : List Item) × AreRead cluster items recorded × ((d : DiskState) → D.stands_for disk.old d → D.stands_for disk.new (after_sync d) × IsLaid node cluster d.seen items)) }
     ensures refused { IfErr result (λ fault. (d : DiskState) → D.stands_for disk.old d → (D.stands_for disk.new (after_sync d) ⊎ (D.stands_for disk.new d × (fault ≡ RecordFault.Device))) × IsRefusal fault node cluster d.seen) }
     ensures cause { IsErrOf result RecordFault.Device → (D.failed disk.old < D.failed disk.new) ⊎ (D.failed disk.old ≡ 2 ^ 64 - 1) }
     ensures none_failed { OnOk result (D.failed disk.new ≡ D.failed disk.old) }
@@ -190,10 +191,10 @@ impl<D: Disk> Record<D> {
 
     /// No put of so long a payload would be refused as full.
     pub fn has_room(&self, payload: usize) -> bool
-        ensures { IsTrue result ↔ (self.now.recorded.gate + 6 + payload ≤ MAX_RECORD) }
+        ensures { IsTrue result ↔ (self.now.recorded.tail.gate + 6 + payload ≤ MAX_RECORD) }
     {
         let payload = payload as u64;
-        payload <= MAX_RECORD - 6 && self.recorded.gate <= MAX_RECORD - 6 - payload
+        payload <= MAX_RECORD - 6 && self.recorded.tail.gate <= MAX_RECORD - 6 - payload
     }
 
     /// Gives the disk back, without the entries of a batch that is open.

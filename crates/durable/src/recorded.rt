@@ -2,7 +2,7 @@
 //!
 //! The acceptor's judges say what an entry must advance, on reading too.
 
-ghost use Rattle.std.specs.Prelude.{◌≡◌, ℕ, []};
+ghost use Rattle.std.specs.Prelude.{◌≡◌, ◌+◌, ◌<◌, ◌^◌, ℕ, []};
 ghost use Rattle.durable.specs.Entries.{Round, Promised, PromisedSpan, Voted, Learned, Floor};
 ghost use Rattle.durable.specs.Raising.{IsSpanned};
 ghost use Rattle.site_ids.specs.Spans.{IsSpan, IsInSpan};
@@ -10,6 +10,7 @@ ghost use Rattle.site_ids.specs.Spans.{IsSpan, IsInSpan};
 use crate::RecordFault;
 use crate::parsing::EntryRef;
 use crate::slots::Slots;
+use crate::tail::{FIRST_GATE, Tail};
 use acceptor::{PrepareVerdict, ProposeVerdict, judge_prepare, judge_propose};
 use site_ids::{Ballot, Instance, Value, Vote};
 use std::alloc::Global;
@@ -17,7 +18,7 @@ use std::alloc::Global;
 /// What the entries up to a gate record.
 #[derive(Drop)]
 pub(crate) struct Recorded {
-    pub(crate) gate: u64,
+    pub(crate) tail: Tail,
     pub(crate) round: u32,
     /// The greatest round that was recorded or promised.
     pub(crate) greatest: u32,
@@ -28,21 +29,18 @@ pub(crate) struct Recorded {
     pub(crate) slots: Slots,
 }
 
-/// The gate behind the head: where it is the present one, there is no entry yet.
-pub(crate) const FIRST_GATE: u64 = 10;
-
 impl Recorded {
     ghost use Rattle.durable.specs.Puts.{Remembers};
-    ghost use Rattle.durable.specs.Reading.{IsKept, Takes, meaning};
+    ghost use Rattle.durable.specs.Reading.{IsKept, EndsAt, Takes, TakesSum, meaning};
     ghost use Rattle.durable.specs.Slots.{IsThere};
 
     /// Of no entries.
     pub(crate) fn new(alloc: Global) -> Recorded
-        ensures gate { result.gate ≡ 10 }
+        ensures ends { EndsAt [] result.tail }
         ensures kept { IsKept [] result }
     {
         Recorded {
-            gate: FIRST_GATE,
+            tail: Tail::new(),
             round: 0,
             greatest: 0,
             floor: 0,
@@ -54,7 +52,7 @@ impl Recorded {
     /// Keeps a round.
     pub(crate) fn keep_round(&mut self, round: u32)
         ensures remembers { Remembers self.old self.new (Round round) }
-        ensures gate { self.new.gate ≡ self.old.gate }
+        ensures tail { self.new.tail ≡ self.old.tail }
     {
         self.round = round;
         self.greatest = self.greatest.max(round);
@@ -64,7 +62,7 @@ impl Recorded {
     pub(crate) fn keep_promise(&mut self, instance: Instance, ballot: Ballot)
         requires { IsThere self.old.slots instance }
         ensures remembers { Remembers self.old self.new (Promised instance ballot) }
-        ensures gate { self.new.gate ≡ self.old.gate }
+        ensures tail { self.new.tail ≡ self.old.tail }
     {
         self.slots.promise(instance, ballot);
         self.greatest = self.greatest.max(ballot.round());
@@ -75,7 +73,7 @@ impl Recorded {
         requires span { IsSpan first count }
         requires room { (at : ℕ) → IsInSpan first count at → IsThere self.old.slots at }
         ensures remembers { Remembers self.old self.new (PromisedSpan first count ballot) }
-        ensures gate { self.new.gate ≡ self.old.gate }
+        ensures tail { self.new.tail ≡ self.old.tail }
     {
         self.slots.promise_span(first, count, ballot);
         self.greatest = self.greatest.max(ballot.round());
@@ -85,7 +83,7 @@ impl Recorded {
     pub(crate) fn keep_vote(&mut self, instance: Instance, vote: Vote)
         requires { IsThere self.old.slots instance }
         ensures remembers { Remembers self.old self.new (Voted instance vote.ballot vote.value) }
-        ensures gate { self.new.gate ≡ self.old.gate }
+        ensures tail { self.new.tail ≡ self.old.tail }
     {
         self.greatest = self.greatest.max(vote.ballot.round());
         self.reach = self.reach.max(instance.number());
@@ -96,7 +94,7 @@ impl Recorded {
     pub(crate) fn keep_learned(&mut self, instance: Instance, value: Value)
         requires { IsThere self.old.slots instance }
         ensures remembers { Remembers self.old self.new (Learned instance value) }
-        ensures gate { self.new.gate ≡ self.old.gate }
+        ensures tail { self.new.tail ≡ self.old.tail }
     {
         self.slots.learn(instance, value);
     }
@@ -104,10 +102,21 @@ impl Recorded {
     /// Keeps a floor.
     fn keep_floor(&mut self, floor: Instance)
         ensures remembers { Remembers self.old self.new (Floor floor) }
-        ensures gate { self.new.gate ≡ self.old.gate }
+        ensures tail { self.new.tail ≡ self.old.tail }
     {
         self.floor = self.floor.max(floor.number());
         self.reach = self.reach.max(floor.number());
+    }
+
+    /// Takes a sum, if it is that of the blocks since the last one.
+    pub(crate) fn take_sum(&mut self, sum: &[u8]) -> Result<(), RecordFault>
+        requires { self.old.tail.gate + 14 < 2 ^ 64 }
+        ensures { TakesSum sum.now self.old self.new result }
+    {
+        if self.tail.summed == self.tail.gate || self.tail.take_sum().as_slice() != sum {
+            return Err(RecordFault::Damaged);
+        }
+        Ok(())
     }
 
     /// Takes one entry more, if it advances those before it.
@@ -198,7 +207,7 @@ impl Recorded {
     fn take_floor(&mut self, floor: Instance) -> Result<(), RecordFault>
         ensures { Takes (Floor floor) self.old self.new result }
     {
-        if self.gate != FIRST_GATE {
+        if self.tail.gate != FIRST_GATE {
             return Err(RecordFault::Damaged);
         }
         self.keep_floor(floor);

@@ -1,8 +1,11 @@
 //! What waits to be written behind a gate.
 
-ghost use Rattle.std.specs.Prelude.{◌≡◌, ◌↔◌, ◌<◌, ◌^◌, ◌∷◌, ◌++◌, [], ℕ, List, IsTrue, IsOk, OnOk, OnErr, length, drop};
+ghost use Rattle.std.specs.Prelude.{◌≡◌, ◌↔◌, ◌+◌, ◌<◌, ◌≤◌, ◌^◌, ◌∷◌, ◌++◌, [], ℕ, List, IsTrue, IsOk, OnOk, OnErr, length, drop};
+ghost use Rattle.std.specs.Vec.{vec_capacity};
 
+use crate::tail::SUM_BLOCK;
 use std::alloc::{AllocError, Global};
+use std::mem;
 
 /// The entries of a batch that is open.
 #[derive(Drop)]
@@ -12,6 +15,8 @@ pub(crate) struct Staged {
     // the gate on the disk, where the batch has entries
     pub(crate) base: u64,
     ghost near: { 1 < length bytes.items → base < 2 ^ 63 },
+    // so that a seal takes no memory
+    ghost room: { 0 < length bytes.items → length bytes.items + 14 ≤ vec_capacity bytes },
 }
 
 impl Staged {
@@ -37,14 +42,6 @@ impl Staged {
         self.bytes.len() > 1
     }
 
-    /// What is written behind the gate on the disk: the blocks without their first gate, and the closed one.
-    pub(crate) fn behind_base(&self) -> &[u8]
-        requires { 0 < length self.now.bytes.items }
-        ensures { result.now ≡ drop 1 self.now.bytes.items }
-    {
-        &self.bytes[1..]
-    }
-
     /// Opens a batch where none is open.
     pub(crate) fn open(&mut self) -> Result<(), AllocError>
         ensures opened { OnOk result (self.old.bytes.items ≡ [] → self.new.bytes.items ≡ 0 ∷ []) }
@@ -55,6 +52,7 @@ impl Staged {
         if self.is_open() {
             return Ok(());
         }
+        self.bytes.reserve(1 + SUM_BLOCK as usize)?;
         self.bytes.push(0)?;
         Ok(())
     }
@@ -70,12 +68,31 @@ impl Staged {
         ensures refused { OnErr result ((self.new.bytes.items ≡ self.old.bytes.items) × (self.new.base ≡ self.old.base)) }
     {
         let closed = self.bytes.len() - 1;
+        self.bytes
+            .reserve(bytes.len().saturating_add(SUM_BLOCK as usize))?;
         self.bytes.extend_from_slice(bytes)?;
         self.bytes[closed] = 1;
         if closed == 0 {
             self.base = gate;
         }
         Ok(())
+    }
+
+    /// Hands out what waits, with room for a sum behind it, and closes the batch.
+    pub(crate) fn take(&mut self, alloc: Global) -> Vec<u8>
+        ensures bytes { result.items ≡ self.old.bytes.items }
+        ensures room { 0 < length result.items → length result.items + 14 ≤ vec_capacity result }
+        ensures closed { self.new.bytes.items ≡ [] }
+    {
+        mem::replace(&mut self.bytes, Vec::new(alloc))
+    }
+
+    /// Keeps the memory of what waited for the next batch.
+    pub(crate) fn keep(&mut self, bytes: Vec<u8>)
+        ensures { self.new.bytes.items ≡ [] }
+    {
+        self.bytes = bytes;
+        self.bytes.clear();
     }
 
     /// Closes the batch, and keeps its memory for the next.

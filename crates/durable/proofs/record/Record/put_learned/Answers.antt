@@ -22,4 +22,4 @@ returns g c =
     = λ entries kept. record { in_range = (made.in_range, c.requires.fits); advances = sym (kept.learned c.args.instance) ∙ c.requires.new } in
     let remembers = subst (λ (v : List ℕ). Remembers c.write.new.self.recorded c.keep_learned.new.self (Learned c.args.instance v)) made.value c.keep_learned.ensures.remembers in
     written_put g.D.Disk.stands_for g.D.Disk.failed old entry checked.0 room c.room_for_learned.new.self made.slots c.deref.result.now (c.deref.ensures.value ∙ made.bytes) follows c.write.new.self c.in_ok-write.ensures
-    c.keep_learned.new.self remembers c.keep_learned.ensures.gate
+    c.keep_learned.new.self remembers c.keep_learned.ensures.tail

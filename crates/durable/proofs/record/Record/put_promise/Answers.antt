@@ -17,4 +17,4 @@ returns g c =
     let follows : (entries : List Entry) → IsKept entries old.recorded → MayFollow old.cluster entries entry
     = λ entries kept. record { in_range = (range.0, (range.1, range.2, c.requires.of_cluster)); advances = promise_advances entries c.args.instance c.args.ballot _ (kept.slots c.args.instance) c.requires.above } in
     written_put g.D.Disk.stands_for g.D.Disk.failed old entry checked.0 room c.make_room.new.self c.make_room.ensures.same c.promise_behind.result c.promise_behind.ensures.bytes follows c.write.new.self c.in_ok-write.ensures
-    c.keep_promise.new.self c.keep_promise.ensures.remembers c.keep_promise.ensures.gate
+    c.keep_promise.new.self c.keep_promise.ensures.remembers c.keep_promise.ensures.tail

@@ -15,4 +15,4 @@ returns-clause-put g c =
     let follows : (entries : List Entry) → IsKept entries old.recorded → MayFollow old.cluster entries entry
     = λ entries kept. record { in_range = (omega (arith, c.requires), c.ranges.round.fits); advances = omega (arith, c.requires, kept.round) } in
     written_put g.D.Disk.stands_for g.D.Disk.failed old entry checked.0 room old.recorded.slots (λ i. refl) c.round_behind.result c.round_behind.ensures follows c.write.new.self c.in_ok-write.ensures
-    c.keep_round.new.self c.keep_round.ensures.remembers c.keep_round.ensures.gate
+    c.keep_round.new.self c.keep_round.ensures.remembers c.keep_round.ensures.tail

@@ -28,4 +28,4 @@ returns g c =
     } in
     let remembers = subst (λ (v : Vote). Remembers c.write.new.self.recorded c.keep_vote.new.self (Voted c.args.instance v.ballot v.value)) made.vote c.keep_vote.ensures.remembers in
     written_put g.D.Disk.stands_for g.D.Disk.failed old entry checked.0 room c.room_for_vote.new.self made.slots c.deref.result.now (c.deref.ensures.value ∙ made.bytes) follows c.write.new.self c.in_ok-write.ensures
-    c.keep_vote.new.self remembers c.keep_vote.ensures.gate
+    c.keep_vote.new.self remembers c.keep_vote.ensures.tail

@@ -11,8 +11,8 @@ opened_behind old bytes longer size is more front split =
 
 pub returns-then-closed-eq0-clause-waiting : goal.returns-then-closed-eq0-clause-waiting
 returns-then-closed-eq0-clause-waiting c =
-    opened_behind c.args.self.now.bytes.items c.args.bytes.now c.extend_from_slice.new.self.items c.len-closed.result (search rules) c.in_ok-extend_from_slice.ensures.items
+    opened_behind c.args.self.now.bytes.items c.args.bytes.now c.extend_from_slice.new.self.items c.len-closed.result (search rules) (c.in_ok-extend_from_slice.ensures.items ∙ ap (λ (l : List ℕ). l ++ c.args.bytes.now) c.in_ok-reserve.ensures.items)
 
 pub returns-else-closed-eq0-clause-waiting : goal.returns-else-closed-eq0-clause-waiting
 returns-else-closed-eq0-clause-waiting c =
-    opened_behind c.args.self.now.bytes.items c.args.bytes.now c.extend_from_slice.new.self.items c.len-closed.result (search rules) c.in_ok-extend_from_slice.ensures.items
+    opened_behind c.args.self.now.bytes.items c.args.bytes.now c.extend_from_slice.new.self.items c.len-closed.result (search rules) (c.in_ok-extend_from_slice.ensures.items ∙ ap (λ (l : List ℕ). l ++ c.args.bytes.now) c.in_ok-reserve.ensures.items)
