@@ -233,8 +233,8 @@ fn calls_of(rt: &impl Abort, alloc: Global, steps: &[Step]) -> usize {
 fn write(rt: &impl Abort, alloc: Global, steps: &[Step], wanted: &[u8], calls: usize) {
     let mut disk = disk_behind(rt, alloc, steps);
     same(rt, writes_and_syncs(disk.calls()), calls);
-    let mut bytes = [0; 81];
-    let bytes = &mut bytes[..wanted.len()];
+    let mut room = [0; 81];
+    let bytes = room.get_mut(..wanted.len()).expect(rt, "room");
     ensure(rt, reads(&mut disk, 0, bytes), calls);
     ensure(rt, is_bytes(bytes, wanted), calls);
     ensure(rt, is_long(&mut disk, wanted.len() as u64), calls);

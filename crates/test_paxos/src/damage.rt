@@ -325,7 +325,10 @@ fn opens(
 ) -> bool {
     match (read_bytes(rt, alloc, 2, bytes), wanted) {
         (Ok(record), Ok(count)) => {
-            let told = tells(rt, &record, &entries[..count]);
+            let told = match entries.get(..count) {
+                Some(entries) => tells(rt, &record, entries),
+                None => false,
+            };
             drop(record);
             told
         }
