@@ -290,6 +290,8 @@ fn the_list_has_what_is_worked_out(rt: HostRuntime) {
     drop(listed);
 }
 
+const BITS: &[u8] = &[1, 2, 4, 8, 16, 32, 64, 128];
+
 /// The gates of the record with a sum, and how many entries stand before each.
 const SUMMED_GATES: &[(usize, usize)] = &[(10, 0), (20, 1), (35, 2), (52, 3)];
 
@@ -352,8 +354,8 @@ fn a_record_with_a_sum_and_each_bit_flipped(rt: HostRuntime) {
         SUMMED.len(),
     );
     for place in 0..SUMMED.len() {
-        for bit in 0..8 {
-            let byte = SUMMED[place] ^ (1 << bit);
+        for &bit in BITS {
+            let byte = SUMMED[place] ^ bit;
             let bytes = with_byte(&rt, alloc, &SUMMED, place, byte);
             ensure(
                 &rt,
