@@ -9,7 +9,8 @@ use server_notes::{Figures, Note, Notes};
 #[derive(Drop)]
 pub(crate) struct Watch {
     notes: Notes,
-    // the moment of the last pass, in milliseconds since the server began, and how many values were known and which release was the newest after it
+    // the moment of the last pass, in milliseconds since the server began, and how many values were known and which
+    // release was the newest after it
     now: u64,
     known: u32,
     newest: u64,

@@ -18,5 +18,6 @@ returns-in-Heard-clause-writes g c = λ plain ok.
 
 pub returns-in-Published-clause-writes : goal.returns-in-Published-clause-writes
 returns-in-Published-clause-writes g c = λ plain ok.
-    subst (λ n. HasWritten {W = g.row.W.Denot} g.W.Write.write_str_gives c.args.f.now (text_of n) c.write-in-Published.new.self) (sym c.in-Published.is)
+    subst (λ n. HasWritten {W = g.row.W.Denot} g.W.Write.write_str_gives c.args.f.now (text_of n)
+    c.write-in-Published.new.self) (sym c.in-Published.is)
     (c.write-in-Published.ensures.writes plain ok)
