@@ -43,7 +43,8 @@ pub(crate) fn count<D: Disk>(opened: &Record<D>, instances: u32) -> Counts
     requires { instances ≤ MAX_INSTANCE }
     ensures votes { result.votes ≡ count_to (λ i. is_some (slot_at opened.now.recorded.slots i).vote) instances }
     ensures learned { result.learned ≡ count_to (λ i. is_some (value_at opened.now.recorded.slots i)) instances }
-    ensures last { result.last ≡ last_to (λ i. is_some (slot_at opened.now.recorded.slots i).vote || is_some (value_at opened.now.recorded.slots i)) instances }
+    ensures last { result.last ≡ last_to (λ i. is_some (slot_at opened.now.recorded.slots i).vote
+        || is_some (value_at opened.now.recorded.slots i)) instances }
 {
     let (mut votes, mut learned, mut last) = (0, 0, 0);
     for past in 0..instances {
