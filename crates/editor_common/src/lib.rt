@@ -1,10 +1,15 @@
-//! What the words of `sitepub` share: why one came to no end, a line that is written, and how long something is waited for.
+//! What the words of `sitepub` share: why one came to no end, what one came to, a line that is
+//! written, and how long something is waited for.
 #![tactic(auto)]
 
 mod editor_fault;
+mod listing;
+mod outcome;
 mod patience;
 mod telling;
 
 pub use editor_fault::EditorFault;
+pub use listing::texts_value;
+pub use outcome::Outcome;
 pub use patience::{now, passed, rest};
 pub use telling::{say, say_made};

@@ -3,6 +3,8 @@ use editor_common::EditorFault;
 use editor_folder::{SiteFile, is_of_site, is_part, is_passed_over};
 use std::alloc::{AllocError, Global};
 use std::collections::BTreeMap;
+use std::fs::Metadata;
+use std::os::unix::fs::MetadataExt;
 use std::rt::Files;
 use std::{fs, io};
 
@@ -11,6 +13,15 @@ const MAX_FOLDERS: u32 = 10_000;
 
 /// What an editor's program keeps in a folder beside the site's files.
 const KEPT: &str = "published";
+
+/// What is taken of a file.
+#[derive(Clone, Copy)]
+enum Taking {
+    /// Its bytes.
+    Bytes,
+    /// How it looks from outside: another text once it was written.
+    Looks,
+}
 
 /// The files of a folder, in the order of their paths, and how many files and folders were passed over.
 #[derive(Drop)]
@@ -27,8 +38,17 @@ struct Search {
     /// Folders that are still to be looked into.
     pending: Vec<String>,
     passed_over: usize,
-    /// Whether files that are no part of a site are passed over.
-    ignore: bool,
+    wanted: Wanted,
+    taking: Taking,
+}
+
+/// What is looked for in a folder.
+#[derive(Clone, Copy)]
+enum Wanted {
+    /// The files of a site; whether others are passed over.
+    Site { ignore: bool },
+    /// A generator's pages, and its sitemap; of other files the names.
+    Pages,
 }
 
 /// What stands at a path below a folder.
@@ -38,7 +58,9 @@ enum Kind {
     Part,
     /// A file of a site.
     Site,
-    /// Neither.
+    /// A file of which the name alone is wanted.
+    Named,
+    /// None of these.
     Other,
 }
 
@@ -61,8 +83,19 @@ pub(crate) fn at<T>(alloc: Global, path: &str, given: io::Result<T>) -> Result<T
     }
 }
 
+/// What a folder or a file at a path below a generator's is to it.
+fn page_kind(is_folder: bool, path: &str) -> Kind {
+    if is_folder {
+        Kind::Part
+    } else if path.ends_with(".html") || path == "sitemap.xml" {
+        Kind::Site
+    } else {
+        Kind::Named
+    }
+}
+
 /// What a folder or a file at a path below the folder is to a site.
-fn kind_at(is_folder: bool, path: &str) -> Kind {
+fn site_kind(is_folder: bool, path: &str) -> Kind {
     if is_folder {
         if is_part(path) {
             Kind::Part
@@ -76,9 +109,42 @@ fn kind_at(is_folder: bool, path: &str) -> Kind {
     }
 }
 
-fn kind_of<R: Files + AllocGlobal>(rt: &R, whole: &str, path: &str) -> Result<Kind, EditorFault> {
-    let found = at(rt.alloc(), whole, fs::metadata(rt, whole))?;
-    Ok(kind_at(found.is_dir(), path))
+impl Wanted {
+    /// Whether what stands at a path is not looked at.
+    fn skips(self, path: &str) -> bool {
+        match self {
+            Wanted::Site { .. } => path == KEPT,
+            Wanted::Pages => false,
+        }
+    }
+
+    /// Whether what stands at a path is passed over.
+    fn passes_over(self, path: &str) -> bool {
+        match self {
+            Wanted::Site { .. } => is_passed_over(path),
+            Wanted::Pages => path.split('/').any(|name| name.starts_with('.')),
+        }
+    }
+
+    /// What a folder or a file at a path is.
+    fn kind_at(self, is_folder: bool, path: &str) -> Kind {
+        match self {
+            Wanted::Site { .. } => site_kind(is_folder, path),
+            Wanted::Pages => page_kind(is_folder, path),
+        }
+    }
+
+    /// Whether files of no kind are passed over.
+    fn ignores(self) -> bool {
+        matches!(self, Wanted::Site { ignore: true })
+    }
+}
+
+/// How a file looks from outside.
+fn looks_of(alloc: Global, found: &Metadata) -> Result<Vec<u8>, AllocError> {
+    let (size, inode) = (found.size(), found.ino());
+    let (seconds, nanos) = (found.mtime(), found.mtime_nsec());
+    Ok(format!(in alloc; "{size} {inode} {seconds} {nanos}")?.into_bytes())
 }
 
 /// The names in a folder.
@@ -117,6 +183,19 @@ impl Search {
     }
 }
 
+/// What is taken of a file at a path, of which the system says that.
+fn taken_of<R: Files + AllocGlobal>(
+    rt: &R,
+    whole: &str,
+    found: &Metadata,
+    taking: Taking,
+) -> Result<Vec<u8>, EditorFault> {
+    match taking {
+        Taking::Bytes => at(rt.alloc(), whole, fs::read(rt, whole)),
+        Taking::Looks => Ok(looks_of(rt.alloc(), found)?),
+    }
+}
+
 /// Takes what stands at a path below the folder; that is it as a whole.
 fn take_at<R: Files + AllocGlobal>(
     rt: &R,
@@ -125,10 +204,15 @@ fn take_at<R: Files + AllocGlobal>(
     search: &mut Search,
 ) -> Result<(), EditorFault> {
     let alloc = rt.alloc();
-    match kind_of(rt, whole, path)? {
+    let found = at(alloc, whole, fs::metadata(rt, whole))?;
+    match search.wanted.kind_at(found.is_dir(), path) {
         Kind::Part => search.put_off(alloc, path)?,
-        Kind::Site => search.put(alloc, path, at(alloc, whole, fs::read(rt, whole))?)?,
-        Kind::Other if search.ignore => search.pass_over(),
+        Kind::Site => {
+            let taken = taken_of(rt, whole, &found, search.taking)?;
+            search.put(alloc, path, taken)?
+        }
+        Kind::Named => search.put(alloc, path, Vec::new(alloc))?,
+        Kind::Other if search.wanted.ignores() => search.pass_over(),
         Kind::Other => search.put_other(alloc, path)?,
     }
     Ok(())
@@ -141,10 +225,10 @@ fn take<R: Files + AllocGlobal>(
     path: &str,
     search: &mut Search,
 ) -> Result<(), EditorFault> {
-    if path == KEPT {
+    if search.wanted.skips(path) {
         return Ok(());
     }
-    if is_passed_over(path) {
+    if search.wanted.passes_over(path) {
         search.pass_over();
         return Ok(());
     }
@@ -198,21 +282,65 @@ fn look_around<R: Files + AllocGlobal + Clone + Drop>(
     Err(EditorFault::ManyFolders)
 }
 
-/// Reads the files of a folder.
-pub(crate) fn files_of<R: Files + AllocGlobal + Clone + Drop>(
+/// Looks for the files of a folder, and takes that of each.
+fn look_for<R: Files + AllocGlobal + Clone + Drop>(
     rt: &R,
     root: &str,
-    ignore: bool,
+    wanted: Wanted,
+    taking: Taking,
 ) -> Result<Found, EditorFault> {
     let alloc = rt.alloc();
     let mut search = Search {
         files: BTreeMap::new(alloc),
         pending: Vec::new(alloc),
         passed_over: 0,
-        ignore,
+        wanted,
+        taking,
     };
     look_around(rt, root, &mut search)?;
     found_in(alloc, search)
+}
+
+/// Reads the files of a folder.
+pub(crate) fn files_of<R: Files + AllocGlobal + Clone + Drop>(
+    rt: &R,
+    root: &str,
+    ignore: bool,
+) -> Result<Found, EditorFault> {
+    look_for(rt, root, Wanted::Site { ignore }, Taking::Bytes)
+}
+
+/// A line for each file, its path first.
+fn lines_of(alloc: Global, files: &[SiteFile]) -> Result<String, AllocError> {
+    let mut lines = String::new(alloc);
+    for file in files {
+        lines.push_str(file.path.as_str())?;
+        lines.push(' ')?;
+        lines.push_str(str::from_utf8(&file.bytes).unwrap_or(""))?;
+        lines.push('\n')?;
+    }
+    Ok(lines)
+}
+
+/// How the files of a folder look from outside, none of which is read: another text where one came or went,
+/// or was written, as its time, size or inode tells.
+pub fn seen_in<R: Files + AllocGlobal + Clone + Drop>(
+    rt: &R,
+    root: &str,
+    ignore: bool,
+) -> Result<String, EditorFault> {
+    let found = look_for(rt, root, Wanted::Site { ignore }, Taking::Looks)?;
+    Ok(lines_of(rt.alloc(), &found.files)?)
+}
+
+/// The files below a folder of another generator's pages, in the order of their paths: of pages, whose names
+/// end in `.html`, and of `sitemap.xml` with their bytes, of others without. Names with a dot before are
+/// passed over.
+pub fn pages_below<R: Files + AllocGlobal + Clone + Drop>(
+    rt: &R,
+    root: &str,
+) -> Result<Vec<SiteFile>, EditorFault> {
+    Ok(look_for(rt, root, Wanted::Pages, Taking::Bytes)?.files)
 }
 
 /// What was found.

@@ -1,19 +1,26 @@
 //! The files of a site's folder, read and written: what an editor's program has from a disk.
 //!
-//! `files.rt` reads the files of a folder and writes some, `holding.rt` keeps other processes from publishing
-//! it meanwhile, `reading.rt` tells what is wrong with them, as `editor_folder` says, and `saving.rt` keeps
-//! the file `published`: it alone makes the `Saved` of `saved.rt`, out of which commands are sent. What a
-//! real file gives and takes is tested, not proved.
+//! `files.rt` reads the files of a folder and writes some, `holding.rt` keeps other processes from
+//! publishing it meanwhile, `reading.rt` tells what is wrong with them, as `editor_folder` says, and
+//! `saving.rt` keeps the file `published`: it alone makes the `Saved` of `saved.rt`, out of which commands
+//! are sent. `released.rt` has the texts of a release from there, `listing.rt` findings for programs,
+//! `secrets.rt` reads a file that has passwords. What a real file gives and takes is tested, not proved.
 #![tactic(auto)]
 
 mod files;
 mod holding;
+mod listing;
 mod reading;
+mod released;
 mod saved;
 mod saving;
+mod secrets;
 
-pub use files::{below, is_free, write_file};
+pub use files::{below, is_free, pages_below, seen_in, write_file};
 pub use holding::hold;
-pub use reading::{Clean, Read, read_clean, read_folder, tell_findings, texts_of};
+pub use listing::list_findings;
+pub use reading::{Clean, Read, clean_of, read_clean, read_folder, tell_findings, texts_of};
+pub use released::{lent, release_texts};
 pub use saved::Saved;
 pub use saving::{new_editor, read_ledger, save};
+pub use secrets::read_secret;

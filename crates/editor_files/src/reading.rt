@@ -110,7 +110,8 @@ fn tell_more<E: Write>(
     Ok(())
 }
 
-/// Writes what is wrong with a folder, a line each; of many with one reason the first, and how many more there are.
+/// Writes what is wrong with a folder, a line each; of many with one reason the first, and how many more
+/// there are.
 pub fn tell_findings<E: Write>(
     alloc: Global,
     err: &mut E,
@@ -126,15 +127,14 @@ pub fn tell_findings<E: Write>(
     tell_more(alloc, err, folder, &counts)
 }
 
-/// Reads a folder, and tells all that is wrong with it; nothing where that is a fault.
-pub fn read_clean<R: Files + AllocGlobal + Clone + Drop, E: Write>(
-    rt: &R,
+/// Tells all that is wrong with a folder that was read; nothing is given where that is a fault.
+pub fn clean_of<E: Write>(
+    alloc: Global,
     err: &mut E,
     name: &str,
-    ignore: bool,
+    read: Read,
 ) -> Result<Option<Clean>, EditorFault> {
-    let read = read_folder(rt, name, ignore)?;
-    tell_findings(rt.alloc(), err, name, &read.findings)?;
+    tell_findings(alloc, err, name, &read.findings)?;
     if read.has_fault() {
         return Ok(None);
     }
@@ -142,6 +142,17 @@ pub fn read_clean<R: Files + AllocGlobal + Clone + Drop, E: Write>(
         folder: read.folder,
         pages: read.pages,
     }))
+}
+
+/// Reads a folder, and tells all that is wrong with it; nothing is given where that is a fault.
+pub fn read_clean<R: Files + AllocGlobal + Clone + Drop, E: Write>(
+    rt: &R,
+    err: &mut E,
+    name: &str,
+    ignore: bool,
+) -> Result<Option<Clean>, EditorFault> {
+    let read = read_folder(rt, name, ignore)?;
+    clean_of(rt.alloc(), err, name, read)
 }
 
 /// The texts of a folder's commands, which are UTF-8.

@@ -2,6 +2,7 @@
 //! nowhere, partials that aren't there, and paths that readers take for one.
 ghost use Rattle.editor_folder.specs.Texts.{AreCommands};
 
+use crate::endless::endless;
 use crate::finding::{Finding, Weight};
 use crate::folder::{Reading, Redirect, Route, key_of};
 use crate::place::Place;
@@ -48,22 +49,6 @@ fn missing_partial(alloc: Global, call: &TagName) -> Result<Finding, AllocError>
 fn missing_name(alloc: Global, tag: &TagName, name: &str) -> Result<Finding, AllocError> {
     let reason = format!(in alloc; "no data of this folder have the name `{name}`")?;
     warning_in(alloc, tag.file.as_str(), tag.place, reason)
-}
-
-/// That a target leads in a circle, where it does: after as many steps as there are redirects one came twice.
-fn circle(
-    alloc: Global,
-    targets: &BTreeMap<String, String>,
-    target: &str,
-) -> Result<Option<String>, AllocError> {
-    let mut at = target;
-    for _ in 0..=targets.len() {
-        match targets.get(at) {
-            Some(next) => at = next.as_str(),
-            None => return Ok(None),
-        }
-    }
-    Ok(Some(format!(in alloc; "{target} leads in a circle, so browsers give up")?))
 }
 
 /// A warning of a line of `routes` or `redirects`.
@@ -142,7 +127,7 @@ impl Reading {
             return Ok(None);
         }
         if targets.contains_key(target) {
-            return circle(self.alloc, targets, target);
+            return endless(self.alloc, targets, target);
         }
         if let Some(reason) = mark_in(self.alloc, target)? {
             return Ok(Some(reason));

@@ -15,7 +15,7 @@ const NOBODYS: Ticket = Ticket {
 
 /// Why a text is no command: its fault, and the fault's line.
 #[derive(Drop)]
-pub(crate) struct Refusal {
+pub struct Refusal {
     pub fault: CommandFault,
     pub line: String,
 }
@@ -35,7 +35,7 @@ fn refusal_of(alloc: Global, fault: CommandFault) -> Result<Refusal, AllocError>
 }
 
 /// Why the text is no command; nothing where it is one.
-pub(crate) fn refused(alloc: Global, text: &[u8]) -> Result<Option<Refusal>, AllocError>
+pub fn refused(alloc: Global, text: &[u8]) -> Result<Option<Refusal>, AllocError>
     ensures { IfOk result (λ o. MatchOption o (IsCommandText text.now) (λ r. IsRefused text.now r)) }
 {
     let value = write(alloc, NOBODYS, text)?;

@@ -4,7 +4,7 @@
 //! `command` whether a text is a command, and where it is none `template_reasons.rt`, `data_reasons.rt` and
 //! `reasons.rt` say why, for people: the place, and what to do. `lines.rt` reads `routes`, `redirects` and
 //! `removes`, `keys.rt` the keys of data, and `tags.rt` keeps names. `checks.rt` looks for what is named and
-//! isn't there, `unreached.rt` for paths that no link leads to, `unused.rt` for what no page comes to.
+//! isn't there, `unreached.rt` for paths that no link leads to, `endless.rt` for redirects in circles, `unused.rt` for what no page comes to.
 //! `pages.rt` renders each route, as a node would, `limits.rt` says which limit one passes, `moved.rt` makes
 //! the file of a page that moved, and `copies.rt` says which file of a static copy a page is. `views.rt` says
 //! what a node shows of any texts, `restoring.rt` which files put them. `beginning.rt` has a small site to
@@ -15,6 +15,7 @@ mod beginning;
 mod checks;
 mod copies;
 mod data_reasons;
+mod endless;
 mod file;
 mod finding;
 mod folder;
@@ -39,6 +40,8 @@ pub use copies::{Copies, NoCopy};
 pub use file::SiteFile;
 pub use finding::{Finding, Weight};
 pub use folder::{Folder, FolderCommand, Redirect, Route, folder_of};
+pub use judging::{Refusal, refused};
+pub use moved::ESCAPED;
 pub use pages::{Page, page_faults, pages_of, release_of};
 pub use place::{Place, place_of};
 pub use restoring::files_of;

@@ -8,7 +8,7 @@ use std::alloc::{AllocError, Global};
 
 /// What an address escapes, as a node does in a `Location` line: each byte but letters, digits and these
 /// marks (RFC 3986, section 2.3), and the slash.
-pub(crate) const ESCAPED: AsciiSet = ascii_set!(
+pub const ESCAPED: AsciiSet = ascii_set!(
     NON_ALPHANUMERIC
         .remove(b'-')
         .remove(b'.')

@@ -6,46 +6,41 @@ use crate::reasons::file_warning;
 use std::alloc::{AllocError, Global};
 use std::collections::BTreeSet;
 
-/// Which templates and partials a folder's pages come to, by their numbers.
+/// Which templates and partials a folder's pages come to, by their numbers; and those of them whose calls are
+/// still to be followed.
 #[derive(Drop)]
 struct Reached {
     is: Vec<bool>,
+    pending: Vec<usize>,
 }
 
 impl Reached {
-    /// Notes that pages come to a number. Whether that is new is the answer.
-    fn note(&mut self, number: usize) -> bool {
-        match self.is.get_mut(number) {
-            Some(is) if !*is => {
+    /// Notes that pages come to a number. Its calls are followed once.
+    fn note(&mut self, number: usize) -> Result<(), AllocError> {
+        if let Some(is) = self.is.get_mut(number) {
+            if !*is {
                 *is = true;
-                true
+                self.pending.push(number)?;
             }
-            _ => false,
         }
+        Ok(())
     }
 
     fn has(&self, number: usize) -> bool {
         self.is.get(number).copied().unwrap_or(false)
     }
 
-    /// Notes the partials that a number calls, where pages come to it. Whether one is new is the answer.
-    fn spread(&mut self, nesting: &Nesting<'_>, number: usize) -> bool {
-        let mut more = false;
-        if self.has(number) {
+    /// Follows all calls, those of each number once.
+    fn follow(&mut self, nesting: &Nesting<'_>) -> Result<(), AllocError> {
+        for _ in 0..nesting.len() {
+            let Some(number) = self.pending.pop() else {
+                return Ok(());
+            };
             for partial in nesting.called_by(number) {
-                more = self.note(*partial) || more;
+                self.note(*partial)?;
             }
         }
-        more
-    }
-
-    /// The same of each.
-    fn spread_all(&mut self, nesting: &Nesting<'_>) -> bool {
-        let mut more = false;
-        for number in 0..nesting.len() {
-            more = self.spread(nesting, number) || more;
-        }
-        more
+        Ok(())
     }
 }
 
@@ -57,17 +52,14 @@ fn all_reached(
 ) -> Result<Reached, AllocError> {
     let mut reached = Reached {
         is: vec![in alloc; false; nesting.len()]?,
+        pending: Vec::new(alloc),
     };
     for route in folder.routes.iter() {
         if let Some(number) = nesting.template(alloc, route.template.as_str())? {
-            let _ = reached.note(number);
+            reached.note(number)?;
         }
     }
-    for _ in 0..nesting.len() {
-        if !reached.spread_all(nesting) {
-            break;
-        }
-    }
+    reached.follow(nesting)?;
     Ok(reached)
 }
 

@@ -1,6 +1,6 @@
 //! Questions to a node over one connection.
 use crate::address::Address;
-use editor_http::{NodeAnswer, NodeAnswerFault, Question, read_answer};
+use editor_http::{Authority, NodeAnswer, NodeAnswerFault, Question, read_answer};
 use engine_common::Feed;
 use http_read::{Counted, write_all};
 use std::alloc::{AllocError, Global};
@@ -25,17 +25,25 @@ fn set_waiting(stream: &TcpStream) -> io::Result<()> {
     stream.set_write_timeout(wait)
 }
 
-fn connect_to<N: Net<Stream = TcpStream>>(net: &N, address: &SocketAddr) -> io::Result<TcpStream> {
-    let stream = TcpStream::connect_timeout(net, address, Duration::from_secs(CONNECTING))?;
+fn connect_to<N: Net<Stream = TcpStream>>(
+    net: &N,
+    address: &SocketAddr,
+    within: Duration,
+) -> io::Result<TcpStream> {
+    let stream = TcpStream::connect_timeout(net, address, within)?;
     set_waiting(&stream)?;
     Ok(stream)
 }
 
-/// A connection to the first address of a host that takes one.
-fn connect<N: Net<Stream = TcpStream>>(net: &N, host: &str) -> io::Result<TcpStream> {
+/// A connection to the first address of a host that takes one within so long.
+pub(crate) fn connect_within<N: Net<Stream = TcpStream>>(
+    net: &N,
+    host: &str,
+    within: Duration,
+) -> io::Result<TcpStream> {
     let mut tried = Err(io::Error::from(io::ErrorKind::NotFound));
     for address in host.to_socket_addrs(net)? {
-        tried = connect_to(net, &address);
+        tried = connect_to(net, &address, within);
         if tried.is_ok() {
             break;
         }
@@ -43,28 +51,32 @@ fn connect<N: Net<Stream = TcpStream>>(net: &N, host: &str) -> io::Result<TcpStr
     tried
 }
 
+fn connect<N: Net<Stream = TcpStream>>(net: &N, host: &str) -> io::Result<TcpStream> {
+    connect_within(net, host, Duration::from_secs(CONNECTING))
+}
+
 /// Writes a question: whether it was written.
 fn write_question(
     alloc: Global,
     stream: &TcpStream,
-    host: &str,
+    to: &Authority,
     question: &Question<'_>,
     last: bool,
 ) -> Result<bool, AllocError> {
-    let request = question.spelled(alloc, host, last)?;
+    let request = question.spelled(alloc, to, last)?;
     Ok(write_all(&mut Counted::new(stream), request.as_bytes()).is_ok())
 }
 
 /// Writes questions, the last of which ends the connection, as far as they can be written.
-fn write_questions(
+pub(crate) fn write_questions(
     alloc: Global,
     stream: &TcpStream,
-    host: &str,
+    to: &Authority,
     questions: &[Question<'_>],
 ) -> Result<(), AllocError> {
     let last = questions.len().saturating_sub(1);
     for (i, question) in questions.iter().enumerate() {
-        if !write_question(alloc, stream, host, question, i == last)? {
+        if !write_question(alloc, stream, to, question, i == last)? {
             break;
         }
     }
@@ -85,7 +97,7 @@ fn next_answer(
 }
 
 /// Reads the answers to so many questions: as many as come.
-fn read_answers(
+pub(crate) fn read_answers(
     alloc: Global,
     stream: &TcpStream,
     count: usize,
@@ -106,11 +118,11 @@ fn read_answers(
 fn converse(
     alloc: Global,
     stream: &TcpStream,
-    host: &str,
+    to: &Authority,
     questions: &[Question<'_>],
     answers: &mut Vec<NodeAnswer>,
 ) -> Result<(), AllocError> {
-    write_questions(alloc, stream, host, questions)?;
+    write_questions(alloc, stream, to, questions)?;
     read_answers(alloc, stream, questions.len(), answers)
 }
 
@@ -120,12 +132,12 @@ fn converse(
 fn ask_once<N: Net<Stream = TcpStream>>(
     net: &N,
     alloc: Global,
-    host: &str,
+    to: &Authority,
     questions: &[Question<'_>],
     answers: &mut Vec<NodeAnswer>,
 ) -> Result<(), AllocError> {
-    match connect(net, host) {
-        Ok(stream) => converse(alloc, &stream, host, questions, answers),
+    match connect(net, to.host.as_str()) {
+        Ok(stream) => converse(alloc, &stream, to, questions, answers),
         Err(fault) if fault.kind() == io::ErrorKind::OutOfMemory => Err(AllocError),
         Err(_) => Ok(()),
     }
@@ -135,13 +147,13 @@ fn ask_once<N: Net<Stream = TcpStream>>(
 fn ask_all<N: Net<Stream = TcpStream>>(
     net: &N,
     alloc: Global,
-    host: &str,
+    to: &Authority,
     questions: &[Question<'_>],
     answers: &mut Vec<NodeAnswer>,
 ) -> Result<(), AllocError> {
     let mut asked: usize = 0;
     for some in questions.chunks(QUESTIONS) {
-        ask_once(net, alloc, host, some, answers)?;
+        ask_once(net, alloc, to, some, answers)?;
         asked = some.len().saturating_add(asked);
         if answers.len() < asked {
             break;
@@ -158,13 +170,13 @@ pub fn ask<N: Net<Stream = TcpStream>>(
     questions: &[Question<'_>],
 ) -> Result<Vec<NodeAnswer>, AllocError> {
     let mut answers = Vec::new(alloc);
-    ask_all(net, alloc, node.host.as_str(), questions, &mut answers)?;
+    ask_all(net, alloc, &node.authority, questions, &mut answers)?;
     Ok(answers)
 }
 
 /// Why a node can't be connected to; nothing where it can.
 pub(crate) fn unreached<N: Net<Stream = TcpStream>>(net: &N, node: &Address) -> Option<io::Error> {
-    connect(net, node.host.as_str()).err()
+    connect(net, node.authority.host.as_str()).err()
 }
 
 /// The number that a node answers.

@@ -53,10 +53,10 @@ fn answers_of<N: Net<Stream = TcpStream>>(
     ask(net, alloc, node, &questions)
 }
 
-/// What a node refused, and its words.
+/// What a node refused, and its words; or why this client is kept out.
 fn refusal(
     alloc: Global,
-    url: &str,
+    node: &Address,
     ledger: &Ledger,
     ask: Ask,
     answer: &NodeAnswer,
@@ -65,6 +65,10 @@ fn refusal(
         Ask::Submit(number) => text_under(ledger, number).lines().next().unwrap_or(""),
         Ask::Receipt(_) => "",
     };
+    let url = node.url.as_str();
+    if let Some(why) = node.barred(answer) {
+        return format!(in alloc; "{url}: {why}");
+    }
     let status = answer.status;
     let said = str::from_utf8(&answer.body).unwrap_or("").trim_end();
     format!(in alloc; "{url}: {head}: answered {status} {said}")
@@ -74,7 +78,7 @@ fn refusal(
 fn hear(
     alloc: Global,
     flight: &mut Flight,
-    url: &str,
+    node: &Address,
     saved: &mut Saved<'_>,
     ask: Ask,
     answer: &NodeAnswer,
@@ -82,7 +86,7 @@ fn hear(
     ensures hears { HearsAnswers saved.old.ledger.now saved.new.ledger.now }
 {
     match saved.hear(flight, ask, answer.status)? {
-        Heard::Refused => Err(stop(refusal(alloc, url, saved.ledger(), ask, answer))),
+        Heard::Refused => Err(stop(refusal(alloc, node, saved.ledger(), ask, answer))),
         _ => Ok(()),
     }
 }
@@ -91,7 +95,7 @@ fn hear(
 fn hear_all(
     alloc: Global,
     flight: &mut Flight,
-    url: &str,
+    node: &Address,
     saved: &mut Saved<'_>,
     asks: &[Ask],
     answers: &[NodeAnswer],
@@ -99,7 +103,7 @@ fn hear_all(
     ensures hears { HearsAnswers saved.old.ledger.now saved.new.ledger.now }
 {
     for (ask, answer) in asks.iter().zip(answers) {
-        hear(alloc, flight, url, saved, *ask, answer)?;
+        hear(alloc, flight, node, saved, *ask, answer)?;
     }
     Ok(())
 }
@@ -116,7 +120,7 @@ fn exchange<N: Net<Stream = TcpStream>>(
 {
     let asks = flight.asks(alloc, saved.ledger().sent())?;
     let answers = answers_of(net, alloc, node, saved.ledger(), &asks)?;
-    hear_all(alloc, flight, node.url.as_str(), saved, &asks, &answers)?;
+    hear_all(alloc, flight, node, saved, &asks, &answers)?;
     Ok(!answers.is_empty())
 }
 

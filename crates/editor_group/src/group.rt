@@ -1,5 +1,5 @@
 //! The nodes that are asked, and the one that is spoken to.
-use crate::address::{Address, address_in};
+use crate::address::{Address, address_in, no_address};
 use crate::stop::stop;
 use editor_common::EditorFault;
 use std::alloc::Global;
@@ -15,9 +15,7 @@ pub struct Group {
 fn push_node(alloc: Global, nodes: &mut Vec<Address>, url: &str) -> Result<(), EditorFault> {
     match address_in(alloc, url)? {
         Some(node) => Ok(nodes.push(node)?),
-        None => Err(stop(format!(in alloc;
-            "{url}: is no address of a node, as http://127.0.0.1:8001"
-        ))),
+        None => Err(stop(no_address(alloc, url))),
     }
 }
 

@@ -4,7 +4,7 @@ use crate::asking::{ask, number_in, unreached};
 use crate::group::Group;
 use crate::stop::stop;
 use editor_common::{EditorFault, now, passed, rest, say, say_made};
-use editor_http::{NodeAnswer, Question};
+use editor_http::{Barred, NodeAnswer, Question};
 use editor_ledger::Ledger;
 use editor_plan::{Standing, Told, Witness, last_shown, last_ticket, standing_of, told_by};
 use site_ids::Ticket;
@@ -153,34 +153,48 @@ fn reason(
     }
 }
 
-/// Whether anything answers at an address, be it what a node says or not.
-fn answers<N: Net<Stream = TcpStream>>(
+/// What anything answers at an address, be it what a node says or not.
+fn answer_at<N: Net<Stream = TcpStream>>(
     net: &N,
     alloc: Global,
     node: &Address,
-) -> Result<bool, AllocError> {
-    Ok(!ask(net, alloc, node, &[Question::Newest])?.is_empty())
+) -> Result<Option<NodeAnswer>, AllocError> {
+    Ok(ask(net, alloc, node, &[Question::Newest])?.pop())
 }
 
-/// Tells why a node is silent.
+/// Why a node is silent that can be connected to, and may have answered something.
+fn why_silent(
+    alloc: Global,
+    url: &str,
+    answered: bool,
+    barred: Option<Barred>,
+) -> Result<String, AllocError> {
+    match (answered, barred) {
+        (_, Some(why)) => format!(in alloc; "{url}: {why}"),
+        (true, None) => format!(in alloc; "{url}: answers, but is no node of Deskrauf"),
+        (false, None) => format!(in alloc; "{url}: does not answer, or is too busy"),
+    }
+}
+
+/// Tells why a node is silent. Whether this client is kept out there is the answer.
 fn tell_silent<N: Net<Stream = TcpStream>, E: Write>(
     net: &N,
     alloc: Global,
     err: &mut E,
     node: &Address,
-) -> Result<(), EditorFault> {
+) -> Result<bool, EditorFault> {
     let url = node.url.as_str();
-    let line = match unreached(net, node) {
-        Some(fault) => format!(in alloc; "{url}: {fault}"),
-        None if answers(net, alloc, node)? => {
-            format!(in alloc; "{url}: answers, but is no node of Deskrauf")
-        }
-        None => format!(in alloc; "{url}: does not answer, or is too busy"),
-    };
-    say_made(err, line)
+    if let Some(fault) = unreached(net, node) {
+        say_made(err, format!(in alloc; "{url}: {fault}"))?;
+        return Ok(false);
+    }
+    let answer = answer_at(net, alloc, node)?;
+    let barred = answer.as_ref().and_then(|answer| node.barred(answer));
+    say_made(err, why_silent(alloc, url, answer.is_some(), barred))?;
+    Ok(barred.is_some())
 }
 
-/// Tells why none of the nodes answers, where none does.
+/// Tells why none of the nodes answers, where none does. One that keeps this client out is not waited for.
 fn tell_unanswered<N: Net<Stream = TcpStream>, E: Write>(
     net: &N,
     alloc: Global,
@@ -188,10 +202,15 @@ fn tell_unanswered<N: Net<Stream = TcpStream>, E: Write>(
     nodes: &[Address],
     found: Standing,
 ) -> Result<(), EditorFault> {
-    if found == Standing::Unanswered {
-        for node in nodes {
-            tell_silent(net, alloc, err, node)?;
-        }
+    if found != Standing::Unanswered {
+        return Ok(());
+    }
+    let mut barred = false;
+    for node in nodes {
+        barred = tell_silent(net, alloc, err, node)? || barred;
+    }
+    if barred {
+        return Err(stop(String::from_str(alloc, "nothing was sent")));
     }
     Ok(())
 }

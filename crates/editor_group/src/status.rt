@@ -1,92 +1,15 @@
-//! What each node of a group says of itself.
+//! What each node of a group says of itself, told.
 use crate::address::Address;
-use crate::asking::{ask, newest};
 use crate::group::Group;
-use editor_common::{EditorFault, now, passed, say_made};
-use editor_http::{NodeAnswer, Question};
+use crate::reports::{Published, Range, Report, range_of, reports_of};
+use editor_common::{EditorFault, Outcome, say_made};
+use editor_http::NodeAnswer;
+use serde_json::{Value, json};
+use site_ids::MAX_INSTANCE;
 use std::alloc::{AllocError, Global};
 use std::io::Write;
 use std::net::{Net, TcpStream};
 use std::rt::Clock;
-
-/// A node: how many milliseconds it took to answer, and its newest release, if it told one; and its start
-/// page in the newest release that all have.
-#[derive(Drop)]
-struct Report {
-    millis: u64,
-    newest: Option<u64>,
-    page: Option<NodeAnswer>,
-}
-
-/// The newest release that all nodes have which answer, and the newest of all; 0 where there is none.
-#[derive(Clone, Copy)]
-struct Range {
-    common: u64,
-    last: u64,
-}
-
-/// The start page of a release.
-fn start_page<N: Net<Stream = TcpStream>>(
-    net: &N,
-    alloc: Global,
-    node: &Address,
-    release: u64,
-) -> Result<Option<NodeAnswer>, AllocError> {
-    let mut answers = ask(net, alloc, node, &[Question::Page(release, "/")])?;
-    Ok(answers.pop())
-}
-
-/// Asks a node for its newest release.
-fn report_of<R: Net<Stream = TcpStream> + Clock + AllocGlobal>(
-    rt: &R,
-    node: &Address,
-) -> Result<Report, EditorFault> {
-    let since = now(rt)?;
-    let newest = newest(rt, rt.alloc(), node)?;
-    let millis = passed(rt, since)?;
-    Ok(Report {
-        millis,
-        newest,
-        page: None,
-    })
-}
-
-/// Asks each node for its newest release.
-fn reports_of<R: Net<Stream = TcpStream> + Clock + AllocGlobal>(
-    rt: &R,
-    nodes: &[Address],
-) -> Result<Vec<Report>, EditorFault> {
-    let mut reports = Vec::new(rt.alloc());
-    for node in nodes {
-        reports.push(report_of(rt, node)?)?;
-    }
-    Ok(reports)
-}
-
-fn range_of(reports: &[Report]) -> Range {
-    let common = reports.iter().filter_map(|report| report.newest).min();
-    let last = reports.iter().filter_map(|report| report.newest).max();
-    Range {
-        common: common.unwrap_or(0),
-        last: last.unwrap_or(0),
-    }
-}
-
-/// Asks each node that answered for its start page of a release.
-fn ask_pages<N: Net<Stream = TcpStream>>(
-    net: &N,
-    alloc: Global,
-    nodes: &[Address],
-    reports: &mut [Report],
-    release: u64,
-) -> Result<(), AllocError> {
-    for (node, report) in nodes.iter().zip(reports.iter_mut()) {
-        if report.newest.is_some() {
-            report.page = start_page(net, alloc, node, release)?;
-        }
-    }
-    Ok(())
-}
 
 fn are_same(page: Option<&NodeAnswer>, other: Option<&NodeAnswer>) -> bool {
     match (page, other) {
@@ -95,15 +18,28 @@ fn are_same(page: Option<&NodeAnswer>, other: Option<&NodeAnswer>) -> bool {
     }
 }
 
-/// Writes that a node is silent.
-fn tell_silent<W: Write>(alloc: Global, out: &mut W, url: &str) -> Result<(), EditorFault> {
-    say_made(
-        out,
-        format!(in alloc; "{url:<32} silent        -       -  -"),
-    )
+/// Whether a node's start page is that of the others; nothing where none of them has a release.
+fn same_page(report: &Report, first: Option<&NodeAnswer>, range: Range) -> Option<bool> {
+    if range.common == 0 {
+        return None;
+    }
+    Some(are_same(report.page.as_ref(), first))
 }
 
-/// Writes what a node said, in columns. Whether all is well is the answer.
+/// How a node is called that does not tell its newest release.
+fn silence_of(report: &Report) -> &'static str {
+    match report.barred {
+        Some(_) => "barred",
+        None => "silent",
+    }
+}
+
+/// Whether all is well with a node: it shows the newest release, and the same page as the others.
+fn is_well(report: &Report, first: Option<&NodeAnswer>, range: Range) -> bool {
+    report.newest == Some(range.last) && same_page(report, first, range).unwrap_or(true)
+}
+
+/// Writes what a node said, in columns.
 fn tell_answer<W: Write>(
     alloc: Global,
     out: &mut W,
@@ -111,19 +47,18 @@ fn tell_answer<W: Write>(
     millis: u64,
     newest: u64,
     range: Range,
-    same: bool,
-) -> Result<bool, EditorFault> {
+    same: Option<bool>,
+) -> Result<(), EditorFault> {
     let behind = range.last.saturating_sub(newest);
-    let page = match (range.common, same) {
-        (0, _) => "-",
-        (_, true) => "same",
-        (_, false) => "differs",
+    let page = match same {
+        None => "-",
+        Some(true) => "same",
+        Some(false) => "differs",
     };
     say_made(
         out,
         format!(in alloc; "{url:<32} {millis:>6} {newest:>8} {behind:>7}  {page}"),
-    )?;
-    Ok(behind == 0 && (same || range.common == 0))
+    )
 }
 
 fn tell<W: Write>(
@@ -133,17 +68,43 @@ fn tell<W: Write>(
     report: &Report,
     first: Option<&NodeAnswer>,
     range: Range,
-) -> Result<bool, EditorFault> {
+) -> Result<(), EditorFault> {
     match report.newest {
         Some(newest) => {
-            let same = are_same(report.page.as_ref(), first);
+            let same = same_page(report, first, range);
             tell_answer(alloc, out, url, report.millis, newest, range, same)
         }
         None => {
-            tell_silent(alloc, out, url)?;
-            Ok(false)
+            let why = silence_of(report);
+            say_made(
+                out,
+                format!(in alloc; "{url:<32} {why}        -       -  -"),
+            )
         }
     }
+}
+
+/// A node as one JSON object.
+fn node_value(
+    alloc: Global,
+    url: &str,
+    report: &Report,
+    first: Option<&NodeAnswer>,
+    range: Range,
+) -> Result<Value, AllocError> {
+    let answers = match report.newest {
+        Some(_) => "yes",
+        None => silence_of(report),
+    };
+    let millis = report.newest.map(|_| report.millis);
+    let same = same_page(report, first, range);
+    json!(in alloc; {
+        "url": url,
+        "answers": answers,
+        "millis": millis,
+        "release": report.newest,
+        "same_page": same
+    })
 }
 
 fn tell_head<W: Write>(alloc: Global, out: &mut W, common: u64) -> Result<(), EditorFault> {
@@ -153,21 +114,61 @@ fn tell_head<W: Write>(alloc: Global, out: &mut W, common: u64) -> Result<(), Ed
     )
 }
 
-/// Writes a line for each node. Whether all is well is the answer.
+/// Writes a line for each node, and keeps them all. Whether all is well is the answer.
 fn tell_all<W: Write>(
     alloc: Global,
     out: &mut W,
+    outcome: &mut Outcome,
     nodes: &[Address],
     reports: &[Report],
     range: Range,
 ) -> Result<bool, EditorFault> {
     tell_head(alloc, out, range.common)?;
     let first = reports.iter().find_map(|report| report.page.as_ref());
-    let mut well = true;
+    let mut values = Vec::new(alloc);
     for (node, report) in nodes.iter().zip(reports.iter()) {
-        well = tell(alloc, out, node.url.as_str(), report, first, range)? && well;
+        let url = node.url.as_str();
+        tell(alloc, out, url, report, first, range)?;
+        values.push(node_value(alloc, url, report, first, range)?)?;
     }
-    Ok(well)
+    outcome.put(alloc, "nodes", Value::Array(values))?;
+    outcome.put(alloc, "release", Value::from(range.last))?;
+    Ok(reports.iter().all(|report| is_well(report, first, range)))
+}
+
+/// Writes why nodes keep this client out, which do.
+fn tell_barred<W: Write>(
+    alloc: Global,
+    out: &mut W,
+    nodes: &[Address],
+    reports: &[Report],
+) -> Result<(), EditorFault> {
+    for (node, report) in nodes.iter().zip(reports.iter()) {
+        if let Some(why) = report.barred {
+            let url = node.url.as_str();
+            say_made(out, format!(in alloc; "{url}: {why}"))?;
+        }
+    }
+    Ok(())
+}
+
+/// Writes how many commands the group has at least, where a node told the instance of a folder's last ticket.
+fn tell_commands<W: Write>(
+    alloc: Global,
+    out: &mut W,
+    outcome: &mut Outcome,
+    reports: &[Report],
+) -> Result<(), EditorFault> {
+    let least = reports.iter().filter_map(|report| report.instance).max();
+    outcome.put(alloc, "commands_at_least", Value::from(least))?;
+    outcome.put(alloc, "commands_at_most", Value::from(MAX_INSTANCE))?;
+    match least {
+        Some(least) => say_made(
+            out,
+            format!(in alloc; "commands: at least {least} of {MAX_INSTANCE}"),
+        ),
+        None => Ok(()),
+    }
 }
 
 /// Writes that no node shows a folder's last release, where that is so of those that answer. Whether all is
@@ -190,31 +191,29 @@ fn tell_returning<W: Write>(
     Ok(false)
 }
 
-fn tell_nodes<R: Net<Stream = TcpStream> + Clock + AllocGlobal, W: Write>(
-    rt: &R,
-    out: &mut W,
-    nodes: &[Address],
-    shown: u64,
-) -> Result<bool, EditorFault> {
-    let mut reports = reports_of(rt, nodes)?;
-    let range = range_of(&reports);
-    if range.common > 0 {
-        ask_pages(rt, rt.alloc(), nodes, reports.as_mut_slice(), range.common)?;
-    }
-    let well = tell_all(rt.alloc(), out, nodes, &reports, range)?;
-    Ok(tell_returning(rt.alloc(), out, range.last, shown)? && well)
-}
-
 /// Writes a table of nodes: URL, milliseconds to an answer, newest release, how many releases it is behind,
-/// and whether its start page in the newest release that all have is that of the others. Status 1 where one
-/// is silent, behind or differs, or where no node shows a release that a folder made, 0 for none.
+/// and whether its start page in the newest release that all have is that of the others; and how many
+/// commands the group has at least, by the last ticket of a folder. Status 1 where a node is silent, behind
+/// or differs, or where no node shows a release that the folder made. All of it is kept in the outcome.
 pub fn tell_status<R: Net<Stream = TcpStream> + Clock + AllocGlobal, W: Write>(
     rt: &R,
     out: &mut W,
+    outcome: &mut Outcome,
     urls: &[&str],
-    shown: u64,
+    published: Published,
 ) -> Result<u8, EditorFault> {
-    let group = Group::of(rt.alloc(), urls)?;
-    let well = tell_nodes(rt, out, group.nodes(), shown)?;
-    Ok(if well { 0 } else { 1 })
+    let alloc = rt.alloc();
+    let group = Group::of(alloc, urls)?;
+    let reports = reports_of(rt, group.nodes(), published)?;
+    let range = range_of(&reports);
+    let well = tell_all(alloc, out, outcome, group.nodes(), &reports, range)?;
+    tell_barred(alloc, out, group.nodes(), &reports)?;
+    tell_commands(alloc, out, outcome, &reports)?;
+    let shown = tell_returning(alloc, out, range.last, published.release)?;
+    let shows = match published.release {
+        0 => None,
+        _ => Some(shown),
+    };
+    outcome.put(alloc, "shows_folder", Value::from(shows))?;
+    Ok(if well && shown { 0 } else { 1 })
 }

@@ -1,4 +1,6 @@
 pub mod Answers
+pub mod Authorities
+pub mod Bars
 pub mod Faults
 pub mod Input
 pub mod Requests

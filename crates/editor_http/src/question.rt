@@ -1,12 +1,15 @@
 //! What can be asked of a node, as the bytes of a request.
 ghost use Rattle.std.specs.Prelude.{◌≡◌, Bool, true, false, IfOk, string_bytes};
-ghost use Rattle.editor_http.specs.Requests.{closing, receipt_target, page_target, submit_request, get_request, request_of};
+ghost use Rattle.editor_http.specs.Requests.{closing, fields_of, receipt_target, page_target, submit_request, get_request, request_with, request_of};
 
+use crate::authority::Authority;
+use crate::authorization::authorization;
 use percent_encoding::{AsciiSet, NON_ALPHANUMERIC, ascii_set, utf8_percent_encode};
 use site_ids::Ticket;
 use std::alloc::{AllocError, Global};
 
-/// What a target escapes of a path: each byte but letters, digits and these marks (RFC 3986, section 2.3), and the slash.
+/// What a target escapes of a path: each byte but letters, digits and these marks (RFC 3986, section 2.3),
+/// and the slash.
 pub(crate) const ESCAPED: AsciiSet = ascii_set!(
     NON_ALPHANUMERIC
         .remove(b'-')
@@ -36,30 +39,37 @@ fn closing(last: bool) -> &'static str
     if last { "Connection: close\r\n" } else { "" }
 }
 
+/// The field lines of each request.
+fn fields(alloc: Global, to: &Authority, last: bool) -> Result<String, AllocError>
+    ensures { IfOk result (λ lines. string_bytes lines ≡ fields_of to.now last) }
+{
+    let host = to.host.as_str();
+    let login = authorization(alloc, &to.login)?;
+    let closing = closing(last);
+    format!(in alloc; "Host: {host}\r\n{login}{closing}")
+}
+
 /// A submission.
 fn submit_request(
     alloc: Global,
-    host: &str,
-    last: bool,
+    fields: &str,
     ticket: Ticket,
     text: &str,
 ) -> Result<String, AllocError>
-    ensures { IfOk result (λ request. string_bytes request ≡ submit_request host.now last ticket text.now) }
+    ensures { IfOk result (λ request. string_bytes request ≡ submit_request fields.now ticket text.now) }
 {
     let Ticket { editor, number } = ticket;
-    let closing = closing(last);
     let length = text.len();
     format!(in alloc;
-        "POST /_submit/{editor}/{number} HTTP/1.1\r\nHost: {host}\r\n{closing}Content-Length: {length}\r\n\r\n{text}"
+        "POST /_submit/{editor}/{number} HTTP/1.1\r\n{fields}Content-Length: {length}\r\n\r\n{text}"
     )
 }
 
 /// A request for a target.
-fn get_request(alloc: Global, host: &str, last: bool, target: &str) -> Result<String, AllocError>
-    ensures { IfOk result (λ request. string_bytes request ≡ get_request host.now last target.now) }
+fn get_request(alloc: Global, fields: &str, target: &str) -> Result<String, AllocError>
+    ensures { IfOk result (λ request. string_bytes request ≡ get_request fields.now target.now) }
 {
-    let closing = closing(last);
-    format!(in alloc; "GET {target} HTTP/1.1\r\nHost: {host}\r\n{closing}\r\n")
+    format!(in alloc; "GET {target} HTTP/1.1\r\n{fields}\r\n")
 }
 
 fn receipt_target(alloc: Global, ticket: Ticket) -> Result<String, AllocError>
@@ -77,21 +87,29 @@ fn page_target(alloc: Global, release: u64, path: &str) -> Result<String, AllocE
 }
 
 impl Question<'_> {
-    /// The bytes of the request to a host. Behind the last one of a connection the node closes it.
-    pub fn spelled(&self, alloc: Global, host: &str, last: bool) -> Result<String, AllocError>
-        ensures { IfOk result (λ request. string_bytes request ≡ request_of host.now last self.now) }
+    /// The request with these field lines.
+    fn spelled_with(&self, alloc: Global, fields: &str) -> Result<String, AllocError>
+        ensures { IfOk result (λ request. string_bytes request ≡ request_with fields.now self.now) }
     {
         match self {
-            Question::Submit(ticket, text) => submit_request(alloc, host, last, *ticket, text),
+            Question::Submit(ticket, text) => submit_request(alloc, fields, *ticket, text),
             Question::Receipt(ticket) => {
                 let target = receipt_target(alloc, *ticket)?;
-                get_request(alloc, host, last, target.as_str())
+                get_request(alloc, fields, target.as_str())
             }
-            Question::Newest => get_request(alloc, host, last, "/_newest"),
+            Question::Newest => get_request(alloc, fields, "/_newest"),
             Question::Page(release, path) => {
                 let target = page_target(alloc, *release, path)?;
-                get_request(alloc, host, last, target.as_str())
+                get_request(alloc, fields, target.as_str())
             }
         }
+    }
+
+    /// The bytes of the request to a host. Behind the last one of a connection the node closes it.
+    pub fn spelled(&self, alloc: Global, to: &Authority, last: bool) -> Result<String, AllocError>
+        ensures { IfOk result (λ request. string_bytes request ≡ request_of to.now last self.now) }
+    {
+        let fields = fields(alloc, to, last)?;
+        self.spelled_with(alloc, fields.as_str())
     }
 }

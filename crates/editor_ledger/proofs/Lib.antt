@@ -1,5 +1,6 @@
 pub mod Listing
 pub mod Members
+pub mod Pasts
 pub mod Receipts
 pub mod Spellings
 pub mod Subjects

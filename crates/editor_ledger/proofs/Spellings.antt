@@ -10,7 +10,7 @@ use Rattle.command.specs.Cuts.{cut_at}
 use Rattle.editor_ledger.specs.Books.{Given, Book}
 use Rattle.editor_ledger.specs.Laws.{SpellsOne}
 use Rattle.editor_ledger.specs.Sizes.{Fits, FitsReleased, FitsText, FitsGiven, FitsBook}
-use Rattle.editor_ledger.specs.Spelling.{released_line, kept_entry, sent_entry, spelled}
+use Rattle.editor_ledger.specs.Spelling.{released_line, kept_entry, numbered_entry, sent_entry, past_entry, message_entry, spelled}
 use Rattle.editor_ledger.specs.declared.released.Released.{Released}
 use Rattle.editor_ledger.proofs.Words.{lacks, cut_it}
 
@@ -88,12 +88,16 @@ kept_one t u xs ys first second is =
     (sym (append_assoc (decimal (length t)) (10 ∷ (t ++ (10 ∷ []))) xs) ∙ ap (drop 4) is ∙ append_assoc (decimal (length u)) (10 ∷ (u ++ (10 ∷ []))) ys) in
     text_then t u xs ys long.0 long.1
 
-sent_one : (g h : Given) (xs ys : List ℕ) → FitsGiven g → FitsGiven h → sent_entry g ++ xs ≡ sent_entry h ++ ys → (g ≡ h) × (xs ≡ ys)
-sent_one g h xs ys first second is =
+entry_one : (word : List ℕ) (g h : Given) (xs ys : List ℕ) → FitsGiven g → FitsGiven h → numbered_entry word g ++ xs ≡ numbered_entry word h ++ ys → (g ≡ h) × (xs ≡ ys)
+entry_one word g h xs ys first second is =
     let last_g : List ℕ = decimal (length g.text) ++ (10 ∷ (g.text ++ (10 ∷ []))) in
     let last_h : List ℕ = decimal (length h.text) ++ (10 ∷ (h.text ++ (10 ∷ []))) in
+    let tail_g : List ℕ = 32 ∷ (decimal g.number ++ (32 ∷ last_g)) in
+    let tail_h : List ℕ = 32 ∷ (decimal h.number ++ (32 ∷ last_h)) in
+    let tails : word ++ (tail_g ++ xs) ≡ word ++ (tail_h ++ ys) = sym (append_assoc word tail_g xs) ∙ is ∙ append_assoc word tail_h ys in
+    let behind = same_front word word (tail_g ++ xs) (tail_h ++ ys) refl tails in
     let number = number_then 32 g.number h.number (last_g ++ xs) (last_h ++ ys) space first.0 second.0
-    (sym (append_assoc (decimal g.number) (32 ∷ last_g) xs) ∙ ap (drop 5) is ∙ append_assoc (decimal h.number) (32 ∷ last_h) ys) in
+    (sym (append_assoc (decimal g.number) (32 ∷ last_g) xs) ∙ ap (drop 1) behind.1 ∙ append_assoc (decimal h.number) (32 ∷ last_h) ys) in
     let long = number_then 10 (length g.text) (length h.text) ((g.text ++ (10 ∷ [])) ++ xs) ((h.text ++ (10 ∷ [])) ++ ys) newline first.1 second.1
     (sym (append_assoc (decimal (length g.text)) (10 ∷ (g.text ++ (10 ∷ []))) xs) ∙ number.1 ∙ append_assoc (decimal (length h.text)) (10 ∷ (h.text ++ (10 ∷ []))) ys) in
     let text = text_then g.text h.text xs ys long.0 long.1 in
@@ -123,26 +127,55 @@ section f P b lead one (a ∷ more) (c ∷ cs) xs ys first second absent none is
     let rest = section f P b lead one more cs xs ys (All-tail P a more first) (All-tail P c cs second) absent none head.1 in
     (ap (λ x. x ∷ more) head.0 ∙ ap (λ zs. c ∷ zs) rest.0, rest.1)
 
-no_released : (kept : List (List ℕ)) (sent : List Given) → starts 114 (flat_map kept_entry kept ++ flat_map sent_entry sent) ≡ false
-no_released [] [] = refl
-no_released [] (g ∷ sent) = refl
-no_released (t ∷ kept) sent = refl
+-- the sections behind those of releases, of messages, of kept texts
+abbrev sent_part : Book → List ℕ
+sent_part book = flat_map sent_entry book.sent
 
-no_kept : (sent : List Given) → starts 104 (flat_map sent_entry sent) ≡ false
-no_kept [] = refl
-no_kept (g ∷ sent) = refl
+abbrev past_part : Book → List ℕ
+past_part book = flat_map past_entry book.past ++ sent_part book
+
+abbrev kept_part : Book → List ℕ
+kept_part book = flat_map kept_entry book.kept ++ past_part book
+
+abbrev message_part : Book → List ℕ
+message_part book = flat_map message_entry book.messages ++ kept_part book
+
+abbrev log_part : Book → List ℕ
+log_part book = flat_map released_line book.log ++ message_part book
+
+no_past : (sent : List Given) → starts 119 (flat_map sent_entry sent) ≡ false
+no_past [] = refl
+no_past (g ∷ sent) = refl
+
+no_kept : (past sent : List Given) → starts 104 (flat_map past_entry past ++ flat_map sent_entry sent) ≡ false
+no_kept [] [] = refl
+no_kept [] (g ∷ sent) = refl
+no_kept (g ∷ past) sent = refl
+
+no_message : (kept : List (List ℕ)) (past sent : List Given) → starts 116 (flat_map kept_entry kept ++ (flat_map past_entry past ++ flat_map sent_entry sent)) ≡ false
+no_message [] [] [] = refl
+no_message [] [] (g ∷ sent) = refl
+no_message [] (g ∷ past) sent = refl
+no_message (t ∷ kept) past sent = refl
+
+no_released : (messages : List Given) (kept : List (List ℕ)) (past sent : List Given)
+    → starts 114 (flat_map message_entry messages ++ (flat_map kept_entry kept ++ (flat_map past_entry past ++ flat_map sent_entry sent))) ≡ false
+no_released [] [] [] [] = refl
+no_released [] [] [] (g ∷ sent) = refl
+no_released [] [] (g ∷ past) sent = refl
+no_released [] (t ∷ kept) past sent = refl
+no_released (g ∷ messages) kept past sent = refl
 
 record SameFront (book other : Book) : Type 0 where
   editor : book.editor ≡ other.editor
   next : book.next ≡ other.next
   last_release : book.last_release ≡ other.last_release
-  rest : flat_map released_line book.log ++ (flat_map kept_entry book.kept ++ flat_map sent_entry book.sent)
-      ≡ flat_map released_line other.log ++ (flat_map kept_entry other.kept ++ flat_map sent_entry other.sent)
+  rest : log_part book ≡ log_part other
 
 fronts : (book other : Book) → FitsBook book → FitsBook other → spelled book ≡ spelled other → SameFront book other
 fronts book other first second is =
-    let rest_a : List ℕ = flat_map released_line book.log ++ (flat_map kept_entry book.kept ++ flat_map sent_entry book.sent) in
-    let rest_b : List ℕ = flat_map released_line other.log ++ (flat_map kept_entry other.kept ++ flat_map sent_entry other.sent) in
+    let rest_a : List ℕ = log_part book in
+    let rest_b : List ℕ = log_part other in
     let last_a : List ℕ = decimal book.last_release ++ (10 ∷ []) in
     let last_b : List ℕ = decimal other.last_release ++ (10 ∷ []) in
     let next_a : List ℕ = decimal book.next ++ (codes "\nlast_release " ++ last_a) in
@@ -156,23 +189,28 @@ fronts book other first second is =
     record { editor = editor.0; next = next.0; last_release = last.0; rest = last.1 }
 
 same_book : (book other : Book) → book.editor ≡ other.editor → book.next ≡ other.next → book.last_release ≡ other.last_release
-    → book.log ≡ other.log → book.kept ≡ other.kept → book.sent ≡ other.sent → book ≡ other
-same_book book other editor next last_release log kept sent =
+    → book.log ≡ other.log → book.messages ≡ other.messages → book.kept ≡ other.kept → book.past ≡ other.past → book.sent ≡ other.sent → book ≡ other
+same_book book other editor next last_release log messages kept past sent =
     ap (λ (n : ℕ). record book { editor = n }) editor
     ∙ ap (λ (n : ℕ). record book { editor = other.editor; next = n }) next
     ∙ ap (λ (n : ℕ). record book { editor = other.editor; next = other.next; last_release = n }) last_release
-    ∙ ap (λ (rs : List Released). record other { log = rs; kept = book.kept; sent = book.sent }) log
-    ∙ ap (λ (ts : List (List ℕ)). record other { kept = ts; sent = book.sent }) kept
+    ∙ ap (λ (rs : List Released). record other { log = rs; messages = book.messages; kept = book.kept; past = book.past; sent = book.sent }) log
+    ∙ ap (λ (gs : List Given). record other { messages = gs; kept = book.kept; past = book.past; sent = book.sent }) messages
+    ∙ ap (λ (ts : List (List ℕ)). record other { kept = ts; past = book.past; sent = book.sent }) kept
+    ∙ ap (λ (gs : List Given). record other { past = gs; sent = book.sent }) past
     ∙ ap (λ (gs : List Given). record other { sent = gs }) sent
 
 pub spells_one : SpellsOne
 spells_one book other first second is =
     let front = fronts book other first second is in
-    let log = section released_line FitsReleased 114 (λ a xs. refl) released_one book.log other.log
-    (flat_map kept_entry book.kept ++ flat_map sent_entry book.sent) (flat_map kept_entry other.kept ++ flat_map sent_entry other.sent)
-    first.log second.log (no_released book.kept book.sent) (no_released other.kept other.sent) front.rest in
-    let kept = section kept_entry FitsText 104 (λ t xs. refl) kept_one book.kept other.kept (flat_map sent_entry book.sent) (flat_map sent_entry other.sent)
-    first.kept second.kept (no_kept book.sent) (no_kept other.sent) log.1 in
-    let sent = section sent_entry FitsGiven 115 (λ g xs. refl) sent_one book.sent other.sent [] []
-    first.sent second.sent refl refl (append-nil (flat_map sent_entry book.sent) ∙ kept.1 ∙ sym (append-nil (flat_map sent_entry other.sent))) in
-    same_book book other front.editor front.next front.last_release log.0 kept.0 sent.0
+    let log = section released_line FitsReleased 114 (λ a xs. refl) released_one book.log other.log (message_part book) (message_part other)
+    first.log second.log (no_released book.messages book.kept book.past book.sent) (no_released other.messages other.kept other.past other.sent) front.rest in
+    let messages = section message_entry FitsGiven 116 (λ g xs. refl) (entry_one (codes "told")) book.messages other.messages (kept_part book) (kept_part other)
+    first.messages second.messages (no_message book.kept book.past book.sent) (no_message other.kept other.past other.sent) log.1 in
+    let kept = section kept_entry FitsText 104 (λ t xs. refl) kept_one book.kept other.kept (past_part book) (past_part other)
+    first.kept second.kept (no_kept book.past book.sent) (no_kept other.past other.sent) messages.1 in
+    let past = section past_entry FitsGiven 119 (λ g xs. refl) (entry_one (codes "was")) book.past other.past (sent_part book) (sent_part other)
+    first.past second.past (no_past book.sent) (no_past other.sent) kept.1 in
+    let sent = section sent_entry FitsGiven 115 (λ g xs. refl) (entry_one (codes "sent")) book.sent other.sent [] []
+    first.sent second.sent refl refl (append-nil (flat_map sent_entry book.sent) ∙ past.1 ∙ sym (append-nil (flat_map sent_entry other.sent))) in
+    same_book book other front.editor front.next front.last_release log.0 messages.0 kept.0 past.0 sent.0

@@ -7,10 +7,10 @@ use Rattle.std.proofs.lemmas.List.Elements.{All-nil, All-cons, All-head, All-tai
 use Rattle.std.proofs.lemmas.Slice.Eq.{bytes_eq-Decides}
 use Rattle.editor_ledger.specs.Books.{Given, Book, fresh}
 use Rattle.editor_ledger.specs.Heads.{release_text}
-use Rattle.editor_ledger.specs.Histories.{Event, plans, releases, releases_again, receives, notes, after, after_all}
+use Rattle.editor_ledger.specs.Histories.{Event, plans, releases, releases_again, receives, notes, says, after, after_all}
 use Rattle.editor_ledger.specs.Laws.{EachTicketHasOneText}
 use Rattle.editor_ledger.specs.Plans.{plan_of}
-use Rattle.editor_ledger.specs.Steps.{is_idle, has_unshown, numbered, with_tickets, noted, without, received_as, with_text, logged}
+use Rattle.editor_ledger.specs.Steps.{is_idle, has_unshown, numbered, with_tickets, with_past, noted, without, received_as, with_text, logged, messaged}
 use Rattle.editor_ledger.proofs.Receipts.{number_found}
 
 -- the text has that number
@@ -77,6 +77,18 @@ gives true texts plan book of = (
   },
 )
 
+-- the same where what stood before is kept
+plans_texts : (b : Bool) (texts plan : List (List ℕ)) (book : Book) → IsOf texts book → Grows texts (cond b (with_tickets plan (with_past plan book)) book)
+plans_texts false texts plan book of = stays texts book of
+plans_texts true texts plan book of = (
+  plan,
+  record {
+    next = omega (arith, of.next, length-append texts plan);
+    each = numbered_given texts plan book.next of.next;
+    last = λ some. still texts plan book.last_release release_text (of.last some);
+  },
+)
+
 -- the last release is on its way alone
 abbrev once_more : Book → Book
 once_more book = record book { sent = record { number = book.last_release; text = release_text } ∷ [] }
@@ -116,11 +128,12 @@ receives_one number (Some g) texts book is of =
     stays texts (without number (noted g book)) (subst (λ n. IsOf texts (without n (noted g book))) same (noted_of (bytes_eq g.text release_text) texts book g refl given of))
 
 grows : (event : Event) (texts : List (List ℕ)) (book : Book) → IsOf texts book → Grows texts (after event book)
-grows (plans wanted) texts book of = gives (is_idle book) texts (plan_of book.kept wanted) book of
+grows (plans wanted) texts book of = plans_texts (is_idle book) texts (plan_of book.kept wanted) book of
 grows releases texts book of = gives (is_idle book && has_unshown book) texts (release_text ∷ []) book of
 grows releases_again texts book of = again (is_idle book && nat_lt 0 book.last_release) texts book of (released (is_idle book) book.last_release)
 grows (receives number) texts book of = receives_one number (find (λ h. eqb h.number number) book.sent) texts book refl of
 grows (notes r) texts book of = stays texts (logged r book) (record { next = of.next; each = of.each; last = of.last })
+grows (says n t) texts book of = stays texts (messaged n t book) (record { next = of.next; each = of.each; last = of.last })
 
 grows_all : (events : List Event) (texts : List (List ℕ)) (book : Book) → IsOf texts book → Grows texts (after_all events book)
 grows_all [] texts book of = stays texts book of
@@ -131,6 +144,10 @@ grows_all (event ∷ later) texts book of =
 
 of_fresh : (editor : ℕ) → IsOf [] (fresh editor)
 of_fresh editor = record { next = refl; each = All-nil _; last = λ some. absurd (omega (arith, some)) }
+
+-- a history has all its texts
+pub of_history : (editor : ℕ) (events : List Event) → (texts : List (List ℕ)) × IsOf texts (after_all events (fresh editor))
+of_history editor events = grows_all events [] (fresh editor) (of_fresh editor)
 
 same_number : (texts more : List (List ℕ)) (m n : ℕ) (t u : List ℕ) → IsNumberOf texts m t → IsNumberOf (texts ++ more) n u → m ≡ n → t ≡ u
 same_number texts more m n t u first second same =

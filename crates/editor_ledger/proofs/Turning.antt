@@ -6,10 +6,10 @@ use Rattle.std.proofs.lemmas.List.Elements.{All-contains_itself, Contains-append
 use Rattle.std.proofs.lemmas.Slice.Eq.{bytes_eq-Decides}
 use Rattle.editor_ledger.specs.Books.{Given, Book, fresh}
 use Rattle.editor_ledger.specs.Heads.{Head, head_of, is_about, is_same_subject, are_about_one, puts_by, is_put, removal, release_text}
-use Rattle.editor_ledger.specs.Histories.{Event, plans, releases, releases_again, receives, notes, after, after_all}
+use Rattle.editor_ledger.specs.Histories.{Event, plans, releases, releases_again, receives, notes, says, after, after_all}
 use Rattle.editor_ledger.specs.Laws.{AreApart, AreAbout, PlanTurns}
 use Rattle.editor_ledger.specs.Plans.{plan_of}
-use Rattle.editor_ledger.specs.Steps.{is_idle, has_unshown, numbered, with_tickets, planned, with_text, noted, without, received_as, received}
+use Rattle.editor_ledger.specs.Steps.{is_idle, has_unshown, numbered, with_tickets, with_past, planned, with_text, noted, without, received_as, received}
 use Rattle.editor_ledger.proofs.Members.{here, later, cases, nowhere, filtered, passes, keeps, some_passes, tested}
 use Rattle.editor_ledger.proofs.Receipts.{number_found}
 use Rattle.editor_ledger.proofs.Subjects.{about, about_one, turned, IsRemoval, removes, removal_about, removal_puts_none, plan_cases, planned_missing, planned_removal, never_both}
@@ -59,7 +59,7 @@ record Coming (kept plan : List (List ℕ)) (book : Book) : Type 0 where
   planned : (g : Given) → Contains book.sent g → Contains plan g.text
   once : (g h : Given) → Contains book.sent g → Contains book.sent h → g.number ≡ h.number → g.text ≡ h.text
 
-begins : (plan : List (List ℕ)) (book : Book) → Coming book.kept plan (with_tickets plan book)
+begins : (plan : List (List ℕ)) (book : Book) → Coming book.kept plan (with_tickets plan (with_past plan book))
 begins plan book = record {
   arrives = λ p is. inr (has_ticket book.next plan p is);
   olds = λ t is. inr (is, λ p there one. has_ticket book.next plan p there);
@@ -159,7 +159,7 @@ receives_all kept plan (n ∷ numbers) book apart some coming =
 
 -- ---- kept texts stay apart
 
-text_apart : (text : List ℕ) (kept : List (List ℕ)) → AreApart kept → AreApart (with_text text kept)
+pub text_apart : (text : List ℕ) (kept : List (List ℕ)) → AreApart kept → AreApart (with_text text kept)
 text_apart text kept apart t u first second one = by_cases (Contains-push_cases others text t first) (Contains-push_cases others text u second)
   where
     others : List (List ℕ)
@@ -190,14 +190,15 @@ chosen_apart true x book same apart = subst AreApart (sym same) apart
 chosen_apart false x book same apart = apart
 
 event_apart : (event : Event) (book : Book) → AreApart book.kept → AreApart (after event book).kept
-event_apart (plans wanted) book apart = chosen_apart (is_idle book) (with_tickets (plan_of book.kept wanted) book) book refl apart
+event_apart (plans wanted) book apart = chosen_apart (is_idle book) (with_tickets (plan_of book.kept wanted) (with_past (plan_of book.kept wanted) book)) book refl apart
 event_apart releases book apart = chosen_apart (is_idle book && has_unshown book) (with_tickets (release_text ∷ []) book) book refl apart
 event_apart releases_again book apart =
     chosen_apart (is_idle book && nat_lt 0 book.last_release) (record book { sent = record { number = book.last_release; text = release_text } ∷ [] }) book refl apart
 event_apart (receives number) book apart = received_apart number (find (λ (h : Given). eqb h.number number) book.sent) book apart
 event_apart (notes released) book apart = apart
+event_apart (says release text) book apart = apart
 
-events_apart : (events : List Event) (book : Book) → AreApart book.kept → AreApart (after_all events book).kept
+pub events_apart : (events : List Event) (book : Book) → AreApart book.kept → AreApart (after_all events book).kept
 events_apart [] book apart = apart
 events_apart (event ∷ rest) book apart = events_apart rest (after event book) (event_apart event book apart)
 
@@ -310,10 +311,10 @@ ends kept wanted book kept_apart apart coming done t put = (λ is. from_kept (co
         coming.stays t in_kept (λ p planned. untouched kept wanted t p apart wants had planned (tested (are_about_one p t)))
     from_wanted wants (inr none) = arrived (coming.arrives t (planned_missing kept wanted t wants none))
 
-idle_plans : (wanted : List (List ℕ)) (book : Book) → book.sent ≡ [] → planned wanted book ≡ with_tickets (plan_of book.kept wanted) book
+idle_plans : (wanted : List (List ℕ)) (book : Book) → book.sent ≡ [] → planned wanted book ≡ with_tickets (plan_of book.kept wanted) (with_past (plan_of book.kept wanted) book)
 idle_plans wanted book none =
     let idle : is_idle book ≡ true = ap (λ (gs : List Given). eqb (length gs) 0) none in
-    ap (λ b. cond b (with_tickets (plan_of book.kept wanted) book) book) idle
+    ap (λ b. cond b (with_tickets (plan_of book.kept wanted) (with_past (plan_of book.kept wanted) book)) book) idle
 
 pub plan_turns : PlanTurns
 plan_turns editor events wanted numbers idle apart some done t put =
@@ -321,6 +322,6 @@ plan_turns editor events wanted numbers idle apart some done t put =
     let kept_apart : AreApart book.kept = events_apart events (fresh editor) (λ v w is. absurd (nowhere v is)) in
     let coming : Coming book.kept (plan_of book.kept wanted) (after_all (map receives numbers) (planned wanted book)) =
     subst (λ b. Coming book.kept (plan_of book.kept wanted) (after_all (map receives numbers) b)) (sym (idle_plans wanted book idle))
-    (receives_all book.kept (plan_of book.kept wanted) numbers (with_tickets (plan_of book.kept wanted) book)
+    (receives_all book.kept (plan_of book.kept wanted) numbers (with_tickets (plan_of book.kept wanted) (with_past (plan_of book.kept wanted) book))
     (plan_apart book.kept wanted kept_apart apart) (plan_about book.kept wanted some) (begins (plan_of book.kept wanted) book)) in
     ends book.kept wanted (after_all (map receives numbers) (planned wanted book)) kept_apart apart coming done t put

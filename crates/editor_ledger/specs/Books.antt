@@ -18,7 +18,11 @@ pub record Book : Type 0 where
   -- what is on its way
   pub sent : List Given
   pub log : List Released
+  -- of each plan the number of its first ticket, with what stood before each of its texts
+  pub past : List Given
+  -- what was said of releases, by their numbers
+  pub messages : List Given
 
 -- of an editor that has published nothing
 abbrev pub fresh : ℕ → Book
-fresh editor = record { editor = editor; next = 1; last_release = 0; kept = []; sent = []; log = [] }
+fresh editor = record { editor = editor; next = 1; last_release = 0; kept = []; sent = []; log = []; past = []; messages = [] }

@@ -1,7 +1,7 @@
 -- What happens to a ledger, one after the other, whatever is interrupted in between: an interruption leaves the ledger that was saved last.
 use Rattle.std.specs.Prelude.{ℕ, List, [], ◌∷◌}
 use Rattle.editor_ledger.specs.Books.{Book}
-use Rattle.editor_ledger.specs.Steps.{planned, release_planned, received, released_again, logged}
+use Rattle.editor_ledger.specs.Steps.{planned, release_planned, received, released_again, logged, messaged}
 use Rattle.editor_ledger.specs.declared.released.Released.{Released}
 
 pub data Event : Type 0 where
@@ -13,6 +13,8 @@ pub data Event : Type 0 where
   receives : ℕ → Event
   -- a release is told in the log
   notes : Released → Event
+  -- a message is said of the release of that number
+  says : ℕ → List ℕ → Event
 
 abbrev pub after : Event → Book → Book
 after (plans wanted) book = planned wanted book
@@ -20,6 +22,7 @@ after releases book = release_planned book
 after releases_again book = released_again book
 after (receives number) book = received number book
 after (notes released) book = logged released book
+after (says release text) book = messaged release text book
 
 abbrev pub after_all : List Event → Book → Book
 after_all [] book = book

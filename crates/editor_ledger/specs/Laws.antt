@@ -1,8 +1,9 @@
 -- What holds of ledgers, whatever was planned, interrupted and received.
-use Rattle.std.specs.Prelude.{◌≡◌, ◌↔◌, ℕ, List, [], map, true, IsSome, Contains}
+use Rattle.std.specs.Prelude.{◌≡◌, ◌↔◌, ◌-◌, ℕ, List, [], map, true, IsSome, Contains}
 use Rattle.editor_ledger.specs.Books.{Given, Book, fresh}
 use Rattle.editor_ledger.specs.Heads.{head_of, are_about_one, is_put}
 use Rattle.editor_ledger.specs.Histories.{Event, receives, after_all}
+use Rattle.editor_ledger.specs.Past.{texts_at}
 use Rattle.editor_ledger.specs.Sizes.{FitsBook}
 use Rattle.editor_ledger.specs.Spelling.{spelled}
 use Rattle.editor_ledger.specs.Steps.{planned}
@@ -32,6 +33,14 @@ PlanTurns = (editor : ℕ) (events : List Event) (wanted : List (List ℕ)) (num
     → (after_all (map receives numbers) (planned wanted (after_all events (fresh editor)))).sent ≡ []
     → (t : List ℕ) → is_put t ≡ true
     → Contains (after_all (map receives numbers) (planned wanted (after_all events (fresh editor)))).kept t ↔ Contains wanted t
+
+-- what stood with nothing on its way is known by its last ticket for ever, whatever is planned, interrupted and received later
+abbrev pub PastsStay : Type 0
+PastsStay = (editor : ℕ) (events more : List Event)
+    → (after_all events (fresh editor)).sent ≡ []
+    → (t : List ℕ) → is_put t ≡ true
+    → Contains (texts_at ((after_all events (fresh editor)).next - 1) (after_all more (after_all events (fresh editor)))) t
+    ↔ Contains (after_all events (fresh editor)).kept t
 
 -- a text spells one ledger at most: what is read back is what was written
 abbrev pub SpellsOne : Type 0

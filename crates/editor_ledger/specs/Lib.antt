@@ -2,6 +2,7 @@ pub mod Books
 pub mod Heads
 pub mod Histories
 pub mod Laws
+pub mod Past
 pub mod Plans
 pub mod Sizes
 pub mod Spelling

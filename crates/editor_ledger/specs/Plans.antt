@@ -1,7 +1,8 @@
 -- What turns the texts that the group has into those that are wanted.
-use Rattle.std.specs.Prelude.{ℕ, List, ◌++◌, filter, not, ◌&&◌, if◌then◌else◌, Option, Some, None, option_and_then}
+use Rattle.std.specs.Prelude.{ℕ, List, ◌++◌, map, filter, find, not, ◌&&◌, if◌then◌else◌, Option, Some, None, option_map, option_and_then}
 use Rattle.std.specs.List.{list_any, filter_map}
 use Rattle.std.specs.Str.{bytes_eq}
+use Rattle.editor_ledger.specs.Books.{Given}
 use Rattle.editor_ledger.specs.Heads.{Head, head_of, is_about, puts, removal}
 
 -- the wanted texts that the group has not
@@ -18,3 +19,21 @@ removal_of wanted text = option_and_then (removal_by wanted) (head_of text)
 -- what is missing, and the removals of what was put and is wanted no more
 abbrev pub plan_of : List (List ℕ) → List (List ℕ) → List (List ℕ)
 plan_of kept wanted = missing kept wanted ++ filter_map (removal_of wanted) kept
+
+-- ---- what a plan overtakes
+
+abbrev pub or_removal : Head → Option (List ℕ) → List ℕ
+or_removal head None = removal head
+or_removal head (Some text) = text
+
+-- what the group has about what the head names, or the removal of that where it has nothing
+abbrev pub before_by : List (List ℕ) → Head → List ℕ
+before_by kept head = or_removal head (find (λ t. is_about head (head_of t)) kept)
+
+-- what stands before a text; nothing where that is about nothing
+abbrev pub before_text : List (List ℕ) → List ℕ → Option (List ℕ)
+before_text kept text = option_map (before_by kept) (head_of text)
+
+-- what stood before the texts of a plan, each under the number of its first ticket
+abbrev pub overtaken : ℕ → List (List ℕ) → List (List ℕ) → List Given
+overtaken next kept plan = map (λ t. record { number = next; text = t }) (filter_map (before_text kept) plan)

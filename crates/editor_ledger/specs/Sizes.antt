@@ -22,3 +22,5 @@ pub record FitsBook (book : Book) : Type 0 where
   pub log : All FitsReleased book.log
   pub kept : All FitsText book.kept
   pub sent : All FitsGiven book.sent
+  pub past : All FitsGiven book.past
+  pub messages : All FitsGiven book.messages

@@ -11,8 +11,19 @@ released_line r = codes "released " ++ (decimal r.release ++ (32 ∷ (decimal r.
 abbrev pub kept_entry : List ℕ → List ℕ
 kept_entry text = codes "has " ++ (decimal (length text) ++ (10 ∷ (text ++ (10 ∷ []))))
 
+-- a text behind the line of a word, a number and its length
+abbrev pub numbered_entry : List ℕ → Given → List ℕ
+numbered_entry word g =
+    word ++ (32 ∷ (decimal g.number ++ (32 ∷ (decimal (length g.text) ++ (10 ∷ (g.text ++ (10 ∷ [])))))))
+
 abbrev pub sent_entry : Given → List ℕ
-sent_entry g = codes "sent " ++ (decimal g.number ++ (32 ∷ (decimal (length g.text) ++ (10 ∷ (g.text ++ (10 ∷ []))))))
+sent_entry = numbered_entry (codes "sent")
+
+abbrev pub past_entry : Given → List ℕ
+past_entry = numbered_entry (codes "was")
+
+abbrev pub message_entry : Given → List ℕ
+message_entry = numbered_entry (codes "told")
 
 abbrev pub front_lines : ℕ → ℕ → ℕ → List ℕ
 front_lines editor next last_release =
@@ -26,4 +37,7 @@ front_lines editor next last_release =
 abbrev pub spelled : Book → List ℕ
 spelled book =
     front_lines book.editor book.next book.last_release
-    ++ (flat_map released_line book.log ++ (flat_map kept_entry book.kept ++ flat_map sent_entry book.sent))
+    ++ (flat_map released_line book.log
+    ++ (flat_map message_entry book.messages
+    ++ (flat_map kept_entry book.kept
+    ++ (flat_map past_entry book.past ++ flat_map sent_entry book.sent))))

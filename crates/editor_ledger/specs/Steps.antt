@@ -3,7 +3,7 @@ use Rattle.std.specs.Prelude.{ℕ, List, [], ◌∷◌, ◌++◌, length, filter
 use Rattle.std.specs.Str.{bytes_eq}
 use Rattle.editor_ledger.specs.Books.{Given, Book}
 use Rattle.editor_ledger.specs.Heads.{are_about_one, release_text}
-use Rattle.editor_ledger.specs.Plans.{plan_of}
+use Rattle.editor_ledger.specs.Plans.{plan_of, overtaken}
 use Rattle.editor_ledger.specs.declared.released.Released.{Released}
 
 -- nothing is on its way
@@ -25,8 +25,15 @@ numbered next (text ∷ more) = record { number = next; text = text } ∷ number
 abbrev pub with_tickets : List (List ℕ) → Book → Book
 with_tickets texts book = record book { next = book.next + length texts; sent = numbered book.next texts }
 
+-- what stood before each text of a plan is kept
+abbrev pub with_past : List (List ℕ) → Book → Book
+with_past plan book = record book { past = book.past ++ overtaken book.next book.kept plan }
+
 abbrev pub planned : List (List ℕ) → Book → Book
-planned wanted book = if is_idle book then with_tickets (plan_of book.kept wanted) book else book
+planned wanted book =
+    if is_idle book
+    then with_tickets (plan_of book.kept wanted) (with_past (plan_of book.kept wanted) book)
+    else book
 
 abbrev pub release_planned : Book → Book
 release_planned book = if is_idle book && has_unshown book then with_tickets (release_text ∷ []) book else book
@@ -64,3 +71,7 @@ released_again book =
 
 abbrev pub logged : Released → Book → Book
 logged released book = record book { log = book.log ++ released ∷ [] }
+
+-- a message is said of a release
+abbrev pub messaged : ℕ → List ℕ → Book → Book
+messaged release text book = record book { messages = book.messages ++ record { number = release; text = text } ∷ [] }

@@ -1,11 +1,13 @@
 //! What an editor keeps of its publications.
-ghost use Rattle.std.specs.Prelude.{◌≡◌, ◌≤◌, ◌+◌, ◌^◌, length, map, true, Err, OnOk, OnErr, string_bytes};
+ghost use Rattle.std.specs.Prelude.{◌≡◌, ◌≤◌, ◌<◌, ◌+◌, ◌^◌, length, map, true, Err, IfOk, OnOk, OnErr, string_bytes};
 ghost use Rattle.editor_ledger.specs.Steps.{with_text};
-ghost use Rattle.editor_ledger.specs.View.{given_view};
+ghost use Rattle.editor_ledger.specs.View.{given_view, past_view, message_view};
 
 use crate::fault::LedgerFault;
 use crate::head::are_about_one;
-use crate::planning::plan_of;
+use crate::message::Message;
+use crate::past::Past;
+use crate::planning::{overtaken, plan_of};
 use crate::released::Released;
 use crate::sent::{Sent, drop_under, numbered, under};
 use std::alloc::{AllocError, Global};
@@ -28,6 +30,10 @@ pub struct Ledger {
     pub(crate) sent: Vec<Sent>,
     /// The releases, the oldest first.
     pub(crate) log: Vec<Released>,
+    /// What stood before each text that was planned, as they were planned.
+    pub(crate) past: Vec<Past>,
+    /// What was said of releases.
+    pub(crate) messages: Vec<Message>,
 }
 
 impl Model for Ledger {
@@ -36,9 +42,18 @@ impl Model for Ledger {
 
     ghost Value = { Book };
 
-    ghost use Rattle.editor_ledger.specs.View.{given_view};
+    ghost use Rattle.editor_ledger.specs.View.{given_view, past_view, message_view};
 
-    ghost view = { λ l. record { editor = l.editor; next = l.next; last_release = l.last_release; kept = map string_bytes l.kept.items; sent = map given_view l.sent.items; log = l.log.items } };
+    ghost view = { λ l. record {
+      editor = l.editor;
+      next = l.next;
+      last_release = l.last_release;
+      kept = map string_bytes l.kept.items;
+      sent = map given_view l.sent.items;
+      log = l.log.items;
+      past = map past_view l.past.items;
+      messages = map message_view l.messages.items;
+    } };
 }
 
 /// Keeps one more text: of each kind and name the last.
@@ -54,7 +69,7 @@ fn keep(kept: &mut Vec<String>, text: String) -> Result<(), AllocError>
 
 impl Ledger {
     ghost use Rattle.editor_ledger.specs.Books.{fresh};
-    ghost use Rattle.editor_ledger.specs.Steps.{is_idle, has_unshown, with_tickets, planned, release_planned, noted, received, released_again, logged};
+    ghost use Rattle.editor_ledger.specs.Steps.{is_idle, has_unshown, with_tickets, planned, release_planned, noted, received, released_again, logged, messaged};
     ghost use Rattle.editor_ledger.specs.Plans.{plan_of};
 
     /// Of an editor that has published nothing.
@@ -68,6 +83,8 @@ impl Ledger {
             kept: Vec::new(alloc),
             sent: Vec::new(alloc),
             log: Vec::new(alloc),
+            past: Vec::new(alloc),
+            messages: Vec::new(alloc),
         }
     }
 
@@ -112,6 +129,20 @@ impl Ledger {
         self.log.as_slice()
     }
 
+    /// What stood before each text that was planned, as they were planned.
+    pub fn past(&self) -> &[Past]
+        ensures { map past_view result.now ≡ self.now.past }
+    {
+        self.past.as_slice()
+    }
+
+    /// What was said of releases.
+    pub fn messages(&self) -> &[Message]
+        ensures { map message_view result.now ≡ self.now.messages }
+    {
+        self.messages.as_slice()
+    }
+
     /// Whether nothing is on its way.
     pub fn is_idle(&self) -> bool
         ensures { result ≡ is_idle self.now }
@@ -126,21 +157,31 @@ impl Ledger {
         self.next.saturating_sub(self.last_release) > 1
     }
 
+    /// The number of the next ticket once each of these texts has one.
+    fn next_behind(&self, texts: &[String]) -> Result<u64, LedgerFault>
+        ensures ok { IfOk result (λ n. (n ≡ self.now.next + length texts.now) × (n < 2 ^ 64)) }
+        ensures tickets { result ≡ Err LedgerFault.NoTickets → 2 ^ 64 ≤ self.now.next + length texts.now }
+    {
+        match self.next.checked_add(texts.len() as u64) {
+            Some(next) => Ok(next),
+            None => Err(LedgerFault::NoTickets),
+        }
+    }
+
     /// Gives each text a ticket that none had.
     fn give(&mut self, alloc: Global, texts: Vec<String>) -> Result<(), LedgerFault>
         ensures ok { OnOk result (self.new ≡ with_tickets (map string_bytes texts.items) self.old) }
         ensures err { OnErr result (self.new ≡ self.old) }
         ensures tickets { result ≡ Err LedgerFault.NoTickets → 2 ^ 64 ≤ self.old.next + length texts.items }
     {
-        let Some(next) = self.next.checked_add(texts.len() as u64) else {
-            return Err(LedgerFault::NoTickets);
-        };
+        let next = self.next_behind(&texts)?;
         self.sent = numbered(alloc, self.next, texts)?;
         self.next = next;
         Ok(())
     }
 
     /// Plans what turns the texts that the group has into the wanted ones, each about another kind and name.
+    /// What stood before each is kept.
     pub fn plan(&mut self, alloc: Global, wanted: &[&str]) -> Result<(), LedgerFault>
         requires { is_idle self.old ≡ true }
         ensures ok { OnOk result (self.new ≡ planned (map (λ t. t.now) wanted.now) self.old) }
@@ -148,7 +189,13 @@ impl Ledger {
         ensures tickets { result ≡ Err LedgerFault.NoTickets → 2 ^ 64 ≤ self.old.next + length (plan_of self.old.kept (map (λ t. t.now) wanted.now)) }
     {
         let texts = plan_of(alloc, &self.kept, wanted)?;
-        self.give(alloc, texts)
+        let next = self.next_behind(&texts)?;
+        let mut past = overtaken(alloc, self.next, &self.kept, &texts)?;
+        let sent = numbered(alloc, self.next, texts)?;
+        self.past.append(&mut past)?;
+        self.sent = sent;
+        self.next = next;
+        Ok(())
     }
 
     /// Plans the release of what the group has, where tickets were given since the last one.
@@ -166,8 +213,8 @@ impl Ledger {
         self.give(alloc, texts)
     }
 
-    /// Puts the last release on its way once more, under its own ticket, where there is one: nodes that were all down learn their log once
-    /// something is decided, and a ticket that was given does no harm.
+    /// Puts the last release on its way once more, under its own ticket, where there is one: nodes that were
+    /// all down learn their log once something is decided, and a ticket that was given does no harm.
     pub fn release_again(&mut self, alloc: Global) -> Result<(), AllocError>
         requires { is_idle self.old ≡ true }
         ensures ok { OnOk result (self.new ≡ released_again self.old) }
@@ -218,6 +265,15 @@ impl Ledger {
         ensures err { OnErr result (self.new ≡ self.old) }
     {
         self.log.push(released)?;
+        Ok(())
+    }
+
+    /// Says something of a release.
+    pub fn say(&mut self, message: Message) -> Result<(), AllocError>
+        ensures ok { OnOk result (self.new ≡ messaged message.release (string_bytes message.text) self.old) }
+        ensures err { OnErr result (self.new ≡ self.old) }
+    {
+        self.messages.push(message)?;
         Ok(())
     }
 }

@@ -1,16 +1,19 @@
 //! The ledger of an editor: what the group has of its folder, and what is on its way.
 //!
-//! `ledger.rt` has the steps: a plan gives tickets that none had, a receipt takes a text off its way. `head.rt` says what a command is about,
-//! `planning.rt` what a plan holds. `spelling.rt` writes a ledger as the text of a file, and `reading.rt` reads it back; `old.rt` reads what a script kept
-//! before. `laws.rt` says what follows, for every interruption and continuation. Nothing here sends or saves: who does saves a plan before it sends any of
-//! it.
+//! `ledger.rt` has the steps: a plan gives tickets that none had, a receipt takes a text off its way.
+//! `head.rt` says what a command is about, `planning.rt` what a plan holds. `spelling.rt` writes a ledger as
+//! the text of a file, and `reading.rt` reads it back; `old.rt` reads what a script kept before. `laws.rt`
+//! says what follows, for every interruption and continuation. Nothing here sends or saves: who does saves a
+//! plan before it sends any of it.
 #![tactic(auto)]
 
 mod fault;
 mod head;
 mod laws;
 mod ledger;
+mod message;
 mod old;
+mod past;
 mod planning;
 mod reading;
 mod released;
@@ -18,7 +21,9 @@ mod sent;
 mod spelling;
 
 pub use fault::{LedgerFault, LedgerReadFault};
-pub use laws::{each_ticket_has_one_text, files_keep_ledgers, plans_turn_sites};
+pub use laws::{each_ticket_has_one_text, files_keep_ledgers, pasts_stay, plans_turn_sites};
 pub use ledger::Ledger;
+pub use message::Message;
+pub use past::Past;
 pub use released::Released;
 pub use sent::Sent;

@@ -31,8 +31,8 @@ fn line_in(line: &str) -> Option<OldLine<'_>> {
     }
 }
 
-/// A text about what the head is about. That of a file is known by its digest alone: with that behind the head it is no command, so that no folder's
-/// text is the same, and the file is put once more.
+/// A text about what the head is about. That of a file is known by its digest alone: with that behind the
+/// head it is no command, so that no folder's text is the same, and the file is put once more.
 fn text_of(alloc: Global, digest: &str, head: &str) -> Result<String, AllocError> {
     if digest == "-" {
         format!(in alloc; "{head}\n")
@@ -54,6 +54,8 @@ fn shown(alloc: Global, editor: u32, next: u64, kept: Vec<String>) -> Ledger
         kept,
         sent: Vec::new(alloc),
         log: Vec::new(alloc),
+        past: Vec::new(alloc),
+        messages: Vec::new(alloc),
     }
 }
 
@@ -99,8 +101,9 @@ impl Told {
 }
 
 impl Ledger {
-    /// Reads what `tools/publish` kept, where nothing was on its way: a text for each kind and name that the group has, of a file one that no folder has,
-    /// and no log. `LedgerReadFault::Old` says that something was.
+    /// Reads what `tools/publish` kept, where nothing was on its way: a text for each kind and name that the
+    /// group has, of a file one that no folder has, and no log. `LedgerReadFault::Old` says that something
+    /// was.
     pub fn read_old(alloc: Global, text: &str) -> Result<Ledger, LedgerReadFault>
         ensures idle { IfOk result (λ ledger. is_idle ledger ≡ true) }
         ensures shown { IfOk result (λ ledger. has_unshown ledger ≡ false) }

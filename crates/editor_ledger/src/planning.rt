@@ -2,14 +2,15 @@
 //!
 //! A plan compares each text with each; a thousand files are a million comparisons beside a thousand posts.
 
-ghost use Rattle.std.specs.Prelude.{◌≡◌, map, option_map, IfOk, string_bytes};
+ghost use Rattle.std.specs.Prelude.{◌≡◌, map, find, option_map, IfOk, string_bytes};
 ghost use Rattle.std.specs.List.{list_any, filter_map};
 ghost use Rattle.std.specs.Str.{bytes_eq};
 ghost use Rattle.editor_ledger.specs.Heads.{head_of, is_about};
-ghost use Rattle.editor_ledger.specs.Plans.{missing, removal_of, plan_of};
-ghost use Rattle.editor_ledger.specs.View.{head_view};
+ghost use Rattle.editor_ledger.specs.Plans.{missing, removal_of, plan_of, before_text, overtaken};
+ghost use Rattle.editor_ledger.specs.View.{head_view, past_view};
 
 use crate::head::{Head, head_of};
+use crate::past::Past;
 use std::alloc::{AllocError, Global};
 
 /// Whether the group has the text.
@@ -78,4 +79,42 @@ pub(crate) fn plan_of(
     let mut gone = removals(alloc, kept, wanted)?;
     plan.append(&mut gone)?;
     Ok(plan)
+}
+
+/// What the group has about what a head names.
+fn about<'a>(kept: &'a [String], head: &Head<'_>) -> Option<&'a String>
+    ensures { option_map (λ s. string_bytes s.now) result ≡ find (λ t. is_about (head_view head.now) (head_of t)) (map string_bytes kept.now) }
+{
+    kept.iter().find(|had| head.is_about(had.as_str()))
+}
+
+/// What stands before a text: what the group has about the same, or the removal of that where it has nothing.
+fn before_text(alloc: Global, kept: &[String], text: &str) -> Result<Option<String>, AllocError>
+    ensures { IfOk result (λ found. option_map string_bytes found ≡ before_text (map string_bytes kept.now) text.now) }
+{
+    let Some(head) = head_of(text) else {
+        return Ok(None);
+    };
+    match about(kept, &head) {
+        Some(had) => Ok(Some(had.clone()?)),
+        None => Ok(Some(head.removal(alloc)?)),
+    }
+}
+
+/// What stands before the texts of a plan, whose first ticket has that number.
+pub(crate) fn overtaken(
+    alloc: Global,
+    since: u64,
+    kept: &[String],
+    plan: &[String],
+) -> Result<Vec<Past>, AllocError>
+    ensures { IfOk result (λ v. map past_view v.items ≡ overtaken since (map string_bytes kept.now) (map string_bytes plan.now)) }
+{
+    let mut past = Vec::new(alloc);
+    for text in plan {
+        if let Some(text) = before_text(alloc, kept, text.as_str())? {
+            past.push(Past { since, text })?;
+        }
+    }
+    Ok(past)
 }

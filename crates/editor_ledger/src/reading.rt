@@ -5,6 +5,8 @@ ghost use Rattle.editor_ledger.specs.Spelling.{spelled};
 
 use crate::fault::LedgerReadFault;
 use crate::ledger::Ledger;
+use crate::message::Message;
+use crate::past::Past;
 use crate::released::Released;
 use crate::sent::Sent;
 use std::alloc::Global;
@@ -23,7 +25,9 @@ struct Rest<'a> {
 #[derive(Clone, Copy)]
 enum Entry<'a> {
     Released(Released),
+    Message(u64, &'a str),
     Kept(&'a str),
+    Past(u64, &'a str),
     Sent(u64, &'a str),
 }
 
@@ -103,13 +107,18 @@ impl<'a> Rest<'a> {
         })
     }
 
-    /// The command sent whose numbers stand in the first line; its text stands behind that.
-    fn sent(self, numbers: &str, rest: Rest<'a>) -> Result<(Entry<'a>, Rest<'a>), LedgerReadFault>
+    /// The number and the text of an entry, whose numbers stand in the first line; its text stands behind
+    /// that.
+    fn numbered(
+        self,
+        numbers: &str,
+        rest: Rest<'a>,
+    ) -> Result<(u64, &'a str, Rest<'a>), LedgerReadFault>
         ensures { IfErr result (λ e. e ≢ LedgerReadFault.Old) }
     {
         let (number, length) = self.parted(numbers)?;
         let (text, rest) = rest.counted(self.parsed(length)?)?;
-        Ok((Entry::Sent(self.parsed(number)?, text), rest))
+        Ok((self.parsed(number)?, text, rest))
     }
 
     /// The entry that the first line begins; the rest stands behind that line.
@@ -123,7 +132,18 @@ impl<'a> Rest<'a> {
                 let (text, rest) = rest.counted(self.parsed(length)?)?;
                 Ok((Entry::Kept(text), rest))
             }
-            ("sent", numbers) => self.sent(numbers, rest),
+            ("told", numbers) => {
+                let (number, text, rest) = self.numbered(numbers, rest)?;
+                Ok((Entry::Message(number, text), rest))
+            }
+            ("was", numbers) => {
+                let (number, text, rest) = self.numbered(numbers, rest)?;
+                Ok((Entry::Past(number, text), rest))
+            }
+            ("sent", numbers) => {
+                let (number, text, rest) = self.numbered(numbers, rest)?;
+                Ok((Entry::Sent(number, text), rest))
+            }
             _ => Err(LedgerReadFault::Line(self.line)),
         }
     }
@@ -135,7 +155,15 @@ impl Ledger {
     {
         match entry {
             Entry::Released(released) => self.log.push(released)?,
+            Entry::Message(release, text) => {
+                let text = String::from_str(alloc, text)?;
+                self.messages.push(Message { release, text })?;
+            }
             Entry::Kept(text) => self.kept.push(String::from_str(alloc, text)?)?,
+            Entry::Past(since, text) => {
+                let text = String::from_str(alloc, text)?;
+                self.past.push(Past { since, text })?;
+            }
             Entry::Sent(number, text) => {
                 let text = String::from_str(alloc, text)?;
                 self.sent.push(Sent { number, text })?;
@@ -229,8 +257,9 @@ impl Ledger {
         }
     }
 
-    /// Reads the text of a file back. What it reads is spelled by that very text, so that another spelling of a number, or entries in another order,
-    /// are a fault in the first line that a ledger would spell otherwise.
+    /// Reads the text of a file back. What it reads is spelled by that very text, so that another spelling
+    /// of a number, or entries in another order, are a fault in the first line that a ledger would spell
+    /// otherwise.
     pub fn read(alloc: Global, text: &str) -> Result<Ledger, LedgerReadFault>
         ensures ok { IfOk result (λ ledger. spelled ledger ≡ text.now) }
         ensures old { result ≡ Err LedgerReadFault.Old ↔ starts_with nat_eq text.now (codes "editor ") ≡ true }

@@ -1,10 +1,12 @@
 //! A ledger as the text of a file.
 ghost use Rattle.std.specs.Prelude.{◌≡◌, map, IfOk, string_bytes};
 ghost use Rattle.std.specs.List.{flat_map};
-ghost use Rattle.editor_ledger.specs.Spelling.{front_lines, released_line, kept_entry, sent_entry, spelled};
-ghost use Rattle.editor_ledger.specs.View.{given_view};
+ghost use Rattle.editor_ledger.specs.Spelling.{front_lines, released_line, kept_entry, numbered_entry, sent_entry, past_entry, message_entry, spelled};
+ghost use Rattle.editor_ledger.specs.View.{given_view, past_view, message_view};
 
 use crate::ledger::Ledger;
+use crate::message::Message;
+use crate::past::Past;
 use crate::released::Released;
 use crate::sent::Sent;
 use std::alloc::{AllocError, Global};
@@ -38,11 +40,12 @@ fn kept_entry(alloc: Global, text: &str) -> Result<String, AllocError>
     format!(in alloc; "has {length}\n{text}\n")
 }
 
-fn sent_entry(alloc: Global, number: u64, text: &str) -> Result<String, AllocError>
-    ensures { IfOk result (λ entry. string_bytes entry ≡ sent_entry (record { number = number; text = text.now })) }
+/// A text behind the line of a word, a number and its length.
+fn numbered_entry(alloc: Global, word: &str, number: u64, text: &str) -> Result<String, AllocError>
+    ensures { IfOk result (λ entry. string_bytes entry ≡ numbered_entry word.now (record { number = number; text = text.now })) }
 {
     let length = text.len();
-    format!(in alloc; "sent {number} {length}\n{text}\n")
+    format!(in alloc; "{word} {number} {length}\n{text}\n")
 }
 
 fn log_lines(alloc: Global, log: &[Released]) -> Result<String, AllocError>
@@ -70,7 +73,30 @@ fn sent_entries(alloc: Global, sent: &[Sent]) -> Result<String, AllocError>
 {
     let mut text = String::new(alloc);
     for given in sent {
-        text.push_str(sent_entry(alloc, given.number, given.text.as_str())?.as_str())?;
+        let entry = numbered_entry(alloc, "sent", given.number, given.text.as_str())?;
+        text.push_str(entry.as_str())?;
+    }
+    Ok(text)
+}
+
+fn past_entries(alloc: Global, past: &[Past]) -> Result<String, AllocError>
+    ensures { IfOk result (λ text. string_bytes text ≡ flat_map past_entry (map past_view past.now)) }
+{
+    let mut text = String::new(alloc);
+    for had in past {
+        let entry = numbered_entry(alloc, "was", had.since, had.text.as_str())?;
+        text.push_str(entry.as_str())?;
+    }
+    Ok(text)
+}
+
+fn message_entries(alloc: Global, messages: &[Message]) -> Result<String, AllocError>
+    ensures { IfOk result (λ text. string_bytes text ≡ flat_map message_entry (map message_view messages.now)) }
+{
+    let mut text = String::new(alloc);
+    for message in messages {
+        let entry = numbered_entry(alloc, "told", message.release, message.text.as_str())?;
+        text.push_str(entry.as_str())?;
     }
     Ok(text)
 }
@@ -82,7 +108,9 @@ impl Ledger {
     {
         let mut text = front_lines(alloc, self.editor(), self.next(), self.last_release())?;
         text.push_str(log_lines(alloc, self.log())?.as_str())?;
+        text.push_str(message_entries(alloc, self.messages())?.as_str())?;
         text.push_str(kept_entries(alloc, self.kept())?.as_str())?;
+        text.push_str(past_entries(alloc, self.past())?.as_str())?;
         text.push_str(sent_entries(alloc, self.sent())?.as_str())?;
         Ok(text)
     }

@@ -2,14 +2,14 @@
 use Rattle.std.proofs.Common.{◌≡◌, ℕ, List, [], ◌∷◌, ◌++◌, length, Bool, true, false, cond, eqb, ◌↔◌, Contains, map, refl, sym, ap, subst, ◌∙◌}
 use Rattle.std.proofs.lemmas.List.{map-append}
 use Rattle.editor_ledger.specs.Books.{Given, Book, fresh}
-use Rattle.editor_ledger.specs.Histories.{Event, plans, releases, receives, notes as tells, after, after_all}
+use Rattle.editor_ledger.specs.Histories.{Event, plans, releases, receives, notes as tells, says as speaks, after, after_all}
 use Rattle.editor_ledger.specs.Plans.{plan_of}
-use Rattle.editor_ledger.specs.Steps.{is_idle, numbered, with_tickets, planned, received}
+use Rattle.editor_ledger.specs.Steps.{is_idle, numbered, with_tickets, with_past, planned, received}
 use Rattle.editor_ledger.proofs.Tickets.{one_text}
 use Rattle.editor_ledger.proofs.Turning.{plan_turns}
 use Rattle.editor_plan.specs.Laws.{TicketsHaveOneText, DoneIsTheFolder}
 use Rattle.editor_plan.specs.Flights.{after_hearing}
-use Rattle.editor_plan.specs.Moves.{Move, advances, hears, notes, moved, moved_all, HearsAnswers}
+use Rattle.editor_plan.specs.Moves.{Move, advances, hears, notes, says, moved, moved_all, HearsAnswers}
 use Rattle.editor_plan.specs.declared.flight.Ask.{Ask}
 use Rattle.editor_plan.specs.declared.flight.Ask.TheVariants.{Receipt, Submit}
 
@@ -26,6 +26,7 @@ one_move (advances wanted) book = (plans wanted ∷ (releases ∷ []), refl)
 one_move (hears (Receipt number) status) book = heard (eqb status 200) number book
 one_move (hears (Submit number) status) book = ([], refl)
 one_move (notes released) book = (tells released ∷ [], refl)
+one_move (says release text) book = (speaks release text ∷ [], refl)
 
 after-append : (events more : List Event) (book : Book) → after_all (events ++ more) book ≡ after_all more (after_all events book)
 after-append [] more book = refl
@@ -47,10 +48,10 @@ tickets editor moves more g h here there same =
     (subst (λ (b : Book). Contains b.sent h) (later.1 ∙ ap (after_all later.0) before.1) there)
     same
 
-idle_plans : (wanted : List (List ℕ)) (book : Book) → book.sent ≡ [] → planned wanted book ≡ with_tickets (plan_of book.kept wanted) book
+idle_plans : (wanted : List (List ℕ)) (book : Book) → book.sent ≡ [] → planned wanted book ≡ with_tickets (plan_of book.kept wanted) (with_past (plan_of book.kept wanted) book)
 idle_plans wanted book none =
     let idle : is_idle book ≡ true = ap (λ (gs : List Given). eqb (length gs) 0) none in
-    ap (λ b. cond b (with_tickets (plan_of book.kept wanted) book) book) idle
+    ap (λ b. cond b (with_tickets (plan_of book.kept wanted) (with_past (plan_of book.kept wanted) book)) book) idle
 
 pub done : DoneIsTheFolder
 done editor moves wanted is apart about t put =
@@ -59,7 +60,7 @@ done editor moves wanted is apart about t put =
     let same : moved_all moves (fresh editor) ≡ book = before.1 in
     let idle : book.sent ≡ [] = subst (λ (b : Book). b.sent ≡ []) same is.idle in
     let all : plan_of book.kept wanted ≡ [] = subst (λ (b : Book). plan_of b.kept wanted ≡ []) same is.has_all in
-    let plan : planned wanted book ≡ with_tickets (plan_of book.kept wanted) book = idle_plans wanted book idle in
+    let plan : planned wanted book ≡ with_tickets (plan_of book.kept wanted) (with_past (plan_of book.kept wanted) book) = idle_plans wanted book idle in
     let sent : (planned wanted book).sent ≡ [] = ap (λ (b : Book). b.sent) plan ∙ ap (numbered book.next) all in
     let kept : (planned wanted book).kept ≡ book.kept = ap (λ (b : Book). b.kept) plan in
     let turned : Contains (planned wanted book).kept t ↔ Contains wanted t = plan_turns editor before.0 wanted [] idle apart about sent t put in

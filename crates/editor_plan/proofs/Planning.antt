@@ -1,10 +1,11 @@
 -- What was planned where nothing is on its way behind it: nothing.
-use Rattle.std.proofs.Common.{◌≡◌, ℕ, List, [], ◌∷◌, length, Bool, true, false, cond, ◌&&◌, eqb, refl, sym, ap, subst, ◌∙◌, add-zero, arith}
+use Rattle.std.proofs.Common.{◌≡◌, ℕ, List, [], ◌∷◌, length, Bool, true, false, cond, ◌&&◌, eqb, refl, sym, ap, subst, ◌∙◌, add-zero, arith, ◌++◌}
 use Rattle.std.proofs.lemmas.Bool.{eqb-true}
+use Rattle.std.proofs.lemmas.List.{append-nil}
 use Rattle.editor_ledger.specs.Books.{Given, Book}
 use Rattle.editor_ledger.specs.Heads.{release_text}
 use Rattle.editor_ledger.specs.Plans.{plan_of}
-use Rattle.editor_ledger.specs.Steps.{is_idle, has_unshown, numbered, with_tickets, planned, release_planned}
+use Rattle.editor_ledger.specs.Steps.{is_idle, has_unshown, numbered, with_tickets, with_past, planned, release_planned}
 use Rattle.editor_plan.specs.Courses.{stage_of, IsDone}
 use Rattle.editor_plan.specs.declared.course.Stage.TheVariants.{Sends, Done}
 
@@ -16,14 +17,15 @@ numbered_none : (next : ℕ) (texts : List (List ℕ)) → eqb (length (numbered
 numbered_none next [] is = refl
 numbered_none next (t ∷ texts) is = let no : length (numbered next (t ∷ texts)) ≡ 0 = eqb-true _ _ is in absurd (omega (arith, no))
 
-same_book : (texts : List (List ℕ)) (book : Book) → book.sent ≡ [] → texts ≡ [] → with_tickets texts book ≡ book
+same_book : (texts : List (List ℕ)) (book : Book) → book.sent ≡ [] → texts ≡ [] → with_tickets texts (with_past texts book) ≡ book
 same_book texts book idle none =
-    ap (λ ts. with_tickets ts book) none
-    ∙ ap (λ (n : ℕ). let b : Book = record book { next = n; sent = [] } in b) (add-zero book.next)
+    ap (λ ts. with_tickets ts (with_past ts book)) none
+    ∙ ap (λ (n : ℕ). let b : Book = record book { next = n; sent = []; past = book.past ++ [] } in b) (add-zero book.next)
+    ∙ ap (λ (gs : List Given). let b : Book = record book { sent = []; past = gs } in b) (append-nil book.past)
     ∙ ap (λ (gs : List Given). let b : Book = record book { sent = gs } in b) (sym idle)
 
-texts_idle : (b : Bool) (plan : List (List ℕ)) (book : Book) → is_idle book ≡ b → is_idle (cond b (with_tickets plan book) book) ≡ true
-    → (cond b (with_tickets plan book) book ≡ book) × (book.sent ≡ []) × (plan ≡ [])
+texts_idle : (b : Bool) (plan : List (List ℕ)) (book : Book) → is_idle book ≡ b → is_idle (cond b (with_tickets plan (with_past plan book)) book) ≡ true
+    → (cond b (with_tickets plan (with_past plan book)) book ≡ book) × (book.sent ≡ []) × (plan ≡ [])
 texts_idle true plan book is idle =
     let sent : book.sent ≡ [] = empty book.sent is in
     let none : plan ≡ [] = numbered_none book.next plan idle in

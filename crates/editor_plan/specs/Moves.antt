@@ -2,7 +2,7 @@
 -- interruption leaves the ledger that was saved last.
 use Rattle.std.specs.Prelude.{◌≡◌, ℕ, List, [], ◌∷◌, map}
 use Rattle.editor_ledger.specs.Books.{Book}
-use Rattle.editor_ledger.specs.Steps.{logged}
+use Rattle.editor_ledger.specs.Steps.{logged, messaged}
 use Rattle.editor_ledger.specs.declared.released.Released.{Released}
 use Rattle.editor_plan.specs.Courses.{advanced}
 use Rattle.editor_plan.specs.Flights.{after_hearing}
@@ -15,11 +15,14 @@ pub data Move : Type 0 where
   hears : Ask → ℕ → Move
   -- a release is told in the log
   notes : Released → Move
+  -- a message is said of the release of that number
+  says : ℕ → List ℕ → Move
 
 abbrev pub moved : Move → Book → Book
 moved (advances wanted) book = advanced wanted book
 moved (hears ask status) book = after_hearing ask status book
 moved (notes released) book = logged released book
+moved (says release text) book = messaged release text book
 
 abbrev pub moved_all : List Move → Book → Book
 moved_all [] book = book

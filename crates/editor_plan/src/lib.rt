@@ -3,11 +3,11 @@
 //!
 //! `standing.rt` judges a ledger by what nodes say of two tickets and show. `course.rt` plans: first the
 //! commands, then their release. `flight.rt` says what is asked of a node next, and hears its answers: the
-//! ledger moves by receipts alone. `taking.rt` says which paths of others are taken over. `delivery_clock.rt`
-//! says how long a node is stayed with and waited for, `progress.rt` what is told meanwhile. `logging.rt`
-//! finds a release that the log does not tell. `laws.rt` says what follows, for every interruption and
-//! continuation. Nothing here sends, waits or saves: `editor_group` and `editor_publish` do, and save a plan
-//! before any of it is sent.
+//! ledger moves by receipts alone. `taking.rt` says which paths of others are taken over.
+//! `delivery_clock.rt` says how long a node is stayed with and waited for, `progress.rt` what is told
+//! meanwhile. `logging.rt` finds the ticket of a release, and a release that the log does not tell.
+//! `laws.rt` says what follows, for every interruption and continuation. Nothing here sends, waits or saves:
+//! `editor_group` and `editor_publish` do, and save a plan before any of it is sent.
 #![tactic(auto)]
 
 mod course;
@@ -24,7 +24,7 @@ pub use course::{Stage, advance};
 pub use delivery_clock::{Came, DeliveryClock, LONGEST_REST, Step};
 pub use flight::{Ask, Flight, Heard};
 pub use laws::{done_is_the_folder, tickets_have_one_text};
-pub use logging::unlogged;
+pub use logging::{ticket_of, unlogged};
 pub use progress::Progress;
 pub use standing::{Standing, Witness, last_shown, last_ticket, standing_of};
 pub use taking::takes_over;

@@ -1,1 +1,2 @@
 pub mod Previews
+pub mod Scripts

@@ -1,16 +1,17 @@
 -- What a preview shows.
-use Rattle.std.specs.Prelude.{ℕ, List, Option, Some, string_bytes}
-use Rattle.command.specs.Effective.{effective}
-use Rattle.command.specs.Releases.{release_count}
+use Rattle.std.specs.Prelude.{ℕ, ◌==◌, if◌then◌else◌, List, Option, Some, None, string_bytes}
+use Rattle.std.specs.Option.{option_map}
 use Rattle.release.specs.Page.{Page, in_place, answer}
+use Rattle.editor_preview.specs.Scripts.{in_browser}
+use Rattle.editor_preview.specs.declared.shown.Shown.{Shown}
+use Rattle.editor_preview.specs.declared.shown.Shown.TheVariants.{Pages, Faults}
 use Rattle.editor_preview.specs.declared.previewed.Previewed.{Previewed}
-use Rattle.editor_preview.specs.declared.previewed.Previewed.TheVariants.{Pages, Faults}
 
-abbrev pub newest_in : Previewed → ℕ
-newest_in (Pages releases) = release_count (effective releases)
-newest_in (Faults text) = 1
+-- the page of the folder's release, or at each path what is wrong
+abbrev pub shown_at : Shown → List ℕ → Option Page
+shown_at (Pages releases) path = answer releases 1 path
+shown_at (Faults text) path = Some (in_place 500 (string_bytes text))
 
--- the release's page, or at each path what is wrong
+-- the folder as it was read is all there is, under its number
 abbrev pub page_in : Previewed → ℕ → List ℕ → Option Page
-page_in (Pages releases) n path = answer releases n path
-page_in (Faults text) n path = Some (in_place 500 (string_bytes text))
+page_in previewed n path = if n == previewed.number then option_map (in_browser n path) (shown_at previewed.shown path) else None

@@ -1,110 +1,26 @@
-//! A folder as it is on disk, served to a browser.
-//!
-//! Faults of the folder have status 500.
-
+//! A folder as it is on disk, served to browsers.
 use crate::previewed::Previewed;
-use editor_common::{EditorFault, say};
-use editor_files::read_clean;
-use editor_folder::release_of;
-use http_read::{Counted, Inbox};
-use http_serve::{ServeFault, exchange};
+use crate::source::Source;
+use crate::visitors::Visitors;
+use editor_common::{EditorFault, now, passed, rest, say};
 use std::alloc::Global;
 use std::io::{self, Write};
-use std::net::{Net, Shutdown, SocketAddr, TcpListener, TcpStream};
-use std::rt::Files;
-use std::time::Duration;
+use std::net::{Net, SocketAddr, TcpListener, TcpStream};
+use std::rt::{Clock, Files};
 
-/// A connection has one exchange: the next one finds the folder as it is then.
-const LAST: u32 = 99;
+/// How many milliseconds pass before the folder is looked at again, where nobody asks for a page: so long a fault is not told.
+const LOOK: u64 = 300;
 
-/// How many milliseconds a call of a connection may wait: a browser opens some that it does not use.
-const WAITING: u64 = 300;
-
-/// A folder that is previewed, and whether files that are no part of a site are passed over in it.
-#[derive(Clone, Copy)]
-struct Source<'a> {
-    folder: &'a str,
-    ignore: bool,
-}
-
-/// The release of a folder, or nothing where it has a fault: each is told.
-fn read_release<R: Files + AllocGlobal + Clone + Drop>(
-    rt: &R,
-    told: &mut Vec<u8>,
-    source: Source<'_>,
-) -> Result<Option<Previewed>, EditorFault> {
-    match read_clean(rt, told, source.folder, source.ignore)? {
-        Some(clean) => Ok(Some(Previewed::Pages(release_of(rt.alloc(), &clean.folder)?))),
-        None => Ok(None),
-    }
-}
-
-/// The folder as it is now.
-fn read_preview<R: Files + AllocGlobal + Clone + Drop>(
-    rt: &R,
-    source: Source<'_>,
-) -> Result<Previewed, EditorFault> {
-    let alloc = rt.alloc();
-    let mut told: Vec<u8> = Vec::new(alloc);
-    match read_release(rt, &mut told, source) {
-        Ok(Some(shown)) => Ok(shown),
-        Ok(None) => Ok(Previewed::Faults(String::from_utf8_lossy(alloc, &told)?)),
-        Err(EditorFault::OutOfMemory) => Err(EditorFault::OutOfMemory),
-        Err(fault) => Ok(Previewed::Faults(format!(in alloc; "{fault}\n")?)),
-    }
-}
-
-/// Answers the request of a connection. That the connection fails is passed over.
-fn answer_by(
-    alloc: Global,
-    stream: &TcpStream,
-    preview: &mut Previewed,
-) -> Result<(), EditorFault> {
-    let mut inbox = Inbox::new(alloc);
-    let (mut reader, mut writer) = (Counted::new(stream), Counted::new(stream));
-    match exchange(alloc, &mut reader, &mut writer, &mut inbox, preview, LAST) {
-        Err(ServeFault::OutOfMemory) => Err(EditorFault::OutOfMemory),
-        _ => Ok(()),
-    }
-}
-
-/// The same by what was read, which is let go of once.
-fn answer_from(
-    alloc: Global,
-    stream: &TcpStream,
-    mut preview: Previewed,
-) -> Result<(), EditorFault> {
-    answer_by(alloc, stream, &mut preview)
-}
-
-fn set_waiting(stream: &TcpStream) -> io::Result<()> {
-    let wait = Some(Duration::from_millis(WAITING));
-    stream.set_read_timeout(wait)?;
-    stream.set_write_timeout(wait)
-}
-
-/// Answers the request of a connection from the folder as it is now.
-fn answer<R: Files + AllocGlobal + Clone + Drop>(
-    rt: &R,
-    stream: &TcpStream,
-    source: Source<'_>,
-) -> Result<(), EditorFault> {
-    if set_waiting(stream).is_err() {
-        return Ok(());
-    }
-    answer_from(rt.alloc(), stream, read_preview(rt, source)?)?;
-    let _ = stream.shutdown(Shutdown::Write);
-    Ok(())
-}
+/// How many milliseconds it rests where nothing came and nothing went.
+const REST: u64 = 10;
 
 fn bind<N: Net<Listener = TcpListener, Stream = TcpStream>>(
     net: &N,
-    http: &str,
+    address: SocketAddr,
 ) -> io::Result<TcpListener> {
-    match http.parse::<SocketAddr>() {
-        Ok(address) => TcpListener::bind(net, address),
-        Err(_) => Err(io::Error::from(io::ErrorKind::InvalidInput)),
-    }
+    let listener = TcpListener::bind(net, address)?;
+    listener.set_nonblocking(true)?;
+    Ok(listener)
 }
 
 fn listen<N: Net<Listener = TcpListener, Stream = TcpStream>>(
@@ -112,7 +28,12 @@ fn listen<N: Net<Listener = TcpListener, Stream = TcpStream>>(
     alloc: Global,
     http: &str,
 ) -> Result<TcpListener, EditorFault> {
-    match bind(net, http) {
+    let Ok(address) = http.parse::<SocketAddr>() else {
+        return Err(EditorFault::Stop(format!(in alloc;
+            "{http}: an IP address and a port are wanted, as 127.0.0.1:8000"
+        )?));
+    };
+    match bind(net, address) {
         Ok(listener) => Ok(listener),
         Err(fault) => Err(EditorFault::Stop(format!(in alloc; "{http}: {fault}")?)),
     }
@@ -131,19 +52,52 @@ fn tell<W: Write>(
     say(out, line.as_str())
 }
 
-/// Serves a folder at an address, as it is on disk at each request; where it has a fault, what is wrong in place of each page. It goes on until it is
-/// ended.
-pub fn preview<
-    R: Files + Net<Listener = TcpListener, Stream = TcpStream> + AllocGlobal + Clone + Drop,
-    W: Write,
->(rt: &R, out: &mut W, folder: &str, http: &str, ignore: bool) -> Result<u8, EditorFault> {
-    let listener = listen(rt, rt.alloc(), http)?;
-    tell(rt.alloc(), out, &listener, folder)?;
-    let source = Source { folder, ignore };
-    for stream in listener.incoming() {
-        if let Ok(stream) = stream {
-            answer(rt, &stream, source)?;
+/// Answers whoever asks, each by the folder as it is then.
+fn serve<R: Files + Net<Stream = TcpStream> + Clock + AllocGlobal + Clone + Drop, E: Write>(
+    rt: &R,
+    err: &mut E,
+    source: &mut Source<'_>,
+    listener: &TcpListener,
+    previewed: &mut Previewed,
+) -> Result<(), EditorFault> {
+    let since = now(rt)?;
+    let mut visitors = Visitors::new(rt.alloc());
+    let mut looked = 0;
+    for _ in 0..u64::MAX {
+        let time = passed(rt, since)?;
+        visitors.let_in(listener, time)?;
+        let came = visitors.read_each(time)?;
+        if came || time.saturating_sub(looked) >= LOOK {
+            source.show(rt, err, previewed)?;
+            looked = time;
+        }
+        let went = visitors.answer_each(previewed, time)?;
+        visitors.part(time);
+        if !came && !went {
+            rest(rt, REST);
         }
     }
+    Ok(())
+}
+
+/// Serves a folder at an address, as it is on disk at each request; where it has a fault, what is wrong in place of each page. What is wrong is told
+/// whenever it is something else. It goes on until it is ended.
+pub fn preview<
+    R: Files + Net<Listener = TcpListener, Stream = TcpStream> + Clock + AllocGlobal + Clone + Drop,
+    W: Write,
+    E: Write,
+>(
+    rt: &R,
+    out: &mut W,
+    err: &mut E,
+    folder: &str,
+    http: &str,
+    ignore: bool,
+) -> Result<u8, EditorFault> {
+    let mut source = Source::new(rt.alloc(), folder, ignore);
+    let mut previewed = source.open(rt, err)?;
+    let listener = listen(rt, rt.alloc(), http)?;
+    tell(rt.alloc(), out, &listener, folder)?;
+    serve(rt, err, &mut source, &listener, &mut previewed)?;
     Ok(0)
 }

@@ -129,7 +129,7 @@ fn tell_more<E: Write>(
     )
 }
 
-/// Tells each page that was not answered as it is wanted. Whether there is one is the answer.
+/// Tells each page that was not answered as it is wanted. Their paths are the answer.
 fn tell_all<E: Write>(
     alloc: Global,
     err: &mut E,
@@ -137,19 +137,19 @@ fn tell_all<E: Write>(
     release: u64,
     changes: &[Change],
     answers: &[NodeAnswer],
-) -> Result<bool, EditorFault> {
-    let mut differing = 0usize;
+) -> Result<Vec<String>, EditorFault> {
+    let mut differing = Vec::new(alloc);
     for (i, change) in changes.iter().enumerate() {
         if !is_shown(answers.get(i), &change.view) {
-            if differing < TOLD {
-                let path = change.view.path.as_str();
-                tell_difference(alloc, err, url, release, path, i < answers.len())?;
+            let path = &change.view.path;
+            if differing.len() < TOLD {
+                tell_difference(alloc, err, url, release, path.as_str(), i < answers.len())?;
             }
-            differing = differing.saturating_add(1);
+            differing.push(path.clone()?)?;
         }
     }
-    tell_more(alloc, err, url, release, differing)?;
-    Ok(differing > 0)
+    tell_more(alloc, err, url, release, differing.len())?;
+    Ok(differing)
 }
 
 /// The answers of a node for the pages of a release that change.
@@ -167,7 +167,7 @@ fn pages_at<N: Net<Stream = TcpStream>>(
     ask(net, alloc, node, &questions)
 }
 
-/// Tells each page of a release that is not as the folder renders it. Whether there is one is the answer.
+/// Tells each page of a release that is not as the folder renders it. Their paths are the answer.
 pub(crate) fn tell_differences<N: Net<Stream = TcpStream>, E: Write>(
     net: &N,
     alloc: Global,
@@ -175,7 +175,7 @@ pub(crate) fn tell_differences<N: Net<Stream = TcpStream>, E: Write>(
     node: &Address,
     release: u64,
     changes: &[Change],
-) -> Result<bool, EditorFault> {
+) -> Result<Vec<String>, EditorFault> {
     let answers = pages_at(net, alloc, node, release, changes)?;
     tell_all(alloc, err, node.url.as_str(), release, changes, &answers)
 }

@@ -1,14 +1,24 @@
 //! What would be published.
 use crate::comparing::{Change, changes_since};
-use editor_common::{EditorFault, say, say_made};
+use editor_common::{EditorFault, Outcome, say, say_made};
 use editor_ledger::{Ledger, Sent};
 use editor_plan::{Stage, advance};
+use serde_json::{Value, json};
 use std::alloc::{AllocError, Global};
 use std::io::Write;
 
 /// The first line of a command.
 fn head_of(text: &str) -> &str {
     text.lines().next().unwrap_or("")
+}
+
+/// The first lines of commands, for programs.
+fn heads_value(alloc: Global, sent: &[Sent]) -> Result<Value, AllocError> {
+    let mut heads = Vec::new(alloc);
+    for sent in sent {
+        heads.push(Value::try_from_str(alloc, head_of(sent.text.as_str()))?)?;
+    }
+    Ok(Value::Array(heads))
 }
 
 /// Takes what is on its way as received.
@@ -31,23 +41,41 @@ fn tell_sent<W: Write>(alloc: Global, out: &mut W, sent: &[Sent]) -> Result<(), 
     Ok(())
 }
 
-fn tell_page<W: Write>(alloc: Global, out: &mut W, change: &Change) -> Result<(), EditorFault> {
-    let path = change.view.path.as_str();
-    let what = match (change.before, change.view.status) {
+/// What becomes of a page.
+fn change_name(change: &Change) -> &'static str {
+    match (change.before, change.view.status) {
         (404, _) => "is new",
         (_, 404) => "goes",
         _ => "changes",
-    };
+    }
+}
+
+fn tell_page<W: Write>(alloc: Global, out: &mut W, change: &Change) -> Result<(), EditorFault> {
+    let (path, what) = (change.view.path.as_str(), change_name(change));
     say_made(out, format!(in alloc; "page {path} {what}"))
+}
+
+/// The pages that change, for programs.
+fn pages_value(alloc: Global, changes: &[Change]) -> Result<Value, AllocError> {
+    let mut pages = Vec::new(alloc);
+    for change in changes {
+        let path = change.view.path.as_str();
+        let page = json!(in alloc; {"path": path, "page": change_name(change)})?;
+        pages.push(page)?;
+    }
+    Ok(Value::Array(pages))
 }
 
 /// Tells what is planned, and which pages change by it.
 fn tell_planned<W: Write>(
     alloc: Global,
     out: &mut W,
+    outcome: &mut Outcome,
     sent: &[Sent],
     changes: &[Change],
 ) -> Result<(), EditorFault> {
+    outcome.put(alloc, "commands", heads_value(alloc, sent)?)?;
+    outcome.put(alloc, "changes", pages_value(alloc, changes)?)?;
     for sent in sent {
         say(out, head_of(sent.text.as_str()))?;
     }
@@ -57,28 +85,39 @@ fn tell_planned<W: Write>(
     Ok(())
 }
 
-/// Tells what would be put and removed of a ledger with nothing on its way, and which pages change.
+/// Tells what would be put and removed of a ledger with nothing on its way, and which pages change. Whether
+/// anything would be is the answer.
 fn tell_next<W: Write>(
     alloc: Global,
     out: &mut W,
+    outcome: &mut Outcome,
     ledger: &mut Ledger,
     wanted: &[&str],
-) -> Result<(), EditorFault> {
+) -> Result<bool, EditorFault> {
     let changes = changes_since(alloc, ledger, wanted)?;
-    match advance(alloc, ledger, wanted)? {
-        Stage::Done => say(out, "nothing would change"),
-        Stage::Sends => tell_planned(alloc, out, ledger.sent(), &changes),
+    let stage = advance(alloc, ledger, wanted)?;
+    match stage {
+        Stage::Done => {
+            tell_planned(alloc, out, outcome, &[], &[])?;
+            say(out, "nothing would change")?;
+        }
+        Stage::Sends => tell_planned(alloc, out, outcome, ledger.sent(), &changes)?,
     }
+    Ok(stage == Stage::Sends)
 }
 
-/// Tells what would be put and removed, and which pages change. Nothing is asked, sent or saved.
+/// Tells what would be put and removed, and which pages change. Nothing is asked, sent or saved. Whether
+/// anything would be sent is the answer.
 pub(crate) fn tell_plan<W: Write>(
     alloc: Global,
     out: &mut W,
+    outcome: &mut Outcome,
     ledger: &mut Ledger,
     wanted: &[&str],
-) -> Result<(), EditorFault> {
+) -> Result<bool, EditorFault> {
+    let waits = !ledger.is_idle();
+    outcome.put(alloc, "on_their_way", heads_value(alloc, ledger.sent())?)?;
     tell_sent(alloc, out, ledger.sent())?;
     settle(ledger)?;
-    tell_next(alloc, out, ledger, wanted)
+    Ok(tell_next(alloc, out, outcome, ledger, wanted)? || waits)
 }

@@ -2,13 +2,16 @@
 //!
 //! `publishing.rt` reads the folder and its ledger; `publisher.rt` has the way from there: the group is asked
 //! whether the file `published` is the newest, what changed is sent and released, and `comparing.rt` looks
-//! whether the release shows it. `taking_over.rt` tells what a first publication meets, `dry_run.rt` what one
-//! would send. What is decided, `editor_plan` says; `editor_files` reads and saves, `editor_group` asks and
+//! whether the release shows it. `going_back.rt` is for a release of before. `taking_over.rt` tells what a
+//! first publication meets, `dry_run.rt` what one would send; `ending.rt` has the status. What is decided,
+//! `editor_plan` says; `editor_files` reads and saves, `editor_group` asks and
 //! sends.
 #![tactic(auto)]
 
 mod comparing;
 mod dry_run;
+mod ending;
+mod going_back;
 mod made;
 mod publisher;
 mod publishing;

@@ -1,6 +1,10 @@
 //! The release that a publication made.
+ghost use Rattle.std.specs.Prelude.{◌≡◌};
+ghost use Rattle.editor_publish.specs.Endings.{commands_of};
+
 use editor_common::{EditorFault, say_made};
 use editor_ledger::Ledger;
+use serde_json::{Value, json};
 use std::alloc::{AllocError, Global};
 use std::io::Write;
 
@@ -22,7 +26,9 @@ pub(crate) fn release_ticket(ledger: &Ledger) -> Option<u64> {
 }
 
 /// How many commands the release of a ticket shows that none showed before.
-pub(crate) fn commands_of(ledger: &Ledger, ticket: u64) -> u64 {
+pub(crate) fn commands_of(ledger: &Ledger, ticket: u64) -> u64
+    ensures { result ≡ commands_of ticket ledger.now }
+{
     ticket
         .saturating_sub(ledger.last_release())
         .saturating_sub(1)
@@ -62,4 +68,15 @@ pub(crate) fn tell_made<W: Write>(
         out,
         format!(in alloc; "release {release}{whose}, of {commands} {noun}: {url}/@{release}/"),
     )
+}
+
+/// A release that was made, as one JSON object.
+pub(crate) fn made_value(alloc: Global, url: &str, made: Made) -> Result<Value, AllocError> {
+    let Made {
+        release,
+        exact,
+        commands,
+    } = made;
+    let address = format!(in alloc; "{url}/@{release}/")?;
+    json!(in alloc; {"number": release, "exact": exact, "commands": commands, "url": &address})
 }

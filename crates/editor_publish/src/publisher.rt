@@ -1,14 +1,15 @@
 //! A publication under way.
 use crate::comparing::{Change, changes_of, changes_since, tell_differences};
 use crate::dry_run::tell_plan;
-use crate::made::{Made, commands_of, release_ticket, tell_made, unnumbered, untold};
+use crate::made::{Made, commands_of, made_value, release_ticket, tell_made, unnumbered, untold};
 use crate::publishing::Publishing;
 use crate::taking_over::{taken_over, tell_taken_over};
-use editor_common::{EditorFault, say};
+use editor_common::{EditorFault, Outcome, say, texts_value};
 use editor_files::save;
 use editor_group::{Group, confirm, deliver, newest};
-use editor_ledger::{Ledger, Released};
+use editor_ledger::{Ledger, Message, Released};
 use editor_plan::{Stage, advance, last_shown, unlogged};
+use serde_json::Value;
 use std::alloc::AllocError;
 use std::io::Write;
 use std::net::{Net, TcpStream};
@@ -16,11 +17,12 @@ use std::rt::{Clock, Files};
 use std::time::{SystemTime, UNIX_EPOCH};
 
 /// A publication under way: the group that it goes to, and the ledger that it is kept in, which is saved as
-/// it changes. Causes are told to `err`.
+/// it changes. Causes are told to `err`, and what it came to is kept in its outcome.
 #[derive(Drop)]
 pub(crate) struct Publisher<'a, R, E> {
     pub rt: &'a R,
     pub err: &'a mut E,
+    pub outcome: &'a mut Outcome,
     pub group: &'a mut Group,
     pub ledger: &'a mut Ledger,
     pub how: &'a Publishing<'a>,
@@ -77,7 +79,7 @@ impl<R: Files + Net<Stream = TcpStream> + Clock + AllocGlobal, E: Write> Publish
         Ok(newest.map(|release| release.saturating_add(1)))
     }
 
-    /// Keeps in the log that a release was made.
+    /// Keeps in the log that a release was made. It is not saved.
     fn note(&mut self, made: Made) -> Result<(), EditorFault> {
         let time = seconds(self.rt)?;
         self.ledger.note(Released {
@@ -85,13 +87,30 @@ impl<R: Files + Net<Stream = TcpStream> + Clock + AllocGlobal, E: Write> Publish
             time,
             commands: made.commands,
         })?;
-        self.save()
+        Ok(())
+    }
+
+    /// Says of a release what is to be said of this publication, if anything is. It is not saved.
+    fn say_of(&mut self, made: Made) -> Result<(), AllocError> {
+        if let Some(message) = self.how.message {
+            let text = String::from_str(self.rt.alloc(), message)?;
+            let release = made.release;
+            self.ledger.say(Message { release, text })?;
+        }
+        Ok(())
+    }
+
+    /// Keeps a release that was made in the outcome, under a name.
+    fn keep_made(&mut self, name: &str, made: Made) -> Result<(), EditorFault> {
+        let alloc = self.rt.alloc();
+        let value = made_value(alloc, self.group.node()?.url.as_str(), made)?;
+        Ok(self.outcome.put(alloc, name, value)?)
     }
 
     /// Tells, and keeps in the log, a release that was made by a run that was not told its number.
-    fn note_unlogged<W: Write>(&mut self, out: &mut W) -> Result<(), EditorFault> {
+    fn note_unlogged<W: Write>(&mut self, out: &mut W) -> Result<Option<Made>, EditorFault> {
         let Some(commands) = unlogged(self.ledger) else {
-            return Ok(());
+            return Ok(None);
         };
         let release = self.newest()?;
         let made = Made {
@@ -100,7 +119,10 @@ impl<R: Files + Net<Stream = TcpStream> + Clock + AllocGlobal, E: Write> Publish
             commands,
         };
         self.note(made)?;
-        tell_made(self.rt.alloc(), out, self.group.node()?.url.as_str(), made)
+        self.save()?;
+        self.keep_made("found", made)?;
+        tell_made(self.rt.alloc(), out, self.group.node()?.url.as_str(), made)?;
+        Ok(Some(made))
     }
 
     /// Sends the release that is on its way, which was planned now or by a run that was interrupted, and
@@ -116,6 +138,8 @@ impl<R: Files + Net<Stream = TcpStream> + Clock + AllocGlobal, E: Write> Publish
             commands,
         };
         self.note(made)?;
+        self.say_of(made)?;
+        self.save()?;
         Ok(made)
     }
 
@@ -158,8 +182,13 @@ impl<R: Files + Net<Stream = TcpStream> + Clock + AllocGlobal, E: Write> Publish
 
     /// Tells where a release does not show what changed. Whether it does not is the answer.
     fn differs(&mut self, release: u64, changes: &[Change]) -> Result<bool, EditorFault> {
+        let alloc = self.rt.alloc();
         let node = self.group.node()?;
-        tell_differences(self.rt, self.rt.alloc(), self.err, node, release, changes)
+        let paths = tell_differences(self.rt, alloc, self.err, node, release, changes)?;
+        let differs = !paths.is_empty();
+        self.outcome
+            .put(alloc, "not_shown", texts_value(alloc, &paths)?)?;
+        Ok(differs)
     }
 
     /// Tells that nothing has changed, once the group's newest release was seen to show the folder.
@@ -176,20 +205,39 @@ impl<R: Files + Net<Stream = TcpStream> + Clock + AllocGlobal, E: Write> Publish
         Ok(differs)
     }
 
+    /// Nothing was to be sent: what is to be said of this publication is said of the release that an earlier
+    /// run made and this one found, if it did.
+    fn say_of_found(&mut self, found: Option<Made>) -> Result<(), EditorFault> {
+        let alloc = self.rt.alloc();
+        self.outcome.put(alloc, "release", Value::Null)?;
+        match found {
+            Some(made) => {
+                self.say_of(made)?;
+                self.save()
+            }
+            None => Ok(()),
+        }
+    }
+
     /// Publishes texts whose ledger the group confirmed, and tells the release that was made, if one was.
     /// Whether they are not shown then is the answer.
     fn publish_texts<W: Write>(
         &mut self,
         out: &mut W,
         wanted: &[&str],
+        found: Option<Made>,
     ) -> Result<bool, EditorFault> {
         let changes = self.changes(wanted)?;
         match self.bring(wanted)? {
             Some(made) => {
+                self.keep_made("release", made)?;
                 tell_made(self.rt.alloc(), out, self.group.node()?.url.as_str(), made)?;
                 self.differs(made.release, &changes)
             }
-            None => self.tell_same(out, wanted),
+            None => {
+                self.say_of_found(found)?;
+                self.tell_same(out, wanted)
+            }
         }
     }
 
@@ -198,6 +246,8 @@ impl<R: Files + Net<Stream = TcpStream> + Clock + AllocGlobal, E: Write> Publish
         let alloc = self.rt.alloc();
         let node = self.group.node()?;
         let paths = taken_over(self.rt, alloc, node, self.ledger, wanted)?;
+        self.outcome
+            .put(alloc, "takes_over", texts_value(alloc, &paths)?)?;
         tell_taken_over(alloc, self.err, &paths)?;
         if paths.is_empty() || self.how.take_over {
             return Ok(());
@@ -213,9 +263,9 @@ impl<R: Files + Net<Stream = TcpStream> + Clock + AllocGlobal, E: Write> Publish
     ) -> Result<bool, EditorFault> {
         let (folder, patience) = (self.how.folder, self.how.patience);
         confirm(self.rt, self.err, folder, self.group, self.ledger, patience)?;
-        self.note_unlogged(out)?;
+        let found = self.note_unlogged(out)?;
         self.ask_to_take_over(wanted)?;
-        self.publish_texts(out, wanted)
+        self.publish_texts(out, wanted, found)
     }
 
     /// Tells what a publication of these texts would take over, as far as the first node says.
@@ -223,21 +273,26 @@ impl<R: Files + Net<Stream = TcpStream> + Clock + AllocGlobal, E: Write> Publish
         let alloc = self.rt.alloc();
         let node = self.group.node()?;
         match taken_over(self.rt, alloc, node, self.ledger, wanted) {
-            Ok(paths) => tell_taken_over(alloc, out, &paths),
+            Ok(paths) => {
+                self.outcome
+                    .put(alloc, "takes_over", texts_value(alloc, &paths)?)?;
+                tell_taken_over(alloc, out, &paths)
+            }
             Err(EditorFault::Stop(why)) => say(self.err, why.as_str()),
             Err(fault) => Err(fault),
         }
     }
 
     /// Tells what a publication of these texts would put, remove and take over. Nothing is sent or saved.
+    /// Whether anything would be sent is the answer.
     pub(crate) fn tell_plan<W: Write>(
         &mut self,
         out: &mut W,
         wanted: &[&str],
-    ) -> Result<(), EditorFault> {
+    ) -> Result<bool, EditorFault> {
         if !self.how.urls.is_empty() {
             self.tell_paths(out, wanted)?;
         }
-        tell_plan(self.rt.alloc(), out, self.ledger, wanted)
+        tell_plan(self.rt.alloc(), out, self.outcome, self.ledger, wanted)
     }
 }

@@ -1,9 +1,15 @@
 //! A folder becomes the next release of a group.
+use crate::ending::Ending;
+use crate::going_back::tell_disk;
 use crate::publisher::Publisher;
-use editor_common::{EditorFault, say_made};
-use editor_files::{Clean, hold, new_editor, read_clean, read_ledger, texts_of};
+use editor_common::{EditorFault, Outcome, say_made};
+use editor_files::{
+    Clean, Read, clean_of, hold, lent, list_findings, new_editor, read_folder, read_ledger,
+    release_texts, texts_of,
+};
 use editor_group::Group;
 use editor_ledger::Ledger;
+use serde_json::Value;
 use std::alloc::{AllocError, Global};
 use std::fs::File;
 use std::io::Write;
@@ -22,8 +28,14 @@ pub struct Publishing<'a> {
     pub patience: u64,
     /// Nothing is sent: what would be is told.
     pub dry_run: bool,
+    /// The status says whether a dry run found something to send.
+    pub exit_code: bool,
     /// What others have put is taken over.
     pub take_over: bool,
+    /// The release of this folder that becomes the next one; without one the folder does.
+    pub release: Option<u64>,
+    /// What is said of the release that is made.
+    pub message: Option<&'a str>,
     /// Files that are no part of a site are passed over.
     pub ignore: bool,
 }
@@ -71,23 +83,25 @@ fn publish_wanted<
     rt: &'a R,
     out: &mut W,
     err: &'a mut E,
+    outcome: &'a mut Outcome,
     group: &'a mut Group,
     how: &'a Publishing<'a>,
+    mut ledger: Ledger,
     wanted: &[&str],
-) -> Result<bool, EditorFault> {
-    let mut ledger = ledger_of(rt, how.folder, how.editor)?;
+) -> Result<Ending, EditorFault> {
     let mut publisher = Publisher {
         rt,
         err,
+        outcome,
         group,
         ledger: &mut ledger,
         how,
     };
     if how.dry_run {
-        publisher.tell_plan(out, wanted)?;
-        return Ok(false);
+        let sends = publisher.tell_plan(out, wanted)?;
+        return Ok(Ending::of_dry_run(sends, how.exit_code));
     }
-    publisher.publish(out, wanted)
+    Ok(Ending::of(publisher.publish(out, wanted)?))
 }
 
 /// Tells that a folder has no page.
@@ -107,19 +121,28 @@ fn publish_clean<
     rt: &R,
     out: &mut W,
     err: &mut E,
+    outcome: &mut Outcome,
     group: &mut Group,
     how: &Publishing<'_>,
     clean: &Clean,
-) -> Result<bool, EditorFault> {
+) -> Result<Ending, EditorFault> {
     if clean.pages.is_empty() {
         tell_no_page(rt.alloc(), err, how.folder)?;
-        return Ok(true);
+        return Ok(Ending::Bad);
     }
     let wanted = texts_of(rt.alloc(), &clean.folder)?;
-    publish_wanted(rt, out, err, group, how, &wanted)
+    let ledger = ledger_of(rt, how.folder, how.editor)?;
+    publish_wanted(rt, out, err, outcome, group, how, ledger, &wanted)
 }
 
-/// Reads a folder, and publishes it where it has no fault: whether it had one, or is not shown then.
+/// Keeps what is wrong with a folder that was read.
+fn keep_findings(alloc: Global, outcome: &mut Outcome, read: &Read) -> Result<(), AllocError> {
+    let mut findings = Vec::new(alloc);
+    list_findings(alloc, &mut findings, &read.findings)?;
+    outcome.put(alloc, "findings", Value::Array(findings))
+}
+
+/// Reads a folder, and publishes it where it has no fault.
 fn publish_folder<
     R: Files + Net<Stream = TcpStream> + Clock + RandomSource + AllocGlobal + Clone + Drop,
     W: Write,
@@ -128,12 +151,70 @@ fn publish_folder<
     rt: &R,
     out: &mut W,
     err: &mut E,
+    outcome: &mut Outcome,
     group: &mut Group,
     how: &Publishing<'_>,
-) -> Result<bool, EditorFault> {
-    match read_clean(rt, err, how.folder, how.ignore)? {
-        Some(clean) => publish_clean(rt, out, err, group, how, &clean),
-        None => Ok(true),
+) -> Result<Ending, EditorFault> {
+    let read = read_folder(rt, how.folder, how.ignore)?;
+    keep_findings(rt.alloc(), outcome, &read)?;
+    match clean_of(rt.alloc(), err, how.folder, read)? {
+        Some(clean) => publish_clean(rt, out, err, outcome, group, how, &clean),
+        None => Ok(Ending::Bad),
+    }
+}
+
+/// The ledger of a folder that has published.
+fn ledger_there<R: Files + RandomSource + AllocGlobal>(
+    rt: &R,
+    how: &Publishing<'_>,
+) -> Result<Ledger, EditorFault> {
+    let ledger = ledger_of(rt, how.folder, how.editor)?;
+    if ledger.next() == 1 {
+        let folder = how.folder;
+        return Err(EditorFault::Stop(format!(in rt.alloc();
+            "{folder}: nothing was published from here"
+        )?));
+    }
+    Ok(ledger)
+}
+
+/// Publishes a release of a folder's history once more. The folder's files stay as they are.
+fn publish_release<
+    R: Files + Net<Stream = TcpStream> + Clock + RandomSource + AllocGlobal + Clone + Drop,
+    W: Write,
+    E: Write,
+>(
+    rt: &R,
+    out: &mut W,
+    err: &mut E,
+    outcome: &mut Outcome,
+    group: &mut Group,
+    how: &Publishing<'_>,
+    release: u64,
+) -> Result<Ending, EditorFault> {
+    let ledger = ledger_there(rt, how)?;
+    let texts = release_texts(rt.alloc(), how.folder, &ledger, release)?;
+    let wanted = lent(rt.alloc(), &texts)?;
+    tell_disk(rt, err, outcome, how, release, &wanted)?;
+    publish_wanted(rt, out, err, outcome, group, how, ledger, &wanted)
+}
+
+/// Publishes what is to become the next release.
+fn publish_next<
+    R: Files + Net<Stream = TcpStream> + Clock + RandomSource + AllocGlobal + Clone + Drop,
+    W: Write,
+    E: Write,
+>(
+    rt: &R,
+    out: &mut W,
+    err: &mut E,
+    outcome: &mut Outcome,
+    group: &mut Group,
+    how: &Publishing<'_>,
+) -> Result<Ending, EditorFault> {
+    match how.release {
+        Some(release) => publish_release(rt, out, err, outcome, group, how, release),
+        None => publish_folder(rt, out, err, outcome, group, how),
     }
 }
 
@@ -148,7 +229,8 @@ fn held<R: Files<File = File> + AllocGlobal>(
     Ok(Some(hold(rt, how.folder)?))
 }
 
-/// Publishes a folder. Status 1 where it has a fault, or is not shown then.
+/// Publishes a folder, and gives the exit status: 1 where it has a fault, or is not shown then. What it came
+/// to is kept in the outcome.
 pub fn publish<
     R: Files<File = File>
         + Net<Stream = TcpStream>
@@ -159,13 +241,20 @@ pub fn publish<
         + Drop,
     W: Write,
     E: Write,
->(rt: &R, out: &mut W, err: &mut E, how: Publishing<'_>) -> Result<u8, EditorFault> {
+>(
+    rt: &R,
+    out: &mut W,
+    err: &mut E,
+    outcome: &mut Outcome,
+    how: Publishing<'_>,
+) -> Result<u8, EditorFault> {
+    outcome.put(rt.alloc(), "dry_run", Value::from(how.dry_run))?;
     if how.urls.is_empty() && !how.dry_run {
         return Err(EditorFault::NoNodes);
     }
     let mut group = Group::of(rt.alloc(), how.urls)?;
     let held = held(rt, &how)?;
-    let bad = publish_folder(rt, out, err, &mut group, &how)?;
+    let ending = publish_next(rt, out, err, outcome, &mut group, &how)?;
     drop(held);
-    Ok(if bad { 1 } else { 0 })
+    Ok(ending.status())
 }

@@ -1,8 +1,9 @@
 //! What is wrong with a folder.
-use editor_common::{EditorFault, say_made};
-use editor_files::{Read, read_folder, tell_findings};
-use editor_folder::unused_of;
-use std::alloc::Global;
+use editor_common::{EditorFault, Outcome, say_made};
+use editor_files::{Read, list_findings, read_folder, tell_findings};
+use editor_folder::{Finding, unused_of};
+use serde_json::Value;
+use std::alloc::{AllocError, Global};
 use std::io::Write;
 use std::rt::Files;
 
@@ -62,18 +63,29 @@ fn tell_no_page<E: Write>(alloc: Global, err: &mut E, folder: &str) -> Result<()
     )
 }
 
-/// Writes what no page of a folder comes to.
-fn tell_unused<E: Write>(
-    alloc: Global,
-    err: &mut E,
-    how: Checking<'_>,
-    read: &Read,
-) -> Result<(), EditorFault> {
-    if !how.unused {
-        return Ok(());
+/// What no page of a folder comes to, where that is asked of one without a fault.
+fn unused_in(alloc: Global, how: Checking<'_>, read: &Read) -> Result<Vec<Finding>, AllocError> {
+    if how.unused && !read.has_fault() {
+        unused_of(alloc, &read.folder)
+    } else {
+        Ok(Vec::new(alloc))
     }
-    let findings = unused_of(alloc, &read.folder)?;
-    tell_findings(alloc, err, how.folder, &findings)
+}
+
+/// Keeps what was found.
+fn keep(
+    alloc: Global,
+    outcome: &mut Outcome,
+    read: &Read,
+    unused: &[Finding],
+) -> Result<(), AllocError> {
+    let mut findings = Vec::new(alloc);
+    list_findings(alloc, &mut findings, &read.findings)?;
+    list_findings(alloc, &mut findings, unused)?;
+    outcome.put(alloc, "findings", Value::Array(findings))?;
+    outcome.put(alloc, "commands", Value::from(read.folder.commands.len()))?;
+    outcome.put(alloc, "pages", Value::from(read.pages.len()))?;
+    outcome.put(alloc, "passed_over", Value::from(read.passed_over))
 }
 
 /// Writes all that is wrong with a folder that was read, or that nothing is, and gives the exit status.
@@ -83,13 +95,14 @@ fn tell<W: Write, E: Write>(
     err: &mut E,
     how: Checking<'_>,
     read: &Read,
+    unused: &[Finding],
 ) -> Result<u8, EditorFault> {
     tell_passed_over(alloc, err, how.folder, read.passed_over)?;
     tell_findings(alloc, err, how.folder, &read.findings)?;
     if read.has_fault() {
         return Ok(1);
     }
-    tell_unused(alloc, err, how, read)?;
+    tell_findings(alloc, err, how.folder, unused)?;
     tell_clean(alloc, out, how.folder, read)?;
     if read.pages.is_empty() {
         tell_no_page(alloc, err, how.folder)?;
@@ -98,13 +111,17 @@ fn tell<W: Write, E: Write>(
     Ok(0)
 }
 
-/// Writes each fault of a folder, or that it has none, and gives the exit status: 1 too for a folder without a page.
+/// Writes each fault of a folder, or that it has none, and gives the exit status: 1 too for a folder without
+/// a page. What was found is kept in the outcome.
 pub fn check<R: Files + AllocGlobal + Clone + Drop, W: Write, E: Write>(
     rt: &R,
     out: &mut W,
     err: &mut E,
+    outcome: &mut Outcome,
     how: Checking<'_>,
 ) -> Result<u8, EditorFault> {
     let read = read_folder(rt, how.folder, how.ignore)?;
-    tell(rt.alloc(), out, err, how, &read)
+    let unused = unused_in(rt.alloc(), how, &read)?;
+    keep(rt.alloc(), outcome, &read, &unused)?;
+    tell(rt.alloc(), out, err, how, &read, &unused)
 }

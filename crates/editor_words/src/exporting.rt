@@ -1,8 +1,9 @@
 //! A static copy of a folder's pages, and a small site to start from.
 use editor_common::{EditorFault, say};
-use editor_files::{below, is_free, read_clean, write_file};
-use editor_folder::{BEGINNING, Copies, NoCopy, Page};
+use editor_files::{Clean, below, is_free, read_clean, write_file};
+use editor_folder::{BEGINNING, Copies, NoCopy, Page, Redirect};
 use std::alloc::{AllocError, Global};
+use std::collections::BTreeSet;
 use std::io::Write;
 use std::rt::Files;
 
@@ -40,7 +41,8 @@ fn file_of<E: Write>(
     }
 }
 
-/// Adds the files of pages, each below the copy's folder. Whether a page has none is the answer; each is told.
+/// Adds the files of pages, each below the copy's folder. Whether a page has none is the answer; each is
+/// told.
 fn add_files<E: Write>(
     alloc: Global,
     err: &mut E,
@@ -59,7 +61,32 @@ fn add_files<E: Write>(
     Ok(bad)
 }
 
-fn write_at<R: Files + AllocGlobal>(
+/// The file of a page at a path, if no other page had one.
+fn lone_file(alloc: Global, path: &str) -> Result<Option<String>, AllocError> {
+    Ok(Copies::new(alloc).take(path)?.ok())
+}
+
+/// The lines of redirects whose file would be that of the page that they lead to, as `/a/index.html` to `/a`.
+fn needless(alloc: Global, redirects: &[Redirect]) -> Result<BTreeSet<usize>, AllocError> {
+    let mut lines = BTreeSet::new(alloc);
+    for redirect in redirects {
+        let file = lone_file(alloc, redirect.path.as_str())?;
+        if file.is_some() && file == lone_file(alloc, redirect.target.as_str())? {
+            let _ = lines.insert(redirect.line)?;
+        }
+    }
+    Ok(lines)
+}
+
+/// The pages of a folder that a copy has: a redirect that leads to its own file needs none.
+fn pages_to_copy(alloc: Global, clean: Clean) -> Result<Vec<Page>, AllocError> {
+    let Clean { folder, mut pages } = clean;
+    let needless = needless(alloc, &folder.redirects)?;
+    pages.retain(|page| page.file != "redirects" || !needless.contains(&page.line));
+    Ok(pages)
+}
+
+pub(crate) fn write_at<R: Files + AllocGlobal>(
     rt: &R,
     to: &str,
     file: &str,
@@ -104,7 +131,7 @@ fn tell_full<E: Write>(alloc: Global, err: &mut E, folder: &str) -> Result<(), E
 }
 
 /// Whether files can be written into a folder, as it is absent or empty. That it isn't is told.
-fn takes_files<R: Files + AllocGlobal + Clone + Drop, E: Write>(
+pub fn takes_files<R: Files + AllocGlobal + Clone + Drop, E: Write>(
     rt: &R,
     err: &mut E,
     folder: &str,
@@ -128,7 +155,7 @@ pub fn export<R: Files + AllocGlobal + Clone + Drop, E: Write>(
         return Ok(1);
     }
     match read_clean(rt, err, folder, ignore)? {
-        Some(clean) => write_pages(rt, err, folder, to, &clean.pages),
+        Some(clean) => write_pages(rt, err, folder, to, &pages_to_copy(rt.alloc(), clean)?),
         None => Ok(1),
     }
 }

@@ -1,28 +1,86 @@
 //! The releases of a folder.
-use editor_common::{EditorFault, say};
+use editor_common::{EditorFault, Outcome, say};
 use editor_files::read_ledger;
 use editor_ledger::{Ledger, Released};
 use jiff::Timestamp;
-use std::alloc::Global;
+use serde_json::{Value, json};
+use std::alloc::{AllocError, Global};
+use std::collections::BTreeMap;
 use std::io::Write;
 use std::rt::Files;
 
-/// Writes a release: its number, when it was seen first, and how many commands it shows that none showed before.
-fn tell<W: Write>(alloc: Global, out: &mut W, released: &Released) -> Result<(), EditorFault> {
-    let (release, commands) = (released.release, released.commands);
-    let time = i64::try_from(released.time).unwrap_or(i64::MAX);
-    let line = match Timestamp::from_second(time) {
-        Ok(time) => format!(in alloc; "release {release}  {time}  commands: {commands}")?,
-        Err(_) => format!(in alloc; "release {release}  {time}  commands: {commands}")?,
-    };
-    say(out, line.as_str())
+/// What was said of releases, by their numbers: of each what was said last.
+fn messages_of(alloc: Global, ledger: &Ledger) -> Result<BTreeMap<u64, &str>, AllocError> {
+    let mut messages = BTreeMap::new(alloc);
+    for message in ledger.messages() {
+        let _ = messages.insert(message.release, message.text.as_str())?;
+    }
+    Ok(messages)
 }
 
-fn tell_all<W: Write>(alloc: Global, out: &mut W, ledger: &Ledger) -> Result<(), EditorFault> {
-    for released in ledger.log() {
-        tell(alloc, out, released)?;
+/// When a release was seen first, as it is written; in seconds where that is no time.
+fn time_of(alloc: Global, released: &Released) -> Result<String, AllocError> {
+    let seconds = i64::try_from(released.time).unwrap_or(i64::MAX);
+    match Timestamp::from_second(seconds) {
+        Ok(time) => format!(in alloc; "{time}"),
+        Err(_) => format!(in alloc; "{seconds}"),
+    }
+}
+
+/// Writes a release: its number, when it was seen first, and how many commands it shows that none showed
+/// before; and the lines that were said of it, each behind four blanks.
+fn tell<W: Write>(
+    alloc: Global,
+    out: &mut W,
+    released: &Released,
+    time: &str,
+    message: Option<&str>,
+) -> Result<(), EditorFault> {
+    let (release, commands) = (released.release, released.commands);
+    let line = format!(in alloc; "release {release}  {time}  commands: {commands}")?;
+    say(out, line.as_str())?;
+    for line in message.unwrap_or("").lines() {
+        let line = format!(in alloc; "    {line}")?;
+        say(out, line.as_str())?;
     }
     Ok(())
+}
+
+/// A release as one JSON object.
+fn release_value(
+    alloc: Global,
+    released: &Released,
+    time: &str,
+    message: Option<&str>,
+) -> Result<Value, AllocError> {
+    let said = match message {
+        Some(message) => Value::try_from_str(alloc, message)?,
+        None => Value::Null,
+    };
+    json!(in alloc; {
+        "release": released.release,
+        "time": time,
+        "seconds": released.time,
+        "commands": released.commands,
+        "message": said
+    })
+}
+
+fn tell_all<W: Write>(
+    alloc: Global,
+    out: &mut W,
+    outcome: &mut Outcome,
+    ledger: &Ledger,
+) -> Result<(), EditorFault> {
+    let messages = messages_of(alloc, ledger)?;
+    let mut releases = Vec::new(alloc);
+    for released in ledger.log() {
+        let time = time_of(alloc, released)?;
+        let message = messages.get(&released.release).copied();
+        tell(alloc, out, released, time.as_str(), message)?;
+        releases.push(release_value(alloc, released, time.as_str(), message)?)?;
+    }
+    Ok(outcome.put(alloc, "releases", Value::Array(releases))?)
 }
 
 fn tell_none<E: Write>(alloc: Global, err: &mut E, folder: &str) -> Result<(), EditorFault> {
@@ -30,20 +88,24 @@ fn tell_none<E: Write>(alloc: Global, err: &mut E, folder: &str) -> Result<(), E
     say(err, line.as_str())
 }
 
-/// Writes the releases that were made of a folder, the oldest first, and gives the exit status.
+/// Writes the releases that were made of a folder, the oldest first, and gives the exit status. The releases
+/// are kept in the outcome, none where nothing was published.
 pub fn tell_log<R: Files + AllocGlobal, W: Write, E: Write>(
     rt: &R,
     out: &mut W,
     err: &mut E,
+    outcome: &mut Outcome,
     folder: &str,
 ) -> Result<u8, EditorFault> {
+    let alloc = rt.alloc();
     match read_ledger(rt, folder)? {
         Some(ledger) => {
-            tell_all(rt.alloc(), out, &ledger)?;
+            tell_all(alloc, out, outcome, &ledger)?;
             Ok(0)
         }
         None => {
-            tell_none(rt.alloc(), err, folder)?;
+            outcome.put(alloc, "releases", Value::Array(Vec::new(alloc)))?;
+            tell_none(alloc, err, folder)?;
             Ok(1)
         }
     }

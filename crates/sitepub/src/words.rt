@@ -1,13 +1,15 @@
 //! What the words do.
 use clap::error::ErrorKind;
-use editor_common::EditorFault;
-use editor_files::read_ledger;
-use editor_group::tell_status;
-use editor_options::{Word, word_in};
-use editor_plan::last_shown;
+use editor_common::{EditorFault, Outcome, say_made};
+use editor_files::{lent, read_ledger};
+use editor_group::{Published, tell_status, with_logins};
+use editor_import::import;
+use editor_options::{Manner, Word, word_in};
 use editor_preview::preview;
 use editor_publish::{Publishing, publish};
-use editor_words::{Checking, begin, check, export, frame, tell_log};
+use editor_words::{Checking, begin, check, export, frame, restore, tell_log};
+use serde_json::Value;
+use std::alloc::{AllocError, Global};
 use std::env;
 use std::fmt::Display;
 use std::fs::File;
@@ -31,21 +33,36 @@ fn tell<W: Write, L: Display>(out: &mut W, line: &L, status: u8) -> u8 {
     status
 }
 
-/// The last release of a folder, by its ledger; 0 for none.
-fn last_release_of<R: Files + AllocGlobal>(
+/// What a folder has published, by its ledger, if one is named.
+fn published_by<R: Files + AllocGlobal>(
     rt: &R,
     folder: Option<&str>,
-) -> Result<u64, EditorFault> {
+) -> Result<Published, EditorFault> {
     let Some(folder) = folder else {
-        return Ok(0);
+        return Ok(Published::nothing());
     };
     match read_ledger(rt, folder)? {
-        Some(ledger) => Ok(last_shown(&ledger)),
-        None => Ok(0),
+        Some(ledger) => Ok(Published::of(&ledger)),
+        None => Ok(Published::nothing()),
     }
 }
 
-/// Does what a word says.
+/// Tells what nodes say of themselves whose logins a file may have.
+fn status_by<R: Files + Net<Stream = TcpStream> + Clock + AllocGlobal, W: Write>(
+    rt: &R,
+    out: &mut W,
+    outcome: &mut Outcome,
+    urls: &[&str],
+    logins: Option<&str>,
+    folder: Option<&str>,
+) -> Result<u8, EditorFault> {
+    let urls = with_logins(rt, urls, logins)?;
+    let lent = lent(rt.alloc(), &urls)?;
+    let published = published_by(rt, folder)?;
+    tell_status(rt, out, outcome, &lent, published)
+}
+
+/// Does what a word says. What it came to is kept in the outcome.
 fn done<
     R: Files<File = File>
         + Net<Listener = TcpListener, Stream = TcpStream>
@@ -56,17 +73,26 @@ fn done<
         + Drop,
     W: Write,
     E: Write,
->(rt: &R, out: &mut W, err: &mut E, word: &Word<'_>) -> Result<u8, EditorFault> {
+>(
+    rt: &R,
+    out: &mut W,
+    err: &mut E,
+    outcome: &mut Outcome,
+    word: &Word<'_>,
+) -> Result<u8, EditorFault> {
     match *word {
         Word::New { folder } => begin(rt, out, err, folder),
+        Word::Import { pages, folder } => import(rt, out, err, pages, folder),
         Word::Check {
             folder,
             ignore,
             unused,
+            ..
         } => check(
             rt,
             out,
             err,
+            outcome,
             Checking {
                 folder,
                 ignore,
@@ -86,41 +112,116 @@ fn done<
         Word::Publish {
             folder,
             ref urls,
+            logins,
             editor,
             patience,
             dry_run,
+            exit_code,
             take_over,
+            release,
+            message,
             ignore,
-        } => publish(
-            rt,
-            out,
-            err,
-            Publishing {
-                folder,
-                urls,
-                editor,
-                patience,
-                dry_run,
-                take_over,
-                ignore,
-            },
-        ),
+            ..
+        } => {
+            let urls = with_logins(rt, urls, logins)?;
+            let lent = lent(rt.alloc(), &urls)?;
+            publish(
+                rt,
+                out,
+                err,
+                outcome,
+                Publishing {
+                    folder,
+                    urls: &lent,
+                    editor,
+                    patience,
+                    dry_run,
+                    exit_code,
+                    take_over,
+                    release,
+                    message,
+                    ignore,
+                },
+            )
+        }
         Word::Preview {
             folder,
             http,
             ignore,
-        } => preview(rt, out, folder, http, ignore),
-        Word::Log { folder } => tell_log(rt, out, err, folder),
-        Word::Status { folder, ref urls } => tell_status(
-            rt,
-            out,
-            urls,
-            last_release_of(rt, folder)?,
-        ),
+        } => preview(rt, out, err, folder, http, ignore),
+        Word::Restore {
+            folder,
+            release,
+            out: to,
+        } => restore(rt, err, folder, release, to),
+        Word::Log { folder, .. } => tell_log(rt, out, err, outcome, folder),
+        Word::Status {
+            folder,
+            ref urls,
+            logins,
+            ..
+        } => status_by(rt, out, outcome, urls, logins, folder),
     }
 }
 
-/// Does what a word says, and gives the exit status. That it came to no end is told.
+/// Keeps why a word came to no end.
+fn keep_fault(alloc: Global, outcome: &mut Outcome, why: &EditorFault) -> Result<(), AllocError> {
+    let why = format!(in alloc; "{why}")?;
+    outcome.put(alloc, "fault", Value::String(why))
+}
+
+/// Does what a word says, and gives the exit status. That it came to no end is told, and kept in the outcome.
+fn status_of<
+    R: Files<File = File>
+        + Net<Listener = TcpListener, Stream = TcpStream>
+        + Clock
+        + RandomSource
+        + AllocGlobal
+        + Clone
+        + Drop,
+    W: Write,
+    E: Write,
+>(rt: &R, out: &mut W, err: &mut E, outcome: &mut Outcome, word: &Word<'_>) -> u8 {
+    match done(rt, out, err, outcome, word) {
+        Ok(status) => status,
+        Err(why) => {
+            let _ = keep_fault(rt.alloc(), outcome, &why);
+            tell(err, &why, 1)
+        }
+    }
+}
+
+/// Does what a word says. What it tells on the other writer is written at its end, where the status is not 0.
+fn quiet_status_of<
+    R: Files<File = File>
+        + Net<Listener = TcpListener, Stream = TcpStream>
+        + Clock
+        + RandomSource
+        + AllocGlobal
+        + Clone
+        + Drop,
+    E: Write,
+>(rt: &R, err: &mut E, outcome: &mut Outcome, word: &Word<'_>) -> u8 {
+    let mut told: Vec<u8> = Vec::new(rt.alloc());
+    let status = status_of(rt, &mut io::sink(), &mut told, outcome, word);
+    if status != 0 {
+        let _ = err.write_all(&told);
+    }
+    status
+}
+
+/// Writes what a word came to as one JSON object, its exit status among it.
+fn write_outcome<W: Write>(
+    alloc: Global,
+    out: &mut W,
+    mut outcome: Outcome,
+    status: u8,
+) -> Result<(), EditorFault> {
+    outcome.put(alloc, "status", Value::from(status))?;
+    say_made(out, outcome.spelled(alloc))
+}
+
+/// Does what a word says in the manner that it was told, and gives the exit status.
 fn end_of<
     R: Files<File = File>
         + Net<Listener = TcpListener, Stream = TcpStream>
@@ -132,8 +233,20 @@ fn end_of<
     W: Write,
     E: Write,
 >(rt: &R, out: &mut W, err: &mut E, word: &Word<'_>) -> u8 {
-    match done(rt, out, err, word) {
-        Ok(status) => status,
+    let Manner { quiet, json } = word.manner();
+    let mut outcome = Outcome::new(rt.alloc());
+    let status = if quiet {
+        quiet_status_of(rt, err, &mut outcome, word)
+    } else if json {
+        status_of(rt, &mut io::sink(), err, &mut outcome, word)
+    } else {
+        status_of(rt, out, err, &mut outcome, word)
+    };
+    if !json {
+        return status;
+    }
+    match write_outcome(rt.alloc(), out, outcome, status) {
+        Ok(()) => status,
         Err(why) => tell(err, &why, 1),
     }
 }
@@ -188,8 +301,8 @@ fn by_words<
     }
 }
 
-/// Does what the command line says, and gives the exit status: 1 where something was refused or came to no end, 2 for a line that is none. Either is
-/// told on the other writer.
+/// Does what the command line says, and gives the exit status: 1 where something was refused or came to no
+/// end, 2 for a line that is none. Either is told on the other writer.
 pub fn sitepub<
     R: Files<File = File>
         + Env

@@ -1,5 +1,5 @@
-//! What an editor works with, as tables: folders, their faults, pages, static copies and what is not shown of them; files of
-//! ledgers and plans; what is asked of nodes, answers in pieces, paces, what is told meanwhile, standings, releases that a log
+//! What an editor works with, as tables: folders, their faults, pages, static copies and what is not shown of them; another
+//! generator's pages; files of ledgers and plans; what is asked of nodes, answers in pieces, paces, what is told meanwhile, standings, releases that a log
 //! does not tell; publications (`interruptions` of a ledger, `flights` into a group) that are cut off and go on with another
 //! folder; each growth refused.
 
@@ -9,11 +9,13 @@ mod delivery_clocks;
 mod flights;
 mod folder_faults;
 mod folders;
+mod imports;
 mod interruptions;
 mod ledger_files;
 mod ledgers;
 mod limits;
 mod old_files;
+mod pasts;
 mod places;
 mod plans;
 mod progresses;

@@ -278,6 +278,38 @@ fn what_may_not_be_meant(rt: HostRuntime) {
     is_told(&rt, rt.alloc(), &folder(&rt, rt.alloc(), WARNED), WARNINGS);
 }
 
+/// Twenty-one redirects to a page, and eleven that lead into a circle of six.
+const CHAINS: &[(&str, &[u8])] = &[
+    ("data/a.json", b"{}"),
+    (
+        "redirects",
+        b"/r1 /r2\n/r2 /r3\n/r3 /r4\n/r4 /r5\n/r5 /r6\n/r6 /r7\n/r7 /r8\n/r8 /r9\n/r9 /r10\n/r10 /r11\n/r11 /r12\n/r12 /r13\n/r13 /r14\n/r14 /r15\n/r15 /r16\n/r16 /r17\n/r17 /r18\n/r18 /r19\n/r19 /r20\n/r20 /r21\n/r21 /\n/c1 /c2\n/c2 /c3\n/c3 /c4\n/c4 /c5\n/c5 /c6\n/c6 /c7\n/c7 /c8\n/c8 /c9\n/c9 /c10\n/c10 /c11\n/c11 /c12\n/c12 /c7\n",
+    ),
+    ("routes", b"/ t a\n"),
+    ("templates/t.mustache", b""),
+];
+
+const GIVEN_UP: &str =
+    "redirects:1:1: warning: /r2 leads on and on: browsers follow 20 redirects, and then give up
+redirects:22:1: warning: /c2 leads in a circle, so browsers give up
+redirects:23:1: warning: /c3 leads in a circle, so browsers give up
+redirects:24:1: warning: /c4 leads in a circle, so browsers give up
+redirects:25:1: warning: /c5 leads in a circle, so browsers give up
+redirects:26:1: warning: /c6 leads in a circle, so browsers give up
+redirects:27:1: warning: /c7 leads in a circle, so browsers give up
+redirects:28:1: warning: /c8 leads in a circle, so browsers give up
+redirects:29:1: warning: /c9 leads in a circle, so browsers give up
+redirects:30:1: warning: /c10 leads in a circle, so browsers give up
+redirects:31:1: warning: /c11 leads in a circle, so browsers give up
+redirects:32:1: warning: /c12 leads in a circle, so browsers give up
+redirects:33:1: warning: /c7 leads in a circle, so browsers give up
+";
+
+#[test]
+fn redirects_in_a_row(rt: HostRuntime) {
+    is_told(&rt, rt.alloc(), &folder(&rt, rt.alloc(), CHAINS), GIVEN_UP);
+}
+
 /// How many bytes a template has, and how that is told.
 const LENGTHS: &[(usize, &str)] = &[
     (

@@ -1,13 +1,14 @@
 //! Files of ledgers: what is written, what is read back, and the faults of others.
 use crate::comparing::{ensure, same};
 use crate::editors::ledgers::{is_spelled, plan, plan_release, read, receive};
-use editor_ledger::{Ledger, LedgerReadFault, Released};
+use editor_ledger::{Ledger, LedgerReadFault, Message, Released};
 use std::alloc::Global;
 use std::process::Abort;
 
-/// The file of a ledger with a release, a text that the group has, and two on their way.
+/// The file of a ledger with a release of which something is said, a text that the group has, what stood before each, and two
+/// on their way.
 const FILE: &str =
-    "published 2\neditor 4294967295\nnext 5\nlast_release 2\nreleased 31 1764057600 1\nhas 16\nput template t\nx\nsent 3 13\nput data a\n1\n\nsent 4 18\nremove template t\n\n";
+    "published 2\neditor 4294967295\nnext 5\nlast_release 2\nreleased 31 1764057600 1\ntold 31 6\nspring\nhas 16\nput template t\nx\nwas 1 18\nremove template t\n\nwas 3 14\nremove data a\n\nwas 3 16\nput template t\nx\nsent 3 13\nput data a\n1\n\nsent 4 18\nremove template t\n\n";
 
 /// Other files, and what is told of each.
 const FAULTS: &[(&str, LedgerReadFault)] = &[
@@ -89,6 +90,14 @@ fn publish(rt: &impl Abort, alloc: Global, ledger: &mut Ledger) {
     plan_release(rt, alloc, ledger);
     receive(rt, ledger, 2);
     ensure(rt, ledger.note(RELEASED).is_ok(), RELEASED.release);
+    say(rt, alloc, ledger);
+}
+
+/// Says something of that release.
+fn say(rt: &impl Abort, alloc: Global, ledger: &mut Ledger) {
+    let text = String::from_str(alloc, "spring").expect(rt, "memory");
+    let message = Message { release: 31, text };
+    ensure(rt, ledger.say(message).is_ok(), 31);
 }
 
 fn is_read_back(rt: &impl Abort, alloc: Global, ledger: &Ledger) {

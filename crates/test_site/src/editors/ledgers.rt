@@ -85,13 +85,18 @@ pub fn new_file(rt: &impl Abort, alloc: Global) -> String {
     spelled(rt, alloc, &Ledger::new(alloc, 7))
 }
 
-/// The letters of what the group has.
-pub fn kept(alloc: Global, ledger: &Ledger) -> Result<String, AllocError> {
+/// The letters of commands.
+pub fn letters_of(alloc: Global, texts: &[String]) -> Result<String, AllocError> {
     let mut letters = String::new(alloc);
-    for text in ledger.kept() {
+    for text in texts {
         letters.push(letter_of(text.as_str()))?;
     }
     Ok(letters)
+}
+
+/// The letters of what the group has.
+pub fn kept(alloc: Global, ledger: &Ledger) -> Result<String, AllocError> {
+    letters_of(alloc, ledger.kept())
 }
 
 /// What is on its way: its number and its letter.

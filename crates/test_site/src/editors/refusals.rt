@@ -8,7 +8,7 @@ use crate::editors::folders::{SITE, files, lines_of, page_lines};
 use crate::editors::ledgers::{commands, told};
 use crate::editors::limits::ENDLESS;
 use editor_folder::{Folder, folder_of, pages_of};
-use editor_http::{NodeAnswer, NodeAnswerFault, Question, read_answer};
+use editor_http::{NodeAnswer, NodeAnswerFault, Question, authority_in, read_answer};
 use editor_ledger::{Ledger, LedgerFault};
 use editor_plan::{Ask, Flight, Heard, Stage, advance};
 use engine_common::Feed;
@@ -125,7 +125,8 @@ fn ledgers(rt: HostRuntime) {
 }
 
 fn asked(alloc: Global) -> Result<String, AllocError> {
-    Question::Page(7, "/a b").spelled(alloc, "a:80", true)
+    let to = authority_in(alloc, "ed:pw@a:80")?;
+    Question::Page(7, "/a b").spelled(alloc, &to, true)
 }
 
 fn request(rt: &impl Abort, alloc: Global) -> String {
@@ -135,7 +136,8 @@ fn request(rt: &impl Abort, alloc: Global) -> String {
     }
 }
 
-const REQUEST: &str = "GET /@7/a%20b HTTP/1.1\r\nHost: a:80\r\nConnection: close\r\n";
+const REQUEST: &str =
+    "GET /@7/a%20b HTTP/1.1\r\nHost: a:80\r\nAuthorization: Basic ZWQ6cHc=\r\nConnection: close\r\n";
 
 fn read_one(alloc: Global) -> Result<NodeAnswer, NodeAnswerFault> {
     let bytes = b"HTTP/1.1 200\r\nContent-Length: 2\r\n\r\n7\n";

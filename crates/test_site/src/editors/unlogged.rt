@@ -1,7 +1,7 @@
 //! Releases that a log does not tell, as a table.
 use crate::comparing::same;
 use editor_ledger::Ledger;
-use editor_plan::unlogged;
+use editor_plan::{ticket_of, unlogged};
 use std::alloc::Global;
 use std::process::Abort;
 
@@ -37,6 +37,26 @@ const FILES: &[(&str, Option<u64>)] = &[
 fn unlogged_in(rt: &impl Abort, alloc: Global, file: &str) -> Option<u64> {
     let ledger = Ledger::read(alloc, file).expect(rt, "a ledger");
     unlogged(&ledger)
+}
+
+/// A log that tells four releases, two of them by one number; a release, and its ticket.
+const LOG: &str =
+    "published 2\neditor 7\nnext 40\nlast_release 30\nreleased 4 1 9\nreleased 6 2 1\nreleased 6 3 4\nreleased 9 4 2\n";
+
+const TICKETS: &[(u64, Option<u64>)] = &[
+    (0, None),
+    (4, Some(10)),
+    (5, None),
+    (6, Some(17)),
+    (9, Some(20)),
+];
+
+#[test]
+fn tickets_of_releases(rt: HostRuntime) {
+    let ledger = Ledger::read(rt.alloc(), LOG).expect(&rt, "a ledger");
+    for &(release, wanted) in TICKETS {
+        same(&rt, ticket_of(&ledger, release), wanted);
+    }
 }
 
 #[test]

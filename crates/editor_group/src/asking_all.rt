@@ -1,0 +1,194 @@
+//! The same questions to several nodes at once, so that silent ones cost no more time than one of them.
+use crate::address::Address;
+use crate::asking::{connect_within, read_answers, write_questions};
+use editor_common::{EditorFault, now, passed, rest};
+use editor_http::{NodeAnswer, Question};
+use std::alloc::{AllocError, Global};
+use std::io;
+use std::net::{Net, TcpStream};
+use std::rt::Clock;
+use std::time::{Duration, Instant};
+
+/// How many milliseconds the nodes have in all to take their connections.
+const CONNECTING: u64 = 3_000;
+
+/// How many milliseconds they have then to answer.
+const ANSWERING: u64 = 10_000;
+
+/// How many milliseconds lie between two looks whether answers have come.
+const LOOKING: u64 = 1;
+
+/// A node that was asked.
+#[derive(Drop)]
+struct Talk {
+    stream: TcpStream,
+    since: Instant,
+}
+
+/// What a node said: how many milliseconds passed until then, and its answers, in the order of the
+/// questions; fewer than these where it fell silent.
+#[derive(Drop)]
+pub(crate) struct Said {
+    pub millis: u64,
+    pub answers: Vec<NodeAnswer>,
+}
+
+/// How far it is with a node.
+#[derive(Drop)]
+enum Call {
+    Waits(Talk),
+    Over(Said),
+}
+
+/// What who is silent said.
+fn silence(alloc: Global) -> Said {
+    Said {
+        millis: 0,
+        answers: Vec::new(alloc),
+    }
+}
+
+/// Writes the questions over a connection, whose answers are waited for.
+fn begin_talk<R: Clock + AllocGlobal>(
+    rt: &R,
+    stream: TcpStream,
+    node: &Address,
+    questions: &[Question<'_>],
+) -> Result<Call, EditorFault> {
+    let since = now(rt)?;
+    write_questions(rt.alloc(), &stream, &node.authority, questions)?;
+    if stream.set_nonblocking(true).is_err() {
+        return Ok(Call::Over(silence(rt.alloc())));
+    }
+    Ok(Call::Waits(Talk { stream, since }))
+}
+
+/// Asks a node, which may take so long for a connection.
+fn begin<R: Net<Stream = TcpStream> + Clock + AllocGlobal>(
+    rt: &R,
+    node: &Address,
+    within: Duration,
+    questions: &[Question<'_>],
+) -> Result<Call, EditorFault> {
+    match connect_within(rt, node.authority.host.as_str(), within) {
+        Ok(stream) => begin_talk(rt, stream, node, questions),
+        Err(fault) if fault.kind() == io::ErrorKind::OutOfMemory => Err(EditorFault::OutOfMemory),
+        Err(_) => Ok(Call::Over(silence(rt.alloc()))),
+    }
+}
+
+/// Asks each node, one after the other. None is waited for but for its connection.
+fn begin_all<R: Net<Stream = TcpStream> + Clock + AllocGlobal>(
+    rt: &R,
+    nodes: &[&Address],
+    questions: &[Question<'_>],
+) -> Result<Vec<Call>, EditorFault> {
+    let share = CONNECTING / (nodes.len() as u64).max(1);
+    let mut calls = Vec::new(rt.alloc());
+    for node in nodes {
+        calls.push(begin(rt, node, Duration::from_millis(share), questions)?)?;
+    }
+    Ok(calls)
+}
+
+/// Whether something has come over a connection, be it its end.
+fn has_come(stream: &TcpStream) -> bool {
+    let mut byte = [0; 1];
+    match stream.peek(&mut byte) {
+        Ok(_) => true,
+        Err(fault) => fault.kind() != io::ErrorKind::WouldBlock,
+    }
+}
+
+/// Has calls of a connection wait so many milliseconds.
+fn set_waiting(stream: &TcpStream, millis: u64) -> io::Result<()> {
+    stream.set_nonblocking(false)?;
+    stream.set_read_timeout(Some(Duration::from_millis(millis.max(1))))
+}
+
+/// Reads what has come of a node; its other answers have so many milliseconds.
+fn read_talk<R: Clock + AllocGlobal>(
+    rt: &R,
+    talk: &Talk,
+    count: usize,
+    left: u64,
+) -> Result<Said, EditorFault> {
+    let mut said = silence(rt.alloc());
+    said.millis = passed(rt, talk.since)?;
+    if set_waiting(&talk.stream, left).is_ok() {
+        read_answers(rt.alloc(), &talk.stream, count, &mut said.answers)?;
+    }
+    Ok(said)
+}
+
+/// What a node has said since it was looked at, if it has.
+fn news_of<R: Clock + AllocGlobal>(
+    rt: &R,
+    call: &Call,
+    count: usize,
+    left: u64,
+) -> Result<Option<Said>, EditorFault> {
+    match call {
+        Call::Waits(talk) if has_come(&talk.stream) => Ok(Some(read_talk(rt, talk, count, left)?)),
+        _ => Ok(None),
+    }
+}
+
+fn waits(call: &Call) -> bool {
+    matches!(call, Call::Waits(_))
+}
+
+/// Looks at each node that is waited for. Whether some still are is the answer.
+fn look<R: Clock + AllocGlobal>(
+    rt: &R,
+    calls: &mut [Call],
+    count: usize,
+    left: u64,
+) -> Result<bool, EditorFault> {
+    for call in calls.iter_mut() {
+        if let Some(said) = news_of(rt, call, count, left)? {
+            *call = Call::Over(said);
+        }
+    }
+    Ok(calls.iter().any(waits))
+}
+
+/// Looks at the nodes until each has answered, or the time for that is over.
+fn wait_for_all<R: Clock + AllocGlobal>(
+    rt: &R,
+    calls: &mut [Call],
+    count: usize,
+) -> Result<(), EditorFault> {
+    let since = now(rt)?;
+    for _ in 0..u64::MAX {
+        let left = ANSWERING.saturating_sub(passed(rt, since)?);
+        if left == 0 || !look(rt, calls, count, left)? {
+            break;
+        }
+        rest(rt, LOOKING);
+    }
+    Ok(())
+}
+
+/// What each node has said; one that is still waited for is silent.
+fn said_in(alloc: Global, calls: Vec<Call>) -> Result<Vec<Said>, AllocError> {
+    let mut all = Vec::with_capacity(alloc, calls.len())?;
+    for call in calls {
+        match call {
+            Call::Over(said) => all.push(said)?,
+            Call::Waits(_) => all.push(silence(alloc))?,
+        }
+    }
+    Ok(all)
+}
+
+/// Asks several nodes at once, and reads what each says, in their order.
+pub(crate) fn ask_each<R: Net<Stream = TcpStream> + Clock + AllocGlobal>(
+    rt: &R,
+    nodes: &[&Address],
+    questions: &[Question<'_>],
+) -> Result<Vec<Said>, EditorFault> {
+    let mut calls = begin_all(rt, nodes, questions)?;
+    wait_for_all(rt, calls.as_mut_slice(), questions.len())?;
+    Ok(said_in(rt.alloc(), calls)?)
+}

@@ -1,0 +1,165 @@
+//! What nodes say of themselves, all asked at once.
+ghost use Rattle.std.specs.Prelude.{◌≡◌, None};
+ghost use Rattle.editor_plan.specs.Standings.{last_shown};
+ghost use Rattle.editor_group.specs.Published.{ticket_of};
+
+use crate::address::Address;
+use crate::asking::number_in;
+use crate::asking_all::{Said, ask_each};
+use editor_common::EditorFault;
+use editor_http::{Barred, NodeAnswer, Question};
+use editor_ledger::Ledger;
+use editor_plan::{last_shown, last_ticket};
+use site_ids::Ticket;
+use std::alloc::{AllocError, Global};
+use std::net::{Net, TcpStream};
+use std::rt::Clock;
+
+/// What a folder has published: the newest release that its group has shown of it, 0 for none, and the last
+/// ticket that has its receipt, if one has.
+#[derive(Clone, Copy, Debug, Drop, PartialEq, Eq)]
+pub struct Published {
+    pub release: u64,
+    pub last: Option<Ticket>,
+}
+
+impl Published {
+    /// Of no folder.
+    pub fn nothing() -> Published
+        ensures release { result.release ≡ 0 }
+        ensures last { result.last ≡ None }
+    {
+        Published {
+            release: 0,
+            last: None,
+        }
+    }
+
+    /// As a folder's ledger has it.
+    pub fn of(ledger: &Ledger) -> Published
+        ensures release { result.release ≡ last_shown ledger.now }
+        ensures last { result.last ≡ ticket_of ledger.now }
+    {
+        let (editor, number) = (ledger.editor(), last_ticket(ledger));
+        Published {
+            release: last_shown(ledger),
+            last: if number == 0 {
+                None
+            } else {
+                Some(Ticket { editor, number })
+            },
+        }
+    }
+}
+
+/// A node: how many milliseconds it took to answer, why it keeps this client out if it does, its newest
+/// release, if it told one, the instance of a folder's last ticket, if it told that; and its start page in
+/// the newest release that all have.
+#[derive(Drop)]
+pub(crate) struct Report {
+    pub millis: u64,
+    pub barred: Option<Barred>,
+    pub newest: Option<u64>,
+    pub instance: Option<u64>,
+    pub page: Option<NodeAnswer>,
+}
+
+/// The newest release that all nodes have which answer, and the newest of all; 0 where there is none.
+#[derive(Clone, Copy)]
+pub(crate) struct Range {
+    pub common: u64,
+    pub last: u64,
+}
+
+/// What a node's answers report.
+fn report_in(node: &Address, said: &Said) -> Report {
+    let first = said.answers.first();
+    Report {
+        millis: said.millis,
+        barred: first.and_then(|answer| node.barred(answer)),
+        newest: first.and_then(number_in),
+        instance: said.answers.get(1).and_then(number_in),
+        page: None,
+    }
+}
+
+/// What is asked of each node: its newest release, and the receipt of a folder's last ticket.
+fn questions_of<'a>(alloc: Global, published: Published) -> Result<Vec<Question<'a>>, AllocError> {
+    let mut questions = Vec::with_capacity(alloc, 2)?;
+    questions.push(Question::Newest)?;
+    if let Some(ticket) = published.last {
+        questions.push(Question::Receipt(ticket))?;
+    }
+    Ok(questions)
+}
+
+/// Asks each node what it says of itself and of a folder.
+fn first_reports<R: Net<Stream = TcpStream> + Clock + AllocGlobal>(
+    rt: &R,
+    nodes: &[Address],
+    published: Published,
+) -> Result<Vec<Report>, EditorFault> {
+    let questions = questions_of(rt.alloc(), published)?;
+    let asked: Vec<&Address> = nodes.iter().collect(rt.alloc())?;
+    let all = ask_each(rt, &asked, &questions)?;
+    let mut reports = Vec::new(rt.alloc());
+    for (node, said) in nodes.iter().zip(all.iter()) {
+        reports.push(report_in(node, said))?;
+    }
+    Ok(reports)
+}
+
+pub(crate) fn range_of(reports: &[Report]) -> Range {
+    let common = reports.iter().filter_map(|report| report.newest).min();
+    let last = reports.iter().filter_map(|report| report.newest).max();
+    Range {
+        common: common.unwrap_or(0),
+        last: last.unwrap_or(0),
+    }
+}
+
+/// The nodes that told their newest release.
+fn those_that_answer<'a>(
+    alloc: Global,
+    nodes: &'a [Address],
+    reports: &[Report],
+) -> Result<Vec<&'a Address>, AllocError> {
+    let mut answering = Vec::new(alloc);
+    for (node, report) in nodes.iter().zip(reports.iter()) {
+        if report.newest.is_some() {
+            answering.push(node)?;
+        }
+    }
+    Ok(answering)
+}
+
+/// Asks each node that answered for its start page of a release.
+fn ask_pages<R: Net<Stream = TcpStream> + Clock + AllocGlobal>(
+    rt: &R,
+    nodes: &[Address],
+    reports: &mut [Report],
+    release: u64,
+) -> Result<(), EditorFault> {
+    let answering = those_that_answer(rt.alloc(), nodes, reports)?;
+    let mut all = ask_each(rt, &answering, &[Question::Page(release, "/")])?.into_iter();
+    for report in reports.iter_mut() {
+        if report.newest.is_some() {
+            report.page = all.next().and_then(|said| said.answers.into_iter().next());
+        }
+    }
+    Ok(())
+}
+
+/// What each node says of itself and of a folder.
+pub(crate) fn reports_of<R: Net<Stream = TcpStream> + Clock + AllocGlobal>(
+    rt: &R,
+    nodes: &[Address],
+    published: Published,
+) -> Result<Vec<Report>, EditorFault> {
+    let mut reports = first_reports(rt, nodes, published)?;
+    let common = range_of(&reports).common;
+    if common > 0 {
+        ask_pages(rt, nodes, reports.as_mut_slice(), common)?;
+    }
+    Ok(reports)
+}

@@ -1,4 +1,0 @@
-use Rattle.editor_http.proofs.question.submit_request.Goals as goal
-
-pub returns : goal.returns
-returns c = rw (← c.closing-closing.ensures) c.format.ensures.ok

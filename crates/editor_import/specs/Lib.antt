@@ -1,0 +1,6 @@
+pub mod Verbatim
+pub mod Routes
+pub mod Refreshes
+pub mod Leading
+pub mod Pages
+pub mod Imports

@@ -1,0 +1,81 @@
+//! A generator's pages, read from their folder and written as the folder of a site.
+use crate::imported::{Imported, SiteText, import_of};
+use crate::left_out::LeftOut;
+use editor_common::{EditorFault, say_made};
+use editor_files::{below, pages_below, write_file};
+use editor_words::takes_files;
+use std::alloc::Global;
+use std::io::Write;
+use std::rt::Files;
+
+/// Writes the files of a folder.
+fn write_all<R: Files + AllocGlobal>(
+    rt: &R,
+    folder: &str,
+    files: &[SiteText],
+) -> Result<(), EditorFault> {
+    for file in files {
+        let path = below(rt.alloc(), folder, file.path.as_str())?;
+        write_file(rt, path.as_str(), file.text.as_str())?;
+    }
+    Ok(())
+}
+
+/// Writes a line for each file that was left out.
+fn tell_left_out<W: Write>(
+    alloc: Global,
+    out: &mut W,
+    left_out: &[LeftOut],
+) -> Result<(), EditorFault> {
+    for left in left_out {
+        let (file, why) = (left.file.as_str(), left.why);
+        say_made(out, format!(in alloc; "{file}: {why}"))?;
+    }
+    Ok(())
+}
+
+/// Writes what the folder has, and how many files were left out of it.
+fn tell_folder<W: Write>(
+    alloc: Global,
+    out: &mut W,
+    folder: &str,
+    made: &Imported,
+) -> Result<(), EditorFault> {
+    let (pages, redirects, left) = (made.pages, made.redirects, made.left_out.len());
+    say_made(
+        out,
+        format!(in alloc; "{folder}: pages: {pages}, redirects: {redirects}; left out: {left}"),
+    )
+}
+
+/// Writes that there are no pages.
+fn tell_no_page<E: Write>(alloc: Global, err: &mut E, pages: &str) -> Result<(), EditorFault> {
+    say_made(
+        err,
+        format!(in alloc; "{pages}: no page: one is a file whose name ends in .html"),
+    )
+}
+
+/// Writes a folder of the pages that a generator wrote, tells what it leaves out of them, and gives the exit
+/// status.
+pub fn import<R: Files + AllocGlobal + Clone + Drop, W: Write, E: Write>(
+    rt: &R,
+    out: &mut W,
+    err: &mut E,
+    pages: &str,
+    folder: &str,
+) -> Result<u8, EditorFault> {
+    if !takes_files(rt, err, folder)? {
+        return Ok(1);
+    }
+    let files = pages_below(rt, pages)?;
+    let made = import_of(rt.alloc(), &files)?;
+    tell_left_out(rt.alloc(), out, &made.left_out)?;
+    if made.pages == 0 {
+        tell_no_page(rt.alloc(), err, pages)?;
+        return Ok(1);
+    }
+    write_all(rt, folder, &made.files)?;
+    tell_folder(rt.alloc(), out, folder, &made)?;
+    Ok(0)
+}

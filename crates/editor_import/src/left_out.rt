@@ -1,0 +1,43 @@
+use command::CommandFault;
+use site_ids::{MAX_PATH, MAX_VALUE, TICKET_BYTES};
+use std::fmt;
+
+/// Why a file is no page of a site.
+#[derive(Clone, Copy, Debug, Drop, PartialEq, Eq)]
+pub enum NotTaken {
+    /// It is none of a generator's pages: a picture, a style, a script.
+    Other,
+    /// Its bytes are no text.
+    NoText,
+    /// The commands that would put it are none.
+    NoCommand(CommandFault),
+}
+
+impl fmt::Display for NotTaken {
+    fn fmt<W: fmt::Write>(&self, f: &mut fmt::Formatter<W>) -> fmt::Result {
+        match self {
+            NotTaken::Other => f.write_str("no page"),
+            NotTaken::NoText => f.write_str("a page that is no UTF-8"),
+            NotTaken::NoCommand(CommandFault::TooLong) => {
+                let most = MAX_VALUE - TICKET_BYTES;
+                write!(
+                    f,
+                    "a page too long: the command that puts it may have {most} bytes"
+                )
+            }
+            NotTaken::NoCommand(_) => {
+                write!(
+                    f,
+                    "a page without a path: one has neither /_ nor /@ in front, {MAX_PATH} bytes at most, and no blank"
+                )
+            }
+        }
+    }
+}
+
+/// A file that is no page of the folder, and why.
+#[derive(Drop)]
+pub struct LeftOut {
+    pub file: String,
+    pub why: NotTaken,
+}

@@ -1,0 +1,13 @@
+use Rattle.std.proofs.Common.{arith}
+use Rattle.std.proofs.lemmas.Grind.{common_steps}
+use Rattle.std.proofs.lemmas.List.{map-append}
+use Rattle.std.proofs.lemmas.List.Elements.{filter_map-append}
+use Rattle.editor_ledger.proofs.planning.overtaken.Goals as goal
+use Rattle.editor_ledger.proofs.planning.overtaken.Goals.{in-Some+in_ok-push, in_default}
+
+pub loop-text-preserved : goal.loop-text-preserved
+loop-text-preserved c =
+    elim c.match-branch-2.branch [
+      | in-Some+in_ok-push w ↦ grind (arith, common_steps, filter_map-append, map-append)
+      | in_default w ↦ grind (arith, common_steps, filter_map-append, map-append)
+    ]

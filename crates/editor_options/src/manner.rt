@@ -1,0 +1,60 @@
+//! How a word is to speak.
+use crate::arguments::{flag, taking};
+use crate::line::Word;
+use clap::{Arg, ArgMatches, Command};
+use std::alloc::{AllocError, Global};
+
+/// How a word is to speak.
+#[derive(Clone, Copy, Debug, Default, Drop, PartialEq, Eq)]
+pub struct Manner {
+    /// Nothing is written but why its status is not 0.
+    pub quiet: bool,
+    /// Standard output has what it came to as one JSON object, and nothing else.
+    pub json: bool,
+}
+
+impl Word<'_> {
+    /// How it is to speak.
+    pub fn manner(&self) -> Manner {
+        match self {
+            Word::Check { manner, .. }
+            | Word::Publish { manner, .. }
+            | Word::Log { manner, .. }
+            | Word::Status { manner, .. } => *manner,
+            _ => Manner::default(),
+        }
+    }
+}
+
+fn json_flag<'a>(alloc: Global) -> Arg<'a> {
+    flag(
+        alloc,
+        "json",
+        "Writes what it came to on standard output, as one JSON object in one line",
+    )
+}
+
+fn quiet_flag<'a>(alloc: Global) -> Arg<'a> {
+    flag(
+        alloc,
+        "quiet",
+        "Writes nothing but why its status is not 0, if it isn't",
+    )
+}
+
+/// A word that is told how to speak.
+pub(crate) fn speaking<'a>(
+    alloc: Global,
+    word: Result<Command<'a>, AllocError>,
+) -> Result<Command<'a>, AllocError> {
+    let word = taking(word, json_flag(alloc));
+    taking(word, quiet_flag(alloc))
+}
+
+/// What a word was told.
+pub(crate) fn manner_in(found: &ArgMatches<'_>) -> Manner {
+    Manner {
+        quiet: found.get_flag("quiet"),
+        json: found.get_flag("json"),
+    }
+}
