@@ -1,15 +1,32 @@
 -- Records of files, computed from the definitions.
-use Rattle.std.proofs.Common.{◌≡◌, ℕ, List, [], ◌∷◌, ◌++◌, Option, Some, None, ⊎_elim, length, refl, sym, ap, subst, arith, codes}
+use Rattle.std.proofs.Common.{◌≡◌, ◌≢◌, ℕ, List, [], ◌∷◌, ◌++◌, Option, Some, None, ⊎_elim, length, refl, sym, ap, subst, arith, codes}
 use Rattle.site_ids.specs.Ids.{BallotOf}
 use Rattle.site_ids.specs.declared.value.Vote.{Vote}
 use Rattle.durable.specs.Entries.{Entry, Round, Promised, Voted, Learned, Floor, last_round, last_vote, learned_at, floor_of, reach_of, Raises}
 use Rattle.durable.specs.Histories.{IsHistory}
+use Rattle.durable.specs.Items.{Batch, puts, item_blocks, sum_of}
 use Rattle.durable.specs.Spelling.{head, blocks}
 use Rattle.durable.specs.Standing.{StandsFor}
+use Rattle.md5.specs.Md5.{block_words, rounds, compress, hash_after, digest_bytes, md5}
+use Rattle.durable.proofs.Logs.{entries-puts, whole-puts}
 use Rattle.durable.proofs.Push.{history-none, history-push}
 
 abbrev at : ℕ → ℕ → BallotOf
 at round node = record { round = round; node = node }
+
+-- a file without sums
+plain : (file : List ℕ) (entries : List Entry) (gate : ℕ) (rest : List ℕ) → IsHistory 3 entries → gate ≢ 1 → file ≡ head 2 3 ++ item_blocks (puts entries) ++ gate ∷ rest → StandsFor 2 3 file entries
+plain file entries gate rest history closed layout = record {
+  items = puts entries;
+  laid = record {
+    log = record { whole = whole-puts entries; history = subst (λ (l : List Entry). IsHistory 3 l) (sym (entries-puts entries)) history };
+    gate = gate;
+    rest = rest;
+    closed = closed;
+    layout = layout;
+  };
+  same = entries-puts entries;
+}
 
 -- node 2 of 3 has promised ballot (1, 1) at instance 1
 abbrev promise_record : ℕ → List ℕ
@@ -19,11 +36,39 @@ promised : IsHistory 3 (Promised 1 (at 1 1) ∷ [])
 promised = history-push 3 [] (Promised 1 (at 1 1)) (history-none 3) (record { in_range = ((omega arith, omega arith), (omega arith, omega arith, (omega arith, omega arith))); advances = λ e c here raises. absurd here })
 
 promise_stands : StandsFor 2 3 (promise_record 1) (Promised 1 (at 1 1) ∷ [])
-promise_stands = record { history = promised; gate = 0; rest = []; closed = λ one. omega (arith, one); layout = refl }
+promise_stands = plain _ (Promised 1 (at 1 1) ∷ []) 0 ([]) promised (λ one. omega (arith, one)) refl
 
 -- a gate that isn't open ends the list
 closed_stands : StandsFor 2 3 (promise_record 7) []
-closed_stands = record { history = history-none 3; gate = 7; rest = 0 ∷ 0 ∷ 0 ∷ 10 ∷ 2 ∷ 0 ∷ 0 ∷ 0 ∷ 1 ∷ 0 ∷ 0 ∷ 0 ∷ 1 ∷ 1 ∷ 0 ∷ []; closed = λ one. omega (arith, one); layout = refl }
+closed_stands = plain _ ([]) 7 (0 ∷ 0 ∷ 0 ∷ 10 ∷ 2 ∷ 0 ∷ 0 ∷ 0 ∷ 1 ∷ 0 ∷ 0 ∷ 0 ∷ 1 ∷ 1 ∷ 0 ∷ []) (history-none 3) (λ one. omega (arith, one)) refl
+
+-- the sum of that promise
+abbrev its_sum : List ℕ
+its_sum = 37 ∷ 113 ∷ 81 ∷ 172 ∷ 60 ∷ 210 ∷ 217 ∷ 122 ∷ []
+
+promise_is_summed : sum_of (blocks (Promised 1 (at 1 1) ∷ [])) ≡ its_sum
+unfolding block_words rounds compress hash_after digest_bytes md5
+promise_is_summed = refl
+
+-- a batch of it alone, behind its sum
+summed_record : head 2 3 ++ item_blocks (Batch (Promised 1 (at 1 1) ∷ []) ∷ []) ++ 0 ∷ []
+    ≡ codes "SITEREC1" ++ 2 ∷ 3 ∷ 1 ∷ 0 ∷ 0 ∷ 0 ∷ 13 ∷ 24 ∷ 0 ∷ 0 ∷ 0 ∷ 15 ∷ its_sum ++ 1 ∷ 0 ∷ 0 ∷ 0 ∷ 10 ∷ 2 ∷ 0 ∷ 0 ∷ 0 ∷ 1 ∷ 0 ∷ 0 ∷ 0 ∷ 1 ∷ 1 ∷ 0 ∷ []
+unfolding block_words rounds compress hash_after digest_bytes md5
+summed_record = refl
+
+-- a file with a sum stands for the entries alone
+summed_stands : StandsFor 2 3 (head 2 3 ++ item_blocks (Batch (Promised 1 (at 1 1) ∷ []) ∷ []) ++ 0 ∷ []) (Promised 1 (at 1 1) ∷ [])
+summed_stands = record {
+  items = Batch (Promised 1 (at 1 1) ∷ []) ∷ [];
+  laid = record {
+    log = record { whole = (((λ none. omega (arith, ap length none)), omega arith), tt); history = promised };
+    gate = 0;
+    rest = [];
+    closed = λ one. omega (arith, one);
+    layout = refl;
+  };
+  same = refl;
+}
 
 -- a round behind the head takes eleven bytes, the next gate among them
 round_record : head 2 3 ++ blocks (Round 1 ∷ []) ++ 0 ∷ [] ≡ codes "SITEREC1" ++ 2 ∷ 3 ∷ 1 ∷ 0 ∷ 0 ∷ 0 ∷ 5 ∷ 1 ∷ 0 ∷ 0 ∷ 0 ∷ 1 ∷ 0 ∷ []
@@ -37,7 +82,7 @@ learned : IsHistory 3 (Learned 1 (7 ∷ []) ∷ [])
 learned = history-push 3 [] (Learned 1 (7 ∷ [])) (history-none 3) (record { in_range = ((omega arith, omega arith), omega arith); advances = refl })
 
 learned_stands : StandsFor 2 3 learned_record (Learned 1 (7 ∷ []) ∷ [])
-learned_stands = record { history = learned; gate = 0; rest = []; closed = λ one. omega (arith, one); layout = refl }
+learned_stands = plain _ (Learned 1 (7 ∷ []) ∷ []) 0 ([]) learned (λ one. omega (arith, one)) refl
 
 -- a vote for another value may follow it
 voted_later : IsHistory 3 (Learned 1 (7 ∷ []) ∷ Voted 1 (at 1 1) (8 ∷ []) ∷ [])
@@ -57,7 +102,7 @@ floor_alone : IsHistory 3 (Floor 65 ∷ [])
 floor_alone = history-push 3 [] (Floor 65) (history-none 3) (record { in_range = (omega arith, omega arith); advances = refl })
 
 floor_stands : StandsFor 2 3 floor_record (Floor 65 ∷ [])
-floor_stands = record { history = floor_alone; gate = 0; rest = []; closed = λ one. omega (arith, one); layout = refl }
+floor_stands = plain _ (Floor 65 ∷ []) 0 ([]) floor_alone (λ one. omega (arith, one)) refl
 
 -- a floor behind another entry is no floor, but damage
 late_floor : ¬ IsHistory 3 (Round 1 ∷ Floor 65 ∷ [])

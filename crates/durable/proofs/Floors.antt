@@ -4,14 +4,14 @@ use Rattle.std.proofs.lemmas.Bool.Decides.{nat_tests}
 use Rattle.site_ids.specs.Ids.{IsInstance}
 use Rattle.site_disk.specs.Model.{DiskState, LeavesOnly, IsTorn, after_write, after_sync, overwritten}
 use Rattle.durable.specs.Entries.{Entry, Floor}
-use Rattle.durable.specs.Histories.{IsHistory}
-use Rattle.durable.specs.Spelling.{head, blocks}
+use Rattle.durable.specs.Items.{Put, IsLog, item_blocks}
+use Rattle.durable.specs.Spelling.{head}
 use Rattle.durable.specs.Standing.{StandsFor, IsNoRecord}
 use Rattle.durable.specs.Formatting.{blank_head, floor_bytes, IsNoneOrFloor}
 use Rattle.durable.specs.Laws.{FloorStays}
 use Rattle.durable.proofs.Moments.{started, goes_on, weaker, then}
 use Rattle.durable.proofs.Prefix.{stands_for_one}
-use Rattle.durable.proofs.Push.{history-push, history-none}
+use Rattle.durable.proofs.Logs.{log-put, log-none}
 
 abbrev Bytes : Type 0
 Bytes = List ℕ
@@ -91,11 +91,11 @@ module _ (node cluster floor : ℕ) where
     then_floor f size is only = then d e f Fine then_blank (weaker e f (λ left. IsTorn 10 size e.seen left) Fine (λ left torn. floor_torn e.seen left size is torn) only)
 
   module _ (instance : IsInstance floor) where
-    history : IsHistory cluster (Floor floor ∷ [])
-    history = history-push cluster [] (Floor floor) (history-none cluster) (record { in_range = instance; advances = refl })
+    log : IsLog cluster (Put (Floor floor) ∷ [])
+    log = log-put cluster [] (Floor floor) (log-none cluster) (record { in_range = instance; advances = refl })
 
     pub whole : StandsFor node cluster (head node cluster ++ floor_bytes floor) (Floor floor ∷ [])
-    whole = record { history = history; gate = 0; rest = []; closed = λ one. omega (arith, one); layout = refl }
+    whole = record { items = Put (Floor floor) ∷ []; laid = record { log = log; gate = 0; rest = []; closed = λ one. omega (arith, one); layout = refl }; same = refl }
 
     -- a write of the mark leaves no record, or the whole one
     pub mark_torn : (file left : Bytes) → file ≡ blank_head node cluster ++ floor_bytes floor → IsTorn 0 8 file left → IsNoneOrFloor node cluster floor left
@@ -115,8 +115,8 @@ module _ (node cluster floor : ℕ) where
 
 stands_marked : (node cluster : ℕ) (file : Bytes) (entries : List Entry) → StandsFor node cluster file entries → ¬ IsNoRecord file
 stands_marked node cluster file entries stands none = ⊎_elim
-    (λ (few : length file < 11). omega (arith, few, ap length stands.layout, length-append (blocks entries) (stands.gate ∷ stands.rest)))
-    (λ other. other (ap (λ (l : Bytes). take 8 l) stands.layout))
+    (λ (few : length file < 11). omega (arith, few, ap length stands.laid.layout, length-append (item_blocks stands.items) (stands.laid.gate ∷ stands.laid.rest)))
+    (λ other. other (ap (λ (l : Bytes). take 8 l) stands.laid.layout))
     none
 
 pub floor_stays : FloorStays

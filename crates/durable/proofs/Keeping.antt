@@ -2,7 +2,7 @@
 use Rattle.std.proofs.Common.{◌≡◌, ◌≢◌, ◌⊎◌, inl, inr, ⊎_elim, ℕ, ◌≤◌, ◌<◌, Option, Some, List, ◌∷◌, ◌++◌, length, get_or, take, refl, sym, ap, subst, arith, codes, length-append}
 use Rattle.site_disk.specs.Model.{DiskState, MayLeave, LeavesOnly, moment, after_sync}
 use Rattle.durable.specs.Entries.{Entry}
-use Rattle.durable.specs.Spelling.{blocks}
+use Rattle.durable.specs.Items.{item_blocks}
 use Rattle.durable.specs.Standing.{StandsFor, IsNoRecord, IsOfAnother}
 use Rattle.durable.specs.Keeping.{IsFound, Keeps, Settles}
 use Rattle.durable.specs.Batches.{IsNoneOrAll, KeepsNoneOrAll}
@@ -50,11 +50,11 @@ sync_keeps node cluster entries in_flight d keeps =
 module _ (node cluster : ℕ) (file : Bytes) (entries : List Entry) (stands : StandsFor node cluster file entries) where
   not_unread : ¬ IsNoRecord file
   not_unread none =
-      let size : 11 ≤ length file = omega (arith, ap length stands.layout, length-append (blocks entries) (stands.gate ∷ stands.rest)) in
-      ⊎_elim (λ (x : length file < 11). omega (arith, x, size)) (λ (x : take 8 file ≢ codes "SITEREC1"). x (ap (λ (l : Bytes). take 8 l) stands.layout)) none
+      let size : 11 ≤ length file = omega (arith, ap length stands.laid.layout, length-append (item_blocks stands.items) (stands.laid.gate ∷ stands.laid.rest)) in
+      ⊎_elim (λ (x : length file < 11). omega (arith, x, size)) (λ (x : take 8 file ≢ codes "SITEREC1"). x (ap (λ (l : Bytes). take 8 l) stands.laid.layout)) none
 
   not_another : ¬ IsOfAnother node cluster file
-  not_another other = ⊎_elim (λ (x : get_or file 8 0 ≢ node). x (ap (λ (l : Bytes). get_or l 8 0) stands.layout)) (λ (x : get_or file 9 0 ≢ cluster). x (ap (λ (l : Bytes). get_or l 9 0) stands.layout)) other
+  not_another other = ⊎_elim (λ (x : get_or file 8 0 ≢ node). x (ap (λ (l : Bytes). get_or l 8 0) stands.laid.layout)) (λ (x : get_or file 9 0 ≢ cluster). x (ap (λ (l : Bytes). get_or l 9 0) stands.laid.layout)) other
 
 pub never_refused : NeverRefused
 never_refused node cluster entries in_flight d keeps =

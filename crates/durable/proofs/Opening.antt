@@ -2,11 +2,10 @@
 use Rattle.std.proofs.Common.{◌≡◌, ◌≢◌, ◌⊎◌, inl, inr, ⊎_elim, ℕ, ◌≤◌, ◌<◌, List, [], ◌∷◌, ◌++◌, length, get_or, take, drop, codes, Result, Ok, Err, OnErr, IfErr, refl, sym, ◌∙◌, ap, subst, arith, append_assoc, take-append-drop, length-drop}
 use Rattle.std.specs.Result.{IsErrOf}
 use Rattle.std.proofs.lemmas.List.{get_or-take, take-take, drop_more, length-take}
-use Rattle.durable.specs.Entries.{Entry}
-use Rattle.durable.specs.Histories.{IsHistory}
+use Rattle.durable.specs.Items.{Item, IsLog, item_blocks}
 use Rattle.durable.specs.Reading.{AreSpelled}
-use Rattle.durable.specs.Spelling.{head, blocks}
-use Rattle.durable.specs.Standing.{StandsFor, IsNoRecord, IsOfAnother, IsDamaged, IsRefusal}
+use Rattle.durable.specs.Spelling.{head}
+use Rattle.durable.specs.Standing.{IsLaid, IsNoRecord, IsOfAnother, IsDamaged, IsRefusal}
 use Rattle.durable.specs.declared.fault.RecordFault.{RecordFault}
 use Rattle.durable.specs.declared.fault.RecordFault.TheVariants.{Device, OutOfMemory, NotARecord, WrongNode, Full, Damaged, Stopped}
 use Rattle.durable.proofs.Results.{same_error}
@@ -29,18 +28,18 @@ by_device_or_memory Full node cluster file h none = absurd h
 by_device_or_memory Damaged node cluster file h none = absurd (none.2 h.2)
 by_device_or_memory Stopped node cluster file h none = absurd h
 
--- the entries behind the head of a file
-pub behind_head : (node cluster : ℕ) (file : Bytes) (entries : List Entry) → StandsFor node cluster file entries → AreSpelled (drop 10 file) entries
-behind_head node cluster file entries s = record { gate = s.gate; rest = s.rest; closed = s.closed; layout = ap (λ (l : Bytes). drop 10 l) s.layout }
+-- the items behind the head of a file
+pub behind_head : (node cluster : ℕ) (file : Bytes) (items : List Item) → IsLaid node cluster file items → AreSpelled (drop 10 file) items
+behind_head node cluster file items s = record { gate = s.gate; rest = s.rest; closed = s.closed; layout = ap (λ (l : Bytes). drop 10 l) s.layout }
 
 -- the refusal of a file whose head is right
 pub refusal_of_entries : (fault : RecordFault) (node cluster : ℕ) (file : Bytes) → (fault ≡ Device) ⊎ ((fault ≡ OutOfMemory) ⊎ (fault ≡ Damaged)) → ¬ IsNoRecord file → ¬ IsOfAnother node cluster file
-    → (fault ≡ Damaged → (entries : List Entry) → IsHistory cluster entries → ¬ AreSpelled (drop 10 file) entries) → IsRefusal fault node cluster file
+    → (fault ≡ Damaged → (items : List Item) → IsLog cluster items → ¬ AreSpelled (drop 10 file) items) → IsRefusal fault node cluster file
 refusal_of_entries fault node cluster file why record_is own damaged =
     let P : RecordFault → Type 0 = λ f. IsRefusal f node cluster file in
     ⊎_elim (λ (is : fault ≡ Device). subst P (sym is) tt)
     (λ other. ⊎_elim (λ (is : fault ≡ OutOfMemory). subst P (sym is) (record_is, own))
-    (λ (is : fault ≡ Damaged). subst P (sym is) (record_is, own, λ entries s. damaged is entries s.history (behind_head node cluster file entries s))) other) why
+    (λ (is : fault ≡ Damaged). subst P (sym is) (record_is, own, λ entries s. damaged is s.items s.laid.log (behind_head node cluster file s.items s.laid))) other) why
 
 -- what the entries of a file whose head is right are refused for
 pub refused_entries : {T : Type 0} (r : Result T RecordFault) (P : RecordFault → Type 0) → OnErr r (IsErrOf r Device ⊎ (IsErrOf r OutOfMemory ⊎ IsErrOf r Damaged))
@@ -70,13 +69,13 @@ module _ (node cluster : ℕ) (file front : Bytes) (is : front ≡ take 10 file)
       sym (take-append-drop 8 front) ∙ ap (λ (l : Bytes). l ++ drop 8 front) mark ∙ ap (λ (l : Bytes). codes "SITEREC1" ++ l) split
       ∙ (λ i. codes "SITEREC1" ++ at8 i ∷ at9 i ∷ [])
 
-  -- the entries behind the head are those for which the file stands
-  pub stands_whole : (entries : List Entry) → IsHistory cluster entries → AreSpelled (drop 10 file) entries → StandsFor node cluster file entries
-  stands_whole entries history s = record {
-    history = history;
+  -- the items behind the head are those of which the file is laid
+  pub laid_whole : (items : List Item) → IsLog cluster items → AreSpelled (drop 10 file) items → IsLaid node cluster file items
+  laid_whole items log s = record {
+    log = log;
     gate = s.gate;
     rest = s.rest;
     closed = s.closed;
     layout = sym (take-append-drop 10 file) ∙ ap (λ (l : Bytes). l ++ drop 10 file) (sym is ∙ front_is) ∙ ap (λ (l : Bytes). head node cluster ++ l) s.layout
-        ∙ sym (append_assoc (head node cluster) (blocks entries) (s.gate ∷ s.rest));
+        ∙ sym (append_assoc (head node cluster) (item_blocks items) (s.gate ∷ s.rest));
   }

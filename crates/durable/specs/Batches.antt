@@ -1,37 +1,48 @@
 -- A batch: entries that are put in memory first, and then stand on the disk together.
-use Rattle.std.specs.Prelude.{◌≡◌, ◌≢◌, ◌⊎◌, ℕ, ◌+◌, ◌<◌, List, [], ◌∷◌, ◌++◌, length, drop, false}
+use Rattle.std.specs.Prelude.{◌≡◌, ◌≢◌, ◌⊎◌, ℕ, ◌+◌, ◌<◌, nat_lt, if◌then◌else◌, List, [], ◌∷◌, ◌++◌, length, drop, false}
+use Rattle.site_ids.specs.declared.TheConstants.{MAX_RECORD}
 use Rattle.site_disk.specs.Model.{DiskState, MayLeave, LeavesOnly, moment}
 use Rattle.durable.specs.Append.{IsSettled, IsOpenAt}
 use Rattle.durable.specs.Entries.{Entry}
 use Rattle.durable.specs.Histories.{IsHistory, MayFollow}
+use Rattle.durable.specs.Items.{Item, Batch, puts, item_blocks}
 use Rattle.durable.specs.Spelling.{blocks, behind_gate}
 use Rattle.durable.specs.Standing.{StandsFor}
 use Rattle.durable.specs.Reading.{IsKept}
 use Rattle.durable.specs.Ready.{IsReady}
 use Rattle.durable.specs.declared.record.Record.{Record}
+use Rattle.durable.specs.declared.staged.Staged.{Staged}
 
 -- a batch is open: what waits ends with a closed gate at least
 abbrev pub IsBatchOpen : {D : Type 0} → Record D → Type 0
 IsBatchOpen store = 0 < length store.staged.bytes.items
 
--- what is written behind a closed gate for entries: their blocks but for the first gate, and the next closed one
-abbrev pub behind_gates : List Entry → List ℕ
-behind_gates batch = drop 1 (blocks batch ++ 0 ∷ [])
+-- what a seal writes: the entries behind their sum, or without one where the file has no room for that behind the gate
+abbrev pub sealed_items : ℕ → List Entry → List Item
+sealed_items gate batch = if nat_lt MAX_RECORD (gate + 19) then puts batch else Batch batch ∷ []
+
+-- what is written behind a closed gate for items: their blocks except the first gate, and the next closed one
+abbrev pub behind_gates : List Item → List ℕ
+behind_gates items = drop 1 (item_blocks items ++ 0 ∷ [])
 
 -- how many writes and syncs of the disk a batch takes
 abbrev pub calls_for : List Entry → ℕ
 calls_for [] = 0
 calls_for (entry ∷ batch) = 4
 
--- the record runs and a batch is open: the file stands for the earlier entries, all of it is on the disk, and the blocks of the batch wait
+-- the file stands for the earlier entries, and the blocks of the batch, which may follow them, wait behind room for a sum; the gate stands where they would end
+pub record Waits (node cluster : ℕ) (file : List ℕ) (earlier batch : List Entry) (gate : ℕ) (staged : Staged) : Type 0 where
+  pub stands : StandsFor node cluster file earlier
+  pub history : IsHistory cluster (earlier ++ batch)
+  pub waiting : drop 18 staged.bytes.items ≡ blocks batch ++ 0 ∷ []
+  pub base : batch ≢ [] → staged.base ≡ 10 + length (item_blocks stands.items)
+  pub ends : gate ≡ 10 + length (item_blocks stands.items) + length (blocks batch)
+
+-- the record runs and a batch is open: all of the file is on the disk, and the batch waits
 pub record IsStaged {D : Type 0} (stands_for : D → DiskState → Type 0) (store : Record D) (d : DiskState) (earlier batch : List Entry) : Type 0 where
   pub stands : stands_for store.disk d
   pub settled : IsSettled d
-  pub reads : StandsFor store.node store.cluster d.seen earlier
-  pub history : IsHistory store.cluster (earlier ++ batch)
-  pub waiting : store.staged.bytes.items ≡ blocks batch ++ 0 ∷ []
-  pub base : batch ≢ [] → store.staged.base ≡ 10 + length (blocks earlier)
-  pub gate : store.recorded.gate ≡ 10 + length (blocks (earlier ++ batch))
+  pub waits : Waits store.node store.cluster d.seen earlier batch store.recorded.gate store.staged
   pub running : store.stopped ≡ false
 
 -- and its memory is ahead of the disk: what it keeps is what they record with the batch
@@ -61,12 +72,13 @@ Stages stands_for old new bytes = (d : DiskState) (earlier batch : List Entry) (
 abbrev pub GoesAhead : {D : Type 0} → (D → DiskState → Type 0) → Record D → Record D → Entry → Type 0
 GoesAhead stands_for old new entry = (d : DiskState) (earlier batch : List Entry) → IsAhead stands_for old d earlier batch → IsAhead stands_for new d earlier (batch ++ entry ∷ [])
 
--- The record is ready with all of the batch, after two writes and two syncs however many its entries are, and none for no entry; at the gate of the
--- earlier entries stand its blocks and the next closed gate. A crash at any moment since then leaves the earlier entries, with all of the batch or with none of it.
+-- The record is ready with all of the batch, after two writes and two syncs however many its entries are, and none for no entry; at the gate on the
+-- disk stand its blocks behind their sum, and the next closed gate. A crash at any moment since then leaves the earlier entries, with all of the batch or with none of it.
 abbrev pub Seals : {D : Type 0} → (D → DiskState → Type 0) → Record D → Record D → Type 0
 Seals stands_for old new = (d : DiskState) (earlier batch : List Entry) → IsAhead stands_for old d earlier batch
     → (e : DiskState) × IsReady stands_for new e (earlier ++ batch) × LeavesOnly d e (IsNoneOrAll old.node old.cluster earlier batch)
-    × (length e.past ≡ calls_for batch + length d.past) × (batch ≢ [] → IsOpenAt (10 + length (blocks earlier)) d.seen (behind_gates batch) e.seen)
+    × (length e.past ≡ calls_for batch + length d.past)
+    × (batch ≢ [] → IsOpenAt old.staged.base d.seen (behind_gates (sealed_items old.recorded.gate batch)) e.seen)
 
 -- The device failed as the batch was written. A crash at any moment since then leaves the earlier entries, with all of the batch or with none of it,
 -- and so does none.

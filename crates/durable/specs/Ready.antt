@@ -4,18 +4,22 @@ use Rattle.site_disk.specs.Model.{DiskState, after_sync}
 use Rattle.durable.specs.Append.{IsSettled}
 use Rattle.durable.specs.Entries.{Entry}
 use Rattle.durable.specs.Histories.{IsHistory}
-use Rattle.durable.specs.Spelling.{blocks}
+use Rattle.durable.specs.Items.{item_blocks}
 use Rattle.durable.specs.Standing.{StandsFor}
 use Rattle.durable.specs.Reading.{IsKept}
 use Rattle.durable.specs.Slots.{cell_at}
 use Rattle.durable.specs.declared.record.Record.{Record}
 
+-- the file stands for the entries, and its items end at the gate
+pub record StandsUpTo (node cluster : ℕ) (file : List ℕ) (entries : List Entry) (gate : ℕ) : Type 0 where
+  pub stands : StandsFor node cluster file entries
+  pub ends : gate ≡ 10 + length (item_blocks stands.items)
+
 -- the record runs, its file stands for these entries, all of it is on the disk, and no batch is open
 pub record IsStored {D : Type 0} (stands_for : D → DiskState → Type 0) (store : Record D) (d : DiskState) (entries : List Entry) : Type 0 where
   pub stands : stands_for store.disk d
   pub settled : IsSettled d
-  pub reads : StandsFor store.node store.cluster d.seen entries
-  pub gate : store.recorded.gate ≡ 10 + length (blocks entries)
+  pub reads : StandsUpTo store.node store.cluster d.seen entries store.recorded.gate
   pub running : store.stopped ≡ false
   pub none_staged : store.staged.bytes.items ≡ []
 

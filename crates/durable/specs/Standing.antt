@@ -1,18 +1,24 @@
 -- What a file of a record stands for, and why one is refused.
 use Rattle.std.specs.Prelude.{◌≡◌, ◌≢◌, ◌⊎◌, ℕ, ◌<◌, List, ◌∷◌, ◌++◌, length, take, slice_index, codes}
 use Rattle.durable.specs.Entries.{Entry}
-use Rattle.durable.specs.Histories.{IsHistory}
-use Rattle.durable.specs.Spelling.{head, blocks}
+use Rattle.durable.specs.Items.{Item, IsLog, entries_of, item_blocks}
+use Rattle.durable.specs.Spelling.{head}
 use Rattle.durable.specs.declared.fault.RecordFault.{RecordFault}
 use Rattle.durable.specs.declared.fault.RecordFault.TheVariants.{Device, OutOfMemory, NotARecord, WrongNode, Full, Damaged, Stopped}
 
--- the file is the head, the entries behind open gates, a gate that isn't open, and whatever follows it
-pub record StandsFor (node cluster : ℕ) (file : List ℕ) (entries : List Entry) : Type 0 where
-  pub history : IsHistory cluster entries
+-- the file is the head, the items behind open gates, a gate that isn't open, and whatever follows it
+pub record IsLaid (node cluster : ℕ) (file : List ℕ) (items : List Item) : Type 0 where
+  pub log : IsLog cluster items
   pub gate : ℕ
   pub rest : List ℕ
   pub closed : gate ≢ 1
-  pub layout : file ≡ head node cluster ++ blocks entries ++ gate ∷ rest
+  pub layout : file ≡ head node cluster ++ item_blocks items ++ gate ∷ rest
+
+-- the file stands for the entries of its items
+pub record StandsFor (node cluster : ℕ) (file : List ℕ) (entries : List Entry) : Type 0 where
+  pub items : List Item
+  pub laid : IsLaid node cluster file items
+  pub same : entries_of items ≡ entries
 
 -- too short, or without the mark
 abbrev pub IsNoRecord : List ℕ → Type 0

@@ -5,6 +5,7 @@
 ghost use Rattle.std.specs.Prelude.{◌≡◌, ◌⊎◌, ◌↔◌, ◌+◌, ◌-◌, ◌<◌, ◌≤◌, ◌^◌, ◌∷◌, [], IsOk, IsErrOf, OnOk, OnErr, length, false, true};
 
 use crate::append::append;
+use crate::staged::Sealed;
 use crate::{Record, RecordFault};
 use site_disk::Disk;
 use std::alloc::AllocError;
@@ -17,7 +18,7 @@ impl<D: Disk> Record<D> {
     /// A batch that is open stays as it is.
     pub fn begin(&mut self) -> Result<(), RecordFault>
         ensures begun { OnOk result (Begins D.stands_for self.old self.new) }
-        ensures open { OnOk result (IsBatchOpen self.new × (¬ IsBatchOpen self.old → length self.new.staged.bytes.items ≡ 1)) }
+        ensures open { OnOk result (IsBatchOpen self.new × (¬ IsBatchOpen self.old → length self.new.staged.bytes.items ≡ 19)) }
         ensures was_open { IsBatchOpen self.old → (self.new ≡ self.old) × (¬ IsErrOf result RecordFault.OutOfMemory) }
         ensures was_stopped { IsErrOf result RecordFault.Stopped ↔ (self.old.stopped ≡ true) }
         ensures others { OnErr result (IsErrOf result RecordFault.Stopped ⊎ IsErrOf result RecordFault.OutOfMemory) }
@@ -37,13 +38,13 @@ impl<D: Disk> Record<D> {
     pub fn seal(&mut self) -> Result<(), RecordFault>
         ensures sealed { OnOk result (Seals D.stands_for self.old self.new) }
         ensures closed { OnOk result ((self.new.staged.bytes.items ≡ []) × (self.new.stopped ≡ false) × (D.failed self.new.disk ≡ D.failed self.old.disk)) }
-        ensures none { length self.old.staged.bytes.items ≤ 1 → self.new.disk ≡ self.old.disk }
+        ensures none { length self.old.staged.bytes.items ≤ 19 → self.new.disk ≡ self.old.disk }
         ensures cut_short { IsErrOf result RecordFault.Device → LeavesBatch D.stands_for self.old self.new × ((D.failed self.old.disk < D.failed self.new.disk) ⊎ (D.failed self.old.disk ≡ 2 ^ 64 - 1)) }
         ensures was_stopped { IsErrOf result RecordFault.Stopped ↔ (self.old.stopped ≡ true) }
         ensures refused { IsErrOf result RecordFault.Stopped → self.new ≡ self.old }
         ensures others { OnErr result (IsErrOf result RecordFault.Stopped ⊎ IsErrOf result RecordFault.Device) }
-        ensures stops { OnErr result (self.new ≡ record self.old { disk = self.new.disk; stopped = true }) }
-        ensures same { self.new ≡ record self.old { disk = self.new.disk; stopped = self.new.stopped; staged = self.new.staged } }
+        ensures stops { OnErr result (self.new ≡ record self.old { disk = self.new.disk; stopped = true; staged = self.new.staged }) }
+        ensures same { self.new ≡ record self.old { disk = self.new.disk; stopped = self.new.stopped; staged = self.new.staged; recorded = record self.old.recorded { gate = self.new.recorded.gate } } }
     {
         if self.stopped {
             return Err(RecordFault::Stopped);
@@ -52,8 +53,11 @@ impl<D: Disk> Record<D> {
             self.staged.close();
             return Ok(());
         }
+        let base = self.staged.base;
+        let Sealed { from, end } = self.staged.seal(self.recorded.gate);
         self.stopped = true;
-        append(&mut self.disk, self.staged.base, self.staged.behind_base())?;
+        append(&mut self.disk, base, &self.staged.bytes[from..])?;
+        self.recorded.gate = end;
         self.stopped = false;
         self.staged.close();
         Ok(())

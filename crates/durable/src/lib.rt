@@ -15,6 +15,7 @@ mod recorded;
 mod slots;
 mod spelling;
 mod staged;
+mod sum;
 
 pub use fault::RecordFault;
 pub use laws::{

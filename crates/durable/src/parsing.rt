@@ -140,7 +140,7 @@ pub(crate) fn next_entry(bytes: &[u8], cluster: Cluster) -> Next<'_>
     match bytes {
         [1, a, b, c, d, rest @ ..] => {
             let size = u32::from_be_bytes([*a, *b, *c, *d]) as usize;
-            if rest.len() <= size {
+            if rest.len() < size {
                 return Next::Damaged;
             }
             match entry_of(&rest[..size], cluster) {

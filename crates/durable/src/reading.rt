@@ -1,19 +1,21 @@
-//! Reading the entries of a file, from gate to gate.
+//! Reading the items of a file, from gate to gate.
 //!
-//! Pieces of 1 MB; the buffer comes after the head, so what is no record is refused without memory.
+//! Pieces of 1 MB, and longer ones for batches that are; the buffer comes after the head, so what is no record is refused
+//! without memory.
 
-ghost use Rattle.std.specs.Prelude.{◌≡◌, ◌⊎◌, ◌+◌, ◌-◌, ◌≤◌, ◌<◌, ◌^◌, ◌++◌, ℕ, List, length, drop, true, false, IfOk, OnOk, OnErr, IsErrOf};
+ghost use Rattle.std.specs.Prelude.{⊤, ◌≡◌, ◌≢◌, ◌⊎◌, ◌+◌, ◌-◌, ◌≤◌, ◌<◌, ◌^◌, ◌++◌, ℕ, List, length, drop, max, min, true, false, None, IfOk, MatchOption, OnOk, OnErr, IsErrOf, IsTrue};
 ghost use Rattle.site_disk.specs.Model.{DiskState};
 ghost use Rattle.durable.specs.Entries.{Entry};
-ghost use Rattle.durable.specs.Histories.{IsHistory};
-ghost use Rattle.durable.specs.Reading.{AreRead, AreSpelled, TakesPiece, IsDamagedPiece};
+ghost use Rattle.durable.specs.Items.{Item, IsLog};
+ghost use Rattle.durable.specs.Reading.{AreRead, AreSpelled, HasNoSum, IsSumAt, IsDamagedEntry, IsDamagedBatch, IsDamagedPiece, TakesEntry, TakesEntries, TakesItem, TakesPiece};
 
 use crate::RecordFault;
 use crate::parsing::{Next, next_entry};
 use crate::recorded::Recorded;
+use crate::sum::{SUM_BLOCK, Sum};
 use site_disk::Disk;
 use site_ids::Cluster;
-use std::alloc::Global;
+use std::alloc::{AllocError, Global};
 
 // How much of the file is read at once, many times the longest block: what is cut off at a piece's end is read twice.
 const PIECE: u64 = 1_048_576;
@@ -21,8 +23,18 @@ const PIECE: u64 = 1_048_576;
 // The longest block of an entry, and the next gate.
 const MAX_BLOCK: usize = 32_784;
 
-/// Reads the entries, in pieces of which each begins at a gate.
-pub(crate) fn read_entries<D: Disk>(
+/// What stood at a gate.
+pub(crate) enum Taken {
+    /// An item in so many bytes, which was taken.
+    Whole(usize),
+    /// The gate isn't open.
+    Ended,
+    /// A batch that goes on behind the bytes: so many show it, and the next gate.
+    CutOff(usize),
+}
+
+/// Reads the items, in pieces of which each begins at a gate.
+pub(crate) fn read_items<D: Disk>(
     alloc: Global,
     disk: &mut D,
     cluster: Cluster,
@@ -30,8 +42,8 @@ pub(crate) fn read_entries<D: Disk>(
 ) -> Result<Recorded, RecordFault>
     requires { 11 ≤ len }
     ensures state { (d : DiskState) → D.stands_for disk.old d → D.stands_for disk.new d }
-    ensures read { IfOk result (λ recorded. (entries : List Entry) × AreRead cluster entries recorded × ((d : DiskState) → D.stands_for disk.old d → len ≡ length d.seen → AreSpelled (drop 10 d.seen) entries)) }
-    ensures damaged { IsErrOf result RecordFault.Damaged → (d : DiskState) (entries : List Entry) → D.stands_for disk.old d → len ≡ length d.seen → IsHistory cluster entries → ¬ AreSpelled (drop 10 d.seen) entries }
+    ensures read { IfOk result (λ recorded. (items : List Item) × AreRead cluster items recorded × ((d : DiskState) → D.stands_for disk.old d → len ≡ length d.seen → AreSpelled (drop 10 d.seen) items)) }
+    ensures damaged { IsErrOf result RecordFault.Damaged → (d : DiskState) (items : List Item) → D.stands_for disk.old d → len ≡ length d.seen → IsLog cluster items → ¬ AreSpelled (drop 10 d.seen) items }
     ensures others { OnErr result (IsErrOf result RecordFault.Device ⊎ (IsErrOf result RecordFault.OutOfMemory ⊎ IsErrOf result RecordFault.Damaged)) }
     ensures none_failed { OnOk result (D.failed disk.new ≡ D.failed disk.old) }
     ensures no_fewer { D.failed disk.old ≤ D.failed disk.new }
@@ -42,42 +54,176 @@ pub(crate) fn read_entries<D: Disk>(
     buffer.resize(len.min(PIECE) as usize, 0u8)?;
     loop {
         let left = len - recorded.gate;
-        let piece = &mut buffer[..left.min(PIECE) as usize];
+        let size = left.min(buffer.len() as u64);
+        let piece = &mut buffer[..size as usize];
         disk.read_at(recorded.gate, piece)?;
-        if take_piece(alloc, piece, left <= PIECE, cluster, &mut recorded)? {
-            return Ok(recorded);
+        match take_piece(alloc, piece, left <= size, cluster, &mut recorded)? {
+            None => return Ok(recorded),
+            Some(least) => make_room(&mut buffer, least, len)?,
         }
     }
 }
 
-// Takes the entries that stand whole in a piece, and tells whether a gate that isn't open ended them.
+// Makes room for so many bytes, or for the whole file.
+fn make_room(buffer: &mut Vec<u8>, least: usize, len: u64) -> Result<(), AllocError>
+    ensures { OnOk result (length buffer.new.items ≡ max (length buffer.old.items) (min least len)) }
+{
+    let size = len.min(least as u64) as usize;
+    if buffer.len() < size {
+        buffer.resize(size, 0)?;
+    }
+    Ok(())
+}
+
+// Takes the items that stand whole in a piece, and tells how long the next piece has to be; none where a gate that isn't
+// open ended them.
 fn take_piece(
     alloc: Global,
     piece: &[u8],
     is_last: bool,
     cluster: Cluster,
     recorded: &mut Recorded,
-) -> Result<bool, RecordFault>
+) -> Result<Option<usize>, RecordFault>
     requires fits { recorded.old.gate + length piece.now < 2 ^ 64 }
     requires some { 0 < length piece.now }
     requires whole { (is_last ≡ true) ⊎ (32784 ≤ length piece.now) }
-    ensures taken { IfOk result (λ ended. TakesPiece cluster piece.now recorded.old recorded.new ended) }
-    ensures onward { IfOk result (λ ended. ended ≡ false → recorded.old.gate < recorded.new.gate) }
-    ensures within { OnOk result (recorded.new.gate < recorded.old.gate + length piece.now) }
+    ensures taken { IfOk result (λ least. TakesPiece cluster piece.now recorded.old recorded.new least) }
+    ensures onward { IfOk result (λ o. MatchOption o ⊤ (λ least. (is_last ≡ false) × ((recorded.old.gate < recorded.new.gate) ⊎ (length piece.now < least)))) }
+    ensures within { OnOk result ((recorded.old.gate ≤ recorded.new.gate) × (recorded.new.gate < recorded.old.gate + length piece.now)) }
     ensures damaged { IsErrOf result RecordFault.Damaged → IsDamagedPiece cluster piece.now is_last recorded.old }
     ensures others { OnErr result (IsErrOf result RecordFault.OutOfMemory ⊎ IsErrOf result RecordFault.Damaged) }
 {
     let mut rest = piece;
     while is_last || MAX_BLOCK <= rest.len() {
-        match next_entry(rest, cluster) {
-            Next::End => return Ok(true),
-            Next::Damaged => return Err(RecordFault::Damaged),
-            Next::Found(entry, size) => {
-                recorded.take(alloc, entry)?;
-                recorded.gate += size as u64;
-                rest = &rest[size..];
+        match take_item(alloc, rest, is_last, cluster, recorded)? {
+            Taken::Whole(size) => rest = &rest[size..],
+            Taken::Ended => return Ok(None),
+            Taken::CutOff(least) => return Ok(Some(least)),
+        }
+    }
+    Ok(Some(MAX_BLOCK))
+}
+
+// Takes what stands at a gate.
+fn take_item(
+    alloc: Global,
+    bytes: &[u8],
+    is_last: bool,
+    cluster: Cluster,
+    recorded: &mut Recorded,
+) -> Result<Taken, RecordFault>
+    requires fits { recorded.old.gate + length bytes.now < 2 ^ 64 }
+    requires whole { (is_last ≡ true) ⊎ (32784 ≤ length bytes.now) }
+    ensures taken { IfOk result (λ taken. TakesItem cluster bytes.now is_last recorded.old recorded.new taken) }
+    ensures damaged { IsErrOf result RecordFault.Damaged → IsDamagedPiece cluster bytes.now is_last recorded.old }
+    ensures others { OnErr result (IsErrOf result RecordFault.OutOfMemory ⊎ IsErrOf result RecordFault.Damaged) }
+{
+    match Sum::at(bytes) {
+        Some(sum) => take_summed(alloc, bytes, sum, is_last, cluster, recorded),
+        None => take_put(alloc, bytes, is_last, cluster, recorded),
+    }
+}
+
+// Takes an entry that is no batch's, behind which the next gate has to stand.
+fn take_put(
+    alloc: Global,
+    bytes: &[u8],
+    is_last: bool,
+    cluster: Cluster,
+    recorded: &mut Recorded,
+) -> Result<Taken, RecordFault>
+    requires fits { recorded.old.gate + length bytes.now < 2 ^ 64 }
+    requires whole { (is_last ≡ true) ⊎ (32784 ≤ length bytes.now) }
+    requires unsummed { HasNoSum bytes.now }
+    ensures taken { IfOk result (λ taken. TakesItem cluster bytes.now is_last recorded.old recorded.new taken) }
+    ensures damaged { IsErrOf result RecordFault.Damaged → IsDamagedPiece cluster bytes.now is_last recorded.old }
+    ensures others { OnErr result (IsErrOf result RecordFault.OutOfMemory ⊎ IsErrOf result RecordFault.Damaged) }
+{
+    match take_entry(alloc, bytes, cluster, recorded)? {
+        None => Ok(Taken::Ended),
+        Some(size) => {
+            if size < bytes.len() {
+                Ok(Taken::Whole(size))
+            } else {
+                Err(RecordFault::Damaged)
             }
         }
     }
-    Ok(false)
+}
+
+// Takes a batch behind its sum, which stands at a gate.
+fn take_summed(
+    alloc: Global,
+    bytes: &[u8],
+    sum: Sum,
+    is_last: bool,
+    cluster: Cluster,
+    recorded: &mut Recorded,
+) -> Result<Taken, RecordFault>
+    requires fits { recorded.old.gate + length bytes.now < 2 ^ 64 }
+    requires at { IsSumAt bytes.now sum.size sum.sum }
+    ensures taken { IfOk result (λ taken. TakesItem cluster bytes.now is_last recorded.old recorded.new taken) }
+    ensures damaged { IsErrOf result RecordFault.Damaged → IsDamagedPiece cluster bytes.now is_last recorded.old }
+    ensures others { OnErr result (IsErrOf result RecordFault.OutOfMemory ⊎ IsErrOf result RecordFault.Damaged) }
+{
+    let end = SUM_BLOCK + sum.size;
+    if bytes.len() <= end {
+        return if is_last {
+            Err(RecordFault::Damaged)
+        } else {
+            Ok(Taken::CutOff(end + 1))
+        };
+    }
+    let blocks = &bytes[SUM_BLOCK..end];
+    if !sum.is_of(blocks) {
+        return Err(RecordFault::Damaged);
+    }
+    take_batch(alloc, blocks, cluster, recorded)?;
+    recorded.gate += SUM_BLOCK as u64;
+    Ok(Taken::Whole(end))
+}
+
+// Takes the entries whose blocks these are.
+fn take_batch(
+    alloc: Global,
+    blocks: &[u8],
+    cluster: Cluster,
+    recorded: &mut Recorded,
+) -> Result<(), RecordFault>
+    requires fits { recorded.old.gate + length blocks.now < 2 ^ 64 }
+    ensures taken { OnOk result ((entries : List Entry) × TakesEntries cluster blocks.now (length blocks.now) entries recorded.old recorded.new) }
+    ensures damaged { IsErrOf result RecordFault.Damaged → IsDamagedBatch cluster blocks.now recorded.old }
+    ensures others { OnErr result (IsErrOf result RecordFault.OutOfMemory ⊎ IsErrOf result RecordFault.Damaged) }
+{
+    let mut rest = blocks;
+    while !rest.is_empty() {
+        match take_entry(alloc, rest, cluster, recorded)? {
+            Some(size) => rest = &rest[size..],
+            None => return Err(RecordFault::Damaged),
+        }
+    }
+    Ok(())
+}
+
+// Takes the entry at a gate, and tells how long its block is; none where the gate isn't open.
+fn take_entry(
+    alloc: Global,
+    bytes: &[u8],
+    cluster: Cluster,
+    recorded: &mut Recorded,
+) -> Result<Option<usize>, RecordFault>
+    requires fits { recorded.old.gate + length bytes.now < 2 ^ 64 }
+    ensures taken { IfOk result (λ size. TakesEntry cluster bytes.now recorded.old recorded.new size) }
+    ensures damaged { IsErrOf result RecordFault.Damaged → IsDamagedEntry cluster bytes.now recorded.old }
+    ensures others { OnErr result (IsErrOf result RecordFault.OutOfMemory ⊎ IsErrOf result RecordFault.Damaged) }
+{
+    match next_entry(bytes, cluster) {
+        Next::End => Ok(None),
+        Next::Damaged => Err(RecordFault::Damaged),
+        Next::Found(entry, size) => {
+            recorded.take(alloc, entry)?;
+            recorded.gate += size as u64;
+            Ok(Some(size))
+        }
+    }
 }

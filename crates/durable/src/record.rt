@@ -7,12 +7,13 @@ ghost use Rattle.site_disk.specs.Model.{DiskState, after_sync};
 ghost use Rattle.durable.specs.Append.{IsSettled};
 ghost use Rattle.durable.specs.Entries.{Entry};
 ghost use Rattle.durable.specs.Spelling.{head};
-ghost use Rattle.durable.specs.Standing.{StandsFor, IsRefusal};
+ghost use Rattle.durable.specs.Items.{Item};
+ghost use Rattle.durable.specs.Standing.{StandsFor, IsLaid, IsRefusal};
 ghost use Rattle.durable.specs.Keeping.{Keeps};
 ghost use Rattle.durable.specs.Reading.{AreRead};
 
 use crate::RecordFault;
-use crate::reading::read_entries;
+use crate::reading::read_items;
 use crate::recorded::Recorded;
 use crate::staged::Staged;
 use acceptor::Slot;
@@ -54,7 +55,7 @@ fn read<D: Disk>(
     node: NodeId,
     disk: &mut D,
 ) -> Result<Recorded, RecordFault>
-    ensures read { IfOk result (λ recorded. (entries : List Entry) × AreRead cluster entries recorded × ((d : DiskState) → D.stands_for disk.old d → D.stands_for disk.new (after_sync d) × StandsFor node cluster d.seen entries)) }
+    ensures read { IfOk result (λ recorded. (items : List Item) × AreRead cluster items recorded × ((d : DiskState) → D.stands_for disk.old d → D.stands_for disk.new (after_sync d) × IsLaid node cluster d.seen items)) }
     ensures refused { IfErr result (λ fault. (d : DiskState) → D.stands_for disk.old d → (D.stands_for disk.new (after_sync d) ⊎ (D.stands_for disk.new d × (fault ≡ RecordFault.Device))) × IsRefusal fault node cluster d.seen) }
     ensures cause { IsErrOf result RecordFault.Device → (D.failed disk.old < D.failed disk.new) ⊎ (D.failed disk.old ≡ 2 ^ 64 - 1) }
     ensures none_failed { OnOk result (D.failed disk.new ≡ D.failed disk.old) }
@@ -72,7 +73,7 @@ fn read<D: Disk>(
     if head[8] != node.number() || head[9] != cluster.size() {
         return Err(RecordFault::WrongNode);
     }
-    read_entries(alloc, disk, cluster, len)
+    read_items(alloc, disk, cluster, len)
 }
 
 impl<D: Disk> Record<D> {

@@ -1,17 +1,39 @@
 //! What waits to be written behind a gate.
 
-ghost use Rattle.std.specs.Prelude.{◌≡◌, ◌↔◌, ◌<◌, ◌^◌, ◌∷◌, ◌++◌, [], ℕ, List, IsTrue, IsOk, OnOk, OnErr, length, drop};
+ghost use Rattle.std.specs.Prelude.{◌≡◌, ◌≢◌, ◌↔◌, ◌+◌, ◌-◌, ◌<◌, ◌≤◌, ◌^◌, ◌∷◌, ◌++◌, [], ℕ, List, if◌then◌else◌, IsTrue, IsOk, OnOk, OnErr, nat_lt, not, length, drop};
+ghost use Rattle.site_ids.specs.declared.TheConstants.{MAX_RECORD};
+ghost use Rattle.durable.specs.Items.{summed};
 
+use crate::sum::{SUM_BLOCK, sum_front};
+use site_ids::MAX_RECORD;
 use std::alloc::{AllocError, Global};
+
+// How many bytes wait where a batch has no entry: room for a sum, and a closed gate.
+const EMPTY: usize = SUM_BLOCK + 1;
+
+// Writes what stands in front of the blocks of a batch.
+fn write_front(bytes: &mut Vec<u8>, front: &[u8])
+    requires { length front.now ≤ length bytes.old.items }
+    ensures { bytes.new.items ≡ front.now ++ drop (length front.now) bytes.old.items }
+{
+    bytes[0..front.len()].copy_from_slice(front);
+}
+
+/// What is written of a batch behind the gate on the disk: the bytes from a place on, which end at a gate.
+pub(crate) struct Sealed {
+    pub(crate) from: usize,
+    pub(crate) end: u64,
+}
 
 /// The entries of a batch that is open.
 #[derive(Drop)]
 pub(crate) struct Staged {
-    // nothing while no batch is open; else the blocks of its entries, and a closed gate
+    // nothing while no batch is open; else room for a sum, the blocks of its entries, and a closed gate
     pub(crate) bytes: Vec<u8>,
     // the gate on the disk, where the batch has entries
     pub(crate) base: u64,
-    ghost near: { 1 < length bytes.items → base < 2 ^ 63 },
+    ghost near: { 19 < length bytes.items → base < 2 ^ 63 },
+    ghost room: { 0 < length bytes.items → 18 < length bytes.items },
 }
 
 impl Staged {
@@ -32,22 +54,56 @@ impl Staged {
     }
 
     pub(crate) fn has_entries(&self) -> bool
-        ensures { IsTrue result ↔ (1 < length self.now.bytes.items) }
+        ensures { IsTrue result ↔ (19 < length self.now.bytes.items) }
     {
-        self.bytes.len() > 1
+        self.bytes.len() > EMPTY
     }
 
-    /// What is written behind the gate on the disk: the blocks without their first gate, and the closed one.
-    pub(crate) fn behind_base(&self) -> &[u8]
-        requires { 0 < length self.now.bytes.items }
-        ensures { result.now ≡ drop 1 self.now.bytes.items }
+    // Whether a file has room for what waits, a sum among it.
+    fn fits_with_sum(&self) -> bool
+        requires { 19 < length self.now.bytes.items }
+        ensures { result ≡ not (nat_lt MAX_RECORD (self.now.base + length self.now.bytes.items)) }
     {
-        &self.bytes[1..]
+        self.base + self.bytes.len() as u64 <= MAX_RECORD
+    }
+
+    // Writes the sum of the blocks into its room in front of them.
+    fn sum_up(&mut self)
+        requires open { 18 < length self.old.bytes.items }
+        requires counted { length self.old.bytes.items < 2 ^ 32 }
+        ensures summed { (blocks : List ℕ) → drop 18 self.old.bytes.items ≡ blocks ++ 0 ∷ [] → self.new.bytes.items ≡ summed blocks ++ 0 ∷ [] }
+        ensures same { (length self.new.bytes.items ≡ length self.old.bytes.items) × (self.new.base ≡ self.old.base) }
+    {
+        let end = self.bytes.len() - 1;
+        let front = sum_front(&self.bytes[SUM_BLOCK..end]);
+        write_front(&mut self.bytes, &front);
+    }
+
+    /// Puts the sum in front of the blocks, where the file has room for it. The blocks end at the given gate without one.
+    pub(crate) fn seal(&mut self, gate: u64) -> Sealed
+        requires { 19 < length self.old.bytes.items }
+        ensures bytes { (blocks : List ℕ) → drop 18 self.old.bytes.items ≡ blocks ++ 0 ∷ []
+            → drop result.from self.new.bytes.items ≡ drop 1 ((if nat_lt MAX_RECORD (self.old.base + length self.old.bytes.items) then blocks else summed blocks) ++ 0 ∷ []) }
+        ensures end { result.end ≡ (if nat_lt MAX_RECORD (self.old.base + length self.old.bytes.items) then gate else (self.old.base + length self.old.bytes.items) - 1) }
+        ensures within { result.from ≤ length self.new.bytes.items }
+        ensures base { self.new.base ≡ self.old.base }
+    {
+        if !self.fits_with_sum() {
+            return Sealed {
+                from: EMPTY,
+                end: gate,
+            };
+        }
+        self.sum_up();
+        Sealed {
+            from: 1,
+            end: self.base + (self.bytes.len() - 1) as u64,
+        }
     }
 
     /// Opens a batch where none is open.
     pub(crate) fn open(&mut self) -> Result<(), AllocError>
-        ensures opened { OnOk result (self.old.bytes.items ≡ [] → self.new.bytes.items ≡ 0 ∷ []) }
+        ensures opened { OnOk result (self.old.bytes.items ≡ [] → (length self.new.bytes.items ≡ 19) × (drop 18 self.new.bytes.items ≡ 0 ∷ [])) }
         ensures was_open { 0 < length self.old.bytes.items → (self.new ≡ self.old) × IsOk result }
         ensures refused { OnErr result (self.new.bytes.items ≡ self.old.bytes.items) }
         ensures base { self.new.base ≡ self.old.base }
@@ -55,7 +111,7 @@ impl Staged {
         if self.is_open() {
             return Ok(());
         }
-        self.bytes.push(0)?;
+        self.bytes.extend_from_slice(&[0; EMPTY])?;
         Ok(())
     }
 
@@ -63,16 +119,16 @@ impl Staged {
     pub(crate) fn push(&mut self, gate: u64, bytes: &[u8]) -> Result<(), AllocError>
         requires open { 0 < length self.old.bytes.items }
         requires near { gate < 2 ^ 63 }
-        ensures waiting { OnOk result ((front : List ℕ) → self.old.bytes.items ≡ front ++ 0 ∷ [] → self.new.bytes.items ≡ front ++ 1 ∷ bytes.now) }
-        ensures first { OnOk result (length self.old.bytes.items ≡ 1 → self.new.base ≡ gate) }
-        ensures later { OnOk result (1 < length self.old.bytes.items → self.new.base ≡ self.old.base) }
+        ensures waiting { OnOk result ((front : List ℕ) → drop 18 self.old.bytes.items ≡ front ++ 0 ∷ [] → drop 18 self.new.bytes.items ≡ front ++ 1 ∷ bytes.now) }
+        ensures first { OnOk result (length self.old.bytes.items ≡ 19 → self.new.base ≡ gate) }
+        ensures later { OnOk result (19 < length self.old.bytes.items → self.new.base ≡ self.old.base) }
         ensures still_open { 0 < length self.new.bytes.items }
         ensures refused { OnErr result ((self.new.bytes.items ≡ self.old.bytes.items) × (self.new.base ≡ self.old.base)) }
     {
         let closed = self.bytes.len() - 1;
         self.bytes.extend_from_slice(bytes)?;
         self.bytes[closed] = 1;
-        if closed == 0 {
+        if closed == SUM_BLOCK {
             self.base = gate;
         }
         Ok(())

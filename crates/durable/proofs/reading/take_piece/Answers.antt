@@ -1,60 +1,58 @@
-use Rattle.std.proofs.Common.{◌≡◌, ◌⊎◌, inl, inr, ℕ, ◌+◌, ◌-◌, ◌≤◌, List, [], ◌∷◌, ◌++◌, length, take, drop, Result, Err, sym, ◌∙◌, ap, subst, arith, length-drop, append_assoc}
-use Rattle.std.proofs.Math.Seq.{take-length}
-use Rattle.durable.specs.Entries.{Entry}
-use Rattle.durable.specs.Histories.{Advances}
-use Rattle.durable.specs.Spelling.{blocks}
-use Rattle.durable.specs.Reading.{AreRead, IsKept, Takes, meaning}
-use Rattle.durable.specs.declared.fault.RecordFault.{RecordFault}
+use Rattle.std.proofs.Common.{◌≡◌, ◌+◌, ◌≤◌, ◌<◌, ◌++◌, ◌∷◌, [], ℕ, Bool, List, Err, length, sym, ◌∙◌, ap, subst, arith, length-drop, append_assoc}
+use Rattle.durable.specs.Items.{Item, item_blocks}
+use Rattle.durable.specs.Reading.{AreRead, TakesItem}
 use Rattle.durable.specs.declared.fault.RecordFault.TheVariants.{Damaged}
+use Rattle.durable.specs.declared.reading.Taken.{Taken}
+use Rattle.durable.specs.declared.reading.Taken.TheVariants.{Whole, Ended, CutOff}
 use Rattle.durable.specs.declared.recorded.Recorded.{Recorded}
-use Rattle.durable.proofs.Piece.{read_more, split_more, unread_piece, wrong_piece}
+use Rattle.durable.proofs.Piece.{goes_on, split_more}
 use Rattle.durable.proofs.Results.{passed_on}
-use Rattle.durable.proofs.reading.take_piece.Goals.{then-is_last, else-is_last+then-rest-ge-MAX_BLOCK}
+use Rattle.durable.proofs.Taking.{all_behind}
 use Rattle.durable.proofs.reading.take_piece.Goals as goal
 
-all_behind : (n : ℕ) (bytes : List ℕ) → take (length bytes - n) (drop n bytes) ≡ drop n bytes
-all_behind n bytes = ap (λ (k : ℕ). take k (drop n bytes)) (sym (length-drop n bytes)) ∙ take-length (drop n bytes)
+-- what the items at a gate were taken as
+taken_as : (cluster : ℕ) (bytes : List ℕ) (last : Bool) (old new : Recorded) (taken shape : Taken) → TakesItem cluster bytes last old new taken → taken ≡ shape → TakesItem cluster bytes last old new shape
+taken_as cluster bytes last old new taken shape takes is = subst (λ (t : Taken). TakesItem cluster bytes last old new t) is takes
 
-refused_damaged : (e : Entry) (old new : Recorded) (fault : RecordFault) (r : Result (Unit {0}) RecordFault) → Takes e old new r → r ≡ Err fault → fault ≡ Damaged → (entries : List Entry) → old.gate ≡ 10 + length (blocks entries) → IsKept entries old → ¬ Advances entries e
-refused_damaged e old new fault r takes was is = subst (λ (x : Result (Unit {0}) RecordFault). Takes e old new x) (was ∙ ap (λ (f : RecordFault). Err f) is) takes
+-- the gate moves in the piece
+within : {old now new rest piece : ℕ} → now + rest ≡ old + piece → 0 < rest → rest ≤ piece → new ≡ now → (old ≤ new) × (new < old + piece)
+within place some shorter same = (omega (arith, place, shorter, same), omega (arith, place, some, same))
 
-pub returns-in-Damaged-clause-damaged : goal.returns-in-Damaged-clause-damaged
-returns-in-Damaged-clause-damaged c = λ is before entries later read last history.
+pub returns-in_err-size-clause-damaged : goal.returns-in_err-size-clause-damaged
+returns-in_err-size-clause-damaged c = λ is before items later read last log spelled.
     let t = c.loop-rest.invariant.taken before read in
-    let seen : (later ≡ []) ⊎ (32784 ≤ length c.loop-rest.rest.now) = elim c.if-is_last.branch [
-      | then-is_last w ↦ inl (last w.if-is_last.true)
-      | else-is_last+then-rest-ge-MAX_BLOCK w ↦ inr w.if-rest-ge-MAX_BLOCK.true
-    ] in
-    unread_piece c.args.cluster before t.0 c.args.piece.now c.loop-rest.rest.now c.loop-rest.recorded t.1 t.2 c.loop-rest.invariant.some entries later seen c.in-Damaged.ensures.0 c.in-Damaged.ensures.1 history
+    let fault = c.in_err-size.field-0.0 in
+    let refused = c.in_err-size.ensures.damaged (ap Err (passed_on c.from_residual.result fault Damaged c.from_residual.ensures.1 is)) in
+    let on = goes_on c.args.cluster before t.0 c.args.piece.now c.loop-rest.rest.now c.loop-rest.recorded t.1 t.2 c.loop-rest.invariant.some items later log spelled in
+    refused (before ++ t.0) on.0 later t.1 last on.1 on.2
 
-pub returns-in_err-take-in-Found-clause-damaged : goal.returns-in_err-take-in-Found-clause-damaged
-returns-in_err-take-in-Found-clause-damaged c = λ is before entries later read last history.
-    let t = c.loop-rest.invariant.taken before read in
-    let found = c.in-Found.ensures in
-    let fault = c.in_err-take-in-Found.field-0.0 in
-    let refused = refused_damaged (meaning c.in-Found.entry) c.loop-rest.recorded c.take.new.self fault c.take.result c.take.ensures c.in_err-take-in-Found.was
-    (passed_on c.from_residual.result fault Damaged c.from_residual.ensures.1 is) (before ++ t.0) t.1.gate t.1.kept in
-    wrong_piece c.args.cluster before t.0 c.args.piece.now c.loop-rest.rest.now c.loop-rest.recorded t.1 t.2 c.loop-rest.invariant.some entries later (meaning c.in-Found.entry) c.in-Found.size found.0 found.3 refused history
+pub returns-in-Ended-clause-within : goal.returns-in-Ended-clause-within
+returns-in-Ended-clause-within c =
+    let same = (taken_as c.args.cluster c.loop-rest.rest.now c.args.is_last c.loop-rest.recorded c.take_item.new.recorded c.in_ok-size.field-0 Ended c.in_ok-size.ensures.taken c.in-Ended.is).1 in
+    within c.loop-rest.invariant.place c.loop-rest.invariant.some c.loop-rest.invariant.shorter (ap (λ (r : Recorded). r.gate) same)
+
+pub returns-in-CutOff-clause-within : goal.returns-in-CutOff-clause-within
+returns-in-CutOff-clause-within c =
+    let same = (taken_as c.args.cluster c.loop-rest.rest.now c.args.is_last c.loop-rest.recorded c.take_item.new.recorded c.in_ok-size.field-0 (CutOff c.in-CutOff.least) c.in_ok-size.ensures.taken c.in-CutOff.is).2 in
+    within c.loop-rest.invariant.place c.loop-rest.invariant.some c.loop-rest.invariant.shorter (ap (λ (r : Recorded). r.gate) same)
 
 pub loop-rest-preserved : goal.loop-rest-preserved
 loop-rest-preserved c =
-    let size = c.in-Found.size in
     let rest = c.loop-rest.rest.now in
-    let found = c.in-Found.ensures in
-    let entry = meaning c.in-Found.entry in
-    let taken = c.in_ok-take-in-Found.ensures in
-    let whole = all_behind size rest in
-    let new : Recorded = record { gate = c.take.new.self.gate + size; round = c.take.new.self.round; greatest = c.take.new.self.greatest; slots = c.take.new.self.slots; floor = c.take.new.self.floor; reach = c.take.new.self.reach } in
+    let size = c.in-Whole.size in
+    let old = c.loop-rest.recorded in
+    let new = c.take_item.new.recorded in
+    let item = taken_as c.args.cluster rest c.args.is_last old new c.in_ok-size.field-0 (Whole size) c.in_ok-size.ensures.taken c.in-Whole.is in
+    let left = all_behind size rest in
     record {
-      place = omega (arith, ap length whole, length-drop size rest, c.loop-rest.invariant.place, taken.0, found.2);
-      some = omega (arith, ap length whole, length-drop size rest, found.2);
+      place = omega (arith, ap length left, length-drop size rest, c.loop-rest.invariant.place, item.0, item.1);
+      some = omega (arith, ap length left, length-drop size rest, item.0);
+      shorter = omega (arith, ap length left, length-drop size rest, c.loop-rest.invariant.shorter);
       taken = λ before read.
           let t = c.loop-rest.invariant.taken before read in
-          let one = taken.1 (before ++ t.0) t.1.gate t.1.kept in
-          let more : AreRead c.args.cluster ((before ++ t.0) ++ entry ∷ []) new
-          = read_more c.args.cluster (before ++ t.0) entry c.loop-rest.recorded new t.1 found.0 one.0 (record { round = one.1.round; greatest = one.1.greatest; slots = one.1.slots; learned = one.1.learned; floor = one.1.floor; reach = one.1.reach }) (omega (arith, taken.0, found.1)) in (
-            t.0 ++ entry ∷ [],
-            subst (λ (l : List Entry). AreRead c.args.cluster l new) (append_assoc before t.0 (entry ∷ [])) more,
-            split_more c.args.piece.now rest t.0 entry size t.2 found.3 ∙ ap (λ (l : List ℕ). blocks (t.0 ++ entry ∷ []) ++ l) (sym whole),
+          let one = item.3 (before ++ t.0) t.1 in (
+            t.0 ++ one.0 ∷ [],
+            subst (λ (l : List Item). AreRead c.args.cluster l new) (append_assoc before t.0 (one.0 ∷ [])) one.1,
+            split_more c.args.piece.now rest t.0 one.0 size t.2 one.2 ∙ ap (λ (l : List ℕ). item_blocks (t.0 ++ one.0 ∷ []) ++ l) (sym left),
           );
     }

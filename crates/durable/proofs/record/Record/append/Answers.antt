@@ -10,7 +10,7 @@ pub returns-in_err-append-clause-failed : goal.returns-in_err-append-clause-fail
 returns-in_err-append-clause-failed g c = on_err c.from_residual.result (λ d entries entry stored follows is.
     let old = c.args.self.now in
     let S = g.D.Disk.stands_for in
-    let after = c.in_err-append.ensures.torn d stored.stands stored.settled (closed_there old.node old.cluster old.recorded.gate d.seen entries stored.reads stored.gate) in
+    let after = c.in_err-append.ensures.torn d stored.stands stored.settled (closed_there old.node old.cluster old.recorded.gate d.seen stored.reads.stands.items stored.reads.stands.laid stored.reads.ends) in
     let Only : List ℕ → Type 0 = λ b. LeavesOnly d after.0 (IsAppendedOrNot old.recorded.gate d.seen b) in
     let OrNot : List ℕ → Type 0 = λ b. IsAppendedOrNot old.recorded.gate d.seen b after.0.seen in
     let only = subst Only is after.2 in
@@ -20,7 +20,7 @@ pub returns-clause-done : goal.returns-clause-done
 returns-clause-done g c = λ d entries entry stored follows is.
     let old = c.args.self.now in
     let S = g.D.Disk.stands_for in
-    let after = c.in_ok-append.ensures.done d stored.stands stored.settled (closed_there old.node old.cluster old.recorded.gate d.seen entries stored.reads stored.gate) in
+    let after = c.in_ok-append.ensures.done d stored.stands stored.settled (closed_there old.node old.cluster old.recorded.gate d.seen stored.reads.stands.items stored.reads.stands.laid stored.reads.ends) in
     let Only : List ℕ → Type 0 = λ b. LeavesOnly d after.0 (IsAppendedOrNot old.recorded.gate d.seen b) in
     let Open : List ℕ → Type 0 = λ b. IsOpenAt old.recorded.gate d.seen b after.0.seen in (
       after.0,

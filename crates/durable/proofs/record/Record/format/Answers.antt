@@ -1,7 +1,7 @@
 use Rattle.std.proofs.Common.{◌≡◌, ℕ, List, [], ◌∷◌, ◌++◌, length, drop, refl, ◌∙◌, ap, arith}
 use Rattle.site_disk.specs.Model.{overwritten}
 use Rattle.durable.specs.Spelling.{head}
-use Rattle.durable.proofs.Push.{history-none}
+use Rattle.durable.proofs.Logs.{log-none}
 use Rattle.durable.proofs.record.Record.format.Goals as goal
 
 empty_of : (xs : List ℕ) → length xs ≡ 0 → xs ≡ []
@@ -20,5 +20,9 @@ returns-clause-formatted g c = λ d stands.
       c.in_ok-sync.ensures.synced _ written,
       record { all_synced = refl; none_written = refl },
       ap (λ (l : List ℕ). overwritten d.seen 0 l) bytes ∙ ap (λ (l : List ℕ). front ++ drop 11 l) none,
-      record { history = history-none c.args.cluster; gate = 0; rest = drop 11 d.seen; closed = λ one. omega (arith, one); layout = ap (λ (l : List ℕ). overwritten d.seen 0 l) bytes },
+      record {
+        items = [];
+        laid = record { log = log-none c.args.cluster; gate = 0; rest = drop 11 d.seen; closed = λ one. omega (arith, one); layout = ap (λ (l : List ℕ). overwritten d.seen 0 l) bytes };
+        same = refl;
+      },
     )

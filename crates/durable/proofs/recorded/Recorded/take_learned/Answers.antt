@@ -9,7 +9,7 @@ use Rattle.durable.proofs.recorded.Recorded.take_learned.Goals as goal
 pub returns : goal.returns
 returns c = (
   c.keep_learned.ensures.gate,
-  λ entries at_gate kept.
+  λ entries first kept.
       let entry = Learned c.args.instance c.args.value.now in
       let advances : Advances entries entry = search rules in
       let mid : Recorded = record c.args.self.now { slots = c.make_room.new.self } in

@@ -11,7 +11,7 @@ use Rattle.durable.proofs.recorded.Recorded.take_vote.Goals as goal
 pub returns : goal.returns
 returns c = (
   c.keep_vote.ensures.gate,
-  λ entries at_gate kept.
+  λ entries first kept.
       let entry = Voted c.args.instance c.args.ballot c.args.value.now in
       let free = subst (λ (s : Slot). IsFreeAt s.promised c.args.ballot × (¬ IsVotedAt s.vote c.args.ballot)) c.get.ensures c.in-Vote.ensures in
       let advances = vote_advances entries c.args.instance c.args.ballot c.args.value.now _ (kept.slots c.args.instance) free.0 free.1 in

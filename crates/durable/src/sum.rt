@@ -1,0 +1,72 @@
+//! Sums of batches, by which a flipped bit is noticed.
+//!
+//! A sum is against accidents and not against forgers, so eight bytes of MD5 are enough. It stands in front of the bytes
+//! that it is of, with their number: so a length that rots among them hides nothing of them. Its kind, 24, differs from
+//! each kind of an entry in two bits at least.
+
+ghost use Rattle.std.specs.Prelude.{◌≡◌, ◌↔◌, ◌<◌, ◌^◌, IsTrue, MatchOption, length};
+ghost use Rattle.durable.specs.Items.{sum_front, sum_of};
+ghost use Rattle.durable.specs.Reading.{HasNoSum, IsSumAt};
+
+use byteorder::{BigEndian, ByteOrder};
+use md5::{Digest, Md5};
+
+/// The length of a sum.
+const SUM: usize = 8;
+
+/// How many bytes stand in front of the blocks of a batch.
+pub(crate) const SUM_BLOCK: usize = 18;
+
+/// What stands in front of the blocks of a batch: how many bytes they are, and their sum.
+#[derive(Clone, Copy)]
+pub(crate) struct Sum {
+    pub(crate) size: usize,
+    pub(crate) sum: [u8; SUM],
+}
+
+/// The sum of bytes.
+fn sum_of(bytes: &[u8]) -> [u8; SUM]
+    ensures { result ≡ sum_of bytes.now }
+{
+    let digest = Md5::digest(bytes);
+    let mut sum = [0; SUM];
+    sum.copy_from_slice(&digest[..SUM]);
+    sum
+}
+
+/// What stands in front of these blocks.
+pub(crate) fn sum_front(blocks: &[u8]) -> [u8; SUM_BLOCK]
+    requires { length blocks.now < 2 ^ 32 }
+    ensures { result ≡ sum_front (length blocks.now) (sum_of blocks.now) }
+{
+    let mut front = [1, 0, 0, 0, 13, 24, 0, 0, 0, 0, 0, 0, 0, 0, 0, 0, 0, 0];
+    BigEndian::write_u32(&mut front[6..], blocks.len() as u32);
+    front[10..].copy_from_slice(&sum_of(blocks));
+    front
+}
+
+impl Sum {
+    /// The sum at a gate, if one stands there.
+    pub(crate) fn at(bytes: &[u8]) -> Option<Sum>
+        ensures { MatchOption result (HasNoSum bytes.now) (λ s. IsSumAt bytes.now s.size s.sum) }
+    {
+        let [1, 0, 0, 0, 13, 24, a, b, c, d, e, f, g, h, i, j, k, l, ..] = bytes else {
+            return None;
+        };
+        let size = u32::from_be_bytes([*a, *b, *c, *d]);
+        if size == 0 {
+            return None;
+        }
+        Some(Sum {
+            size: size as usize,
+            sum: [*e, *f, *g, *h, *i, *j, *k, *l],
+        })
+    }
+
+    /// Whether it is the sum of these bytes.
+    pub(crate) fn is_of(self, bytes: &[u8]) -> bool
+        ensures { IsTrue result ↔ (self.sum ≡ sum_of bytes.now) }
+    {
+        self.sum == sum_of(bytes)
+    }
+}
