@@ -44,7 +44,7 @@ module _ {D : Type 0} (stands_for : D → DiskState → Type 0) (disk : D) (code
     };
     on_disk = λ d stands.
         let has = (read.ready d stands).stored in
-        record { stands = has.stands; keeps = mine (after_sync d) (settled_keeps code.store.node code.store.cluster entries (after_sync d) has.settled has.reads); stored = λ runs. has };
+        record { stands = has.stands; keeps = mine (after_sync d) (settled_keeps code.store.node code.store.cluster entries (after_sync d) has.settled has.reads.stands); stored = λ runs. has };
     reads = mine_read;
     settles = λ d kept in_flight stands keeps. opening_settles code.me code.cluster kept in_flight d entries keeps (mine_read d stands);
   }
@@ -57,4 +57,4 @@ module _ {D : Type 0} (stands_for : D → DiskState → Type 0) (disk : D) (code
 
       mine_read : (d : DiskState) → stands_for disk d → StandsFor code.me code.cluster d.seen entries
       mine_read d stands =
-          subst (λ (p : ℕ). StandsFor p code.cluster d.seen entries) code.store_node (subst (λ (n : ℕ). StandsFor code.store.node n d.seen entries) code.store_cluster (read.ready d stands).stored.reads)
+          subst (λ (p : ℕ). StandsFor p code.cluster d.seen entries) code.store_node (subst (λ (n : ℕ). StandsFor code.store.node n d.seen entries) code.store_cluster (read.ready d stands).stored.reads.stands)

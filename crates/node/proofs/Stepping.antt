@@ -9,16 +9,15 @@ use Rattle.wire.specs.Messages.{IsMessage}
 use Rattle.durable.specs.Entries.{Entry}
 use Rattle.durable.specs.Histories.{MayFollow, IsHistory}
 use Rattle.durable.specs.Keeping.{IsFound, Keeps}
-use Rattle.durable.specs.Batches.{IsAhead, IsBatchOpen, GoesAhead}
+use Rattle.durable.specs.Batches.{IsAhead, IsBatchOpen, Waits, GoesAhead}
 use Rattle.durable.specs.Puts.{Puts, IsPut, IsMemoryKept, Acknowledges, LeavesInFlight}
 use Rattle.durable.specs.Reading.{IsKept}
-use Rattle.durable.specs.Ready.{IsStored, IsReady, IsUnchanged}
+use Rattle.durable.specs.Ready.{IsStored, IsReady, IsUnchanged, StandsUpTo}
 use Rattle.durable.specs.Slots.{cell_at}
-use Rattle.durable.specs.Spelling.{blocks}
-use Rattle.durable.specs.Standing.{StandsFor}
 use Rattle.durable.specs.declared.fault.RecordFault.{RecordFault}
 use Rattle.durable.specs.declared.fault.RecordFault.TheVariants as stored
 use Rattle.durable.specs.declared.record.Record.{Record}
+use Rattle.durable.proofs.Batches.{waits_with, waiting_size}
 use Rattle.durable.proofs.Keeping.{settled_keeps}
 use Rattle.durable.proofs.Kept.{kept_same}
 use Rattle.durable.proofs.Moments.{started, weaker}
@@ -168,7 +167,7 @@ module _ {D : Type 0} where
   module _ (stands_for : D → DiskState → Type 0) where
     pub of_node : (store : Record D) (p n : ℕ) (d : DiskState) (entries : List Entry) → store.node ≡ p → store.cluster ≡ n → IsStored stands_for store d entries → Keeps p n entries None d
     of_node store p n d entries node cluster has =
-        subst (λ (q : ℕ). Keeps q n entries None d) node (subst (λ (m : ℕ). Keeps store.node m entries None d) cluster (settled_keeps store.node store.cluster entries d has.settled has.reads))
+        subst (λ (q : ℕ). Keeps q n entries None d) node (subst (λ (m : ℕ). Keeps store.node m entries None d) cluster (settled_keeps store.node store.cluster entries d has.settled has.reads.stands))
 
     -- the node is on the disk, or ahead of it, as it was before
     pub record Stays (old new : Running D) (s t : Node) : Type 0 where
@@ -176,7 +175,7 @@ module _ {D : Type 0} where
       pub ahead : StaysAhead stands_for old new s t
 
     is_open : (store : Record D) (d : DiskState) (earlier batch : List Entry) → IsAhead stands_for store d earlier batch → IsBatchOpen store
-    is_open store d earlier batch ahead = omega (arith, ap length ahead.staged.waiting, length-append (blocks batch) (0 ∷ []))
+    is_open store d earlier batch ahead = omega (arith, waiting_size batch store.staged.bytes.items ahead.staged.waits.waiting)
 
     -- what waits in a batch is as it was
     still_ahead : (old new : Record D) (d : DiskState) (earlier batch : List Entry) → SeemsSame old new → IsAhead stands_for old d earlier batch → IsAhead stands_for new d earlier batch
@@ -186,11 +185,8 @@ module _ {D : Type 0} where
           staged = record {
             stands = subst (λ (x : D). stands_for x d) (sym same.disk) has.stands;
             settled = has.settled;
-            reads = subst (λ (p : ℕ). StandsFor p new.cluster d.seen earlier) (sym same.node) (subst (λ (n : ℕ). StandsFor old.node n d.seen earlier) (sym same.cluster) has.reads);
-            history = subst (λ (n : ℕ). IsHistory n (earlier ++ batch)) (sym same.cluster) has.history;
-            waiting = same.staged ∙ has.waiting;
-            base = λ some. same.base ∙ has.base some;
-            gate = same.gate ∙ has.gate;
+            waits = subst (λ (p : ℕ). Waits p new.cluster d.seen earlier batch new.recorded.gate new.staged) (sym same.node) (subst (λ (n : ℕ). Waits old.node n d.seen earlier batch new.recorded.gate new.staged) (sym same.cluster)
+                (waits_with old.node old.cluster d.seen earlier batch old.recorded.gate new.recorded.gate old.staged new.staged same.gate same.staged same.base has.waits));
             running = same.stopped ∙ has.running;
           };
           kept = still_kept old new (earlier ++ batch) same.kept ahead.kept;
@@ -218,8 +214,8 @@ module _ {D : Type 0} where
               subst (λ (es : List Entry). IsStored stands_for new.store d es) (sym entries) (record {
                 stands = disk;
                 settled = has.settled;
-                reads = subst (λ (p : ℕ). StandsFor p new.store.cluster d.seen s.entries) (sym same.node) (subst (λ (n : ℕ). StandsFor old.store.node n d.seen s.entries) (sym same.cluster) has.reads);
-                gate = same.gate ∙ has.gate;
+                reads = subst (λ (p : ℕ). StandsUpTo p new.store.cluster d.seen s.entries new.store.recorded.gate) (sym same.node) (subst (λ (n : ℕ). StandsUpTo old.store.node n d.seen s.entries new.store.recorded.gate) (sym same.cluster)
+                    (subst (λ t. StandsUpTo old.store.node old.store.cluster d.seen s.entries t) (sym same.gate) has.reads));
                 running = runs;
                 none_staged = same.staged ∙ has.none_staged;
               });

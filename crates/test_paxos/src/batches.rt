@@ -1,9 +1,10 @@
-//! Batches: all of one stands or none of it, whichever call of its seal fails and whatever a crash chooses; their bytes are those of single puts.
+//! Batches: all of one stands or none of it, whichever call of its seal fails and whatever a crash chooses. Their bytes are
+//! those of single puts, behind their sum.
 use crate::comparing::{ensure, same};
 use crate::damage::is_of;
-use crate::disks::{crashed_within, holds, is_long, is_long_behind, reads};
-use crate::listed::{RECORD, SPANNED, entries};
-use crate::samples::{ballot, instance};
+use crate::disks::{crashed_within, is_long, is_long_behind, reads};
+use crate::listed::{RECORD, SUMMED, entries};
+use crate::samples::{ballot, instance, is_bytes};
 use crate::steps::{Step, act, disk_behind, take};
 use crate::stored::{arm, disk_of, empty, ends, formatted, is_promised, opened};
 use durable::{Record, RecordFault};
@@ -18,22 +19,22 @@ const CRASHES: &[(u32, Option<u8>, u64, bool)] = &[
     (0, Some(0), 11, false),
     (0, Some(1), 11, false),
     (0, Some(7), 11, false),
-    (1, None, 53, false),
+    (1, None, 71, false),
     (1, Some(0), 11, false),
-    (1, Some(1), 53, false),
-    (1, Some(7), 53, false),
-    (2, None, 53, false),
-    (2, Some(0), 53, false),
-    (2, Some(1), 53, false),
-    (2, Some(7), 53, false),
-    (3, None, 53, true),
-    (3, Some(0), 53, false),
-    (3, Some(1), 53, true),
-    (3, Some(7), 53, false),
-    (4, None, 53, true),
-    (4, Some(0), 53, true),
-    (4, Some(1), 53, true),
-    (4, Some(7), 53, true),
+    (1, Some(1), 71, false),
+    (1, Some(7), 71, false),
+    (2, None, 71, false),
+    (2, Some(0), 71, false),
+    (2, Some(1), 71, false),
+    (2, Some(7), 71, false),
+    (3, None, 71, true),
+    (3, Some(0), 71, false),
+    (3, Some(1), 71, true),
+    (3, Some(7), 71, false),
+    (4, None, 71, true),
+    (4, Some(0), 71, true),
+    (4, Some(1), 71, true),
+    (4, Some(7), 71, true),
 ];
 
 /// How many calls pass before one fails, and whether the batch stands for the next opening, without a crash.
@@ -55,13 +56,35 @@ const NOT_SEALED: &[Step] = &[Step::Begin, ROUND, PROMISE, VOTE];
 
 const IN_ONE_BATCH: &[Step] = &[Step::Begin, ROUND, PROMISE, VOTE, Step::Seal];
 
-/// Steps that write `RECORD`, and how many writes and syncs there are then, an opening's among them.
-const WRITERS: &[(&[Step], usize)] = &[
-    (THREE, 13),
-    (IN_ONE_BATCH, 5),
-    (&[ROUND, Step::Begin, PROMISE, VOTE, Step::Seal], 9),
+/// The entries of `RECORD`, the second and the third behind their sum.
+const THE_LATER: [u8; 71] =
+    *b"SITEREC1\x02\x03\x01\x00\x00\x00\x05\x01\x00\x00\x00\x01\x01\x00\x00\x00\x0d\x18\x00\x00\x00 \x06]\xbc\x13\xfd9x\xfa\x01\x00\x00\x00\x0a\x02\x00\x00\x00\x01\x00\x00\x00\x01\x01\x01\x00\x00\x00\x0c\x03\x00\x00\x00\x01\x00\x00\x00\x02\x01ab\x00";
+
+/// The same, the first and the second behind their sum.
+const THE_FIRST: [u8; 71] =
+    *b"SITEREC1\x02\x03\x01\x00\x00\x00\x0d\x18\x00\x00\x00\x19`\xef\xa0v\xe89\x02\xfd\x01\x00\x00\x00\x05\x01\x00\x00\x00\x01\x01\x00\x00\x00\x0a\x02\x00\x00\x00\x01\x00\x00\x00\x01\x01\x01\x00\x00\x00\x0c\x03\x00\x00\x00\x01\x00\x00\x00\x02\x01ab\x00";
+
+/// The same, the first behind its sum, and the third.
+const TWICE: [u8; 89] =
+    *b"SITEREC1\x02\x03\x01\x00\x00\x00\x0d\x18\x00\x00\x00\x0a\x9a\xd4\x91\x0b\xa7`7;\x01\x00\x00\x00\x05\x01\x00\x00\x00\x01\x01\x00\x00\x00\x0a\x02\x00\x00\x00\x01\x00\x00\x00\x01\x01\x01\x00\x00\x00\x0d\x18\x00\x00\x00\x11\x89\x04\xd1\xc0\x01d\x07U\x01\x00\x00\x00\x0c\x03\x00\x00\x00\x01\x00\x00\x00\x02\x01ab\x00";
+
+/// The entry of `SPANNED` behind its sum.
+const SPANNED_SUMMED: [u8; 45] =
+    *b"SITEREC1\x02\x03\x01\x00\x00\x00\x0d\x18\x00\x00\x00\x10\xb3$\x04i\x888\xa2\x0e\x01\x00\x00\x00\x0b\x04\x00\x00\x00\x05\x03\x00\x00\x00\x01\x01\x00";
+
+/// Steps that write the entries of `RECORD`, the bytes, and how many writes and syncs there are then, an opening's among
+/// them.
+const WRITERS: &[(&[Step], &[u8], usize)] = &[
+    (THREE, &RECORD, 13),
+    (IN_ONE_BATCH, &SUMMED, 5),
+    (
+        &[ROUND, Step::Begin, PROMISE, VOTE, Step::Seal],
+        &THE_LATER,
+        9,
+    ),
     (
         &[Step::Begin, ROUND, Step::Begin, PROMISE, Step::Seal, VOTE],
+        &THE_FIRST,
         9,
     ),
     (
@@ -75,6 +98,7 @@ const WRITERS: &[(&[Step], usize)] = &[
             VOTE,
             Step::Seal,
         ],
+        &TWICE,
         13,
     ),
 ];
@@ -215,16 +239,14 @@ fn calls_of(rt: &impl Abort, alloc: Global, steps: &[Step]) -> usize {
 }
 
 /// These steps write these bytes, with so many writes and syncs, an opening's among them.
-fn write<const N: usize>(
-    rt: &impl Abort,
-    alloc: Global,
-    steps: &[Step],
-    wanted: &[u8; N],
-    calls: usize,
-) {
+fn write(rt: &impl Abort, alloc: Global, steps: &[Step], wanted: &[u8], calls: usize) {
     let mut disk = disk_behind(rt, alloc, steps);
     same(rt, writes_and_syncs(disk.calls()), calls);
-    ensure(rt, holds(&mut disk, wanted), calls);
+    let mut room = [0; 89];
+    let bytes = room.get_mut(..wanted.len()).expect(rt, "room");
+    ensure(rt, reads(&mut disk, 0, bytes), calls);
+    ensure(rt, is_bytes(bytes, wanted), calls);
+    ensure(rt, is_long(&mut disk, wanted.len() as u64), calls);
     drop(disk);
 }
 
@@ -232,30 +254,33 @@ const SPAN_BATCH: &[Step] = &[Step::Begin, Step::Span(5, 3, 1), Step::Seal];
 
 const EMPTY_BATCH: &[Step] = &[Step::Begin, Step::Seal];
 
-/// However a record's entries came there, its bytes are the same.
+/// However a record's entries came there, their bytes are the same; a batch's stand behind their sum.
 #[test]
 fn batches_and_puts_write_the_same_bytes(rt: HostRuntime) {
     let alloc = rt.alloc();
-    for &(steps, calls) in WRITERS {
-        write(&rt, alloc, steps, &RECORD, calls);
+    for &(steps, wanted, calls) in WRITERS {
+        write(&rt, alloc, steps, wanted, calls);
     }
-    write(&rt, alloc, SPAN_BATCH, &SPANNED, 5);
+    write(&rt, alloc, SPAN_BATCH, &SPANNED_SUMMED, 5);
     same(&rt, calls_of(&rt, alloc, EMPTY_BATCH), 1);
 }
 
 /// The record that these steps write.
-fn record_behind(rt: &impl Abort, alloc: Global, steps: &[Step]) -> [u8; 53] {
+fn record_behind(rt: &impl Abort, alloc: Global, steps: &[Step]) -> [u8; 71] {
     let mut disk = disk_behind(rt, alloc, steps);
-    let mut bytes = [0; 53];
-    ensure(rt, reads(&mut disk, 0, &mut bytes), 53);
+    let mut bytes = [0; 71];
+    ensure(rt, reads(&mut disk, 0, &mut bytes), 71);
     drop(disk);
     bytes
 }
 
-/// What a batch wrote is what the definition of a record reads there.
+/// What a batch wrote behind its sum is what the definition of a record reads there.
 #[test]
 fn a_batch_stands_for_its_entries(rt: HostRuntime) {
-    let bytes = record_behind(&rt, rt.alloc(), IN_ONE_BATCH);
+    let batch = record_behind(&rt, rt.alloc(), IN_ONE_BATCH);
+    let mut bytes = [0; 53];
+    bytes[..10].copy_from_slice(&batch[..10]);
+    bytes[10..].copy_from_slice(&batch[28..]);
     let entries = entries(&rt, rt.alloc());
     ensure(&rt, is_of(&rt, rt.alloc(), &bytes, &entries), bytes.len());
     drop(entries);

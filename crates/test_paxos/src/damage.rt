@@ -2,7 +2,7 @@
 use crate::changes::with_byte;
 use crate::comparing::{ensure, same};
 use crate::listed::{
-    FLOORED, LEARNED, Listed, RECORD, SPANNED, entries, floored, learned, spanned,
+    FLOORED, LEARNED, Listed, RECORD, SPANNED, SUMMED, entries, floored, learned, spanned,
 };
 use crate::samples::{instance, is_bytes, is_text};
 use crate::stored::{one_of_three, read_bytes};
@@ -13,7 +13,7 @@ use std::alloc::Global;
 use std::process::Abort;
 use test_record::entry::Entry;
 use test_record::recorded::{self, floor, greatest_round, is_slot, last_round, last_vote, reach};
-use test_record::standing::{refusal, stands_for};
+use test_record::standing::{refusal, stands_plainly_for};
 
 /// Worked out by hand: a place, a byte there, and of the history for which the record then stands, if it does, how many entries it has, the
 /// last round, and the value that is voted for at instance 1.
@@ -163,10 +163,10 @@ fn is_told(
     is_told
 }
 
-/// Whether node 2's record of these bytes stands for that history.
+/// Whether node 2's record of these bytes, which has no sum, stands for that history.
 pub fn is_of(rt: &impl Abort, alloc: Global, bytes: &[u8], history: &[Entry]) -> bool {
     let (cluster, node) = one_of_three(rt, 2);
-    stands_for(alloc, cluster, node, bytes, history).expect(rt, "memory")
+    stands_plainly_for(alloc, cluster, node, bytes, history).expect(rt, "memory")
 }
 
 /// The beginning of the entries that the bytes stand for.
@@ -288,4 +288,71 @@ fn the_list_has_what_is_worked_out(rt: HostRuntime) {
     let listed = Listed::of(&rt, alloc, &FLOORED, floored(&rt, alloc));
     same(&rt, listed.len(), FLOORED_COUNT);
     drop(listed);
+}
+
+const BITS: &[u8] = &[1, 2, 4, 8, 16, 32, 64, 128];
+
+/// What becomes of the record with a sum where a bit of the byte at a place is another: the entries that are read, or the
+/// refusal.
+fn flipped(place: usize, byte: u8) -> Result<usize, RecordFault> {
+    match place {
+        0..8 => Err(RecordFault::NotARecord),
+        8 | 9 => Err(RecordFault::WrongNode),
+        // the sum's gate: it is shut, which ends the list
+        10 => Ok(0),
+        // the last gate, which only an open one changes
+        70 if byte != 1 => Ok(3),
+        _ => Err(RecordFault::Damaged),
+    }
+}
+
+/// Node 2 opens the bytes and tells that many of these entries, or refuses them.
+fn opens(
+    rt: &impl Abort,
+    alloc: Global,
+    bytes: &[u8],
+    wanted: Result<usize, RecordFault>,
+    entries: &[Entry],
+) -> bool {
+    match (read_bytes(rt, alloc, 2, bytes), wanted) {
+        (Ok(record), Ok(count)) => {
+            let told = match entries.get(..count) {
+                Some(entries) => tells(rt, &record, entries),
+                None => false,
+            };
+            drop(record);
+            told
+        }
+        (Err(came), Err(wanted)) => came == wanted,
+        (Ok(record), Err(_)) => {
+            drop(record);
+            false
+        }
+        (Err(_), Ok(_)) => false,
+    }
+}
+
+/// No bit of what a sum covers can be another without being noticed, no length and no gate among them, nor one of the sum
+/// itself. A sum's gate that is shut ends the list, as ever.
+#[test]
+fn a_record_with_a_sum_and_each_bit_flipped(rt: HostRuntime) {
+    let alloc = rt.alloc();
+    let entries = entries(&rt, alloc);
+    ensure(
+        &rt,
+        opens(&rt, alloc, &SUMMED, Ok(3), &entries),
+        SUMMED.len(),
+    );
+    for place in 0..SUMMED.len() {
+        for &bit in BITS {
+            let byte = SUMMED[place] ^ bit;
+            let bytes = with_byte(&rt, alloc, &SUMMED, place, byte);
+            ensure(
+                &rt,
+                opens(&rt, alloc, &bytes, flipped(place, byte), &entries),
+                (place, byte),
+            );
+        }
+    }
+    drop(entries);
 }

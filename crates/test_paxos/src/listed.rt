@@ -10,12 +10,17 @@ use std::process::Abort;
 use test_record::entry::Entry;
 use test_record::history::is_history;
 use test_record::spelling::spelled;
-use test_record::standing::stands_for;
+use test_record::standing::stands_plainly_for;
 
 /// The record of node 2 of 3. At 10 the gate of round 1, at 20 that of the promise of (1, 1) at instance 1, at 35 that of the vote for `ab` at (2, 1)
 /// there, at 52 the last gate.
 pub const RECORD: [u8; 53] =
     *b"SITEREC1\x02\x03\x01\x00\x00\x00\x05\x01\x00\x00\x00\x01\x01\x00\x00\x00\x0a\x02\x00\x00\x00\x01\x00\x00\x00\x01\x01\x01\x00\x00\x00\x0c\x03\x00\x00\x00\x01\x00\x00\x00\x02\x01ab\x00";
+
+/// The same as a batch writes it, behind the sum of its entries: at 10 the gate of the sum, at 28 that of the first entry, at 70
+/// the last gate.
+pub const SUMMED: [u8; 71] =
+    *b"SITEREC1\x02\x03\x01\x00\x00\x00\x0d\x18\x00\x00\x00*`\x9a\xe6Ms\x1e$\x0d\x01\x00\x00\x00\x05\x01\x00\x00\x00\x01\x01\x00\x00\x00\x0a\x02\x00\x00\x00\x01\x00\x00\x00\x01\x01\x01\x00\x00\x00\x0c\x03\x00\x00\x00\x01\x00\x00\x00\x02\x01ab\x00";
 
 /// Its history.
 pub fn entries(rt: &impl Abort, alloc: Global) -> Vec<Entry> {
@@ -145,7 +150,7 @@ impl<'a> Listed<'a> {
     /// Whether the record with this byte stands for these entries.
     fn stands_with(&self, rt: &impl Abort, place: usize, byte: u8, entries: &[Entry]) -> bool {
         let file = with_byte(rt, self.alloc, self.record, place, byte);
-        stands_for(self.alloc, self.cluster, self.node, &file, entries).expect(rt, "memory")
+        stands_plainly_for(self.alloc, self.cluster, self.node, &file, entries).expect(rt, "memory")
     }
 
     /// Lists these entries where it does.

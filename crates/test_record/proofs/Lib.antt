@@ -1,3 +1,4 @@
 pub mod Promises
 pub mod Histories
 pub mod Gates
+pub mod Plain

@@ -1,7 +1,8 @@
 //! What a file stands for, and why it is refused.
 
 ghost use Rattle.std.specs.Prelude.{◌≡◌, ◌≢◌, ◌⊎◌, ◌↔◌, ◌++◌, ℕ, List, IsTrue, IfOk, MatchOption, length, ◌≤◌};
-ghost use Rattle.durable.specs.Standing.{StandsFor, IsNoRecord, IsOfAnother, IsDamaged, IsRefusal};
+ghost use Rattle.durable.specs.Items.{puts};
+ghost use Rattle.durable.specs.Standing.{IsLaid, IsNoRecord, IsOfAnother, IsDamaged, IsRefusal};
 ghost use Rattle.test_record.specs.Meaning.{meanings};
 ghost use Rattle.test_record.specs.Gates.{IsShutBehind};
 
@@ -30,15 +31,15 @@ fn is_shut_behind(file: &[u8], front: &[u8]) -> bool
     }
 }
 
-/// Whether a file stands for these entries.
-pub fn stands_for(
+/// Whether a file has these entries, and no sum.
+pub fn stands_plainly_for(
     alloc: Global,
     cluster: Cluster,
     node: NodeId,
     file: &[u8],
     entries: &[Entry],
 ) -> Result<bool, AllocError>
-    ensures { IfOk result (λ stands. IsTrue stands ↔ StandsFor node cluster file.now (meanings entries.now)) }
+    ensures { IfOk result (λ stands. IsTrue stands ↔ IsLaid node cluster file.now (puts (meanings entries.now))) }
 {
     if !is_history(cluster, entries) {
         return Ok(false);

@@ -62,7 +62,7 @@ module _ {D : Type 0} (stands_for : D → DiskState → Type 0) where
     before file may =
         let has = is.ahead.ahead.staged in
         let s : Node = w.node p in
-        let here : StandsFor code.store.node code.store.cluster file s.entries = subst (λ (l : List ℕ). StandsFor code.store.node code.store.cluster l s.entries) (sym (settled_leaves d file has.settled may)) has.reads in
+        let here : StandsFor code.store.node code.store.cluster file s.entries = subst (λ (l : List ℕ). StandsFor code.store.node code.store.cluster l s.entries) (sym (settled_leaves d file has.settled may)) has.waits.stands in
         let mine = subst (λ (q : ℕ). StandsFor q code.cluster file s.entries) code.store_node (subst (λ (k : ℕ). StandsFor code.store.node k file s.entries) code.store_cluster here) in
         left file (inl (s.entries, inl refl, mine))
 
