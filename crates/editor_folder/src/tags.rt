@@ -1,7 +1,7 @@
 //! The names in a folder's files: of partials and values in templates, and of keys in data.
 use crate::finding::Finding;
 use crate::keys::Key;
-use crate::place::{Place, place_of};
+use crate::place::{Place, place_past};
 use crate::reasons::warning_in;
 use crate::template_reasons::Call;
 use std::alloc::{AllocError, Global};
@@ -15,7 +15,10 @@ pub(crate) struct TagName {
     pub place: Place,
 }
 
-/// Adds tags of a file's text.
+/// Where a text begins.
+const START: Place = Place { line: 1, column: 1 };
+
+/// Adds tags of a file's text, which come in its order.
 pub(crate) fn push_tags(
     alloc: Global,
     tags: &mut Vec<TagName>,
@@ -23,11 +26,16 @@ pub(crate) fn push_tags(
     body: &str,
     found: &[Call<'_>],
 ) -> Result<(), AllocError> {
+    let text = body.as_bytes();
+    let mut at = 0;
+    let mut place = START;
     for call in found {
+        place = place_past(text, at, place, call.at);
+        at = call.at;
         tags.push(TagName {
             name: String::from_str(alloc, call.name)?,
             file: String::from_str(alloc, path)?,
-            place: place_of(body.as_bytes(), call.at),
+            place,
         })?;
     }
     Ok(())
@@ -40,24 +48,29 @@ fn is_new(alloc: Global, before: &mut BTreeSet<String>, key: &Key) -> Result<boo
 }
 
 /// A key stands twice in one object.
-fn doubled_key(alloc: Global, path: &str, body: &str, key: &Key) -> Result<Finding, AllocError> {
+fn doubled_key(alloc: Global, path: &str, place: Place, key: &Key) -> Result<Finding, AllocError> {
     let name = key.name.as_str();
     let reason = format!(in alloc; "the key `{name}` stands twice here: the later value counts")?;
-    warning_in(alloc, path, place_of(body.as_bytes(), key.at), reason)
+    warning_in(alloc, path, place, reason)
 }
 
-/// The keys that stand twice in one object.
+/// The keys that stand twice in one object, of keys in the order of their text.
 pub(crate) fn doubled_keys(
     alloc: Global,
     path: &str,
     body: &str,
     keys: &[Key],
 ) -> Result<Vec<Finding>, AllocError> {
+    let text = body.as_bytes();
+    let mut at = 0;
+    let mut place = START;
     let mut before = BTreeSet::new(alloc);
     let mut findings = Vec::new(alloc);
     for key in keys {
+        place = place_past(text, at, place, key.at);
+        at = key.at;
         if !is_new(alloc, &mut before, key)? {
-            findings.push(doubled_key(alloc, path, body, key)?)?;
+            findings.push(doubled_key(alloc, path, place, key)?)?;
         }
     }
     Ok(findings)

@@ -1,8 +1,10 @@
 pub mod Listing
+pub mod LookUps
 pub mod Members
 pub mod Pasts
 pub mod Receipts
 pub mod Spellings
+pub mod SubjectCounts
 pub mod Subjects
 pub mod Tickets
 pub mod Turning

@@ -4,10 +4,6 @@ use Rattle.std.specs.List.{list_any, find}
 use Rattle.editor_ledger.specs.Books.{Given}
 use Rattle.editor_ledger.specs.Steps.{numbered}
 
-pub list_any_map : {X Y : Type 0} (p : X → Bool) (h : Y → X) (ys : List Y) → list_any p (map h ys) ≡ list_any (λ y. p (h y)) ys
-list_any_map p h [] = refl
-list_any_map p h (y ∷ ys) = ap (λ b. p (h y) || b) (list_any_map p h ys)
-
 -- one text more takes the next number
 pub numbered_push : (next : ℕ) (texts : List (List ℕ)) (t : List ℕ) → numbered next (texts ++ (t ∷ [])) ≡ numbered next texts ++ (record { number = next + length texts; text = t } ∷ [])
 numbered_push next [] t = let first : next ≡ next + 0 = omega arith in ap (λ (n : ℕ). let g : Given = record { number = n; text = t } in g ∷ []) first

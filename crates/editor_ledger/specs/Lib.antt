@@ -1,4 +1,5 @@
 pub mod Books
+pub mod Firsts
 pub mod Heads
 pub mod Histories
 pub mod Laws
@@ -7,4 +8,5 @@ pub mod Plans
 pub mod Sizes
 pub mod Spelling
 pub mod Steps
+pub mod Subjects
 pub mod View

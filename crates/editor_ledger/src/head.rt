@@ -3,7 +3,7 @@ ghost use Rattle.std.specs.Prelude.{◌≡◌, ◌==◌, ◌<◌, option_map, If
 ghost use Rattle.std.specs.List.{before_first};
 ghost use Rattle.command.specs.Cuts.{cut_at};
 ghost use Rattle.command.specs.View.{pair_view};
-ghost use Rattle.editor_ledger.specs.Heads.{head_of, is_about, are_about_one, puts, removal};
+ghost use Rattle.editor_ledger.specs.Heads.{head_of, is_about, puts, removal};
 ghost use Rattle.editor_ledger.specs.View.{head_view};
 
 use std::alloc::{AllocError, Global};
@@ -71,15 +71,5 @@ impl Head<'_> {
         let kind = self.kind;
         let name = self.name;
         format!(in alloc; "remove {kind} {name}\n")
-    }
-}
-
-/// Whether both texts are about one kind and name.
-pub(crate) fn are_about_one(text: &str, other: &str) -> bool
-    ensures { result ≡ are_about_one text.now other.now }
-{
-    match head_of(text) {
-        Some(head) => head.is_about(other),
-        None => false,
     }
 }

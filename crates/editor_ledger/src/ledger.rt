@@ -1,10 +1,9 @@
 //! What an editor keeps of its publications.
 ghost use Rattle.std.specs.Prelude.{◌≡◌, ◌≤◌, ◌<◌, ◌+◌, ◌^◌, length, map, true, Err, IfOk, OnOk, OnErr, string_bytes};
-ghost use Rattle.editor_ledger.specs.Steps.{with_text};
 ghost use Rattle.editor_ledger.specs.View.{given_view, past_view, message_view};
 
 use crate::fault::LedgerFault;
-use crate::head::are_about_one;
+use crate::kept::Kept;
 use crate::message::Message;
 use crate::past::Past;
 use crate::planning::{overtaken, plan_of};
@@ -25,7 +24,7 @@ pub struct Ledger {
     /// The ticket of the last release that has its receipt; 0 for none.
     pub(crate) last_release: u64,
     /// The last text about each kind and name, as the receipts came.
-    pub(crate) kept: Vec<String>,
+    pub(crate) kept: Kept,
     /// What is on its way, in the order of the tickets.
     pub(crate) sent: Vec<Sent>,
     /// The releases, the oldest first.
@@ -37,7 +36,7 @@ pub struct Ledger {
 }
 
 impl Model for Ledger {
-    ghost use Rattle.std.specs.Prelude.{map, string_bytes};
+    ghost use Rattle.std.specs.Prelude.{map};
     ghost use Rattle.editor_ledger.specs.Books.{Book};
 
     ghost Value = { Book };
@@ -48,23 +47,12 @@ impl Model for Ledger {
       editor = l.editor;
       next = l.next;
       last_release = l.last_release;
-      kept = map string_bytes l.kept.items;
+      kept = l.kept;
       sent = map given_view l.sent.items;
       log = l.log.items;
       past = map past_view l.past.items;
       messages = map message_view l.messages.items;
     } };
-}
-
-/// Keeps one more text: of each kind and name the last.
-fn keep(kept: &mut Vec<String>, text: String) -> Result<(), AllocError>
-    ensures ok { OnOk result (map string_bytes kept.new.items ≡ with_text (string_bytes text) (map string_bytes kept.old.items)) }
-    ensures err { OnErr result (kept.new.items ≡ kept.old.items) }
-{
-    kept.reserve(1)?;
-    kept.retain(|had| !are_about_one(text.as_str(), had.as_str()));
-    kept.push_reserved(text);
-    Ok(())
 }
 
 impl Ledger {
@@ -80,7 +68,7 @@ impl Ledger {
             editor,
             next: 1,
             last_release: 0,
-            kept: Vec::new(alloc),
+            kept: Kept::new(alloc),
             sent: Vec::new(alloc),
             log: Vec::new(alloc),
             past: Vec::new(alloc),
@@ -188,9 +176,9 @@ impl Ledger {
         ensures err { OnErr result (self.new ≡ self.old) }
         ensures tickets { result ≡ Err LedgerFault.NoTickets → 2 ^ 64 ≤ self.old.next + length (plan_of self.old.kept (map (λ t. t.now) wanted.now)) }
     {
-        let texts = plan_of(alloc, &self.kept, wanted)?;
+        let texts = plan_of(alloc, self.kept.as_slice(), wanted)?;
         let next = self.next_behind(&texts)?;
-        let mut past = overtaken(alloc, self.next, &self.kept, &texts)?;
+        let mut past = overtaken(alloc, self.next, self.kept.as_slice(), &texts)?;
         let sent = numbered(alloc, self.next, texts)?;
         self.past.append(&mut past)?;
         self.sent = sent;
@@ -241,7 +229,7 @@ impl Ledger {
             self.last_release = number;
             Ok(())
         } else {
-            keep(&mut self.kept, text)
+            self.kept.keep(text)
         }
     }
 

@@ -1,14 +1,17 @@
 //! The ledger of an editor: what the group has of its folder, and what is on its way.
 //!
 //! `ledger.rt` has the steps: a plan gives tickets that none had, a receipt takes a text off its way.
-//! `head.rt` says what a command is about, `planning.rt` what a plan holds. `spelling.rt` writes a ledger as
-//! the text of a file, and `reading.rt` reads it back; `old.rt` reads what a script kept before. `laws.rt`
-//! says what follows, for every interruption and continuation. Nothing here sends or saves: who does saves a
-//! plan before it sends any of it.
+//! `head.rt` says what a command is about, `firsts.rt` finds texts by that, `kept.rt` has those of the group.
+//! `planning.rt` says what a plan holds, `past.rt` what stood before. `spelling.rt` writes a ledger as the
+//! text of a file, and `reading.rt` reads it back; `old.rt` reads what a script kept before. `laws.rt` says
+//! what follows, for every interruption and continuation. Nothing here sends or saves: who does saves a plan
+//! before it sends any of it.
 #![tactic(auto)]
 
 mod fault;
+mod firsts;
 mod head;
+mod kept;
 mod laws;
 mod ledger;
 mod message;

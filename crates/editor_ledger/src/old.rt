@@ -3,6 +3,7 @@ ghost use Rattle.std.specs.Prelude.{◌≡◌, [], true, false, IfOk};
 ghost use Rattle.editor_ledger.specs.Steps.{is_idle, has_unshown};
 
 use crate::fault::LedgerReadFault;
+use crate::kept::Kept;
 use crate::ledger::Ledger;
 use std::alloc::{AllocError, Global};
 
@@ -42,7 +43,7 @@ fn text_of(alloc: Global, digest: &str, head: &str) -> Result<String, AllocError
 }
 
 /// A ledger of an editor whose last ticket showed all that the group has.
-fn shown(alloc: Global, editor: u32, next: u64, kept: Vec<String>) -> Ledger
+fn shown(alloc: Global, editor: u32, next: u64, kept: Kept) -> Ledger
     ensures idle { is_idle result ≡ true }
     ensures shown { has_unshown result ≡ false }
     ensures log { result.log ≡ [] }
@@ -64,7 +65,7 @@ fn shown(alloc: Global, editor: u32, next: u64, kept: Vec<String>) -> Ledger
 struct Told {
     editor: Option<u32>,
     next: Option<u64>,
-    kept: Vec<String>,
+    kept: Kept,
 }
 
 impl Told {
@@ -112,7 +113,7 @@ impl Ledger {
         let mut told = Told {
             editor: None,
             next: None,
-            kept: Vec::new(alloc),
+            kept: Kept::new(alloc),
         };
         told.take_all(alloc, text)?;
         told.ledger(alloc)

@@ -1,13 +1,14 @@
 //! What stood before, and the texts that stood at a ticket.
-ghost use Rattle.std.specs.Prelude.{◌≡◌, ◌++◌, map, filter, not, option_map, IfOk, string_bytes};
-ghost use Rattle.std.specs.List.{list_any, fold};
-ghost use Rattle.editor_ledger.specs.Heads.{are_about_one};
+ghost use Rattle.std.specs.Prelude.{◌≡◌, ℕ, List, map, filter, not, IfOk, string_bytes};
+ghost use Rattle.editor_ledger.specs.Firsts.{HasFirsts};
 ghost use Rattle.editor_ledger.specs.Past.{is_among, olds_since, texts_at, reaches};
 ghost use Rattle.editor_ledger.specs.View.{past_view};
 
-use crate::head::are_about_one;
+use crate::firsts::{Firsts, firsts_of, has_about, note};
+use crate::head::head_of;
 use crate::ledger::Ledger;
 use std::alloc::{AllocError, Global};
+use std::collections::BTreeMap;
 
 /// What stood before a text of a plan.
 #[derive(Drop)]
@@ -18,21 +19,25 @@ pub struct Past {
 }
 
 /// Whether one of the texts is about the same.
-fn is_among(texts: &[String], text: &str) -> bool
-    ensures { result ≡ is_among (map string_bytes texts.now) text.now }
+fn is_among<'a>(firsts: &Firsts<'a>, text: &'a str) -> bool
+    ensures { (texts : List (List ℕ)) → HasFirsts firsts.now texts → result ≡ is_among texts text.now }
 {
-    texts
-        .iter()
-        .any(|other| are_about_one(text, other.as_str()))
+    match head_of(text) {
+        Some(head) => has_about(firsts, &head),
+        None => false,
+    }
 }
 
 /// Of each kind and name the first text that was overtaken since a ticket.
 fn olds_since(alloc: Global, ticket: u64, past: &[Past]) -> Result<Vec<String>, AllocError>
     ensures { IfOk result (λ v. map string_bytes v.items ≡ olds_since ticket (map past_view past.now)) }
 {
+    let mut firsts = BTreeMap::new(alloc);
     let mut olds = Vec::new(alloc);
     for had in past {
-        if ticket < had.since && !is_among(&olds, had.text.as_str()) {
+        let text = had.text.as_str();
+        if ticket < had.since && !is_among(&firsts, text) {
+            note(&mut firsts, text)?;
             olds.push(had.text.clone()?)?;
         }
     }
@@ -40,12 +45,17 @@ fn olds_since(alloc: Global, ticket: u64, past: &[Past]) -> Result<Vec<String>, 
 }
 
 /// Those of the texts that none of the others is about.
-fn others(alloc: Global, kept: &[String], olds: &[String]) -> Result<Vec<String>, AllocError>
+fn others<'a>(
+    alloc: Global,
+    kept: &'a [String],
+    olds: &'a [String],
+) -> Result<Vec<String>, AllocError>
     ensures { IfOk result (λ v. map string_bytes v.items ≡ filter (λ t. not (is_among (map string_bytes olds.now) t)) (map string_bytes kept.now)) }
 {
+    let firsts = firsts_of(alloc, olds)?;
     let mut texts = Vec::new(alloc);
     for text in kept {
-        if !is_among(olds, text.as_str()) {
+        if !is_among(&firsts, text.as_str()) {
             texts.push(text.clone()?)?;
         }
     }
@@ -60,7 +70,7 @@ impl Ledger {
         ensures { IfOk result (λ v. map string_bytes v.items ≡ texts_at ticket self.now) }
     {
         let mut olds = olds_since(alloc, ticket, &self.past)?;
-        let mut texts = others(alloc, &self.kept, &olds)?;
+        let mut texts = others(alloc, self.kept.as_slice(), &olds)?;
         texts.append(&mut olds)?;
         Ok(texts)
     }

@@ -1,4 +1,4 @@
-use Rattle.std.proofs.Common.{arith}
+use Rattle.std.proofs.Common.{map, arith}
 use Rattle.std.proofs.lemmas.Grind.{common_steps}
 use Rattle.std.proofs.lemmas.List.Elements.{filter_map-append}
 use Rattle.editor_ledger.proofs.planning.removals.Goals as goal
@@ -6,7 +6,8 @@ use Rattle.editor_ledger.proofs.planning.removals.Goals.{in-Some+in_ok-push, in_
 
 pub loop-text-preserved : goal.loop-text-preserved
 loop-text-preserved c =
-    elim c.match-branch-2.branch [
-      | in-Some+in_ok-push w ↦ grind (arith, common_steps, filter_map-append)
-      | in_default w ↦ grind (arith, common_steps, filter_map-append)
+    let found = c.in_ok-removal.ensures (map (λ t. t.now) c.args.wanted.now) c.in_ok-named.ensures in
+    elim c.match-branch-3.branch [
+      | in-Some+in_ok-push w ↦ grind (arith, common_steps, filter_map-append, found)
+      | in_default w ↦ grind (arith, common_steps, filter_map-append, found)
     ]
