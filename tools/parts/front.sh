@@ -31,13 +31,13 @@ site_at() {
 # waits until one answers: URL
 is_up() { curl -s -o "$group/first" --retry 30 --retry-delay 1 --retry-connrefused "$1/_newest"; }
 
-# starts it: sets `front`, its URL, and `front_process`; and `outer`, the URL of the server that shows the files of $group/pages beside its pages
+# starts it: sets `front`, its URL, and `front_process`; and `outer`, the URL of the server that shows the files of $group/beside beside its pages
 start_front() {
     local port outer_port
     port=$(free_port)
     outer_port=$(free_port)
     site_at "$group/site.conf" "127.0.0.1:$port"
-    sed -e "s/listen 127.0.0.1:8081/listen 127.0.0.1:$outer_port/" -e "s,/srv/pages,$group/pages," -e "s,http://127.0.0.1:8080,http://127.0.0.1:$port," \
+    sed -e "s/listen 127.0.0.1:8081/listen 127.0.0.1:$outer_port/" -e "s,/srv/pages,$group/beside," -e "s,http://127.0.0.1:8080,http://127.0.0.1:$port," \
         -e "s,/var/log/nginx/deskrauf-beside.log,$group/outer.log," examples/operating/nginx-beside.conf > "$group/beside.conf"
     run_nginx front "$group/site.conf" "$group/beside.conf"
     front_process=$nginx_process

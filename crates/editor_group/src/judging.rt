@@ -134,12 +134,12 @@ fn reason(
     match found {
         Standing::Older => {
             format!(in alloc;
-                "{folder}/published: is older than what the group has of editor {editor}: ticket {next} was given. Another copy of this folder has published, or this file went back.\nTake the newest copy of the file and publish again. Or remove it and publish as a new editor: what the folder has no more is then to be listed in its file removes"
+                "{folder}/published: is older than what the group has of editor {editor}: ticket {next} was given. Another copy of this folder has published, or this file went back.\nTake the newest copy of the file and publish again. Or move it away (log, restore and publish --release need it), and publish with --take-over: what the folder has no more is then to be listed in its file removes"
             )
         }
         Standing::Elsewhere => {
             format!(in alloc;
-                "{folder}/published: no node that answers knows ticket {last} of editor {editor}, so nothing was sent. Nodes that were down need a majority to learn what they had: see that one runs, and publish again. Where this is another group, remove the file to publish there as a new editor"
+                "{folder}/published: no node that answers knows ticket {last} of editor {editor}, so nothing was sent. Nodes that were down need a majority to learn what they had: see that one runs, and publish again. Where this is another group, move the file away (log, restore and publish --release need it), and publish with --take-over"
             )
         }
         Standing::Returning => {

@@ -52,12 +52,13 @@ impl Published {
     }
 }
 
-/// A node: how many milliseconds it took to answer, why it keeps this client out if it does, its newest
-/// release, if it told one, the instance of a folder's last ticket, if it told that; and its start page in
-/// the newest release that all have.
+/// A node: how many milliseconds it took to answer, whether it did, why it keeps this client out if it does,
+/// its newest release, if it told one, the instance of a folder's last ticket, if it told that; and its start
+/// page in the newest release that all have.
 #[derive(Drop)]
 pub(crate) struct Report {
     pub millis: u64,
+    pub answered: bool,
     pub barred: Option<Barred>,
     pub newest: Option<u64>,
     pub instance: Option<u64>,
@@ -71,11 +72,15 @@ pub(crate) struct Range {
     pub last: u64,
 }
 
+/// The first status by which what stands before a node says that the node gave no answer.
+const BAD_GATEWAY: u16 = 502;
+
 /// What a node's answers report.
 fn report_in(node: &Address, said: &Said) -> Report {
     let first = said.answers.first();
     Report {
         millis: said.millis,
+        answered: first.is_some_and(|answer| answer.status < BAD_GATEWAY),
         barred: first.and_then(|answer| node.barred(answer)),
         newest: first.and_then(number_in),
         instance: said.answers.get(1).and_then(number_in),

@@ -18,19 +18,22 @@ fn are_same(page: Option<&NodeAnswer>, other: Option<&NodeAnswer>) -> bool {
     }
 }
 
-/// Whether a node's start page is that of the others; nothing where none of them has a release.
+/// Whether a node's start page is that of the others; nothing where none of them has a release, or it tells
+/// none.
 fn same_page(report: &Report, first: Option<&NodeAnswer>, range: Range) -> Option<bool> {
-    if range.common == 0 {
+    if range.common == 0 || report.newest.is_none() {
         return None;
     }
     Some(are_same(report.page.as_ref(), first))
 }
 
-/// How a node is called that does not tell its newest release.
+/// How one is called that does not tell its newest release: what keeps this client out, another server, or
+/// a node that is silent.
 fn silence_of(report: &Report) -> &'static str {
-    match report.barred {
-        Some(_) => "barred",
-        None => "silent",
+    match (report.barred, report.answered) {
+        (Some(_), _) => "barred",
+        (None, true) => "no node",
+        (None, false) => "silent",
     }
 }
 
@@ -78,7 +81,7 @@ fn tell<W: Write>(
             let why = silence_of(report);
             say_made(
                 out,
-                format!(in alloc; "{url:<32} {why}        -       -  -"),
+                format!(in alloc; "{url:<32} {why:<7}       -       -  -"),
             )
         }
     }

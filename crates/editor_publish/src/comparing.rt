@@ -2,6 +2,7 @@
 //!
 //! After an interrupted run all pages are compared, else those that changed.
 
+use crate::taking::is_of_page;
 use editor_common::{EditorFault, say_made};
 use editor_folder::{View, path_in, views_of};
 use editor_group::{Address, ask};
@@ -91,6 +92,11 @@ pub(crate) fn is_shown(answer: Option<&NodeAnswer>, view: &View) -> bool {
     }
 }
 
+/// Whether a node answered, and nothing that stands before it.
+fn is_answered(answer: Option<&NodeAnswer>) -> bool {
+    answer.is_some_and(|answer| is_of_page(answer.status))
+}
+
 /// Tells that a page is not shown, and why that may be.
 fn tell_difference<E: Write>(
     alloc: Global,
@@ -101,7 +107,7 @@ fn tell_difference<E: Write>(
     answered: bool,
 ) -> Result<(), EditorFault> {
     let why = if answered {
-        "is not what this folder renders: another editor has put a name that it uses, or another copy of this folder was published at the same time. To put all of it again remove its file published, and publish as a new editor"
+        "is not what this folder renders: another editor has put a name that it uses, or another copy of this folder was published at the same time. To put all of it again move its file published away (log, restore and publish --release need it), and publish with --take-over"
     } else {
         "was not answered"
     };
@@ -140,10 +146,11 @@ fn tell_all<E: Write>(
 ) -> Result<Vec<String>, EditorFault> {
     let mut differing = Vec::new(alloc);
     for (i, change) in changes.iter().enumerate() {
-        if !is_shown(answers.get(i), &change.view) {
+        let answer = answers.get(i);
+        if !is_shown(answer, &change.view) {
             let path = &change.view.path;
             if differing.len() < TOLD {
-                tell_difference(alloc, err, url, release, path.as_str(), i < answers.len())?;
+                tell_difference(alloc, err, url, release, path.as_str(), is_answered(answer))?;
             }
             differing.push(path.clone()?)?;
         }

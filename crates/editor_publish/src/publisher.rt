@@ -3,7 +3,7 @@ use crate::comparing::{Change, changes_of, changes_since, tell_differences};
 use crate::dry_run::tell_plan;
 use crate::made::{Made, commands_of, made_value, release_ticket, tell_made, unnumbered, untold};
 use crate::publishing::Publishing;
-use crate::taking_over::{taken_over, tell_taken_over};
+use crate::taking_over::{Taken, refusal_of, taken_over, tell_taken_over};
 use editor_common::{EditorFault, Outcome, say, texts_value};
 use editor_files::save;
 use editor_group::{Group, confirm, deliver, newest};
@@ -245,14 +245,17 @@ impl<R: Files + Net<Stream = TcpStream> + Clock + AllocGlobal, E: Write> Publish
     fn ask_to_take_over(&mut self, wanted: &[&str]) -> Result<(), EditorFault> {
         let alloc = self.rt.alloc();
         let node = self.group.node()?;
-        let paths = taken_over(self.rt, alloc, node, self.ledger, wanted)?;
+        let taken = taken_over(self.rt, alloc, node, self.ledger, wanted)?;
         self.outcome
-            .put(alloc, "takes_over", texts_value(alloc, &paths)?)?;
-        tell_taken_over(alloc, self.err, &paths)?;
-        if paths.is_empty() || self.how.take_over {
+            .put(alloc, "takes_over", texts_value(alloc, &taken.paths)?)?;
+        tell_taken_over(alloc, self.err, &taken.paths)?;
+        if self.how.take_over {
             return Ok(());
         }
-        Err(EditorFault::TakesOver)
+        match refusal_of(alloc, &taken)? {
+            Some(why) => Err(why),
+            None => Ok(()),
+        }
     }
 
     /// Publishes texts, once the group has confirmed their ledger.
@@ -268,31 +271,59 @@ impl<R: Files + Net<Stream = TcpStream> + Clock + AllocGlobal, E: Write> Publish
         self.publish_texts(out, wanted, found)
     }
 
-    /// Tells what a publication of these texts would take over, as far as the first node says.
-    fn tell_paths<W: Write>(&mut self, out: &mut W, wanted: &[&str]) -> Result<(), EditorFault> {
+    /// Tells which paths a publication of these texts would take over, as far as the first node says. What it
+    /// would take over is the answer, where that node says it.
+    fn tell_paths<W: Write>(
+        &mut self,
+        out: &mut W,
+        wanted: &[&str],
+    ) -> Result<Option<Taken>, EditorFault> {
         let alloc = self.rt.alloc();
         let node = self.group.node()?;
         match taken_over(self.rt, alloc, node, self.ledger, wanted) {
-            Ok(paths) => {
+            Ok(taken) => {
                 self.outcome
-                    .put(alloc, "takes_over", texts_value(alloc, &paths)?)?;
-                tell_taken_over(alloc, out, &paths)
+                    .put(alloc, "takes_over", texts_value(alloc, &taken.paths)?)?;
+                tell_taken_over(alloc, out, &taken.paths)?;
+                Ok(Some(taken))
             }
-            Err(EditorFault::Stop(why)) => say(self.err, why.as_str()),
+            Err(EditorFault::Stop(why)) => {
+                say(self.err, why.as_str())?;
+                Ok(None)
+            }
             Err(fault) => Err(fault),
         }
     }
 
+    /// Refuses to join what others have published, unless that is asked for.
+    fn ask_to_join(&self, taken: Option<Taken>) -> Result<(), EditorFault> {
+        let Some(taken) = taken else {
+            return Ok(());
+        };
+        if !taken.joins || self.how.take_over {
+            return Ok(());
+        }
+        match refusal_of(self.rt.alloc(), &taken)? {
+            Some(why) => Err(why),
+            None => Ok(()),
+        }
+    }
+
     /// Tells what a publication of these texts would put, remove and take over. Nothing is sent or saved.
-    /// Whether anything would be sent is the answer.
+    /// Whether anything would be sent is the answer. Where the publication would be refused to join what
+    /// others have published, so is this, once all is told.
     pub(crate) fn tell_plan<W: Write>(
         &mut self,
         out: &mut W,
         wanted: &[&str],
     ) -> Result<bool, EditorFault> {
-        if !self.how.urls.is_empty() {
-            self.tell_paths(out, wanted)?;
-        }
-        tell_plan(self.rt.alloc(), out, self.outcome, self.ledger, wanted)
+        let taken = if self.how.urls.is_empty() {
+            None
+        } else {
+            self.tell_paths(out, wanted)?
+        };
+        let sends = tell_plan(self.rt.alloc(), out, self.outcome, self.ledger, wanted)?;
+        self.ask_to_join(taken)?;
+        Ok(sends)
     }
 }

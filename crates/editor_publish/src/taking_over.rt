@@ -1,19 +1,29 @@
 //! Which paths a publication would take over from others who have published in the group.
 //!
 //! A folder owns the paths for whose commands it has receipts. Any other path is taken over where the group
-//! answers it, and not as this folder does. Names of templates, partials and data are not seen from outside.
+//! answers it, and not as this folder does. Names of templates, partials and data are not seen from outside:
+//! so a folder of which nothing has a receipt joins a group that has releases only where that is asked for.
 use crate::comparing::is_shown;
 use crate::made::untold;
+use crate::taking::{is_taken, joins};
 use editor_common::{EditorFault, say_made};
 use editor_folder::{View, path_in, views_of};
 use editor_group::{Address, ask, newest};
 use editor_http::{NodeAnswer, Question};
 use editor_ledger::Ledger;
-use editor_plan::takes_over;
 use std::alloc::{AllocError, Global};
 use std::collections::BTreeSet;
 use std::io::Write;
 use std::net::{Net, TcpStream};
+
+/// What a publication would take over: paths, in this newest release of the group, and whether it joins what
+/// others have published.
+#[derive(Drop)]
+pub(crate) struct Taken {
+    pub release: u64,
+    pub paths: Vec<String>,
+    pub joins: bool,
+}
 
 /// How many paths are told one by one.
 const TOLD: usize = 10;
@@ -82,7 +92,7 @@ fn is_own(answer: &NodeAnswer, views: [Option<&View>; 2]) -> bool {
     views.iter().any(|view| view.is_some_and(|view| is_shown(Some(answer), view)))
 }
 
-/// A path that a node did not answer.
+/// A path that no node answered.
 fn unanswered(alloc: Global, url: &str, path: &str) -> Result<EditorFault, AllocError> {
     Ok(EditorFault::Stop(format!(in alloc; "{url}{path}: was not answered")?))
 }
@@ -103,25 +113,25 @@ fn taken_of(
             return Err(unanswered(alloc, url, path.as_str())?);
         };
         let own = is_own(answer, [then.get(i), before.get(i)]);
-        if takes_over(answer.status, own) {
-            taken.push(path.clone()?)?;
+        match is_taken(answer.status, own) {
+            Some(true) => taken.push(path.clone()?)?,
+            Some(false) => {}
+            None => return Err(unanswered(alloc, url, path.as_str())?),
         }
     }
     Ok(taken)
 }
 
-/// The paths that a publication of texts takes over in a node's newest release.
-pub(crate) fn taken_over<N: Net<Stream = TcpStream>>(
+/// The paths that a publication of texts takes over in a node's release.
+fn paths_taken<N: Net<Stream = TcpStream>>(
     net: &N,
     alloc: Global,
     node: &Address,
     ledger: &Ledger,
     wanted: &[&str],
+    release: u64,
 ) -> Result<Vec<String>, EditorFault> {
     let url = node.url.as_str();
-    let Some(release) = newest(net, alloc, node)? else {
-        return Err(untold(alloc, url)?);
-    };
     let paths = paths_not_held(alloc, ledger, wanted)?;
     if release == 0 || paths.is_empty() {
         return Ok(Vec::new(alloc));
@@ -130,6 +140,38 @@ pub(crate) fn taken_over<N: Net<Stream = TcpStream>>(
     let then = views_of(alloc, wanted, &paths)?;
     let before = views_of(alloc, &texts_of(alloc, ledger)?, &paths)?;
     taken_of(alloc, url, &paths, &answers, &then, &before)
+}
+
+/// What a publication of texts takes over in a node's newest release.
+pub(crate) fn taken_over<N: Net<Stream = TcpStream>>(
+    net: &N,
+    alloc: Global,
+    node: &Address,
+    ledger: &Ledger,
+    wanted: &[&str],
+) -> Result<Taken, EditorFault> {
+    let Some(release) = newest(net, alloc, node)? else {
+        return Err(untold(alloc, node.url.as_str())?);
+    };
+    Ok(Taken {
+        release,
+        paths: paths_taken(net, alloc, node, ledger, wanted, release)?,
+        joins: joins(ledger.kept().len(), release),
+    })
+}
+
+/// Why nothing was sent of what a publication would take over; nothing where it takes over nothing.
+pub(crate) fn refusal_of(alloc: Global, taken: &Taken) -> Result<Option<EditorFault>, AllocError> {
+    let release = taken.release;
+    if taken.joins {
+        return Ok(Some(EditorFault::Stop(format!(in alloc;
+            "nothing was sent: the group has release {release}, and nothing in it is from this folder. Where others have templates, partials or data of the same names, this folder would replace them, which no node tells. With --take-over it does"
+        )?)));
+    }
+    if taken.paths.is_empty() {
+        return Ok(None);
+    }
+    Ok(Some(EditorFault::TakesOver))
 }
 
 /// Tells the paths that are taken over, the first of them one by one.

@@ -12,7 +12,7 @@ use serde_json::Value;
 use std::alloc::{AllocError, Global};
 use std::env;
 use std::fmt::Display;
-use std::fs::File;
+use std::fs::{self, File};
 use std::io::{self, Write};
 use std::net::{Net, TcpListener, TcpStream};
 use std::random::RandomSource;
@@ -33,6 +33,17 @@ fn tell<W: Write, L: Display>(out: &mut W, line: &L, status: u8) -> u8 {
     status
 }
 
+/// Why a folder has published nothing: it is not there, or was never published.
+fn unpublished<R: Files + AllocGlobal>(rt: &R, folder: &str) -> Result<EditorFault, AllocError> {
+    let alloc = rt.alloc();
+    match fs::metadata(rt, folder) {
+        Ok(_) => Ok(EditorFault::Stop(format!(in alloc;
+            "{folder}: nothing was published from here"
+        )?)),
+        Err(fault) => Ok(EditorFault::at_path(alloc, folder, fault)),
+    }
+}
+
 /// What a folder has published, by its ledger, if one is named.
 fn published_by<R: Files + AllocGlobal>(
     rt: &R,
@@ -43,7 +54,7 @@ fn published_by<R: Files + AllocGlobal>(
     };
     match read_ledger(rt, folder)? {
         Some(ledger) => Ok(Published::of(&ledger)),
-        None => Ok(Published::nothing()),
+        None => Err(unpublished(rt, folder)?),
     }
 }
 
@@ -191,7 +202,8 @@ fn status_of<
     }
 }
 
-/// Does what a word says. What it tells on the other writer is written at its end, where the status is not 0.
+/// Does what a word says. Where the status is not 0, what it tells on the other writer is written at its end,
+/// behind the table of `status`, which says why.
 fn quiet_status_of<
     R: Files<File = File>
         + Net<Listener = TcpListener, Stream = TcpStream>
@@ -202,9 +214,14 @@ fn quiet_status_of<
         + Drop,
     E: Write,
 >(rt: &R, err: &mut E, outcome: &mut Outcome, word: &Word<'_>) -> u8 {
+    let mut table: Vec<u8> = Vec::new(rt.alloc());
     let mut told: Vec<u8> = Vec::new(rt.alloc());
-    let status = status_of(rt, &mut io::sink(), &mut told, outcome, word);
+    let status = match word {
+        Word::Status { .. } => status_of(rt, &mut table, &mut told, outcome, word),
+        _ => status_of(rt, &mut io::sink(), &mut told, outcome, word),
+    };
     if status != 0 {
+        let _ = err.write_all(&table);
         let _ = err.write_all(&told);
     }
     status

@@ -1,0 +1,17 @@
+-- What a publication may take over from others.
+use Rattle.std.specs.Prelude.{ℕ, ◌==◌, ◌&&◌, ◌||◌, if◌then◌else◌, Bool, not, Option, Some, None}
+use Rattle.editor_plan.specs.Standings.{takes_over}
+
+-- a node gives one of these for a page; any other status is given by what stands before the node
+abbrev pub is_of_page : ℕ → Bool
+is_of_page status = status == 200 || status == 301 || status == 404 || status == 500
+
+-- whether a path is taken over that the group answers so, and as the folder's own texts do or not; an answer
+-- that no node gives decides nothing
+abbrev pub is_taken : ℕ → Bool → Option Bool
+is_taken status own = if is_of_page status then Some (takes_over status own) else None
+
+-- a folder with so many texts that have their receipts, in a group with that newest release: none of what is
+-- there is the folder's
+abbrev pub joins : ℕ → ℕ → Bool
+joins receipts newest = receipts == 0 && not (newest == 0)
