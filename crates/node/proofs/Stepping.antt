@@ -105,7 +105,7 @@ module _ {D : Type 0} where
     kept = same_memory old new is;
   }
 
-  unchanged_store : (old new : Record D) → IsUnchanged old new → SeemsSame old new
+  pub unchanged_store : (old new : Record D) → IsUnchanged old new → SeemsSame old new
   unchanged_store old new unchanged = record {
     disk = ap (λ (r : Record D). r.disk) unchanged.same;
     node = ap (λ (r : Record D). r.node) unchanged.same;
@@ -202,7 +202,7 @@ module _ {D : Type 0} where
     }
 
     -- nothing was written
-    still_on_disk : (old new : Running D) (s t : Node) (d : DiskState) → KeepsOthers old new → SeemsSame old.store new.store → t.entries ≡ s.entries → t.in_flight ≡ s.in_flight → IsOnDisk stands_for old s d → IsOnDisk stands_for new t d
+    pub still_on_disk : (old new : Running D) (s t : Node) (d : DiskState) → KeepsOthers old new → SeemsSame old.store new.store → t.entries ≡ s.entries → t.in_flight ≡ s.in_flight → IsOnDisk stands_for old s d → IsOnDisk stands_for new t d
     still_on_disk old new s t d others same entries in_flight on =
         let disk : stands_for new.store.disk d = subst (λ (x : D). stands_for x d) (sym same.disk) on.stands in
         record {

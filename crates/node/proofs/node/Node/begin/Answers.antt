@@ -1,8 +1,10 @@
-use Rattle.std.proofs.Common.{◌≡◌, ℕ, Option, List, sym, subst}
+use Rattle.std.proofs.Common.{◌≡◌, ℕ, Option, List, refl, sym, subst}
 use Rattle.durable.specs.Entries.{Entry}
 use Rattle.durable.specs.declared.record.Record.{Record}
 use Rattle.node.specs.Nodes.{Mode}
 use Rattle.node.specs.Standing.{IsOnRecord}
+use Rattle.durable.proofs.Results.{on_err}
+use Rattle.node.proofs.Stepping.{still_on_disk, unchanged_store}
 use Rattle.node.proofs.node.Node.begin.Goals as goal
 
 -- what waits in a batch is not what is on record
@@ -45,3 +47,7 @@ returns-clause-same g c s stands =
       ranges = stands.ranges;
       fed = stands.fed;
     }
+
+pub returns-in_err-begin-clause-refused : goal.returns-in_err-begin-clause-refused
+returns-in_err-begin-clause-refused g c = on_err c.from_residual.result (λ s d on.
+    still_on_disk g.D.Disk.stands_for c.args.self.now _ s s d (record { me = refl; cluster = refl; releases = refl }) (unchanged_store c.args.self.now.store c.begin.new.self c.in_err-begin.ensures.refused) refl refl on)
