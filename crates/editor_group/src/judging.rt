@@ -1,4 +1,8 @@
 //! Whether a ledger is the newest of its editor, as the group says.
+ghost use Rattle.std.specs.Prelude.{◌≡◌, ◌∷◌, [], length, vec_len, IfOk, OnOk};
+ghost use Rattle.editor_plan.specs.Standings.{last_shown as shown_last, last_ticket as ticket_last};
+ghost use Rattle.editor_group.specs.Confirming.{IsConfirmed, Stands};
+
 use crate::address::Address;
 use crate::asking::{ask, number_in, unreached};
 use crate::group::Group;
@@ -27,7 +31,14 @@ struct Claim {
     shown: u64,
 }
 
-fn claim_of(ledger: &Ledger) -> Claim {
+fn claim_of(ledger: &Ledger) -> Claim
+    ensures { result ≡ record {
+      editor = ledger.now.editor;
+      last = ticket_last ledger.now;
+      next = ledger.now.next;
+      shown = shown_last ledger.now;
+    } }
+{
     Claim {
         editor: ledger.editor(),
         last: last_ticket(ledger),
@@ -89,7 +100,9 @@ fn witnesses_now<N: Net<Stream = TcpStream>>(
     alloc: Global,
     group: &Group,
     claim: Claim,
-) -> Result<Vec<Witness>, AllocError> {
+) -> Result<Vec<Witness>, AllocError>
+    ensures { IfOk result (λ said. vec_len said ≡ length group.now.nodes.items) }
+{
     let mut witnesses = Vec::new(alloc);
     for node in group.nodes() {
         witnesses.push(witness(net, alloc, node, claim)?)?;
@@ -109,7 +122,10 @@ fn ask_group<N: Net<Stream = TcpStream>>(
     alloc: Global,
     group: &mut Group,
     claim: Claim,
-) -> Result<Standing, AllocError> {
+) -> Result<Standing, AllocError>
+    ensures stands { IfOk result (Stands (length group.old.nodes.items) claim.last claim.shown) }
+    ensures nodes { group.new.nodes ≡ group.old.nodes }
+{
     let witnesses = witnesses_now(net, alloc, group, claim)?;
     let found = standing_of(claim.last, claim.shown, &witnesses);
     if found == Standing::Newest {
@@ -245,7 +261,10 @@ fn settled<R: Net<Stream = TcpStream> + Clock + AllocGlobal, E: Write>(
     group: &mut Group,
     claim: Claim,
     patience: u64,
-) -> Result<Standing, EditorFault> {
+) -> Result<Standing, EditorFault>
+    ensures stands { IfOk result (Stands (length group.old.nodes.items) claim.last claim.shown) }
+    ensures nodes { group.new.nodes ≡ group.old.nodes }
+{
     let since = now(rt)?;
     for tries in 0..u64::MAX {
         let found = ask_group(rt, rt.alloc(), group, claim)?;
@@ -272,7 +291,10 @@ pub fn confirm<R: Net<Stream = TcpStream> + Clock + AllocGlobal, E: Write>(
     group: &mut Group,
     ledger: &Ledger,
     patience: u64,
-) -> Result<(), EditorFault> {
+) -> Result<(), EditorFault>
+    ensures confirmed { OnOk result (IsConfirmed (length group.old.nodes.items) ledger.now) }
+    ensures nodes { group.new.nodes ≡ group.old.nodes }
+{
     let claim = claim_of(ledger);
     match settled(rt, err, group, claim, patience)? {
         Standing::Newest => Ok(()),
