@@ -12,9 +12,10 @@ one_more url_of (y ∷ ys) [] x node all one = absurd all
 one_more url_of (y ∷ ys) (n ∷ ns) x node all one = (all.0, one_more url_of ys ns x node all.1 one)
 
 -- the node of the next URL, behind the others
-pub next_named : {X : Type 0} (url_of : X → List ℕ) (xs : List X) (i : ℕ) (d : X) (nodes now : List Address) (node : Address)
-    → i < length xs → now ≡ nodes ++ node ∷ [] → AreNamed url_of (take i xs) nodes → Names (url_of (get_or xs i d)) node
-    → AreNamed url_of (take (i + 1) xs) now
+pub next_named : {X : Type 0} (url_of : X → List ℕ) (xs : List X) (i : ℕ) (d : X)
+    (nodes now : List Address) (node : Address)
+    → i < length xs → now ≡ nodes ++ node ∷ [] → AreNamed url_of (take i xs) nodes
+    → Names (url_of (get_or xs i d)) node → AreNamed url_of (take (i + 1) xs) now
 next_named url_of xs i d nodes now node below more all one =
     subst (λ ns. AreNamed url_of (take (i + 1) xs) ns) (sym more)
     (subst (λ ys. AreNamed url_of ys (nodes ++ node ∷ [])) (sym (take_more xs i d below))

@@ -6,9 +6,11 @@ use Rattle.editor_plan.specs.declared.standing.Standing.{Standing}
 use Rattle.editor_plan.specs.declared.standing.Standing.TheVariants.{Newest}
 use Rattle.editor_plan.specs.declared.standing.Witness.{Witness}
 
--- so many nodes were asked, and what they said makes that of it, where this was its last ticket and that the release it showed last
+-- so many nodes were asked, and by what they said a ledger stands so: this was the last ticket that has its
+-- receipt, and that the newest release that was shown of its folder
 abbrev pub Stands : ℕ → ℕ → ℕ → Standing → Type 0
-Stands n last shown standing = (said : List Witness) × (length said ≡ n) × (standing ≡ standing_of last shown said)
+Stands n last shown standing =
+    (said : List Witness) × (length said ≡ n) × (standing ≡ standing_of last shown said)
 
 -- it is the newest of its editor
 abbrev pub IsConfirmed : ℕ → Book → Type 0

@@ -17,7 +17,8 @@ pub struct Group {
 
 /// Adds the node of a URL.
 fn push_node(alloc: Global, nodes: &mut Vec<Address>, url: &str) -> Result<(), EditorFault>
-    ensures { OnOk result ((node : Node) × Names url.now node × (nodes.new.items ≡ nodes.old.items ++ node ∷ [])) }
+    ensures { OnOk result ((node : Node) × Names url.now node
+        × (nodes.new.items ≡ nodes.old.items ++ node ∷ [])) }
 {
     match address_in(alloc, url)? {
         Some(node) => Ok(nodes.push(node)?),
@@ -47,7 +48,8 @@ impl Group {
     /// The node that is spoken to.
     pub fn node(&self) -> Result<&Address, EditorFault>
         ensures there { IfOk result (λ node. slice_get self.now.nodes.items self.now.at ≡ Some node.now) }
-        ensures none { IfErr result (λ why. (why ≡ EditorFault.NoNodes) × (slice_get self.now.nodes.items self.now.at ≡ None)) }
+        ensures none { IfErr result (λ why. (why ≡ EditorFault.NoNodes)
+            × (slice_get self.now.nodes.items self.now.at ≡ None)) }
     {
         match self.nodes.get(self.at) {
             Some(node) => Ok(node),

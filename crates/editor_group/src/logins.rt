@@ -84,7 +84,8 @@ fn urls_by(
     lines: &[LoginLine<'_>],
 ) -> Result<Vec<String>, AllocError>
     ensures as_many { IfOk result (λ found. length found.items ≡ length urls.now) }
-    ensures same { IfOk result (λ found. lines.now ≡ [] → map string_bytes found.items ≡ map (λ url. url.now) urls.now) }
+    ensures same { IfOk result (λ found. lines.now ≡ []
+        → map string_bytes found.items ≡ map (λ url. url.now) urls.now) }
 {
     let mut found = Vec::new(alloc);
     for url in urls {
@@ -100,7 +101,8 @@ pub fn with_logins<R: Files + AllocGlobal>(
     file: Option<&str>,
 ) -> Result<Vec<String>, EditorFault>
     ensures as_many { IfOk result (λ found. length found.items ≡ length urls.now) }
-    ensures same { IfOk result (λ found. file.entry ≡ None → map string_bytes found.items ≡ map (λ url. url.now) urls.now) }
+    ensures same { IfOk result (λ found. file.entry ≡ None
+        → map string_bytes found.items ≡ map (λ url. url.now) urls.now) }
 {
     let alloc = rt.alloc();
     let Some(file) = file else {

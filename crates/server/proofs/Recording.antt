@@ -14,11 +14,13 @@ pub few : (passes : ℕ → Bool) (k : ℕ) → count_to passes k ≤ k
 few passes zero = omega arith
 few passes (suc k) = one_more_than (passes (suc k)) (count_to passes k) k (few passes k)
 
-counts : (b : Bool) (c k : ℕ) → c ≤ k → k < 2 ^ 32 - 1 → (if b then min (c + 1) (2 ^ 32 - 1) else c) ≡ (if b then suc c else c)
+counts : (b : Bool) (c k : ℕ) → c ≤ k → k < 2 ^ 32 - 1
+    → (if b then min (c + 1) (2 ^ 32 - 1) else c) ≡ (if b then suc c else c)
 counts true c k below fits = omega (arith, below, fits)
 counts false c k below fits = refl
 
-pub one_further : (s : Node) (k : ℕ) → k < 2 ^ 32 - 1 → recorded_at s (suc k) (recorded_to s k) ≡ recorded_to s (suc k)
+pub one_further : (s : Node) (k : ℕ) → k < 2 ^ 32 - 1
+    → recorded_at s (suc k) (recorded_to s k) ≡ recorded_to s (suc k)
 one_further s k fits = ap (λ v. record {
   votes = v;
   last = furthest_to (has_vote s) (suc k);
@@ -26,7 +28,8 @@ one_further s k fits = ap (λ v. record {
 }) (counts (has_vote s (suc k)) (count_to (has_vote s) k) k (few (has_vote s) k) fits)
 
 -- the test of what there is
-pub any_is : {A B : Type 0} (b : Bool) (value : Option A) (vote : Option B) → (IsTrue b ↔ ((value ≢ None) ⊎ (vote ≢ None))) → b ≡ is_some value || is_some vote
+pub any_is : {A B : Type 0} (b : Bool) (value : Option A) (vote : Option B)
+    → (IsTrue b ↔ ((value ≢ None) ⊎ (vote ≢ None))) → b ≡ is_some value || is_some vote
 any_is true (Some x) vote e = refl
 any_is true None (Some y) e = refl
 any_is true None None e = elim (e.0 refl) [ inl no ↦ absurd (no refl) | inr no ↦ absurd (no refl) ]

@@ -125,8 +125,8 @@ impl Mail {
 
     /// What came in one piece: each datagram that it holds waits behind the others. Where memory is refused the first of them may. Who sends a packet reads packets.
     pub fn take_in(&mut self, piece: &[u8], now: u64) -> Result<(), AllocError>
-        ensures came { OnOk result ((ds : List (List ℕ)) × Holds piece.now ds × (waiting_of self.new ≡ waiting_of self.old ++ ds)
-            × (self.new.bytes ≡ counted self.old.bytes ds)) }
+        ensures came { OnOk result ((ds : List (List ℕ)) × Holds piece.now ds
+            × (waiting_of self.new ≡ waiting_of self.old ++ ds) × (self.new.bytes ≡ counted self.old.bytes ds)) }
         ensures refused { OnErr result ((done left : List (List ℕ)) × Holds piece.now (done ++ left) × (waiting_of self.new ≡ waiting_of self.old ++ done)) }
         ensures same { (self.new.letters ≡ self.old.letters) × (self.new.cluster ≡ self.old.cluster) }
         ensures peers { HearsPiece self.old.cluster piece.now now self.old.peers self.new.peers }
@@ -157,7 +157,8 @@ impl Mail {
     fn take_frames(&mut self, frames: &[u8]) -> Result<(), AllocError>
         requires { length frames.now ≤ MAX_PACKET }
         ensures came { OnOk result ((ds : List (List ℕ)) → frames.now ≡ framed_all ds
-            → (waiting_of self.new ≡ waiting_of self.old ++ ds) × (self.new.bytes ≡ counted self.old.bytes ds)) }
+            → (waiting_of self.new ≡ waiting_of self.old ++ ds)
+            × (self.new.bytes ≡ counted self.old.bytes ds)) }
         ensures refused { OnErr result ((ds : List (List ℕ)) → frames.now ≡ framed_all ds → (done left : List (List ℕ)) × (ds ≡ done ++ left) × (waiting_of self.new ≡ waiting_of self.old ++ done)) }
         ensures same { self.new.letters ≡ self.old.letters }
         ensures peers { (self.new.peers ≡ self.old.peers) × (self.new.cluster ≡ self.old.cluster) }

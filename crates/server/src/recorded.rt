@@ -54,7 +54,8 @@ impl Recorded {
     /// What a node's record has at the first so many instances. A value that the node knows counts as one on
     /// record: one that was just opened knows none.
     pub fn of<D: Disk>(node: &Node<D>, instances: u32) -> Recorded
-        ensures { (s : AbstractNode) → IsNodeOf node.now s → result ≡ recorded_to s (min instances MAX_INSTANCE) }
+        ensures { (s : AbstractNode) → IsNodeOf node.now s
+            → result ≡ recorded_to s (min instances MAX_INSTANCE) }
     {
         let mut recorded = Recorded {
             votes: 0,

@@ -105,7 +105,8 @@ impl<D: Disk + Drop, S: Drop> Server<D, S> {
             AreSenders self.old.served.node.cluster (waiting_of self.old.mail) batched.heard) }
         ensures own { OnOk result (waiting_of self.new.mail ≡ own_of self.old.me (posted_of self.new.mail)) }
         ensures room { OnOk result (self.new.mail.bytes ≡ 0) }
-        ensures peers { (self.new.mail.peers ≡ self.old.mail.peers) × (self.new.mail.cluster ≡ self.old.mail.cluster) }
+        ensures peers { (self.new.mail.peers ≡ self.old.mail.peers)
+            × (self.new.mail.cluster ≡ self.old.mail.cluster) }
         ensures seats { self.new.seats ≡ self.old.seats }
         ensures returning { self.new.returning ≡ self.old.returning }
         ensures me { self.new.me ≡ self.old.me }
@@ -153,8 +154,10 @@ impl<D: Disk + Drop, S: Drop> Server<D, S> {
         ensures ok { OnOk result (LeadsSealed D.stands_for self.old.served.node self.new.served.node (TakesStep self.old.served.node.cluster self.old.served.node.me (waiting_of self.old.mail) (posted_of self.new.mail) self.new.served.node.releases)) }
         ensures own { OnOk result (waiting_of self.new.mail ≡ own_of self.old.me (posted_of self.new.mail)) }
         ensures room { OnOk result (self.new.mail.bytes ≡ 0) }
-        ensures peers { (self.new.mail.peers ≡ self.old.mail.peers) × (self.new.mail.cluster ≡ self.old.mail.cluster) }
-        ensures same { (self.new.me ≡ self.old.me) × (self.new.returning ≡ self.old.returning) × (self.new.seats.times ≡ self.old.seats.times) }
+        ensures peers { (self.new.mail.peers ≡ self.old.mail.peers)
+            × (self.new.mail.cluster ≡ self.old.mail.cluster) }
+        ensures same { (self.new.me ≡ self.old.me) × (self.new.returning ≡ self.old.returning)
+            × (self.new.seats.times ≡ self.old.seats.times) }
         ensures fault { IfErr result (λ why. LeadsSealed D.stands_for self.old.served.node self.new.served.node (BreaksStep self.old.served.node.cluster self.old.served.node.me (waiting_of self.old.mail) why)
             ⊎ LosesStep D.stands_for (waiting_of self.old.mail) self.old.served.node self.new.served.node why) }
         ensures may_send { IfErr result (λ why.

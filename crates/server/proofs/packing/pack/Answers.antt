@@ -33,8 +33,10 @@ returns-then-not-may_join-clause-full c = λ ds made x below at may.
     let before = own_of c.args.to (letters_of (take n letters)) in
     let y = c.index-letters-n.result in
     let same : x ≡ y = at ∙ get_or_default letters n x y below ∙ sym c.index-letters-n.is in
-    let long : length x.bytes.items ≡ c.len.result = ap (λ z. length z.bytes.items) same ∙ grind (arith, c.len.ensures) in
-    let so = (c.may_join.ensures before (c.loop-n.invariant ds made).0).1 (subst (λ k. MayJoin before k c.args.alone) long may) in
+    let long : length x.bytes.items ≡ c.len.result =
+    ap (λ z. length z.bytes.items) same ∙ grind (arith, c.len.ensures) in
+    let so = (c.may_join.ensures before (c.loop-n.invariant ds made).0).1
+    (subst (λ k. MayJoin before k c.args.alone) long may) in
     absurd (grind (arith, so, c.if-not-may_join.true))
 
 pub loop-n-preserved : goal.loop-n-preserved

@@ -6,17 +6,20 @@ use Rattle.server.proofs.mail.Mail.take_frames.Goals as goal
 
 -- these datagrams are what was taken and what is left
 abbrev IsTaken : List (List ℕ) → List ℕ → List (List ℕ) → List (List ℕ) → ℕ → ℕ → Type 0
-IsTaken ds rest before now had has = (done left : List (List ℕ)) × (ds ≡ done ++ left) × (rest ≡ framed_all left) × (now ≡ before ++ done) × (has ≡ counted had done)
+IsTaken ds rest before now had has = (done left : List (List ℕ)) × (ds ≡ done ++ left) × (rest ≡ framed_all left)
+    × (now ≡ before ++ done) × (has ≡ counted had done)
 
 -- one more is counted
-counted_more : (had : ℕ) (done : List (List ℕ)) (d : List ℕ) → counted (counted had done) (d ∷ []) ≡ counted had (done ++ d ∷ [])
+counted_more : (had : ℕ) (done : List (List ℕ)) (d : List ℕ)
+    → counted (counted had done) (d ∷ []) ≡ counted had (done ++ d ∷ [])
 counted_more had [] d = refl
 counted_more had (x ∷ xs) d = counted_more (min (had + length x) (2 ^ 64 - 1)) xs d
 
 -- one more is taken
-one_more : (ds : List (List ℕ)) (rest d behind : List ℕ) (before mid now : List (List ℕ)) (had then has : ℕ) → length rest < 2 ^ 32 → rest ≡ framed d ++ behind → now ≡ mid ++ d ∷ []
+one_more : (ds : List (List ℕ)) (rest d behind : List ℕ) (before mid now : List (List ℕ)) (had then has : ℕ)
+    → length rest < 2 ^ 32 → rest ≡ framed d ++ behind → now ≡ mid ++ d ∷ []
     → has ≡ counted then (d ∷ []) → IsTaken ds rest before mid had then → IsTaken ds behind before now had has
-one_more ds rest d behind before mid now had then has short is more counts (done, left, all, frames, waits, counted_so) =
+one_more ds rest d behind before mid now had then has short is more counts (done, left, all, frames, waits, so) =
     let l = ap length is in
     let f = frames_behind d behind left (omega (arith, l, short)) (sym is ∙ frames) in (
       done ++ d ∷ [],
@@ -24,7 +27,7 @@ one_more ds rest d behind before mid now had then has short is more counts (done
       all ∙ ap (λ x. done ++ x) f.1 ∙ sym (append_assoc done (d ∷ []) f.0),
       f.2,
       more ∙ ap (λ x. x ++ d ∷ []) waits ∙ append_assoc before done (d ∷ []),
-      counts ∙ ap (λ k. counted k (d ∷ [])) counted_so ∙ counted_more had done d,
+      counts ∙ ap (λ k. counted k (d ∷ [])) so ∙ counted_more had done d,
     )
 
 pub loop-datagram-preserved : goal.loop-datagram-preserved
@@ -35,9 +38,12 @@ loop-datagram-preserved c =
     let m = first_is_shorter d behind in
     let l = ap length c.in-Some.ensures.found in
     record {
-      taken = λ ds e. one_more ds c.loop-datagram.rest.now d behind (waiting_of c.args.self.now) (waiting_of c.loop-datagram.self) (waiting_of c.push.new.self)
+      taken = λ ds e.
+          one_more ds c.loop-datagram.rest.now d behind
+          (waiting_of c.args.self.now) (waiting_of c.loop-datagram.self) (waiting_of c.push.new.self)
           c.args.self.now.bytes c.loop-datagram.self.bytes c.push.new.self.bytes
-          (omega (arith, c.requires, i.short)) c.in-Some.ensures.found c.in_ok-push.ensures.came c.in_ok-push.ensures.room (i.taken ds e);
+          (omega (arith, c.requires, i.short)) c.in-Some.ensures.found
+          c.in_ok-push.ensures.came c.in_ok-push.ensures.room (i.taken ds e);
       letters = c.push.ensures.same ∙ i.letters;
       peers = (c.push.ensures.peers.0 ∙ i.peers.0, c.push.ensures.peers.1 ∙ i.peers.1);
       short = omega (arith, i.short);
