@@ -36,3 +36,26 @@ any_is true None None e = elim (e.0 refl) [ inl no ↦ absurd (no refl) | inr no
 any_is false (Some x) vote e = sym (e.1 (inl (λ h. cc)))
 any_is false None (Some y) e = sym (e.1 (inr (λ h. cc)))
 any_is false None None e = refl
+
+abbrev made : ℕ → ℕ → ℕ → Recorded
+made votes last furthest = record { votes = votes; last = last; furthest = furthest }
+
+-- what was found at an instance is put so
+pub looked : (s : Node) (i : ℕ) (r : Recorded) (voted any : Bool) (votes last furthest : ℕ)
+    → voted ≡ has_vote s i → any ≡ has_any s i → votes ≡ (if voted then min (r.votes + 1) (2 ^ 32 - 1) else r.votes)
+    → last ≡ (if voted then i else r.last) → furthest ≡ (if any then i else r.furthest)
+    → made votes last furthest ≡ recorded_at s i r
+looked s i r voted any votes last furthest v a so there far =
+    ap (λ x. made x last furthest) (so ∙ ap (λ b. if b then min (r.votes + 1) (2 ^ 32 - 1) else r.votes) v)
+    ∙ ap (λ x. made (if has_vote s i then min (r.votes + 1) (2 ^ 32 - 1) else r.votes) x furthest)
+    (there ∙ ap (λ b. if b then i else r.last) v)
+    ∙ ap (λ x. made (if has_vote s i then min (r.votes + 1) (2 ^ 32 - 1) else r.votes) (if has_vote s i then i else r.last) x)
+    (far ∙ ap (λ b. if b then i else r.furthest) a)
+
+-- the next instance
+pub one_on : (s : Node) (k i : ℕ) (r now : Recorded) → i ≡ k + 1 → k < 2 ^ 32 - 1
+    → now ≡ recorded_at s i r → r ≡ recorded_to s k → now ≡ recorded_to s (k + 1)
+one_on s k i r now at fits is so =
+    let next : k + 1 ≡ suc k = omega arith in
+    is ∙ ap (λ x. recorded_at s i x) so ∙ ap (λ j. recorded_at s j (recorded_to s k)) (at ∙ next)
+    ∙ one_further s k fits ∙ ap (λ j. recorded_to s j) (sym next)
