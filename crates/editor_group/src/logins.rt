@@ -78,11 +78,7 @@ fn url_by(alloc: Global, url: &str, lines: &[LoginLine<'_>]) -> Result<String, A
 }
 
 /// The URLs with the logins that these lines have.
-fn urls_by(
-    alloc: Global,
-    urls: &[&str],
-    lines: &[LoginLine<'_>],
-) -> Result<Vec<String>, AllocError>
+fn urls_by(alloc: Global, urls: &[&str], lines: &[LoginLine<'_>]) -> Result<Vec<String>, AllocError>
     ensures as_many { IfOk result (λ found. length found.items ≡ length urls.now) }
     ensures same { IfOk result (λ found. lines.now ≡ []
         → map string_bytes found.items ≡ map (λ url. url.now) urls.now) }

@@ -107,12 +107,7 @@ fn tell<W: Write>(
 }
 
 /// A node as one JSON object.
-fn node_value(
-    alloc: Global,
-    url: &str,
-    report: &Report,
-    row: Row,
-) -> Result<Value, AllocError>
+fn node_value(alloc: Global, url: &str, report: &Report, row: Row) -> Result<Value, AllocError>
     ensures { IfOk result (λ value. IsNode row (view value)) }
 {
     let answers = match row.newest {
