@@ -2,8 +2,8 @@
    line of standard input `FROM TO PLAIN`, two ports, and 1 where no packet of several datagrams goes that way, as
    a node that is built by the formats alone reads and sends none. What comes in at port FROM goes out to port
    TO: LOSS of 100 datagrams not at all, REPEAT of 100 twice, and each after WAY milliseconds, or none, and 0 to DELAY more, so
-   that datagrams overtake one another. It prints `ready`, and runs until SIGTERM; then it prints how many came,
-   were lost, repeated and sent. */
+   that datagrams overtake one another. It prints `ready`, and runs until SIGTERM; then it prints a line `FROM came
+   DATAGRAMS bytes BYTES` for each pair, and how many came in all, were lost, repeated and sent. */
 #include <arpa/inet.h>
 #include <poll.h>
 #include <signal.h>
@@ -23,7 +23,8 @@ static int sockets[PAIRS], plain[PAIRS], pairs;
 static struct sockaddr_in targets[PAIRS];
 static struct datagram heap[WAITING]; /* the least due time at 0 */
 static int waiting;
-static long came, lost, repeated, sent;
+static long came, lost, repeated, sent, came_by[PAIRS], bytes_by[PAIRS];
+static int ports[PAIRS];
 static uint64_t state;
 static volatile sig_atomic_t ended;
 
@@ -81,6 +82,7 @@ int main(int count, char **words) {
     for (int from, to, is_plain; scanf("%d %d %d", &from, &to, &is_plain) == 3; pairs++) {
         const struct sockaddr_in here = at(from);
         if (pairs == PAIRS) { fputs("relay: too many pairs\n", stderr); return 1; }
+        ports[pairs] = from;
         targets[pairs] = at(to);
         plain[pairs] = is_plain;
         sockets[pairs] = socket(AF_INET, SOCK_DGRAM | SOCK_NONBLOCK, 0);
@@ -99,6 +101,8 @@ int main(int count, char **words) {
         for (int i = 0; i < pairs; i++)
             for (ssize_t length; ready[i].revents & POLLIN && (length = recv(sockets[i], bytes, sizeof bytes, 0)) >= 0;) {
                 came++;
+                came_by[i]++;
+                bytes_by[i] += length;
                 const int is_read = !plain[i] || length == 0 || bytes[0] != PACKET;
                 if (random_below(100) < loss || !is_read) { lost++; continue; }
                 put(i, bytes, length, way, delay);
@@ -106,6 +110,7 @@ int main(int count, char **words) {
             }
         while (waiting && heap[0].due <= now()) send_first();
     }
+    for (int i = 0; i < pairs; i++) printf("%d came %ld bytes %ld\n", ports[i], came_by[i], bytes_by[i]);
     printf("came %ld lost %ld repeated %ld sent %ld\n", came, lost, repeated, sent);
     return 0;
 }
