@@ -4,6 +4,7 @@
 
 mod append;
 mod batch;
+mod cutting;
 mod fault;
 mod formatting;
 mod laws;

@@ -7,12 +7,14 @@ ghost use Rattle.site_disk.specs.Model.{DiskState, after_sync};
 ghost use Rattle.durable.specs.Append.{IsSettled};
 ghost use Rattle.durable.specs.Entries.{Entry};
 ghost use Rattle.durable.specs.Spelling.{head};
+ghost use Rattle.durable.specs.Cutting.{IsCutShort};
 ghost use Rattle.durable.specs.Items.{Item};
 ghost use Rattle.durable.specs.Standing.{StandsFor, IsLaid, IsRefusal};
 ghost use Rattle.durable.specs.Keeping.{Keeps};
 ghost use Rattle.durable.specs.Reading.{AreRead};
 
 use crate::RecordFault;
+use crate::cutting::is_cut_short;
 use crate::reading::read_items;
 use crate::recorded::Recorded;
 use crate::staged::Staged;
@@ -35,6 +37,8 @@ pub struct Record<D> {
     pub(crate) stopped: bool,
     // the batch that is open, if one is
     pub(crate) staged: Staged,
+    // as it was opened
+    pub(crate) cut_short: bool,
 }
 
 // The head of a record, and its gate.
@@ -76,6 +80,24 @@ fn read<D: Disk>(
     read_items(alloc, disk, cluster, len)
 }
 
+// The same, and whether an accident shut the gate behind them.
+fn read_to_the_end<D: Disk>(
+    alloc: Global,
+    cluster: Cluster,
+    node: NodeId,
+    disk: &mut D,
+) -> Result<(Recorded, bool), RecordFault>
+    ensures read { IfOk result (λ r. (items : List Item) × AreRead cluster items r.0
+        × ((d : DiskState) → D.stands_for disk.old d → D.stands_for disk.new (after_sync d) × IsLaid node cluster d.seen items × (IsTrue r.1 ↔ IsCutShort r.0.gate d.seen))) }
+    ensures refused { IfErr result (λ fault. (d : DiskState) → D.stands_for disk.old d → (D.stands_for disk.new (after_sync d) ⊎ (D.stands_for disk.new d × (fault ≡ RecordFault.Device))) × IsRefusal fault node cluster d.seen) }
+    ensures cause { IsErrOf result RecordFault.Device → (D.failed disk.old < D.failed disk.new) ⊎ (D.failed disk.old ≡ 2 ^ 64 - 1) }
+    ensures none_failed { OnOk result (D.failed disk.new ≡ D.failed disk.old) }
+{
+    let recorded = read(alloc, cluster, node, disk)?;
+    let cut_short = is_cut_short(alloc, disk, recorded.gate)?;
+    Ok((recorded, cut_short))
+}
+
 impl<D: Disk> Record<D> {
     ghost use Rattle.durable.specs.Ready.{IsOpened};
     ghost use Rattle.durable.specs.Slots.{slot_at, value_at};
@@ -105,6 +127,7 @@ impl<D: Disk> Record<D> {
         disk: D,
     ) -> Result<Record<D>, (RecordFault, D)>
         ensures opened { IfOk result (λ store. (entries : List Entry) × IsOpened D.stands_for disk store entries) }
+        ensures cut { IfOk result (λ store. (d : DiskState) → D.stands_for disk d → IsTrue store.cut_short ↔ IsCutShort store.recorded.gate d.seen) }
         ensures none_failed { IfOk result (λ store. D.failed store.disk ≡ D.failed disk) }
         ensures whose { IfOk result (λ store. (store.node ≡ node) × (store.cluster ≡ cluster)) }
         ensures refused { IfErr result (λ p. (d : DiskState) → D.stands_for disk d → (D.stands_for p.1 (after_sync d) ⊎ (D.stands_for p.1 d × (p.0 ≡ RecordFault.Device))) × IsRefusal p.0 node cluster d.seen) }
@@ -112,8 +135,8 @@ impl<D: Disk> Record<D> {
         ensures cause { IfErr result (λ p. p.0 ≡ RecordFault.Device → (D.failed disk < D.failed p.1) ⊎ (D.failed disk ≡ 2 ^ 64 - 1)) }
     {
         let mut disk = disk;
-        match read(alloc, cluster, node, &mut disk) {
-            Ok(recorded) => Ok(Record {
+        match read_to_the_end(alloc, cluster, node, &mut disk) {
+            Ok((recorded, cut_short)) => Ok(Record {
                 alloc,
                 disk,
                 node,
@@ -121,6 +144,7 @@ impl<D: Disk> Record<D> {
                 recorded,
                 stopped: false,
                 staged: Staged::new(alloc),
+                cut_short,
             }),
             Err(fault) => Err((fault, disk)),
         }
@@ -168,6 +192,14 @@ impl<D: Disk> Record<D> {
         self.recorded.reach
     }
 
+    /// Whether an accident had shut the gate at which the record ended, as it was opened: behind it stand a batch with its
+    /// right sum, and another open gate, and none of it was read.
+    pub fn is_cut_short(&self) -> bool
+        ensures { result ≡ self.now.cut_short }
+    {
+        self.cut_short
+    }
+
     /// Whether the device failed in a put or a seal since the record was opened.
     pub fn is_stopped(&self) -> bool
         ensures { result ≡ self.now.stopped }
@@ -209,6 +241,7 @@ impl<D: Disk> Record<D> {
             recorded: _recorded,
             stopped: _,
             staged: _staged,
+            cut_short: _,
         } = self;
         disk
     }

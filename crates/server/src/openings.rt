@@ -1,7 +1,8 @@
 //! Opens a node over a record's file.
 
-ghost use Rattle.std.specs.Prelude.{IfOk, IfErr};
+ghost use Rattle.std.specs.Prelude.{◌≡◌, IfOk, IfErr};
 ghost use Rattle.site_ids.specs.Ids.{IsNode};
+ghost use Rattle.node.specs.Standing.{IsWhole};
 ghost use Rattle.server_faults.specs.ServerFaults.{EndsOpening};
 ghost use Rattle.server.specs.Making.{IsMade};
 ghost use Rattle.server.specs.Runs.{IsOpened};
@@ -130,6 +131,17 @@ fn open_disk<R: Files<File = File>>(
     Ok(disk)
 }
 
+/// The node, if no accident cut its record short: else it would have forgotten what it promised.
+fn whole(node: Node<FileDisk>) -> Result<Served<FileDisk>, ServerFault>
+    ensures served { IfOk result (λ served. (served.node ≡ node) × IsWhole node) }
+    ensures fault { IfErr result EndsOpening }
+{
+    if node.is_cut_short() {
+        return Err(ServerFault::Record(RecordFault::Damaged));
+    }
+    Ok(Served { node })
+}
+
 /// Opens a node over the record at a path. Where that is asked, an empty or absent file becomes a record first.
 pub(crate) fn open_node<R: Files<File = File>>(
     rt: &R,
@@ -142,11 +154,12 @@ pub(crate) fn open_node<R: Files<File = File>>(
 ) -> Result<Served<FileDisk>, ServerFault>
     requires { IsNode cluster me }
     ensures opened { IfOk result (λ served. IsOpened ⟦<FileDisk as Disk>⟧.stands_for cluster me served.node) }
+    ensures whole { IfOk result (λ served. IsWhole served.node) }
     ensures fault { IfErr result EndsOpening }
 {
     let disk = open_disk(rt, cluster, me, path, making, cause)?;
     match Node::open(alloc, cluster, me, disk) {
-        Ok(node) => Ok(Served { node }),
+        Ok(node) => whole(node),
         Err((fault, disk)) => {
             cause.error = disk.last_failure();
             Err(fault.into())
