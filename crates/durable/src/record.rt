@@ -52,14 +52,15 @@ fn empty_record(cluster: Cluster, node: NodeId) -> [u8; 11]
     bytes
 }
 
-// Syncs, and then reads the head and the entries.
+// Syncs, and then reads the head and the entries, and tells how long the file is.
 fn read<D: Disk>(
     alloc: Global,
     cluster: Cluster,
     node: NodeId,
     disk: &mut D,
-) -> Result<Recorded, RecordFault>
-    ensures read { IfOk result (λ recorded. (items : List Item) × AreRead cluster items recorded × ((d : DiskState) → D.stands_for disk.old d → D.stands_for disk.new (after_sync d) × IsLaid node cluster d.seen items)) }
+) -> Result<(Recorded, u64), RecordFault>
+    ensures read { IfOk result (λ r. (items : List Item) × AreRead cluster items r.0
+        × ((d : DiskState) → D.stands_for disk.old d → D.stands_for disk.new (after_sync d) × IsLaid node cluster d.seen items × (r.1 ≡ length d.seen))) }
     ensures refused { IfErr result (λ fault. (d : DiskState) → D.stands_for disk.old d → (D.stands_for disk.new (after_sync d) ⊎ (D.stands_for disk.new d × (fault ≡ RecordFault.Device))) × IsRefusal fault node cluster d.seen) }
     ensures cause { IsErrOf result RecordFault.Device → (D.failed disk.old < D.failed disk.new) ⊎ (D.failed disk.old ≡ 2 ^ 64 - 1) }
     ensures none_failed { OnOk result (D.failed disk.new ≡ D.failed disk.old) }
@@ -77,10 +78,10 @@ fn read<D: Disk>(
     if head[8] != node.number() || head[9] != cluster.size() {
         return Err(RecordFault::WrongNode);
     }
-    read_items(alloc, disk, cluster, len)
+    Ok((read_items(alloc, disk, cluster, len)?, len))
 }
 
-// The same, and whether an accident shut the gate behind them.
+// Reads the record, and tells whether an accident shut the gate behind its entries.
 fn read_to_the_end<D: Disk>(
     alloc: Global,
     cluster: Cluster,
@@ -93,8 +94,8 @@ fn read_to_the_end<D: Disk>(
     ensures cause { IsErrOf result RecordFault.Device → (D.failed disk.old < D.failed disk.new) ⊎ (D.failed disk.old ≡ 2 ^ 64 - 1) }
     ensures none_failed { OnOk result (D.failed disk.new ≡ D.failed disk.old) }
 {
-    let recorded = read(alloc, cluster, node, disk)?;
-    let cut_short = is_cut_short(alloc, disk, recorded.gate)?;
+    let (recorded, len) = read(alloc, cluster, node, disk)?;
+    let cut_short = is_cut_short(alloc, disk, recorded.gate, len)?;
     Ok((recorded, cut_short))
 }
 

@@ -4,36 +4,36 @@ use Rattle.durable.proofs.CutShort.{long_enough, sum_there, longer, goes_open, w
 use Rattle.durable.proofs.cutting.is_cut_short.Goals as goal
 
 pub returns-then-left-clause-told : goal.returns-then-left-clause-told
-returns-then-left-clause-told g c = λ d stands. (
+returns-then-left-clause-told g c = λ d stands len_is. (
   λ no. cc,
-  λ cut. absurd (omega (arith, long_enough c.args.gate d.seen cut, c.if-left.true, c.saturating_sub-left.ensures, c.in_ok-len.ensures.len d stands)),
+  λ cut. absurd (omega (arith, long_enough c.args.gate d.seen cut, c.if-left.true, c.saturating_sub-left.ensures, len_is)),
 )
 
 pub returns-in_default-clause-told : goal.returns-in_default-clause-told
-returns-in_default-clause-told g c = λ d stands.
+returns-in_default-clause-told g c = λ d stands len_is.
     let gate = c.args.gate in
-    let measured = c.in_ok-len.ensures.state d stands in
-    let size = c.in_ok-len.ensures.len d stands in
+    let measured = stands in
+    let size = len_is in
     let front = c.in_ok-read_at.ensures.read d measured (omega (arith, c.if-left.false, c.saturating_sub-left.ensures, size)) in (
       λ no. cc,
       λ cut. absurd (sum_there gate d.seen cut c.read_at.new.buf front c.in_default.ensures),
     )
 
 pub returns-then-left-sum-clause-told : goal.returns-then-left-sum-clause-told
-returns-then-left-sum-clause-told g c = λ d stands.
+returns-then-left-sum-clause-told g c = λ d stands len_is.
     let gate = c.args.gate in
-    let measured = c.in_ok-len.ensures.state d stands in
-    let size = c.in_ok-len.ensures.len d stands in
+    let measured = stands in
+    let size = len_is in
     let front = c.in_ok-read_at.ensures.read d measured (omega (arith, c.if-left.false, c.saturating_sub-left.ensures, size)) in (
       λ no. cc,
       λ cut. absurd (omega (arith, longer gate d.seen cut c.read_at.new.buf c.in-Some.sum.size c.in-Some.sum.sum front c.in-Some.ensures, c.if-left-sum.true, c.saturating_sub-left.ensures, size)),
     )
 
 pub returns-clause-told : goal.returns-clause-told
-returns-clause-told g c = λ d stands.
+returns-clause-told g c = λ d stands len_is.
     let gate = c.args.gate in
-    let measured = c.in_ok-len.ensures.state d stands in
-    let len = c.in_ok-len.ensures.len d stands in
+    let measured = stands in
+    let len = len_is in
     let front = c.in_ok-read_at.ensures.read d measured (omega (arith, c.if-left.false, c.saturating_sub-left.ensures, len)) in
     let read = c.in_ok-read_at.ensures.state d measured in
     let size = c.in-Some.sum.size in
