@@ -1,6 +1,6 @@
 //! Opens a node over a record's file.
 
-ghost use Rattle.std.specs.Prelude.{◌≡◌, IfOk, IfErr};
+ghost use Rattle.std.specs.Prelude.{IfOk, IfErr};
 ghost use Rattle.site_ids.specs.Ids.{IsNode};
 ghost use Rattle.node.specs.Standing.{IsWhole};
 ghost use Rattle.server_faults.specs.ServerFaults.{EndsOpening};
@@ -131,17 +131,6 @@ fn open_disk<R: Files<File = File>>(
     Ok(disk)
 }
 
-/// The node, if no accident cut its record short: else it would have forgotten what it promised.
-fn whole(node: Node<FileDisk>) -> Result<Served<FileDisk>, ServerFault>
-    ensures served { IfOk result (λ served. (served.node ≡ node) × IsWhole node) }
-    ensures fault { IfErr result EndsOpening }
-{
-    if node.is_cut_short() {
-        return Err(ServerFault::Record(RecordFault::Damaged));
-    }
-    Ok(Served { node })
-}
-
 /// Opens a node over the record at a path. Where that is asked, an empty or absent file becomes a record first.
 pub(crate) fn open_node<R: Files<File = File>>(
     rt: &R,
@@ -159,7 +148,9 @@ pub(crate) fn open_node<R: Files<File = File>>(
 {
     let disk = open_disk(rt, cluster, me, path, making, cause)?;
     match Node::open(alloc, cluster, me, disk) {
-        Ok(node) => whole(node),
+        // it would have forgotten what it promised behind the gate that an accident shut
+        Ok(node) if node.is_cut_short() => Err(ServerFault::Record(RecordFault::Damaged)),
+        Ok(node) => Ok(Served { node }),
         Err((fault, disk)) => {
             cause.error = disk.last_failure();
             Err(fault.into())
