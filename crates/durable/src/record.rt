@@ -8,14 +8,11 @@ ghost use Rattle.durable.specs.Append.{IsSettled};
 ghost use Rattle.durable.specs.Entries.{Entry};
 ghost use Rattle.durable.specs.Spelling.{head};
 ghost use Rattle.durable.specs.Cutting.{IsCutShort};
-ghost use Rattle.durable.specs.Items.{Item};
-ghost use Rattle.durable.specs.Standing.{StandsFor, IsLaid, IsRefusal};
+ghost use Rattle.durable.specs.Standing.{StandsFor, IsRefusal};
 ghost use Rattle.durable.specs.Keeping.{Keeps};
-ghost use Rattle.durable.specs.Reading.{AreRead};
 
 use crate::RecordFault;
-use crate::cutting::is_cut_short;
-use crate::reading::read_items;
+use crate::opening::read;
 use crate::recorded::Recorded;
 use crate::staged::Staged;
 use acceptor::Slot;
@@ -50,53 +47,6 @@ fn empty_record(cluster: Cluster, node: NodeId) -> [u8; 11]
     bytes[8] = node.number();
     bytes[9] = cluster.size();
     bytes
-}
-
-// Syncs, and then reads the head and the entries, and tells how long the file is.
-fn read<D: Disk>(
-    alloc: Global,
-    cluster: Cluster,
-    node: NodeId,
-    disk: &mut D,
-) -> Result<(Recorded, u64), RecordFault>
-    ensures read { IfOk result (λ r. (items : List Item) × AreRead cluster items r.0
-        × ((d : DiskState) → D.stands_for disk.old d → D.stands_for disk.new (after_sync d) × IsLaid node cluster d.seen items × (r.1 ≡ length d.seen))) }
-    ensures refused { IfErr result (λ fault. (d : DiskState) → D.stands_for disk.old d → (D.stands_for disk.new (after_sync d) ⊎ (D.stands_for disk.new d × (fault ≡ RecordFault.Device))) × IsRefusal fault node cluster d.seen) }
-    ensures cause { IsErrOf result RecordFault.Device → (D.failed disk.old < D.failed disk.new) ⊎ (D.failed disk.old ≡ 2 ^ 64 - 1) }
-    ensures none_failed { OnOk result (D.failed disk.new ≡ D.failed disk.old) }
-{
-    disk.sync()?;
-    let len = disk.len()?;
-    if len < 11 {
-        return Err(RecordFault::NotARecord);
-    }
-    let mut head = [0; 10];
-    disk.read_at(0, &mut head)?;
-    if !head.starts_with(&MARK) {
-        return Err(RecordFault::NotARecord);
-    }
-    if head[8] != node.number() || head[9] != cluster.size() {
-        return Err(RecordFault::WrongNode);
-    }
-    Ok((read_items(alloc, disk, cluster, len)?, len))
-}
-
-// Reads the record, and tells whether an accident shut the gate behind its entries.
-fn read_to_the_end<D: Disk>(
-    alloc: Global,
-    cluster: Cluster,
-    node: NodeId,
-    disk: &mut D,
-) -> Result<(Recorded, bool), RecordFault>
-    ensures read { IfOk result (λ r. (items : List Item) × AreRead cluster items r.0
-        × ((d : DiskState) → D.stands_for disk.old d → D.stands_for disk.new (after_sync d) × IsLaid node cluster d.seen items × (IsTrue r.1 ↔ IsCutShort r.0.gate d.seen))) }
-    ensures refused { IfErr result (λ fault. (d : DiskState) → D.stands_for disk.old d → (D.stands_for disk.new (after_sync d) ⊎ (D.stands_for disk.new d × (fault ≡ RecordFault.Device))) × IsRefusal fault node cluster d.seen) }
-    ensures cause { IsErrOf result RecordFault.Device → (D.failed disk.old < D.failed disk.new) ⊎ (D.failed disk.old ≡ 2 ^ 64 - 1) }
-    ensures none_failed { OnOk result (D.failed disk.new ≡ D.failed disk.old) }
-{
-    let (recorded, len) = read(alloc, cluster, node, disk)?;
-    let cut_short = is_cut_short(alloc, disk, recorded.gate, len)?;
-    Ok((recorded, cut_short))
 }
 
 impl<D: Disk> Record<D> {
@@ -136,7 +86,7 @@ impl<D: Disk> Record<D> {
         ensures cause { IfErr result (λ p. p.0 ≡ RecordFault.Device → (D.failed disk < D.failed p.1) ⊎ (D.failed disk ≡ 2 ^ 64 - 1)) }
     {
         let mut disk = disk;
-        match read_to_the_end(alloc, cluster, node, &mut disk) {
+        match read(alloc, cluster, node, &mut disk) {
             Ok((recorded, cut_short)) => Ok(Record {
                 alloc,
                 disk,
