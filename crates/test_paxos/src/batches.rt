@@ -7,7 +7,7 @@ use crate::disks::{crashed_within, is_long, is_long_behind, reads};
 use crate::listed::{RECORD, SUMMED, entries};
 use crate::samples::{ballot, instance, is_bytes};
 use crate::steps::{Step, act, disk_behind, take};
-use crate::stored::{arm, disk_of, empty, ends, formatted, is_promised, opened, read_bytes};
+use crate::stored::{arm, damaged_from, disk_of, empty, ends, formatted, is_promised, opened, read_bytes};
 use durable::{Record, RecordFault};
 use site_disk::{Armed, Call, Disk, FailOnce, MemDisk};
 use site_ids::Instance;
@@ -329,6 +329,8 @@ fn a_gate_that_an_accident_shut(rt: HostRuntime) {
         let bytes = with_byte(&rt, alloc, record, 10, 3);
         let cut = read_bytes(&rt, alloc, 2, &bytes).map(|opened| opened.is_cut_short());
         same(&rt, cut, Ok(noticed));
+        let from = if noticed { Some(10) } else { None };
+        same(&rt, damaged_from(&rt, alloc, &bytes), Ok(from));
         let whole = read_bytes(&rt, alloc, 2, record).map(|opened| opened.is_cut_short());
         same(&rt, whole, Ok(false));
         drop(bytes);
