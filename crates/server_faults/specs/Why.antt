@@ -20,9 +20,9 @@ GivesNone e = (e.after ≡ e.before) × (e.failures_after ≡ e.failures)
 abbrev pub why_line : List ℕ → List ℕ → List ℕ → List ℕ
 why_line what which cause = what ++ (which ++ (codes ": " ++ (cause ++ codes "\n")))
 
--- the cause of a damage from a byte on
-abbrev pub damaged_from : ℕ → List ℕ
-damaged_from at = codes "it has bytes that no node wrote, from byte " ++ (decimal at ++ codes " on")
+-- the line of a record that is damaged from a byte on
+abbrev pub damaged_line : List ℕ → ℕ → List ℕ
+damaged_line path at = codes "record " ++ (path ++ (codes ": it has bytes that no node wrote, from byte " ++ (decimal at ++ codes " on\n")))
 
 -- the line was given, or, if an allocation failed, nothing
 abbrev pub GivesLine : End → List ℕ → Type 0

@@ -4,7 +4,7 @@
 
 ghost use Rattle.std.specs.Prelude.{◌≡◌, ℕ, List, IfOk, codes, string_bytes};
 ghost use Rattle.http_read.specs.Bytes.{end_of};
-ghost use Rattle.server_faults.specs.Why.{why_line, damaged_from, GivesLine, GivesWhy, SaysWhy, SaysWhyIf};
+ghost use Rattle.server_faults.specs.Why.{why_line, damaged_line, GivesLine, GivesWhy, SaysWhy, SaysWhyIf};
 
 use crate::{Cause, ServeOptions, ServerFault};
 use durable::RecordFault;
@@ -26,8 +26,7 @@ fn line(alloc: Global, what: &str, which: &str, cause: &str) -> Result<String, A
 
 /// Writes it. Where memory is wanted for it, it is left out.
 fn tell<E: Write>(alloc: Global, err: &mut Counted<E>, what: &str, which: &str, cause: &str)
-    ensures why { GivesWhy (end_of E.contents err.old err.new) what.now which.now }
-    ensures words { GivesLine (end_of E.contents err.old err.new) (why_line what.now which.now cause.now) }
+    ensures { GivesWhy (end_of E.contents err.old err.new) what.now which.now }
 {
     if let Ok(line) = line(alloc, what, which, cause) {
         give(err, line.as_str());
@@ -138,19 +137,19 @@ pub fn say_why_of_record<E: Write>(
     tell_cause(alloc, err, "record ", path, cause.error, other);
 }
 
-/// What is wrong with a record that is damaged from a byte on.
-fn damaged_from(alloc: Global, at: u64) -> Result<String, AllocError>
-    ensures { IfOk result (λ text. string_bytes text ≡ damaged_from at) }
+/// The line of a record that is damaged from a byte on.
+fn damaged_line(alloc: Global, path: &str, at: u64) -> Result<String, AllocError>
+    ensures { IfOk result (λ text. string_bytes text ≡ damaged_line path.now at) }
 {
-    format!(in alloc; "it has bytes that no node wrote, from byte {at} on")
+    format!(in alloc; "record {path}: it has bytes that no node wrote, from byte {at} on\n")
 }
 
 /// Says from which byte on a record is damaged.
 pub fn say_where_of_record<E: Write>(alloc: Global, err: &mut Counted<E>, path: &str, at: u64)
-    ensures { GivesLine (end_of E.contents err.old err.new) (why_line (codes "record ") path.now (damaged_from at)) }
+    ensures { GivesLine (end_of E.contents err.old err.new) (damaged_line path.now at) }
 {
-    if let Ok(text) = damaged_from(alloc, at) {
-        tell(alloc, err, "record ", path, text.as_str());
+    if let Ok(line) = damaged_line(alloc, path, at) {
+        give(err, line.as_str());
     }
 }
 

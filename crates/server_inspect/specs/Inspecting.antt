@@ -3,7 +3,7 @@ use Rattle.std.specs.Prelude.{◌≡◌, ◌⊎◌, ℕ, List, Option, None, Som
 use Rattle.http_read.specs.Bytes.{End, IsSilent, IsWritten, IsBroken, IsGiven}
 use Rattle.durable.specs.declared.fault.RecordFault.{RecordFault}
 use Rattle.server_faults.specs.ServerFaults.{IsSaid, of_record}
-use Rattle.server_faults.specs.Why.{GivesLine, GivesNone, GivesWhy, behind, damaged_from, up_to, why_line}
+use Rattle.server_faults.specs.Why.{GivesLine, GivesNone, GivesWhy, behind, damaged_line, up_to}
 use Rattle.server_inspect.specs.Views.{text_of}
 use Rattle.server_inspect.specs.declared.view.View.{View}
 
@@ -24,7 +24,7 @@ HasShown out err status = HasPrinted out err status ⊎ HasBroken out err status
 
 -- what is said behind it: the byte from which on the record is damaged, if that was found; else perhaps a line that says why
 abbrev pub SaysMore : End → List ℕ → Option ℕ → Type 0
-SaysMore e path (Some at) = GivesLine e (why_line (codes "record ") path (damaged_from at))
+SaysMore e path (Some at) = GivesLine e (damaged_line path at)
 SaysMore e path None = GivesWhy e (codes "record ") path
 
 -- the line of an opening's fault, and more

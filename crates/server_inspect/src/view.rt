@@ -1,6 +1,6 @@
 //! What is reported of a record.
 
-ghost use Rattle.std.specs.Prelude.{◌≡◌, ◌≢◌, IfOk, IfErr, length, List, slice_index};
+ghost use Rattle.std.specs.Prelude.{◌≡◌, ◌≢◌, IfOk, IfErr, None, length, List, slice_index};
 ghost use Rattle.site_disk.specs.Model.{DiskState};
 ghost use Rattle.durable.specs.Damage.{IsDamage};
 ghost use Rattle.durable.specs.Entries.{Entry};
@@ -92,7 +92,8 @@ impl View {
 
     /// What is reported of the record on a disk. A refusal gives the disk back.
     pub fn of<D: Disk + Drop>(alloc: Global, disk: D) -> Result<View, (RecordFault, D)>
-        ensures viewed { IfOk result (λ v. (entries : List Entry) × IsViewOf entries v × ((d : DiskState) → D.stands_for disk d → StandsFor v.node v.nodes d.seen entries × (v.bytes ≡ length d.seen))) }
+        ensures viewed { IfOk result (λ v. (entries : List Entry) × IsViewOf entries v × ((d : DiskState) → D.stands_for disk d
+            → StandsFor v.node v.nodes d.seen entries × IsDamage v.node v.nodes d.seen None × (v.bytes ≡ length d.seen))) }
         ensures refused { IfErr result (λ p. (d : DiskState) → D.stands_for disk d → IsRefused p.0 d.seen) }
     {
         let mut disk = disk;
