@@ -51,7 +51,8 @@ one_taken cluster bytes size e old mid new range is within here takes moved = su
       };
 })
 
-refused_damaged : (e : Entry) (old new : Recorded) (fault : RecordFault) (r : Result (Unit {0}) RecordFault) → Takes e old new r → r ≡ Err fault → fault ≡ Damaged → (entries : List Entry) → (entries ≡ []) ↔ (old.gate ≡ 10) → IsKept entries old → ¬ Advances entries e
+pub refused_damaged : (e : Entry) (old new : Recorded) (fault : RecordFault) (r : Result (Unit {0}) RecordFault) → Takes e old new r → r ≡ Err fault → fault ≡ Damaged
+    → (new.gate ≡ old.gate) × ((entries : List Entry) → (entries ≡ []) ↔ (old.gate ≡ 10) → IsKept entries old → ¬ Advances entries e)
 refused_damaged e old new fault r takes was is = subst (λ (x : Result (Unit {0}) RecordFault). Takes e old new x) (was ∙ ap (λ (f : RecordFault). Err f) is) takes
 
 -- one that doesn't is refused
@@ -63,7 +64,7 @@ one_refused cluster bytes size e old new fault r range here takes was is =
       λ before f rest at history same.
           let follows = history before f [] refl in
           let one = (block_back cluster e f (drop size bytes) rest range follows.in_range (sym split ∙ same)).0 in
-          refused_damaged e old new fault r takes was is before at.first at.kept (subst (λ (x : Entry). Advances before x) (sym one) follows.advances),
+          (refused_damaged e old new fault r takes was is).1 before at.first at.kept (subst (λ (x : Entry). Advances before x) (sym one) follows.advances),
     )
 
 -- what stands behind so many bytes

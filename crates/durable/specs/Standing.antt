@@ -1,5 +1,5 @@
 -- What a file of a record stands for, and why one is refused.
-use Rattle.std.specs.Prelude.{◌≡◌, ◌≢◌, ◌⊎◌, ℕ, ◌<◌, List, ◌∷◌, ◌++◌, length, take, slice_index, codes}
+use Rattle.std.specs.Prelude.{◌≡◌, ◌≢◌, ◌⊎◌, ℕ, ◌≤◌, ◌<◌, List, ◌∷◌, ◌++◌, length, take, slice_index, codes}
 use Rattle.durable.specs.Entries.{Entry}
 use Rattle.durable.specs.Items.{Item, IsLog, entries_of, item_blocks}
 use Rattle.durable.specs.Spelling.{head}
@@ -19,6 +19,10 @@ pub record StandsFor (node cluster : ℕ) (file : List ℕ) (entries : List Entr
   pub items : List Item
   pub laid : IsLaid node cluster file items
   pub same : entries_of items ≡ entries
+
+-- the file begins with the head, and goes on
+abbrev pub HasHead : ℕ → ℕ → List ℕ → Type 0
+HasHead node cluster file = (11 ≤ length file) × (take 10 file ≡ head node cluster)
 
 -- too short, or without the mark
 abbrev pub IsNoRecord : List ℕ → Type 0

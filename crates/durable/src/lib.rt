@@ -4,9 +4,11 @@
 
 mod append;
 mod batch;
+mod cutting;
 mod fault;
 mod formatting;
 mod laws;
+mod opening;
 mod parsing;
 mod puts;
 mod reading;
@@ -21,4 +23,5 @@ pub use fault::RecordFault;
 pub use laws::{
     batches_settle, files_stand_for_one_list, floors_stay, in_flight_settles, kept_records_open,
 };
+pub use opening::damage;
 pub use record::Record;

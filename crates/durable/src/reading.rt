@@ -3,11 +3,13 @@
 //! Pieces of 1 MB, and longer ones for batches that are; the buffer comes after the head, so what is no record is refused
 //! without memory.
 
-ghost use Rattle.std.specs.Prelude.{⊤, ◌≡◌, ◌≢◌, ◌⊎◌, ◌+◌, ◌-◌, ◌≤◌, ◌<◌, ◌^◌, ◌++◌, ℕ, List, length, drop, max, min, true, false, None, IfOk, MatchOption, OnOk, OnErr, IsErrOf, IsTrue};
+ghost use Rattle.std.specs.Prelude.{⊤, ◌≡◌, ◌≢◌, ◌⊎◌, ◌+◌, ◌-◌, ◌≤◌, ◌<◌, ◌^◌, ◌++◌, ℕ, List, [], length, drop, max, min, true, false, None, IfOk, MatchOption, OnOk, OnErr, IsErrOf, IsTrue};
 ghost use Rattle.site_disk.specs.Model.{DiskState};
 ghost use Rattle.durable.specs.Entries.{Entry};
-ghost use Rattle.durable.specs.Items.{Item, IsLog};
-ghost use Rattle.durable.specs.Reading.{AreRead, AreSpelled, HasNoSum, IsSumAt, IsDamagedEntry, IsDamagedBatch, IsDamagedPiece, TakesEntry, TakesEntries, TakesItem, TakesPiece};
+ghost use Rattle.durable.specs.Damage.{IsDamagedAt};
+ghost use Rattle.durable.specs.Items.{Item};
+ghost use Rattle.durable.specs.Reading.{AreRead, AreSpelled, BreaksOff, HasNoSum, IsSumAt, IsDamagedEntry};
+ghost use Rattle.durable.specs.Reading.{IsDamagedBatch, IsDamagedItem, TakesEntry, TakesEntries, TakesItem, TakesPiece};
 
 use crate::RecordFault;
 use crate::parsing::{Next, next_entry};
@@ -33,23 +35,27 @@ pub(crate) enum Taken {
     CutOff(usize),
 }
 
-/// Reads the items, in pieces of which each begins at a gate.
+/// Reads the items behind the head into an empty `recorded`, in pieces of which each begins at a gate. If the file is
+/// damaged, `recorded.gate` is where.
 pub(crate) fn read_items<D: Disk>(
     alloc: Global,
     disk: &mut D,
     cluster: Cluster,
     len: u64,
-) -> Result<Recorded, RecordFault>
-    requires { 11 ≤ len }
+    recorded: &mut Recorded,
+) -> Result<(), RecordFault>
+    requires goes_on { 11 ≤ len }
+    requires fresh { AreRead cluster [] recorded.old }
     ensures state { (d : DiskState) → D.stands_for disk.old d → D.stands_for disk.new d }
-    ensures read { IfOk result (λ recorded. (items : List Item) × AreRead cluster items recorded × ((d : DiskState) → D.stands_for disk.old d → len ≡ length d.seen → AreSpelled (drop 10 d.seen) items)) }
-    ensures damaged { IsErrOf result RecordFault.Damaged → (d : DiskState) (items : List Item) → D.stands_for disk.old d → len ≡ length d.seen → IsLog cluster items → ¬ AreSpelled (drop 10 d.seen) items }
+    ensures read { OnOk result ((items : List Item) × AreRead cluster items recorded.new
+        × ((d : DiskState) → D.stands_for disk.old d → len ≡ length d.seen → AreSpelled (drop 10 d.seen) items)) }
+    ensures damaged { IsErrOf result RecordFault.Damaged → (d : DiskState) → D.stands_for disk.old d
+        → len ≡ length d.seen → IsDamagedAt cluster recorded.new.gate d.seen }
     ensures others { OnErr result (IsErrOf result RecordFault.Device ⊎ (IsErrOf result RecordFault.OutOfMemory ⊎ IsErrOf result RecordFault.Damaged)) }
     ensures none_failed { OnOk result (D.failed disk.new ≡ D.failed disk.old) }
     ensures no_fewer { D.failed disk.old ≤ D.failed disk.new }
     ensures cause { IsErrOf result RecordFault.Device → (D.failed disk.old < D.failed disk.new) ⊎ (D.failed disk.old ≡ 2 ^ 64 - 1) }
 {
-    let mut recorded = Recorded::new(alloc);
     let mut buffer = Vec::new(alloc);
     buffer.resize(len.min(PIECE) as usize, 0u8)?;
     loop {
@@ -57,8 +63,8 @@ pub(crate) fn read_items<D: Disk>(
         let size = left.min(buffer.len() as u64);
         let piece = &mut buffer[..size as usize];
         disk.read_at(recorded.gate, piece)?;
-        match take_piece(alloc, piece, left <= size, cluster, &mut recorded)? {
-            None => return Ok(recorded),
+        match take_piece(alloc, piece, left <= size, cluster, recorded)? {
+            None => return Ok(()),
             Some(least) => make_room(&mut buffer, least, len)?,
         }
     }
@@ -90,7 +96,8 @@ fn take_piece(
     ensures taken { IfOk result (λ least. TakesPiece cluster piece.now recorded.old recorded.new least) }
     ensures onward { IfOk result (λ o. MatchOption o ⊤ (λ least. (is_last ≡ false) × ((recorded.old.gate < recorded.new.gate) ⊎ (length piece.now < least)))) }
     ensures within { OnOk result ((recorded.old.gate ≤ recorded.new.gate) × (recorded.new.gate < recorded.old.gate + length piece.now)) }
-    ensures damaged { IsErrOf result RecordFault.Damaged → IsDamagedPiece cluster piece.now is_last recorded.old }
+    ensures damaged { IsErrOf result RecordFault.Damaged
+        → BreaksOff cluster piece.now is_last recorded.old recorded.new.gate }
     ensures others { OnErr result (IsErrOf result RecordFault.OutOfMemory ⊎ IsErrOf result RecordFault.Damaged) }
 {
     let mut rest = piece;
@@ -115,7 +122,8 @@ fn take_item(
     requires fits { recorded.old.gate + length bytes.now < 2 ^ 64 }
     requires whole { (is_last ≡ true) ⊎ (32784 ≤ length bytes.now) }
     ensures taken { IfOk result (λ taken. TakesItem cluster bytes.now is_last recorded.old recorded.new taken) }
-    ensures damaged { IsErrOf result RecordFault.Damaged → IsDamagedPiece cluster bytes.now is_last recorded.old }
+    ensures damaged { IsErrOf result RecordFault.Damaged
+        → (recorded.new.gate ≡ recorded.old.gate) × IsDamagedItem cluster bytes.now is_last recorded.old }
     ensures others { OnErr result (IsErrOf result RecordFault.OutOfMemory ⊎ IsErrOf result RecordFault.Damaged) }
 {
     match Sum::at(bytes) {
@@ -136,15 +144,18 @@ fn take_put(
     requires whole { (is_last ≡ true) ⊎ (32784 ≤ length bytes.now) }
     requires unsummed { HasNoSum bytes.now }
     ensures taken { IfOk result (λ taken. TakesItem cluster bytes.now is_last recorded.old recorded.new taken) }
-    ensures damaged { IsErrOf result RecordFault.Damaged → IsDamagedPiece cluster bytes.now is_last recorded.old }
+    ensures damaged { IsErrOf result RecordFault.Damaged
+        → (recorded.new.gate ≡ recorded.old.gate) × IsDamagedItem cluster bytes.now is_last recorded.old }
     ensures others { OnErr result (IsErrOf result RecordFault.OutOfMemory ⊎ IsErrOf result RecordFault.Damaged) }
 {
+    let gate = recorded.gate;
     match take_entry(alloc, bytes, cluster, recorded)? {
         None => Ok(Taken::Ended),
         Some(size) => {
             if size < bytes.len() {
                 Ok(Taken::Whole(size))
             } else {
+                recorded.gate = gate;
                 Err(RecordFault::Damaged)
             }
         }
@@ -163,7 +174,8 @@ fn take_summed(
     requires fits { recorded.old.gate + length bytes.now < 2 ^ 64 }
     requires at { IsSumAt bytes.now sum.size sum.sum }
     ensures taken { IfOk result (λ taken. TakesItem cluster bytes.now is_last recorded.old recorded.new taken) }
-    ensures damaged { IsErrOf result RecordFault.Damaged → IsDamagedPiece cluster bytes.now is_last recorded.old }
+    ensures damaged { IsErrOf result RecordFault.Damaged
+        → (recorded.new.gate ≡ recorded.old.gate) × IsDamagedItem cluster bytes.now is_last recorded.old }
     ensures others { OnErr result (IsErrOf result RecordFault.OutOfMemory ⊎ IsErrOf result RecordFault.Damaged) }
 {
     let end = SUM_BLOCK + sum.size;
@@ -178,9 +190,17 @@ fn take_summed(
     if !sum.is_of(blocks) {
         return Err(RecordFault::Damaged);
     }
-    take_batch(alloc, blocks, cluster, recorded)?;
-    recorded.gate += SUM_BLOCK as u64;
-    Ok(Taken::Whole(end))
+    let gate = recorded.gate;
+    match take_batch(alloc, blocks, cluster, recorded) {
+        Ok(()) => {
+            recorded.gate += SUM_BLOCK as u64;
+            Ok(Taken::Whole(end))
+        }
+        Err(fault) => {
+            recorded.gate = gate;
+            Err(fault)
+        }
+    }
 }
 
 // Takes the entries whose blocks these are.
@@ -214,7 +234,8 @@ fn take_entry(
 ) -> Result<Option<usize>, RecordFault>
     requires fits { recorded.old.gate + length bytes.now < 2 ^ 64 }
     ensures taken { IfOk result (λ size. TakesEntry cluster bytes.now recorded.old recorded.new size) }
-    ensures damaged { IsErrOf result RecordFault.Damaged → IsDamagedEntry cluster bytes.now recorded.old }
+    ensures damaged { IsErrOf result RecordFault.Damaged
+        → (recorded.new.gate ≡ recorded.old.gate) × IsDamagedEntry cluster bytes.now recorded.old }
     ensures others { OnErr result (IsErrOf result RecordFault.OutOfMemory ⊎ IsErrOf result RecordFault.Damaged) }
 {
     match next_entry(bytes, cluster) {

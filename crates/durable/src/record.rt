@@ -7,13 +7,12 @@ ghost use Rattle.site_disk.specs.Model.{DiskState, after_sync};
 ghost use Rattle.durable.specs.Append.{IsSettled};
 ghost use Rattle.durable.specs.Entries.{Entry};
 ghost use Rattle.durable.specs.Spelling.{head};
-ghost use Rattle.durable.specs.Items.{Item};
-ghost use Rattle.durable.specs.Standing.{StandsFor, IsLaid, IsRefusal};
+ghost use Rattle.durable.specs.Cutting.{IsCutShort};
+ghost use Rattle.durable.specs.Standing.{StandsFor, IsRefusal};
 ghost use Rattle.durable.specs.Keeping.{Keeps};
-ghost use Rattle.durable.specs.Reading.{AreRead};
 
 use crate::RecordFault;
-use crate::reading::read_items;
+use crate::opening::read;
 use crate::recorded::Recorded;
 use crate::staged::Staged;
 use acceptor::Slot;
@@ -35,6 +34,8 @@ pub struct Record<D> {
     pub(crate) stopped: bool,
     // the batch that is open, if one is
     pub(crate) staged: Staged,
+    // as it was opened
+    pub(crate) cut_short: bool,
 }
 
 // The head of a record, and its gate.
@@ -46,34 +47,6 @@ fn empty_record(cluster: Cluster, node: NodeId) -> [u8; 11]
     bytes[8] = node.number();
     bytes[9] = cluster.size();
     bytes
-}
-
-// Syncs, and then reads the head and the entries.
-fn read<D: Disk>(
-    alloc: Global,
-    cluster: Cluster,
-    node: NodeId,
-    disk: &mut D,
-) -> Result<Recorded, RecordFault>
-    ensures read { IfOk result (λ recorded. (items : List Item) × AreRead cluster items recorded × ((d : DiskState) → D.stands_for disk.old d → D.stands_for disk.new (after_sync d) × IsLaid node cluster d.seen items)) }
-    ensures refused { IfErr result (λ fault. (d : DiskState) → D.stands_for disk.old d → (D.stands_for disk.new (after_sync d) ⊎ (D.stands_for disk.new d × (fault ≡ RecordFault.Device))) × IsRefusal fault node cluster d.seen) }
-    ensures cause { IsErrOf result RecordFault.Device → (D.failed disk.old < D.failed disk.new) ⊎ (D.failed disk.old ≡ 2 ^ 64 - 1) }
-    ensures none_failed { OnOk result (D.failed disk.new ≡ D.failed disk.old) }
-{
-    disk.sync()?;
-    let len = disk.len()?;
-    if len < 11 {
-        return Err(RecordFault::NotARecord);
-    }
-    let mut head = [0; 10];
-    disk.read_at(0, &mut head)?;
-    if !head.starts_with(&MARK) {
-        return Err(RecordFault::NotARecord);
-    }
-    if head[8] != node.number() || head[9] != cluster.size() {
-        return Err(RecordFault::WrongNode);
-    }
-    read_items(alloc, disk, cluster, len)
 }
 
 impl<D: Disk> Record<D> {
@@ -105,6 +78,7 @@ impl<D: Disk> Record<D> {
         disk: D,
     ) -> Result<Record<D>, (RecordFault, D)>
         ensures opened { IfOk result (λ store. (entries : List Entry) × IsOpened D.stands_for disk store entries) }
+        ensures cut { IfOk result (λ store. (d : DiskState) → D.stands_for disk d → IsTrue store.cut_short ↔ IsCutShort store.recorded.gate d.seen) }
         ensures none_failed { IfOk result (λ store. D.failed store.disk ≡ D.failed disk) }
         ensures whose { IfOk result (λ store. (store.node ≡ node) × (store.cluster ≡ cluster)) }
         ensures refused { IfErr result (λ p. (d : DiskState) → D.stands_for disk d → (D.stands_for p.1 (after_sync d) ⊎ (D.stands_for p.1 d × (p.0 ≡ RecordFault.Device))) × IsRefusal p.0 node cluster d.seen) }
@@ -113,7 +87,7 @@ impl<D: Disk> Record<D> {
     {
         let mut disk = disk;
         match read(alloc, cluster, node, &mut disk) {
-            Ok(recorded) => Ok(Record {
+            Ok((recorded, cut_short)) => Ok(Record {
                 alloc,
                 disk,
                 node,
@@ -121,6 +95,7 @@ impl<D: Disk> Record<D> {
                 recorded,
                 stopped: false,
                 staged: Staged::new(alloc),
+                cut_short,
             }),
             Err(fault) => Err((fault, disk)),
         }
@@ -168,6 +143,14 @@ impl<D: Disk> Record<D> {
         self.recorded.reach
     }
 
+    /// Whether an accident had shut the gate at which the record ended, as it was opened: behind it stand a batch with its
+    /// right sum, and another open gate, and none of it was read.
+    pub fn is_cut_short(&self) -> bool
+        ensures { result ≡ self.now.cut_short }
+    {
+        self.cut_short
+    }
+
     /// Whether the device failed in a put or a seal since the record was opened.
     pub fn is_stopped(&self) -> bool
         ensures { result ≡ self.now.stopped }
@@ -209,6 +192,7 @@ impl<D: Disk> Record<D> {
             recorded: _recorded,
             stopped: _,
             staged: _staged,
+            cut_short: _,
         } = self;
         disk
     }

@@ -4,7 +4,7 @@
 //! that it is of, with their number: so a length that rots among them hides nothing of them. Its kind, 24, differs from
 //! each kind of an entry in two bits at least.
 
-ghost use Rattle.std.specs.Prelude.{◌≡◌, ◌↔◌, ◌<◌, ◌^◌, IsTrue, MatchOption, length};
+ghost use Rattle.std.specs.Prelude.{◌≡◌, ◌↔◌, ◌+◌, ◌<◌, ◌^◌, IsTrue, MatchOption, length, take, slice_index};
 ghost use Rattle.durable.specs.Items.{sum_front, sum_of};
 ghost use Rattle.durable.specs.Reading.{HasNoSum, IsSumAt};
 
@@ -61,6 +61,14 @@ impl Sum {
             size: size as usize,
             sum: [*e, *f, *g, *h, *i, *j, *k, *l],
         })
+    }
+
+    /// Whether it is the sum of these bytes but the last, which is an open gate.
+    pub(crate) fn goes_on(self, bytes: &[u8]) -> bool
+        requires { length bytes.now ≡ self.size + 1 }
+        ensures { IsTrue result ↔ ((slice_index bytes.now self.size ≡ 1) × (self.sum ≡ sum_of (take self.size bytes.now))) }
+    {
+        bytes[self.size] == 1 && self.is_of(&bytes[..self.size])
     }
 
     /// Whether it is the sum of these bytes.

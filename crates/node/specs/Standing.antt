@@ -132,6 +132,10 @@ pub record CountsDevice {T : Type 0} (result : Result T NodeFault) (before now :
 
 -- ---- opening
 
+-- no accident had cut its record short, as it was opened
+abbrev pub IsWhole : {D : Type 0} → Running D → Type 0
+IsWhole code = code.store.cut_short ≡ false
+
 -- The node has these entries on record, over any disk, and nothing else. Of each state that the disk stood for, they are those of its file, and where it kept a
 -- record with an entry in flight, they are that record's, with that entry or without it.
 pub record OpensAs {D : Type 0} (stands_for : D → DiskState → Type 0) (disk : D) (code : Running D) (entries : List Entry) : Type 0 where

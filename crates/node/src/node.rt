@@ -5,6 +5,7 @@
 ghost use Rattle.std.specs.Prelude.{◌≡◌, ◌≢◌, ◌<◌, ◌⊎◌, ◌↔◌, ◌^◌, ◌-◌, [], List, Option, IsTrue, IfOk, IfErr, length, true};
 ghost use Rattle.site_disk.specs.Model.{DiskState, after_sync};
 ghost use Rattle.site_ids.specs.Ids.{IsNode};
+ghost use Rattle.durable.specs.Cutting.{IsCutShort};
 ghost use Rattle.durable.specs.Entries.{Entry};
 ghost use Rattle.durable.specs.Keeping.{Keeps};
 ghost use Rattle.durable.specs.Standing.{IsRefusal};
@@ -74,6 +75,7 @@ impl<D: Disk> Node<D> {
         requires { IsNode cluster me }
         ensures opened { IfOk result (λ node. (entries : List Entry) × OpensAs D.stands_for disk node entries) }
         ensures whose { IfOk result (λ node. (node.me ≡ me) × (node.cluster ≡ cluster)) }
+        ensures cut { IfOk result (λ node. (d : DiskState) → D.stands_for disk d → IsTrue node.store.cut_short ↔ IsCutShort node.store.recorded.gate d.seen) }
         ensures unfed { IfOk result (λ node. node.releases ≡ []) }
         ensures none_failed { IfOk result (λ node. D.failed node.store.disk ≡ D.failed disk) }
         ensures refused { IfErr result (λ p. (d : DiskState) → D.stands_for disk d → (D.stands_for p.1 (after_sync d) ⊎ (D.stands_for p.1 d × (p.0 ≡ RecordFault.Device))) × IsRefusal p.0 me cluster d.seen) }
@@ -102,6 +104,13 @@ impl<D: Disk> Node<D> {
         ensures { result ≡ self.now.cluster }
     {
         self.cluster
+    }
+
+    /// Whether an accident had cut its record short, as it was opened (`Record::is_cut_short`).
+    pub fn is_cut_short(&self) -> bool
+        ensures { result ≡ self.now.store.cut_short }
+    {
+        self.store.is_cut_short()
     }
 
     /// Whether the device failed since the node was opened.

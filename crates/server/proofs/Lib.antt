@@ -7,3 +7,4 @@ pub mod Runs
 pub mod Failing
 pub mod Owning
 pub mod Resting
+pub mod Recording

@@ -3,6 +3,7 @@ pub mod Speaking
 pub mod Mailing
 pub mod Returning
 pub mod Making
+pub mod Recording
 pub mod Passes
 pub mod Noted
 pub mod Running

@@ -1,5 +1,5 @@
 -- Datagrams that wait for a step, and letters that one handed out.
-use Rattle.std.specs.Prelude.{ℕ, ◌<◌, vec_len, nat_eq, Bool, true, if◌then◌else◌, List, [], ◌∷◌}
+use Rattle.std.specs.Prelude.{ℕ, ◌+◌, ◌-◌, ◌^◌, ◌<◌, min, vec_len, length, nat_eq, Bool, true, if◌then◌else◌, List, [], ◌∷◌}
 use Rattle.node.specs.declared.to.To.{To}
 use Rattle.node.specs.declared.to.To.TheVariants.{One, All}
 use Rattle.site_drive.specs.Posting.{bytes_of, letters_of}
@@ -13,6 +13,11 @@ waiting_of mail = bytes_of mail.came.items
 -- a datagram may be received before the next step
 abbrev pub HasRoom : Mail → Type 0
 HasRoom mail = (vec_len mail.came < DATAGRAMS) × (mail.bytes < BYTES)
+
+-- how many bytes are counted once these datagrams came, too: as far as a number goes
+abbrev pub counted : ℕ → List (List ℕ) → ℕ
+counted bytes [] = bytes
+counted bytes (d ∷ ds) = counted (min (bytes + length d) (2 ^ 64 - 1)) ds
 
 -- what is to be sent: to whom, and the bytes
 abbrev pub posted_of : Mail → List (To × List ℕ)

@@ -1,5 +1,7 @@
 -- Which other nodes read packets. Times are milliseconds since the server began.
-use Rattle.std.specs.Prelude.{◌≡◌, ◌⊎◌, ℕ, ◌-◌, List, ◌∷◌, ◌++◌, replicate, get_or, set, Bool, false, not, Some, None, []}
+use Rattle.std.specs.Prelude.{◌≡◌, ◌⊎◌, ℕ, ◌-◌, ◌<◌, List, ◌∷◌, ◌++◌, length, take, replicate, get_or, set, Bool, false, not, Some, None, []}
+use Rattle.site_drive.specs.Posting.{letters_of}
+use Rattle.site_drive.specs.declared.letter.Letter.{Letter}
 use Rattle.wire.specs.Decoding.{Spells}
 use Rattle.wire.specs.Messages.{sender_of}
 use Rattle.wire.specs.declared.message.Message.{Message}
@@ -8,6 +10,7 @@ use Rattle.server_packets.specs.Packets.{framed, IsPacket}
 use Rattle.server_packets.specs.declared.TheConstants.{MARK}
 use Rattle.server_times.specs.Timing.{passed}
 use Rattle.server_times.specs.declared.times.Times.{Times}
+use Rattle.server.specs.Mailing.{own_of}
 use Rattle.server.specs.declared.peers.Peers.{Peers}
 
 abbrev pub no_peers : Times → Peers
@@ -34,3 +37,8 @@ HearsPiece n piece now old new =
 -- a datagram of so many bytes may go with these: it is the first, or it need not go alone and there is room
 abbrev pub MayJoin : List (List ℕ) → ℕ → Bool → Type 0
 MayJoin ds len alone = (ds ≡ []) ⊎ ((alone ≡ false) × HasRoom ds len)
+
+-- with what the first n letters have for node p, the letter behind them, if there is one, may not join
+abbrev pub IsFull : ℕ → List Letter → ℕ → Bool → Type 0
+IsFull p letters n alone = (x : Letter) → n < length letters → x ≡ get_or letters n x
+    → ¬ (MayJoin (own_of p (letters_of (take n letters))) (length x.bytes.items) alone)

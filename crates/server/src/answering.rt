@@ -30,6 +30,7 @@ pub(crate) fn answer<D: Disk, S: Drop>(
     ensures each { OnOk result (AnswersOrLeaves returning now seats.old.times served.old served.new seats.old.seats.items seats.new.seats.items) }
     ensures tells { IfOk result (λ answered. TellsAnswered answered (length seats.old.seats.items) seats.old.seats.items seats.new.seats.items) }
     ensures taken { (n : ℕ) × (n ≤ 64) × MaySubmitMany offered n served.old served.new }
+    ensures same { seats.new.times ≡ seats.old.times }
 {
     if is_returning(returning, &served.node, now) {
         return Ok(false);

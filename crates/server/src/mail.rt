@@ -5,7 +5,7 @@ ghost use Rattle.site_drive.specs.Posting.{bytes_of, letters_of};
 ghost use Rattle.server_packets.specs.Packets.{Holds, framed_all};
 ghost use Rattle.server_packets.specs.declared.TheConstants.{MAX_PACKET};
 ghost use Rattle.server.specs.Speaking.{no_peers, HearsFrames, HearsPiece};
-ghost use Rattle.server.specs.Mailing.{waiting_of, posted_of, own_of, is_for, HasRoom};
+ghost use Rattle.server.specs.Mailing.{waiting_of, posted_of, own_of, is_for, counted, HasRoom};
 
 use crate::peers::Peers;
 use node::To;
@@ -83,6 +83,7 @@ impl Mail {
     pub fn new(alloc: Global, cluster: Cluster, times: Times) -> Mail
         ensures empty { (waiting_of result ≡ []) × (posted_of result ≡ []) }
         ensures peers { (result.cluster ≡ cluster) × (result.peers ≡ no_peers times) }
+        ensures room { result.bytes ≡ 0 }
     {
         Mail {
             alloc,
@@ -111,6 +112,7 @@ impl Mail {
     /// A datagram came: it waits behind the others.
     pub fn push(&mut self, datagram: &[u8]) -> Result<(), AllocError>
         ensures came { OnOk result (waiting_of self.new ≡ waiting_of self.old ++ datagram.now ∷ []) }
+        ensures room { OnOk result (self.new.bytes ≡ counted self.old.bytes (datagram.now ∷ [])) }
         ensures refused { OnErr result (waiting_of self.new ≡ waiting_of self.old) }
         ensures same { self.new.letters ≡ self.old.letters }
         ensures peers { (self.new.peers ≡ self.old.peers) × (self.new.cluster ≡ self.old.cluster) }
@@ -123,9 +125,10 @@ impl Mail {
 
     /// What came in one piece: each datagram that it holds waits behind the others. Where memory is refused the first of them may. Who sends a packet reads packets.
     pub fn take_in(&mut self, piece: &[u8], now: u64) -> Result<(), AllocError>
-        ensures came { OnOk result ((ds : List (List ℕ)) × Holds piece.now ds × (waiting_of self.new ≡ waiting_of self.old ++ ds)) }
+        ensures came { OnOk result ((ds : List (List ℕ)) × Holds piece.now ds
+            × (waiting_of self.new ≡ waiting_of self.old ++ ds) × (self.new.bytes ≡ counted self.old.bytes ds)) }
         ensures refused { OnErr result ((done left : List (List ℕ)) × Holds piece.now (done ++ left) × (waiting_of self.new ≡ waiting_of self.old ++ done)) }
-        ensures same { self.new.letters ≡ self.old.letters }
+        ensures same { (self.new.letters ≡ self.old.letters) × (self.new.cluster ≡ self.old.cluster) }
         ensures peers { HearsPiece self.old.cluster piece.now now self.old.peers self.new.peers }
     {
         match frames_in(piece) {
@@ -153,7 +156,9 @@ impl Mail {
     /// What stands behind the mark of a packet.
     fn take_frames(&mut self, frames: &[u8]) -> Result<(), AllocError>
         requires { length frames.now ≤ MAX_PACKET }
-        ensures came { OnOk result ((ds : List (List ℕ)) → frames.now ≡ framed_all ds → waiting_of self.new ≡ waiting_of self.old ++ ds) }
+        ensures came { OnOk result ((ds : List (List ℕ)) → frames.now ≡ framed_all ds
+            → (waiting_of self.new ≡ waiting_of self.old ++ ds)
+            × (self.new.bytes ≡ counted self.old.bytes ds)) }
         ensures refused { OnErr result ((ds : List (List ℕ)) → frames.now ≡ framed_all ds → (done left : List (List ℕ)) × (ds ≡ done ++ left) × (waiting_of self.new ≡ waiting_of self.old ++ done)) }
         ensures same { self.new.letters ≡ self.old.letters }
         ensures peers { (self.new.peers ≡ self.old.peers) × (self.new.cluster ≡ self.old.cluster) }
@@ -176,6 +181,7 @@ impl Mail {
     /// What waited was taken: what waits now is what these letters have for this node.
     pub(crate) fn keep_own(&mut self, me: NodeId) -> Result<(), AllocError>
         ensures own { OnOk result (waiting_of self.new ≡ own_of me (posted_of self.old)) }
+        ensures room { self.new.bytes ≡ 0 }
         ensures same { self.new.letters ≡ self.old.letters }
         ensures peers { (self.new.peers ≡ self.old.peers) × (self.new.cluster ≡ self.old.cluster) }
     {

@@ -2,6 +2,7 @@
 
 ghost use Rattle.std.specs.Prelude.{IfOk, IfErr};
 ghost use Rattle.site_ids.specs.Ids.{IsNode};
+ghost use Rattle.node.specs.Standing.{IsWhole};
 ghost use Rattle.server_faults.specs.ServerFaults.{EndsOpening};
 ghost use Rattle.server.specs.Making.{IsMade};
 ghost use Rattle.server.specs.Runs.{IsOpened};
@@ -142,10 +143,13 @@ pub(crate) fn open_node<R: Files<File = File>>(
 ) -> Result<Served<FileDisk>, ServerFault>
     requires { IsNode cluster me }
     ensures opened { IfOk result (λ served. IsOpened ⟦<FileDisk as Disk>⟧.stands_for cluster me served.node) }
+    ensures whole { IfOk result (λ served. IsWhole served.node) }
     ensures fault { IfErr result EndsOpening }
 {
     let disk = open_disk(rt, cluster, me, path, making, cause)?;
     match Node::open(alloc, cluster, me, disk) {
+        // it would have forgotten what it promised behind the gate that an accident shut
+        Ok(node) if node.is_cut_short() => Err(ServerFault::Record(RecordFault::Damaged)),
         Ok(node) => Ok(Served { node }),
         Err((fault, disk)) => {
             cause.error = disk.last_failure();

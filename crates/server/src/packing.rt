@@ -4,7 +4,7 @@ ghost use Rattle.std.specs.Prelude.{◌≡◌, ◌≤◌, ◌↔◌, [], ℕ, Li
 ghost use Rattle.site_drive.specs.Posting.{letters_of};
 ghost use Rattle.server_packets.specs.Making.{Packs};
 ghost use Rattle.server.specs.Mailing.{own_of};
-ghost use Rattle.server.specs.Speaking.{MayJoin};
+ghost use Rattle.server.specs.Speaking.{IsFull, MayJoin};
 
 use crate::mail::reaches;
 use server_packets::Packet;
@@ -29,6 +29,8 @@ pub fn pack(
 ) -> Result<usize, AllocError>
     ensures packed { IfOk result (λ n. (ds : List (List ℕ)) → Packs packet.old ds → Packs packet.new (own_of to (letters_of (take n letters.now)))) }
     ensures single { IfOk result (λ n. (ds : List (List ℕ)) → Packs packet.old ds → alone ≡ true → length (own_of to (letters_of (take n letters.now))) ≤ 1) }
+    ensures full { IfOk result (λ n. (ds : List (List ℕ)) → Packs packet.old ds
+        → IsFull to letters.now n alone) }
     ensures within { IfOk result (λ n. n ≤ length letters.now) }
     ensures goes_on { IfOk result (λ n. (ds : List (List ℕ)) → Packs packet.old ds → n ≡ 0 → letters.now ≡ []) }
 {

@@ -2,9 +2,14 @@
 //!
 //! It is counted once, over all instances, since a node that was away has gaps: some milliseconds.
 
+ghost use Rattle.std.specs.Prelude.{◌≡◌, ◌+◌, ◌-◌, ◌^◌, min, if◌then◌else◌};
+ghost use Rattle.node.specs.Nodes.{Node as AbstractNode};
+ghost use Rattle.node.specs.Standing.{IsNodeOf};
+ghost use Rattle.server.specs.Recording.{recorded_at, recorded_to};
+
 use node::Node;
 use site_disk::Disk;
-use site_ids::Instance;
+use site_ids::{Instance, MAX_INSTANCE};
 
 /// How far a node's record goes. Each is 0 where there is none.
 #[derive(Clone, Copy, Drop)]
@@ -17,25 +22,51 @@ pub struct Recorded {
     pub furthest: u32,
 }
 
+/// One more, where that is so.
+fn count_on(count: u32, is: bool) -> u32
+    ensures { result ≡ (if is then min (count + 1) (2 ^ 32 - 1) else count) }
+{
+    if is { count.saturating_add(1) } else { count }
+}
+
+/// This instance, where that is so at it, and else the one found so far.
+fn further(found: u32, instance: u32, is: bool) -> u32
+    ensures { result ≡ (if is then instance else found) }
+{
+    if is { instance } else { found }
+}
+
 impl Recorded {
-    /// What a node's record has at the first so many instances, where the node was just opened: it knows nothing else.
-    pub fn of<D: Disk>(node: &Node<D>, instances: u32) -> Recorded {
+    /// With what the record has at an instance behind those that were looked at.
+    fn look_at<D: Disk>(self, node: &Node<D>, instance: Instance) -> Recorded
+        ensures { (s : AbstractNode) → IsNodeOf node.now s → result ≡ recorded_at s instance self }
+    {
+        let number = instance.number();
+        let voted = node.slot(instance).vote.is_some();
+        let any = node.is_tellable(instance);
+        Recorded {
+            votes: count_on(self.votes, voted),
+            last: further(self.last, number, voted),
+            furthest: further(self.furthest, number, any),
+        }
+    }
+
+    /// What a node's record has at the first so many instances. A value that the node knows counts as one on
+    /// record: one that was just opened knows none.
+    pub fn of<D: Disk>(node: &Node<D>, instances: u32) -> Recorded
+        ensures { (s : AbstractNode) → IsNodeOf node.now s
+            → result ≡ recorded_to s (min instances MAX_INSTANCE) }
+    {
         let mut recorded = Recorded {
             votes: 0,
             last: 0,
             furthest: 0,
         };
-        for number in 1..=instances {
-            let Some(instance) = Instance::new(number) else {
+        for past in 0..instances.min(MAX_INSTANCE) {
+            let Some(instance) = Instance::new(past + 1) else {
                 return recorded;
             };
-            if node.slot(instance).vote.is_some() {
-                recorded.votes = recorded.votes.saturating_add(1);
-                recorded.last = number;
-            }
-            if node.is_tellable(instance) {
-                recorded.furthest = number;
-            }
+            recorded = recorded.look_at(node, instance);
         }
         recorded
     }

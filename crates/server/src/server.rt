@@ -13,6 +13,7 @@ ghost use Rattle.server_pace.specs.Returning.{returning_of};
 ghost use Rattle.server_times.specs.Timing.{rest_after};
 ghost use Rattle.server.specs.Returning.{AnswersOrLeaves, ComesBack, IsBack};
 ghost use Rattle.server.specs.Mailing.{waiting_of, posted_of, own_of, has_come};
+ghost use Rattle.server.specs.Speaking.{no_peers};
 ghost use Rattle.server.specs.Passes.{AreSenders, TakesStep, BreaksStep, LosesStep, IsBatchOf, MaySend, Paces};
 ghost use Rattle.server_clients.specs.Served.{offered};
 ghost use Rattle.server_clients.specs.declared.served.Served.{Served};
@@ -78,6 +79,8 @@ impl<D: Disk + Drop, S: Drop> Server<D, S> {
         requires { me ≡ served.node.me }
         ensures node { (result.served ≡ served) × (result.me ≡ me) }
         ensures mail { (waiting_of result.mail ≡ []) × (posted_of result.mail ≡ []) }
+        ensures room { result.mail.bytes ≡ 0 }
+        ensures peers { (result.mail.peers ≡ no_peers times) × (result.mail.cluster ≡ served.node.cluster) }
         ensures clients { (result.seats.seats.items ≡ []) × (result.seats.times ≡ times) }
         ensures pace { result.pace ≡ first_pace times served.node.cluster me recorded.last }
         ensures returning { result.returning ≡ returning_of times recorded.furthest }
@@ -101,9 +104,12 @@ impl<D: Disk + Drop, S: Drop> Server<D, S> {
         ensures heard { IfOk result (λ batched.
             AreSenders self.old.served.node.cluster (waiting_of self.old.mail) batched.heard) }
         ensures own { OnOk result (waiting_of self.new.mail ≡ own_of self.old.me (posted_of self.new.mail)) }
-        ensures peers { self.new.mail.peers ≡ self.old.mail.peers }
+        ensures room { OnOk result (self.new.mail.bytes ≡ 0) }
+        ensures peers { (self.new.mail.peers ≡ self.old.mail.peers)
+            × (self.new.mail.cluster ≡ self.old.mail.cluster) }
         ensures seats { self.new.seats ≡ self.old.seats }
         ensures returning { self.new.returning ≡ self.old.returning }
+        ensures me { self.new.me ≡ self.old.me }
         ensures fault { IfErr result (λ why. LeadsSealed D.stands_for self.old.served.node self.new.served.node (BreaksStep self.old.served.node.cluster self.old.served.node.me (waiting_of self.old.mail) why)
             ⊎ LosesStep D.stands_for (waiting_of self.old.mail) self.old.served.node self.new.served.node why) }
         ensures may_send { IfErr result (λ why.
@@ -147,7 +153,11 @@ impl<D: Disk + Drop, S: Drop> Server<D, S> {
         ensures answered { IfOk result (λ stepped. TellsAnswered stepped.answered (length self.old.seats.seats.items) self.old.seats.seats.items self.new.seats.seats.items) }
         ensures ok { OnOk result (LeadsSealed D.stands_for self.old.served.node self.new.served.node (TakesStep self.old.served.node.cluster self.old.served.node.me (waiting_of self.old.mail) (posted_of self.new.mail) self.new.served.node.releases)) }
         ensures own { OnOk result (waiting_of self.new.mail ≡ own_of self.old.me (posted_of self.new.mail)) }
-        ensures peers { self.new.mail.peers ≡ self.old.mail.peers }
+        ensures room { OnOk result (self.new.mail.bytes ≡ 0) }
+        ensures peers { (self.new.mail.peers ≡ self.old.mail.peers)
+            × (self.new.mail.cluster ≡ self.old.mail.cluster) }
+        ensures same { (self.new.me ≡ self.old.me) × (self.new.returning ≡ self.old.returning)
+            × (self.new.seats.times ≡ self.old.seats.times) }
         ensures fault { IfErr result (λ why. LeadsSealed D.stands_for self.old.served.node self.new.served.node (BreaksStep self.old.served.node.cluster self.old.served.node.me (waiting_of self.old.mail) why)
             ⊎ LosesStep D.stands_for (waiting_of self.old.mail) self.old.served.node self.new.served.node why) }
         ensures may_send { IfErr result (λ why.

@@ -1,5 +1,5 @@
 -- The line behind that of a fault, which says why it was.
-use Rattle.std.specs.Prelude.{◌≡◌, ◌⊎◌, ℕ, List, ◌++◌, codes, Option, Bool, true, false}
+use Rattle.std.specs.Prelude.{◌≡◌, ◌⊎◌, ℕ, List, ◌++◌, codes, decimal, Option, Bool, true, false}
 use Rattle.http_read.specs.Bytes.{End, IsGiven}
 use Rattle.server_faults.specs.declared.server_fault.ServerFault.{ServerFault}
 use Rattle.server_faults.specs.declared.server_fault.ServerFault.TheVariants as server_fault
@@ -19,6 +19,14 @@ GivesNone e = (e.after ≡ e.before) × (e.failures_after ≡ e.failures)
 -- what it is about, which one, and the cause
 abbrev pub why_line : List ℕ → List ℕ → List ℕ → List ℕ
 why_line what which cause = what ++ (which ++ (codes ": " ++ (cause ++ codes "\n")))
+
+-- the line of a record that is damaged from a byte on
+abbrev pub damaged_line : List ℕ → ℕ → List ℕ
+damaged_line path at = codes "record " ++ (path ++ (codes ": it has bytes that no node wrote, from byte " ++ (decimal at ++ codes " on\n")))
+
+-- the line was given, or, if an allocation failed, nothing
+abbrev pub GivesLine : End → List ℕ → Type 0
+GivesLine e line = GivesNone e ⊎ IsGiven e line
 
 -- such a line was given, or none
 abbrev pub GivesWhy : End → List ℕ → List ℕ → Type 0

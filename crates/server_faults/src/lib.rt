@@ -11,4 +11,4 @@ pub use cause::Cause;
 pub use saying::say;
 pub use serve_options::ServeOptions;
 pub use server_fault::ServerFault;
-pub use why::{say_why, say_why_of_record};
+pub use why::{say_where_of_record, say_why, say_why_of_record};

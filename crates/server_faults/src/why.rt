@@ -4,7 +4,7 @@
 
 ghost use Rattle.std.specs.Prelude.{◌≡◌, ℕ, List, IfOk, codes, string_bytes};
 ghost use Rattle.http_read.specs.Bytes.{end_of};
-ghost use Rattle.server_faults.specs.Why.{why_line, GivesWhy, SaysWhy, SaysWhyIf};
+ghost use Rattle.server_faults.specs.Why.{why_line, damaged_line, GivesLine, GivesWhy, SaysWhy, SaysWhyIf};
 
 use crate::{Cause, ServeOptions, ServerFault};
 use durable::RecordFault;
@@ -135,6 +135,22 @@ pub fn say_why_of_record<E: Write>(
 {
     let other = wrong_with(fault, cause, above);
     tell_cause(alloc, err, "record ", path, cause.error, other);
+}
+
+/// The line of a record that is damaged from a byte on.
+fn damaged_line(alloc: Global, path: &str, at: u64) -> Result<String, AllocError>
+    ensures { IfOk result (λ text. string_bytes text ≡ damaged_line path.now at) }
+{
+    format!(in alloc; "record {path}: it has bytes that no node wrote, from byte {at} on\n")
+}
+
+/// Says from which byte on a record is damaged.
+pub fn say_where_of_record<E: Write>(alloc: Global, err: &mut Counted<E>, path: &str, at: u64)
+    ensures { GivesLine (end_of E.contents err.old err.new) (damaged_line path.now at) }
+{
+    if let Ok(line) = damaged_line(alloc, path, at) {
+        give(err, line.as_str());
+    }
 }
 
 /// Says why it halted so, where that is more than its line says.

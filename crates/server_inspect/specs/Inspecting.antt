@@ -1,9 +1,9 @@
 -- What is printed of a record's file.
-use Rattle.std.specs.Prelude.{◌≡◌, ◌⊎◌, ℕ, List, Option, codes}
+use Rattle.std.specs.Prelude.{◌≡◌, ◌⊎◌, ℕ, List, Option, None, Some, codes}
 use Rattle.http_read.specs.Bytes.{End, IsSilent, IsWritten, IsBroken, IsGiven}
 use Rattle.durable.specs.declared.fault.RecordFault.{RecordFault}
 use Rattle.server_faults.specs.ServerFaults.{IsSaid, of_record}
-use Rattle.server_faults.specs.Why.{GivesNone, GivesWhy, behind, up_to}
+use Rattle.server_faults.specs.Why.{GivesLine, GivesNone, GivesWhy, behind, damaged_line, up_to}
 use Rattle.server_inspect.specs.Views.{text_of}
 use Rattle.server_inspect.specs.declared.view.View.{View}
 
@@ -22,10 +22,15 @@ HasNoMemory out err status = IsSilent out × IsGiven err (codes "out of memory\n
 abbrev pub HasShown : End → End → ℕ → Type 0
 HasShown out err status = HasPrinted out err status ⊎ HasBroken out err status ⊎ HasNoMemory out err status
 
--- the line of an opening's fault, and perhaps one more that says why it was
-abbrev pub Refuses : End → List ℕ → RecordFault → ℕ → Type 0
-Refuses err path fault status = (said : List ℕ) × IsSaid (of_record fault) said × (held : Option (List ℕ)) × (failures : ℕ)
-    × IsGiven (up_to err held failures) said × GivesWhy (behind err held failures) (codes "record ") path × (status ≡ 1)
+-- what is said behind it: the byte from which on the record is damaged, if that was found; else perhaps a line that says why
+abbrev pub SaysMore : End → List ℕ → Option ℕ → Type 0
+SaysMore e path (Some at) = GivesLine e (damaged_line path at)
+SaysMore e path None = GivesWhy e (codes "record ") path
+
+-- the line of an opening's fault, and more
+abbrev pub Refuses : End → List ℕ → RecordFault → Option ℕ → ℕ → Type 0
+Refuses err path fault place status = (said : List ℕ) × IsSaid (of_record fault) said × (held : Option (List ℕ)) × (failures : ℕ)
+    × IsGiven (up_to err held failures) said × SaysMore (behind err held failures) path place × (status ≡ 1)
 
 abbrev pub HasInspected : End → End → List ℕ → ℕ → Type 0
-HasInspected out err path status = HasShown out err status ⊎ (IsSilent out × (fault : RecordFault) × Refuses err path fault status)
+HasInspected out err path status = HasShown out err status ⊎ (IsSilent out × (fault : RecordFault) × (place : Option ℕ) × Refuses err path fault place status)

@@ -1,15 +1,15 @@
 //! Prints what a record holds.
 
 ghost use Rattle.http_read.specs.Bytes.{end_of};
-ghost use Rattle.server_inspect.specs.Inspecting.{HasInspected, HasShown, Refuses};
+ghost use Rattle.server_inspect.specs.Inspecting.{HasInspected, HasShown, Refuses, SaysMore};
 
 use crate::lines::lines_of;
 use crate::snapshot::{End, Snapshot};
-use crate::view::View;
+use crate::view::{View, damage_of};
 use durable::RecordFault;
 use engine_common::say as say_line;
 use http_read::{Counted, write_all};
-use server_faults::{Cause, ServerFault, say, say_why_of_record};
+use server_faults::{Cause, ServerFault, say, say_where_of_record, say_why_of_record};
 use std::alloc::Global;
 use std::fs::File;
 use std::io;
@@ -41,23 +41,46 @@ fn open<R: Files<File = File>>(
     }
 }
 
-/// What is reported of the record; or why it is refused, with the end of its file.
+/// Why a record is refused: the end of its file, if that was seen, and the byte from which on it is damaged, if that was found.
+#[derive(Clone, Copy, Drop)]
+struct Refusal {
+    fault: RecordFault,
+    end: Option<End>,
+    place: Option<u64>,
+}
+
+/// Where a record is damaged that was refused so.
+fn place_of(alloc: Global, fault: RecordFault, snapshot: &mut Snapshot) -> Option<u64> {
+    if fault != RecordFault::Damaged {
+        return None;
+    }
+    damage_of(alloc, snapshot).unwrap_or(None)
+}
+
+/// What is reported of the record; or why it is refused.
 fn look<R: Files<File = File>>(
     rt: &R,
     alloc: Global,
     path: &str,
     cause: &mut Cause,
-) -> Result<View, (RecordFault, Option<End>)> {
+) -> Result<View, Refusal> {
     let snapshot = match open(rt, path, cause) {
         Ok(snapshot) => snapshot,
-        Err(fault) => return Err((fault, None)),
+        Err(fault) => {
+            return Err(Refusal {
+                fault,
+                end: None,
+                place: None,
+            });
+        }
     };
-    let end = snapshot.end();
+    let end = Some(snapshot.end());
     match View::of(alloc, snapshot) {
         Ok(view) => Ok(view),
-        Err((fault, snapshot)) => {
+        Err((fault, mut snapshot)) => {
             cause.error = snapshot.file().last_failure();
-            Err((fault, Some(end)))
+            let place = place_of(alloc, fault, &mut snapshot);
+            Err(Refusal { fault, end, place })
         }
     }
 }
@@ -68,16 +91,17 @@ fn look_again<R: Files<File = File>>(
     alloc: Global,
     path: &str,
     cause: &mut Cause,
-) -> Result<View, RecordFault> {
+) -> Result<View, Refusal> {
     let mut before = None;
-    for _ in 0..READS {
+    for _ in 1..READS {
         match look(rt, alloc, path, cause) {
-            Ok(view) => return Ok(view),
-            Err((RecordFault::Damaged, end)) if end != before => before = end,
-            Err((fault, _)) => return Err(fault),
+            Err(refusal) if refusal.fault == RecordFault::Damaged && refusal.end != before => {
+                before = refusal.end;
+            }
+            looked => return looked,
         }
     }
-    Err(RecordFault::Damaged)
+    look(rt, alloc, path, cause)
 }
 
 /// Prints what is reported of it.
@@ -98,20 +122,35 @@ fn show<W: Write, E: Write>(
     }
 }
 
+/// Says what is wrong with it, and where.
+fn say_more<E: Write>(
+    alloc: Global,
+    err: &mut Counted<E>,
+    path: &str,
+    refusal: Refusal,
+    cause: &Cause,
+)
+    ensures { SaysMore (end_of E.contents err.old err.new) path.now refusal.place }
+{
+    match refusal.place {
+        Some(at) => say_where_of_record(alloc, err, path, at),
+        None if refusal.fault == RecordFault::OutOfMemory => {}
+        None => say_why_of_record(alloc, err, path, refusal.fault, cause, false),
+    }
+}
+
 /// Says why it is refused.
 fn refuse<E: Write>(
     alloc: Global,
     err: &mut Counted<E>,
     path: &str,
-    fault: RecordFault,
+    refusal: Refusal,
     cause: &Cause,
 ) -> u8
-    ensures { Refuses (end_of E.contents err.old err.new) path.now fault result }
+    ensures { Refuses (end_of E.contents err.old err.new) path.now refusal.fault refusal.place result }
 {
-    let status = say(alloc, err, ServerFault::from(fault));
-    if fault != RecordFault::OutOfMemory {
-        say_why_of_record(alloc, err, path, fault, cause, false);
-    }
+    let status = say(alloc, err, ServerFault::from(refusal.fault));
+    say_more(alloc, err, path, refusal, cause);
     status
 }
 
@@ -128,6 +167,6 @@ pub fn inspect<R: Files<File = File>, W: Write, E: Write>(
     let mut cause = Cause::none();
     match look_again(rt, alloc, path, &mut cause) {
         Ok(view) => show(alloc, out, err, &view),
-        Err(fault) => refuse(alloc, err, path, fault, &cause),
+        Err(refusal) => refuse(alloc, err, path, refusal, &cause),
     }
 }

@@ -10,4 +10,4 @@ mod view;
 pub use inspecting::inspect;
 pub use lines::lines_of;
 pub use snapshot::Snapshot;
-pub use view::View;
+pub use view::{View, damage_of};

@@ -1,14 +1,15 @@
 //! What is reported of a record.
 
-ghost use Rattle.std.specs.Prelude.{◌≡◌, IfOk, IfErr, length, List};
+ghost use Rattle.std.specs.Prelude.{◌≡◌, ◌≢◌, IfOk, IfErr, None, length, List, slice_index};
 ghost use Rattle.site_disk.specs.Model.{DiskState};
+ghost use Rattle.durable.specs.Damage.{IsDamage};
 ghost use Rattle.durable.specs.Entries.{Entry};
 ghost use Rattle.durable.specs.Reading.{IsKept};
 ghost use Rattle.durable.specs.Standing.{StandsFor};
 ghost use Rattle.server_inspect.specs.Views.{IsViewOf, IsRefused, Names};
 
 use crate::counting::count;
-use durable::{Record, RecordFault};
+use durable::{Record, RecordFault, damage};
 use site_disk::Disk;
 use site_ids::{Cluster, MAX_INSTANCE, NodeId};
 use std::alloc::Global;
@@ -39,7 +40,7 @@ pub struct View {
 fn head<D: Disk>(disk: &mut D) -> Result<(u64, NodeId, Cluster), RecordFault>
     ensures state { (d : DiskState) → D.stands_for disk.old d → D.stands_for disk.new d }
     ensures named { IfOk result (λ p. (d : DiskState) → D.stands_for disk.old d → (p.0 ≡ length d.seen) × Names p.1 p.2 d.seen) }
-    ensures fault { IfErr result (λ fault. (d : DiskState) → D.stands_for disk.old d → IsRefused fault d.seen) }
+    ensures fault { IfErr result (λ fault. (d : DiskState) → D.stands_for disk.old d → IsRefused fault d.seen × (fault ≢ RecordFault.Damaged)) }
 {
     let bytes = disk.len()?;
     if bytes < 11 {
@@ -57,6 +58,17 @@ fn head<D: Disk>(disk: &mut D) -> Result<(u64, NodeId, Cluster), RecordFault>
         Some(node) => Ok((bytes, node, nodes)),
         None => Err(RecordFault::WrongNode),
     }
+}
+
+/// The byte from which on the record on a disk is damaged; `None` if it is whole.
+pub fn damage_of<D: Disk>(alloc: Global, disk: &mut D) -> Result<Option<u64>, RecordFault>
+    ensures found { IfOk result (λ at. (d : DiskState) → D.stands_for disk.old d
+        → IsDamage (slice_index d.seen 8) (slice_index d.seen 9) d.seen at) }
+    ensures refused { IfErr result (λ fault. (d : DiskState) → D.stands_for disk.old d
+        → IsRefused fault d.seen × (fault ≢ RecordFault.Damaged)) }
+{
+    let (_, node, nodes) = head(disk)?;
+    damage(alloc, nodes, node, disk)
 }
 
 impl View {
@@ -80,7 +92,8 @@ impl View {
 
     /// What is reported of the record on a disk. A refusal gives the disk back.
     pub fn of<D: Disk + Drop>(alloc: Global, disk: D) -> Result<View, (RecordFault, D)>
-        ensures viewed { IfOk result (λ v. (entries : List Entry) × IsViewOf entries v × ((d : DiskState) → D.stands_for disk d → StandsFor v.node v.nodes d.seen entries × (v.bytes ≡ length d.seen))) }
+        ensures viewed { IfOk result (λ v. (entries : List Entry) × IsViewOf entries v × ((d : DiskState) → D.stands_for disk d
+            → StandsFor v.node v.nodes d.seen entries × IsDamage v.node v.nodes d.seen None × (v.bytes ≡ length d.seen))) }
         ensures refused { IfErr result (λ p. (d : DiskState) → D.stands_for disk d → IsRefused p.0 d.seen) }
     {
         let mut disk = disk;
@@ -89,6 +102,7 @@ impl View {
             Err(fault) => return Err((fault, disk)),
         };
         match Record::open(alloc, nodes, node, disk) {
+            Ok(record) if record.is_cut_short() => Err((RecordFault::Damaged, record.close())),
             Ok(record) => Ok(View::of_record(&record, node, nodes, bytes)),
             Err(refused) => Err(refused),
         }

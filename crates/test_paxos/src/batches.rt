@@ -1,12 +1,13 @@
 //! Batches: all of one stands or none of it, whichever call of its seal fails and whatever a crash chooses. Their bytes are
 //! those of single puts, behind their sum.
+use crate::changes::with_byte;
 use crate::comparing::{ensure, same};
 use crate::damage::is_of;
 use crate::disks::{crashed_within, is_long, is_long_behind, reads};
 use crate::listed::{RECORD, SUMMED, entries};
 use crate::samples::{ballot, instance, is_bytes};
 use crate::steps::{Step, act, disk_behind, take};
-use crate::stored::{arm, disk_of, empty, ends, formatted, is_promised, opened};
+use crate::stored::{arm, damaged_from, disk_of, empty, ends, formatted, is_promised, opened, read_bytes};
 use durable::{Record, RecordFault};
 use site_disk::{Armed, Call, Disk, FailOnce, MemDisk};
 use site_ids::Instance;
@@ -309,4 +310,29 @@ fn a_stored_record_goes_on(rt: HostRuntime) {
     let mut record = opened(&rt, alloc, disk_of(&rt, alloc, &RECORD));
     take(&rt, alloc, &mut record, FURTHER);
     tells_further(&rt, opened(&rt, alloc, record.close()));
+}
+
+/// Records whose first gate is shut, and whether an open gate behind a batch shows that an accident shut it.
+const SHUT: &[(&[u8], bool)] = &[
+    (&TWICE, true),
+    (&THE_FIRST, true),
+    (&SUMMED, false),
+    (&THE_LATER, false),
+    (&RECORD, false),
+];
+
+/// Of a batch whose gate is shut it is noticed, if a gate behind it is open.
+#[test]
+fn a_gate_that_an_accident_shut(rt: HostRuntime) {
+    let alloc = rt.alloc();
+    for &(record, noticed) in SHUT {
+        let bytes = with_byte(&rt, alloc, record, 10, 3);
+        let cut = read_bytes(&rt, alloc, 2, &bytes).map(|opened| opened.is_cut_short());
+        same(&rt, cut, Ok(noticed));
+        let from = if noticed { Some(10) } else { None };
+        same(&rt, damaged_from(&rt, alloc, &bytes), Ok(from));
+        let whole = read_bytes(&rt, alloc, 2, record).map(|opened| opened.is_cut_short());
+        same(&rt, whole, Ok(false));
+        drop(bytes);
+    }
 }

@@ -5,7 +5,7 @@ use crate::listed::{
     FLOORED, LEARNED, Listed, RECORD, SPANNED, SUMMED, entries, floored, learned, spanned,
 };
 use crate::samples::{instance, is_bytes, is_text};
-use crate::stored::{one_of_three, read_bytes};
+use crate::stored::{damaged_from, one_of_three, read_bytes};
 use durable::{Record, RecordFault};
 use site_disk::MemDisk;
 use site_ids::Instance;
@@ -306,6 +306,17 @@ fn flipped(place: usize, byte: u8) -> Result<usize, RecordFault> {
     }
 }
 
+/// The byte from which on the record with a sum is damaged where that bit is another.
+fn place_of(place: usize, byte: u8) -> Result<Option<u64>, RecordFault> {
+    match flipped(place, byte) {
+        Ok(_) => Ok(None),
+        // the last gate is opened, and nothing stands behind it
+        Err(RecordFault::Damaged) if place == 70 => Ok(Some(70)),
+        Err(RecordFault::Damaged) => Ok(Some(10)),
+        Err(fault) => Err(fault),
+    }
+}
+
 /// Node 2 opens the bytes and tells that many of these entries, or refuses them.
 fn opens(
     rt: &impl Abort,
@@ -352,6 +363,8 @@ fn a_record_with_a_sum_and_each_bit_flipped(rt: HostRuntime) {
                 opens(&rt, alloc, &bytes, flipped(place, byte), &entries),
                 (place, byte),
             );
+            same(&rt, damaged_from(&rt, alloc, &bytes), place_of(place, byte));
+            drop(bytes);
         }
     }
     drop(entries);

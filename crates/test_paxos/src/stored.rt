@@ -8,7 +8,7 @@ use crate::comparing::{ensure, same};
 use crate::disks::{syncs, writes};
 use crate::samples::{cluster, instance, value};
 use acceptor::{PrepareVerdict, ProposeVerdict, judge_prepare, judge_propose};
-use durable::{Record, RecordFault};
+use durable::{Record, RecordFault, damage};
 use site_disk::{Armed, Disk, MemDisk};
 use site_ids::{Ballot, Cluster, Instance, MAX_VALUE, NodeId, Value};
 use std::alloc::Global;
@@ -60,6 +60,19 @@ fn read<D: Disk + Drop>(
             Err(fault)
         }
     }
+}
+
+/// The byte from which on these bytes are a damaged record of node 2 of three.
+pub fn damaged_from(
+    rt: &impl Abort,
+    alloc: Global,
+    bytes: &[u8],
+) -> Result<Option<u64>, RecordFault> {
+    let (cluster, node) = one_of_three(rt, 2);
+    let mut disk = disk_of(rt, alloc, bytes);
+    let from = damage(alloc, cluster, node, &mut disk);
+    drop(disk);
+    from
 }
 
 /// The record of node 2 of three.

@@ -3,8 +3,7 @@ use Rattle.std.specs.Prelude.{⊤}
 use Rattle.std.proofs.lemmas.Grind.{common_steps}
 use Rattle.std.proofs.lemmas.Bool.{leb-true, leb-false}
 use Rattle.durable.specs.declared.fault.RecordFault.TheVariants.{Damaged}
-use Rattle.durable.proofs.Logs.{log-none}
-use Rattle.durable.proofs.Piece.{in_piece, ended, next_piece}
+use Rattle.durable.proofs.Piece.{ended, next_piece, damaged_there}
 use Rattle.durable.proofs.Results.{passed_on}
 use Rattle.durable.proofs.reading.read_items.Goals as goal
 
@@ -30,18 +29,18 @@ less len gate next room more least size in_file bounded onward within is size_is
 
 pub loop-buffer-init : goal.loop-buffer-init
 loop-buffer-init g c =
-    let gate = c.new-recorded.ensures.gate in
+    let fresh = c.requires.fresh in
     record {
-      within = omega (arith, gate, c.requires);
+      within = omega (arith, fresh.gate, c.requires.goes_on);
       room = grind (arith, common_steps, c.in_ok-resize.ensures.len);
       bounded = grind (arith, common_steps, c.in_ok-resize.ensures.len);
       none_failed = refl;
       state = λ d stands. stands;
-      read = ([], record { log = log-none c.args.cluster; gate = gate; kept = c.new-recorded.ensures.kept }, λ d stands size. ap (λ (k : ℕ). drop k d.seen) (sym gate));
+      read = ([], fresh, λ d stands size. ap (λ (k : ℕ). drop k d.seen) (sym fresh.gate));
     }
 
 pub returns-in_err-take_piece-clause-damaged : goal.returns-in_err-take_piece-clause-damaged
-returns-in_err-take_piece-clause-damaged g c = λ is d items stands size log spelled.
+returns-in_err-take_piece-clause-damaged g c = λ is d stands size.
     let fault = c.in_err-take_piece.field-0.0 in
     let gate = c.loop-buffer.recorded.gate in
     let inside = c.loop-buffer.invariant in
@@ -50,9 +49,9 @@ returns-in_err-take_piece-clause-damaged g c = λ is d items stands size log spe
     let n_is : n ≡ min (c.args.len - gate) room = piece_size (c.args.len - gate) c.min-size.result room c.deref_mut.result.now (c.deref_mut.ensures.len ∙ (search rules)) (search rules) in
     let piece = c.in_ok-read_at.ensures.read d (inside.state d stands) (omega (arith, n_is, size, inside.within)) in
     let before = inside.read in
-    in_piece c.args.cluster d.seen c.read_at.new.buf gate n before.0 (before.2 d stands size) piece c.loop-buffer.recorded items before.1 log spelled
-    (λ more goes_on on. c.in_err-take_piece.ensures.damaged (ap Err (passed_on _ fault Damaged c.from_residual-in_err-take_piece.ensures.1 is)) before.0 more _ before.1
-    (λ last. empty_of _ (omega (arith, length-drop n (drop gate d.seen), length-drop gate d.seen, n_is, size, leb-true _ _ last))) goes_on on)
+    let off = c.in_err-take_piece.ensures.damaged (ap Err (passed_on _ fault Damaged c.from_residual-in_err-take_piece.ensures.1 is)) in
+    damaged_there c.args.cluster d.seen c.read_at.new.buf gate n before.0 (before.2 d stands size) piece _ c.loop-buffer.recorded _ before.1
+    (λ last. empty_of _ (omega (arith, length-drop n (drop gate d.seen), length-drop gate d.seen, n_is, size, leb-true _ _ last))) off
 
 pub returns-in-None-clause-read : goal.returns-in-None-clause-read
 returns-in-None-clause-read g c =

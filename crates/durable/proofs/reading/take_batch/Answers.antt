@@ -13,7 +13,7 @@ returns-in_err-size-clause-damaged c = λ is before others at history same.
     let inside = c.loop-rest.invariant.taken in
     let fault = c.in_err-size.field-0.0 in
     let refused = c.in_err-size.ensures.damaged (ap Err (passed_on c.from_residual.result fault Damaged c.from_residual.ensures.1 is)) in
-    not_refused c.args.cluster c.args.blocks.now c.loop-rest.rest.now inside.0 inside.1 c.args.recorded.now c.loop-rest.recorded inside.2 before others at history same (search rules) refused
+    not_refused c.args.cluster c.args.blocks.now c.loop-rest.rest.now inside.0 inside.1 c.args.recorded.now c.loop-rest.recorded inside.2 before others at history same (search rules) refused.1
 
 pub returns-in-None-clause-damaged : goal.returns-in-None-clause-damaged
 returns-in-None-clause-damaged c = λ _ before others at history same.

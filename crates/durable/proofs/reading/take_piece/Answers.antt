@@ -5,7 +5,7 @@ use Rattle.durable.specs.declared.fault.RecordFault.TheVariants.{Damaged}
 use Rattle.durable.specs.declared.reading.Taken.{Taken}
 use Rattle.durable.specs.declared.reading.Taken.TheVariants.{Whole, Ended, CutOff}
 use Rattle.durable.specs.declared.recorded.Recorded.{Recorded}
-use Rattle.durable.proofs.Piece.{goes_on, split_more}
+use Rattle.durable.proofs.Piece.{split_more}
 use Rattle.durable.proofs.Results.{passed_on}
 use Rattle.durable.proofs.Taking.{all_behind}
 use Rattle.durable.proofs.reading.take_piece.Goals as goal
@@ -19,12 +19,17 @@ within : {old now new rest piece : ℕ} → now + rest ≡ old + piece → 0 < r
 within place some shorter same = (omega (arith, place, shorter, same), omega (arith, place, some, same))
 
 pub returns-in_err-size-clause-damaged : goal.returns-in_err-size-clause-damaged
-returns-in_err-size-clause-damaged c = λ is before items later read last log spelled.
-    let t = c.loop-rest.invariant.taken before read in
+returns-in_err-size-clause-damaged c = λ is.
     let fault = c.in_err-size.field-0.0 in
     let refused = c.in_err-size.ensures.damaged (ap Err (passed_on c.from_residual.result fault Damaged c.from_residual.ensures.1 is)) in
-    let on = goes_on c.args.cluster before t.0 c.args.piece.now c.loop-rest.rest.now c.loop-rest.recorded t.1 t.2 c.loop-rest.invariant.some items later log spelled in
-    refused (before ++ t.0) on.0 later t.1 last on.1 on.2
+    record {
+      now = c.loop-rest.recorded;
+      rest = c.loop-rest.rest.now;
+      place = refused.0;
+      some = c.loop-rest.invariant.some;
+      taken = c.loop-rest.invariant.taken;
+      none = refused.1;
+    }
 
 pub returns-in-Ended-clause-within : goal.returns-in-Ended-clause-within
 returns-in-Ended-clause-within c =

@@ -1,4 +1,5 @@
 use Rattle.std.proofs.Common.{rules, ◌≡◌, ◌≤◌, ℕ, List, Bool, true, inl, inr, [], ◌∷◌, ◌++◌, append-nil, length, take, refl, sym, ap, subst, ◌∙◌, arith}
+use Rattle.std.proofs.lemmas.List.{get_or_default}
 use Rattle.site_drive.specs.Posting.{letters_of}
 use Rattle.server_packets.specs.Making.{HasRoom, Packs}
 use Rattle.server.specs.Mailing.{own_of}
@@ -23,6 +24,20 @@ returns-then-not-may_join-clause-goes_on c = λ ds made none.
     let zero : Packs c.loop-n.packet [] = subst (λ k. Packs c.loop-n.packet (own_of c.args.to (letters_of (take k c.args.letters.now)))) none (c.loop-n.invariant ds made).0 in
     let room = (c.may_join.ensures [] zero).1 (inl refl) in
     absurd (grind (arith, room, c.if-not-may_join.true))
+
+-- the letter behind those that were packed may not join
+pub returns-then-not-may_join-clause-full : goal.returns-then-not-may_join-clause-full
+returns-then-not-may_join-clause-full c = λ ds made x below at may.
+    let letters = c.args.letters.now in
+    let n = c.loop-n.n in
+    let before = own_of c.args.to (letters_of (take n letters)) in
+    let y = c.index-letters-n.result in
+    let same : x ≡ y = at ∙ get_or_default letters n x y below ∙ sym c.index-letters-n.is in
+    let long : length x.bytes.items ≡ c.len.result =
+    ap (λ z. length z.bytes.items) same ∙ grind (arith, c.len.ensures) in
+    let so = (c.may_join.ensures before (c.loop-n.invariant ds made).0).1
+    (subst (λ k. MayJoin before k c.args.alone) long may) in
+    absurd (grind (arith, so, c.if-not-may_join.true))
 
 pub loop-n-preserved : goal.loop-n-preserved
 loop-n-preserved c = λ ds made.

@@ -1,7 +1,7 @@
 use Rattle.std.proofs.Common.{refl}
 use Rattle.durable.specs.Items.{entries_of}
 use Rattle.durable.proofs.Keeping.{never_refused}
-use Rattle.durable.proofs.Opening.{by_device_or_memory}
+use Rattle.durable.proofs.Refusals.{by_device_or_memory}
 use Rattle.durable.proofs.record.Record.open.Goals as goal
 
 pub returns-in-Ok-clause-opened : goal.returns-in-Ok-clause-opened

@@ -1,0 +1,11 @@
+-- A record that an accident cut short.
+use Rattle.std.specs.Prelude.{◌≡◌, ℕ, ◌+◌, ◌<◌, ◌^◌, List, ◌∷◌, ◌++◌, length, drop}
+use Rattle.durable.specs.Items.{summed}
+
+-- were the gate open, a batch would stand there behind its right sum, and an open gate behind it
+pub record IsCutShort (gate : ℕ) (file : List ℕ) : Type 0 where
+  pub blocks : List ℕ
+  pub some : 0 < length blocks
+  pub counted : length blocks < 2 ^ 32
+  pub rest : List ℕ
+  pub there : 1 ∷ drop (gate + 1) file ≡ summed blocks ++ 1 ∷ rest

@@ -1,0 +1,48 @@
+//! What stands behind the gate at which a record ends.
+//!
+//! A batch's gate is opened before anything is written behind the batch. So no crash leaves a whole batch with its right
+//! sum behind a gate that isn't open, and an open gate behind that: an accident shut the first one.
+
+ghost use Rattle.std.specs.Prelude.{◌≡◌, ◌⊎◌, ◌↔◌, ◌-◌, ◌<◌, ◌≤◌, ◌^◌, IsTrue, IfOk, OnOk, OnErr, IsErrOf, length};
+ghost use Rattle.site_disk.specs.Model.{DiskState};
+ghost use Rattle.durable.specs.Cutting.{IsCutShort};
+
+use crate::RecordFault;
+use crate::sum::{SUM_BLOCK, Sum};
+use site_disk::Disk;
+use std::alloc::Global;
+
+/// Whether an accident shut the gate at which a record of so many bytes ends: behind it stand a batch with its right sum, and another open
+/// gate.
+pub(crate) fn is_cut_short<D: Disk>(
+    alloc: Global,
+    disk: &mut D,
+    gate: u64,
+    len: u64,
+) -> Result<bool, RecordFault>
+    ensures state { (d : DiskState) → D.stands_for disk.old d → D.stands_for disk.new d }
+    ensures told { IfOk result (λ told. (d : DiskState) → D.stands_for disk.old d → len ≡ length d.seen → IsTrue told ↔ IsCutShort gate d.seen) }
+    ensures others { OnErr result (IsErrOf result RecordFault.Device ⊎ IsErrOf result RecordFault.OutOfMemory) }
+    ensures none_failed { OnOk result (D.failed disk.new ≡ D.failed disk.old) }
+    ensures no_fewer { D.failed disk.old ≤ D.failed disk.new }
+    ensures cause { IsErrOf result RecordFault.Device → (D.failed disk.old < D.failed disk.new) ⊎ (D.failed disk.old ≡ 2 ^ 64 - 1) }
+{
+    let left = len.saturating_sub(gate);
+    if left <= SUM_BLOCK as u64 {
+        return Ok(false);
+    }
+    let mut front = [0; SUM_BLOCK];
+    disk.read_at(gate, &mut front)?;
+    front[0] = 1;
+    let Some(sum) = Sum::at(&front) else {
+        return Ok(false);
+    };
+    if left - SUM_BLOCK as u64 <= sum.size as u64 {
+        return Ok(false);
+    }
+    let mut room = Vec::new(alloc);
+    room.resize(sum.size + 1, 0u8)?;
+    let batch = &mut room[..];
+    disk.read_at(gate + SUM_BLOCK as u64, batch)?;
+    Ok(sum.goes_on(batch))
+}

@@ -1,0 +1,93 @@
+//! Reading the file of a record: its head, its items, and what follows the last gate.
+
+ghost use Rattle.std.specs.Prelude.{◌≡◌, ◌≢◌, ◌↔◌, ◌⊎◌, ◌-◌, ◌≤◌, ◌<◌, ◌^◌, List, length, IsErrOf, IsTrue, IfErr, IfOk, OnOk};
+ghost use Rattle.site_disk.specs.Model.{DiskState, after_sync};
+ghost use Rattle.durable.specs.Cutting.{IsCutShort};
+ghost use Rattle.durable.specs.Damage.{IsDamage};
+ghost use Rattle.durable.specs.Items.{Item};
+ghost use Rattle.durable.specs.Reading.{AreRead};
+ghost use Rattle.durable.specs.Standing.{HasHead, IsLaid, IsRefusal};
+
+use crate::RecordFault;
+use crate::cutting::is_cut_short;
+use crate::reading::read_items;
+use crate::record::MARK;
+use crate::recorded::Recorded;
+use site_disk::Disk;
+use site_ids::{Cluster, NodeId};
+use std::alloc::Global;
+
+// Syncs, and then reads the head, and gives the length of the file.
+fn read_head<D: Disk>(cluster: Cluster, node: NodeId, disk: &mut D) -> Result<u64, RecordFault>
+    ensures read { IfOk result (λ len. (d : DiskState) → D.stands_for disk.old d
+        → D.stands_for disk.new (after_sync d) × HasHead node cluster d.seen × (len ≡ length d.seen)) }
+    ensures long { IfOk result (λ len. 11 ≤ len) }
+    ensures refused { IfErr result (λ fault. (d : DiskState) → D.stands_for disk.old d
+        → (D.stands_for disk.new (after_sync d) ⊎ (D.stands_for disk.new d × (fault ≡ RecordFault.Device)))
+        × IsRefusal fault node cluster d.seen × (fault ≢ RecordFault.Damaged)) }
+    ensures cause { IsErrOf result RecordFault.Device → (D.failed disk.old < D.failed disk.new) ⊎ (D.failed disk.old ≡ 2 ^ 64 - 1) }
+    ensures none_failed { OnOk result (D.failed disk.new ≡ D.failed disk.old) }
+{
+    disk.sync()?;
+    let len = disk.len()?;
+    if len < 11 {
+        return Err(RecordFault::NotARecord);
+    }
+    let mut head = [0; 10];
+    disk.read_at(0, &mut head)?;
+    if !head.starts_with(&MARK) {
+        return Err(RecordFault::NotARecord);
+    }
+    if head[8] != node.number() || head[9] != cluster.size() {
+        return Err(RecordFault::WrongNode);
+    }
+    Ok(len)
+}
+
+/// Syncs, and then reads the record, and tells whether an accident shut the gate behind its entries.
+pub(crate) fn read<D: Disk>(
+    alloc: Global,
+    cluster: Cluster,
+    node: NodeId,
+    disk: &mut D,
+) -> Result<(Recorded, bool), RecordFault>
+    ensures read { IfOk result (λ r. (items : List Item) × AreRead cluster items r.0
+        × ((d : DiskState) → D.stands_for disk.old d → D.stands_for disk.new (after_sync d) × IsLaid node cluster d.seen items × (IsTrue r.1 ↔ IsCutShort r.0.gate d.seen))) }
+    ensures refused { IfErr result (λ fault. (d : DiskState) → D.stands_for disk.old d → (D.stands_for disk.new (after_sync d) ⊎ (D.stands_for disk.new d × (fault ≡ RecordFault.Device))) × IsRefusal fault node cluster d.seen) }
+    ensures cause { IsErrOf result RecordFault.Device → (D.failed disk.old < D.failed disk.new) ⊎ (D.failed disk.old ≡ 2 ^ 64 - 1) }
+    ensures none_failed { OnOk result (D.failed disk.new ≡ D.failed disk.old) }
+{
+    let len = read_head(cluster, node, disk)?;
+    let mut recorded = Recorded::new(alloc);
+    read_items(alloc, disk, cluster, len, &mut recorded)?;
+    let cut_short = is_cut_short(alloc, disk, recorded.gate, len)?;
+    Ok((recorded, cut_short))
+}
+
+/// The byte at which a record is damaged, after a sync; none where it is whole. It is the gate of a batch whose sum is not
+/// its own, or of bytes that no node wrote, or one that an accident shut.
+pub fn damage<D: Disk>(
+    alloc: Global,
+    cluster: Cluster,
+    node: NodeId,
+    disk: &mut D,
+) -> Result<Option<u64>, RecordFault>
+    ensures found { IfOk result (λ at. (d : DiskState) → D.stands_for disk.old d
+        → D.stands_for disk.new (after_sync d) × IsDamage node cluster d.seen at) }
+    ensures refused { IfErr result (λ fault. (d : DiskState) → D.stands_for disk.old d
+        → IsRefusal fault node cluster d.seen × (fault ≢ RecordFault.Damaged)) }
+{
+    let len = read_head(cluster, node, disk)?;
+    let mut recorded = Recorded::new(alloc);
+    match read_items(alloc, disk, cluster, len, &mut recorded) {
+        Ok(()) => {
+            if is_cut_short(alloc, disk, recorded.gate, len)? {
+                Ok(Some(recorded.gate))
+            } else {
+                Ok(None)
+            }
+        }
+        Err(RecordFault::Damaged) => Ok(Some(recorded.gate)),
+        Err(fault) => Err(fault),
+    }
+}
