@@ -61,7 +61,7 @@ pub(crate) fn address_in(alloc: Global, url: &str) -> Result<Option<Address>, Al
 
 /// How nodes are reached that stand behind https.
 const BY_TUNNEL: &str =
-    "sitepub speaks http alone, and comes to https by a tunnel on your machine: docs/FOLDER.md, \"Behind a password\"";
+    "sitepub speaks http alone, and comes to https by a tunnel on your machine: docs/GUIDE.md, \"Behind a password\"";
 
 /// Why a URL is none of a node. What may be a login is not told.
 pub(crate) fn no_address(alloc: Global, url: &str) -> Result<String, AllocError> {
