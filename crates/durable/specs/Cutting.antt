@@ -2,7 +2,7 @@
 use Rattle.std.specs.Prelude.{◌≡◌, ℕ, ◌+◌, ◌<◌, ◌^◌, List, ◌∷◌, ◌++◌, length, drop}
 use Rattle.durable.specs.Items.{summed}
 
--- were the gate open, a batch would stand there behind its right sum, and an open gate behind it
+-- if the gate were open, a batch with its right sum would stand there, and an open gate after it
 pub record IsCutShort (gate : ℕ) (file : List ℕ) : Type 0 where
   pub blocks : List ℕ
   pub some : 0 < length blocks

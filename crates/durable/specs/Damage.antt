@@ -5,7 +5,7 @@ use Rattle.durable.specs.Items.{Item, IsLog, item_blocks}
 use Rattle.durable.specs.Reading.{GoesOn}
 use Rattle.durable.specs.Standing.{IsLaid}
 
--- the gate behind the items
+-- the gate after the items
 abbrev pub end_of : List Item → ℕ
 end_of items = 10 + length (item_blocks items)
 

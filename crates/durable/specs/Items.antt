@@ -1,4 +1,4 @@
--- What stands in a file behind the head: entries, and batches of entries behind their sums.
+-- What a file has after its head: entries, and batches of entries after their sums.
 use Rattle.std.specs.Prelude.{◌≢◌, ℕ, ◌<◌, ◌^◌, List, [], ◌∷◌, ◌++◌, length, take}
 use Rattle.byteorder.specs.Endian.{big_bytes}
 use Rattle.md5.specs.Md5.{md5}
@@ -28,11 +28,11 @@ puts (entry ∷ entries) = Put entry ∷ puts entries
 abbrev pub sum_of : List ℕ → List ℕ
 sum_of bytes = take 8 (md5 bytes)
 
--- An open gate behind which a sum stands: the length of what follows, the kind, how many bytes behind it have the sum, and the sum.
+-- an open gate and a sum: the length of what follows, the kind, of how many of the next bytes it is the sum, the sum
 abbrev pub sum_front : ℕ → List ℕ → List ℕ
 sum_front size sum = 1 ∷ 0 ∷ 0 ∷ 0 ∷ 13 ∷ 24 ∷ big_bytes 4 size ++ sum
 
--- the bytes behind their sum
+-- the bytes after their sum
 abbrev pub summed : List ℕ → List ℕ
 summed bytes = sum_front (length bytes) (sum_of bytes) ++ bytes
 
@@ -44,7 +44,7 @@ abbrev pub item_blocks : List Item → List ℕ
 item_blocks [] = []
 item_blocks (item ∷ items) = item_block item ++ item_blocks items
 
--- a batch has entries, and four bytes tell how long their blocks are
+-- a batch has entries, and four bytes can say how long their blocks are
 abbrev pub IsWhole : Item → Type 0
 IsWhole (Put entry) = Unit {0}
 IsWhole (Batch entries) = (entries ≢ []) × (length (blocks entries) < 2 ^ 32)

@@ -1,9 +1,10 @@
-//! What stands behind the gate at which a record ends.
+//! What follows the gate at which a record ends.
 //!
-//! A batch's gate is opened before anything is written behind the batch. So no crash leaves a whole batch with its right
-//! sum behind a gate that isn't open, and an open gate behind that: an accident shut the first one.
+//! A node opens a batch's gate before it writes anything after the batch. So no crash of a real disk leaves, after a gate
+//! that isn't open, a whole batch with its right sum and an open gate after it: an accident shut the first gate.
 
-ghost use Rattle.std.specs.Prelude.{◌≡◌, ◌⊎◌, ◌↔◌, ◌-◌, ◌<◌, ◌≤◌, ◌^◌, IsTrue, IfOk, OnOk, OnErr, IsErrOf, length};
+ghost use Rattle.std.specs.Prelude.{◌≡◌, ◌⊎◌, ◌↔◌, ◌-◌, ◌<◌, ◌≤◌, ◌^◌, length};
+ghost use Rattle.std.specs.Prelude.{IsTrue, IfOk, OnOk, OnErr, IsErrOf};
 ghost use Rattle.site_disk.specs.Model.{DiskState};
 ghost use Rattle.durable.specs.Cutting.{IsCutShort};
 
@@ -12,8 +13,8 @@ use crate::sum::{SUM_BLOCK, Sum};
 use site_disk::Disk;
 use std::alloc::Global;
 
-/// Whether an accident shut the gate at which a record of so many bytes ends: behind it stand a batch with its right sum, and another open
-/// gate.
+/// Whether an accident shut the gate at which a record of `len` bytes ends: a batch with its right sum follows, and
+/// another open gate.
 pub(crate) fn is_cut_short<D: Disk>(
     alloc: Global,
     disk: &mut D,
@@ -21,11 +22,13 @@ pub(crate) fn is_cut_short<D: Disk>(
     len: u64,
 ) -> Result<bool, RecordFault>
     ensures state { (d : DiskState) → D.stands_for disk.old d → D.stands_for disk.new d }
-    ensures told { IfOk result (λ told. (d : DiskState) → D.stands_for disk.old d → len ≡ length d.seen → IsTrue told ↔ IsCutShort gate d.seen) }
+    ensures told { IfOk result (λ told. (d : DiskState) → D.stands_for disk.old d → len ≡ length d.seen
+        → IsTrue told ↔ IsCutShort gate d.seen) }
     ensures others { OnErr result (IsErrOf result RecordFault.Device ⊎ IsErrOf result RecordFault.OutOfMemory) }
     ensures none_failed { OnOk result (D.failed disk.new ≡ D.failed disk.old) }
     ensures no_fewer { D.failed disk.old ≤ D.failed disk.new }
-    ensures cause { IsErrOf result RecordFault.Device → (D.failed disk.old < D.failed disk.new) ⊎ (D.failed disk.old ≡ 2 ^ 64 - 1) }
+    ensures cause { IsErrOf result RecordFault.Device
+        → (D.failed disk.old < D.failed disk.new) ⊎ (D.failed disk.old ≡ 2 ^ 64 - 1) }
 {
     let left = len.saturating_sub(gate);
     if left <= SUM_BLOCK as u64 {

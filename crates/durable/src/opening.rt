@@ -1,6 +1,7 @@
-//! Reading the file of a record: its head, its items, and what follows the last gate.
+//! Reads the file of a record: its head, its items, and what follows the gate at which they end.
 
-ghost use Rattle.std.specs.Prelude.{◌≡◌, ◌≢◌, ◌↔◌, ◌⊎◌, ◌-◌, ◌≤◌, ◌<◌, ◌^◌, List, length, IsErrOf, IsTrue, IfErr, IfOk, OnOk};
+ghost use Rattle.std.specs.Prelude.{◌≡◌, ◌≢◌, ◌↔◌, ◌⊎◌, ◌-◌, ◌≤◌, ◌<◌, ◌^◌, List, length};
+ghost use Rattle.std.specs.Prelude.{IsErrOf, IsTrue, IfErr, IfOk, OnOk};
 ghost use Rattle.site_disk.specs.Model.{DiskState, after_sync};
 ghost use Rattle.durable.specs.Cutting.{IsCutShort};
 ghost use Rattle.durable.specs.Damage.{IsDamage};
@@ -25,7 +26,8 @@ fn read_head<D: Disk>(cluster: Cluster, node: NodeId, disk: &mut D) -> Result<u6
     ensures refused { IfErr result (λ fault. (d : DiskState) → D.stands_for disk.old d
         → (D.stands_for disk.new (after_sync d) ⊎ (D.stands_for disk.new d × (fault ≡ RecordFault.Device)))
         × IsRefusal fault node cluster d.seen × (fault ≢ RecordFault.Damaged)) }
-    ensures cause { IsErrOf result RecordFault.Device → (D.failed disk.old < D.failed disk.new) ⊎ (D.failed disk.old ≡ 2 ^ 64 - 1) }
+    ensures cause { IsErrOf result RecordFault.Device
+        → (D.failed disk.old < D.failed disk.new) ⊎ (D.failed disk.old ≡ 2 ^ 64 - 1) }
     ensures none_failed { OnOk result (D.failed disk.new ≡ D.failed disk.old) }
 {
     disk.sync()?;
@@ -44,7 +46,7 @@ fn read_head<D: Disk>(cluster: Cluster, node: NodeId, disk: &mut D) -> Result<u6
     Ok(len)
 }
 
-/// Syncs, and then reads the record, and tells whether an accident shut the gate behind its entries.
+/// Syncs, and then reads the record. The answer also says whether an accident shut the gate after its entries.
 pub(crate) fn read<D: Disk>(
     alloc: Global,
     cluster: Cluster,
@@ -52,9 +54,13 @@ pub(crate) fn read<D: Disk>(
     disk: &mut D,
 ) -> Result<(Recorded, bool), RecordFault>
     ensures read { IfOk result (λ r. (items : List Item) × AreRead cluster items r.0
-        × ((d : DiskState) → D.stands_for disk.old d → D.stands_for disk.new (after_sync d) × IsLaid node cluster d.seen items × (IsTrue r.1 ↔ IsCutShort r.0.gate d.seen))) }
-    ensures refused { IfErr result (λ fault. (d : DiskState) → D.stands_for disk.old d → (D.stands_for disk.new (after_sync d) ⊎ (D.stands_for disk.new d × (fault ≡ RecordFault.Device))) × IsRefusal fault node cluster d.seen) }
-    ensures cause { IsErrOf result RecordFault.Device → (D.failed disk.old < D.failed disk.new) ⊎ (D.failed disk.old ≡ 2 ^ 64 - 1) }
+        × ((d : DiskState) → D.stands_for disk.old d → D.stands_for disk.new (after_sync d)
+        × IsLaid node cluster d.seen items × (IsTrue r.1 ↔ IsCutShort r.0.gate d.seen))) }
+    ensures refused { IfErr result (λ fault. (d : DiskState) → D.stands_for disk.old d
+        → (D.stands_for disk.new (after_sync d) ⊎ (D.stands_for disk.new d × (fault ≡ RecordFault.Device)))
+        × IsRefusal fault node cluster d.seen) }
+    ensures cause { IsErrOf result RecordFault.Device
+        → (D.failed disk.old < D.failed disk.new) ⊎ (D.failed disk.old ≡ 2 ^ 64 - 1) }
     ensures none_failed { OnOk result (D.failed disk.new ≡ D.failed disk.old) }
 {
     let len = read_head(cluster, node, disk)?;
@@ -64,8 +70,8 @@ pub(crate) fn read<D: Disk>(
     Ok((recorded, cut_short))
 }
 
-/// The byte at which a record is damaged, after a sync; none where it is whole. It is the gate of a batch whose sum is not
-/// its own, or of bytes that no node wrote, or one that an accident shut.
+/// Syncs, and then finds the byte from which on a record is damaged; `None` if it is whole. That byte is the gate of a
+/// batch whose sum is wrong, or of bytes that no node wrote, or it is the gate that an accident shut.
 pub fn damage<D: Disk>(
     alloc: Global,
     cluster: Cluster,

@@ -1,9 +1,11 @@
-//! Reading the items of a file, from gate to gate.
+//! Reads the items of a file, from gate to gate.
 //!
-//! Pieces of 1 MB, and longer ones for batches that are; the buffer comes after the head, so what is no record is refused
-//! without memory.
+//! It reads pieces of 1 MB, and a longer one for a longer batch. The buffer is allocated after the head was read, so a file
+//! that is no record is refused without an allocation.
 
-ghost use Rattle.std.specs.Prelude.{⊤, ◌≡◌, ◌≢◌, ◌⊎◌, ◌+◌, ◌-◌, ◌≤◌, ◌<◌, ◌^◌, ◌++◌, ℕ, List, [], length, drop, max, min, true, false, None, IfOk, MatchOption, OnOk, OnErr, IsErrOf, IsTrue};
+ghost use Rattle.std.specs.Prelude.{⊤, ◌≡◌, ◌≢◌, ◌⊎◌, ◌+◌, ◌-◌, ◌≤◌, ◌<◌, ◌^◌, ◌++◌, ℕ, List, []};
+ghost use Rattle.std.specs.Prelude.{length, drop, max, min, true, false, None};
+ghost use Rattle.std.specs.Prelude.{IfOk, MatchOption, OnOk, OnErr, IsErrOf, IsTrue};
 ghost use Rattle.site_disk.specs.Model.{DiskState};
 ghost use Rattle.durable.specs.Entries.{Entry};
 ghost use Rattle.durable.specs.Damage.{IsDamagedAt};
@@ -27,16 +29,16 @@ const MAX_BLOCK: usize = 32_784;
 
 /// What stood at a gate.
 pub(crate) enum Taken {
-    /// An item in so many bytes, which was taken.
+    /// An item of that many bytes, which was taken.
     Whole(usize),
     /// The gate isn't open.
     Ended,
-    /// A batch that goes on behind the bytes: so many show it, and the next gate.
+    /// A batch that goes on after the bytes: that many bytes show it and the next gate.
     CutOff(usize),
 }
 
-/// Reads the items behind the head into an empty `recorded`, in pieces of which each begins at a gate. If the file is
-/// damaged, `recorded.gate` is where.
+/// Reads the items after the head into an empty `recorded`, in pieces that each begin at a gate. If the file is damaged,
+/// that is at `recorded.gate`.
 pub(crate) fn read_items<D: Disk>(
     alloc: Global,
     disk: &mut D,
@@ -51,10 +53,12 @@ pub(crate) fn read_items<D: Disk>(
         × ((d : DiskState) → D.stands_for disk.old d → len ≡ length d.seen → AreSpelled (drop 10 d.seen) items)) }
     ensures damaged { IsErrOf result RecordFault.Damaged → (d : DiskState) → D.stands_for disk.old d
         → len ≡ length d.seen → IsDamagedAt cluster recorded.new.gate d.seen }
-    ensures others { OnErr result (IsErrOf result RecordFault.Device ⊎ (IsErrOf result RecordFault.OutOfMemory ⊎ IsErrOf result RecordFault.Damaged)) }
+    ensures others { OnErr result (IsErrOf result RecordFault.Device
+        ⊎ (IsErrOf result RecordFault.OutOfMemory ⊎ IsErrOf result RecordFault.Damaged)) }
     ensures none_failed { OnOk result (D.failed disk.new ≡ D.failed disk.old) }
     ensures no_fewer { D.failed disk.old ≤ D.failed disk.new }
-    ensures cause { IsErrOf result RecordFault.Device → (D.failed disk.old < D.failed disk.new) ⊎ (D.failed disk.old ≡ 2 ^ 64 - 1) }
+    ensures cause { IsErrOf result RecordFault.Device
+        → (D.failed disk.old < D.failed disk.new) ⊎ (D.failed disk.old ≡ 2 ^ 64 - 1) }
 {
     let mut buffer = Vec::new(alloc);
     buffer.resize(len.min(PIECE) as usize, 0u8)?;
@@ -70,7 +74,7 @@ pub(crate) fn read_items<D: Disk>(
     }
 }
 
-// Makes room for so many bytes, or for the whole file.
+// Makes room for `least` bytes, or for the whole file.
 fn make_room(buffer: &mut Vec<u8>, least: usize, len: u64) -> Result<(), AllocError>
     ensures { OnOk result (length buffer.new.items ≡ max (length buffer.old.items) (min least len)) }
 {
@@ -81,8 +85,8 @@ fn make_room(buffer: &mut Vec<u8>, least: usize, len: u64) -> Result<(), AllocEr
     Ok(())
 }
 
-// Takes the items that stand whole in a piece, and tells how long the next piece has to be; none where a gate that isn't
-// open ended them.
+// Takes the items that stand whole in a piece. The answer is how long the next piece has to be, or `None` if a gate that
+// isn't open ended them.
 fn take_piece(
     alloc: Global,
     piece: &[u8],
@@ -94,11 +98,14 @@ fn take_piece(
     requires some { 0 < length piece.now }
     requires whole { (is_last ≡ true) ⊎ (32784 ≤ length piece.now) }
     ensures taken { IfOk result (λ least. TakesPiece cluster piece.now recorded.old recorded.new least) }
-    ensures onward { IfOk result (λ o. MatchOption o ⊤ (λ least. (is_last ≡ false) × ((recorded.old.gate < recorded.new.gate) ⊎ (length piece.now < least)))) }
-    ensures within { OnOk result ((recorded.old.gate ≤ recorded.new.gate) × (recorded.new.gate < recorded.old.gate + length piece.now)) }
+    ensures onward { IfOk result (λ o. MatchOption o ⊤ (λ least. (is_last ≡ false)
+        × ((recorded.old.gate < recorded.new.gate) ⊎ (length piece.now < least)))) }
+    ensures within { OnOk result ((recorded.old.gate ≤ recorded.new.gate)
+        × (recorded.new.gate < recorded.old.gate + length piece.now)) }
     ensures damaged { IsErrOf result RecordFault.Damaged
         → BreaksOff cluster piece.now is_last recorded.old recorded.new.gate }
-    ensures others { OnErr result (IsErrOf result RecordFault.OutOfMemory ⊎ IsErrOf result RecordFault.Damaged) }
+    ensures others { OnErr result (IsErrOf result RecordFault.OutOfMemory
+        ⊎ IsErrOf result RecordFault.Damaged) }
 {
     let mut rest = piece;
     while is_last || MAX_BLOCK <= rest.len() {
@@ -123,8 +130,10 @@ fn take_item(
     requires whole { (is_last ≡ true) ⊎ (32784 ≤ length bytes.now) }
     ensures taken { IfOk result (λ taken. TakesItem cluster bytes.now is_last recorded.old recorded.new taken) }
     ensures damaged { IsErrOf result RecordFault.Damaged
-        → (recorded.new.gate ≡ recorded.old.gate) × IsDamagedItem cluster bytes.now is_last recorded.old }
-    ensures others { OnErr result (IsErrOf result RecordFault.OutOfMemory ⊎ IsErrOf result RecordFault.Damaged) }
+        → (recorded.new.gate ≡ recorded.old.gate)
+        × IsDamagedItem cluster bytes.now is_last recorded.old }
+    ensures others { OnErr result (IsErrOf result RecordFault.OutOfMemory
+        ⊎ IsErrOf result RecordFault.Damaged) }
 {
     match Sum::at(bytes) {
         Some(sum) => take_summed(alloc, bytes, sum, is_last, cluster, recorded),
@@ -132,7 +141,7 @@ fn take_item(
     }
 }
 
-// Takes an entry that is no batch's, behind which the next gate has to stand.
+// Takes an entry that is in no batch. The next gate has to follow it.
 fn take_put(
     alloc: Global,
     bytes: &[u8],
@@ -145,8 +154,10 @@ fn take_put(
     requires unsummed { HasNoSum bytes.now }
     ensures taken { IfOk result (λ taken. TakesItem cluster bytes.now is_last recorded.old recorded.new taken) }
     ensures damaged { IsErrOf result RecordFault.Damaged
-        → (recorded.new.gate ≡ recorded.old.gate) × IsDamagedItem cluster bytes.now is_last recorded.old }
-    ensures others { OnErr result (IsErrOf result RecordFault.OutOfMemory ⊎ IsErrOf result RecordFault.Damaged) }
+        → (recorded.new.gate ≡ recorded.old.gate)
+        × IsDamagedItem cluster bytes.now is_last recorded.old }
+    ensures others { OnErr result (IsErrOf result RecordFault.OutOfMemory
+        ⊎ IsErrOf result RecordFault.Damaged) }
 {
     let gate = recorded.gate;
     match take_entry(alloc, bytes, cluster, recorded)? {
@@ -162,7 +173,7 @@ fn take_put(
     }
 }
 
-// Takes a batch behind its sum, which stands at a gate.
+// Takes a batch whose sum stands at a gate.
 fn take_summed(
     alloc: Global,
     bytes: &[u8],
@@ -175,8 +186,10 @@ fn take_summed(
     requires at { IsSumAt bytes.now sum.size sum.sum }
     ensures taken { IfOk result (λ taken. TakesItem cluster bytes.now is_last recorded.old recorded.new taken) }
     ensures damaged { IsErrOf result RecordFault.Damaged
-        → (recorded.new.gate ≡ recorded.old.gate) × IsDamagedItem cluster bytes.now is_last recorded.old }
-    ensures others { OnErr result (IsErrOf result RecordFault.OutOfMemory ⊎ IsErrOf result RecordFault.Damaged) }
+        → (recorded.new.gate ≡ recorded.old.gate)
+        × IsDamagedItem cluster bytes.now is_last recorded.old }
+    ensures others { OnErr result (IsErrOf result RecordFault.OutOfMemory
+        ⊎ IsErrOf result RecordFault.Damaged) }
 {
     let end = SUM_BLOCK + sum.size;
     if bytes.len() <= end {
@@ -211,9 +224,11 @@ fn take_batch(
     recorded: &mut Recorded,
 ) -> Result<(), RecordFault>
     requires fits { recorded.old.gate + length blocks.now < 2 ^ 64 }
-    ensures taken { OnOk result ((entries : List Entry) × TakesEntries cluster blocks.now (length blocks.now) entries recorded.old recorded.new) }
+    ensures taken { OnOk result ((entries : List Entry)
+        × TakesEntries cluster blocks.now (length blocks.now) entries recorded.old recorded.new) }
     ensures damaged { IsErrOf result RecordFault.Damaged → IsDamagedBatch cluster blocks.now recorded.old }
-    ensures others { OnErr result (IsErrOf result RecordFault.OutOfMemory ⊎ IsErrOf result RecordFault.Damaged) }
+    ensures others { OnErr result (IsErrOf result RecordFault.OutOfMemory
+        ⊎ IsErrOf result RecordFault.Damaged) }
 {
     let mut rest = blocks;
     while !rest.is_empty() {
@@ -225,7 +240,7 @@ fn take_batch(
     Ok(())
 }
 
-// Takes the entry at a gate, and tells how long its block is; none where the gate isn't open.
+// Takes the entry at a gate. The answer is how long its block is, or `None` if the gate isn't open.
 fn take_entry(
     alloc: Global,
     bytes: &[u8],
@@ -236,7 +251,8 @@ fn take_entry(
     ensures taken { IfOk result (λ size. TakesEntry cluster bytes.now recorded.old recorded.new size) }
     ensures damaged { IsErrOf result RecordFault.Damaged
         → (recorded.new.gate ≡ recorded.old.gate) × IsDamagedEntry cluster bytes.now recorded.old }
-    ensures others { OnErr result (IsErrOf result RecordFault.OutOfMemory ⊎ IsErrOf result RecordFault.Damaged) }
+    ensures others { OnErr result (IsErrOf result RecordFault.OutOfMemory
+        ⊎ IsErrOf result RecordFault.Damaged) }
 {
     match next_entry(bytes, cluster) {
         Next::End => Ok(None),

@@ -78,7 +78,8 @@ impl<D: Disk> Record<D> {
         disk: D,
     ) -> Result<Record<D>, (RecordFault, D)>
         ensures opened { IfOk result (λ store. (entries : List Entry) × IsOpened D.stands_for disk store entries) }
-        ensures cut { IfOk result (λ store. (d : DiskState) → D.stands_for disk d → IsTrue store.cut_short ↔ IsCutShort store.recorded.gate d.seen) }
+        ensures cut { IfOk result (λ store. (d : DiskState) → D.stands_for disk d
+            → IsTrue store.cut_short ↔ IsCutShort store.recorded.gate d.seen) }
         ensures none_failed { IfOk result (λ store. D.failed store.disk ≡ D.failed disk) }
         ensures whose { IfOk result (λ store. (store.node ≡ node) × (store.cluster ≡ cluster)) }
         ensures refused { IfErr result (λ p. (d : DiskState) → D.stands_for disk d → (D.stands_for p.1 (after_sync d) ⊎ (D.stands_for p.1 d × (p.0 ≡ RecordFault.Device))) × IsRefusal p.0 node cluster d.seen) }
@@ -143,8 +144,8 @@ impl<D: Disk> Record<D> {
         self.recorded.reach
     }
 
-    /// Whether an accident had shut the gate at which the record ended, as it was opened: behind it stand a batch with its
-    /// right sum, and another open gate, and none of it was read.
+    /// Whether an accident had shut the gate at which the record ended when it was opened: a batch with its right sum
+    /// followed, and another open gate, and none of that was read.
     pub fn is_cut_short(&self) -> bool
         ensures { result ≡ self.now.cut_short }
     {

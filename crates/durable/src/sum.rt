@@ -1,8 +1,8 @@
 //! Sums of batches, by which a flipped bit is noticed.
 //!
-//! A sum is against accidents and not against forgers, so eight bytes of MD5 are enough. It stands in front of the bytes
-//! that it is of, with their number: so a length that rots among them hides nothing of them. Its kind, 24, differs from
-//! each kind of an entry in two bits at least.
+//! A sum is against accidents and not against forgers, so eight bytes of MD5 are enough. It comes before the bytes that it
+//! is of, with their number, so a flipped bit in one of their lengths hides nothing. Its kind, 24, differs from the kind of
+//! each entry in two bits at least.
 
 ghost use Rattle.std.specs.Prelude.{◌≡◌, ◌↔◌, ◌+◌, ◌<◌, ◌^◌, IsTrue, MatchOption, length, take, slice_index};
 ghost use Rattle.durable.specs.Items.{sum_front, sum_of};
@@ -14,10 +14,10 @@ use md5::{Digest, Md5};
 /// The length of a sum.
 const SUM: usize = 8;
 
-/// How many bytes stand in front of the blocks of a batch.
+/// How many bytes come before the blocks of a batch.
 pub(crate) const SUM_BLOCK: usize = 18;
 
-/// What stands in front of the blocks of a batch: how many bytes they are, and their sum.
+/// What comes before the blocks of a batch: how many bytes they are, and their sum.
 #[derive(Clone, Copy)]
 pub(crate) struct Sum {
     pub(crate) size: usize,
@@ -34,7 +34,7 @@ fn sum_of(bytes: &[u8]) -> [u8; SUM]
     sum
 }
 
-/// What stands in front of these blocks.
+/// What comes before these blocks.
 pub(crate) fn sum_front(blocks: &[u8]) -> [u8; SUM_BLOCK]
     requires { length blocks.now < 2 ^ 32 }
     ensures { result ≡ sum_front (length blocks.now) (sum_of blocks.now) }
@@ -63,10 +63,11 @@ impl Sum {
         })
     }
 
-    /// Whether it is the sum of these bytes but the last, which is an open gate.
+    /// Whether it is the sum of these bytes except the last one, and that is an open gate.
     pub(crate) fn goes_on(self, bytes: &[u8]) -> bool
         requires { length bytes.now ≡ self.size + 1 }
-        ensures { IsTrue result ↔ ((slice_index bytes.now self.size ≡ 1) × (self.sum ≡ sum_of (take self.size bytes.now))) }
+        ensures { IsTrue result
+            ↔ ((slice_index bytes.now self.size ≡ 1) × (self.sum ≡ sum_of (take self.size bytes.now))) }
     {
         bytes[self.size] == 1 && self.is_of(&bytes[..self.size])
     }

@@ -32,9 +32,9 @@ pub any_is : {A B : Type 0} (b : Bool) (value : Option A) (vote : Option B)
     → (IsTrue b ↔ ((value ≢ None) ⊎ (vote ≢ None))) → b ≡ is_some value || is_some vote
 any_is true (Some x) vote e = refl
 any_is true None (Some y) e = refl
-any_is true None None e = elim (e.0 refl) [ inl no ↦ absurd (no refl) | inr no ↦ absurd (no refl) ]
-any_is false (Some x) vote e = sym (e.1 (inl (λ h. cc)))
-any_is false None (Some y) e = sym (e.1 (inr (λ h. cc)))
+any_is true None None e = elim (e.0 refl) [ inl h ↦ absurd (h refl) | inr h ↦ absurd (h refl) ]
+any_is false (Some x) vote e = e.1 (inl (λ h. cc))
+any_is false None (Some y) e = e.1 (inr (λ h. cc))
 any_is false None None e = refl
 
 abbrev made : ℕ → ℕ → ℕ → Recorded

@@ -7,7 +7,9 @@ use crate::disks::{crashed_within, is_long, is_long_behind, reads};
 use crate::listed::{RECORD, SUMMED, entries};
 use crate::samples::{ballot, instance, is_bytes};
 use crate::steps::{Step, act, disk_behind, take};
-use crate::stored::{arm, damaged_from, disk_of, empty, ends, formatted, is_promised, opened, read_bytes};
+use crate::stored::{
+    arm, damaged_from, disk_of, empty, ends, formatted, is_promised, opened, read_bytes,
+};
 use durable::{Record, RecordFault};
 use site_disk::{Armed, Call, Disk, FailOnce, MemDisk};
 use site_ids::Instance;
