@@ -195,7 +195,7 @@ fn dry_run_flag<'a>(alloc: Global) -> Arg<'a> {
 }
 
 fn take_over_flag<'a>(alloc: Global) -> Arg<'a> {
-    flag(alloc, "take-over", "Puts paths that others have put too")
+    flag(alloc, "take-over", "Puts what others have put too: paths, and, where nothing was published from here yet, names that no node tells")
 }
 
 fn release_option<'a>(alloc: Global) -> Arg<'a> {
