@@ -2,7 +2,7 @@
 use crate::address::Address;
 use crate::asking::{connect_within, read_answers, write_questions};
 use editor_common::{EditorFault, now, passed, rest};
-use editor_http::{NodeAnswer, Question};
+use editor_http::{Barred, NodeAnswer, Question};
 use std::alloc::{AllocError, Global};
 use std::io;
 use std::net::{Net, TcpStream};
@@ -11,9 +11,6 @@ use std::time::{Duration, Instant};
 
 /// How many milliseconds the nodes have in all to take their connections.
 const CONNECTING: u64 = 3_000;
-
-/// How many milliseconds they have then to answer.
-const ANSWERING: u64 = 10_000;
 
 /// How many milliseconds lie between two looks whether answers have come.
 const LOOKING: u64 = 1;
@@ -26,11 +23,30 @@ struct Talk {
 }
 
 /// What a node said: how many milliseconds passed until then, and its answers, in the order of the
-/// questions; fewer than these where it fell silent.
+/// questions, fewer than these if it fell silent; or why there is no connection to it.
 #[derive(Drop)]
 pub(crate) struct Said {
     pub millis: u64,
     pub answers: Vec<NodeAnswer>,
+    pub fault: Option<io::Error>,
+}
+
+/// The first status by which what stands before a node says that the node gave no answer.
+const BAD_GATEWAY: u16 = 502;
+
+impl Said {
+    /// Whether something answered that may be a node.
+    pub(crate) fn is_answered(&self) -> bool {
+        match self.answers.first() {
+            Some(answer) => answer.status < BAD_GATEWAY,
+            None => false,
+        }
+    }
+
+    /// Why this node keeps this client out, if it does.
+    pub(crate) fn barred(&self, node: &Address) -> Option<Barred> {
+        node.barred(self.answers.first()?)
+    }
 }
 
 /// How far it is with a node.
@@ -40,11 +56,12 @@ enum Call {
     Over(Said),
 }
 
-/// What who is silent said.
-fn silence(alloc: Global) -> Said {
+/// What a node said that is silent, or that there is no connection to.
+fn silence(alloc: Global, fault: Option<io::Error>) -> Said {
     Said {
         millis: 0,
         answers: Vec::new(alloc),
+        fault,
     }
 }
 
@@ -58,7 +75,7 @@ fn begin_talk<R: Clock + AllocGlobal>(
     let since = now(rt)?;
     write_questions(rt.alloc(), &stream, &node.authority, questions)?;
     if stream.set_nonblocking(true).is_err() {
-        return Ok(Call::Over(silence(rt.alloc())));
+        return Ok(Call::Over(silence(rt.alloc(), None)));
     }
     Ok(Call::Waits(Talk { stream, since }))
 }
@@ -73,7 +90,7 @@ fn begin<R: Net<Stream = TcpStream> + Clock + AllocGlobal>(
     match connect_within(rt, node.authority.host.as_str(), within) {
         Ok(stream) => begin_talk(rt, stream, node, questions),
         Err(fault) if fault.kind() == io::ErrorKind::OutOfMemory => Err(EditorFault::OutOfMemory),
-        Err(_) => Ok(Call::Over(silence(rt.alloc()))),
+        Err(fault) => Ok(Call::Over(silence(rt.alloc(), Some(fault)))),
     }
 }
 
@@ -113,7 +130,7 @@ fn read_talk<R: Clock + AllocGlobal>(
     count: usize,
     left: u64,
 ) -> Result<Said, EditorFault> {
-    let mut said = silence(rt.alloc());
+    let mut said = silence(rt.alloc(), None);
     said.millis = passed(rt, talk.since)?;
     if set_waiting(&talk.stream, left).is_ok() {
         read_answers(rt.alloc(), &talk.stream, count, &mut said.answers)?;
@@ -153,15 +170,16 @@ fn look<R: Clock + AllocGlobal>(
     Ok(calls.iter().any(waits))
 }
 
-/// Looks at the nodes until each has answered, or the time for that is over.
+/// Looks at the nodes until each has answered, or so many milliseconds have passed.
 fn wait_for_all<R: Clock + AllocGlobal>(
     rt: &R,
     calls: &mut [Call],
     count: usize,
+    within: u64,
 ) -> Result<(), EditorFault> {
     let since = now(rt)?;
     for _ in 0..u64::MAX {
-        let left = ANSWERING.saturating_sub(passed(rt, since)?);
+        let left = within.saturating_sub(passed(rt, since)?);
         if left == 0 || !look(rt, calls, count, left)? {
             break;
         }
@@ -176,19 +194,20 @@ fn said_in(alloc: Global, calls: Vec<Call>) -> Result<Vec<Said>, AllocError> {
     for call in calls {
         match call {
             Call::Over(said) => all.push(said)?,
-            Call::Waits(_) => all.push(silence(alloc))?,
+            Call::Waits(_) => all.push(silence(alloc, None))?,
         }
     }
     Ok(all)
 }
 
-/// Asks several nodes at once, and reads what each says, in their order.
+/// Asks several nodes at once, and reads what each says within so many milliseconds, in their order.
 pub(crate) fn ask_each<R: Net<Stream = TcpStream> + Clock + AllocGlobal>(
     rt: &R,
     nodes: &[&Address],
     questions: &[Question<'_>],
+    within: u64,
 ) -> Result<Vec<Said>, EditorFault> {
     let mut calls = begin_all(rt, nodes, questions)?;
-    wait_for_all(rt, calls.as_mut_slice(), questions.len())?;
+    wait_for_all(rt, calls.as_mut_slice(), questions.len(), within)?;
     Ok(said_in(rt.alloc(), calls)?)
 }

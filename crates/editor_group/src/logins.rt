@@ -3,6 +3,9 @@
 //! A line is the address of a node with its login, as a command line has it too, and as `git
 //! credential-store` keeps them. Empty lines and those that begin with `#` are passed over. No message has a
 //! line's text.
+ghost use Rattle.std.specs.Prelude.{◌≡◌, ◌⊎◌, [], map, length, Contains, IfOk, None, string_bytes};
+ghost use Rattle.editor_group.specs.declared.logins.LoginLine.{LoginLine as Line};
+
 use crate::address::{Address, address_in};
 use crate::stop::stop;
 use editor_common::EditorFault;
@@ -59,7 +62,10 @@ fn login_lines<'a>(
 }
 
 /// The URL by which a node is asked: the first line for its host and port, where it names no login itself.
-fn url_by(alloc: Global, url: &str, lines: &[LoginLine<'_>]) -> Result<String, AllocError> {
+fn url_by(alloc: Global, url: &str, lines: &[LoginLine<'_>]) -> Result<String, AllocError>
+    ensures { IfOk result (λ found. (string_bytes found ≡ url.now)
+        ⊎ ((line : Line) × Contains lines.now line × (string_bytes found ≡ line.url.now))) }
+{
     let Some(Address { authority, .. }) = address_in(alloc, url)? else {
         return String::from_str(alloc, url);
     };
@@ -72,11 +78,11 @@ fn url_by(alloc: Global, url: &str, lines: &[LoginLine<'_>]) -> Result<String, A
 }
 
 /// The URLs with the logins that these lines have.
-fn urls_by(
-    alloc: Global,
-    urls: &[&str],
-    lines: &[LoginLine<'_>],
-) -> Result<Vec<String>, AllocError> {
+fn urls_by(alloc: Global, urls: &[&str], lines: &[LoginLine<'_>]) -> Result<Vec<String>, AllocError>
+    ensures as_many { IfOk result (λ found. length found.items ≡ length urls.now) }
+    ensures same { IfOk result (λ found. lines.now ≡ []
+        → map string_bytes found.items ≡ map (λ url. url.now) urls.now) }
+{
     let mut found = Vec::new(alloc);
     for url in urls {
         found.push(url_by(alloc, url, lines)?)?;
@@ -89,7 +95,11 @@ pub fn with_logins<R: Files + AllocGlobal>(
     rt: &R,
     urls: &[&str],
     file: Option<&str>,
-) -> Result<Vec<String>, EditorFault> {
+) -> Result<Vec<String>, EditorFault>
+    ensures as_many { IfOk result (λ found. length found.items ≡ length urls.now) }
+    ensures same { IfOk result (λ found. file.entry ≡ None
+        → map string_bytes found.items ≡ map (λ url. url.now) urls.now) }
+{
     let alloc = rt.alloc();
     let Some(file) = file else {
         return Ok(urls_by(alloc, urls, &[])?);

@@ -9,7 +9,7 @@ use crate::asking_all::{Said, ask_each};
 use editor_common::EditorFault;
 use editor_http::{Barred, NodeAnswer, Question};
 use editor_ledger::Ledger;
-use editor_plan::{last_shown, last_ticket};
+use editor_plan::{LATER_ANSWERS, last_shown, last_ticket};
 use site_ids::Ticket;
 use std::alloc::{AllocError, Global};
 use std::net::{Net, TcpStream};
@@ -72,16 +72,13 @@ pub(crate) struct Range {
     pub last: u64,
 }
 
-/// The first status by which what stands before a node says that the node gave no answer.
-const BAD_GATEWAY: u16 = 502;
-
 /// What a node's answers report.
 fn report_in(node: &Address, said: &Said) -> Report {
     let first = said.answers.first();
     Report {
         millis: said.millis,
-        answered: first.is_some_and(|answer| answer.status < BAD_GATEWAY),
-        barred: first.and_then(|answer| node.barred(answer)),
+        answered: said.is_answered(),
+        barred: said.barred(node),
         newest: first.and_then(number_in),
         instance: said.answers.get(1).and_then(number_in),
         page: None,
@@ -106,7 +103,7 @@ fn first_reports<R: Net<Stream = TcpStream> + Clock + AllocGlobal>(
 ) -> Result<Vec<Report>, EditorFault> {
     let questions = questions_of(rt.alloc(), published)?;
     let asked: Vec<&Address> = nodes.iter().collect(rt.alloc())?;
-    let all = ask_each(rt, &asked, &questions)?;
+    let all = ask_each(rt, &asked, &questions, LATER_ANSWERS)?;
     let mut reports = Vec::new(rt.alloc());
     for (node, said) in nodes.iter().zip(all.iter()) {
         reports.push(report_in(node, said))?;
@@ -146,7 +143,8 @@ fn ask_pages<R: Net<Stream = TcpStream> + Clock + AllocGlobal>(
     release: u64,
 ) -> Result<(), EditorFault> {
     let answering = those_that_answer(rt.alloc(), nodes, reports)?;
-    let mut all = ask_each(rt, &answering, &[Question::Page(release, "/")])?.into_iter();
+    let question = [Question::Page(release, "/")];
+    let mut all = ask_each(rt, &answering, &question, LATER_ANSWERS)?.into_iter();
     for report in reports.iter_mut() {
         if report.newest.is_some() {
             report.page = all.next().and_then(|said| said.answers.into_iter().next());

@@ -1,4 +1,9 @@
 //! What each node of a group says of itself, told.
+ghost use Rattle.std.specs.Prelude.{◌≡◌, ◌==◌, ◌&&◌, nat_le, if◌then◌else◌, IfOk, OnOk, Some, None};
+ghost use Rattle.serde_json.specs.View.{view};
+ghost use Rattle.editor_common.specs.Outcomes.{kept};
+ghost use Rattle.editor_group.specs.Statuses.{is_well, EndsStatus, IsNode, TellsCommands, TellsNodes};
+
 use crate::address::Address;
 use crate::group::Group;
 use crate::reports::{Published, Range, Report, range_of, reports_of};
@@ -27,6 +32,21 @@ fn same_page(report: &Report, first: Option<&NodeAnswer>, range: Range) -> Optio
     Some(are_same(report.page.as_ref(), first))
 }
 
+/// What of a node says whether all is well with it: its newest release, and whether its start page is that of
+/// the others.
+#[derive(Clone, Copy)]
+struct Row {
+    newest: Option<u64>,
+    same: Option<bool>,
+}
+
+fn row_of(report: &Report, first: Option<&NodeAnswer>, range: Range) -> Row {
+    Row {
+        newest: report.newest,
+        same: same_page(report, first, range),
+    }
+}
+
 /// How one is called that does not tell its newest release: what keeps this client out, another server, or
 /// a node that is silent.
 fn silence_of(report: &Report) -> &'static str {
@@ -38,8 +58,13 @@ fn silence_of(report: &Report) -> &'static str {
 }
 
 /// Whether all is well with a node: it shows the newest release, and the same page as the others.
-fn is_well(report: &Report, first: Option<&NodeAnswer>, range: Range) -> bool {
-    report.newest == Some(range.last) && same_page(report, first, range).unwrap_or(true)
+fn is_well(row: Row, last: u64) -> bool
+    ensures { result ≡ is_well last row }
+{
+    match row.newest {
+        Some(newest) => newest == last && row.same.unwrap_or(true),
+        None => false,
+    }
 }
 
 /// Writes what a node said, in columns.
@@ -69,14 +94,11 @@ fn tell<W: Write>(
     out: &mut W,
     url: &str,
     report: &Report,
-    first: Option<&NodeAnswer>,
+    row: Row,
     range: Range,
 ) -> Result<(), EditorFault> {
-    match report.newest {
-        Some(newest) => {
-            let same = same_page(report, first, range);
-            tell_answer(alloc, out, url, report.millis, newest, range, same)
-        }
+    match row.newest {
+        Some(newest) => tell_answer(alloc, out, url, report.millis, newest, range, row.same),
         None => {
             let why = silence_of(report);
             say_made(
@@ -88,25 +110,20 @@ fn tell<W: Write>(
 }
 
 /// A node as one JSON object.
-fn node_value(
-    alloc: Global,
-    url: &str,
-    report: &Report,
-    first: Option<&NodeAnswer>,
-    range: Range,
-) -> Result<Value, AllocError> {
-    let answers = match report.newest {
+fn node_value(alloc: Global, url: &str, report: &Report, row: Row) -> Result<Value, AllocError>
+    ensures { IfOk result (λ value. IsNode row (view value)) }
+{
+    let answers = match row.newest {
         Some(_) => "yes",
         None => silence_of(report),
     };
-    let millis = report.newest.map(|_| report.millis);
-    let same = same_page(report, first, range);
+    let millis = row.newest.map(|_| report.millis);
     json!(in alloc; {
         "url": url,
         "answers": answers,
         "millis": millis,
-        "release": report.newest,
-        "same_page": same
+        "release": row.newest,
+        "same_page": row.same
     })
 }
 
@@ -125,18 +142,23 @@ fn tell_all<W: Write>(
     nodes: &[Address],
     reports: &[Report],
     range: Range,
-) -> Result<bool, EditorFault> {
+) -> Result<bool, EditorFault>
+    ensures { IfOk result (λ well. TellsNodes range.last well (kept outcome.new)) }
+{
     tell_head(alloc, out, range.common)?;
     let first = reports.iter().find_map(|report| report.page.as_ref());
     let mut values = Vec::new(alloc);
+    let mut well = true;
     for (node, report) in nodes.iter().zip(reports.iter()) {
         let url = node.url.as_str();
-        tell(alloc, out, url, report, first, range)?;
-        values.push(node_value(alloc, url, report, first, range)?)?;
+        let row = row_of(report, first, range);
+        tell(alloc, out, url, report, row, range)?;
+        values.push(node_value(alloc, url, report, row)?)?;
+        well &= is_well(row, range.last);
     }
     outcome.put(alloc, "nodes", Value::Array(values))?;
     outcome.put(alloc, "release", Value::from(range.last))?;
-    Ok(reports.iter().all(|report| is_well(report, first, range)))
+    Ok(well)
 }
 
 /// Writes why nodes keep this client out, which do.
@@ -161,7 +183,9 @@ fn tell_commands<W: Write>(
     out: &mut W,
     outcome: &mut Outcome,
     reports: &[Report],
-) -> Result<(), EditorFault> {
+) -> Result<(), EditorFault>
+    ensures { OnOk result (TellsCommands (kept outcome.old) (kept outcome.new)) }
+{
     let least = reports.iter().filter_map(|report| report.instance).max();
     outcome.put(alloc, "commands_at_least", Value::from(least))?;
     outcome.put(alloc, "commands_at_most", Value::from(MAX_INSTANCE))?;
@@ -181,7 +205,9 @@ fn tell_returning<W: Write>(
     out: &mut W,
     last: u64,
     shown: u64,
-) -> Result<bool, EditorFault> {
+) -> Result<bool, EditorFault>
+    ensures { IfOk result (λ is. is ≡ nat_le shown last) }
+{
     if last >= shown {
         return Ok(true);
     }
@@ -194,6 +220,22 @@ fn tell_returning<W: Write>(
     Ok(false)
 }
 
+/// Whether a release of a folder is shown, where it has one.
+fn shows_of(release: u64, shown: bool) -> Option<bool>
+    ensures { result ≡ (if release == 0 then None else Some shown) }
+{
+    match release {
+        0 => None,
+        _ => Some(shown),
+    }
+}
+
+fn status_of(well: bool, shown: bool) -> u8
+    ensures { result ≡ (if well && shown then 0 else 1) }
+{
+    if well && shown { 0 } else { 1 }
+}
+
 /// Writes a table of nodes: URL, milliseconds to an answer, newest release, how many releases it is behind,
 /// and whether its start page in the newest release that all have is that of the others; and how many
 /// commands the group has at least, by the last ticket of a folder. Status 1 where a node is silent, behind
@@ -204,7 +246,9 @@ pub fn tell_status<R: Net<Stream = TcpStream> + Clock + AllocGlobal, W: Write>(
     outcome: &mut Outcome,
     urls: &[&str],
     published: Published,
-) -> Result<u8, EditorFault> {
+) -> Result<u8, EditorFault>
+    ensures { IfOk result (λ status. EndsStatus published.release status (kept outcome.new)) }
+{
     let alloc = rt.alloc();
     let group = Group::of(alloc, urls)?;
     let reports = reports_of(rt, group.nodes(), published)?;
@@ -213,10 +257,7 @@ pub fn tell_status<R: Net<Stream = TcpStream> + Clock + AllocGlobal, W: Write>(
     tell_barred(alloc, out, group.nodes(), &reports)?;
     tell_commands(alloc, out, outcome, &reports)?;
     let shown = tell_returning(alloc, out, range.last, published.release)?;
-    let shows = match published.release {
-        0 => None,
-        _ => Some(shown),
-    };
+    let shows = shows_of(published.release, shown);
     outcome.put(alloc, "shows_folder", Value::from(shows))?;
-    Ok(if well && shown { 0 } else { 1 })
+    Ok(status_of(well, shown))
 }

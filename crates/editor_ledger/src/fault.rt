@@ -4,7 +4,7 @@ use thiserror::Error;
 /// Why nothing was planned.
 #[derive(Clone, Copy, Debug, Drop, PartialEq, Eq, Error)]
 pub enum LedgerFault {
-    #[error("the editor has no tickets left: publish as another editor")]
+    #[error("the numbers of the commands of this editor are used up: publish as another editor")]
     NoTickets,
     #[error("out of memory")]
     OutOfMemory,
