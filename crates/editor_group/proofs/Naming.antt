@@ -31,3 +31,11 @@ whole (x ∷ xs) (suc i) past = ap (λ l. x ∷ l) (whole xs i (omega (arith, pa
 pub all_named : {X : Type 0} (url_of : X → List ℕ) (xs : List X) (i : ℕ) (nodes : List Address)
     → length xs ≤ i → AreNamed url_of (take i xs) nodes → AreNamed url_of xs nodes
 all_named url_of xs i nodes past all = subst (λ l. AreNamed url_of l nodes) (whole xs i past) all
+
+-- there are as many nodes as URLs
+pub as_many : {X : Type 0} (url_of : X → List ℕ) (xs : List X) (nodes : List Address)
+    → AreNamed url_of xs nodes → length nodes ≡ length xs
+as_many url_of [] [] all = refl
+as_many url_of [] (n ∷ ns) all = absurd all
+as_many url_of (x ∷ xs) [] all = absurd all
+as_many url_of (x ∷ xs) (n ∷ ns) all = ap suc (as_many url_of xs ns all.1)

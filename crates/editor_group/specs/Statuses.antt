@@ -1,5 +1,5 @@
 -- What is kept of a group's status, and the exit status.
-use Rattle.std.specs.Prelude.{◌≡◌, ◌==◌, ◌&&◌, ⊤, ℕ, Bool, true, false, nat_le, if◌then◌else◌, codes, unwrap_or, List, [], ◌∷◌, Option, Some, None}
+use Rattle.std.specs.Prelude.{◌≡◌, ◌==◌, ◌&&◌, ⊤, ℕ, Bool, true, false, nat_le, if◌then◌else◌, codes, unwrap_or, List, [], ◌∷◌, length, Option, Some, None}
 use Rattle.serde_json.specs.Data.{Data, Members, null, boolean, number, unsigned, array, object, put}
 use Rattle.serde_json.specs.View.{items_of}
 use Rattle.site_ids.specs.declared.TheConstants.{MAX_INSTANCE}
@@ -36,9 +36,10 @@ AreNodes [] (d ∷ ds) = ⊥
 AreNodes (row ∷ rows) [] = ⊥
 AreNodes (row ∷ rows) (d ∷ ds) = IsNode row d × AreNodes rows ds
 
--- nodes are kept, and the newest release of all; by these, all is well with each or not
-pub record TellsNodes (last : ℕ) (well : Bool) (now : Members) : Type 0 where
+-- so many nodes are kept, and the newest release of all; by these, all is well with each or not
+pub record TellsNodes (n last : ℕ) (well : Bool) (now : Members) : Type 0 where
   pub rows : List Row
+  pub as_many : length rows ≡ n
   pub nodes : List Data
   pub are : AreNodes rows nodes
   pub before : Members
@@ -54,12 +55,13 @@ TellsCommands old now = (least : Data)
 abbrev pub shows_folder : ℕ → ℕ → Option Bool
 shows_folder release last = if release == 0 then None else Some (nat_le release last)
 
--- the status is 0 where all is well with each node that is kept, and the folder's release is shown
-pub record EndsStatus (release status : ℕ) (now : Members) : Type 0 where
+-- of each of so many nodes it is kept how it is; the status is 0 if all is well with each of them, and the
+-- folder's release is shown
+pub record EndsStatus (n release status : ℕ) (now : Members) : Type 0 where
   pub last : ℕ
   pub well : Bool
   pub told : Members
-  pub tells : TellsNodes last well told
+  pub tells : TellsNodes n last well told
   pub least : Data
   pub kept_is : now ≡ put (codes "shows_folder") (told_truth (shows_folder release last))
       (put (codes "commands_at_most") (number (unsigned MAX_INSTANCE)) (put (codes "commands_at_least") least told))

@@ -84,7 +84,7 @@ fn questions_of<'a>(claim: Claim) -> [Question<'a>; 3] {
 }
 
 /// What a node's answers say of two tickets, and which release it shows.
-fn witness_in(said: &Said) -> Witness {
+fn witness_in(said: &Said<'_>) -> Witness {
     let newest = said.answers.get(2).and_then(number_in);
     match newest {
         Some(_) => Witness {
@@ -97,7 +97,7 @@ fn witness_in(said: &Said) -> Witness {
 }
 
 /// What each node says.
-fn witnesses_in(alloc: Global, all: &[Said]) -> Result<Vec<Witness>, AllocError>
+fn witnesses_in(alloc: Global, all: &[Said<'_>]) -> Result<Vec<Witness>, AllocError>
     ensures { IfOk result (λ found. vec_len found ≡ length all.now) }
 {
     let mut witnesses = Vec::new(alloc);
@@ -111,37 +111,6 @@ fn witnesses_in(alloc: Global, all: &[Said]) -> Result<Vec<Witness>, AllocError>
 fn confirming(claim: Claim, witnesses: &[Witness]) -> Option<usize> {
     witnesses.iter().position(|witness| standing_of(claim.last, claim.shown, &[*witness])
         == Standing::Newest)
-}
-
-/// Asks all nodes at once, which have so many milliseconds to answer.
-fn ask_group<R: Net<Stream = TcpStream> + Clock + AllocGlobal>(
-    rt: &R,
-    group: &Group,
-    claim: Claim,
-    within: u64,
-) -> Result<Vec<Said>, EditorFault>
-    ensures { IfOk result (λ all. vec_len all ≡ length group.now.nodes.items) }
-{
-    let nodes: Vec<&Address> = group.nodes().iter().collect(rt.alloc())?;
-    ask_each(rt, &nodes, &questions_of(claim), within)
-}
-
-/// How a ledger stands by what all nodes said. The first that confirms it, if one does, is spoken to.
-fn judge(
-    alloc: Global,
-    group: &mut Group,
-    claim: Claim,
-    all: &[Said],
-) -> Result<Standing, AllocError>
-    ensures stands { IfOk result (Stands (length all.now) claim.last claim.shown) }
-    ensures nodes { group.new.nodes ≡ group.old.nodes }
-{
-    let witnesses = witnesses_in(alloc, all)?;
-    let found = standing_of(claim.last, claim.shown, &witnesses);
-    if found == Standing::Newest {
-        group.speak_to(confirming(claim, &witnesses));
-    }
-    Ok(found)
 }
 
 /// Why a ledger is refused that is none of the newest.
@@ -180,9 +149,9 @@ fn reason(
 }
 
 /// Why a node tells nothing that can be used.
-fn why_silent(alloc: Global, node: &Address, said: &Said) -> Result<String, AllocError> {
-    let url = node.url.as_str();
-    match (&said.fault, said.barred(node)) {
+fn why_silent(alloc: Global, said: &Said<'_>) -> Result<String, AllocError> {
+    let url = said.node.url.as_str();
+    match (&said.fault, said.barred()) {
         (Some(fault), _) => format!(in alloc; "{url}: {fault}"),
         (None, Some(why)) => format!(in alloc; "{url}: {why}"),
         (None, None) if said.is_answered() => {
@@ -196,13 +165,12 @@ fn why_silent(alloc: Global, node: &Address, said: &Said) -> Result<String, Allo
 fn tell_unanswered<E: Write>(
     alloc: Global,
     err: &mut E,
-    nodes: &[Address],
-    all: &[Said],
+    all: &[Said<'_>],
 ) -> Result<(), EditorFault> {
     let mut barred = false;
-    for (node, said) in nodes.iter().zip(all) {
-        say_made(err, why_silent(alloc, node, said))?;
-        barred |= said.barred(node).is_some();
+    for said in all {
+        say_made(err, why_silent(alloc, said))?;
+        barred |= said.barred().is_some();
     }
     if barred {
         return Err(stop(String::from_str(alloc, "nothing was sent")));
@@ -210,18 +178,13 @@ fn tell_unanswered<E: Write>(
     Ok(())
 }
 
-/// Tells which nodes were waited for in vain, if any were.
-fn tell_waited<E: Write>(
-    alloc: Global,
-    err: &mut E,
-    nodes: &[Address],
-    all: &[Said],
-) -> Result<(), EditorFault> {
+/// Tells which nodes were waited for in vain, if some were.
+fn tell_waited<E: Write>(alloc: Global, err: &mut E, all: &[Said<'_>]) -> Result<(), EditorFault> {
     let mut silent = String::new(alloc);
-    for (node, said) in nodes.iter().zip(all) {
+    for said in all {
         if said.fault.is_none() && said.answers.is_empty() {
             silent.push(' ')?;
-            silent.push_str(node.url.as_str())?;
+            silent.push_str(said.node.url.as_str())?;
         }
     }
     if silent.is_empty() {
@@ -234,19 +197,51 @@ fn tell_waited<E: Write>(
     )
 }
 
-/// Tells what kept the first round of questions from being answered.
+/// Tells what kept the first questions from being answered.
 fn tell_first<E: Write>(
     alloc: Global,
     err: &mut E,
-    nodes: &[Address],
-    all: &[Said],
+    all: &[Said<'_>],
     found: Standing,
 ) -> Result<(), EditorFault> {
     if found == Standing::Unanswered {
-        tell_unanswered(alloc, err, nodes, all)
+        tell_unanswered(alloc, err, all)
     } else {
-        tell_waited(alloc, err, nodes, all)
+        tell_waited(alloc, err, all)
     }
+}
+
+/// How a ledger stands to a group, and the place of the first node that confirms it, if it is the newest.
+#[derive(Clone, Copy)]
+struct Found {
+    standing: Standing,
+    first: Option<usize>,
+}
+
+/// Asks all nodes at once, which were asked so many times before, and tells the first time what keeps some
+/// from answering.
+fn ask_group<R: Net<Stream = TcpStream> + Clock + AllocGlobal, E: Write>(
+    rt: &R,
+    err: &mut E,
+    group: &Group,
+    claim: Claim,
+    times: u64,
+) -> Result<Found, EditorFault>
+    ensures { IfOk result (λ found.
+        Stands (length group.now.nodes.items) claim.last claim.shown found.standing) }
+{
+    let alloc = rt.alloc();
+    let nodes: Vec<&Address> = group.nodes().iter().collect(alloc)?;
+    let all = ask_each(rt, &nodes, &questions_of(claim), answers_within(times))?;
+    let witnesses = witnesses_in(alloc, &all)?;
+    let standing = standing_of(claim.last, claim.shown, &witnesses);
+    if times == 0 {
+        tell_first(alloc, err, &all, standing)?;
+    }
+    Ok(Found {
+        standing,
+        first: confirming(claim, &witnesses),
+    })
 }
 
 /// What is told while it waits for a standing to change.
@@ -284,17 +279,14 @@ fn settled<R: Net<Stream = TcpStream> + Clock + AllocGlobal, E: Write>(
     ensures nodes { group.new.nodes ≡ group.old.nodes }
 {
     let since = now(rt)?;
-    for tries in 0..u64::MAX {
-        let all = ask_group(rt, group, claim, answers_within(tries))?;
-        let found = judge(rt.alloc(), group, claim, &all)?;
-        if tries == 0 {
-            tell_first(rt.alloc(), err, group.nodes(), &all, found)?;
+    for times in 0..u64::MAX {
+        let Found { standing, first } = ask_group(rt, err, group, claim, times)?;
+        if is_final(rt, since, patience, standing)? {
+            group.speak_to(first);
+            return Ok(standing);
         }
-        if is_final(rt, since, patience, found)? {
-            return Ok(found);
-        }
-        if tries == 0 {
-            say(err, waiting(found))?;
+        if times == 0 {
+            say(err, waiting(standing))?;
         }
         rest(rt, AGAIN);
     }

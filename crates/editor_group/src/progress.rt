@@ -1,31 +1,14 @@
 //! What is told while commands are on their way; when it is told, `editor_plan` says.
-use crate::answering::newest_of_each;
+use crate::answering::silent_nodes;
 use crate::group::Group;
 use editor_common::{EditorFault, say_made};
 use editor_plan::{Came, Progress};
-use std::alloc::AllocError;
 use std::io::Write;
 use std::net::{Net, TcpStream};
 use std::rt::Clock;
 
 /// How many milliseconds nodes have to answer, so that those are named which do not.
 const NAMING: u64 = 1_000;
-
-/// The nodes that do not answer, each after a blank.
-fn silent_nodes<R: Net<Stream = TcpStream> + Clock + AllocGlobal>(
-    rt: &R,
-    group: &Group,
-) -> Result<String, EditorFault> {
-    let mut silent = String::new(rt.alloc());
-    let newest = newest_of_each(rt, group.nodes(), NAMING)?;
-    for (node, newest) in group.nodes().iter().zip(newest.iter()) {
-        if newest.is_none() {
-            silent.push(' ')?;
-            silent.push_str(node.url.as_str())?;
-        }
-    }
-    Ok(silent)
-}
 
 /// Tells that no command comes into the log, and which nodes do not answer.
 fn tell_silence<R: Net<Stream = TcpStream> + Clock + AllocGlobal, E: Write>(
@@ -34,7 +17,7 @@ fn tell_silence<R: Net<Stream = TcpStream> + Clock + AllocGlobal, E: Write>(
     group: &Group,
 ) -> Result<(), EditorFault> {
     let alloc = rt.alloc();
-    let silent = silent_nodes(rt, group)?;
+    let silent = silent_nodes(rt, group, NAMING)?;
     let line = if silent.is_empty() {
         format!(in alloc;
             "no command came into the log for 2 seconds, though each node that is named answers: waiting for a majority"

@@ -1,8 +1,5 @@
-use Rattle.std.proofs.Common.{◌≡◌, [], map, take, vec_len, string_bytes}
+use Rattle.std.proofs.Common.{◌≡◌, vec_len}
 use Rattle.editor_group.proofs.logins.urls_by.Given as goal
 
 abbrev pub invariant-loop-url : goal.invariant-loop-url
-invariant-loop-url l = record {
-  as_many : vec_len l.found ≡ l.url-index;
-  same : l.lines ≡ [] → map string_bytes l.found.items ≡ map (λ url. url.now) (take l.url-index l.urls);
-}
+invariant-loop-url l = vec_len l.found ≡ l.url-index
