@@ -28,7 +28,8 @@ told_truth (Some b) = boolean b
 -- what is kept of a node has both, beside other members
 abbrev pub IsNode : Row → Data → Type 0
 IsNode row shown = (others : Members)
-    × (shown ≡ object (put (codes "same_page") (told_truth row.same) (put (codes "release") (told_number row.newest) others)))
+    × (shown ≡ object (put (codes "same_page") (told_truth row.same)
+    (put (codes "release") (told_number row.newest) others)))
 
 abbrev pub AreNodes : List Row → List Data → Type 0
 AreNodes [] [] = ⊤
@@ -43,13 +44,15 @@ pub record TellsNodes (n last : ℕ) (well : Bool) (now : Members) : Type 0 wher
   pub nodes : List Data
   pub are : AreNodes rows nodes
   pub before : Members
-  pub kept_is : now ≡ put (codes "release") (number (unsigned last)) (put (codes "nodes") (array (items_of nodes)) before)
+  pub kept_is : now ≡ put (codes "release") (number (unsigned last))
+      (put (codes "nodes") (array (items_of nodes)) before)
   pub well_is : well ≡ all_well last rows
 
 -- how many commands there are at least, where that is known, and at most
 abbrev pub TellsCommands : Members → Members → Type 0
 TellsCommands old now = (least : Data)
-    × (now ≡ put (codes "commands_at_most") (number (unsigned MAX_INSTANCE)) (put (codes "commands_at_least") least old))
+    × (now ≡ put (codes "commands_at_most") (number (unsigned MAX_INSTANCE))
+    (put (codes "commands_at_least") least old))
 
 -- whether the release that a folder has, if it has one, is shown where that is the newest of all
 abbrev pub shows_folder : ℕ → ℕ → Option Bool
@@ -64,5 +67,6 @@ pub record EndsStatus (n release status : ℕ) (now : Members) : Type 0 where
   pub tells : TellsNodes n last well told
   pub least : Data
   pub kept_is : now ≡ put (codes "shows_folder") (told_truth (shows_folder release last))
-      (put (codes "commands_at_most") (number (unsigned MAX_INSTANCE)) (put (codes "commands_at_least") least told))
+      (put (codes "commands_at_most") (number (unsigned MAX_INSTANCE))
+      (put (codes "commands_at_least") least told))
   pub status_is : status ≡ (if well && nat_le release last then 0 else 1)

@@ -30,8 +30,8 @@ fn tell_silence<R: Net<Stream = TcpStream> + Clock + AllocGlobal, E: Write>(
     say_made(err, line)
 }
 
-/// Tells how far a delivery is, if that is to be told now: so many commands are left, and the last exchange came
-/// to that.
+/// Tells how far a delivery is, if that is to be told now: so many commands are left, and the last exchange
+/// came to that.
 pub(crate) fn tell_progress<R: Net<Stream = TcpStream> + Clock + AllocGlobal, E: Write>(
     rt: &R,
     err: &mut E,

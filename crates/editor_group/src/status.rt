@@ -245,7 +245,8 @@ pub fn tell_status<R: Net<Stream = TcpStream> + Clock + AllocGlobal, W: Write>(
     urls: &[&str],
     published: Published,
 ) -> Result<u8, EditorFault>
-    ensures { IfOk result (λ status. EndsStatus (length urls.now) published.release status (kept outcome.new)) }
+    ensures { IfOk result (λ status.
+        EndsStatus (length urls.now) published.release status (kept outcome.new)) }
 {
     let alloc = rt.alloc();
     let group = Group::of(alloc, urls)?;

@@ -124,7 +124,11 @@ fn dry_run_flag<'a>(alloc: Global) -> Arg<'a> {
 }
 
 fn take_over_flag<'a>(alloc: Global) -> Arg<'a> {
-    flag(alloc, "take-over", "Puts what others have put too: paths, and, where nothing was published from here yet, names that no node tells")
+    flag(
+        alloc,
+        "take-over",
+        "Puts what others have put too: paths, and, where nothing was published from here yet, names that no node tells",
+    )
 }
 
 fn release_option<'a>(alloc: Global) -> Arg<'a> {

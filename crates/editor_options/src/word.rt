@@ -56,9 +56,7 @@ pub enum ToldWord<'a> {
     /// Makes a folder the next release of a group.
     Publish(PublishWord<'a>),
     /// Tells the releases of a folder.
-    Log {
-        folder: &'a str,
-    },
+    Log { folder: &'a str },
     /// Tells what each node says of itself, and whether the group shows what a folder made.
     Status(StatusWord<'a>),
 }

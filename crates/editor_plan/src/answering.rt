@@ -13,5 +13,9 @@ pub const LATER_ANSWERS: u64 = 10_000;
 pub fn answers_within(times: u64) -> u64
     ensures { result ≡ answers_within times }
 {
-    if times == 0 { FIRST_ANSWERS } else { LATER_ANSWERS }
+    if times == 0 {
+        FIRST_ANSWERS
+    } else {
+        LATER_ANSWERS
+    }
 }

@@ -271,8 +271,8 @@ impl<R: Files + Net<Stream = TcpStream> + Clock + AllocGlobal, E: Write> Publish
         self.publish_texts(out, wanted, found)
     }
 
-    /// Tells which paths a publication of these texts would take over, as far as the node that is spoken to says. What it
-    /// would take over is the answer, if that node says it.
+    /// Tells which paths a publication of these texts would take over, as far as the node that is spoken to
+    /// says. What it would take over is the answer, if that node says it.
     fn tell_paths<W: Write>(
         &mut self,
         out: &mut W,

@@ -113,7 +113,9 @@ fn publish_wanted<
 fn tell_no_page<E: Write>(alloc: Global, err: &mut E, folder: &str) -> Result<(), EditorFault> {
     say_made(
         err,
-        format!(in alloc; "{folder}: no page, so nothing was sent: each line of its file routes is one"),
+        format!(in alloc;
+            "{folder}: no page, so nothing was sent: each line of its file routes is one"
+        ),
     )
 }
 
