@@ -1,1 +1,4 @@
 pub mod Published
+pub mod Addresses
+pub mod Confirming
+pub mod Statuses

@@ -174,11 +174,6 @@ pub fn ask<N: Net<Stream = TcpStream>>(
     Ok(answers)
 }
 
-/// Why a node can't be connected to; nothing where it can.
-pub(crate) fn unreached<N: Net<Stream = TcpStream>>(net: &N, node: &Address) -> Option<io::Error> {
-    connect(net, node.authority.host.as_str()).err()
-}
-
 /// The number that a node answers.
 pub(crate) fn number_in(answer: &NodeAnswer) -> Option<u64> {
     if answer.status != 200 {

@@ -1,8 +1,10 @@
 //! The same questions to several nodes at once, so that silent ones cost no more time than one of them.
+ghost use Rattle.std.specs.Prelude.{◌≡◌, length, vec_len, IfOk};
+
 use crate::address::Address;
 use crate::asking::{connect_within, read_answers, write_questions};
 use editor_common::{EditorFault, now, passed, rest};
-use editor_http::{NodeAnswer, Question};
+use editor_http::{Barred, NodeAnswer, Question};
 use std::alloc::{AllocError, Global};
 use std::io;
 use std::net::{Net, TcpStream};
@@ -12,77 +14,103 @@ use std::time::{Duration, Instant};
 /// How many milliseconds the nodes have in all to take their connections.
 const CONNECTING: u64 = 3_000;
 
-/// How many milliseconds they have then to answer.
-const ANSWERING: u64 = 10_000;
-
 /// How many milliseconds lie between two looks whether answers have come.
 const LOOKING: u64 = 1;
 
 /// A node that was asked.
 #[derive(Drop)]
-struct Talk {
+struct Talk<'a> {
+    node: &'a Address,
     stream: TcpStream,
     since: Instant,
 }
 
 /// What a node said: how many milliseconds passed until then, and its answers, in the order of the
-/// questions; fewer than these where it fell silent.
+/// questions, fewer than these if it fell silent; or why there is no connection to it.
 #[derive(Drop)]
-pub(crate) struct Said {
+pub(crate) struct Said<'a> {
+    pub node: &'a Address,
     pub millis: u64,
     pub answers: Vec<NodeAnswer>,
+    pub fault: Option<io::Error>,
+}
+
+/// The first status by which what stands before a node says that the node gave no answer.
+const BAD_GATEWAY: u16 = 502;
+
+impl Said<'_> {
+    /// Whether something answered that may be a node.
+    pub(crate) fn is_answered(&self) -> bool {
+        match self.answers.first() {
+            Some(answer) => answer.status < BAD_GATEWAY,
+            None => false,
+        }
+    }
+
+    /// Why the node keeps this client out, if it does.
+    pub(crate) fn barred(&self) -> Option<Barred> {
+        self.node.barred(self.answers.first()?)
+    }
 }
 
 /// How far it is with a node.
 #[derive(Drop)]
-enum Call {
-    Waits(Talk),
-    Over(Said),
+enum Call<'a> {
+    Waits(Talk<'a>),
+    Over(Said<'a>),
 }
 
-/// What who is silent said.
-fn silence(alloc: Global) -> Said {
+/// What a node said that is silent, or that there is no connection to.
+fn silence(alloc: Global, node: &Address, fault: Option<io::Error>) -> Said<'_> {
     Said {
+        node,
         millis: 0,
         answers: Vec::new(alloc),
+        fault,
     }
 }
 
 /// Writes the questions over a connection, whose answers are waited for.
-fn begin_talk<R: Clock + AllocGlobal>(
+fn begin_talk<'a, R: Clock + AllocGlobal>(
     rt: &R,
     stream: TcpStream,
-    node: &Address,
+    node: &'a Address,
     questions: &[Question<'_>],
-) -> Result<Call, EditorFault> {
+) -> Result<Call<'a>, EditorFault> {
     let since = now(rt)?;
     write_questions(rt.alloc(), &stream, &node.authority, questions)?;
     if stream.set_nonblocking(true).is_err() {
-        return Ok(Call::Over(silence(rt.alloc())));
+        return Ok(Call::Over(silence(rt.alloc(), node, None)));
     }
-    Ok(Call::Waits(Talk { stream, since }))
+    Ok(Call::Waits(Talk {
+        node,
+        stream,
+        since,
+    }))
 }
 
 /// Asks a node, which may take so long for a connection.
-fn begin<R: Net<Stream = TcpStream> + Clock + AllocGlobal>(
+fn begin<'a, R: Net<Stream = TcpStream> + Clock + AllocGlobal>(
     rt: &R,
-    node: &Address,
+    node: &'a Address,
     within: Duration,
     questions: &[Question<'_>],
-) -> Result<Call, EditorFault> {
+) -> Result<Call<'a>, EditorFault> {
     match connect_within(rt, node.authority.host.as_str(), within) {
         Ok(stream) => begin_talk(rt, stream, node, questions),
         Err(fault) if fault.kind() == io::ErrorKind::OutOfMemory => Err(EditorFault::OutOfMemory),
-        Err(_) => Ok(Call::Over(silence(rt.alloc()))),
+        Err(fault) => Ok(Call::Over(silence(rt.alloc(), node, Some(fault)))),
     }
 }
 
 /// Asks each node, one after the other. None is waited for but for its connection.
-fn begin_all<R: Net<Stream = TcpStream> + Clock + AllocGlobal>(
+fn begin_all<'a, R: Net<Stream = TcpStream> + Clock + AllocGlobal>(
     rt: &R,
-    nodes: &[&Address],
+    nodes: &[&'a Address],
     questions: &[Question<'_>],
-) -> Result<Vec<Call>, EditorFault> {
+) -> Result<Vec<Call<'a>>, EditorFault>
+    ensures { IfOk result (λ calls. vec_len calls ≡ length nodes.now) }
+{
     let share = CONNECTING / (nodes.len() as u64).max(1);
     let mut calls = Vec::new(rt.alloc());
     for node in nodes {
@@ -107,13 +135,13 @@ fn set_waiting(stream: &TcpStream, millis: u64) -> io::Result<()> {
 }
 
 /// Reads what has come of a node; its other answers have so many milliseconds.
-fn read_talk<R: Clock + AllocGlobal>(
+fn read_talk<'a, R: Clock + AllocGlobal>(
     rt: &R,
-    talk: &Talk,
+    talk: &Talk<'a>,
     count: usize,
     left: u64,
-) -> Result<Said, EditorFault> {
-    let mut said = silence(rt.alloc());
+) -> Result<Said<'a>, EditorFault> {
+    let mut said = silence(rt.alloc(), talk.node, None);
     said.millis = passed(rt, talk.since)?;
     if set_waiting(&talk.stream, left).is_ok() {
         read_answers(rt.alloc(), &talk.stream, count, &mut said.answers)?;
@@ -122,29 +150,31 @@ fn read_talk<R: Clock + AllocGlobal>(
 }
 
 /// What a node has said since it was looked at, if it has.
-fn news_of<R: Clock + AllocGlobal>(
+fn news_of<'a, R: Clock + AllocGlobal>(
     rt: &R,
-    call: &Call,
+    call: &Call<'a>,
     count: usize,
     left: u64,
-) -> Result<Option<Said>, EditorFault> {
+) -> Result<Option<Said<'a>>, EditorFault> {
     match call {
         Call::Waits(talk) if has_come(&talk.stream) => Ok(Some(read_talk(rt, talk, count, left)?)),
         _ => Ok(None),
     }
 }
 
-fn waits(call: &Call) -> bool {
+fn waits(call: &Call<'_>) -> bool {
     matches!(call, Call::Waits(_))
 }
 
 /// Looks at each node that is waited for. Whether some still are is the answer.
 fn look<R: Clock + AllocGlobal>(
     rt: &R,
-    calls: &mut [Call],
+    calls: &mut [Call<'_>],
     count: usize,
     left: u64,
-) -> Result<bool, EditorFault> {
+) -> Result<bool, EditorFault>
+    ensures { length calls.new ≡ length calls.old }
+{
     for call in calls.iter_mut() {
         if let Some(said) = news_of(rt, call, count, left)? {
             *call = Call::Over(said);
@@ -153,15 +183,18 @@ fn look<R: Clock + AllocGlobal>(
     Ok(calls.iter().any(waits))
 }
 
-/// Looks at the nodes until each has answered, or the time for that is over.
+/// Looks at the nodes until each has answered, or so many milliseconds have passed.
 fn wait_for_all<R: Clock + AllocGlobal>(
     rt: &R,
-    calls: &mut [Call],
+    calls: &mut [Call<'_>],
     count: usize,
-) -> Result<(), EditorFault> {
+    within: u64,
+) -> Result<(), EditorFault>
+    ensures { length calls.new ≡ length calls.old }
+{
     let since = now(rt)?;
     for _ in 0..u64::MAX {
-        let left = ANSWERING.saturating_sub(passed(rt, since)?);
+        let left = within.saturating_sub(passed(rt, since)?);
         if left == 0 || !look(rt, calls, count, left)? {
             break;
         }
@@ -171,24 +204,29 @@ fn wait_for_all<R: Clock + AllocGlobal>(
 }
 
 /// What each node has said; one that is still waited for is silent.
-fn said_in(alloc: Global, calls: Vec<Call>) -> Result<Vec<Said>, AllocError> {
+fn said_in(alloc: Global, calls: Vec<Call<'_>>) -> Result<Vec<Said<'_>>, AllocError>
+    ensures { IfOk result (λ all. vec_len all ≡ vec_len calls.entry) }
+{
     let mut all = Vec::with_capacity(alloc, calls.len())?;
     for call in calls {
         match call {
             Call::Over(said) => all.push(said)?,
-            Call::Waits(_) => all.push(silence(alloc))?,
+            Call::Waits(talk) => all.push(silence(alloc, talk.node, None))?,
         }
     }
     Ok(all)
 }
 
-/// Asks several nodes at once, and reads what each says, in their order.
-pub(crate) fn ask_each<R: Net<Stream = TcpStream> + Clock + AllocGlobal>(
+/// Asks several nodes at once, and reads what each says within so many milliseconds, in their order.
+pub(crate) fn ask_each<'a, R: Net<Stream = TcpStream> + Clock + AllocGlobal>(
     rt: &R,
-    nodes: &[&Address],
+    nodes: &[&'a Address],
     questions: &[Question<'_>],
-) -> Result<Vec<Said>, EditorFault> {
+    within: u64,
+) -> Result<Vec<Said<'a>>, EditorFault>
+    ensures { IfOk result (λ all. vec_len all ≡ length nodes.now) }
+{
     let mut calls = begin_all(rt, nodes, questions)?;
-    wait_for_all(rt, calls.as_mut_slice(), questions.len())?;
+    wait_for_all(rt, calls.as_mut_slice(), questions.len(), within)?;
     Ok(said_in(rt.alloc(), calls)?)
 }

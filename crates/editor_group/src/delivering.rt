@@ -145,7 +145,9 @@ fn bring<N: Net<Stream = TcpStream>>(
 }
 
 /// Speaks to the next node, which has taken nothing. Once each was spoken to it rests.
-fn turn<C: Clock>(clock: &C, alloc: Global, flight: &mut Flight, group: &mut Group) {
+fn turn<C: Clock>(clock: &C, alloc: Global, flight: &mut Flight, group: &mut Group)
+    ensures { group.new.nodes ≡ group.old.nodes }
+{
     *flight = Flight::new(alloc);
     if group.next() {
         rest(clock, LONGEST_REST);
@@ -171,6 +173,7 @@ fn deliver_at<R: Net<Stream = TcpStream> + Clock + AllocGlobal, E: Write>(
 ) -> Result<(), EditorFault>
     ensures idle { OnOk result (is_idle saved.new.ledger.now ≡ true) }
     ensures hears { HearsAnswers saved.old.ledger.now saved.new.ledger.now }
+    ensures nodes { group.new.nodes ≡ group.old.nodes }
 {
     let mut progress = Progress::new(saved.ledger().sent().len());
     let mut clock = DeliveryClock::new();
@@ -181,7 +184,7 @@ fn deliver_at<R: Net<Stream = TcpStream> + Clock + AllocGlobal, E: Write>(
         let came = bring(rt, rt.alloc(), flight, group, saved)?;
         let now = passed(rt, since)?;
         let left = saved.ledger().sent().len();
-        tell_progress(rt, rt.alloc(), err, group, &mut progress, now, left, came)?;
+        tell_progress(rt, err, group, &mut progress, now, left, came)?;
         match clock.step(came, now, patience) {
             Step::Again(millis) => rest(rt, millis),
             Step::Next => turn(rt, rt.alloc(), flight, group),
@@ -202,6 +205,7 @@ pub fn deliver<R: Net<Stream = TcpStream> + Clock + AllocGlobal, E: Write>(
 ) -> Result<(), EditorFault>
     ensures idle { OnOk result (is_idle saved.new.ledger.now ≡ true) }
     ensures hears { HearsAnswers saved.old.ledger.now saved.new.ledger.now }
+    ensures nodes { group.new.nodes ≡ group.old.nodes }
 {
     let mut flight = Flight::new(rt.alloc());
     let since = now(rt)?;

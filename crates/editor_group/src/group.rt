@@ -1,4 +1,8 @@
 //! The nodes that are asked, and the one that is spoken to.
+ghost use Rattle.std.specs.Prelude.{◌≡◌, ◌↔◌, ◌+◌, ◌++◌, ◌∷◌, [], nat_lt, if◌then◌else◌, length, unwrap_or, IfErr, IfOk, IsTrue, OnOk, None, Some, slice_get};
+ghost use Rattle.editor_group.specs.Addresses.{AreNamed, Names};
+ghost use Rattle.editor_group.specs.declared.address.Address.{Address as Node};
+
 use crate::address::{Address, address_in, no_address};
 use crate::stop::stop;
 use editor_common::EditorFault;
@@ -12,7 +16,10 @@ pub struct Group {
 }
 
 /// Adds the node of a URL.
-fn push_node(alloc: Global, nodes: &mut Vec<Address>, url: &str) -> Result<(), EditorFault> {
+fn push_node(alloc: Global, nodes: &mut Vec<Address>, url: &str) -> Result<(), EditorFault>
+    ensures { OnOk result ((node : Node) × Names url.now node
+        × (nodes.new.items ≡ nodes.old.items ++ node ∷ [])) }
+{
     match address_in(alloc, url)? {
         Some(node) => Ok(nodes.push(node)?),
         None => Err(stop(no_address(alloc, url))),
@@ -21,7 +28,10 @@ fn push_node(alloc: Global, nodes: &mut Vec<Address>, url: &str) -> Result<(), E
 
 impl Group {
     /// The nodes of these URLs, the first of which is spoken to.
-    pub fn of(alloc: Global, urls: &[&str]) -> Result<Group, EditorFault> {
+    pub fn of(alloc: Global, urls: &[&str]) -> Result<Group, EditorFault>
+        ensures named { IfOk result (λ group. AreNamed (λ url. url.now) urls.now group.nodes.items) }
+        ensures first { IfOk result (λ group. group.at ≡ 0) }
+    {
         let mut nodes = Vec::new(alloc);
         for url in urls {
             push_node(alloc, &mut nodes, url)?;
@@ -29,12 +39,18 @@ impl Group {
         Ok(Group { nodes, at: 0 })
     }
 
-    pub fn nodes(&self) -> &[Address] {
+    pub fn nodes(&self) -> &[Address]
+        ensures { result.now ≡ self.now.nodes.items }
+    {
         self.nodes.as_slice()
     }
 
     /// The node that is spoken to.
-    pub fn node(&self) -> Result<&Address, EditorFault> {
+    pub fn node(&self) -> Result<&Address, EditorFault>
+        ensures there { IfOk result (λ node. slice_get self.now.nodes.items self.now.at ≡ Some node.now) }
+        ensures none { IfErr result (λ why. (why ≡ EditorFault.NoNodes)
+            × (slice_get self.now.nodes.items self.now.at ≡ None)) }
+    {
         match self.nodes.get(self.at) {
             Some(node) => Ok(node),
             None => Err(EditorFault::NoNodes),
@@ -43,12 +59,19 @@ impl Group {
 
     /// Speaks to the node of that place from now on, counted from 0; to the one as before where none is
     /// named.
-    pub(crate) fn speak_to(&mut self, place: Option<usize>) {
+    pub(crate) fn speak_to(&mut self, place: Option<usize>)
+        ensures { self.new ≡ record self.old { at = unwrap_or place self.old.at } }
+    {
         self.at = place.unwrap_or(self.at);
     }
 
     /// Speaks to the next node: whether each was spoken to since the first.
-    pub(crate) fn next(&mut self) -> bool {
+    pub(crate) fn next(&mut self) -> bool
+        ensures turns { self.new ≡ record self.old {
+          at = (if nat_lt (self.old.at + 1) (length self.old.nodes.items) then self.old.at + 1 else 0);
+        } }
+        ensures first { IsTrue result ↔ (self.new.at ≡ 0) }
+    {
         let next = self.at.saturating_add(1);
         self.at = if next < self.nodes.len() { next } else { 0 };
         self.at == 0

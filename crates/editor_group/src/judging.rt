@@ -1,12 +1,20 @@
 //! Whether a ledger is the newest of its editor, as the group says.
+ghost use Rattle.std.specs.Prelude.{◌≡◌, ◌∷◌, [], length, vec_len, IfOk, OnOk};
+ghost use Rattle.editor_plan.specs.Standings.{last_shown as shown_last, last_ticket as ticket_last};
+ghost use Rattle.editor_group.specs.Confirming.{IsConfirmed, Stands};
+
 use crate::address::Address;
-use crate::asking::{ask, number_in, unreached};
+use crate::asking::number_in;
+use crate::asking_all::{Said, ask_each};
 use crate::group::Group;
 use crate::stop::stop;
 use editor_common::{EditorFault, now, passed, rest, say, say_made};
-use editor_http::{Barred, NodeAnswer, Question};
+use editor_http::{NodeAnswer, Question};
 use editor_ledger::Ledger;
-use editor_plan::{Standing, Told, Witness, last_shown, last_ticket, standing_of, told_by};
+use editor_plan::{
+    FIRST_ANSWERS, Standing, Told, Witness, answers_within, last_shown, last_ticket, standing_of,
+    told_by,
+};
 use site_ids::Ticket;
 use std::alloc::{AllocError, Global};
 use std::io::Write;
@@ -27,7 +35,14 @@ struct Claim {
     shown: u64,
 }
 
-fn claim_of(ledger: &Ledger) -> Claim {
+fn claim_of(ledger: &Ledger) -> Claim
+    ensures { result ≡ record {
+      editor = ledger.now.editor;
+      last = ticket_last ledger.now;
+      next = ledger.now.next;
+      shown = shown_last ledger.now;
+    } }
+{
     Claim {
         editor: ledger.editor(),
         last: last_ticket(ledger),
@@ -47,20 +62,15 @@ fn told(answer: Option<&NodeAnswer>) -> Told {
     told_by(answer.map(|answer| answer.status))
 }
 
-/// What a node says of two tickets, and which release it shows.
-fn witness<N: Net<Stream = TcpStream>>(
-    net: &N,
-    alloc: Global,
-    node: &Address,
-    claim: Claim,
-) -> Result<Witness, AllocError> {
+/// What is asked of each node: the receipts of two tickets, and its newest release.
+fn questions_of<'a>(claim: Claim) -> [Question<'a>; 3] {
     let Claim {
         editor,
         last,
         next,
         ..
     } = claim;
-    let questions = [
+    [
         Question::Receipt(Ticket {
             editor,
             number: next,
@@ -70,29 +80,29 @@ fn witness<N: Net<Stream = TcpStream>>(
             number: last,
         }),
         Question::Newest,
-    ];
-    let answers = ask(net, alloc, node, &questions)?;
-    let newest = answers.get(2).and_then(number_in);
-    Ok(match newest {
+    ]
+}
+
+/// What a node's answers say of two tickets, and which release it shows.
+fn witness_in(said: &Said<'_>) -> Witness {
+    let newest = said.answers.get(2).and_then(number_in);
+    match newest {
         Some(_) => Witness {
-            next: told(answers.get(0)),
-            last: told(answers.get(1)),
+            next: told(said.answers.get(0)),
+            last: told(said.answers.get(1)),
             newest,
         },
         None => SILENT,
-    })
+    }
 }
 
-/// What each node says now of a ledger's last ticket and its next one, and shows.
-fn witnesses_now<N: Net<Stream = TcpStream>>(
-    net: &N,
-    alloc: Global,
-    group: &Group,
-    claim: Claim,
-) -> Result<Vec<Witness>, AllocError> {
+/// What each node says.
+fn witnesses_in(alloc: Global, all: &[Said<'_>]) -> Result<Vec<Witness>, AllocError>
+    ensures { IfOk result (λ found. vec_len found ≡ length all.now) }
+{
     let mut witnesses = Vec::new(alloc);
-    for node in group.nodes() {
-        witnesses.push(witness(net, alloc, node, claim)?)?;
+    for said in all {
+        witnesses.push(witness_in(said))?;
     }
     Ok(witnesses)
 }
@@ -101,21 +111,6 @@ fn witnesses_now<N: Net<Stream = TcpStream>>(
 fn confirming(claim: Claim, witnesses: &[Witness]) -> Option<usize> {
     witnesses.iter().position(|witness| standing_of(claim.last, claim.shown, &[*witness])
         == Standing::Newest)
-}
-
-/// Asks all nodes, and speaks to the first that confirms a ledger, if one does.
-fn ask_group<N: Net<Stream = TcpStream>>(
-    net: &N,
-    alloc: Global,
-    group: &mut Group,
-    claim: Claim,
-) -> Result<Standing, AllocError> {
-    let witnesses = witnesses_now(net, alloc, group, claim)?;
-    let found = standing_of(claim.last, claim.shown, &witnesses);
-    if found == Standing::Newest {
-        group.speak_to(confirming(claim, &witnesses));
-    }
-    Ok(found)
 }
 
 /// Why a ledger is refused that is none of the newest.
@@ -134,12 +129,12 @@ fn reason(
     match found {
         Standing::Older => {
             format!(in alloc;
-                "{folder}/published: is older than what the group has of editor {editor}: ticket {next} was given. Another copy of this folder has published, or this file went back.\nTake the newest copy of the file and publish again. Or move it away (log, restore and publish --release need it), and publish with --take-over: what the folder has no more is then to be listed in its file removes"
+                "{folder}/published: is older than what the group has of editor {editor}, whose command {next} is in the log already. Another copy of this folder has published, or this file went back.\nTake the newest copy of the file and publish again. Or move it away (log, restore and publish --release need it), and publish with --take-over: what the folder has no more is then to be listed in its file removes"
             )
         }
         Standing::Elsewhere => {
             format!(in alloc;
-                "{folder}/published: no node that answers knows ticket {last} of editor {editor}, so nothing was sent. Nodes that were down need a majority to learn what they had: see that one runs, and publish again. Where this is another group, move the file away (log, restore and publish --release need it), and publish with --take-over"
+                "{folder}/published: no node that answers has command {last} of editor {editor}, so nothing was sent. Nodes that were down need a majority to learn what they had: see that one runs, and publish again. Where this is another group, move the file away (log, restore and publish --release need it), and publish with --take-over"
             )
         }
         Standing::Returning => {
@@ -153,61 +148,29 @@ fn reason(
     }
 }
 
-/// What anything answers at an address, be it what a node says or not.
-fn answer_at<N: Net<Stream = TcpStream>>(
-    net: &N,
-    alloc: Global,
-    node: &Address,
-) -> Result<Option<NodeAnswer>, AllocError> {
-    Ok(ask(net, alloc, node, &[Question::Newest])?.pop())
-}
-
-/// Why a node is silent that can be connected to, and may have answered something.
-fn why_silent(
-    alloc: Global,
-    url: &str,
-    answered: bool,
-    barred: Option<Barred>,
-) -> Result<String, AllocError> {
-    match (answered, barred) {
-        (_, Some(why)) => format!(in alloc; "{url}: {why}"),
-        (true, None) => format!(in alloc; "{url}: answers, but is no node of Deskrauf"),
-        (false, None) => format!(in alloc; "{url}: does not answer, or is too busy"),
+/// Why a node tells nothing that can be used.
+fn why_silent(alloc: Global, said: &Said<'_>) -> Result<String, AllocError> {
+    let url = said.node.url.as_str();
+    match (&said.fault, said.barred()) {
+        (Some(fault), _) => format!(in alloc; "{url}: {fault}"),
+        (None, Some(why)) => format!(in alloc; "{url}: {why}"),
+        (None, None) if said.is_answered() => {
+            format!(in alloc; "{url}: answers, but is no node of Deskrauf")
+        }
+        (None, None) => format!(in alloc; "{url}: does not answer, or is too busy"),
     }
 }
 
-/// Tells why a node is silent. Whether this client is kept out there is the answer.
-fn tell_silent<N: Net<Stream = TcpStream>, E: Write>(
-    net: &N,
+/// Tells why no node answers. If one keeps this client out nothing is waited for.
+fn tell_unanswered<E: Write>(
     alloc: Global,
     err: &mut E,
-    node: &Address,
-) -> Result<bool, EditorFault> {
-    let url = node.url.as_str();
-    if let Some(fault) = unreached(net, node) {
-        say_made(err, format!(in alloc; "{url}: {fault}"))?;
-        return Ok(false);
-    }
-    let answer = answer_at(net, alloc, node)?;
-    let barred = answer.as_ref().and_then(|answer| node.barred(answer));
-    say_made(err, why_silent(alloc, url, answer.is_some(), barred))?;
-    Ok(barred.is_some())
-}
-
-/// Tells why none of the nodes answers, where none does. One that keeps this client out is not waited for.
-fn tell_unanswered<N: Net<Stream = TcpStream>, E: Write>(
-    net: &N,
-    alloc: Global,
-    err: &mut E,
-    nodes: &[Address],
-    found: Standing,
+    all: &[Said<'_>],
 ) -> Result<(), EditorFault> {
-    if found != Standing::Unanswered {
-        return Ok(());
-    }
     let mut barred = false;
-    for node in nodes {
-        barred = tell_silent(net, alloc, err, node)? || barred;
+    for said in all {
+        say_made(err, why_silent(alloc, said))?;
+        barred |= said.barred().is_some();
     }
     if barred {
         return Err(stop(String::from_str(alloc, "nothing was sent")));
@@ -215,11 +178,77 @@ fn tell_unanswered<N: Net<Stream = TcpStream>, E: Write>(
     Ok(())
 }
 
+/// Tells which nodes were waited for in vain, if some were.
+fn tell_waited<E: Write>(alloc: Global, err: &mut E, all: &[Said<'_>]) -> Result<(), EditorFault> {
+    let mut silent = String::new(alloc);
+    for said in all {
+        if said.fault.is_none() && said.answers.is_empty() {
+            silent.push(' ')?;
+            silent.push_str(said.node.url.as_str())?;
+        }
+    }
+    if silent.is_empty() {
+        return Ok(());
+    }
+    let seconds = FIRST_ANSWERS / 1000;
+    say_made(
+        err,
+        format!(in alloc; "no answer for {seconds} seconds from{silent}"),
+    )
+}
+
+/// Tells what kept the first questions from being answered.
+fn tell_first<E: Write>(
+    alloc: Global,
+    err: &mut E,
+    all: &[Said<'_>],
+    found: Standing,
+) -> Result<(), EditorFault> {
+    if found == Standing::Unanswered {
+        tell_unanswered(alloc, err, all)
+    } else {
+        tell_waited(alloc, err, all)
+    }
+}
+
+/// How a ledger stands to a group, and the place of the first node that confirms it, if it is the newest.
+#[derive(Clone, Copy)]
+struct Found {
+    standing: Standing,
+    first: Option<usize>,
+}
+
+/// Asks all nodes at once, which were asked so many times before, and tells the first time what keeps some
+/// from answering.
+fn ask_group<R: Net<Stream = TcpStream> + Clock + AllocGlobal, E: Write>(
+    rt: &R,
+    err: &mut E,
+    group: &Group,
+    claim: Claim,
+    times: u64,
+) -> Result<Found, EditorFault>
+    ensures { IfOk result (λ found.
+        Stands (length group.now.nodes.items) claim.last claim.shown found.standing) }
+{
+    let alloc = rt.alloc();
+    let nodes: Vec<&Address> = group.nodes().iter().collect(alloc)?;
+    let all = ask_each(rt, &nodes, &questions_of(claim), answers_within(times))?;
+    let witnesses = witnesses_in(alloc, &all)?;
+    let standing = standing_of(claim.last, claim.shown, &witnesses);
+    if times == 0 {
+        tell_first(alloc, err, &all, standing)?;
+    }
+    Ok(Found {
+        standing,
+        first: confirming(claim, &witnesses),
+    })
+}
+
 /// What is told while it waits for a standing to change.
 fn waiting(found: Standing) -> &'static str {
     match found {
         Standing::Returning => "the group is still coming back: waiting",
-        Standing::Elsewhere => "no node knows the last ticket yet: waiting",
+        Standing::Elsewhere => "no node has the last command of this folder yet: waiting",
         _ => "no node answers: waiting",
     }
 }
@@ -245,18 +274,19 @@ fn settled<R: Net<Stream = TcpStream> + Clock + AllocGlobal, E: Write>(
     group: &mut Group,
     claim: Claim,
     patience: u64,
-) -> Result<Standing, EditorFault> {
+) -> Result<Standing, EditorFault>
+    ensures stands { IfOk result (Stands (length group.old.nodes.items) claim.last claim.shown) }
+    ensures nodes { group.new.nodes ≡ group.old.nodes }
+{
     let since = now(rt)?;
-    for tries in 0..u64::MAX {
-        let found = ask_group(rt, rt.alloc(), group, claim)?;
-        if tries == 0 {
-            tell_unanswered(rt, rt.alloc(), err, group.nodes(), found)?;
+    for times in 0..u64::MAX {
+        let Found { standing, first } = ask_group(rt, err, group, claim, times)?;
+        if is_final(rt, since, patience, standing)? {
+            group.speak_to(first);
+            return Ok(standing);
         }
-        if is_final(rt, since, patience, found)? {
-            return Ok(found);
-        }
-        if tries == 0 {
-            say(err, waiting(found))?;
+        if times == 0 {
+            say(err, waiting(standing))?;
         }
         rest(rt, AGAIN);
     }
@@ -272,7 +302,10 @@ pub fn confirm<R: Net<Stream = TcpStream> + Clock + AllocGlobal, E: Write>(
     group: &mut Group,
     ledger: &Ledger,
     patience: u64,
-) -> Result<(), EditorFault> {
+) -> Result<(), EditorFault>
+    ensures confirmed { OnOk result (IsConfirmed (length group.old.nodes.items) ledger.now) }
+    ensures nodes { group.new.nodes ≡ group.old.nodes }
+{
     let claim = claim_of(ledger);
     match settled(rt, err, group, claim, patience)? {
         Standing::Newest => Ok(()),

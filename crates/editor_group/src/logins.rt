@@ -3,6 +3,8 @@
 //! A line is the address of a node with its login, as a command line has it too, and as `git
 //! credential-store` keeps them. Empty lines and those that begin with `#` are passed over. No message has a
 //! line's text.
+ghost use Rattle.std.specs.Prelude.{◌≡◌, map, length, vec_len, IfOk, None, string_bytes};
+
 use crate::address::{Address, address_in};
 use crate::stop::stop;
 use editor_common::EditorFault;
@@ -72,14 +74,24 @@ fn url_by(alloc: Global, url: &str, lines: &[LoginLine<'_>]) -> Result<String, A
 }
 
 /// The URLs with the logins that these lines have.
-fn urls_by(
-    alloc: Global,
-    urls: &[&str],
-    lines: &[LoginLine<'_>],
-) -> Result<Vec<String>, AllocError> {
+fn urls_by(alloc: Global, urls: &[&str], lines: &[LoginLine<'_>]) -> Result<Vec<String>, AllocError>
+    ensures { IfOk result (λ found. vec_len found ≡ length urls.now) }
+{
     let mut found = Vec::new(alloc);
     for url in urls {
         found.push(url_by(alloc, url, lines)?)?;
+    }
+    Ok(found)
+}
+
+/// The URLs as they are.
+fn urls_given(alloc: Global, urls: &[&str]) -> Result<Vec<String>, AllocError>
+    ensures as_many { IfOk result (λ found. vec_len found ≡ length urls.now) }
+    ensures same { IfOk result (λ found. map string_bytes found.items ≡ map (λ url. url.now) urls.now) }
+{
+    let mut found = Vec::new(alloc);
+    for url in urls {
+        found.push(String::from_str(alloc, url)?)?;
     }
     Ok(found)
 }
@@ -89,10 +101,14 @@ pub fn with_logins<R: Files + AllocGlobal>(
     rt: &R,
     urls: &[&str],
     file: Option<&str>,
-) -> Result<Vec<String>, EditorFault> {
+) -> Result<Vec<String>, EditorFault>
+    ensures as_many { IfOk result (λ found. length found.items ≡ length urls.now) }
+    ensures same { IfOk result (λ found. file.entry ≡ None
+        → map string_bytes found.items ≡ map (λ url. url.now) urls.now) }
+{
     let alloc = rt.alloc();
     let Some(file) = file else {
-        return Ok(urls_by(alloc, urls, &[])?);
+        return Ok(urls_given(alloc, urls)?);
     };
     let text = read_secret(rt, file)?;
     let lines = login_lines(alloc, file, text.as_str())?;

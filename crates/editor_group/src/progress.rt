@@ -1,53 +1,39 @@
 //! What is told while commands are on their way; when it is told, `editor_plan` says.
-use crate::asking::newest;
+use crate::answering::silent_nodes;
 use crate::group::Group;
 use editor_common::{EditorFault, say_made};
 use editor_plan::{Came, Progress};
-use std::alloc::{AllocError, Global};
 use std::io::Write;
 use std::net::{Net, TcpStream};
+use std::rt::Clock;
 
-/// The nodes that do not answer, each after a blank.
-fn silent_nodes<N: Net<Stream = TcpStream>>(
-    net: &N,
-    alloc: Global,
-    group: &Group,
-) -> Result<String, AllocError> {
-    let mut silent = String::new(alloc);
-    for node in group.nodes() {
-        if newest(net, alloc, node)?.is_none() {
-            silent.push(' ')?;
-            silent.push_str(node.url.as_str())?;
-        }
-    }
-    Ok(silent)
-}
+/// How many milliseconds nodes have to answer, so that those are named which do not.
+const NAMING: u64 = 1_000;
 
-/// Tells that no receipt comes, and which nodes do not answer.
-fn tell_silence<N: Net<Stream = TcpStream>, E: Write>(
-    net: &N,
-    alloc: Global,
+/// Tells that no command comes into the log, and which nodes do not answer.
+fn tell_silence<R: Net<Stream = TcpStream> + Clock + AllocGlobal, E: Write>(
+    rt: &R,
     err: &mut E,
     group: &Group,
 ) -> Result<(), EditorFault> {
-    let silent = silent_nodes(net, alloc, group)?;
+    let alloc = rt.alloc();
+    let silent = silent_nodes(rt, group, NAMING)?;
     let line = if silent.is_empty() {
         format!(in alloc;
-            "no receipt for 2 seconds, though each node that is named answers: waiting for a majority"
+            "no command came into the log for 2 seconds, though each node that is named answers: waiting for a majority"
         )
     } else {
         format!(in alloc;
-            "no receipt for 2 seconds: waiting for a majority; no answer from{silent}"
+            "no command came into the log for 2 seconds: waiting for a majority; no answer from{silent}"
         )
     };
     say_made(err, line)
 }
 
-/// Tells how far a delivery is, where that is to be told now: so many commands are left, and the last exchange came
-/// to that.
-pub(crate) fn tell_progress<N: Net<Stream = TcpStream>, E: Write>(
-    net: &N,
-    alloc: Global,
+/// Tells how far a delivery is, if that is to be told now: so many commands are left, and the last exchange
+/// came to that.
+pub(crate) fn tell_progress<R: Net<Stream = TcpStream> + Clock + AllocGlobal, E: Write>(
+    rt: &R,
     err: &mut E,
     group: &Group,
     progress: &mut Progress,
@@ -57,10 +43,10 @@ pub(crate) fn tell_progress<N: Net<Stream = TcpStream>, E: Write>(
 ) -> Result<(), EditorFault> {
     if let Some(has) = progress.count(now, left) {
         let all = progress.all();
-        say_made(err, format!(in alloc; "{has} of {all} commands"))?;
+        say_made(err, format!(in rt.alloc(); "{has} of {all} commands"))?;
     }
     if progress.falls_silent(now, came) {
-        tell_silence(net, alloc, err, group)?;
+        tell_silence(rt, err, group)?;
     }
     Ok(())
 }

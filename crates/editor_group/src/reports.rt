@@ -1,5 +1,5 @@
 //! What nodes say of themselves, all asked at once.
-ghost use Rattle.std.specs.Prelude.{◌≡◌, None};
+ghost use Rattle.std.specs.Prelude.{◌≡◌, length, vec_len, IfOk, None};
 ghost use Rattle.editor_plan.specs.Standings.{last_shown};
 ghost use Rattle.editor_group.specs.Published.{ticket_of};
 
@@ -9,7 +9,7 @@ use crate::asking_all::{Said, ask_each};
 use editor_common::EditorFault;
 use editor_http::{Barred, NodeAnswer, Question};
 use editor_ledger::Ledger;
-use editor_plan::{last_shown, last_ticket};
+use editor_plan::{LATER_ANSWERS, last_shown, last_ticket};
 use site_ids::Ticket;
 use std::alloc::{AllocError, Global};
 use std::net::{Net, TcpStream};
@@ -56,7 +56,8 @@ impl Published {
 /// its newest release, if it told one, the instance of a folder's last ticket, if it told that; and its start
 /// page in the newest release that all have.
 #[derive(Drop)]
-pub(crate) struct Report {
+pub(crate) struct Report<'a> {
+    pub node: &'a Address,
     pub millis: u64,
     pub answered: bool,
     pub barred: Option<Barred>,
@@ -72,16 +73,14 @@ pub(crate) struct Range {
     pub last: u64,
 }
 
-/// The first status by which what stands before a node says that the node gave no answer.
-const BAD_GATEWAY: u16 = 502;
-
 /// What a node's answers report.
-fn report_in(node: &Address, said: &Said) -> Report {
+fn report_in<'a>(said: &Said<'a>) -> Report<'a> {
     let first = said.answers.first();
     Report {
+        node: said.node,
         millis: said.millis,
-        answered: first.is_some_and(|answer| answer.status < BAD_GATEWAY),
-        barred: first.and_then(|answer| node.barred(answer)),
+        answered: said.is_answered(),
+        barred: said.barred(),
         newest: first.and_then(number_in),
         instance: said.answers.get(1).and_then(number_in),
         page: None,
@@ -99,22 +98,24 @@ fn questions_of<'a>(alloc: Global, published: Published) -> Result<Vec<Question<
 }
 
 /// Asks each node what it says of itself and of a folder.
-fn first_reports<R: Net<Stream = TcpStream> + Clock + AllocGlobal>(
+fn first_reports<'a, R: Net<Stream = TcpStream> + Clock + AllocGlobal>(
     rt: &R,
-    nodes: &[Address],
+    nodes: &'a [Address],
     published: Published,
-) -> Result<Vec<Report>, EditorFault> {
+) -> Result<Vec<Report<'a>>, EditorFault>
+    ensures { IfOk result (λ reports. vec_len reports ≡ length nodes.now) }
+{
     let questions = questions_of(rt.alloc(), published)?;
     let asked: Vec<&Address> = nodes.iter().collect(rt.alloc())?;
-    let all = ask_each(rt, &asked, &questions)?;
+    let all = ask_each(rt, &asked, &questions, LATER_ANSWERS)?;
     let mut reports = Vec::new(rt.alloc());
-    for (node, said) in nodes.iter().zip(all.iter()) {
-        reports.push(report_in(node, said))?;
+    for said in &all {
+        reports.push(report_in(said))?;
     }
     Ok(reports)
 }
 
-pub(crate) fn range_of(reports: &[Report]) -> Range {
+pub(crate) fn range_of(reports: &[Report<'_>]) -> Range {
     let common = reports.iter().filter_map(|report| report.newest).min();
     let last = reports.iter().filter_map(|report| report.newest).max();
     Range {
@@ -126,13 +127,12 @@ pub(crate) fn range_of(reports: &[Report]) -> Range {
 /// The nodes that told their newest release.
 fn those_that_answer<'a>(
     alloc: Global,
-    nodes: &'a [Address],
-    reports: &[Report],
+    reports: &[Report<'a>],
 ) -> Result<Vec<&'a Address>, AllocError> {
     let mut answering = Vec::new(alloc);
-    for (node, report) in nodes.iter().zip(reports.iter()) {
+    for report in reports {
         if report.newest.is_some() {
-            answering.push(node)?;
+            answering.push(report.node)?;
         }
     }
     Ok(answering)
@@ -141,12 +141,14 @@ fn those_that_answer<'a>(
 /// Asks each node that answered for its start page of a release.
 fn ask_pages<R: Net<Stream = TcpStream> + Clock + AllocGlobal>(
     rt: &R,
-    nodes: &[Address],
-    reports: &mut [Report],
+    reports: &mut [Report<'_>],
     release: u64,
-) -> Result<(), EditorFault> {
-    let answering = those_that_answer(rt.alloc(), nodes, reports)?;
-    let mut all = ask_each(rt, &answering, &[Question::Page(release, "/")])?.into_iter();
+) -> Result<(), EditorFault>
+    ensures { length reports.new ≡ length reports.old }
+{
+    let answering = those_that_answer(rt.alloc(), reports)?;
+    let question = [Question::Page(release, "/")];
+    let mut all = ask_each(rt, &answering, &question, LATER_ANSWERS)?.into_iter();
     for report in reports.iter_mut() {
         if report.newest.is_some() {
             report.page = all.next().and_then(|said| said.answers.into_iter().next());
@@ -156,15 +158,17 @@ fn ask_pages<R: Net<Stream = TcpStream> + Clock + AllocGlobal>(
 }
 
 /// What each node says of itself and of a folder.
-pub(crate) fn reports_of<R: Net<Stream = TcpStream> + Clock + AllocGlobal>(
+pub(crate) fn reports_of<'a, R: Net<Stream = TcpStream> + Clock + AllocGlobal>(
     rt: &R,
-    nodes: &[Address],
+    nodes: &'a [Address],
     published: Published,
-) -> Result<Vec<Report>, EditorFault> {
+) -> Result<Vec<Report<'a>>, EditorFault>
+    ensures { IfOk result (λ reports. vec_len reports ≡ length nodes.now) }
+{
     let mut reports = first_reports(rt, nodes, published)?;
     let common = range_of(&reports).common;
     if common > 0 {
-        ask_pages(rt, nodes, reports.as_mut_slice(), common)?;
+        ask_pages(rt, reports.as_mut_slice(), common)?;
     }
     Ok(reports)
 }

@@ -1,10 +1,14 @@
 //! What each node of a group says of itself, told.
-use crate::address::Address;
+ghost use Rattle.std.specs.Prelude.{◌≡◌, ◌==◌, ◌&&◌, nat_le, if◌then◌else◌, length, IfOk, OnOk, Some, None};
+ghost use Rattle.serde_json.specs.View.{view};
+ghost use Rattle.editor_common.specs.Outcomes.{kept};
+ghost use Rattle.editor_group.specs.Statuses.{is_well, EndsStatus, IsNode, TellsCommands, TellsNodes};
+
 use crate::group::Group;
 use crate::reports::{Published, Range, Report, range_of, reports_of};
 use editor_common::{EditorFault, Outcome, say_made};
 use editor_http::NodeAnswer;
-use serde_json::{Value, json};
+use serde_json::{Map, Value, put};
 use site_ids::MAX_INSTANCE;
 use std::alloc::{AllocError, Global};
 use std::io::Write;
@@ -20,16 +24,31 @@ fn are_same(page: Option<&NodeAnswer>, other: Option<&NodeAnswer>) -> bool {
 
 /// Whether a node's start page is that of the others; nothing where none of them has a release, or it tells
 /// none.
-fn same_page(report: &Report, first: Option<&NodeAnswer>, range: Range) -> Option<bool> {
+fn same_page(report: &Report<'_>, first: Option<&NodeAnswer>, range: Range) -> Option<bool> {
     if range.common == 0 || report.newest.is_none() {
         return None;
     }
     Some(are_same(report.page.as_ref(), first))
 }
 
+/// What of a node says whether all is well with it: its newest release, and whether its start page is that of
+/// the others.
+#[derive(Clone, Copy)]
+struct Row {
+    newest: Option<u64>,
+    same: Option<bool>,
+}
+
+fn row_of(report: &Report<'_>, first: Option<&NodeAnswer>, range: Range) -> Row {
+    Row {
+        newest: report.newest,
+        same: same_page(report, first, range),
+    }
+}
+
 /// How one is called that does not tell its newest release: what keeps this client out, another server, or
 /// a node that is silent.
-fn silence_of(report: &Report) -> &'static str {
+fn silence_of(report: &Report<'_>) -> &'static str {
     match (report.barred, report.answered) {
         (Some(_), _) => "barred",
         (None, true) => "no node",
@@ -38,8 +57,13 @@ fn silence_of(report: &Report) -> &'static str {
 }
 
 /// Whether all is well with a node: it shows the newest release, and the same page as the others.
-fn is_well(report: &Report, first: Option<&NodeAnswer>, range: Range) -> bool {
-    report.newest == Some(range.last) && same_page(report, first, range).unwrap_or(true)
+fn is_well(row: Row, last: u64) -> bool
+    ensures { result ≡ is_well last row }
+{
+    match row.newest {
+        Some(newest) => newest == last && row.same.unwrap_or(true),
+        None => false,
+    }
 }
 
 /// Writes what a node said, in columns.
@@ -67,16 +91,13 @@ fn tell_answer<W: Write>(
 fn tell<W: Write>(
     alloc: Global,
     out: &mut W,
-    url: &str,
-    report: &Report,
-    first: Option<&NodeAnswer>,
+    report: &Report<'_>,
+    row: Row,
     range: Range,
 ) -> Result<(), EditorFault> {
-    match report.newest {
-        Some(newest) => {
-            let same = same_page(report, first, range);
-            tell_answer(alloc, out, url, report.millis, newest, range, same)
-        }
+    let url = report.node.url.as_str();
+    match row.newest {
+        Some(newest) => tell_answer(alloc, out, url, report.millis, newest, range, row.same),
         None => {
             let why = silence_of(report);
             say_made(
@@ -88,26 +109,23 @@ fn tell<W: Write>(
 }
 
 /// A node as one JSON object.
-fn node_value(
-    alloc: Global,
-    url: &str,
-    report: &Report,
-    first: Option<&NodeAnswer>,
-    range: Range,
-) -> Result<Value, AllocError> {
-    let answers = match report.newest {
+fn node_value(alloc: Global, report: &Report<'_>, row: Row) -> Result<Value, AllocError>
+    ensures { IfOk result (λ value. IsNode row (view value)) }
+{
+    let answers = match row.newest {
         Some(_) => "yes",
         None => silence_of(report),
     };
-    let millis = report.newest.map(|_| report.millis);
-    let same = same_page(report, first, range);
-    json!(in alloc; {
-        "url": url,
-        "answers": answers,
-        "millis": millis,
-        "release": report.newest,
-        "same_page": same
-    })
+    let url = Value::try_from_str(alloc, report.node.url.as_str())?;
+    let answers = Value::try_from_str(alloc, answers)?;
+    let millis = Value::from(row.newest.map(|_| report.millis));
+    let mut members = Map::new(alloc);
+    put(&mut members, alloc, "url", url)?;
+    put(&mut members, alloc, "answers", answers)?;
+    put(&mut members, alloc, "millis", millis)?;
+    put(&mut members, alloc, "release", Value::from(row.newest))?;
+    put(&mut members, alloc, "same_page", Value::from(row.same))?;
+    Ok(Value::Object(members))
 }
 
 fn tell_head<W: Write>(alloc: Global, out: &mut W, common: u64) -> Result<(), EditorFault> {
@@ -122,33 +140,35 @@ fn tell_all<W: Write>(
     alloc: Global,
     out: &mut W,
     outcome: &mut Outcome,
-    nodes: &[Address],
-    reports: &[Report],
+    reports: &[Report<'_>],
     range: Range,
-) -> Result<bool, EditorFault> {
+) -> Result<bool, EditorFault>
+    ensures { IfOk result (λ well. TellsNodes (length reports.now) range.last well (kept outcome.new)) }
+{
     tell_head(alloc, out, range.common)?;
     let first = reports.iter().find_map(|report| report.page.as_ref());
     let mut values = Vec::new(alloc);
-    for (node, report) in nodes.iter().zip(reports.iter()) {
-        let url = node.url.as_str();
-        tell(alloc, out, url, report, first, range)?;
-        values.push(node_value(alloc, url, report, first, range)?)?;
+    let mut well = true;
+    for report in reports {
+        let row = row_of(report, first, range);
+        tell(alloc, out, report, row, range)?;
+        values.push(node_value(alloc, report, row)?)?;
+        well &= is_well(row, range.last);
     }
     outcome.put(alloc, "nodes", Value::Array(values))?;
     outcome.put(alloc, "release", Value::from(range.last))?;
-    Ok(reports.iter().all(|report| is_well(report, first, range)))
+    Ok(well)
 }
 
 /// Writes why nodes keep this client out, which do.
 fn tell_barred<W: Write>(
     alloc: Global,
     out: &mut W,
-    nodes: &[Address],
-    reports: &[Report],
+    reports: &[Report<'_>],
 ) -> Result<(), EditorFault> {
-    for (node, report) in nodes.iter().zip(reports.iter()) {
+    for report in reports {
         if let Some(why) = report.barred {
-            let url = node.url.as_str();
+            let url = report.node.url.as_str();
             say_made(out, format!(in alloc; "{url}: {why}"))?;
         }
     }
@@ -160,18 +180,20 @@ fn tell_commands<W: Write>(
     alloc: Global,
     out: &mut W,
     outcome: &mut Outcome,
-    reports: &[Report],
-) -> Result<(), EditorFault> {
+    reports: &[Report<'_>],
+) -> Result<(), EditorFault>
+    ensures { OnOk result (TellsCommands (kept outcome.old) (kept outcome.new)) }
+{
     let least = reports.iter().filter_map(|report| report.instance).max();
     outcome.put(alloc, "commands_at_least", Value::from(least))?;
     outcome.put(alloc, "commands_at_most", Value::from(MAX_INSTANCE))?;
-    match least {
-        Some(least) => say_made(
+    if let Some(least) = least {
+        say_made(
             out,
             format!(in alloc; "commands: at least {least} of {MAX_INSTANCE}"),
-        ),
-        None => Ok(()),
+        )?;
     }
+    Ok(())
 }
 
 /// Writes that no node shows a folder's last release, where that is so of those that answer. Whether all is
@@ -181,7 +203,9 @@ fn tell_returning<W: Write>(
     out: &mut W,
     last: u64,
     shown: u64,
-) -> Result<bool, EditorFault> {
+) -> Result<bool, EditorFault>
+    ensures { IfOk result (λ is. is ≡ nat_le shown last) }
+{
     if last >= shown {
         return Ok(true);
     }
@@ -194,6 +218,22 @@ fn tell_returning<W: Write>(
     Ok(false)
 }
 
+/// Whether a release of a folder is shown, where it has one.
+fn shows_of(release: u64, shown: bool) -> Option<bool>
+    ensures { result ≡ (if release == 0 then None else Some shown) }
+{
+    match release {
+        0 => None,
+        _ => Some(shown),
+    }
+}
+
+fn status_of(well: bool, shown: bool) -> u8
+    ensures { result ≡ (if well && shown then 0 else 1) }
+{
+    if well && shown { 0 } else { 1 }
+}
+
 /// Writes a table of nodes: URL, milliseconds to an answer, newest release, how many releases it is behind,
 /// and whether its start page in the newest release that all have is that of the others; and how many
 /// commands the group has at least, by the last ticket of a folder. Status 1 where a node is silent, behind
@@ -204,19 +244,19 @@ pub fn tell_status<R: Net<Stream = TcpStream> + Clock + AllocGlobal, W: Write>(
     outcome: &mut Outcome,
     urls: &[&str],
     published: Published,
-) -> Result<u8, EditorFault> {
+) -> Result<u8, EditorFault>
+    ensures { IfOk result (λ status.
+        EndsStatus (length urls.now) published.release status (kept outcome.new)) }
+{
     let alloc = rt.alloc();
     let group = Group::of(alloc, urls)?;
     let reports = reports_of(rt, group.nodes(), published)?;
     let range = range_of(&reports);
-    let well = tell_all(alloc, out, outcome, group.nodes(), &reports, range)?;
-    tell_barred(alloc, out, group.nodes(), &reports)?;
+    let well = tell_all(alloc, out, outcome, &reports, range)?;
+    tell_barred(alloc, out, &reports)?;
     tell_commands(alloc, out, outcome, &reports)?;
     let shown = tell_returning(alloc, out, range.last, published.release)?;
-    let shows = match published.release {
-        0 => None,
-        _ => Some(shown),
-    };
+    let shows = shows_of(published.release, shown);
     outcome.put(alloc, "shows_folder", Value::from(shows))?;
-    Ok(if well && shown { 0 } else { 1 })
+    Ok(status_of(well, shown))
 }

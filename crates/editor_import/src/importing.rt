@@ -1,6 +1,6 @@
 //! A generator's pages, read from their folder and written as the folder of a site.
 use crate::imported::{Imported, SiteText, import_of};
-use crate::left_out::LeftOut;
+use crate::left_out::{LeftOut, NotTaken};
 use editor_common::{EditorFault, say_made};
 use editor_files::{below, pages_below, write_file};
 use editor_words::takes_files;
@@ -48,12 +48,40 @@ fn tell_folder<W: Write>(
     )
 }
 
-/// Writes that there are no pages.
-fn tell_no_page<E: Write>(alloc: Global, err: &mut E, pages: &str) -> Result<(), EditorFault> {
+/// Writes what can be done about pages that are too long, if some are.
+fn tell_too_long<E: Write>(
+    alloc: Global,
+    err: &mut E,
+    left_out: &[LeftOut],
+) -> Result<(), EditorFault> {
+    let count = left_out
+        .iter()
+        .filter(|left| left.why.is_too_long())
+        .count();
+    if count == 0 {
+        return Ok(());
+    }
     say_made(
         err,
-        format!(in alloc; "{pages}: no page: one is a file whose name ends in .html"),
+        format!(in alloc;
+            "pages too long: {count}. If each page repeats the navigation of the whole site, have the generator write less of it (fewer levels, or the section of the page alone), and import again. Or nginx shows these pages beside the others: docs/GUIDE.md, \"From another generator\""
+        ),
     )
+}
+
+/// Writes that no page was taken: none is there, or each was left out.
+fn tell_no_page<E: Write>(
+    alloc: Global,
+    err: &mut E,
+    pages: &str,
+    left_out: &[LeftOut],
+) -> Result<(), EditorFault> {
+    let line = if left_out.iter().all(|left| left.why == NotTaken::Other) {
+        format!(in alloc; "{pages}: no page: one is a file whose name ends in .html")
+    } else {
+        format!(in alloc; "{pages}: each of its pages is left out, so no folder was written")
+    };
+    say_made(err, line)
 }
 
 /// Writes a folder of the pages that a generator wrote, tells what it leaves out of them, and gives the exit
@@ -71,8 +99,9 @@ pub fn import<R: Files + AllocGlobal + Clone + Drop, W: Write, E: Write>(
     let files = pages_below(rt, pages)?;
     let made = import_of(rt.alloc(), &files)?;
     tell_left_out(rt.alloc(), out, &made.left_out)?;
+    tell_too_long(rt.alloc(), err, &made.left_out)?;
     if made.pages == 0 {
-        tell_no_page(rt.alloc(), err, pages)?;
+        tell_no_page(rt.alloc(), err, pages, &made.left_out)?;
         return Ok(1);
     }
     write_all(rt, folder, &made.files)?;

@@ -1,3 +1,5 @@
+ghost use Rattle.std.specs.Prelude.{◌≡◌, ◌↔◌, IsTrue};
+
 use command::CommandFault;
 use site_ids::{MAX_PATH, MAX_VALUE, TICKET_BYTES};
 use std::fmt;
@@ -22,7 +24,7 @@ impl fmt::Display for NotTaken {
                 let most = MAX_VALUE - TICKET_BYTES;
                 write!(
                     f,
-                    "a page too long: the command that puts it may have {most} bytes"
+                    "a page too long: a template, with the line that names it, may have {most} bytes"
                 )
             }
             NotTaken::NoCommand(_) => {
@@ -32,6 +34,15 @@ impl fmt::Display for NotTaken {
                 )
             }
         }
+    }
+}
+
+impl NotTaken {
+    /// Whether the file is a page, and too long for a template.
+    pub(crate) fn is_too_long(self) -> bool
+        ensures { IsTrue result ↔ (self ≡ NotTaken.NoCommand CommandFault.TooLong) }
+    {
+        matches!(self, NotTaken::NoCommand(CommandFault::TooLong))
     }
 }
 

@@ -4,7 +4,7 @@ use thiserror::Error;
 /// Why nothing was planned.
 #[derive(Clone, Copy, Debug, Drop, PartialEq, Eq, Error)]
 pub enum LedgerFault {
-    #[error("the editor has no tickets left: publish as another editor")]
+    #[error("the numbers of the commands of this editor are used up: publish as another editor")]
     NoTickets,
     #[error("out of memory")]
     OutOfMemory,
@@ -39,7 +39,7 @@ pub enum LedgerReadFault {
     #[error("the script tools/publish was interrupted here: publish with that script once more, until it says that nothing has changed, and then with sitepub")]
     Old,
     /// The line of that number, from 1, is the first that no ledger has.
-    #[error("line {0} is none that sitepub wrote: take the file as it was, or remove it and publish as a new editor")]
+    #[error("line {0} is none that sitepub wrote: take the file as it was. Or move it away (log, restore and publish --release need it), and publish with --take-over")]
     Line(usize),
     #[error("out of memory")]
     OutOfMemory,

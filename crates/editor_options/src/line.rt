@@ -2,7 +2,8 @@
 use crate::arguments::{
     flag, folder_word, ignore_flag, option, site_word, taking, value, with_word,
 };
-use crate::manner::{Manner, manner_in, speaking};
+use crate::manner::{manner_in, speaking};
+use crate::word::{CheckWord, FileWord, PublishWord, StatusWord, ToldWord, Word};
 use clap::{Arg, ArgAction, ArgMatches, Command, Error};
 use std::alloc::{AllocError, Global};
 
@@ -14,78 +15,6 @@ const FRAMER: u32 = 1;
 
 /// Where a preview answers, where nothing else is said.
 const PREVIEW: &str = "127.0.0.1:8000";
-
-/// What `sitepub` is told to do.
-#[derive(Drop)]
-pub enum Word<'a> {
-    /// Writes a small site to start from.
-    New {
-        folder: &'a str,
-    },
-    /// Makes a folder of another generator's pages.
-    Import {
-        pages: &'a str,
-        folder: &'a str,
-    },
-    /// Tells what is wrong with a folder.
-    Check {
-        folder: &'a str,
-        manner: Manner,
-        ignore: bool,
-        unused: bool,
-    },
-    /// Writes a static copy of a folder's pages.
-    Export {
-        folder: &'a str,
-        out: &'a str,
-        ignore: bool,
-    },
-    /// Writes a folder's commands as `siterender` reads them.
-    Frame {
-        folder: &'a str,
-        editor: u32,
-        ignore: bool,
-    },
-    /// Makes a folder the next release of a group.
-    Publish {
-        folder: &'a str,
-        urls: Vec<&'a str>,
-        logins: Option<&'a str>,
-        editor: Option<u32>,
-        patience: u64,
-        manner: Manner,
-        dry_run: bool,
-        exit_code: bool,
-        take_over: bool,
-        release: Option<u64>,
-        message: Option<&'a str>,
-        ignore: bool,
-    },
-    /// Serves a folder as it is on disk.
-    Preview {
-        folder: &'a str,
-        http: &'a str,
-        ignore: bool,
-    },
-    /// Writes a folder as it was at a release.
-    Restore {
-        folder: &'a str,
-        release: u64,
-        out: &'a str,
-    },
-    /// Tells the releases of a folder.
-    Log {
-        folder: &'a str,
-        manner: Manner,
-    },
-    /// Tells what each node says of itself, and whether the group shows what a folder made.
-    Status {
-        folder: Option<&'a str>,
-        urls: Vec<&'a str>,
-        logins: Option<&'a str>,
-        manner: Manner,
-    },
-}
 
 fn new_word<'a>(alloc: Global) -> Result<Command<'a>, AllocError> {
     folder_word(
@@ -195,7 +124,11 @@ fn dry_run_flag<'a>(alloc: Global) -> Arg<'a> {
 }
 
 fn take_over_flag<'a>(alloc: Global) -> Arg<'a> {
-    flag(alloc, "take-over", "Puts paths that others have put too")
+    flag(
+        alloc,
+        "take-over",
+        "Puts what others have put too: paths, and, where nothing was published from here yet, names that no node tells",
+    )
 }
 
 fn release_option<'a>(alloc: Global) -> Arg<'a> {
@@ -355,21 +288,28 @@ fn urls<'a>(alloc: Global, matches: &ArgMatches<'a>) -> Result<Vec<&'a str>, All
     }
 }
 
-fn publish_in<'a>(alloc: Global, found: &ArgMatches<'a>) -> Result<Word<'a>, AllocError> {
-    Ok(Word::Publish {
+fn publish_in<'a>(alloc: Global, found: &ArgMatches<'a>) -> Result<ToldWord<'a>, AllocError> {
+    Ok(ToldWord::Publish(PublishWord {
         folder: text(found, "folder"),
         urls: urls(alloc, found)?,
         logins: found.get_str("logins"),
         editor: found.get_one::<u32>("editor"),
         patience: found.get_one::<u64>("patience").unwrap_or(PATIENCE),
-        manner: manner_in(found),
         dry_run: found.get_flag("dry-run"),
         exit_code: found.get_flag("exit-code"),
         take_over: found.get_flag("take-over"),
         release: found.get_one::<u64>("release"),
         message: found.get_str("message"),
         ignore: found.get_flag("ignore"),
-    })
+    }))
+}
+
+fn status_in<'a>(alloc: Global, found: &ArgMatches<'a>) -> Result<ToldWord<'a>, AllocError> {
+    Ok(ToldWord::Status(StatusWord {
+        folder: found.get_str("of"),
+        urls: urls(alloc, found)?,
+        logins: found.get_str("logins"),
+    }))
 }
 
 fn preview_in<'a>(found: &ArgMatches<'a>) -> Word<'a> {
@@ -380,27 +320,53 @@ fn preview_in<'a>(found: &ArgMatches<'a>) -> Word<'a> {
     }
 }
 
-fn import_in<'a>(found: &ArgMatches<'a>) -> Word<'a> {
-    Word::Import {
-        pages: text(found, "pages"),
-        folder: text(found, "folder"),
-    }
+/// The word of that name that reads and writes files, if it is one.
+fn file_word_of<'a>(name: &str, found: &ArgMatches<'a>) -> Option<FileWord<'a>> {
+    let folder = text(found, "folder");
+    Some(match name {
+        "new" => FileWord::New { folder },
+        "import" => FileWord::Import {
+            pages: text(found, "pages"),
+            folder,
+        },
+        "export" => FileWord::Export {
+            folder,
+            out: text(found, "out"),
+            ignore: found.get_flag("ignore"),
+        },
+        "frame" => FileWord::Frame {
+            folder,
+            editor: found.get_one::<u32>("editor").unwrap_or(FRAMER),
+            ignore: found.get_flag("ignore"),
+        },
+        "restore" => FileWord::Restore {
+            folder,
+            release: found.get_one::<u64>("release").unwrap_or(0),
+            out: text(found, "out"),
+        },
+        _ => return None,
+    })
 }
 
-fn export_in<'a>(found: &ArgMatches<'a>) -> Word<'a> {
-    Word::Export {
-        folder: text(found, "folder"),
-        out: text(found, "out"),
-        ignore: found.get_flag("ignore"),
-    }
-}
-
-fn frame_in<'a>(found: &ArgMatches<'a>) -> Word<'a> {
-    Word::Frame {
-        folder: text(found, "folder"),
-        editor: found.get_one::<u32>("editor").unwrap_or(FRAMER),
-        ignore: found.get_flag("ignore"),
-    }
+/// The word of that name that is told how to speak, if it is one.
+fn told_word_of<'a>(
+    alloc: Global,
+    name: &str,
+    found: &ArgMatches<'a>,
+) -> Result<Option<ToldWord<'a>>, AllocError> {
+    Ok(Some(match name {
+        "check" => ToldWord::Check(CheckWord {
+            folder: text(found, "folder"),
+            ignore: found.get_flag("ignore"),
+            unused: found.get_flag("unused"),
+        }),
+        "publish" => publish_in(alloc, found)?,
+        "log" => ToldWord::Log {
+            folder: text(found, "folder"),
+        },
+        "status" => status_in(alloc, found)?,
+        _ => return Ok(None),
+    }))
 }
 
 /// The word of that name, as it was found.
@@ -409,38 +375,14 @@ fn word_of<'a>(
     name: &str,
     found: &ArgMatches<'a>,
 ) -> Result<Option<Word<'a>>, AllocError> {
-    Ok(Some(match name {
-        "new" => Word::New {
-            folder: text(found, "folder"),
-        },
-        "check" => Word::Check {
-            folder: text(found, "folder"),
-            manner: manner_in(found),
-            ignore: found.get_flag("ignore"),
-            unused: found.get_flag("unused"),
-        },
-        "import" => import_in(found),
-        "export" => export_in(found),
-        "frame" => frame_in(found),
-        "publish" => publish_in(alloc, found)?,
-        "preview" => preview_in(found),
-        "restore" => Word::Restore {
-            folder: text(found, "folder"),
-            release: found.get_one::<u64>("release").unwrap_or(0),
-            out: text(found, "out"),
-        },
-        "log" => Word::Log {
-            folder: text(found, "folder"),
-            manner: manner_in(found),
-        },
-        "status" => Word::Status {
-            folder: found.get_str("of"),
-            urls: urls(alloc, found)?,
-            logins: found.get_str("logins"),
-            manner: manner_in(found),
-        },
-        _ => return Ok(None),
-    }))
+    if name == "preview" {
+        return Ok(Some(preview_in(found)));
+    }
+    if let Some(word) = file_word_of(name, found) {
+        return Ok(Some(Word::Files(word)));
+    }
+    let told = told_word_of(alloc, name, found)?;
+    Ok(told.map(|word| Word::Told(word, manner_in(found))))
 }
 
 /// Reads the words of a command line, the program's name first. `clap` says why it refuses others, help among

@@ -1,6 +1,5 @@
 //! How a word is to speak.
 use crate::arguments::{flag, taking};
-use crate::line::Word;
 use clap::{Arg, ArgMatches, Command};
 use std::alloc::{AllocError, Global};
 
@@ -11,19 +10,6 @@ pub struct Manner {
     pub quiet: bool,
     /// Standard output has what it came to as one JSON object, and nothing else.
     pub json: bool,
-}
-
-impl Word<'_> {
-    /// How it is to speak.
-    pub fn manner(&self) -> Manner {
-        match self {
-            Word::Check { manner, .. }
-            | Word::Publish { manner, .. }
-            | Word::Log { manner, .. }
-            | Word::Status { manner, .. } => *manner,
-            _ => Manner::default(),
-        }
-    }
 }
 
 fn json_flag<'a>(alloc: Global) -> Arg<'a> {

@@ -1,3 +1,4 @@
+pub mod Answering
 pub mod Courses
 pub mod Flights
 pub mod Laws
@@ -5,4 +6,5 @@ pub mod Moves
 pub mod DeliveryClocks
 pub mod Progresses
 pub mod Standings
+pub mod Takings
 pub mod Unlogged

@@ -58,8 +58,3 @@ standing_of last shown ws =
     else (if list_any (confirms last) ws then Newest
     else (if list_any (is_elsewhere shown) ws then Elsewhere
     else (if list_any (λ w. is_unknown w.next) ws then Returning else Unanswered)))
-
--- a path for which the folder has no receipt is taken over where the group answers it so, and not as the
--- folder's own texts do
-abbrev pub takes_over : ℕ → Bool → Bool
-takes_over status own = not (status == 404) && not own

@@ -3,13 +3,15 @@
 //!
 //! `standing.rt` judges a ledger by what nodes say of two tickets and show. `course.rt` plans: first the
 //! commands, then their release. `flight.rt` says what is asked of a node next, and hears its answers: the
-//! ledger moves by receipts alone. `taking.rt` says which paths of others are taken over.
-//! `delivery_clock.rt` says how long a node is stayed with and waited for, `progress.rt` what is told
-//! meanwhile. `logging.rt` finds the ticket of a release, and a release that the log does not tell.
-//! `laws.rt` says what follows, for every interruption and continuation. Nothing here sends, waits or saves:
-//! `editor_group` and `editor_publish` do, and save a plan before any of it is sent.
+//! ledger moves by receipts alone. `taking.rt` says what of others is taken over. `answering.rt` says how
+//! long nodes that are asked at once have to answer, `delivery_clock.rt` how long a node is stayed with and
+//! waited for, `progress.rt` what is told meanwhile. `logging.rt` finds the ticket of a release, and a
+//! release that the log does not tell. `laws.rt` says what follows, for every interruption and continuation.
+//! Nothing here sends, waits or saves: `editor_group` and `editor_publish` do, and save a plan before any of
+//! it is sent.
 #![tactic(auto)]
 
+mod answering;
 mod course;
 mod delivery_clock;
 mod flight;
@@ -20,6 +22,7 @@ mod standing;
 mod taking;
 mod told;
 
+pub use answering::{FIRST_ANSWERS, LATER_ANSWERS, answers_within};
 pub use course::{Stage, advance};
 pub use delivery_clock::{Came, DeliveryClock, LONGEST_REST, Step};
 pub use flight::{Ask, Flight, Heard};
@@ -27,5 +30,5 @@ pub use laws::{done_is_the_folder, tickets_have_one_text};
 pub use logging::{ticket_of, unlogged};
 pub use progress::Progress;
 pub use standing::{Standing, Witness, last_shown, last_ticket, standing_of};
-pub use taking::takes_over;
+pub use taking::{is_of_page, is_taken, joins};
 pub use told::{Told, told_by};

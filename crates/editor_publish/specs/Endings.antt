@@ -1,5 +1,5 @@
 -- How a publication ends, as a status.
-use Rattle.std.specs.Prelude.{ℕ, ◌-◌, ◌&&◌, if◌then◌else◌, Bool}
+use Rattle.std.specs.Prelude.{◌≡◌, ℕ, ◌-◌, ◌&&◌, if◌then◌else◌, Bool, true, ⊤}
 use Rattle.editor_ledger.specs.Books.{Book}
 use Rattle.editor_publish.specs.declared.ending.Ending.{Ending}
 use Rattle.editor_publish.specs.declared.ending.Ending.TheVariants.{Well, Bad, WouldSend}
@@ -13,6 +13,15 @@ status_of WouldSend = 3
 -- a dry run ends well, but where something would be sent and its status is to say so
 abbrev pub dry_ending : Bool → Bool → Ending
 dry_ending sends tells = if sends && tells then WouldSend else Well
+
+-- only a dry run whose status is to say so ends as one that found something to send
+abbrev pub MayEnd : Bool → Bool → Ending → Type 0
+MayEnd dry_run tells Well = ⊤
+MayEnd dry_run tells Bad = ⊤
+MayEnd dry_run tells WouldSend = (dry_run ≡ true) × (tells ≡ true)
+
+abbrev pub IsStatus : Bool → Bool → ℕ → Type 0
+IsStatus dry_run tells status = (ending : Ending) × MayEnd dry_run tells ending × (status ≡ status_of ending)
 
 -- how many commands the release of a ticket shows that none showed before: the tickets since the last release
 abbrev pub commands_of : ℕ → Book → ℕ

@@ -2,12 +2,12 @@
 //!
 //! After an interrupted run all pages are compared, else those that changed.
 
-use crate::taking::is_of_page;
 use editor_common::{EditorFault, say_made};
 use editor_folder::{View, path_in, views_of};
 use editor_group::{Address, ask};
 use editor_http::{NodeAnswer, Question};
 use editor_ledger::Ledger;
+use editor_plan::is_of_page;
 use std::alloc::{AllocError, Global};
 use std::collections::BTreeSet;
 use std::io::Write;

@@ -6,7 +6,7 @@ use crate::publishing::Publishing;
 use crate::taking_over::{Taken, refusal_of, taken_over, tell_taken_over};
 use editor_common::{EditorFault, Outcome, say, texts_value};
 use editor_files::save;
-use editor_group::{Group, confirm, deliver, newest};
+use editor_group::{Group, confirm, deliver, newest, turn_to_answering};
 use editor_ledger::{Ledger, Message, Released};
 use editor_plan::{Stage, advance, last_shown, unlogged};
 use serde_json::Value;
@@ -271,8 +271,8 @@ impl<R: Files + Net<Stream = TcpStream> + Clock + AllocGlobal, E: Write> Publish
         self.publish_texts(out, wanted, found)
     }
 
-    /// Tells which paths a publication of these texts would take over, as far as the first node says. What it
-    /// would take over is the answer, where that node says it.
+    /// Tells which paths a publication of these texts would take over, as far as the node that is spoken to
+    /// says. What it would take over is the answer, if that node says it.
     fn tell_paths<W: Write>(
         &mut self,
         out: &mut W,
@@ -320,6 +320,7 @@ impl<R: Files + Net<Stream = TcpStream> + Clock + AllocGlobal, E: Write> Publish
         let taken = if self.how.urls.is_empty() {
             None
         } else {
+            turn_to_answering(self.rt, self.group)?;
             self.tell_paths(out, wanted)?
         };
         let sends = tell_plan(self.rt.alloc(), out, self.outcome, self.ledger, wanted)?;

@@ -1,4 +1,7 @@
 //! A folder becomes the next release of a group.
+ghost use Rattle.std.specs.Prelude.{◌≡◌, [], false, IfOk, IsErr};
+ghost use Rattle.editor_publish.specs.Endings.{IsStatus, MayEnd};
+
 use crate::ending::Ending;
 use crate::going_back::tell_disk;
 use crate::publisher::Publisher;
@@ -88,7 +91,9 @@ fn publish_wanted<
     how: &'a Publishing<'a>,
     mut ledger: Ledger,
     wanted: &[&str],
-) -> Result<Ending, EditorFault> {
+) -> Result<Ending, EditorFault>
+    ensures { IfOk result (MayEnd how.now.dry_run how.now.exit_code) }
+{
     let mut publisher = Publisher {
         rt,
         err,
@@ -108,7 +113,9 @@ fn publish_wanted<
 fn tell_no_page<E: Write>(alloc: Global, err: &mut E, folder: &str) -> Result<(), EditorFault> {
     say_made(
         err,
-        format!(in alloc; "{folder}: no page, so nothing was sent: a site has a file routes"),
+        format!(in alloc;
+            "{folder}: no page, so nothing was sent: each line of its file routes is one"
+        ),
     )
 }
 
@@ -125,7 +132,9 @@ fn publish_clean<
     group: &mut Group,
     how: &Publishing<'_>,
     clean: &Clean,
-) -> Result<Ending, EditorFault> {
+) -> Result<Ending, EditorFault>
+    ensures { IfOk result (MayEnd how.now.dry_run how.now.exit_code) }
+{
     if clean.pages.is_empty() {
         tell_no_page(rt.alloc(), err, how.folder)?;
         return Ok(Ending::Bad);
@@ -154,7 +163,9 @@ fn publish_folder<
     outcome: &mut Outcome,
     group: &mut Group,
     how: &Publishing<'_>,
-) -> Result<Ending, EditorFault> {
+) -> Result<Ending, EditorFault>
+    ensures { IfOk result (MayEnd how.now.dry_run how.now.exit_code) }
+{
     let read = read_folder(rt, how.folder, how.ignore)?;
     keep_findings(rt.alloc(), outcome, &read)?;
     match clean_of(rt.alloc(), err, how.folder, read)? {
@@ -191,7 +202,9 @@ fn publish_release<
     group: &mut Group,
     how: &Publishing<'_>,
     release: u64,
-) -> Result<Ending, EditorFault> {
+) -> Result<Ending, EditorFault>
+    ensures { IfOk result (MayEnd how.now.dry_run how.now.exit_code) }
+{
     let ledger = ledger_there(rt, how)?;
     let texts = release_texts(rt.alloc(), how.folder, &ledger, release)?;
     let wanted = lent(rt.alloc(), &texts)?;
@@ -211,7 +224,9 @@ fn publish_next<
     outcome: &mut Outcome,
     group: &mut Group,
     how: &Publishing<'_>,
-) -> Result<Ending, EditorFault> {
+) -> Result<Ending, EditorFault>
+    ensures { IfOk result (MayEnd how.now.dry_run how.now.exit_code) }
+{
     match how.release {
         Some(release) => publish_release(rt, out, err, outcome, group, how, release),
         None => publish_folder(rt, out, err, outcome, group, how),
@@ -247,7 +262,10 @@ pub fn publish<
     err: &mut E,
     outcome: &mut Outcome,
     how: Publishing<'_>,
-) -> Result<u8, EditorFault> {
+) -> Result<u8, EditorFault>
+    ensures nobody { how.entry.urls.now ≡ [] → how.entry.dry_run ≡ false → IsErr result }
+    ensures status { IfOk result (IsStatus how.entry.dry_run how.entry.exit_code) }
+{
     outcome.put(rt.alloc(), "dry_run", Value::from(how.dry_run))?;
     if how.urls.is_empty() && !how.dry_run {
         return Err(EditorFault::NoNodes);

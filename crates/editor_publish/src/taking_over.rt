@@ -5,12 +5,12 @@
 //! so a folder of which nothing has a receipt joins a group that has releases only where that is asked for.
 use crate::comparing::is_shown;
 use crate::made::untold;
-use crate::taking::{is_taken, joins};
 use editor_common::{EditorFault, say_made};
 use editor_folder::{View, path_in, views_of};
 use editor_group::{Address, ask, newest};
 use editor_http::{NodeAnswer, Question};
 use editor_ledger::Ledger;
+use editor_plan::{is_taken, joins};
 use std::alloc::{AllocError, Global};
 use std::collections::BTreeSet;
 use std::io::Write;

@@ -59,7 +59,9 @@ fn tell_clean<W: Write>(
 fn tell_no_page<E: Write>(alloc: Global, err: &mut E, folder: &str) -> Result<(), EditorFault> {
     say_made(
         err,
-        format!(in alloc; "{folder}: no page, so publish refuses it: a site has a file routes"),
+        format!(in alloc;
+            "{folder}: no page, so publish refuses it: each line of its file routes is one"
+        ),
     )
 }
 

@@ -4,7 +4,9 @@ use editor_common::{EditorFault, Outcome, say_made};
 use editor_files::{lent, read_ledger};
 use editor_group::{Published, tell_status, with_logins};
 use editor_import::import;
-use editor_options::{Manner, Word, word_in};
+use editor_options::{
+    CheckWord, FileWord, Manner, PublishWord, StatusWord, ToldWord, Word, word_in,
+};
 use editor_preview::preview;
 use editor_publish::{Publishing, publish};
 use editor_words::{Checking, begin, check, export, frame, restore, tell_log};
@@ -63,14 +65,114 @@ fn status_by<R: Files + Net<Stream = TcpStream> + Clock + AllocGlobal, W: Write>
     rt: &R,
     out: &mut W,
     outcome: &mut Outcome,
-    urls: &[&str],
-    logins: Option<&str>,
-    folder: Option<&str>,
+    word: &StatusWord<'_>,
 ) -> Result<u8, EditorFault> {
-    let urls = with_logins(rt, urls, logins)?;
-    let lent = lent(rt.alloc(), &urls)?;
-    let published = published_by(rt, folder)?;
-    tell_status(rt, out, outcome, &lent, published)
+    let urls = with_logins(rt, &word.urls, word.logins)?;
+    let urls = lent(rt.alloc(), &urls)?;
+    let published = published_by(rt, word.folder)?;
+    tell_status(rt, out, outcome, &urls, published)
+}
+
+/// How a folder is published to the nodes of these URLs.
+fn publishing<'a>(word: &PublishWord<'a>, urls: &'a [&'a str]) -> Publishing<'a> {
+    Publishing {
+        folder: word.folder,
+        urls,
+        editor: word.editor,
+        patience: word.patience,
+        dry_run: word.dry_run,
+        exit_code: word.exit_code,
+        take_over: word.take_over,
+        release: word.release,
+        message: word.message,
+        ignore: word.ignore,
+    }
+}
+
+/// Publishes a folder to nodes whose logins a file may have.
+fn publish_by<
+    R: Files<File = File>
+        + Net<Stream = TcpStream>
+        + Clock
+        + RandomSource
+        + AllocGlobal
+        + Clone
+        + Drop,
+    W: Write,
+    E: Write,
+>(
+    rt: &R,
+    out: &mut W,
+    err: &mut E,
+    outcome: &mut Outcome,
+    word: &PublishWord<'_>,
+) -> Result<u8, EditorFault> {
+    let urls = with_logins(rt, &word.urls, word.logins)?;
+    let urls = lent(rt.alloc(), &urls)?;
+    publish(rt, out, err, outcome, publishing(word, &urls))
+}
+
+/// How a folder is checked.
+fn checking<'a>(word: &CheckWord<'a>) -> Checking<'a> {
+    Checking {
+        folder: word.folder,
+        ignore: word.ignore,
+        unused: word.unused,
+    }
+}
+
+/// Does what a word says that is told how to speak. What it came to is kept in the outcome.
+fn tell_word<
+    R: Files<File = File>
+        + Net<Stream = TcpStream>
+        + Clock
+        + RandomSource
+        + AllocGlobal
+        + Clone
+        + Drop,
+    W: Write,
+    E: Write,
+>(
+    rt: &R,
+    out: &mut W,
+    err: &mut E,
+    outcome: &mut Outcome,
+    word: &ToldWord<'_>,
+) -> Result<u8, EditorFault> {
+    match word {
+        ToldWord::Check(word) => check(rt, out, err, outcome, checking(word)),
+        ToldWord::Publish(word) => publish_by(rt, out, err, outcome, word),
+        ToldWord::Log { folder } => tell_log(rt, out, err, outcome, folder),
+        ToldWord::Status(word) => status_by(rt, out, outcome, word),
+    }
+}
+
+/// Does what a word says that reads and writes files.
+fn write_files<R: Files + AllocGlobal + Clone + Drop, W: Write, E: Write>(
+    rt: &R,
+    out: &mut W,
+    err: &mut E,
+    word: FileWord<'_>,
+) -> Result<u8, EditorFault> {
+    match word {
+        FileWord::New { folder } => begin(rt, out, err, folder),
+        FileWord::Import { pages, folder } => import(rt, out, err, pages, folder),
+        FileWord::Export {
+            folder,
+            out: to,
+            ignore,
+        } => export(rt, err, folder, to, ignore),
+        FileWord::Frame {
+            folder,
+            editor,
+            ignore,
+        } => frame(rt, out, err, folder, editor, ignore),
+        FileWord::Restore {
+            folder,
+            release,
+            out: to,
+        } => restore(rt, err, folder, release, to),
+    }
 }
 
 /// Does what a word says. What it came to is kept in the outcome.
@@ -91,87 +193,14 @@ fn done<
     outcome: &mut Outcome,
     word: &Word<'_>,
 ) -> Result<u8, EditorFault> {
-    match *word {
-        Word::New { folder } => begin(rt, out, err, folder),
-        Word::Import { pages, folder } => import(rt, out, err, pages, folder),
-        Word::Check {
-            folder,
-            ignore,
-            unused,
-            ..
-        } => check(
-            rt,
-            out,
-            err,
-            outcome,
-            Checking {
-                folder,
-                ignore,
-                unused,
-            },
-        ),
-        Word::Export {
-            folder,
-            out: to,
-            ignore,
-        } => export(rt, err, folder, to, ignore),
-        Word::Frame {
-            folder,
-            editor,
-            ignore,
-        } => frame(rt, out, err, folder, editor, ignore),
-        Word::Publish {
-            folder,
-            ref urls,
-            logins,
-            editor,
-            patience,
-            dry_run,
-            exit_code,
-            take_over,
-            release,
-            message,
-            ignore,
-            ..
-        } => {
-            let urls = with_logins(rt, urls, logins)?;
-            let lent = lent(rt.alloc(), &urls)?;
-            publish(
-                rt,
-                out,
-                err,
-                outcome,
-                Publishing {
-                    folder,
-                    urls: &lent,
-                    editor,
-                    patience,
-                    dry_run,
-                    exit_code,
-                    take_over,
-                    release,
-                    message,
-                    ignore,
-                },
-            )
-        }
+    match word {
+        Word::Files(word) => write_files(rt, out, err, *word),
         Word::Preview {
             folder,
             http,
             ignore,
-        } => preview(rt, out, err, folder, http, ignore),
-        Word::Restore {
-            folder,
-            release,
-            out: to,
-        } => restore(rt, err, folder, release, to),
-        Word::Log { folder, .. } => tell_log(rt, out, err, outcome, folder),
-        Word::Status {
-            folder,
-            ref urls,
-            logins,
-            ..
-        } => status_by(rt, out, outcome, urls, logins, folder),
+        } => preview(rt, out, err, folder, http, *ignore),
+        Word::Told(word, _) => tell_word(rt, out, err, outcome, word),
     }
 }
 
@@ -217,7 +246,7 @@ fn quiet_status_of<
     let mut table: Vec<u8> = Vec::new(rt.alloc());
     let mut told: Vec<u8> = Vec::new(rt.alloc());
     let status = match word {
-        Word::Status { .. } => status_of(rt, &mut table, &mut told, outcome, word),
+        Word::Told(ToldWord::Status(_), _) => status_of(rt, &mut table, &mut told, outcome, word),
         _ => status_of(rt, &mut io::sink(), &mut told, outcome, word),
     };
     if status != 0 {

@@ -23,6 +23,7 @@ mod questions;
 mod refusals;
 mod restored;
 mod standings;
+mod takings;
 mod tickets;
 mod unlogged;
 mod unused;

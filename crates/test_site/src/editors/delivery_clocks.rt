@@ -1,6 +1,6 @@
-//! How a delivery goes on, as a table.
+//! How a delivery goes on, and how long nodes that are asked at once have to answer, as tables.
 use crate::comparing::ensure;
-use editor_plan::{Came, DeliveryClock, Step};
+use editor_plan::{Came, DeliveryClock, Step, answers_within};
 use std::process::Abort;
 
 /// What exchanges came to, when each ended, and how it goes on, where a minute may pass without a receipt.
@@ -63,4 +63,14 @@ fn no_patience(rt: HostRuntime) {
         0,
         Step::GiveUp,
     );
+}
+
+/// How often nodes were asked before, and how many milliseconds they have to answer.
+const ANSWERS: &[(u64, u64)] = &[(0, 2_000), (1, 10_000), (2, 10_000), (u64::MAX, 10_000)];
+
+#[test]
+fn answers_of_nodes_asked_at_once(rt: HostRuntime) {
+    for &(times, within) in ANSWERS {
+        ensure(&rt, answers_within(times) == within, times);
+    }
 }

@@ -1,13 +1,16 @@
 -- What a publication may take over from others.
 use Rattle.std.specs.Prelude.{ℕ, ◌==◌, ◌&&◌, ◌||◌, if◌then◌else◌, Bool, not, Option, Some, None}
-use Rattle.editor_plan.specs.Standings.{takes_over}
 
 -- a node gives one of these for a page; any other status is given by what stands before the node
 abbrev pub is_of_page : ℕ → Bool
 is_of_page status = status == 200 || status == 301 || status == 404 || status == 500
 
--- whether a path is taken over that the group answers so, and as the folder's own texts do or not; an answer
--- that no node gives decides nothing
+-- a path for which the folder has no receipt is taken over if the group answers it so, and not as the
+-- folder's own texts do
+abbrev pub takes_over : ℕ → Bool → Bool
+takes_over status own = not (status == 404) && not own
+
+-- an answer that no node gives decides nothing
 abbrev pub is_taken : ℕ → Bool → Option Bool
 is_taken status own = if is_of_page status then Some (takes_over status own) else None
 

@@ -1,0 +1,66 @@
+//! Which nodes answer, all asked at once.
+ghost use Rattle.std.specs.Prelude.{◌≡◌, length, vec_len, IfOk};
+
+use crate::address::Address;
+use crate::asking::number_in;
+use crate::asking_all::{Said, ask_each};
+use crate::group::Group;
+use editor_common::EditorFault;
+use editor_http::Question;
+use editor_plan::FIRST_ANSWERS;
+use std::net::{Net, TcpStream};
+use std::rt::Clock;
+
+/// Whether a node told its newest release.
+fn tells_newest(said: &Said<'_>) -> bool {
+    said.answers.first().and_then(number_in).is_some()
+}
+
+/// Asks each node for its newest release, which has so many milliseconds to answer.
+fn ask_newest<'a, R: Net<Stream = TcpStream> + Clock + AllocGlobal>(
+    rt: &R,
+    group: &'a Group,
+    within: u64,
+) -> Result<Vec<Said<'a>>, EditorFault>
+    ensures { IfOk result (λ all. vec_len all ≡ length group.now.nodes.items) }
+{
+    let nodes: Vec<&Address> = group.nodes().iter().collect(rt.alloc())?;
+    ask_each(rt, &nodes, &[Question::Newest], within)
+}
+
+/// The nodes that do not tell their newest release within so many milliseconds, each after a blank.
+pub(crate) fn silent_nodes<R: Net<Stream = TcpStream> + Clock + AllocGlobal>(
+    rt: &R,
+    group: &Group,
+    within: u64,
+) -> Result<String, EditorFault> {
+    let mut silent = String::new(rt.alloc());
+    for said in &ask_newest(rt, group, within)? {
+        if !tells_newest(said) {
+            silent.push(' ')?;
+            silent.push_str(said.node.url.as_str())?;
+        }
+    }
+    Ok(silent)
+}
+
+/// The place of the first node that tells its newest release soon.
+fn first_answering<R: Net<Stream = TcpStream> + Clock + AllocGlobal>(
+    rt: &R,
+    group: &Group,
+) -> Result<Option<usize>, EditorFault> {
+    let all = ask_newest(rt, group, FIRST_ANSWERS)?;
+    Ok(all.iter().position(tells_newest))
+}
+
+/// Speaks to the first node that tells its newest release soon; to the same as before if none does.
+pub fn turn_to_answering<R: Net<Stream = TcpStream> + Clock + AllocGlobal>(
+    rt: &R,
+    group: &mut Group,
+) -> Result<(), EditorFault>
+    ensures { group.new.nodes ≡ group.old.nodes }
+{
+    let first = first_answering(rt, group)?;
+    group.speak_to(first);
+    Ok(())
+}

@@ -1,0 +1,101 @@
+//! What `sitepub` is told to do.
+use crate::manner::Manner;
+
+/// What `sitepub` is told to do.
+#[derive(Drop)]
+pub enum Word<'a> {
+    /// Reads and writes files.
+    Files(FileWord<'a>),
+    /// Serves a folder as it is on disk.
+    Preview {
+        folder: &'a str,
+        http: &'a str,
+        ignore: bool,
+    },
+    /// Speaks to people or to programs, as it is told.
+    Told(ToldWord<'a>, Manner),
+}
+
+/// A word that reads and writes files.
+#[derive(Clone, Copy, Drop)]
+pub enum FileWord<'a> {
+    /// Writes a small site to start from.
+    New {
+        folder: &'a str,
+    },
+    /// Makes a folder of another generator's pages.
+    Import {
+        pages: &'a str,
+        folder: &'a str,
+    },
+    /// Writes a static copy of a folder's pages.
+    Export {
+        folder: &'a str,
+        out: &'a str,
+        ignore: bool,
+    },
+    /// Writes a folder's commands as `siterender` reads them.
+    Frame {
+        folder: &'a str,
+        editor: u32,
+        ignore: bool,
+    },
+    /// Writes a folder as it was at a release.
+    Restore {
+        folder: &'a str,
+        release: u64,
+        out: &'a str,
+    },
+}
+
+/// A word that is told how to speak.
+#[derive(Drop)]
+pub enum ToldWord<'a> {
+    /// Tells what is wrong with a folder.
+    Check(CheckWord<'a>),
+    /// Makes a folder the next release of a group.
+    Publish(PublishWord<'a>),
+    /// Tells the releases of a folder.
+    Log { folder: &'a str },
+    /// Tells what each node says of itself, and whether the group shows what a folder made.
+    Status(StatusWord<'a>),
+}
+
+#[derive(Clone, Copy, Drop)]
+pub struct CheckWord<'a> {
+    pub folder: &'a str,
+    pub ignore: bool,
+    pub unused: bool,
+}
+
+#[derive(Drop)]
+pub struct PublishWord<'a> {
+    pub folder: &'a str,
+    pub urls: Vec<&'a str>,
+    pub logins: Option<&'a str>,
+    pub editor: Option<u32>,
+    pub patience: u64,
+    pub dry_run: bool,
+    pub exit_code: bool,
+    pub take_over: bool,
+    pub release: Option<u64>,
+    pub message: Option<&'a str>,
+    pub ignore: bool,
+}
+
+#[derive(Drop)]
+pub struct StatusWord<'a> {
+    pub folder: Option<&'a str>,
+    pub urls: Vec<&'a str>,
+    pub logins: Option<&'a str>,
+}
+
+impl Word<'_> {
+    /// How it is to speak.
+    pub fn manner(&self) -> Manner {
+        match self {
+            Word::Told(_, manner) => *manner,
+            _ => Manner::default(),
+        }
+    }
+}
