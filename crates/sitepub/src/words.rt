@@ -73,22 +73,6 @@ fn status_by<R: Files + Net<Stream = TcpStream> + Clock + AllocGlobal, W: Write>
     tell_status(rt, out, outcome, &urls, published)
 }
 
-/// How a folder is published to the nodes of these URLs.
-fn publishing<'a>(word: &PublishWord<'a>, urls: &'a [&'a str]) -> Publishing<'a> {
-    Publishing {
-        folder: word.folder,
-        urls,
-        editor: word.editor,
-        patience: word.patience,
-        dry_run: word.dry_run,
-        exit_code: word.exit_code,
-        take_over: word.take_over,
-        release: word.release,
-        message: word.message,
-        ignore: word.ignore,
-    }
-}
-
 /// Publishes a folder to nodes whose logins a file may have.
 fn publish_by<
     R: Files<File = File>
@@ -108,8 +92,20 @@ fn publish_by<
     word: &PublishWord<'_>,
 ) -> Result<u8, EditorFault> {
     let urls = with_logins(rt, &word.urls, word.logins)?;
-    let urls = lent(rt.alloc(), &urls)?;
-    publish(rt, out, err, outcome, publishing(word, &urls))
+    let lent = lent(rt.alloc(), &urls)?;
+    let publishing = Publishing {
+        folder: word.folder,
+        urls: &lent,
+        editor: word.editor,
+        patience: word.patience,
+        dry_run: word.dry_run,
+        exit_code: word.exit_code,
+        take_over: word.take_over,
+        release: word.release,
+        message: word.message,
+        ignore: word.ignore,
+    };
+    publish(rt, out, err, outcome, publishing)
 }
 
 /// How a folder is checked.
