@@ -1,4 +1,8 @@
 //! The command line of `sitepub`.
+ghost use Rattle.std.specs.Prelude.{◌≡◌, [], unwrap_or, IfOk};
+ghost use Rattle.clap.specs.Words.{first_value, found_of};
+ghost use Rattle.editor_options.specs.Words.{IsPublication};
+
 use crate::arguments::{
     flag, folder_word, ignore_flag, option, site_word, taking, value, with_word,
 };
@@ -276,8 +280,13 @@ fn matches_of<'a>(alloc: Global, words: &'a [String]) -> Result<ArgMatches<'a>, 
 }
 
 /// A text that the word has; the empty one where it has none.
-fn text<'a>(matches: &ArgMatches<'a>, id: &str) -> &'a str {
-    matches.get_str(id).unwrap_or("")
+fn text<'a>(matches: &ArgMatches<'a>, id: &str) -> &'a str
+    ensures { result.now ≡ unwrap_or (first_value (found_of matches.now) id.now) [] }
+{
+    match matches.get_str(id) {
+        Some(text) => text,
+        None => "",
+    }
 }
 
 /// All that were given as a URL.
@@ -288,8 +297,10 @@ fn urls<'a>(alloc: Global, matches: &ArgMatches<'a>) -> Result<Vec<&'a str>, All
     }
 }
 
-fn publish_in<'a>(alloc: Global, found: &ArgMatches<'a>) -> Result<ToldWord<'a>, AllocError> {
-    Ok(ToldWord::Publish(PublishWord {
+fn publish_in<'a>(alloc: Global, found: &ArgMatches<'a>) -> Result<PublishWord<'a>, AllocError>
+    ensures { IfOk result (IsPublication (found_of found.now)) }
+{
+    Ok(PublishWord {
         folder: text(found, "folder"),
         urls: urls(alloc, found)?,
         logins: found.get_str("logins"),
@@ -301,7 +312,7 @@ fn publish_in<'a>(alloc: Global, found: &ArgMatches<'a>) -> Result<ToldWord<'a>,
         release: found.get_one::<u64>("release"),
         message: found.get_str("message"),
         ignore: found.get_flag("ignore"),
-    }))
+    })
 }
 
 fn status_in<'a>(alloc: Global, found: &ArgMatches<'a>) -> Result<ToldWord<'a>, AllocError> {
@@ -360,7 +371,7 @@ fn told_word_of<'a>(
             ignore: found.get_flag("ignore"),
             unused: found.get_flag("unused"),
         }),
-        "publish" => publish_in(alloc, found)?,
+        "publish" => ToldWord::Publish(publish_in(alloc, found)?),
         "log" => ToldWord::Log {
             folder: text(found, "folder"),
         },

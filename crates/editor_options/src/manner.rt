@@ -1,10 +1,13 @@
 //! How a word is to speak.
+ghost use Rattle.clap.specs.Words.{found_of};
+ghost use Rattle.editor_options.specs.Words.{IsManner};
+
 use crate::arguments::{flag, taking};
 use clap::{Arg, ArgMatches, Command};
 use std::alloc::{AllocError, Global};
 
 /// How a word is to speak.
-#[derive(Clone, Copy, Debug, Default, Drop, PartialEq, Eq)]
+#[derive(Clone, Copy, Debug, Drop, PartialEq, Eq)]
 pub struct Manner {
     /// Nothing is written but why its status is not 0.
     pub quiet: bool,
@@ -38,7 +41,9 @@ pub(crate) fn speaking<'a>(
 }
 
 /// What a word was told.
-pub(crate) fn manner_in(found: &ArgMatches<'_>) -> Manner {
+pub(crate) fn manner_in(found: &ArgMatches<'_>) -> Manner
+    ensures { IsManner (found_of found.now) result }
+{
     Manner {
         quiet: found.get_flag("quiet"),
         json: found.get_flag("json"),

@@ -1,4 +1,7 @@
 //! What `sitepub` is told to do.
+ghost use Rattle.std.specs.Prelude.{◌≡◌};
+ghost use Rattle.editor_options.specs.Words.{manner_of};
+
 use crate::manner::Manner;
 
 /// What `sitepub` is told to do.
@@ -92,10 +95,15 @@ pub struct StatusWord<'a> {
 
 impl Word<'_> {
     /// How it is to speak.
-    pub fn manner(&self) -> Manner {
+    pub fn manner(&self) -> Manner
+        ensures { result ≡ manner_of self.now }
+    {
         match self {
             Word::Told(_, manner) => *manner,
-            _ => Manner::default(),
+            _ => Manner {
+                quiet: false,
+                json: false,
+            },
         }
     }
 }
