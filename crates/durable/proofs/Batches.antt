@@ -25,7 +25,7 @@ use Rattle.durable.proofs.Torn.{settled_leaves}
 
 -- ---- what a seal writes
 
--- the batch has a sum where the file has room for it
+-- the batch has a sum if the file has room for it
 sealed_so : (gate : ℕ) (batch : List Entry) (full : Bool) → nat_lt MAX_RECORD (gate + 19) ≡ full → sealed_items gate batch ≡ (if full then puts batch else Batch batch ∷ [])
 sealed_so gate batch full is = ap (λ (b : Bool). if b then puts batch else Batch batch ∷ []) is
 
@@ -82,13 +82,13 @@ sealed_end gate size end is ends = ends ∙ ap (λ (n : ℕ). if nat_lt MAX_RECO
     by true = omega arith
     by false = omega arith
 
--- what is written behind a gate
+-- what is written after a gate
 pub sealed_behind : (gate size : ℕ) (batch : List Entry) (bytes : List ℕ) → size ≡ gate + 19 → bytes ≡ drop 1 ((if nat_lt MAX_RECORD size then blocks batch else summed (blocks batch)) ++ 0 ∷ []) → bytes ≡ behind_gates (sealed_items gate batch)
 sealed_behind gate size batch bytes is_size is =
     is ∙ ap (λ (n : ℕ). drop 1 ((if nat_lt MAX_RECORD n then blocks batch else summed (blocks batch)) ++ 0 ∷ [])) is_size
     ∙ ap (λ (l : List ℕ). drop 1 (l ++ 0 ∷ [])) (sym (sealed_bytes gate batch))
 
--- what has the items of a batch behind an open gate stands for its entries too
+-- what has the items of a batch after an open gate stands for its entries too
 module _ (node cluster gate : ℕ) (file : List ℕ) (earlier : List Entry) (stands : StandsFor node cluster file earlier) (at_gate : gate ≡ 10 + length (item_blocks stands.items)) (batch : List Entry) (some : batch ≢ [])
     (history : IsHistory cluster (earlier ++ batch)) (end : ℕ) (within : length (blocks batch) ≤ end) where
   abbrev its : List Item
@@ -245,7 +245,7 @@ module _ {D : Type 0} (stands_for : D → DiskState → Type 0) (old : Record D)
   within : length (blocks batch) ≤ end
   within = omega (arith, what.ends)
 
-  -- what waits would end so far behind the gate with its sum
+  -- what waits would end so far after the gate with its sum
   pub with_sum_to : batch ≢ [] → old.staged.base + length old.staged.bytes.items ≡ end + 19
   with_sum_to some = omega (arith, what.base some, what.ends, waiting_size batch old.staged.bytes.items what.waiting)
 

@@ -1,4 +1,4 @@
--- What stands behind the gate at which a record ends.
+-- What stands after the gate at which a record ends.
 use Rattle.std.proofs.Common.{◌≡◌, ℕ, ◌+◌, ◌<◌, List, [], ◌∷◌, ◌++◌, length, get_or, take, drop, refl, sym, ◌∙◌, ap, arith, length-append, length-drop, length-take, append_assoc, take-append-drop}
 use Rattle.std.specs.Prelude.{slice_set}
 use Rattle.std.proofs.lemmas.List.{append-nil, take-take, drop_more, drop-drop, take_at, get_or-take}

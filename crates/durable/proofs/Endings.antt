@@ -16,7 +16,7 @@ use Rattle.durable.proofs.Kept.{kept_same, kept_more, remembers_through}
 use Rattle.durable.proofs.Ready.{stored_with}
 use Rattle.durable.proofs.Batches.{staged_with}
 
--- the bytes behind a value's front, by the value that was measured
+-- the bytes after a value's front, by the value that was measured
 pub measured : (value bytes : List ℕ) → bytes ≡ value → length (value ++ 0 ∷ []) ≡ length bytes + 1
 measured value bytes is = omega (arith, ap length is, length-append value (0 ∷ []))
 

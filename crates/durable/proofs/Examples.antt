@@ -50,7 +50,7 @@ promise_is_summed : sum_of (blocks (Promised 1 (at 1 1) ∷ [])) ≡ its_sum
 unfolding block_words rounds compress hash_after digest_bytes md5
 promise_is_summed = refl
 
--- a batch of it alone, behind its sum
+-- a batch of it alone, after its sum
 summed_record : head 2 3 ++ item_blocks (Batch (Promised 1 (at 1 1) ∷ []) ∷ []) ++ 0 ∷ []
     ≡ codes "SITEREC1" ++ 2 ∷ 3 ∷ 1 ∷ 0 ∷ 0 ∷ 0 ∷ 13 ∷ 24 ∷ 0 ∷ 0 ∷ 0 ∷ 15 ∷ its_sum ++ 1 ∷ 0 ∷ 0 ∷ 0 ∷ 10 ∷ 2 ∷ 0 ∷ 0 ∷ 0 ∷ 1 ∷ 0 ∷ 0 ∷ 0 ∷ 1 ∷ 1 ∷ 0 ∷ []
 unfolding block_words rounds compress hash_after digest_bytes md5
@@ -70,7 +70,7 @@ summed_stands = record {
   same = refl;
 }
 
--- a round behind the head takes eleven bytes, the next gate among them
+-- a round after the head takes eleven bytes, the next gate among them
 round_record : head 2 3 ++ blocks (Round 1 ∷ []) ++ 0 ∷ [] ≡ codes "SITEREC1" ++ 2 ∷ 3 ∷ 1 ∷ 0 ∷ 0 ∷ 0 ∷ 5 ∷ 1 ∷ 0 ∷ 0 ∷ 0 ∷ 1 ∷ 0 ∷ []
 round_record = refl
 
@@ -104,7 +104,7 @@ floor_alone = history-push 3 [] (Floor 65) (history-none 3) (record { in_range =
 floor_stands : StandsFor 2 3 floor_record (Floor 65 ∷ [])
 floor_stands = plain _ (Floor 65 ∷ []) 0 ([]) floor_alone (λ one. omega (arith, one)) refl
 
--- a floor behind another entry is no floor, but damage
+-- a floor after another entry is no floor, but damage
 late_floor : ¬ IsHistory 3 (Round 1 ∷ Floor 65 ∷ [])
 late_floor history = omega (arith, ap length (history (Round 1 ∷ []) (Floor 65) [] refl).advances)
 

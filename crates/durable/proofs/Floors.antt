@@ -1,17 +1,19 @@
 -- No crash while a record with a floor is made leaves one without it.
-use Rattle.std.proofs.Common.{◌≡◌, ◌≢◌, ◌⊎◌, inl, inr, ⊎_elim, ℕ, ◌≤◌, ◌<◌, Bool, true, false, List, [], ◌∷◌, ◌++◌, length, get_or, take, drop, nat_eq, refl, sym, ◌∙◌, ap, subst, arith, codes, length-append, take-append-drop}
+use Rattle.std.proofs.Common.{◌≡◌, ◌≢◌, ◌⊎◌, inl, inr, ⊎_elim, ℕ, ◌+◌, ◌≤◌, ◌<◌, Bool, true, false, List, [], ◌∷◌, ◌++◌, length, get_or, take, drop, nat_eq, refl, sym, ◌∙◌, ap, subst, arith, codes, length-append, take-append-drop}
 use Rattle.std.proofs.lemmas.Bool.Decides.{nat_tests}
+use Rattle.std.proofs.lemmas.List.{append-nil, drop_all, take_all}
 use Rattle.site_ids.specs.Ids.{IsInstance}
 use Rattle.site_disk.specs.Model.{DiskState, LeavesOnly, IsTorn, after_write, after_sync, overwritten}
 use Rattle.durable.specs.Entries.{Entry, Floor}
-use Rattle.durable.specs.Items.{Put, IsLog, item_blocks}
-use Rattle.durable.specs.Spelling.{head}
+use Rattle.durable.specs.Items.{Batch, IsLog, item_blocks, summed}
+use Rattle.durable.specs.Spelling.{head, blocks}
 use Rattle.durable.specs.Standing.{StandsFor, IsNoRecord}
 use Rattle.durable.specs.Formatting.{blank_head, floor_bytes, IsNoneOrFloor}
 use Rattle.durable.specs.Laws.{FloorStays}
 use Rattle.durable.proofs.Moments.{started, goes_on, weaker, then}
 use Rattle.durable.proofs.Prefix.{stands_for_one}
-use Rattle.durable.proofs.Logs.{log-put, log-none}
+use Rattle.durable.proofs.Logs.{log-push, log-none}
+use Rattle.durable.proofs.Push.{history-push}
 
 abbrev Bytes : Type 0
 Bytes = List ℕ
@@ -34,7 +36,7 @@ module _ (d : DiskState) (empty : d.seen ≡ []) where
   blank_synced size seen few = goes_on d (after_write d 0 size seen) (after_sync (after_write d 0 size seen)) IsNoRecord (blank_unsynced size seen few) refl
       (λ left may. short left (omega (arith, may.no_longer, few)))
 
--- ---- the floor behind it, and then the mark
+-- ---- the floor after it, and then the mark
 
 number : (a b : ℕ) → (a ≡ b) ⊎ (a ≢ b)
 number a b = by (nat_eq a b) refl
@@ -68,9 +70,18 @@ unmarked : (file : Bytes) → get_or (take 10 file) 0 0 ≡ 0 → take 8 file �
 unmarked [] zero_first e = omega (arith, ap length e)
 unmarked (x ∷ file) zero_first e = let s : x ≡ 83 = ap (λ (l : Bytes). get_or l 0 0) e in omega (arith, s, zero_first)
 
--- what was written behind the blank head, and then over it
-pub floor_is : (node cluster floor : ℕ) (file written : Bytes) → file ≡ blank_head node cluster → written ≡ floor_bytes floor → overwritten file 10 written ≡ blank_head node cluster ++ floor_bytes floor
-floor_is node cluster floor file written before is = ap (λ (l : Bytes). overwritten file 10 l) is ∙ ap (λ (l : Bytes). overwritten l 10 (floor_bytes floor)) before
+-- what is written after ten bytes comes after them
+written_after : (file written : Bytes) → length file ≡ 10 → overwritten file 10 written ≡ file ++ written
+written_after file written ten =
+    ap (λ (l : Bytes). take 10 file ++ written ++ l) (drop_all (10 + length written) file (omega (arith, ten)))
+    ∙ append-nil (take 10 file ++ written)
+    ∙ ap (λ (l : Bytes). l ++ written) (take_all 10 file (omega (arith, ten)))
+
+-- what was written after the blank head, and then over it
+pub floor_is : (node cluster floor : ℕ) (file written : Bytes) → file ≡ blank_head node cluster → written ≡ floor_bytes floor
+    → overwritten file 10 written ≡ blank_head node cluster ++ floor_bytes floor
+floor_is node cluster floor file written before is =
+    written_after file written (ap length before) ∙ (λ i. before i ++ is i)
 
 pub mark_is : (node cluster floor : ℕ) (file : Bytes) → file ≡ blank_head node cluster ++ floor_bytes floor → overwritten file 0 (codes "SITEREC1") ≡ head node cluster ++ floor_bytes floor
 mark_is node cluster floor file before = ap (λ (l : Bytes). overwritten l 0 (codes "SITEREC1")) before
@@ -79,7 +90,7 @@ module _ (node cluster floor : ℕ) where
   abbrev Fine : Bytes → Type 0
   Fine left = IsNoneOrFloor node cluster floor left
 
-  -- a write behind the blank head leaves no record
+  -- a write after the blank head leaves no record
   pub floor_torn : (file left : Bytes) (size : ℕ) → file ≡ blank_head node cluster → IsTorn 10 size file left → IsNoneOrFloor node cluster floor left
   floor_torn file left size is torn = inl (inr (unmarked left (ap (λ (l : Bytes). get_or l 0 0) torn.before ∙ ap (λ (l : Bytes). get_or (take 10 l) 0 0) is)))
 
@@ -91,11 +102,22 @@ module _ (node cluster floor : ℕ) where
     then_floor f size is only = then d e f Fine then_blank (weaker e f (λ left. IsTorn 10 size e.seen left) Fine (λ left torn. floor_torn e.seen left size is torn) only)
 
   module _ (instance : IsInstance floor) where
-    log : IsLog cluster (Put (Floor floor) ∷ [])
-    log = log-put cluster [] (Floor floor) (log-none cluster) (record { in_range = instance; advances = refl })
+    log : IsLog cluster (Batch (Floor floor ∷ []) ∷ [])
+    log = log-push cluster [] (Batch (Floor floor ∷ [])) (log-none cluster) (λ none. omega (arith, ap length none), omega arith)
+        (history-push cluster [] (Floor floor) (log-none cluster).history (record { in_range = instance; advances = refl }))
 
     pub whole : StandsFor node cluster (head node cluster ++ floor_bytes floor) (Floor floor ∷ [])
-    whole = record { items = Put (Floor floor) ∷ []; laid = record { log = log; gate = 0; rest = []; closed = λ one. omega (arith, one); layout = refl }; same = refl }
+    whole = record {
+      items = Batch (Floor floor ∷ []) ∷ [];
+      laid = record {
+        log = log;
+        gate = 0;
+        rest = [];
+        closed = λ one. omega (arith, one);
+        layout = ap (λ (l : Bytes). head node cluster ++ l ++ 0 ∷ []) (sym (append-nil (summed (blocks (Floor floor ∷ [])))));
+      };
+      same = refl;
+    }
 
     -- a write of the mark leaves no record, or the whole one
     pub mark_torn : (file left : Bytes) → file ≡ blank_head node cluster ++ floor_bytes floor → IsTorn 0 8 file left → IsNoneOrFloor node cluster floor left

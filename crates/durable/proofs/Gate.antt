@@ -1,4 +1,4 @@
--- What the two steps of an append leave: behind the closed gate, then at the gate.
+-- What the two steps of an append leave: after the closed gate, then at the gate.
 use Rattle.std.proofs.Common.{◌≡◌, inl, inr, ℕ, zero, suc, add-one, ◌+◌, ◌≤◌, ◌<◌, List, [], ◌∷◌, ◌++◌, length, get_or, take, drop, refl, sym, ◌∙◌, ap, subst, arith, append_assoc}
 use Rattle.std.proofs.lemmas.List.{take_at, drop_at, drop_more, get_or-take, length-take-le}
 use Rattle.std.proofs.lemmas.Bool.{cases_eq}
@@ -44,7 +44,7 @@ module _ (gate : ℕ) (file bytes : List ℕ) (at_gate : IsClosedAt gate file fi
   staged_behind = ap (λ (l : List ℕ). drop (gate + 1) l) (append_assoc (take (gate + 1) file) bytes rest)
       ∙ drop_at (take (gate + 1) file) (bytes ++ rest) (gate + 1) (length-take-le (gate + 1) file (omega (arith, at_gate.there)))
 
-  -- the gate's byte is any, what stands before and behind it stays
+  -- the gate's byte is any, what stands before and after it stays
   pub at_the_gate : (left : List ℕ) → IsTorn gate 1 staged left → IsAppendedOrNot gate file bytes left
   at_the_gate left torn =
       let there : gate < length left = omega (arith, torn.no_shorter, staged_size) in

@@ -31,7 +31,7 @@ by_device_or_memory Full node cluster file h none = absurd h
 by_device_or_memory Damaged node cluster file h none = absurd (none.2 h.2)
 by_device_or_memory Stopped node cluster file h none = absurd h
 
--- the items behind the head of a file
+-- the items after the head of a file
 pub behind_head : (node cluster : ℕ) (file : Bytes) (items : List Item) → IsLaid node cluster file items → AreSpelled (drop 10 file) items
 behind_head node cluster file items s = record { gate = s.gate; rest = s.rest; closed = s.closed; layout = ap (λ (l : Bytes). drop 10 l) s.layout }
 
@@ -65,7 +65,7 @@ module _ (node cluster : ℕ) (file : Bytes) (head_is : HasHead node cluster fil
       (λ (x : get_or file 8 0 ≢ node). x (sym (get_or-take 10 file 8 0 (omega arith)) ∙ ap (λ (l : Bytes). get_or l 8 0) head_is.1))
       (λ (x : get_or file 9 0 ≢ cluster). x (sym (get_or-take 10 file 9 0 (omega arith)) ∙ ap (λ (l : Bytes). get_or l 9 0) head_is.1)) other
 
-  -- the items behind the head are those of which the file is laid
+  -- the items after the head are those of which the file is laid
   pub laid_whole : (items : List Item) → IsLog cluster items → AreSpelled (drop 10 file) items → IsLaid node cluster file items
   laid_whole items log s = record {
     log = log;

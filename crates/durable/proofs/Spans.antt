@@ -75,7 +75,8 @@ votes_by : (t : Bool) (i k j : ℕ) (b : BallotOf) (es : List Entry) → last_vo
 votes_by true i k j b es = vote_after-push j None es (Promised i b ∷ [])
 votes_by false i k j b es = vote_after-push j None es (PromisedSpan i k b ∷ [])
 
--- what is judged is what goes on record: the slot of each instance of the span, by the entries with the span's, is the one after the acceptor's step
+-- what is judged is what goes on record: the slot of each instance of the span, by the entries with the
+-- span's, is the one after the acceptor's step
 pub span_recorded : (es : List Entry) (i k j : ℕ) (b : BallotOf) (s t : Slot) (answer : Answer) → IsInSpan i k j → IsSlot es j s → Steps s (prepare b) t answer → IsSlot (es ++ promise_of i k b ∷ []) j t
 span_recorded es i k j b s t answer within is step =
     slot_raised es (promise_of i k b) j b s t (raises_by (nat_eq k 1) i k j b refl within) (λ d r. only_by (nat_eq k 1) i k j b d r) (votes_by (nat_eq k 1) i k j b es) is (steps_raise s t b answer step)

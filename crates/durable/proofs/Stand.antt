@@ -15,7 +15,7 @@ use Rattle.byteorder.specs.Endian.{big_bytes}
 head_size : (node cluster : ℕ) → length (head node cluster) ≡ 10
 head_size node cluster = refl
 
--- an entry's bytes behind a gate are those of it as an item
+-- an entry's bytes after a gate are those of it as an item
 pub behind_one : (entry : Entry) → behind_gates (Put entry ∷ []) ≡ behind_gate entry
 behind_one entry =
     let front : List ℕ = big_bytes 4 (length (payload entry)) ++ payload entry in
@@ -65,7 +65,7 @@ module _ (node cluster gate : ℕ) (file : List ℕ) (items : List Item) (laid :
     layout = sym (take-append-drop gate left) ∙ ap (λ (l : List ℕ). l ++ drop gate left) (closed.front ∙ file_front) ∙ ap (λ (l : List ℕ). front ++ l) (drop_more left gate 0 closed.there);
   }
 
-  -- the main lemma: what has more items behind an open gate is laid of all of them
+  -- the main lemma: what has more items after an open gate is laid of all of them
   pub more_laid : (more : List Item) (left : List ℕ) → more ≢ [] → IsLog cluster (items ++ more) → IsOpenAt gate file (behind_gates more) left → IsLaid node cluster left (items ++ more)
   more_laid more left some log opened = record {
     log = log;
@@ -87,7 +87,7 @@ module _ (node cluster gate : ℕ) (file : List ℕ) (entries : List Entry) (sta
   pub entry_log : (entry : Entry) → MayFollow cluster entries entry → IsLog cluster (stands.items ++ Put entry ∷ [])
   entry_log entry follows = log-put cluster stands.items entry stands.laid.log (subst (λ (es : List Entry). MayFollow cluster es entry) (sym stands.same) follows)
 
-  -- what has the entry behind an open gate stands for one entry more
+  -- what has the entry after an open gate stands for one entry more
   abbrev pub then_stands : (entry : Entry) (left : List ℕ) → MayFollow cluster entries entry → IsOpenAt gate file (behind_gate entry) left → StandsFor node cluster left (entries ++ entry ∷ [])
   then_stands entry left follows opened =
       let some : Put entry ∷ [] ≢ [] = λ none. omega (arith, ap length none) in

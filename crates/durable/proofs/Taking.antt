@@ -1,4 +1,4 @@
--- Entries that are taken, one behind the other.
+-- Entries that are taken, one after the other.
 use Rattle.std.proofs.Common.{◌≡◌, ◌↔◌, ℕ, ◌+◌, ◌-◌, ◌≤◌, ◌<◌, ◌^◌, ◌≢◌, List, [], ◌∷◌, ◌++◌, length, get_or, take, drop, Option, None, Some, Result, Ok, Err, refl, sym, ◌∙◌, ap, subst, arith, length-append, length-take, length-drop, append_assoc, take-append-drop}
 use Rattle.std.proofs.Math.Seq.{take-length}
 use Rattle.std.proofs.lemmas.List.{append-nil}
@@ -30,7 +30,7 @@ none_taken cluster bytes old new o takes is = subst (λ (x : Option ℕ). TakesE
 pub kept_at : (entries : List Entry) (gate : ℕ) (recorded : Recorded) → IsKept entries recorded → IsKept entries (record recorded { gate = gate })
 kept_at entries gate recorded kept = record { round = kept.round; greatest = kept.greatest; slots = kept.slots; learned = kept.learned; floor = kept.floor; reach = kept.reach }
 
--- the bytes, split behind a block
+-- the bytes, split after a block
 pub behind_block : (bytes b : Bytes) (size : ℕ) → take size bytes ≡ b → bytes ≡ b ++ drop size bytes
 behind_block bytes b size here = sym (take-append-drop size bytes) ∙ ap (λ (l : Bytes). l ++ drop size bytes) here
 
@@ -67,14 +67,14 @@ one_refused cluster bytes size e old new fault r range here takes was is =
           (refused_damaged e old new fault r takes was is).1 before at.first at.kept (subst (λ (x : Entry). Advances before x) (sym one) follows.advances),
     )
 
--- what stands behind so many bytes
+-- what stands after `n` bytes
 pub all_behind : (n : ℕ) (bytes : Bytes) → take (length bytes - n) (drop n bytes) ≡ drop n bytes
 all_behind n bytes = ap (λ (k : ℕ). take k (drop n bytes)) (sym (length-drop n bytes)) ∙ take-length (drop n bytes)
 
 -- ---- a batch
 
 module _ (cluster : ℕ) (whole rest : Bytes) (entries : List Entry) (split : whole ≡ blocks entries ++ rest) (old now : Recorded) (taken : (before : List Entry) → AreBefore cluster before old → AreBefore cluster (before ++ entries) now) where
-  -- entries that all of the bytes spell go on behind those that were taken
+  -- entries that all of the bytes spell go on after those that were taken
   goes_on : (before others : List Entry) → AreBefore cluster before old → IsHistory cluster (before ++ others) → whole ≡ blocks others → (more : List Entry) × (others ≡ entries ++ more) × (rest ≡ blocks more)
   goes_on before others at history same = batch_begins cluster entries others rest (history_in_range cluster before entries (taken before at).history) (history_in_range cluster before others history) (sym split ∙ same)
 
@@ -123,7 +123,7 @@ put_read cluster before bytes size e old new read takes =
       kept = subst (λ (l : List Entry). IsKept l new) all after.kept;
     }
 
--- entries that were taken behind their sum are an item more
+-- entries that were taken after their sum are an item more
 pub batch_read : (cluster : ℕ) (before : List Item) (bytes : Bytes) (es : List Entry) (old mid new : Recorded) → AreRead cluster before old → TakesEntries cluster bytes (length bytes) es old mid → new ≡ record mid { gate = mid.gate + 18 }
     → 0 < length bytes → length bytes < 2 ^ 32 → bytes ≡ blocks es → AreRead cluster (before ++ Batch es ∷ []) new
 batch_read cluster before bytes es old mid new read takes moved some counted is = subst (λ (r : Recorded). AreRead cluster (before ++ Batch es ∷ []) r) (sym moved)

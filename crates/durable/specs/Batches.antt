@@ -17,11 +17,12 @@ use Rattle.durable.specs.declared.staged.Staged.{Staged}
 abbrev pub IsBatchOpen : {D : Type 0} → Record D → Type 0
 IsBatchOpen store = 0 < length store.staged.bytes.items
 
--- what a seal writes: the entries behind their sum, or without one where the file has no room for that behind the gate
+-- what a seal writes: the entries after their sum, or without one if the file has no room for that after the
+-- gate
 abbrev pub sealed_items : ℕ → List Entry → List Item
 sealed_items gate batch = if nat_lt MAX_RECORD (gate + 19) then puts batch else Batch batch ∷ []
 
--- what is written behind a closed gate for items: their blocks except the first gate, and the next closed one
+-- what is written after a closed gate for items: their blocks except the first gate, and the next closed one
 abbrev pub behind_gates : List Item → List ℕ
 behind_gates items = drop 1 (item_blocks items ++ 0 ∷ [])
 
@@ -30,7 +31,8 @@ abbrev pub calls_for : List Entry → ℕ
 calls_for [] = 0
 calls_for (entry ∷ batch) = 4
 
--- the file stands for the earlier entries, and the blocks of the batch, which may follow them, wait behind room for a sum; the gate stands where they would end
+-- the file stands for the earlier entries, and the blocks of the batch, which may follow them, wait after
+-- room for a sum; the gate stands where they would end
 pub record Waits (node cluster : ℕ) (file : List ℕ) (earlier batch : List Entry) (gate : ℕ) (staged : Staged) : Type 0 where
   pub stands : StandsFor node cluster file earlier
   pub history : IsHistory cluster (earlier ++ batch)
@@ -54,7 +56,8 @@ pub record IsAhead {D : Type 0} (stands_for : D → DiskState → Type 0) (store
 abbrev pub IsNoneOrAll : ℕ → ℕ → List Entry → List Entry → List ℕ → Type 0
 IsNoneOrAll node cluster earlier batch file = StandsFor node cluster file earlier ⊎ StandsFor node cluster file (earlier ++ batch)
 
--- the disk keeps the earlier entries and perhaps the batch: so it reads without a crash, and so after any crash
+-- the disk keeps the earlier entries and perhaps the batch: so it reads without a crash, and so after any
+-- crash
 pub record KeepsNoneOrAll (node cluster : ℕ) (earlier batch : List Entry) (d : DiskState) : Type 0 where
   pub read : IsNoneOrAll node cluster earlier batch d.seen
   pub left : (left : List ℕ) → MayLeave (moment d) left → IsNoneOrAll node cluster earlier batch left
@@ -63,7 +66,7 @@ pub record KeepsNoneOrAll (node cluster : ℕ) (earlier batch : List Entry) (d :
 abbrev pub Begins : {D : Type 0} → (D → DiskState → Type 0) → Record D → Record D → Type 0
 Begins stands_for old new = (d : DiskState) (entries : List Entry) → IsReady stands_for old d entries → IsAhead stands_for new d entries []
 
--- the bytes were taken into the batch. Where they are an entry's, it waits with the others
+-- the bytes were taken into the batch. If they are an entry's, it waits with the others
 abbrev pub Stages : {D : Type 0} → (D → DiskState → Type 0) → Record D → Record D → List ℕ → Type 0
 Stages stands_for old new bytes = (d : DiskState) (earlier batch : List Entry) (entry : Entry) → IsStaged stands_for old d earlier batch → MayFollow old.cluster (earlier ++ batch) entry → bytes ≡ behind_gate entry
     → IsStaged stands_for new d earlier (batch ++ entry ∷ [])
@@ -72,16 +75,17 @@ Stages stands_for old new bytes = (d : DiskState) (earlier batch : List Entry) (
 abbrev pub GoesAhead : {D : Type 0} → (D → DiskState → Type 0) → Record D → Record D → Entry → Type 0
 GoesAhead stands_for old new entry = (d : DiskState) (earlier batch : List Entry) → IsAhead stands_for old d earlier batch → IsAhead stands_for new d earlier (batch ++ entry ∷ [])
 
--- The record is ready with all of the batch, after two writes and two syncs however many its entries are, and none for no entry; at the gate on the
--- disk stand its blocks behind their sum, and the next closed gate. A crash at any moment since then leaves the earlier entries, with all of the batch or with none of it.
+-- The record is ready with all of the batch, after two writes and two syncs however many its entries are, and
+-- none for no entry; at the gate on the disk stand its blocks after their sum, and the next closed gate. A
+-- crash at any moment since then leaves the earlier entries, with all of the batch or with none of it.
 abbrev pub Seals : {D : Type 0} → (D → DiskState → Type 0) → Record D → Record D → Type 0
 Seals stands_for old new = (d : DiskState) (earlier batch : List Entry) → IsAhead stands_for old d earlier batch
     → (e : DiskState) × IsReady stands_for new e (earlier ++ batch) × LeavesOnly d e (IsNoneOrAll old.node old.cluster earlier batch)
     × (length e.past ≡ calls_for batch + length d.past)
     × (batch ≢ [] → IsOpenAt old.staged.base d.seen (behind_gates (sealed_items old.recorded.gate batch)) e.seen)
 
--- The device failed as the batch was written. A crash at any moment since then leaves the earlier entries, with all of the batch or with none of it,
--- and so does none.
+-- The device failed as the batch was written. A crash at any moment since then leaves the earlier entries,
+-- with all of the batch or with none of it, and so does none.
 abbrev pub LeavesBatch : {D : Type 0} → (D → DiskState → Type 0) → Record D → Record D → Type 0
 LeavesBatch stands_for old new = (d : DiskState) (earlier batch : List Entry) → IsAhead stands_for old d earlier batch
     → (e : DiskState) × stands_for new.disk e × LeavesOnly d e (IsNoneOrAll old.node old.cluster earlier batch) × KeepsNoneOrAll old.node old.cluster earlier batch e

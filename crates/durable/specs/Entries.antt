@@ -24,7 +24,7 @@ round_after r (Voted i b v ∷ es) = round_after r es
 round_after r (Learned i v ∷ es) = round_after r es
 round_after r (Floor f ∷ es) = round_after r es
 
--- the last round, 0 where there is none
+-- the last round, or 0 if there is none
 abbrev pub last_round : List Entry → ℕ
 last_round es = round_after 0 es
 
@@ -38,11 +38,11 @@ vote_after i last (Voted j b v ∷ es) = vote_after i (if nat_eq j i then Some (
 vote_after i last (Learned j v ∷ es) = vote_after i last es
 vote_after i last (Floor f ∷ es) = vote_after i last es
 
--- the last vote at the instance, none where there is none
+-- the last vote at the instance, or none
 abbrev pub last_vote : ℕ → List Entry → Option Vote
 last_vote i es = vote_after i None es
 
--- the value learned at the instance, none where none is on record
+-- the value learned at the instance, if one is on record
 abbrev pub learned_at : ℕ → List Entry → Option (List ℕ)
 learned_at i [] = None
 learned_at i (Round r ∷ es) = learned_at i es
@@ -52,7 +52,7 @@ learned_at i (Voted j b v ∷ es) = learned_at i es
 learned_at i (Learned j v ∷ es) = if nat_eq j i then Some v else learned_at i es
 learned_at i (Floor f ∷ es) = learned_at i es
 
--- the round that an entry records or promises, 0 where it does neither
+-- the round that an entry records or promises, or 0 if it does neither
 abbrev pub round_in : Entry → ℕ
 round_in (Round r) = r
 round_in (Promised i b) = b.round
@@ -61,13 +61,13 @@ round_in (Voted i b v) = b.round
 round_in (Learned i v) = 0
 round_in (Floor f) = 0
 
--- the greatest round that the entries record or promise, 0 where there are none
+-- the greatest round that the entries record or promise, or 0 if there are none
 abbrev pub greatest_round : List Entry → ℕ
 greatest_round [] = 0
 greatest_round (e ∷ es) = max (round_in e) (greatest_round es)
 
--- The floor of a record that took the place of a lost one: of instances up to it nobody knows what the lost record promised and voted for.
--- It is the first entry; 0 where that is another, or none
+-- The floor of a record that took the place of a lost one: of instances up to it nobody knows what the lost
+-- record promised and voted for. It is the first entry. 0 if the first entry is another, or there is none
 abbrev pub floor_of : List Entry → ℕ
 floor_of (Floor f ∷ es) = f
 floor_of es = 0
@@ -81,7 +81,8 @@ reach_in (Voted i b v) = i
 reach_in (Learned i v) = 0
 reach_in (Floor f) = f
 
--- how far the entries reach: the greatest instance of a vote, or the floor where that is greater; 0 where there are neither
+-- how far the entries reach: the greatest instance of a vote, or the floor if that is greater; or 0 if there
+-- are neither
 abbrev pub reach_of : List Entry → ℕ
 reach_of [] = 0
 reach_of (e ∷ es) = max (reach_in e) (reach_of es)
@@ -109,7 +110,7 @@ pub record IsSlot (es : List Entry) (i : ℕ) (s : Slot) : Type 0 where
 abbrev pub promise_of : ℕ → ℕ → BallotOf → Entry
 promise_of i k b = if nat_eq k 1 then Promised i b else PromisedSpan i k b
 
--- the entries with one more, where there is one
+-- the entries with one more, if there is one
 abbrev pub with_entry : List Entry → Option Entry → List Entry
 with_entry es None = es
 with_entry es (Some e) = es ++ e ∷ []

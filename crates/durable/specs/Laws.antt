@@ -36,7 +36,8 @@ abbrev pub NeverRefused : Type 0
 NeverRefused = (node cluster : ℕ) (entries : List Entry) (in_flight : Option Entry) (d : DiskState) → Keeps node cluster entries in_flight d
     → (¬ IsNoRecord d.seen) × (¬ IsOfAnother node cluster d.seen) × (¬ IsDamaged node cluster d.seen)
 
--- what an opening reads after the device failed as a batch was sealed: the earlier entries, or they and all of the batch
+-- what an opening reads after the device failed as a batch was sealed: the earlier entries, or they and all
+-- of the batch
 abbrev pub OpeningSettlesBatch : Type 0
 OpeningSettlesBatch = (node cluster : ℕ) (earlier batch : List Entry) (d : DiskState) (found : List Entry) → KeepsNoneOrAll node cluster earlier batch d → StandsFor node cluster d.seen found
     → (found ≡ earlier) ⊎ (found ≡ earlier ++ batch)
@@ -56,6 +57,7 @@ abbrev pub NeverRefusedBatch : Type 0
 NeverRefusedBatch = (node cluster : ℕ) (earlier batch : List Entry) (d : DiskState) → KeepsNoneOrAll node cluster earlier batch d
     → (¬ IsNoRecord d.seen) × (¬ IsOfAnother node cluster d.seen) × (¬ IsDamaged node cluster d.seen)
 
--- what a format above a floor may leave stands for the floor alone, or for nothing: never for a record without one
+-- what a format above a floor may leave stands for the floor alone, or for nothing: never for a record
+-- without one
 abbrev pub FloorStays : Type 0
 FloorStays = (node cluster floor : ℕ) (file : List ℕ) (entries : List Entry) → IsNoneOrFloor node cluster floor file → StandsFor node cluster file entries → entries ≡ Floor floor ∷ []

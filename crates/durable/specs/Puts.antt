@@ -53,8 +53,8 @@ pub record IsMemoryKept (old new : Recorded) : Type 0 where
   pub floor : new.floor ≡ old.floor
   pub reach : new.reach ≡ old.reach
 
--- The bytes were appended behind the gate. Where they are an entry's, the file stands for it too, after two writes and two syncs, and a crash at
--- any moment since then leaves the entries, with it or without it.
+-- The bytes were appended after the gate. If they are an entry's, the file stands for it too, after two
+-- writes and two syncs, and a crash at any moment since then leaves the entries, with it or without it.
 abbrev pub Appends : {D : Type 0} → (D → DiskState → Type 0) → Record D → Record D → List ℕ → Type 0
 Appends stands_for old new bytes = (d : DiskState) (entries : List Entry) (entry : Entry) → IsStored stands_for old d entries → MayFollow old.cluster entries entry → bytes ≡ behind_gate entry
     → (e : DiskState) × IsStored stands_for new e (entries ++ entry ∷ []) × LeavesOnly d e (IsFound old.node old.cluster entries (Some entry))
@@ -65,8 +65,9 @@ abbrev pub BreaksOff : {D : Type 0} → (D → DiskState → Type 0) → Record 
 BreaksOff stands_for old new bytes = (d : DiskState) (entries : List Entry) (entry : Entry) → IsStored stands_for old d entries → MayFollow old.cluster entries entry → bytes ≡ behind_gate entry
     → (e : DiskState) × stands_for new.disk e × LeavesOnly d e (IsFound old.node old.cluster entries (Some entry)) × Keeps old.node old.cluster entries (Some entry) e
 
--- The bytes were written behind the gate, to the disk or to the batch that is open: where they are an entry's, the one or the other has it. Of what is kept in memory
--- the gate alone changes. A device that fails stops the record and is counted; want of memory is only a batch's.
+-- The bytes were written after the gate, to the disk or to the batch that is open: if they are an entry's,
+-- the one or the other has it. Of what is kept in memory the gate alone changes. A device that fails stops
+-- the record and is counted; allocation fails only for a batch.
 pub record Writes {D : Type 0} (stands_for : D → DiskState → Type 0) (failed : D → ℕ) (old new : Record D) (bytes : List ℕ) (result : Result (Unit {0}) RecordFault) : Type 0 where
   pub appends : OnOk result (Appends stands_for old new bytes)
   pub stages : OnOk result (Stages stands_for old new bytes)
@@ -79,7 +80,8 @@ pub record Writes {D : Type 0} (stands_for : D → DiskState → Type 0) (failed
   pub same_mode : IsBatchOpen new ↔ IsBatchOpen old
   pub whose : (new.node ≡ old.node) × (new.cluster ≡ old.cluster)
 
--- A put of the entry has succeeded, over any disk: the record runs and keeps the entry in memory, and no call of the disk has failed.
+-- A put of the entry has succeeded, over any disk: the record runs and keeps the entry in memory, and no call
+-- of the disk has failed.
 pub record IsPut {D : Type 0} (failed : D → ℕ) (old new : Record D) (entry : Entry) : Type 0 where
   pub follows : (entries : List Entry) → IsKept entries old.recorded → MayFollow old.cluster entries entry
   pub remembers : Remembers old.recorded new.recorded entry
@@ -88,20 +90,22 @@ pub record IsPut {D : Type 0} (failed : D → ℕ) (old new : Record D) (entry :
   pub running : new.stopped ≡ false
   pub none_failed : failed new.disk ≡ failed old.disk
 
--- A put of the entry has succeeded: the record is ready with one entry more, after two writes and two syncs; at the gate stand the entry and the
--- next closed gate. A crash at any moment since then leaves the entries, with the new one or without it.
+-- A put of the entry has succeeded: the record is ready with one entry more, after two writes and two syncs;
+-- at the gate stand the entry and the next closed gate. A crash at any moment since then leaves the entries,
+-- with the new one or without it.
 abbrev pub Acknowledges : {D : Type 0} → (D → DiskState → Type 0) → Record D → Record D → Entry → Type 0
 Acknowledges stands_for old new entry = (d : DiskState) (entries : List Entry) → IsReady stands_for old d entries
     → (e : DiskState) × IsReady stands_for new e (entries ++ entry ∷ []) × LeavesOnly d e (IsFound old.node old.cluster entries (Some entry))
     × (length e.past ≡ 4 + length d.past) × IsOpenAt old.recorded.gate d.seen (behind_gate entry) e.seen
 
--- A put of the entry has failed by the device: the entry is in flight. A crash at any moment since then leaves the entries with it or without it,
--- and so does none.
+-- A put of the entry has failed by the device: the entry is in flight. A crash at any moment since then
+-- leaves the entries with it or without it, and so does none.
 abbrev pub LeavesInFlight : {D : Type 0} → (D → DiskState → Type 0) → Record D → Record D → Entry → Type 0
 LeavesInFlight stands_for old new entry = (d : DiskState) (entries : List Entry) → IsReady stands_for old d entries
     → (e : DiskState) × stands_for new.disk e × LeavesOnly d e (IsFound old.node old.cluster entries (Some entry)) × Keeps old.node old.cluster entries (Some entry) e
 
--- A put of the entry was cut short by the device, whose failure is counted: the record stops, and the entry is in flight.
+-- A put of the entry was cut short by the device, whose failure is counted: the record stops, and the entry
+-- is in flight.
 pub record IsCutShort {D : Type 0} (stands_for : D → DiskState → Type 0) (failed : D → ℕ) (old new : Record D) (entry : Entry) : Type 0 where
   pub follows : (entries : List Entry) → IsKept entries old.recorded → MayFollow old.cluster entries entry
   pub stops : new.stopped ≡ true
@@ -118,7 +122,7 @@ pub record IsBatched {D : Type 0} (stands_for : D → DiskState → Type 0) (old
   pub untouched : new.disk ≡ old.disk
   pub no_device : ¬ IsErrOf result Device
 
--- A put of the entry. Stopped comes before Full, Full before want of memory, and that before any write.
+-- A put of the entry. Stopped comes before Full, Full before a failed allocation, and that before any write.
 pub record Puts {D : Type 0} (stands_for : D → DiskState → Type 0) (failed : D → ℕ) (old new : Record D) (entry : Entry) (result : Result (Unit {0}) RecordFault) : Type 0 where
   pub put : OnOk result (IsPut failed old new entry)
   pub acknowledged : OnOk result (Acknowledges stands_for old new entry)

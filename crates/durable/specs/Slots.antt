@@ -18,7 +18,7 @@ cell_at slots at = unwrap_or (get nat_cmp slots.map at) no_cell
 abbrev pub slot_at : Slots → ℕ → Slot
 slot_at slots at = (cell_at slots at).slot
 
--- the value learned at the instance, none where none is kept
+-- the value learned at the instance, if one is kept
 abbrev pub value_at : Slots → ℕ → Option (List ℕ)
 value_at slots at = (cell_at slots at).learned
 

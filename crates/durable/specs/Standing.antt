@@ -6,7 +6,7 @@ use Rattle.durable.specs.Spelling.{head}
 use Rattle.durable.specs.declared.fault.RecordFault.{RecordFault}
 use Rattle.durable.specs.declared.fault.RecordFault.TheVariants.{Device, OutOfMemory, NotARecord, WrongNode, Full, Damaged, Stopped}
 
--- the file is the head, the items behind open gates, a gate that isn't open, and whatever follows it
+-- the file is the head, the items after open gates, a gate that isn't open, and whatever follows it
 pub record IsLaid (node cluster : ℕ) (file : List ℕ) (items : List Item) : Type 0 where
   pub log : IsLog cluster items
   pub gate : ℕ
@@ -34,7 +34,8 @@ IsOfAnother node cluster file = (slice_index file 8 ≢ node) ⊎ (slice_index f
 abbrev pub IsDamaged : ℕ → ℕ → List ℕ → Type 0
 IsDamaged node cluster file = (entries : List Entry) → ¬ StandsFor node cluster file entries
 
--- the first refusal that applies to the file. The device and memory may fail at any file; full and stopped are none of an opening's
+-- the first refusal that applies to the file. The device and memory may fail at any file; full and stopped
+-- are none of an opening's
 abbrev pub IsRefusal : RecordFault → ℕ → ℕ → List ℕ → Type 0
 IsRefusal NotARecord node cluster file = IsNoRecord file
 IsRefusal WrongNode node cluster file = (¬ IsNoRecord file) × IsOfAnother node cluster file

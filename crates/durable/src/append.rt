@@ -1,4 +1,4 @@
-//! One entry behind the present gate.
+//! One entry after the present gate.
 
 ghost use Rattle.std.specs.Prelude.{◌≡◌, ◌+◌, ◌<◌, ◌≤◌, ◌^◌, ℕ, List, length, OnOk, OnErr};
 ghost use Rattle.site_disk.specs.Model.{DiskState, LeavesOnly, CountsFailure, IsTorn, overwritten};
@@ -18,7 +18,7 @@ pub(crate) fn write_through<D: Disk>(disk: &mut D, at: u64, bytes: &[u8]) -> Res
     disk.sync()
 }
 
-/// Writes the bytes behind the closed gate, and opens it once they are on the disk.
+/// Writes the bytes after the closed gate, and opens it once they are on the disk.
 pub(crate) fn append<D: Disk>(disk: &mut D, gate: u64, bytes: &[u8]) -> Result<(), DiskFailed>
     requires { gate < 2 ^ 63 }
     ensures done { OnOk result ((d : DiskState) → D.stands_for disk.old d → IsSettled d → IsClosedAt gate d.seen d.seen

@@ -1,6 +1,6 @@
 //! A batch of entries, which stand on the disk together or not at all.
 //!
-//! Memory is found entry by entry; an open batch stays where another begins.
+//! Each put allocates for its own entry. If another batch is begun, the open one stays.
 
 ghost use Rattle.std.specs.Prelude.{◌≡◌, ◌⊎◌, ◌↔◌, ◌+◌, ◌-◌, ◌<◌, ◌≤◌, ◌^◌, ◌∷◌, [], IsOk, IsErrOf, OnOk, OnErr, length, false, true};
 
@@ -14,8 +14,8 @@ impl<D: Disk> Record<D> {
     ghost use Rattle.durable.specs.Batches.{IsBatchOpen, Begins, Stages, Seals, LeavesBatch};
     ghost use Rattle.durable.specs.Ready.{IsUnchanged};
 
-    /// Opens a batch: from now until it is sealed, a put takes its entry into memory alone, and nothing of it may be told.
-    /// A batch that is open stays as it is.
+    /// Opens a batch: from now until it is sealed, a put takes its entry into memory alone, and nothing of it
+    /// may be told. A batch that is open stays as it is.
     pub fn begin(&mut self) -> Result<(), RecordFault>
         ensures begun { OnOk result (Begins D.stands_for self.old self.new) }
         ensures open { OnOk result (IsBatchOpen self.new × (¬ IsBatchOpen self.old → length self.new.staged.bytes.items ≡ 19)) }
@@ -32,9 +32,9 @@ impl<D: Disk> Record<D> {
         Ok(())
     }
 
-    /// Has all of a batch stand on the disk, and closes it; without entries it makes no call of the disk, and it takes no memory.
-    /// A device that fails leaves all of the batch there or none of it: the record stops, its memory stays ahead of
-    /// the disk, and only the next opening tells.
+    /// Has all of a batch stand on the disk, and closes it; without entries it makes no call of the disk, and
+    /// it takes no memory. A device that fails leaves all of the batch there or none of it: the record stops,
+    /// its memory stays ahead of the disk, and only the next opening tells.
     pub fn seal(&mut self) -> Result<(), RecordFault>
         ensures sealed { OnOk result (Seals D.stands_for self.old self.new) }
         ensures closed { OnOk result ((self.new.staged.bytes.items ≡ []) × (self.new.stopped ≡ false) × (D.failed self.new.disk ≡ D.failed self.old.disk)) }

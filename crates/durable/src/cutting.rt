@@ -1,7 +1,8 @@
 //! What follows the gate at which a record ends.
 //!
-//! A node opens a batch's gate before it writes anything after the batch. So no crash of a real disk leaves, after a gate
-//! that isn't open, a whole batch with its right sum and an open gate after it: an accident shut the first gate.
+//! A node opens a batch's gate before it writes anything after the batch. So no crash of a real disk leaves,
+//! after a gate that isn't open, a whole batch with its right sum and an open gate after it: an accident shut
+//! the first gate.
 
 ghost use Rattle.std.specs.Prelude.{◌≡◌, ◌⊎◌, ◌↔◌, ◌-◌, ◌<◌, ◌≤◌, ◌^◌, length};
 ghost use Rattle.std.specs.Prelude.{IsTrue, IfOk, OnOk, OnErr, IsErrOf};
@@ -13,8 +14,8 @@ use crate::sum::{SUM_BLOCK, Sum};
 use site_disk::Disk;
 use std::alloc::Global;
 
-/// Whether an accident shut the gate at which a record of `len` bytes ends: a batch with its right sum follows, and
-/// another open gate.
+/// Whether an accident shut the gate at which a record of `len` bytes ends: a batch with its right sum
+/// follows, and another open gate.
 pub(crate) fn is_cut_short<D: Disk>(
     alloc: Global,
     disk: &mut D,

@@ -11,7 +11,7 @@ ghost use Rattle.durable.specs.Formatting.{blank_head, FormatsAbove, FormatsInPa
 use crate::append::write_through;
 use crate::record::MARK;
 use crate::recorded::FIRST_GATE;
-use crate::spelling::floor_block;
+use crate::spelling::floor_batch;
 use crate::{Record, RecordFault};
 use site_disk::{Disk, DiskFailed};
 use site_ids::{Cluster, Instance, NodeId};
@@ -39,8 +39,8 @@ fn write_blank<D: Disk>(cluster: Cluster, node: NodeId, disk: &mut D) -> Result<
 }
 
 impl<D: Disk> Record<D> {
-    /// Makes the record of a floor alone on an empty disk, for a node whose record was lost. A crash within it leaves a
-    /// file that is no record, or this one: never a record without the floor.
+    /// Makes the record of a floor alone on an empty disk, for a node whose record was lost. A crash within
+    /// it leaves a file that is no record, or this one: never a record without the floor.
     pub fn format_above(
         cluster: Cluster,
         node: NodeId,
@@ -58,9 +58,9 @@ impl<D: Disk> Record<D> {
         if disk.len()? != 0 {
             return Err(RecordFault::NotARecord);
         }
-        let block = floor_block(floor);
+        let batch = floor_batch(floor);
         write_blank(cluster, node, disk)?;
-        write_through(disk, FIRST_GATE, &block)?;
+        write_through(disk, FIRST_GATE, &batch)?;
         Ok(write_through(disk, 0, &MARK)?)
     }
 }

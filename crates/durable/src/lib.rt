@@ -1,5 +1,5 @@
-//! A node's record: its rounds, promises, votes and learned values, each on the disk before it is acknowledged. A record
-//! that takes the place of a lost one has a floor, too.
+//! A node's record: its rounds, promises, votes and learned values, each on the disk before it is
+//! acknowledged. A record that takes the place of a lost one has a floor, too.
 #![tactic(auto)]
 
 mod append;

@@ -46,7 +46,8 @@ fn read_head<D: Disk>(cluster: Cluster, node: NodeId, disk: &mut D) -> Result<u6
     Ok(len)
 }
 
-/// Syncs, and then reads the record. The answer also says whether an accident shut the gate after its entries.
+/// Syncs, and then reads the record. The answer also says whether an accident shut the gate after its
+/// entries.
 pub(crate) fn read<D: Disk>(
     alloc: Global,
     cluster: Cluster,
@@ -70,8 +71,9 @@ pub(crate) fn read<D: Disk>(
     Ok((recorded, cut_short))
 }
 
-/// Syncs, and then finds the byte from which on a record is damaged; `None` if it is whole. That byte is the gate of a
-/// batch whose sum is wrong, or of bytes that no node wrote, or it is the gate that an accident shut.
+/// Syncs, and then finds the byte from which on a record is damaged; `None` if it is whole. That byte is the
+/// gate of a batch whose sum is wrong, or of bytes that no node wrote, or it is the gate that an accident
+/// shut.
 pub fn damage<D: Disk>(
     alloc: Global,
     cluster: Cluster,
@@ -82,6 +84,9 @@ pub fn damage<D: Disk>(
         → D.stands_for disk.new (after_sync d) × IsDamage node cluster d.seen at) }
     ensures refused { IfErr result (λ fault. (d : DiskState) → D.stands_for disk.old d
         → IsRefusal fault node cluster d.seen × (fault ≢ RecordFault.Damaged)) }
+    ensures cause { IsErrOf result RecordFault.Device
+        → (D.failed disk.old < D.failed disk.new) ⊎ (D.failed disk.old ≡ 2 ^ 64 - 1) }
+    ensures none_failed { OnOk result (D.failed disk.new ≡ D.failed disk.old) }
 {
     let len = read_head(cluster, node, disk)?;
     let mut recorded = Recorded::new(alloc);

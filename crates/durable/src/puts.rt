@@ -21,7 +21,8 @@ impl<D: Disk> Record<D> {
     ghost use Rattle.durable.specs.Puts.{Puts, Writes, Appends, BreaksOff};
     ghost use Rattle.durable.specs.Slots.{slot_at, value_at};
 
-    /// Records a round. At `Ok` it is on the disk, or in the batch that is open. Where none is, it takes no memory.
+    /// Records a round. At `Ok` it is on the disk, or in the batch that is open. Where none is, it takes no
+    /// memory.
     pub fn put_round(&mut self, round: u32) -> Result<(), RecordFault>
         requires { self.old.recorded.round < round }
         ensures put { Puts D.stands_for D.failed self.old self.new (Round round) result }
@@ -46,8 +47,8 @@ impl<D: Disk> Record<D> {
         Ok(())
     }
 
-    /// Records the promise of a span, which raises that of one of its instances at least. At `Ok` it is on the disk, or in
-    /// the batch that is open.
+    /// Records the promise of a span, which raises that of one of its instances at least. At `Ok` it is on
+    /// the disk, or in the batch that is open.
     pub fn put_promise_span(
         &mut self,
         first: Instance,
@@ -88,7 +89,8 @@ impl<D: Disk> Record<D> {
         Ok(())
     }
 
-    /// Records a value as learned, which raises no promise. At `Ok` it is on the disk, or in the batch that is open.
+    /// Records a value as learned, which raises no promise. At `Ok` it is on the disk, or in the batch that
+    /// is open.
     pub fn put_learned(&mut self, instance: Instance, value: &Value) -> Result<(), RecordFault>
         requires new { value_at self.old.recorded.slots instance ≡ None }
         requires fits { length value.now ≤ MAX_VALUE }
@@ -102,7 +104,7 @@ impl<D: Disk> Record<D> {
         Ok(())
     }
 
-    // Refuses a payload of so many bytes where the record has stopped, or its file would pass its limit.
+    // Refuses a payload of this size if the record has stopped, or its file would pass its limit.
     fn check_room(&self, payload: usize) -> Result<(), RecordFault>
         ensures was_stopped { IsErrOf result RecordFault.Stopped ↔ (self.now.stopped ≡ true) }
         ensures full { IsErrOf result RecordFault.Full ↔ ((self.now.stopped ≡ false) × (MAX_RECORD < self.now.recorded.gate + 6 + payload)) }
@@ -118,7 +120,7 @@ impl<D: Disk> Record<D> {
         Ok(())
     }
 
-    // Writes an entry's bytes behind the gate: into the batch that is open, else to the disk.
+    // Writes an entry's bytes after the gate: into the batch that is open, else to the disk.
     fn write(&mut self, bytes: &[u8]) -> Result<(), RecordFault>
         requires running { self.old.stopped ≡ false }
         requires near { self.old.recorded.gate + length bytes.now < 2 ^ 63 }

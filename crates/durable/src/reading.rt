@@ -1,7 +1,7 @@
 //! Reads the items of a file, from gate to gate.
 //!
-//! It reads pieces of 1 MB, and a longer one for a longer batch. The buffer is allocated after the head was read, so a file
-//! that is no record is refused without an allocation.
+//! It reads pieces of 1 MB, and a longer one for a longer batch. The buffer is allocated after the head was
+//! read, so a file that is no record is refused without an allocation.
 
 ghost use Rattle.std.specs.Prelude.{⊤, ◌≡◌, ◌≢◌, ◌⊎◌, ◌+◌, ◌-◌, ◌≤◌, ◌<◌, ◌^◌, ◌++◌, ℕ, List, []};
 ghost use Rattle.std.specs.Prelude.{length, drop, max, min, true, false, None};
@@ -21,7 +21,8 @@ use site_disk::Disk;
 use site_ids::Cluster;
 use std::alloc::{AllocError, Global};
 
-// How much of the file is read at once, many times the longest block: what is cut off at a piece's end is read twice.
+// How much of the file is read at once, many times the longest block: what is cut off at a piece's end is
+// read twice.
 const PIECE: u64 = 1_048_576;
 
 // The longest block of an entry, and the next gate.
@@ -37,8 +38,8 @@ pub(crate) enum Taken {
     CutOff(usize),
 }
 
-/// Reads the items after the head into an empty `recorded`, in pieces that each begin at a gate. If the file is damaged,
-/// that is at `recorded.gate`.
+/// Reads the items after the head into an empty `recorded`, in pieces that each begin at a gate. If the file
+/// is damaged, that is at `recorded.gate`.
 pub(crate) fn read_items<D: Disk>(
     alloc: Global,
     disk: &mut D,
@@ -56,6 +57,7 @@ pub(crate) fn read_items<D: Disk>(
     ensures others { OnErr result (IsErrOf result RecordFault.Device
         ⊎ (IsErrOf result RecordFault.OutOfMemory ⊎ IsErrOf result RecordFault.Damaged)) }
     ensures none_failed { OnOk result (D.failed disk.new ≡ D.failed disk.old) }
+    ensures none_by_damage { IsErrOf result RecordFault.Damaged → D.failed disk.new ≡ D.failed disk.old }
     ensures no_fewer { D.failed disk.old ≤ D.failed disk.new }
     ensures cause { IsErrOf result RecordFault.Device
         → (D.failed disk.old < D.failed disk.new) ⊎ (D.failed disk.old ≡ 2 ^ 64 - 1) }
@@ -85,8 +87,8 @@ fn make_room(buffer: &mut Vec<u8>, least: usize, len: u64) -> Result<(), AllocEr
     Ok(())
 }
 
-// Takes the items that stand whole in a piece. The answer is how long the next piece has to be, or `None` if a gate that
-// isn't open ended them.
+// Takes the items that stand whole in a piece. The answer is how long the next piece has to be, or `None` if
+// a gate that isn't open ended them.
 fn take_piece(
     alloc: Global,
     piece: &[u8],

@@ -1,6 +1,7 @@
 //! The record of a node over a disk.
 //!
-//! Callers owe that a ballot's node is of the `cluster`; no test stands at 4,294,967,295 bytes; `Puts.full` says it.
+//! Callers owe that a ballot's node is of the `cluster`; no test stands at 4,294,967,295 bytes; `Puts.full`
+//! says it.
 
 ghost use Rattle.std.specs.Prelude.{◌≡◌, ◌↔◌, ◌⊎◌, ◌+◌, ◌-◌, ◌≤◌, ◌<◌, ◌^◌, ◌∷◌, ◌++◌, [], ℕ, List, Option, option_copied, IsTrue, IsErrOf, OnOk, OnErr, IfOk, IfErr, length, false, true};
 ghost use Rattle.site_disk.specs.Model.{DiskState, after_sync};
@@ -53,8 +54,8 @@ impl<D: Disk> Record<D> {
     ghost use Rattle.durable.specs.Ready.{IsOpened};
     ghost use Rattle.durable.specs.Slots.{slot_at, value_at};
 
-    /// Makes an empty record of a node of a cluster on an empty disk. A crash within it may leave a file that is no
-    /// record.
+    /// Makes an empty record of a node of a cluster on an empty disk. A crash within it may leave a file that
+    /// is no record.
     pub fn format(cluster: Cluster, node: NodeId, disk: &mut D) -> Result<(), RecordFault>
         ensures formatted { OnOk result ((d : DiskState) → D.stands_for disk.old d → (d.seen ≡ []) × (e : DiskState) × D.stands_for disk.new e × IsSettled e × (e.seen ≡ head node cluster ++ 0 ∷ []) × StandsFor node cluster e.seen []) }
         ensures untouched { OnErr result ((d : DiskState) → D.stands_for disk.old d → 0 < length d.seen → D.stands_for disk.new d) }
@@ -116,36 +117,37 @@ impl<D: Disk> Record<D> {
         self.cluster
     }
 
-    /// The last round, 0 where there is none.
+    /// The last round, or 0 if there is none.
     pub fn round(&self) -> u32
         ensures { result ≡ self.now.recorded.round }
     {
         self.recorded.round
     }
 
-    /// The greatest round that was recorded or promised, 0 where there is none.
+    /// The greatest round that was recorded or promised, or 0 if there is none.
     pub fn greatest_round(&self) -> u32
         ensures { result ≡ self.now.recorded.greatest }
     {
         self.recorded.greatest
     }
 
-    /// The floor of a record that took the place of a lost one, 0 where it took none's.
+    /// The floor of a record that took the place of a lost one, or 0 if it took the place of none.
     pub fn floor(&self) -> u32
         ensures { result ≡ self.now.recorded.floor }
     {
         self.recorded.floor
     }
 
-    /// How far it reaches: the greatest instance of a vote, or the floor where that is greater; 0 where there are neither.
+    /// How far it reaches: the greatest instance of a vote, or the floor if that is greater; or 0 if there
+    /// are neither.
     pub fn reach(&self) -> u32
         ensures { result ≡ self.now.recorded.reach }
     {
         self.recorded.reach
     }
 
-    /// Whether an accident had shut the gate at which the record ended when it was opened: a batch with its right sum
-    /// followed, and another open gate, and none of that was read.
+    /// Whether an accident had shut the gate at which the record ended when it was opened: a batch with its
+    /// right sum followed, and another open gate, and none of that was read.
     pub fn is_cut_short(&self) -> bool
         ensures { result ≡ self.now.cut_short }
     {
@@ -159,7 +161,7 @@ impl<D: Disk> Record<D> {
         self.stopped
     }
 
-    /// The slot of an instance, an empty one where none stands.
+    /// The slot of an instance, or an empty one.
     pub fn slot(&self, instance: Instance) -> &Slot
         ensures { result.now ≡ slot_at self.now.recorded.slots instance }
     {
@@ -173,7 +175,7 @@ impl<D: Disk> Record<D> {
         self.recorded.slots.learned(instance)
     }
 
-    /// No put of so long a payload would be refused as full.
+    /// Whether a put of a payload of this length would not be refused as full.
     pub fn has_room(&self, payload: usize) -> bool
         ensures { IsTrue result ↔ (self.now.recorded.gate + 6 + payload ≤ MAX_RECORD) }
     {

@@ -21,14 +21,14 @@ pub(crate) struct Recorded {
     pub(crate) round: u32,
     /// The greatest round that was recorded or promised.
     pub(crate) greatest: u32,
-    /// The floor, 0 where there is none.
+    /// The floor, or 0 if there is none.
     pub(crate) floor: u32,
-    /// The greatest instance of a vote, or the floor where that is greater.
+    /// The greatest instance of a vote, or the floor if that is greater.
     pub(crate) reach: u32,
     pub(crate) slots: Slots,
 }
 
-/// The gate behind the head: where it is the present one, there is no entry yet.
+/// The gate after the head: if it is the present one, there is no entry yet.
 pub(crate) const FIRST_GATE: u64 = 10;
 
 impl Recorded {
@@ -60,7 +60,7 @@ impl Recorded {
         self.greatest = self.greatest.max(round);
     }
 
-    /// Keeps a promise where there is room for the slot.
+    /// Keeps a promise if there is room for the slot.
     pub(crate) fn keep_promise(&mut self, instance: Instance, ballot: Ballot)
         requires { IsThere self.old.slots instance }
         ensures remembers { Remembers self.old self.new (Promised instance ballot) }
@@ -70,7 +70,7 @@ impl Recorded {
         self.greatest = self.greatest.max(ballot.round());
     }
 
-    /// Keeps the promise of a span where there is room for its slots.
+    /// Keeps the promise of a span if there is room for its slots.
     pub(crate) fn keep_span(&mut self, first: Instance, count: u8, ballot: Ballot)
         requires span { IsSpan first count }
         requires room { (at : ℕ) → IsInSpan first count at → IsThere self.old.slots at }
@@ -81,7 +81,7 @@ impl Recorded {
         self.greatest = self.greatest.max(ballot.round());
     }
 
-    /// Keeps a vote where there is room for the slot.
+    /// Keeps a vote if there is room for the slot.
     pub(crate) fn keep_vote(&mut self, instance: Instance, vote: Vote)
         requires { IsThere self.old.slots instance }
         ensures remembers { Remembers self.old self.new (Voted instance vote.ballot vote.value) }
@@ -92,7 +92,7 @@ impl Recorded {
         self.slots.vote(instance, vote);
     }
 
-    /// Keeps a learned value where there is room for the slot.
+    /// Keeps a learned value if there is room for the slot.
     pub(crate) fn keep_learned(&mut self, instance: Instance, value: Value)
         requires { IsThere self.old.slots instance }
         ensures remembers { Remembers self.old self.new (Learned instance value) }

@@ -67,7 +67,7 @@ impl Slots {
         }
     }
 
-    /// The slot, an empty one where none stands.
+    /// The slot, or an empty one.
     pub(crate) fn get(&self, at: Instance) -> &Slot
         ensures { result.now ≡ slot_at self.now at }
     {
@@ -139,7 +139,8 @@ impl Slots {
         }
     }
 
-    /// Raises the promise of an instance where it is below the ballot, or none stands, and there is room for the slot.
+    /// Raises the promise of an instance if it is below the ballot or none stands, and if there is room for
+    /// the slot.
     fn raise(&mut self, at: Instance, ballot: Ballot)
         requires { IsThere self.old at }
         ensures raised { IsRaised (slot_at self.old at) ballot (slot_at self.new at) }
@@ -168,7 +169,7 @@ impl Slots {
         }
     }
 
-    /// Raises a promise where there is room for the slot.
+    /// Raises a promise if there is room for the slot.
     pub(crate) fn promise(&mut self, at: Instance, ballot: Ballot)
         requires { IsThere self.old at }
         ensures promised { cell_at self.new at ≡ record (cell_at self.old at) { slot = with_promise (slot_at self.old at) ballot } }
@@ -180,7 +181,7 @@ impl Slots {
         }
     }
 
-    /// Puts a vote, whose ballot is promised too, where there is room for the slot.
+    /// Puts a vote, whose ballot is promised too, if there is room for the slot.
     pub(crate) fn vote(&mut self, at: Instance, vote: Vote)
         requires { IsThere self.old at }
         ensures voted { cell_at self.new at ≡ record (cell_at self.old at) { slot = with_vote vote.ballot vote.value } }
@@ -194,7 +195,7 @@ impl Slots {
         }
     }
 
-    /// Puts a learned value where there is room for the slot, which stays as it is.
+    /// Puts a learned value if there is room for the slot, which stays as it is.
     pub(crate) fn learn(&mut self, at: Instance, value: Value)
         requires { IsThere self.old at }
         ensures learned { cell_at self.new at ≡ record (cell_at self.old at) { learned = Some value } }
@@ -205,7 +206,7 @@ impl Slots {
         }
     }
 
-    /// All the memory that a vote wants: its bytes behind the gate, the vote, and room for its slot.
+    /// Allocates all that a vote needs: its bytes after the gate, the vote, and room for its slot.
     pub(crate) fn room_for_vote(
         &mut self,
         alloc: Global,
@@ -226,7 +227,7 @@ impl Slots {
         Ok((bytes, Vote { ballot, value }))
     }
 
-    /// All the memory that a learned value wants: its bytes behind the gate, itself, and room for its slot.
+    /// Allocates all that a learned value needs: its bytes after the gate, itself, and room for its slot.
     pub(crate) fn room_for_learned(
         &mut self,
         alloc: Global,

@@ -1,4 +1,4 @@
-//! What waits to be written behind a gate.
+//! What waits to be written after a gate.
 
 ghost use Rattle.std.specs.Prelude.{◌≡◌, ◌≢◌, ◌↔◌, ◌+◌, ◌-◌, ◌<◌, ◌≤◌, ◌^◌, ◌∷◌, ◌++◌, [], ℕ, List, if◌then◌else◌, IsTrue, IsOk, OnOk, OnErr, nat_lt, not, length, drop};
 ghost use Rattle.site_ids.specs.declared.TheConstants.{MAX_RECORD};
@@ -8,7 +8,7 @@ use crate::sum::{SUM_BLOCK, sum_front};
 use site_ids::MAX_RECORD;
 use std::alloc::{AllocError, Global};
 
-// How many bytes wait where a batch has no entry: room for a sum, and a closed gate.
+// How many bytes wait while a batch has no entry: room for a sum, and a closed gate.
 const EMPTY: usize = SUM_BLOCK + 1;
 
 // Writes what stands in front of the blocks of a batch.
@@ -19,7 +19,7 @@ fn write_front(bytes: &mut Vec<u8>, front: &[u8])
     bytes[0..front.len()].copy_from_slice(front);
 }
 
-/// What is written of a batch behind the gate on the disk: the bytes from a place on, which end at a gate.
+/// What is written of a batch after the gate on the disk: the bytes from a place on, which end at a gate.
 pub(crate) struct Sealed {
     pub(crate) from: usize,
     pub(crate) end: u64,
@@ -30,7 +30,7 @@ pub(crate) struct Sealed {
 pub(crate) struct Staged {
     // nothing while no batch is open; else room for a sum, the blocks of its entries, and a closed gate
     pub(crate) bytes: Vec<u8>,
-    // the gate on the disk, where the batch has entries
+    // the gate on the disk, if the batch has entries
     pub(crate) base: u64,
     ghost near: { 19 < length bytes.items → base < 2 ^ 63 },
     ghost room: { 0 < length bytes.items → 18 < length bytes.items },
@@ -79,7 +79,8 @@ impl Staged {
         write_front(&mut self.bytes, &front);
     }
 
-    /// Puts the sum in front of the blocks, where the file has room for it. The blocks end at the given gate without one.
+    /// Puts the sum in front of the blocks, if the file has room for it. The blocks end at the given gate
+    /// without one.
     pub(crate) fn seal(&mut self, gate: u64) -> Sealed
         requires { 19 < length self.old.bytes.items }
         ensures bytes { (blocks : List ℕ) → drop 18 self.old.bytes.items ≡ blocks ++ 0 ∷ []
@@ -101,7 +102,7 @@ impl Staged {
         }
     }
 
-    /// Opens a batch where none is open.
+    /// Opens a batch if none is open.
     pub(crate) fn open(&mut self) -> Result<(), AllocError>
         ensures opened { OnOk result (self.old.bytes.items ≡ [] → (length self.new.bytes.items ≡ 19) × (drop 18 self.new.bytes.items ≡ 0 ∷ [])) }
         ensures was_open { 0 < length self.old.bytes.items → (self.new ≡ self.old) × IsOk result }
@@ -115,7 +116,8 @@ impl Staged {
         Ok(())
     }
 
-    /// Takes an entry's bytes behind the gate that ends those that wait. The first entry's stands at the given gate of the disk.
+    /// Takes an entry's bytes after the gate that ends those that wait. The first entry's stands at the given
+    /// gate of the disk.
     pub(crate) fn push(&mut self, gate: u64, bytes: &[u8]) -> Result<(), AllocError>
         requires open { 0 < length self.old.bytes.items }
         requires near { gate < 2 ^ 63 }

@@ -1,8 +1,8 @@
 //! Sums of batches, by which a flipped bit is noticed.
 //!
-//! A sum is against accidents and not against forgers, so eight bytes of MD5 are enough. It comes before the bytes that it
-//! is of, with their number, so a flipped bit in one of their lengths hides nothing. Its kind, 24, differs from the kind of
-//! each entry in two bits at least.
+//! A sum is against accidents and not against forgers, so eight bytes of MD5 are enough. It comes before the
+//! bytes that it is of, with their number, so a flipped bit in one of their lengths hides nothing. Its kind,
+//! 24, differs from the kind of each entry in two bits at least.
 
 ghost use Rattle.std.specs.Prelude.{◌≡◌, ◌↔◌, ◌+◌, ◌<◌, ◌^◌, IsTrue, MatchOption, length, take, slice_index};
 ghost use Rattle.durable.specs.Items.{sum_front, sum_of};

@@ -1,6 +1,7 @@
 //! What is reported of a record.
 
-ghost use Rattle.std.specs.Prelude.{◌≡◌, ◌≢◌, IfOk, IfErr, None, length, List, slice_index};
+ghost use Rattle.std.specs.Prelude.{◌≡◌, ◌≢◌, ◌⊎◌, ◌-◌, ◌<◌, ◌^◌, IfOk, IfErr, IsErrOf, OnOk, None};
+ghost use Rattle.std.specs.Prelude.{length, List, slice_index};
 ghost use Rattle.site_disk.specs.Model.{DiskState};
 ghost use Rattle.durable.specs.Damage.{IsDamage};
 ghost use Rattle.durable.specs.Entries.{Entry};
@@ -41,6 +42,9 @@ fn head<D: Disk>(disk: &mut D) -> Result<(u64, NodeId, Cluster), RecordFault>
     ensures state { (d : DiskState) → D.stands_for disk.old d → D.stands_for disk.new d }
     ensures named { IfOk result (λ p. (d : DiskState) → D.stands_for disk.old d → (p.0 ≡ length d.seen) × Names p.1 p.2 d.seen) }
     ensures fault { IfErr result (λ fault. (d : DiskState) → D.stands_for disk.old d → IsRefused fault d.seen × (fault ≢ RecordFault.Damaged)) }
+    ensures cause { IsErrOf result RecordFault.Device
+        → (D.failed disk.old < D.failed disk.new) ⊎ (D.failed disk.old ≡ 2 ^ 64 - 1) }
+    ensures none_failed { OnOk result (D.failed disk.new ≡ D.failed disk.old) }
 {
     let bytes = disk.len()?;
     if bytes < 11 {
@@ -66,6 +70,9 @@ pub fn damage_of<D: Disk>(alloc: Global, disk: &mut D) -> Result<Option<u64>, Re
         → IsDamage (slice_index d.seen 8) (slice_index d.seen 9) d.seen at) }
     ensures refused { IfErr result (λ fault. (d : DiskState) → D.stands_for disk.old d
         → IsRefused fault d.seen × (fault ≢ RecordFault.Damaged)) }
+    ensures cause { IsErrOf result RecordFault.Device
+        → (D.failed disk.old < D.failed disk.new) ⊎ (D.failed disk.old ≡ 2 ^ 64 - 1) }
+    ensures none_failed { OnOk result (D.failed disk.new ≡ D.failed disk.old) }
 {
     let (_, node, nodes) = head(disk)?;
     damage(alloc, nodes, node, disk)
@@ -95,6 +102,8 @@ impl View {
         ensures viewed { IfOk result (λ v. (entries : List Entry) × IsViewOf entries v × ((d : DiskState) → D.stands_for disk d
             → StandsFor v.node v.nodes d.seen entries × IsDamage v.node v.nodes d.seen None × (v.bytes ≡ length d.seen))) }
         ensures refused { IfErr result (λ p. (d : DiskState) → D.stands_for disk d → IsRefused p.0 d.seen) }
+        ensures cause { IfErr result (λ p. p.0 ≡ RecordFault.Device
+            → (D.failed disk < D.failed p.1) ⊎ (D.failed disk ≡ 2 ^ 64 - 1)) }
     {
         let mut disk = disk;
         let (bytes, node, nodes) = match head(&mut disk) {

@@ -4,7 +4,7 @@ use crate::changes::with_byte;
 use crate::comparing::{ensure, same};
 use crate::damage::is_of;
 use crate::disks::{crashed_within, is_long, is_long_behind, reads};
-use crate::listed::{RECORD, SUMMED, entries};
+use crate::listed::{RECORD, SUMMED, SUMMED_FLOOR, entries};
 use crate::samples::{ballot, instance, is_bytes};
 use crate::steps::{Step, act, disk_behind, take};
 use crate::stored::{
@@ -314,16 +314,22 @@ fn a_stored_record_goes_on(rt: HostRuntime) {
     tells_further(&rt, opened(&rt, alloc, record.close()));
 }
 
-/// Records whose first gate is shut, and whether an open gate behind a batch shows that an accident shut it.
+/// A floor of 65 after its sum, and then a batch of round 1.
+const FLOOR_AND_ROUND: [u8; 67] =
+    *b"SITEREC1\x02\x03\x01\x00\x00\x00\x0d\x18\x00\x00\x00\x0a\xc7\xe7\xa5\x8cq\xc5\xf6$\x01\x00\x00\x00\x05\x05\x00\x00\x00\x41\x01\x00\x00\x00\x0d\x18\x00\x00\x00\x0a\x9a\xd4\x91\x0b\xa7`7;\x01\x00\x00\x00\x05\x01\x00\x00\x00\x01\x00";
+
+/// Records whose first gate is shut, and whether an open gate after a batch shows that an accident shut it.
 const SHUT: &[(&[u8], bool)] = &[
     (&TWICE, true),
+    (&FLOOR_AND_ROUND, true),
+    (&SUMMED_FLOOR, false),
     (&THE_FIRST, true),
     (&SUMMED, false),
     (&THE_LATER, false),
     (&RECORD, false),
 ];
 
-/// Of a batch whose gate is shut it is noticed, if a gate behind it is open.
+/// If an accident shuts a batch's gate, that is noticed as long as a gate after the batch is open.
 #[test]
 fn a_gate_that_an_accident_shut(rt: HostRuntime) {
     let alloc = rt.alloc();

@@ -2,7 +2,8 @@
 use crate::changes::with_byte;
 use crate::comparing::{ensure, same};
 use crate::listed::{
-    FLOORED, LEARNED, Listed, RECORD, SPANNED, SUMMED, entries, floored, learned, spanned,
+    FLOORED, LEARNED, Listed, RECORD, SPANNED, SUMMED, SUMMED_FLOOR, entries, floored, learned,
+    spanned,
 };
 use crate::samples::{instance, is_bytes, is_text};
 use crate::stored::{damaged_from, one_of_three, read_bytes};
@@ -292,26 +293,33 @@ fn the_list_has_what_is_worked_out(rt: HostRuntime) {
 
 const BITS: &[u8] = &[1, 2, 4, 8, 16, 32, 64, 128];
 
-/// What becomes of the record with a sum where a bit of the byte at a place is another: the entries that are read, or the
-/// refusal.
-fn flipped(place: usize, byte: u8) -> Result<usize, RecordFault> {
+/// A record of one batch after its sum: where its last gate stands, and how many entries it has.
+#[derive(Clone, Copy)]
+struct OneBatch<'a> {
+    record: &'a [u8],
+    last: usize,
+    count: usize,
+}
+
+/// What becomes of the record if the byte at a place has one other bit: how many entries are read, or the refusal.
+fn flipped(batch: OneBatch<'_>, place: usize, byte: u8) -> Result<usize, RecordFault> {
     match place {
         0..8 => Err(RecordFault::NotARecord),
         8 | 9 => Err(RecordFault::WrongNode),
         // the sum's gate: it is shut, which ends the list
         10 => Ok(0),
         // the last gate, which only an open one changes
-        70 if byte != 1 => Ok(3),
+        _ if place == batch.last && byte != 1 => Ok(batch.count),
         _ => Err(RecordFault::Damaged),
     }
 }
 
-/// The byte from which on the record with a sum is damaged where that bit is another.
-fn place_of(place: usize, byte: u8) -> Result<Option<u64>, RecordFault> {
-    match flipped(place, byte) {
+/// The byte from which on the record is damaged then.
+fn place_of(batch: OneBatch<'_>, place: usize, byte: u8) -> Result<Option<u64>, RecordFault> {
+    match flipped(batch, place, byte) {
         Ok(_) => Ok(None),
-        // the last gate is opened, and nothing stands behind it
-        Err(RecordFault::Damaged) if place == 70 => Ok(Some(70)),
+        // the last gate is opened, and nothing stands after it
+        Err(RecordFault::Damaged) if place == batch.last => Ok(Some(batch.last as u64)),
         Err(RecordFault::Damaged) => Ok(Some(10)),
         Err(fault) => Err(fault),
     }
@@ -343,29 +351,50 @@ fn opens(
     }
 }
 
+/// The record with each other bit of the byte at a place becomes what it should.
+fn flip_each_bit(
+    rt: &impl Abort,
+    alloc: Global,
+    batch: OneBatch<'_>,
+    entries: &[Entry],
+    (place, was): (usize, u8),
+) {
+    for &bit in BITS {
+        let byte = was ^ bit;
+        let bytes = with_byte(rt, alloc, batch.record, place, byte);
+        let wanted = flipped(batch, place, byte);
+        ensure(rt, opens(rt, alloc, &bytes, wanted, entries), (place, byte));
+        let from = place_of(batch, place, byte);
+        same(rt, damaged_from(rt, alloc, &bytes), from);
+        drop(bytes);
+    }
+}
+
+/// The record opens, and with each other bit it becomes what it should.
+fn flip_each(rt: &impl Abort, alloc: Global, batch: OneBatch<'_>, entries: Vec<Entry>) {
+    let whole = opens(rt, alloc, batch.record, Ok(batch.count), &entries);
+    ensure(rt, whole, batch.record.len());
+    for (place, &was) in batch.record.iter().enumerate() {
+        flip_each_bit(rt, alloc, batch, &entries, (place, was));
+    }
+    drop(entries);
+}
+
 /// No bit of what a sum covers can be another without being noticed, no length and no gate among them, nor one of the sum
 /// itself. A sum's gate that is shut ends the list, as ever.
 #[test]
 fn a_record_with_a_sum_and_each_bit_flipped(rt: HostRuntime) {
     let alloc = rt.alloc();
-    let entries = entries(&rt, alloc);
-    ensure(
-        &rt,
-        opens(&rt, alloc, &SUMMED, Ok(3), &entries),
-        SUMMED.len(),
-    );
-    for place in 0..SUMMED.len() {
-        for &bit in BITS {
-            let byte = SUMMED[place] ^ bit;
-            let bytes = with_byte(&rt, alloc, &SUMMED, place, byte);
-            ensure(
-                &rt,
-                opens(&rt, alloc, &bytes, flipped(place, byte), &entries),
-                (place, byte),
-            );
-            same(&rt, damaged_from(&rt, alloc, &bytes), place_of(place, byte));
-            drop(bytes);
-        }
-    }
-    drop(entries);
+    let batch = OneBatch {
+        record: &SUMMED,
+        last: 70,
+        count: 3,
+    };
+    flip_each(&rt, alloc, batch, entries(&rt, alloc));
+    let floor = OneBatch {
+        record: &SUMMED_FLOOR,
+        last: 38,
+        count: 1,
+    };
+    flip_each(&rt, alloc, floor, floored(&rt, alloc));
 }

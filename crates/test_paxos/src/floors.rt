@@ -1,7 +1,7 @@
 //! Records that take the place of a lost one: how they are made, what they tell, what is damage.
 use crate::comparing::{ensure, same};
 use crate::disks::{holds, is_long_behind};
-use crate::listed::FLOORED;
+use crate::listed::{FLOORED, SUMMED_FLOOR};
 use crate::records::are_calls;
 use crate::steps::{Step, disk_behind, take};
 use crate::stored::{
@@ -22,14 +22,14 @@ fn floored(rt: &impl Abort, alloc: Global) -> MemDisk {
 /// The disk was made by seven calls, and is no file for another record.
 fn is_made(rt: &impl Abort, disk: &mut MemDisk) {
     ensure(rt, are_calls(disk.calls(), b"LWSWSWS"), 7);
-    ensure(rt, holds(disk, &FLOORED), FLOORED.len());
+    ensure(rt, holds(disk, &SUMMED_FLOOR), SUMMED_FLOOR.len());
     let again = format_above(rt, disk);
     ends(rt, again, Err(RecordFault::NotARecord));
-    ensure(rt, holds(disk, &FLOORED), FLOORED.len());
+    ensure(rt, holds(disk, &SUMMED_FLOOR), SUMMED_FLOOR.len());
 }
 
 #[test]
-fn a_floor_is_seven_calls_and_eleven_bytes(rt: HostRuntime) {
+fn a_floor_is_seven_calls_and_29_bytes(rt: HostRuntime) {
     let mut disk = floored(&rt, rt.alloc());
     is_made(&rt, &mut disk);
     let found = found_floor(&rt, rt.alloc(), disk);
@@ -128,6 +128,7 @@ fn a_batch_reaches_once_it_is_sealed(rt: HostRuntime) {
 /// Records of node 2 of three, and why they are refused: behind a round, twice, as 0, as 1,000,001 and 1,000,000, a byte short and one too long.
 const FLOORS: &[(&[u8], Option<RecordFault>)] = &[
     (&FLOORED, None),
+    (&SUMMED_FLOOR, None),
     (
         b"SITEREC1\x02\x03\x01\x00\x00\x00\x05\x01\x00\x00\x00\x01\x01\x00\x00\x00\x05\x05\x00\x00\x00\x41\x00",
         Some(RecordFault::Damaged),

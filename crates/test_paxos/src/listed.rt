@@ -57,8 +57,13 @@ pub fn learned(rt: &impl Abort, alloc: Global) -> Vec<Entry> {
     entries
 }
 
-/// The record of node 2 of 3 that took the place of a lost one: its one entry is the floor, 65. At 10 its gate, at 20 the last one.
+/// A record of node 2 of 3 whose one entry is a floor, 65, without a sum. At 10 its gate, at 20 the last one.
 pub const FLOORED: [u8; 21] = *b"SITEREC1\x02\x03\x01\x00\x00\x00\x05\x05\x00\x00\x00\x41\x00";
+
+/// The same as it is made in the place of a lost record, after the sum of the floor: at 10 the gate of the sum, at 28 that of
+/// the floor, at 38 the last one.
+pub const SUMMED_FLOOR: [u8; 39] =
+    *b"SITEREC1\x02\x03\x01\x00\x00\x00\x0d\x18\x00\x00\x00\x0a\xc7\xe7\xa5\x8cq\xc5\xf6$\x01\x00\x00\x00\x05\x05\x00\x00\x00\x41\x00";
 
 /// Its history.
 pub fn floored(rt: &impl Abort, alloc: Global) -> Vec<Entry> {

@@ -4,7 +4,7 @@ use Rattle.durable.specs.Items.{Item, item_blocks}
 use Rattle.durable.specs.Reading.{AreRead}
 use Rattle.durable.proofs.reading.read_items.Given as goal
 
--- the items so far stand behind the head, and a gate behind them
+-- the items so far stand after the head, and a gate after them
 abbrev pub invariant-loop-buffer : goal.invariant-loop-buffer
 invariant-loop-buffer g l = record {
   within : l.recorded.gate < l.len;

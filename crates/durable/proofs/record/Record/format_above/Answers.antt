@@ -16,7 +16,7 @@ pub returns-in_err-write_through-clause-in_part : goal.returns-in_err-write_thro
 returns-in_err-write_through-clause-in_part g c = on_err c.from_residual-in_err-write_through.result (λ d stands empty.
     let node = c.args.node in
     let cluster = c.args.cluster in
-    let size = length c.floor_block-block.result in
+    let size = length c.floor_batch-batch.result in
     let blank = c.in_ok-write_blank.ensures.done d (c.in_ok-len.ensures.state d stands) empty in
     let left = c.in_err-write_through.ensures.torn blank.0 blank.1 blank.3 (omega (arith, ap length blank.4)) in
     (left.0, left.1, then_floor node cluster c.args.floor d blank.0 blank.2 left.0 size blank.4 left.2, floor_torn node cluster c.args.floor blank.0.seen left.0.seen size blank.4 left.3))
@@ -26,11 +26,11 @@ returns-in_err-write_through-2-clause-in_part g c = on_err c.from_residual-in_er
     let node = c.args.node in
     let cluster = c.args.cluster in
     let floor = c.args.floor in
-    let instance = c.floor_block-block.ensures.in_range in
-    let size = length c.floor_block-block.result in
+    let instance = c.floor_batch-batch.ensures.in_range in
+    let size = length c.floor_batch-batch.result in
     let blank = c.in_ok-write_blank.ensures.done d (c.in_ok-len.ensures.state d stands) empty in
     let floored = c.in_ok-write_through.ensures.done blank.0 blank.1 blank.3 (omega (arith, ap length blank.4)) in
-    let is : floored.0.seen ≡ blank_head node cluster ++ floor_bytes floor = floored.4 ∙ floor_is node cluster floor blank.0.seen c.floor_block-block.result blank.4 c.floor_block-block.ensures.bytes in
+    let is : floored.0.seen ≡ blank_head node cluster ++ floor_bytes floor = floored.4 ∙ floor_is node cluster floor blank.0.seen c.floor_batch-batch.result blank.4 c.floor_batch-batch.ensures.bytes in
     let left = c.in_err-write_through-2.ensures.torn floored.0 floored.1 floored.3 (omega arith) in (
       left.0,
       left.1,
@@ -43,12 +43,12 @@ returns-clause-formatted g c = λ d stands.
     let node = c.args.node in
     let cluster = c.args.cluster in
     let floor = c.args.floor in
-    let instance = c.floor_block-block.ensures.in_range in
-    let size = length c.floor_block-block.result in
+    let instance = c.floor_batch-batch.ensures.in_range in
+    let size = length c.floor_batch-batch.result in
     let empty : d.seen ≡ [] = empty_of d.seen (omega (arith, c.in_ok-len.ensures.len d stands)) in
     let blank = c.in_ok-write_blank.ensures.done d (c.in_ok-len.ensures.state d stands) empty in
     let floored = c.in_ok-write_through.ensures.done blank.0 blank.1 blank.3 (omega (arith, ap length blank.4)) in
-    let floored_is : floored.0.seen ≡ blank_head node cluster ++ floor_bytes floor = floored.4 ∙ floor_is node cluster floor blank.0.seen c.floor_block-block.result blank.4 c.floor_block-block.ensures.bytes in
+    let floored_is : floored.0.seen ≡ blank_head node cluster ++ floor_bytes floor = floored.4 ∙ floor_is node cluster floor blank.0.seen c.floor_batch-batch.result blank.4 c.floor_batch-batch.ensures.bytes in
     let marked = c.in_ok-write_through-2.ensures.done floored.0 floored.1 floored.3 (omega arith) in
     let is : marked.0.seen ≡ head node cluster ++ floor_bytes floor = marked.4 ∙ mark_is node cluster floor floored.0.seen floored_is in (
       empty,

@@ -3,7 +3,7 @@ use Rattle.site_ids.specs.Spans.{IsInSpan}
 use Rattle.durable.specs.Slots.{cell_at, IsThere}
 use Rattle.durable.proofs.slots.Slots.make_room_for_span.Given as goal
 
--- there is room for so many of them
+-- there is room for the first `past` of them
 abbrev pub invariant-loop-past : goal.invariant-loop-past
 invariant-loop-past l = record {
   within : l.past ≤ l.count;

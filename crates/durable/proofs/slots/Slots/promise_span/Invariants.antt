@@ -4,7 +4,7 @@ use Rattle.durable.specs.Raising.{IsRaised}
 use Rattle.durable.specs.Slots.{cell_at, slot_at, value_at, IsThere}
 use Rattle.durable.proofs.slots.Slots.promise_span.Given as goal
 
--- so many of them are raised, and the others are as they were
+-- the first `past` of them are raised, and the others are as they were
 abbrev pub invariant-loop-past : goal.invariant-loop-past
 invariant-loop-past l = record {
   within : l.past ≤ l.count;

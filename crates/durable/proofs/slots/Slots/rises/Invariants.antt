@@ -4,7 +4,7 @@ use Rattle.acceptor.specs.Judging.{IsFreeBelow}
 use Rattle.durable.specs.Slots.{slot_at}
 use Rattle.durable.proofs.slots.Slots.rises.Given as goal
 
--- of so many of them none rises
+-- none of the first `past` of them rises
 abbrev pub invariant-loop-past : goal.invariant-loop-past
 invariant-loop-past l = record {
   within : l.past ≤ l.count;

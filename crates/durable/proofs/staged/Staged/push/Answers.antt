@@ -3,13 +3,13 @@ use Rattle.std.proofs.Math.ListN.{set}
 use Rattle.std.proofs.lemmas.List.{set_at, drop_at}
 use Rattle.durable.proofs.staged.Staged.push.Goals as goal
 
--- the gate that ends a list is opened, with an entry's bytes behind it
+-- the gate that ends a list is opened, with an entry's bytes after it
 opened_behind : (old bytes longer : List ℕ) (size : ℕ) → size ≡ length old → longer ≡ old ++ bytes → (front : List ℕ) → old ≡ front ++ 0 ∷ [] → set longer (size - 1) 1 ≡ front ++ 1 ∷ bytes
 opened_behind old bytes longer size is more front split =
     ap (λ (l : List ℕ). set l (size - 1) 1) (more ∙ ap (λ (l : List ℕ). l ++ bytes) split ∙ append_assoc front (0 ∷ []) bytes)
     ∙ set_at front 0 bytes 1 (size - 1) (omega (arith, is, ap length split, length-append front (0 ∷ [])))
 
--- the same behind the room for a sum
+-- the same after the room for a sum
 behind_room : (old bytes longer : List ℕ) (size : ℕ) → size ≡ length old → longer ≡ old ++ bytes → (front : List ℕ) → drop 18 old ≡ front ++ 0 ∷ [] → drop 18 (set longer (size - 1) 1) ≡ front ++ 1 ∷ bytes
 behind_room old bytes longer size is more front split =
     let room = take 18 old in
