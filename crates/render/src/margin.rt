@@ -9,7 +9,8 @@ ghost use Rattle.render.specs.Rendering.{Adds};
 use crate::fault::RenderFault;
 use crate::output::Output;
 
-/// The blanks before each line of a partial: those of its own tag, behind those of the tags that called its caller.
+/// The blanks before each line of a partial: those of the tags that called its caller, and after them those
+/// of its own tag.
 #[derive(Clone, Copy)]
 pub(crate) struct Margin<'a> {
     pub own: &'a str,
@@ -44,7 +45,7 @@ pub(crate) fn print_margin(margin: &Margin<'_>, out: &mut Output) -> Result<(), 
     out.print(margin.own)
 }
 
-/// Prints what stands on one line, behind the margin where it begins the line.
+/// Prints what is on one line, after the margin if it begins the line.
 pub(crate) fn print_line(
     line: &str,
     leads: bool,
