@@ -13,7 +13,8 @@ pub enum TokenKind {
 }
 
 /// A token of a source. Its text is at the byte `place`.
-/// | `inside` is a tag's name, and `indent` is the blanks before a standalone partial's tag. In all other
+///
+/// `inside` is a tag's name, and `indent` is the blanks before a standalone partial's tag. In all other
 /// tokens both are empty. `is_alone` says that a tag is standalone: its lines are not part of the literals
 /// around it.
 #[derive(Clone, Copy, Debug, PartialEq, Eq)]

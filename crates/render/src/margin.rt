@@ -17,7 +17,8 @@ pub(crate) struct Margin<'a> {
     pub outer: Option<&'a Margin<'a>>,
 }
 
-/// The margin of a partial under another: longer by its own blanks where its tag is standalone, the same where it has none, else none.
+/// The margin of a partial under another one. If its tag is standalone, it is longer by the tag's own blanks,
+/// and the same if there are none. If its tag is not standalone, there is no margin.
 #[tactic(auto, using(crate::proofs::Margins::longer))]
 pub(crate) fn margin_within<'a>(
     own: &'a Option<String>,

@@ -1,4 +1,4 @@
-//! Turns alone, and turns with calls behind the last one.
+//! Turns by themselves, and turns with calls after the last one.
 
 ghost use Rattle.std.specs.Prelude.{◌≡◌, ◌≤◌, [], ℕ, IfOk, IfErr, OnOk, OnErr};
 ghost use Rattle.node.specs.Standing.{CountsDevice, failures};
@@ -69,7 +69,8 @@ impl Desk {
     }
 }
 
-/// Turns as those of `Desk::drive_with`, and then a tick and widenings where a tick is wanted, and else a question.
+/// Takes turns as `Desk::drive_with` does. After them it ticks and widens if a tick is wanted, and asks if
+/// not.
 pub fn drive<D: Disk, L: Link>(
     alloc: Global,
     node: &mut Node<D>,
