@@ -20,7 +20,7 @@ pub record IsAfterChunks (bytes used : List ℕ) : Type 0 where
   pub begins : BeginsWithChunks used chunks []
   pub joined : bytes ≡ chunks_joined chunks
 
--- whole chunks are used, the line of one more, and a part of its bytes, of which so many are missing
+-- whole chunks are used, the line of one more, and a part of its bytes, of which `missing` are missing
 pub record IsWithinChunk (missing : ℕ) (bytes used : List ℕ) : Type 0 where
   pub chunks : List bodies.Chunk
   pub line : ChunkLine
@@ -93,7 +93,7 @@ ShowsRead Whole old new held left =
 ShowsRead (Refused status) old new held left =
     (framing : Framing) (used : List ℕ) → IsUsed framing old used → ReadsBody framing (used ++ held) (refused status)
 
--- falls with each step: a step uses two bytes or more, but for the one to a line break
+-- this falls with each step: a step uses two bytes or more, except the one to a line break
 abbrev pub steps_left : Awaited → List ℕ → ℕ
 steps_left Break held = length held
 steps_left (Fixed missing) held = length held + 1

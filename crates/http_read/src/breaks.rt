@@ -1,17 +1,17 @@
-//! Reads the line break behind a chunk (RFC 9112, section 7.1).
+//! Reads the line break after a chunk (RFC 9112, section 7.1).
 ghost use Rattle.std.specs.Prelude.{◌≡◌, List};
 ghost use Rattle.http_read.specs.BodySteps.{ShowsBreak};
 
 use crate::inbox::Inbox;
 
-/// What stands at the front.
+/// What is at the front.
 #[derive(Clone, Copy)]
 pub(crate) enum BreakRead {
     /// More bytes are wanted.
     Open,
     /// Two other bytes.
     Wrong,
-    /// A line break stood there.
+    /// A line break was there.
     Passed,
 }
 

@@ -28,7 +28,7 @@ pub enum Progress {
 /// A request whose head is used.
 #[derive(Drop)]
 pub struct Begun {
-    /// What the tests tell of the head.
+    /// What the tests found in the head.
     pub(crate) passed: Passed,
     pub(crate) path: String,
     /// Whether the method is HEAD.
