@@ -19,7 +19,7 @@ use std::time::Duration;
 /// How many seconds a call of a connection may wait.
 const PATIENCE: u64 = 1;
 
-/// A node, its link to the others, and where it is asked.
+/// A node, its link to the others, and the address of its requests.
 #[derive(Drop)]
 pub(crate) struct LoopbackServer {
     served: Served<MemDisk>,
@@ -93,7 +93,7 @@ impl LoopbackServer {
         Ok(())
     }
 
-    /// Takes the connection that waits, answers its requests and closes it. That it fails is passed over.
+    /// Accepts the connection that waits, answers its requests and closes it. If that fails, it is ignored.
     fn answer(&mut self, alloc: Global) -> Result<(), LoopbackFault> {
         let (stream, _from) = self.listener.accept()?;
         limit_waiting(&stream)?;

@@ -17,7 +17,7 @@ pub(crate) enum Resource<'a> {
     Page,
 }
 
-/// Where the byte stands first.
+/// The first place of the byte.
 pub(crate) fn first_of(byte: u8, bytes: &[u8]) -> Option<usize>
     ensures { MatchOption result ((k : ℕ) → k < length bytes.now → slice_index bytes.now k ≢ byte)
         (λ at. (at < length bytes.now) × (slice_index bytes.now at ≡ byte) × ((k : ℕ) → k < at → slice_index bytes.now k ≢ byte)) }
