@@ -29,7 +29,7 @@ pub struct Contents {
 }
 
 impl Drop for Contents {
-    // Whoever lets go of it proves one step: what lies in it is proved to be let go of here alone.
+    // Whoever drops it proves one step: only here it is proved that its parts can be dropped.
     fn drop(self) {
         let Contents {
             alloc: _,

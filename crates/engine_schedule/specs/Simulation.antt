@@ -58,7 +58,7 @@ abbrev pub to_each : ℕ → ℕ → List Event
 to_each zero index = []
 to_each (suc p) index = to_each p index ++ Deliver (suc p) index ∷ []
 
--- so many messages from an index on, each to nodes 1 to n
+-- k messages from an index on, each to nodes 1 to n
 abbrev pub deliveries : ℕ → ℕ → ℕ → List Event
 deliveries n from zero = []
 deliveries n from (suc k) = deliveries n from k ++ to_each n (from + k)

@@ -87,7 +87,7 @@ impl LoopbackServer {
         })
     }
 
-    /// So many turns of its node.
+    /// Takes turns of its node.
     pub(crate) fn drive(&mut self, alloc: Global, turns: u32) -> Result<(), NodeFault> {
         drive(alloc, &mut self.served.node, &mut self.link, turns)?;
         Ok(())

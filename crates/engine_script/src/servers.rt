@@ -119,14 +119,14 @@ impl Servers {
         }
     }
 
-    /// So many turns of one node.
+    /// Takes turns of one node.
     pub(crate) fn drive(&mut self, alloc: Global, node: NodeId, turns: u32) -> Result<(), NodeFault>
         requires { IsNode SERVERS node }
     {
         self.at(node).drive(alloc, turns)
     }
 
-    /// So many times 20 turns of each node, in order.
+    /// Takes 20 turns of each node, in order, as often as is asked for.
     pub(crate) fn take_turns(&mut self, alloc: Global, count: u32) -> Result<(), NodeFault> {
         for _ in 0..count {
             self.first.drive(alloc, TURNS)?;

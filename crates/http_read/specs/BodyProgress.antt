@@ -52,11 +52,11 @@ IsUsedUpTo framing Trailer bytes used = (framing ≡ chunked) × IsAfterLastLine
 abbrev pub IsUsed : Framing → Body → List ℕ → Type 0
 IsUsed framing body used = IsUsedUpTo framing body.awaits body.bytes.items used
 
--- chunks take at most so many bytes behind so many of the body: a chunk of one byte has a line and a break
+-- after n bytes of the body, chunks use at most this many bytes: a chunk of one byte has a line and a break
 abbrev pub chunks_left : ℕ → ℕ
 chunks_left n = (LINE_LIMIT + 3) * (BODY_LIMIT - n) + LINE_LIMIT + HEAD_LIMIT + 1
 
--- so many bytes of the input are used at most until it is known what comes of the body
+-- at most this many bytes of the input are used until it is known what becomes of the body
 abbrev pub bytes_left : Awaited → ℕ → ℕ
 bytes_left (Fixed missing) n = missing
 bytes_left Line n = chunks_left n

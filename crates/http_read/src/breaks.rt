@@ -15,7 +15,7 @@ pub(crate) enum BreakRead {
     Passed,
 }
 
-/// Reads a line break and passes over it.
+/// Reads a line break and consumes it.
 pub(crate) fn pass_break(inbox: &mut Inbox) -> BreakRead
     ensures { ShowsBreak result inbox.old inbox.new }
 {

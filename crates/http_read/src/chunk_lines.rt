@@ -31,7 +31,7 @@ fn size_on(line: &[u8]) -> Option<u64>
     }
 }
 
-/// Reads a chunk line and passes over it.
+/// Reads a chunk line and consumes it.
 pub(crate) fn chunk_line(inbox: &mut Inbox) -> LineRead
     ensures { ShowsLine result inbox.old inbox.new }
 {

@@ -1,6 +1,7 @@
 //! Finds the head of a request at the front of an input (RFC 9112, sections 2 to 5).
 //!
-//! The first 8,192 bytes are looked at again as they grow; exactly so many without a head, then the end, ended early.
+//! The first 8,192 bytes are looked at again as they grow. If exactly that many have no head, and then the
+//! input ends, it ended early.
 
 ghost use Rattle.std.specs.Prelude.{◌≡◌, if◌then◌else◌, ℕ, List, ◌≤◌, length, IfOk};
 ghost use Rattle.http_read.specs.declared.heads.TheConstants.{HEAD_LIMIT};

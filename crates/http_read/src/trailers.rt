@@ -47,7 +47,7 @@ pub(crate) enum TrailerRead {
     Refused(u16),
 }
 
-/// Reads the field lines and passes over them.
+/// Reads the field lines and consumes them.
 pub(crate) fn pass_trailer(
     inbox: &mut Inbox,
     spans: &mut Vec<HeaderSpan>,

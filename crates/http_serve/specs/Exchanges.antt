@@ -17,8 +17,9 @@ Responds service n now input left after true text =
     (behind : List ℕ) × IsExchange service n now input behind after true text × (left ≡ Some behind)
 Responds service n now input left after false text = IsLast service n now input after text
 
--- What comes of the n-th request of a connection, where this input is left, and left behind it, of which the reader has rest: the text that is
--- written, and the service.
+-- What becomes of the n-th request of a connection: the text that is written, and the service after it.
+-- `input` is what is left before the request, `left` is what is left after it, and the reader still has
+-- `rest` of it.
 abbrev pub Exchanges : {S : Type 0} → Offered S → ℕ → S → List ℕ → Option (List ℕ) → Option (List ℕ) → S → List ℕ → Result Next ServeFault → Type 0
 Exchanges service n now input left rest after text (Ok Stays) = Responds service n now input left after true text
 Exchanges service n now input left rest after text (Ok Closes) = Responds service n now input left after false text

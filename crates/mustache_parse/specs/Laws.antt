@@ -1,4 +1,4 @@
--- What follows from the definitions alone.
+-- What follows from the definitions by themselves.
 use Rattle.std.specs.Prelude.{◌≡◌, ◌≤◌, ◌↔◌, List, Ok, Err}
 use Rattle.mustache_scan.specs.Standalone.{TokenSeen}
 use Rattle.mustache_parse.specs.Tree.{Tree, nested, max_open}

@@ -42,7 +42,7 @@ pub struct Node<D> {
 }
 
 impl<D: Drop> Drop for Node<D> {
-    // Whoever lets go of it proves one step: what lies in it is proved to be let go of here alone.
+    // Whoever drops it proves one step: only here it is proved that its parts can be dropped.
     fn drop(self) {
         let Node {
             alloc: _,

@@ -33,7 +33,7 @@ pub struct Releases {
 }
 
 impl Drop for Releases {
-    // Whoever lets go of it proves one step: what lies in it is proved to be let go of here alone.
+    // Whoever drops it proves one step: only here it is proved that its parts can be dropped.
     fn drop(self) {
         let Releases { alloc: _, kept: _ } = self;
     }

@@ -31,8 +31,9 @@ use std::alloc::Global;
 
 /// A server without sockets and clock: a node, its mail, its clients, and when it tries and asks.
 ///
-/// Who has the sockets puts datagrams into the mail and clients on seats, has the seats hear, takes a step, sends the mail's letters, has the seats tell, and parts
-/// with the clients that leave. S is what a client's bytes come and go by.
+/// Whoever has the sockets puts datagrams into the mail and clients on seats, has the seats read, takes a
+/// step, sends the mail's letters, has the seats write, and parts with the clients that leave. S is what a
+/// client's bytes come and go by.
 #[derive(Drop)]
 pub struct Server<D, S> {
     me: NodeId,

@@ -240,7 +240,8 @@ impl Shell {
         Ok(())
     }
 
-    /// Rests for so many microseconds, a long rest until a datagram comes. One that finds no memory is a loss.
+    /// Rests for this many microseconds. A long rest ends when a datagram comes. A datagram for which an
+    /// allocation fails is lost.
     pub(crate) fn rest<C: Clock>(&mut self, clock: &C, micros: u64, mail: &mut Mail) {
         let length = Duration::from_micros(micros);
         if micros < LONG || self.may_wait(length).is_err() {

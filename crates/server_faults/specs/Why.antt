@@ -5,7 +5,8 @@ use Rattle.server_faults.specs.declared.server_fault.ServerFault.{ServerFault}
 use Rattle.server_faults.specs.declared.server_fault.ServerFault.TheVariants as server_fault
 use Rattle.server_faults.specs.declared.serve_options.ServeOptions.{ServeOptions}
 
--- what was done with a writer up to a moment, at which it held this and so many calls had failed, and what from it on
+-- what was done with a writer up to a moment, and what was done from then on. At that moment it held this,
+-- and this many calls had failed
 abbrev pub up_to : End → Option (List ℕ) → ℕ → End
 up_to e held failures = record e { after = held; failures_after = failures }
 

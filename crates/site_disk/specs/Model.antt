@@ -1,7 +1,7 @@
 -- What a disk file holds, and what a crash may leave of it.
 use Rattle.std.specs.Prelude.{◌≡◌, ◌⊎◌, ℕ, ◌+◌, ◌-◌, ◌≤◌, ◌<◌, ◌^◌, max, List, [], ◌∷◌, ◌++◌, length, take, drop, slice_index, Result, IsErr, OnOk}
 
--- so many bytes from a place on
+-- `size` bytes from a place on
 pub record Range : Type 0 where
   pub start : ℕ
   pub size : ℕ

@@ -95,7 +95,7 @@ impl Desk {
     }
 
     /// One batch: delivers what came, in order, and makes the last call. What that puts on record is written to the disk by two writes and two syncs, or by
-    /// none where nothing was put. Then the node publishes. What the node hands out waits for `post`. The answer is how many datagrams spell no message:
+    /// none if nothing was put. Then the node publishes. What the node hands out waits for `post`. The answer is how many datagrams spell no message:
     /// they are ignored, as losses.
     ///
     /// A device that fails leaves all of it on the disk or nothing, and stops the node. After a failed allocation what was done before is on the disk.

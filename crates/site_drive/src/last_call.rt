@@ -1,4 +1,4 @@
-//! What is called behind the turns is an argument: one definition for the six. A batch has it too, so it stands though the loop that it came with went.
+//! What is called after the turns is an argument: one definition for the six. A batch has it too, so it stands though the loop that it came with went.
 
 use site_ids::{Instance, NodeId};
 

@@ -123,7 +123,7 @@ impl Machine {
         }
     }
 
-    /// Delivers a message that was handed out. One that is none of the cluster's is passed over.
+    /// Delivers a message that was handed out. One that is not of the cluster's nodes is ignored.
     pub(crate) fn deliver(&mut self, index: usize, sent: &mut Outbox) -> Result<(), AllocError>
         requires { index < length sent.old.items }
         ensures ok { OnOk result ((message : AbstractMessage) → slice_get (messages_of sent.old.items) index ≡ Some message
