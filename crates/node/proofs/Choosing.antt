@@ -208,7 +208,7 @@ untried_tried s (u ∷ vs) left v are tried = ⊎_elim
     (λ (x : (¬ IsTried s u) × ((rest : List Value) × (left ≡ u ∷ rest) × AreUntried s vs rest)). inr (x.0, (x.1.0, x.1.1, untried_tried s vs x.1.0 v x.1.2 tried)))
     are
 
--- of two lists, one after the other
+-- of two lists, one after another
 pub untried_both : (s : Node) (us vs xs ys : List Value) → AreUntried s us xs → AreUntried s vs ys → AreUntried s (us ++ vs) (xs ++ ys)
 untried_both s [] vs xs ys a b = subst (λ (l : List Value). AreUntried s vs (l ++ ys)) (sym a) b
 untried_both s (u ∷ us) vs xs ys a b = ⊎_elim

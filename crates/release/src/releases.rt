@@ -1,4 +1,5 @@
-//! A repeat is found by its receipt, so kept sites have no set of tickets: this saves 112 bytes a value.
+//! A repeat is found by its receipt, so kept sites have no set of tickets: this saves 112 bytes a value in
+//! each of them.
 
 ghost use Rattle.std.specs.Prelude.{◌≡◌, ◌≢◌, ◌⊎◌, ◌<◌, ◌≤◌, ◌↔◌, ℕ, List, [], ◌∷◌, ◌++◌, length, Some, Ok, IfOk, IfSome, IsNone, OnOk, OnErr, IsErrOf};
 ghost use Rattle.site_ids.specs.declared.TheConstants.{MAX_INSTANCE};

@@ -83,8 +83,8 @@ fn sync_folder<R: Files<File = File>>(
     }
 }
 
-/// Makes an empty file the record that is asked for, and returns whether it did. A file that is not empty stays as it is: it may be an empty record's
-/// place no more, and never that of one with a floor.
+/// Makes an empty file the record that is asked for, and returns whether it did. A file that is not empty
+/// stays as it is: it may be an empty record's place no more, and never that of one with a floor.
 fn make<D: Disk>(
     cluster: Cluster,
     me: NodeId,

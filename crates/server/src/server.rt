@@ -195,7 +195,7 @@ impl<D: Disk + Drop, S: Drop> Server<D, S> {
         stepped.came || !self.mail.is_empty()
     }
 
-    /// How many microseconds to rest after a step that did this, if bytes of clients moved or did not. `None`
+    /// How many microseconds to rest after this step. `moved` says whether bytes of clients moved. `None`
     /// while datagrams or bytes of clients came or went.
     pub fn rest(&mut self, stepped: Stepped, moved: bool) -> Option<u64>
         ensures rests { IsSome result ↔ Rests (resting_of self.old.pace

@@ -94,12 +94,14 @@ impl Desk {
         Ok(malformed)
     }
 
-    /// One batch: delivers what came, in order, and makes the last call. What that puts on record is written to the disk by two writes and two syncs, or by
-    /// none if nothing was put. Then the node publishes. What the node hands out waits for `post`. The answer is how many datagrams spell no message:
-    /// they are ignored, as losses.
+    /// One batch: delivers what came, in order, and makes the last call. What that puts on record is written
+    /// to the disk by two writes and two syncs, or by none if nothing was put. Then the node publishes. What
+    /// the node hands out waits for `post`. Returns how many datagrams spell no message: they are ignored, as
+    /// losses.
     ///
-    /// A device that fails leaves all of it on the disk or nothing, and stops the node. After a failed allocation what was done before is on the disk.
-    /// After any fault nothing waits for `post`: what waits there is sealed. What was delivered stays to be asked for (`delivered`).
+    /// A device that fails leaves all of it on the disk or nothing, and stops the node. After a failed
+    /// allocation what was done before is on the disk. After any fault nothing waits for `post`: what waits
+    /// there is sealed. What was delivered stays to be asked for (`delivered`).
     pub fn take_batch<D: Disk>(
         &mut self,
         node: &mut Node<D>,

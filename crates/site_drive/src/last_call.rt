@@ -1,4 +1,5 @@
-//! What is called after the turns is an argument: one definition for the six. A batch has it too, so it stands though the loop that it came with went.
+//! What is called after the turns is an argument: one definition for the six. A batch has it too, so it is
+//! still here, though the loop that it came with is gone.
 
 use site_ids::{Instance, NodeId};
 

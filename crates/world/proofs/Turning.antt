@@ -98,7 +98,7 @@ passed_over n p call disk before = record {
   };
 }
 
--- ---- by how the call was passed over
+-- ---- by what `passed` returned
 
 pub on_ok : {T E A B : Type 0} (r : Result T E) → (A → B) → OnOk r A → OnOk r B
 on_ok (Ok x) f a = f a

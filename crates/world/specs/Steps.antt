@@ -48,7 +48,7 @@ StepEnds old new event (Err Bad) = LeadsTo old new (λ w after. (IsBad old.clust
 abbrev pub ArePublished : Code → World → List Event → Type 0
 ArePublished code w events = (event : Event) → In events event → IsPublishedAt code w (node_of event)
 
--- for each of the k events, its node has, or it is the node of the last of them
+-- for each of the k events, its node has published, or it is the node of the last of them
 abbrev pub ArePublishedButLast : Code → World → List Event → ℕ → Type 0
 ArePublishedButLast code w events k = (event : Event) → In (take k events) event → IsLast events k (node_of event) ⊎ IsPublishedAt code w (node_of event)
 
