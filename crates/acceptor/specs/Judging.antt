@@ -28,14 +28,16 @@ abbrev pub IsVotedFor : Option Vote → BallotOf → List ℕ → Type 0
 IsVotedFor None b v = ⊥
 IsVotedFor (Some vote) b v = (vote.ballot ≡ b) × (vote.value ≡ v)
 
--- a prepare above the promise is promised. One that equals it is promised again where no vote stands at it, and is else passed over
+-- a prepare is promised if there is no promise, or a lower one. A prepare at the promised ballot is promised
+-- again, unless the last vote is at that ballot: then it is ignored. A prepare below the promise is refused
 abbrev pub JudgesPrepare : Slot → BallotOf → PrepareVerdict → Type 0
 JudgesPrepare s b Promise = IsFreeBelow s.promised b
 JudgesPrepare s b PromiseAgain = (s.promised ≡ Some b) × ¬ (IsVotedAt s.vote b)
 JudgesPrepare s b SilentPrepare = (s.promised ≡ Some b) × IsVotedAt s.vote b
 JudgesPrepare s b (NackPrepare c) = (s.promised ≡ Some c) × Below b c
 
--- a proposal below the promise is refused. One at the last vote's ballot is accepted again if it is that vote, and is else passed over
+-- a proposal below the promise is refused. Any other is voted for, unless the last vote is at its ballot:
+-- then it is accepted again if it is for the value of that vote, and ignored if it is not
 abbrev pub JudgesProposal : Slot → BallotOf → List ℕ → ProposeVerdict → Type 0
 JudgesProposal s b v VoteFor = IsFreeAt s.promised b × ¬ (IsVotedAt s.vote b)
 JudgesProposal s b v AcceptAgain = IsFreeAt s.promised b × IsVotedFor s.vote b v

@@ -19,21 +19,23 @@ pub data Answer : Type 0 where
   nack : (promised : BallotOf) → Answer
   no_answer : Answer
 
--- a new promise keeps the vote
+-- the slot with a new promise: it keeps the vote
 abbrev pub with_promise : Slot → BallotOf → Slot
 with_promise s b = record { promised = Some b; vote = s.vote }
 
--- a new vote promises its ballot too
+-- the slot with a new vote: its ballot is promised too
 abbrev pub with_vote : BallotOf → List ℕ → Slot
 with_vote b v = record { promised = Some b; vote = Some (record { ballot = b; value = v }) }
 
--- the ballot is below the promise, which is told
+-- the ballot is below the promise, and the refusal reports the promise
 abbrev pub IsRefused : Slot → BallotOf → BallotOf → Type 0
 IsRefused s b c = (s.promised ≡ Some c) × Below b c
 
--- A prepare above the promise is promised, and told the vote. At the promise the same answer is given again where no vote stands there,
--- and none where one does. A proposal not below the promise is voted for; at the last vote's ballot that vote is told again, and
--- another value has no answer. What is below the promise is refused.
+-- A prepare is promised if there is no promise, or a lower one, and the answer reports the vote. A prepare at
+-- the promised ballot gets the same answer again, unless the last vote is at that ballot: then it gets none.
+-- A proposal that is not below the promise is voted for, unless the last vote is at its ballot. Then the same
+-- value is accepted again, and another value gets no answer. A prepare or a proposal below the promise is
+-- refused.
 abbrev pub Steps : Slot → Request → Slot → Answer → Type 0
 Steps s (prepare b) after (promise prior) = (prior ≡ s.vote) × ((IsFreeBelow s.promised b × (after ≡ with_promise s b)) ⊎ ((s.promised ≡ Some b) × ¬ IsVotedAt s.vote b × (after ≡ s)))
 Steps s (prepare b) after no_answer = (s.promised ≡ Some b) × IsVotedAt s.vote b × (after ≡ s)
@@ -44,7 +46,7 @@ Steps s (proposal b v) after no_answer = IsFreeAt s.promised b × IsVotedAt s.vo
 Steps s (proposal b v) after (nack c) = IsRefused s b c × (after ≡ s)
 Steps s (proposal b v) after (promise prior) = ⊥
 
--- the new slot and the answer for which a verdict stands
+-- the new slot and the answer that a verdict leads to
 abbrev pub after_prepare : Slot → BallotOf → PrepareVerdict → Slot
 after_prepare s b to_prepare.Promise = with_promise s b
 after_prepare s b to_prepare.Again = s

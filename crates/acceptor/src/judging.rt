@@ -3,26 +3,26 @@ ghost use Rattle.acceptor.specs.Judging.{JudgesPrepare, JudgesProposal};
 use crate::Slot;
 use site_ids::Ballot;
 
-/// What an acceptor does about a prepare.
+/// What an acceptor does with a prepare.
 #[derive(Clone, Copy, Debug, Drop, PartialEq, Eq)]
 pub enum PrepareVerdict {
     /// It records the promise, and answers with its vote.
     Promise,
-    /// It answers as before, and records nothing.
+    /// It gives the same answer again, and records nothing.
     Again,
-    /// It tells the higher ballot that it has promised.
+    /// It refuses, and reports the higher ballot that it has promised.
     Nack(Ballot),
     Silent,
 }
 
-/// What an acceptor does about a proposal.
+/// What an acceptor does with a proposal.
 #[derive(Clone, Copy, Debug, Drop, PartialEq, Eq)]
 pub enum ProposeVerdict {
-    /// It records the vote, and tells it.
+    /// It records the vote, and reports it.
     Vote,
-    /// It tells its vote as before, and records nothing.
+    /// It reports the same vote again, and records nothing.
     Again,
-    /// It tells the higher ballot that it has promised.
+    /// It refuses, and reports the higher ballot that it has promised.
     Nack(Ballot),
     Silent,
 }

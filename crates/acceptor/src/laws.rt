@@ -1,13 +1,13 @@
 ghost use Rattle.acceptor.specs.Laws.{PrepareSteps, ProposalSteps, OnePrepareVerdict, OneProposalVerdict, OneStep, PromiseRises, VoteRises};
 
-/// What the verdicts stand for is the acceptor's step.
+/// The verdicts lead to the acceptor's steps, and to no others.
 pub fn verdicts_are_steps()
     ensures prepare { PrepareSteps }
     ensures proposal { ProposalSteps }
 {}
 
-/// A request at a slot has one verdict, so one new slot and one answer. (That it has a verdict is the judges' own
-/// contract.)
+/// A request at a slot has one verdict, so it leads to one new slot and one answer. (That it has a verdict is
+/// said by the contracts of `judge_prepare` and `judge_propose`.)
 pub fn requests_have_one_verdict()
     ensures prepare { OnePrepareVerdict }
     ensures proposal { OneProposalVerdict }

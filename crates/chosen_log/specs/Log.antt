@@ -1,4 +1,4 @@
--- The chosen values of a log, and what learning one more does.
+-- The chosen values of a log, and what learning one more value does.
 use Rattle.std.specs.Prelude.{◌≡◌, ◌≢◌, ◌≤◌, ◌<◌, ℕ, List, Option, Some, None, IsSome, Result, Ok, Err}
 use Rattle.site_ids.specs.Ids.{IsInstance}
 use Rattle.site_ids.specs.Lists.{put_at}
@@ -16,8 +16,9 @@ value_at log i = in_either log.prefix log.beyond i
 abbrev pub IsGap : LogValues → ℕ → Type 0
 IsGap log gap = IsInstance gap × (value_at log gap ≡ None) × ((i : ℕ) → 1 ≤ i → i < gap → IsSome (value_at log i))
 
--- A value is new where none is known, and known where it is the one. Where another is known it is handed back, as where
--- memory is wanted for a new one. Only a new value changes the log, at its instance alone
+-- A value is new if the instance has none, and known if the instance has this one. If the instance has
+-- another value, the value is handed back; and so it is if an allocation fails for a new one. Only a new
+-- value changes the log, and only at its instance
 abbrev pub Learns : LogValues → ℕ → List ℕ → Result Learned LearnFault → LogValues → Type 0
 Learns old i v (Ok New) new = (value_at old i ≡ None) × ((j : ℕ) → value_at new j ≡ put_at (value_at old) i (Some v) j)
 Learns old i v (Ok Known) new = (value_at old i ≡ Some v) × (new ≡ old)

@@ -19,7 +19,7 @@ abbrev pub in_either : List (List ℕ) → List (ℕ × List ℕ) → ℕ → Op
 in_either prefix beyond zero = None
 in_either prefix beyond (suc k) = option_or (slice_get prefix k) (among beyond (suc k))
 
--- the first instance past the prefix has no value, and there is none past the last instance
+-- the first instance after the prefix has no value, and there is no value past the last instance
 pub record IsCut (prefix : List (List ℕ)) (beyond : List (ℕ × List ℕ)) : Type 0 where
   pub gap : among beyond (length prefix + 1) ≡ None
   pub few : length prefix ≤ MAX_INSTANCE

@@ -1,4 +1,4 @@
-//! The prefix is a vector, so that it can be lent.
+//! The prefix is a vector, so that it can be borrowed.
 
 ghost use Rattle.std.specs.Prelude.{◌≡◌, ℕ, ◌+◌, ◌<◌, ◌≤◌, length, slice_get, None, IsSome, MatchOption, option_copied, vec_len, vec_capacity};
 ghost use Rattle.std.specs.BTreeMap.{get, btree_map_len};
@@ -21,12 +21,12 @@ pub enum Learned {
     Known,
 }
 
-/// At most one value an instance.
+/// At most one value for each instance.
 #[derive(Drop)]
 pub struct ChosenLog {
-    /// Those from instance 1 on up to the first gap.
+    /// The values from instance 1 on, up to the first gap.
     prefix: Vec<Value>,
-    /// Those past the first gap, by instance.
+    /// The values past the first gap, by instance.
     beyond: BTreeMap<u32, Value>,
 }
 
@@ -87,7 +87,7 @@ impl ChosenLog {
         }
     }
 
-    /// The values of the instances from 1 on, up to the first that isn't known.
+    /// The values of the instances from 1 on, up to the first one that is not known.
     pub fn prefix(&self) -> &[Value]
         ensures each { (k : ℕ) → k < length result.now → slice_get result.now k ≡ value_at self.now (k + 1) }
         ensures gap { value_at self.now (length result.now + 1) ≡ None }
@@ -96,7 +96,7 @@ impl ChosenLog {
         &self.prefix
     }
 
-    /// The first instance that isn't known, if there is one.
+    /// The first instance that is not known, if there is one.
     pub fn next_gap(&self) -> Option<Instance>
         ensures { MatchOption result ((i : ℕ) → IsInstance i → IsSome (value_at self.now i)) (λ gap. IsGap self.now gap) }
     {

@@ -1,4 +1,4 @@
-//! The values chosen: one an instance, and those from the first instance on without a gap.
+//! The chosen values: one for each instance, and those from instance 1 on without a gap.
 #![tactic(auto)]
 
 mod chosen_log;

@@ -204,7 +204,7 @@ first_list = refl
 no_third : release_count story ≡ 2
 no_third = refl
 
--- a ticket that stood earlier doesn't count again, nor do values that are no commands
+-- a ticket that came earlier does not count again, nor do values that are not commands
 repeated : firsts (by 1 release ∷ by 2 (remove partial (codes "p")) ∷ by 1 (remove route (codes "/")) ∷ []) ≡ by 1 release ∷ by 2 (remove partial (codes "p")) ∷ []
 repeated = refl
 

@@ -1,4 +1,4 @@
--- Words, and cuts of a text behind one.
+-- Words, and cuts of a text after one.
 use Rattle.std.proofs.Common.{◌≡◌, ℕ, List, [], ◌∷◌, ◌++◌, Bool, true, false, not, ◌&&◌, eqb, cond, Option, Some, None, option_map, refl, ap, arith}
 use Rattle.command.specs.Cuts.{cut_at}
 use Rattle.command.specs.Rows.{is_word, IsWord}

@@ -18,7 +18,7 @@ pub data Action : Type 0 where
   put_route : (path shows fills : List ℕ) → Action
   -- a path, and the path that it leads to
   put_redirect : (path target : List ℕ) → Action
-  -- a kind and its name; of a route or a redirect its path
+  -- a kind and its name. The name of a route or a redirect is its path
   remove : Kind → List ℕ → Action
   release : Action
 

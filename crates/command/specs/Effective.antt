@@ -20,11 +20,11 @@ is_same_ticket a b = (a.editor == b.editor) && (a.number == b.number)
 abbrev pub has_ticket : Ticket → List Order → Bool
 has_ticket ticket orders = list_any (λ o. is_same_ticket o.ticket ticket) orders
 
--- no command before its place has its ticket
+-- no command before this place has its ticket
 abbrev pub is_first : List Order → ℕ × Order → Bool
 is_first orders p = not (has_ticket p.1.ticket (take p.0 orders))
 
--- the commands whose ticket stands in no earlier one
+-- the commands whose ticket no earlier one has
 abbrev pub firsts : List Order → List Order
 firsts orders = map (λ p. p.1) (filter (is_first orders) (enumerate_from 0 orders))
 

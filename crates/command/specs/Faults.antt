@@ -1,4 +1,4 @@
--- Which faults a value has, each by its own words.
+-- Which faults a value has: each is defined by itself.
 use Rattle.std.specs.Prelude.{◌≡◌, ◌≤◌, ◌<◌, ℕ, List, length, drop, false, Option, Some, None, Err}
 use Rattle.std.specs.List.{list_all}
 use Rattle.std.specs.Str.{IsUtf8}
@@ -27,7 +27,7 @@ abbrev pub data_in : Row → Option (List ℕ)
 data_in (data_row name body) = Some body
 data_in _ = None
 
--- the value has the fault, whatever others it has
+-- the value has the fault, whatever other faults it has
 abbrev pub Applies : List ℕ → CommandFault → Type 0
 Applies v TooLong = MAX_VALUE < length v
 Applies v Form = (row : Row) → ¬ IsRowOf v row
@@ -37,7 +37,7 @@ Applies v (Template fault) = (row : Row) × (body : List ℕ) × IsRowOf v row �
 Applies v (Data fault) = (row : Row) × (body : List ℕ) × IsRowOf v row × (data_in row ≡ Some body) × (data_reading body ≡ Err fault)
 Applies v OutOfMemory = ⊥
 
--- the number of a fault, as its line tells it
+-- the number of a fault, as its line says it
 abbrev pub number : CommandFault → ℕ
 number TooLong = 1
 number Form = 2

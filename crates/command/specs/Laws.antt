@@ -15,11 +15,11 @@ use Rattle.command.specs.declared.fault.CommandFault.{CommandFault}
 
 -- ---- readings
 
--- a text has a row exactly where it spells it, so one at most
+-- a text has a row if and only if it spells that row. So it has one row at most
 abbrev pub RowIsSpelled : Type 0
 RowIsSpelled = (text : List ℕ) (row : Row) → (row_of text ≡ Some row) ↔ (HasWords row × (text ≡ spelled row))
 
--- a text that had a row before there were redirects has it still
+-- a text that had a row before there were redirects still has it
 abbrev pub OlderRowStays : Type 0
 OlderRowStays = (text : List ℕ) (row : Row) → older_row_of text ≡ Some row → row_of text ≡ Some row
 
@@ -29,11 +29,11 @@ IsOfRedirect (redirect_row path target) = ⊤
 IsOfRedirect (remove_row redirect path) = ⊤
 IsOfRedirect _ = ⊥
 
--- and one that had none has one only of a redirect
+-- a text that had no row before has one only of a redirect
 abbrev pub NewRowIsOfRedirect : Type 0
 NewRowIsOfRedirect = (text : List ℕ) (row : Row) → older_row_of text ≡ None → row_of text ≡ Some row → IsOfRedirect row
 
--- the fault of a value applies to it, and no other that does is less
+-- the fault of a value applies to it, and no other that applies has a lower number
 abbrev pub FaultIsLeast : Type 0
 FaultIsLeast = (v : List ℕ) (fault : CommandFault) → value_reading v ≡ Err fault
     → Applies v fault × ((other : CommandFault) → Applies v other → number fault ≤ number other)
@@ -42,14 +42,14 @@ FaultIsLeast = (v : List ℕ) (fault : CommandFault) → value_reading v ≡ Err
 abbrev pub CommandHasNone : Type 0
 CommandHasNone = (v : List ℕ) (order : Order) → value_reading v ≡ Ok order → (fault : CommandFault) → ¬ Applies v fault
 
--- a written value holds its ticket and its text
+-- a written value has its ticket and its text
 abbrev pub WrittenHolds : Type 0
 WrittenHolds = (ticket : Ticket) (text : List ℕ) → ticket.editor < 2 ^ 32 → ticket.number < 2 ^ 64
     → (ticket_of (value_of ticket text) ≡ ticket) × (drop TICKET_BYTES (value_of ticket text) ≡ text)
 
 -- ---- sites
 
--- what stands at a kind and name is the put there after which nothing is about them
+-- what a site has at a kind and name is the last put about them, if nothing after it is about them
 abbrev pub StandingIsLast : Type 0
 StandingIsLast = (kind : Kind) (name : List ℕ) (orders : List Order) (action : Action)
     → (standing kind name orders ≡ Some action) ↔ IsStanding kind name orders action
@@ -77,7 +77,7 @@ RedirectIsLast = (path target : List ℕ) (orders : List Order)
 abbrev pub EffectiveGrows : Type 0
 EffectiveGrows = (values more : List (List ℕ)) → (rest : List Order) × (effective (values ++ more) ≡ effective values ++ rest)
 
--- a release's list is the shortest beginning with that many releases
+-- a release's list is the shortest prefix with that many releases
 abbrev pub ReleaseIsShortest : Type 0
 ReleaseIsShortest = (orders : List Order) (n : ℕ) → n ≤ release_count orders → IsShortest n orders (through orders n)
 
@@ -85,6 +85,6 @@ ReleaseIsShortest = (orders : List Order) (n : ℕ) → n ≤ release_count orde
 abbrev pub NextBegins : Type 0
 NextBegins = (orders : List Order) (n : ℕ) → (rest : List Order) × (through orders (suc n) ≡ through orders n ++ rest)
 
--- a beginning that already has the release has the same list
+-- a prefix that already has the release has the same list
 abbrev pub ReleaseStays : Type 0
 ReleaseStays = (orders more : List Order) (n : ℕ) → n ≤ release_count orders → through (orders ++ more) n ≡ through orders n

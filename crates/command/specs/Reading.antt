@@ -49,7 +49,8 @@ is_path path =
     && not (starts_with nat_eq path (codes "/_"))
     && not (starts_with nat_eq path (codes "/@"))
 
--- a path that doesn't begin with two slashes: what follows those would be read as a host (RFC 3986, section 4.2)
+-- a path that does not begin with two slashes: after two slashes, a host would be read (RFC 3986, section
+-- 4.2)
 abbrev pub is_target : List ℕ → Bool
 is_target path = is_path path && not (starts_with nat_eq path (codes "//"))
 
@@ -66,7 +67,7 @@ names_in (remove_row redirect path) = []
 names_in (remove_row kind name) = name ∷ []
 names_in release_row = []
 
--- a row's paths are such, and what a redirect leads to is a target
+-- a row's paths are valid, and a redirect leads to a target
 abbrev pub has_paths : Row → Bool
 has_paths (route_row path shows fills) = is_path path
 has_paths (redirect_row path target) = is_path path && is_target target
@@ -82,7 +83,7 @@ abbrev pub put_whole : List ℕ → Result Whole DataFault → Result Action Com
 put_whole name (Ok data_put) = Ok (put_data name data_put)
 put_whole name (Err fault) = Err (Data fault)
 
--- what a row does: a text that is put has to have a tree, and data have to be whole
+-- what a row does. A text that is put has to have a tree, and data have to be whole
 abbrev pub row_action : Row → Result Action CommandFault
 row_action (template_row name body) = put_text (put_template name body) (tree_of body)
 row_action (partial_row name body) = put_text (put_partial name body) (tree_of body)
@@ -96,7 +97,7 @@ abbrev pub row_reading : Row → Result Action CommandFault
 row_reading row =
     if list_all is_name (names_in row) then (if has_paths row then row_action row else Err Path) else Err Name
 
--- what a remove names: a path for a route or a redirect, else a name
+-- what a remove names: a path for a route or a redirect, a name otherwise
 abbrev pub is_removable : Kind → List ℕ → Bool
 is_removable template name = is_name name
 is_removable partial name = is_name name
@@ -124,11 +125,11 @@ abbrev pub read_row : Result Row CommandFault → Result Action CommandFault
 read_row (Ok row) = row_reading row
 read_row (Err fault) = Err fault
 
--- the same by the row that a text has, if any
+-- the same, by the row that a text has, if any
 abbrev pub text_reading : Option Row → Result Action CommandFault
 text_reading row = read_row (ok_or row Form)
 
--- the editor's number and the command's, the highest byte first
+-- the ticket of a value: the editor's number and the command's, the highest byte first
 abbrev pub ticket_of : List ℕ → Ticket
 ticket_of v = record { editor = big_number 4 v; number = big_number 8 (drop 4 v) }
 
@@ -140,6 +141,7 @@ with_ticket ticket (Err fault) = Err fault
 abbrev pub value_reading : List ℕ → Result Order CommandFault
 value_reading v = with_ticket (ticket_of v) (read_row (value_row v))
 
--- reading the value may take memory: its text has a row of the table, and is no release. Other faults are told without
+-- reading the value may allocate: its text has a row of the table, other than a release. The other faults
+-- need no memory
 abbrev pub TakesMemory : List ℕ → Type 0
 TakesMemory v = (row : Row) × (value_row v ≡ Ok row) × (row ≢ release_row)

@@ -1,4 +1,4 @@
--- The beginning of a list of commands that a release shows.
+-- The prefix of a list of commands that a release shows.
 use Rattle.std.specs.Prelude.{ℕ, zero, suc, ◌≡◌, ◌≢◌, ◌<◌, List, [], ◌∷◌, ◌++◌, length, take, if◌then◌else◌, Bool, true, false}
 use Rattle.command.specs.Action.{Action, release, Order}
 
@@ -17,7 +17,7 @@ through [] n = []
 through (o ∷ later) zero = []
 through (o ∷ later) (suc n) = o ∷ through later (if is_release o.action then n else suc n)
 
--- the shortest beginning of the commands with n releases
+-- the shortest prefix of the commands with n releases
 pub record IsShortest (n : ℕ) (orders beginning : List Order) : Type 0 where
   pub begins : (rest : List Order) × (orders ≡ beginning ++ rest)
   pub counts : release_count beginning ≡ n

@@ -5,7 +5,7 @@ use Rattle.std.specs.Str.{bytes_eq}
 use Rattle.command.specs.Action.{Kind, template, partial, page_data, route, redirect}
 use Rattle.command.specs.Cuts.{after_front, cut_at}
 
--- a row of the table, with the words of its head that vary and what follows the head's newline
+-- a row of the table: the words of its first line that vary, and what follows that line
 pub data Row : Type 0 where
   template_row : (name body : List ℕ) → Row
   partial_row : (name body : List ℕ) → Row
@@ -32,7 +32,7 @@ spelled (redirect_row path target) = codes "put redirect " ++ (path ++ (32 ∷ (
 spelled (remove_row kind name) = codes "remove " ++ (kind_word kind ++ (32 ∷ (name ++ (10 ∷ []))))
 spelled release_row = codes "release\n"
 
--- no space and no newline stands in a word
+-- a word has no space and no newline
 abbrev pub is_word : List ℕ → Bool
 is_word word = list_all (λ b. not (b == 32) && not (b == 10)) word
 
@@ -96,7 +96,7 @@ first_of [] = None
 first_of (Some row ∷ later) = Some row
 first_of (None ∷ later) = first_of later
 
--- the row of a remove of any kind but a redirect
+-- the row of a remove of any kind except a redirect
 abbrev pub removes_of : List ℕ → Option Row
 removes_of text = first_of (
     remove_of template text

@@ -39,7 +39,7 @@ last_about kind name (o ∷ later) = first_or (last_about kind name later) (if i
 abbrev pub if_put : Action → Option Action
 if_put action = if is_put action then Some action else None
 
--- the put that stands at a kind and name: the last action about them, if it is no remove
+-- the put that is in force at a kind and name: the last action about them, if it is not a remove
 abbrev pub standing : Kind → List ℕ → List Order → Option Action
 standing kind name orders = option_and_then if_put (last_about kind name orders)
 
@@ -53,7 +53,7 @@ pub record IsStanding (kind : Kind) (name : List ℕ) (orders : List Order) (act
   pub puts : IsTrue (is_put action)
   pub last : (j : ℕ) (later : Order) → place < j → slice_get orders j ≡ Some later → is_about kind name later.action ≡ false
 
--- ---- what stands at a name, by its kind
+-- ---- what is in force at a name, by its kind
 
 abbrev pub if_template : Action → Option (List ℕ)
 if_template (put_template name body) = Some body

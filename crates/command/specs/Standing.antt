@@ -1,4 +1,4 @@
--- Which actions and commands the code's stand for.
+-- Which actions and commands of the definitions those of the code stand for.
 use Rattle.std.specs.Prelude.{◌≡◌, Result, Ok, string_bytes, ⊤}
 use Rattle.context.specs.View.{data_view}
 use Rattle.mustache_parse.specs.Template.{IsTemplateOf}

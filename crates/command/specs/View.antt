@@ -1,4 +1,4 @@
--- Kinds and rows of the code as the definitions have them.
+-- Kinds and rows of the code, as the definitions have them.
 use Rattle.std.specs.Prelude.{ℕ, List}
 use Rattle.std.specs.Borrow.{Bor}
 use Rattle.command.specs.Action.{Kind, template, partial, page_data, route, redirect}

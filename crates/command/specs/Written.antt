@@ -23,7 +23,7 @@ line_of (Template fault) = codes "5 Template " ++ (template_label fault.kind ++ 
 line_of (Data fault) = codes "6 Data " ++ data_label fault
 line_of OutOfMemory = []
 
--- a fault that has a line: no want of memory
+-- a fault that has a line: it is not a failed allocation
 abbrev pub HasLine : CommandFault → Type 0
 HasLine (Template fault) = fault.kind ≢ kind.OutOfMemory
 HasLine (Data fault) = fault ≢ data_fault.OutOfMemory

@@ -1,10 +1,10 @@
-//! Content is typed by what is put, so no case asks for a route's text.
+//! What is put has a type of its own for each kind, so no case asks for a route's text.
 
 use context::Data;
 use mustache_parse::Template;
 use site_ids::Ticket;
 
-/// What a name is of.
+/// What a name names.
 #[derive(Clone, Copy, Debug, PartialEq, Eq)]
 pub enum Kind {
     Template,
@@ -14,8 +14,9 @@ pub enum Kind {
     Redirect,
 }
 
-/// What a command does. A template, a partial and data go by their name; a route by its path, with the names of its template and data; a
-/// redirect by its path, with the path that it leads to. What is removed goes by its name too, a route or a redirect by its path.
+/// What a command does. A template, a partial and data have a name. A route has a path, and the names of its
+/// template and data. A redirect has a path, and the path that it leads to. What is removed is named in the
+/// same way: a route or a redirect by its path, all else by its name.
 #[derive(Drop)]
 pub enum Action {
     PutTemplate {

@@ -6,7 +6,7 @@ use mustache_parse::TemplateFault;
 use std::alloc::{AllocError, Global};
 use thiserror::Error;
 
-/// Why bytes are no command, in the order in which their faults are told.
+/// Why bytes are not a command, in the order in which faults are reported.
 #[derive(Clone, Copy, Debug, Drop, PartialEq, Eq, Error)]
 pub enum CommandFault {
     #[error("the value is too long")]

@@ -2,8 +2,8 @@ ghost use Rattle.command.specs.Laws.{RowIsSpelled, OlderRowStays, NewRowIsOfRedi
 ghost use Rattle.command.specs.Laws.{StandingIsLast, TemplateIsLast, PartialIsLast, DataIsLast, RouteIsLast, RedirectIsLast};
 ghost use Rattle.command.specs.Laws.{EffectiveGrows, ReleaseIsShortest, NextBegins, ReleaseStays};
 
-/// The rows of texts, and the least of a value's faults, as the table of commands has them. Each text that had a row before there were redirects
-/// has it still.
+/// The row of a text, and the first of a value's faults, are those of the table of commands. Each text that
+/// had a row before there were redirects still has it.
 pub fn readings_are_by_the_table()
     ensures row { RowIsSpelled }
     ensures older { OlderRowStays }
@@ -13,7 +13,7 @@ pub fn readings_are_by_the_table()
     ensures written { WrittenHolds }
 {}
 
-/// What stands at a kind and name is what the last command about them put.
+/// What a site has at a kind and name is what the last command about them put.
 pub fn the_last_command_counts()
     ensures standing { StandingIsLast }
     ensures template { TemplateIsLast }
@@ -23,7 +23,7 @@ pub fn the_last_command_counts()
     ensures redirect { RedirectIsLast }
 {}
 
-/// Effective commands and the lists of releases, as values are added.
+/// Effective commands, and the lists of releases, only grow as values are added.
 pub fn releases_only_grow()
     ensures grows { EffectiveGrows }
     ensures shortest { ReleaseIsShortest }

@@ -1,4 +1,4 @@
-//! Commands of a site: their values, and why other bytes are none.
+//! Commands of a site: their values, and why other bytes are not commands.
 #![tactic(auto)]
 
 mod commands;

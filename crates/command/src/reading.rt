@@ -20,7 +20,7 @@ use mustache_parse::{FaultKind, Template, parse};
 use site_ids::{MAX_VALUE, TICKET_BYTES, Ticket};
 use std::alloc::Global;
 
-/// Reads a value: its command, or the least of its faults.
+/// Reads a value: its command, or the first of its faults in their order.
 pub fn read(alloc: Global, value: &[u8]) -> Result<Command, CommandFault>
     ensures ok { IfOk result (λ c. (o : Order) × (value_reading value.now ≡ Ok o) × StandsFor c o) }
     ensures err { IfErr result (λ e. e ≢ CommandFault.OutOfMemory → value_reading value.now ≡ Err e) }

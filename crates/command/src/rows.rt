@@ -5,7 +5,7 @@ ghost use Rattle.command.specs.View.{kind_view, row_view, pair_view};
 
 use crate::commands::Kind;
 
-/// A command text by its row of the table: the words of its head that vary, and what follows the head.
+/// A command text by its row of the table: the words of its first line that vary, and what follows that line.
 #[derive(Clone, Copy)]
 pub(crate) enum Row<'a> {
     Template {
@@ -99,7 +99,7 @@ fn redirect(text: &str) -> Option<Row<'_>>
     }
 }
 
-/// What stands before the name in a remove of that kind.
+/// The front of a remove of that kind, up to the name.
 fn remove_front(kind: Kind) -> &'static str
     ensures { result.now ≡ codes "remove " ++ (kind_word (kind_view kind) ++ (32 ∷ [])) }
 {
@@ -123,7 +123,7 @@ fn remove(text: &str, kind: Kind) -> Option<Row<'_>>
     }
 }
 
-/// The row of a remove of any kind but a redirect.
+/// The row of a remove of any kind except a redirect.
 fn removed(text: &str) -> Option<Row<'_>>
     ensures { option_map row_view result ≡ removes_of text.now }
 {

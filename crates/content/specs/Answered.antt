@@ -1,4 +1,4 @@
--- What a value is answered with after the values before it.
+-- The answer to a value after the values before it.
 use Rattle.std.specs.Prelude.{ℕ, List, Result, Ok, Err, if◌then◌else◌}
 use Rattle.command.specs.Action.{Action, release, Order}
 use Rattle.command.specs.Effective.{has_ticket, commands_of}
@@ -11,7 +11,7 @@ abbrev pub answered : Action → Applied
 answered release = Released
 answered _ = Changed
 
--- by the commands before it, and what the value reads as
+-- the answer, by the commands before the value and by what the value is read as
 abbrev pub applied_after : List Order → Result Order CommandFault → Applied
 applied_after orders (Ok order) = if has_ticket order.ticket orders then Repeat else answered order.action
 applied_after orders (Err fault) = NotACommand

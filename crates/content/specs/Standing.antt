@@ -9,12 +9,12 @@ use Rattle.command.specs.Effective.{is_same_ticket, has_ticket, commands_of, eff
 use Rattle.command.specs.Site.{template_at, partial_at, data_at, route_at, redirect_at}
 use Rattle.content.specs.View.{ContentsSeen, SiteSeen, at_name, names_of}
 
--- a template is of the text, and there is none where there is no text
+-- the template is of the text, or there is neither
 abbrev pub IsOfText : Option TemplateSeen → Option (List ℕ) → Type 0
 IsOfText None text = text ≡ None
 IsOfText (Some t) text = (x : List ℕ) × (text ≡ Some x) × IsTemplateOf t x
 
--- at each name there is what stands there after the commands
+-- at each name the contents are those in force after the commands
 pub record HasContents (contents : ContentsSeen) (orders : List Order) : Type 0 where
   pub templates : (name : List ℕ) → IsOfText (at_name name contents.templates) (template_at name orders)
   pub partials : (name : List ℕ) → IsOfText (at_name name contents.partials) (partial_at name orders)
@@ -25,7 +25,8 @@ pub record HasContents (contents : ContentsSeen) (orders : List Order) : Type 0 
 abbrev pub is_held : Ticket → List Ticket → Bool
 is_held ticket tickets = list_any (is_same_ticket ticket) tickets
 
--- the site stands for the values: it has the tickets of their commands, and what their effective commands leave
+-- the site stands for the values: it has the tickets of their commands, and the contents that their effective
+-- commands leave
 pub record IsSiteOf (site : SiteSeen) (values : List (List ℕ)) : Type 0 where
   pub tickets : (ticket : Ticket) → is_held ticket site.tickets ≡ has_ticket ticket (commands_of values)
   pub contents : HasContents site.contents (effective values)

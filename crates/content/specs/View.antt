@@ -1,4 +1,4 @@
--- A site as its callers see it: its tickets in order, and what it has by name.
+-- A site as its callers see it: its tickets in order, and its contents by name.
 use Rattle.std.specs.Prelude.{ℕ, List, map, Option, String, string_bytes}
 use Rattle.std.specs.declared.alloc.Global.{Global}
 use Rattle.std.specs.Cmp.Lexicographic.{slice_cmp}
@@ -29,7 +29,7 @@ pub record SiteSeen : Type 0 where
   pub tickets : List Ticket
   pub contents : ContentsSeen
 
--- what there is at a name
+-- the content at a name, if there is one
 abbrev pub at_name : {V : Type 0} → List ℕ → Named V → Option V
 at_name name entries = lookup (is_at (λ key. slice_cmp nat_cmp name (string_bytes key))) entries
 

@@ -18,7 +18,7 @@ use shared_map::SharedMap;
 use std::alloc::{AllocError, Global};
 use std::marker::Model;
 
-/// What a list of commands leaves, each of which has an effect, by name.
+/// What a list of commands, each of which has an effect, leaves by name.
 pub struct Contents {
     alloc: Global,
     templates: SharedMap<String, Template>,
@@ -29,7 +29,7 @@ pub struct Contents {
 }
 
 impl Drop for Contents {
-    // Whoever lets go of it proves one step: what lies in it is proved to be let go of here alone.
+    // Whoever drops it proves one step: only here it is proved that its parts can be dropped.
     fn drop(self) {
         let Contents {
             alloc: _,
@@ -62,7 +62,7 @@ impl Model for Contents {
 }
 
 impl Contents {
-    /// What no commands leave.
+    /// The contents that no commands leave.
     pub fn new(alloc: Global) -> Contents
         ensures { HasContents result [] }
     {
@@ -76,7 +76,7 @@ impl Contents {
         }
     }
 
-    /// Takes the action of the next command. Where memory is short the contents stay as they are.
+    /// Applies the action of the next command. If an allocation fails, the contents stay as they are.
     pub fn act(&mut self, action: Action) -> Result<Applied, AllocError>
         ensures ok { IfOk result (λ a. (orders : List Order) (order : Order) → StandsAs action order.action
             → HasContents self.old orders → HasContents self.new (orders ++ (order ∷ [])) × (a ≡ answered order.action)) }
@@ -119,7 +119,7 @@ impl Contents {
         }
     }
 
-    /// A copy, which shares what it has with these. Either changes by itself.
+    /// A copy, which shares its contents with this one. A change of either does not change the other.
     pub fn copy(&self) -> Result<Contents, AllocError>
         ensures { IfOk result (λ s. s ≡ self.now) }
     {
@@ -133,7 +133,7 @@ impl Contents {
         }
     }
 
-    /// Takes what others have, and shares it with them.
+    /// Makes these contents the same as others, and shares them.
     fn share(&mut self, others: &Contents) -> Result<(), AllocError>
         ensures { OnOk result (self.new ≡ others.now) }
     {

@@ -1,4 +1,4 @@
-//! The site that a list of values leaves, kept by name.
+//! The site that a list of values leaves, by name.
 #![tactic(auto)]
 
 mod applied;

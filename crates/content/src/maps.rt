@@ -8,7 +8,7 @@ use shared_map::SharedMap;
 use std::alloc::AllocError;
 use std::mem;
 
-/// Puts something at a name, in place of what was there.
+/// Puts something at a name, in the place of what was there.
 pub(crate) fn put<V: Drop>(
     map: &mut SharedMap<String, V>,
     name: String,
@@ -20,7 +20,7 @@ pub(crate) fn put<V: Drop>(
     map.put(name, value)
 }
 
-/// Takes away what is at a name.
+/// Removes what is at a name.
 pub(crate) fn take_away<V: Drop>(
     map: &mut SharedMap<String, V>,
     name: &str,
@@ -31,7 +31,7 @@ pub(crate) fn take_away<V: Drop>(
     map.remove(name)
 }
 
-/// Has a map take what another has, and share it with that one.
+/// Makes a map the same as another, and shares the entries.
 pub(crate) fn share<V: Drop>(
     map: &mut SharedMap<String, V>,
     other: &SharedMap<String, V>,

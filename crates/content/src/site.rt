@@ -1,4 +1,4 @@
-//! The set of tickets with the new one is made beside the old.
+//! The set of tickets with the new one is made beside the old set.
 
 ghost use Rattle.std.specs.Prelude.{◌≡◌, ◌≢◌, ℕ, List, [], ◌∷◌, ◌++◌, Some, None, Ok, true, if◌then◌else◌, IfOk, OnErr, MatchOption, option_map};
 ghost use Rattle.command.specs.Action.{Order};
@@ -46,7 +46,7 @@ impl Model for Site {
     ghost view = { λ s. record { tickets = keys s.tickets; contents = s.contents } };
 }
 
-/// What a value that is no command is answered with.
+/// The answer to a value that is not a command.
 fn no_command(fault: CommandFault) -> Result<Applied, AllocError>
     ensures { IfOk result (λ a. (a ≡ Applied.NotACommand) × (fault ≢ CommandFault.OutOfMemory)) }
 {
@@ -56,7 +56,7 @@ fn no_command(fault: CommandFault) -> Result<Applied, AllocError>
     }
 }
 
-/// Tickets and one more, beside the old.
+/// The tickets and one more, made beside the old set.
 fn with_ticket(
     tickets: &SharedMap<Ticket, ()>,
     ticket: Ticket,
@@ -80,7 +80,7 @@ impl Site {
         }
     }
 
-    /// Takes the next value of the list. Where memory is short the site stays as it is.
+    /// Applies the next value of the list. If an allocation fails, the site stays as it is.
     pub fn apply(&mut self, value: &[u8]) -> Result<Applied, AllocError>
         ensures ok { IfOk result (λ a. (values : List (List ℕ)) → IsSiteOf self.old values
             → IsSiteOf self.new (values ++ (value.now ∷ [])) × (a ≡ applied values value.now)) }
@@ -92,7 +92,8 @@ impl Site {
         }
     }
 
-    /// Takes the next value by the command that was read of it, unless its ticket stands in an earlier one. Where memory is short the site stays as it is.
+    /// Applies the next value, given the command that it was read as, unless an earlier command has its
+    /// ticket. If an allocation fails, the site stays as it is.
     pub fn apply_command(&mut self, command: Command) -> Result<Applied, AllocError>
         ensures ok { IfOk result (λ a. (values : List (List ℕ)) (v : List ℕ) (order : Order) → value_reading v ≡ Ok order → StandsFor command order
             → IsSiteOf self.old values → IsSiteOf self.new (values ++ (v ∷ [])) × (a ≡ applied values v)) }
@@ -112,7 +113,7 @@ impl Site {
         }
     }
 
-    /// Takes an action, and the tickets with its command's.
+    /// Applies an action, and keeps the tickets, which have that of its command.
     fn act(&mut self, tickets: SharedMap<Ticket, ()>, action: Action) -> Result<Applied, AllocError>
         ensures ok { IfOk result (λ a. (self.new.tickets ≡ keys tickets) × ((orders : List Order) (order : Order) → StandsAs action order.action
             → HasContents self.old.contents orders → HasContents self.new.contents (orders ++ (order ∷ [])) × (a ≡ answered order.action))) }
@@ -123,7 +124,7 @@ impl Site {
         Ok(done)
     }
 
-    /// A copy, which shares its contents with this site. Either changes by itself.
+    /// A copy, which shares its contents with this site. A change of either does not change the other.
     pub fn copy(&self) -> Result<Site, AllocError>
         ensures { IfOk result (λ s. s ≡ self.now) }
     {

@@ -29,7 +29,7 @@ abbrev pub append_items : Items → Items → Items
 append_items no_items more = more
 append_items (item d ds) more = item d (append_items ds more)
 
--- two lists of items, one after the other
+-- two lists of items, one after another
 abbrev pub both_items : Option Items → Option Items → Option Items
 both_items a b = option_and_then (λ x. option_map (append_items x) b) a
 

@@ -25,7 +25,7 @@ mutual
     no_members : Members
     member : List ℕ → Whole → Members → Members
 
--- the whole data that a JSON value is: none where a number in it is neither an i64 nor a u64
+-- the whole data that a JSON value is; None if a number in it is neither an i64 nor a u64
 abbrev mutual
   pub whole : json.Data → Option Whole
   whole json.null = Some null
@@ -53,6 +53,7 @@ abbrev pub text_reading : Option json.Data → Result Whole DataFault
 text_reading None = Err NotJson
 text_reading (Some j) = whole_or_not (whole j)
 
--- the whole data that bytes are, or the fault: NotJson where they are no UTF-8 or no JSON text, NotWhole where a number isn't whole
+-- the whole data that bytes are, or the fault: NotJson if they are not UTF-8 or not a JSON text, NotWhole if
+-- a number is not whole
 abbrev pub data_reading : List ℕ → Result Whole DataFault
 data_reading bytes = if is_utf8 bytes then text_reading (read bytes) else Err NotJson

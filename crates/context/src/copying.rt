@@ -6,7 +6,7 @@ use std::alloc::{AllocError, Global};
 use std::collections::BTreeMap;
 
 impl Data {
-    /// A copy of its own.
+    /// A copy that shares nothing.
     pub fn copy(&self, alloc: Global) -> Result<Data, AllocError>
         ensures { IfOk result (λ d. data_view d ≡ data_view self.now) }
     {

@@ -4,7 +4,7 @@ ghost use Rattle.context.specs.Faults.{label};
 use std::alloc::{AllocError, AllocFailed};
 use thiserror::Error;
 
-/// Why a text is no data.
+/// Why a text is not data.
 #[derive(Clone, Copy, Debug, Drop, PartialEq, Eq, Error)]
 pub enum DataFault {
     #[error("the text is no JSON")]

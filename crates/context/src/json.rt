@@ -10,7 +10,7 @@ use std::alloc::Global;
 use std::collections::BTreeMap;
 
 impl Data {
-    /// Reads whole data from the bytes of a JSON text (RFC 8259). Of equal keys the last counts.
+    /// Reads whole data from the bytes of a JSON text (RFC 8259). Of equal keys the last one counts.
     pub fn from_json(alloc: Global, bytes: &[u8]) -> Result<Data, DataFault>
         ensures ok { IfOk result (λ d. data_reading bytes.now ≡ Ok (data_view d)) }
         ensures err { IfErr result (λ e. e ≢ DataFault.OutOfMemory → data_reading bytes.now ≡ Err e) }

@@ -14,7 +14,7 @@ pub struct Frame<'a> {
     pub below: Option<&'a Frame<'a>>,
 }
 
-/// What the first hash from the top down that has the key has there.
+/// What the first hash that has the key, from the top down, has there.
 fn nearest<'a>(frame: &Frame<'a>, key: &str) -> Option<&'a Data>
     ensures { option_map (λ v. data_view v.now) result ≡ nearest key.now (stack_of frame.now) }
 {
@@ -33,7 +33,7 @@ fn cut_at_dot(path: &str) -> Option<(&str, &str)>
         (λ x. parts path.now ≡ x.0.now ∷ parts x.1.now) }
     ensures shorter { IfSome result (λ x. length x.1.now < length path.now) }
 {
-    // Most names have none, which bytes tell sooner than characters.
+    // Most names have no dot, which bytes show sooner than characters.
     if !path.as_bytes().contains(&b'.') {
         return None;
     }

@@ -18,7 +18,7 @@ pub enum Data {
 }
 
 impl Data {
-    /// What a hash has at a key; nothing where the value is no hash.
+    /// What a hash has at a key; nothing if the value is not a hash.
     pub(crate) fn member(&self, key: &str) -> Option<&Data>
         ensures { option_map (λ v. data_view v.now) result ≡ member_of key.now (data_view self.now) }
     {
@@ -35,7 +35,7 @@ fn member_among<'a>(members: &'a BTreeMap<String, Data>, key: &str) -> Option<&'
     members.get(key)
 }
 
-/// Falsey are null, false and the empty list.
+/// Null, false and the empty list are falsey.
 pub fn truthy(value: &Data) -> bool
     ensures { result ≡ is_truthy (data_view value.now) }
 {
@@ -53,7 +53,7 @@ fn has_items(elements: &[Data]) -> bool
     !elements.is_empty()
 }
 
-/// A list's elements, another truthy value itself, and nothing of a falsey one.
+/// A list's elements; any other truthy value itself; nothing if the value is falsey.
 pub fn items(value: &Data) -> &[Data]
     ensures { map data_view result.now ≡ items (data_view value.now) }
 {

@@ -1,4 +1,4 @@
--- Readings one behind another.
+-- Readings one after another.
 use Rattle.std.proofs.Common.{◌≡◌, ◌≢◌, ◌==◌, ◌-◌, ℕ, ◌+◌, List, [], ◌++◌, length, drop, Option, Bool, true, false, Result, Ok, Err, is_err, OnOk, OnErr, refl, sym, ap, ◌∙◌, arith, append_assoc, length-append}
 use Rattle.std.proofs.Math.Seq.{drop-append_seam}
 use Rattle.std.proofs.KnownBytes.{Consumes-trans, Keeps-refl}
@@ -26,7 +26,7 @@ pub taken_then : (a b d : Option (List ℕ)) (f g h k : ℕ) (old mid : List ℕ
     → HasTaken (record { before = b; after = d; failures = g; failures_after = h }) → HasTaken (record { before = a; after = d; failures = f; failures_after = k })
 taken_then a b d f g h k old mid p q = (p.more ++ q.0, Consumes-trans a b d p.more q.0 p.taken q.1)
 
--- what is left behind a front that was used
+-- what is left after a front that was used
 pub used_front : (front rest feed held new : List ℕ) → held ≡ front ++ rest → held ≡ feed → new ≡ drop (length held - length rest) feed → feed ≡ front ++ new
 used_front front rest feed held new whole same left =
     let long : length held ≡ length front + length rest = ap length whole ∙ length-append front rest in

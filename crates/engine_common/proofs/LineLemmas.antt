@@ -51,7 +51,7 @@ no_number_cut bytes n later none small is = no_cut 32 bytes (decimal n) later no
 pub one_number_cut : (bytes word back : List ℕ) (n : ℕ) (later : List ℕ) → IsCut 32 bytes word back → n < 2 ^ 64 → bytes ≡ decimal n ++ (32 ∷ later) → Same word back (decimal n) later
 one_number_cut bytes word back n later cut small is = one_cut 32 bytes word back (decimal n) later cut (rw is (number_cut n later small))
 
--- a word behind a front, where a number stands there
+-- a word after a front, where a number stands there
 pub one_word : (front head word rest : List ℕ) (n : ℕ) (later : List ℕ) → Lacks 32 word → head ≡ front ++ (word ++ (32 ∷ rest)) → n < 2 ^ 64 → head ≡ front ++ (decimal n ++ (32 ∷ later)) → Same word rest (decimal n) later
 one_word front head word rest n later none a small b = one_number_cut (word ++ (32 ∷ rest)) word rest n later (record { whole = refl; first = none }) small (behind front head _ _ a b)
 

@@ -4,9 +4,9 @@ use Rattle.engine_common.specs.Cuts.{Lacks, IsCut}
 use Rattle.engine_common.proofs.CutLemmas.{Same, no_cut, one_cut}
 use Rattle.engine_common.proofs.Texts.{behind_text, cut_more, HasText}
 
--- lines of words without a newline, each with what stands behind its words' newline
+-- lines of words without a newline, each with what follows its words' newline
 module _ {Line : Type 0} (Fits : Line → Type 0) (front body : Line → List ℕ) (lacks : (line : Line) → Fits line → Lacks 10 (front line)) where
-  -- no line stands at the front of the bytes
+  -- no line is at the front of the bytes
   abbrev pub HasNone : List ℕ → Type 0
   HasNone bytes = (line : Line) (rest : List ℕ) → Fits line → bytes ≢ (front line ++ (10 ∷ body line)) ++ rest
 
@@ -24,7 +24,7 @@ module _ {Line : Type 0} (Fits : Line → Type 0) (front body : Line → List �
   pub bad_head : (bytes head after : List ℕ) → IsCut 10 bytes head after → ((line : Line) → Fits line → head ≢ front line) → (more : List ℕ) → HasNone (bytes ++ more)
   bad_head bytes head after cut none more line rest ok is = none line ok (one_head (bytes ++ more) head (after ++ more) line rest (cut_more bytes head after more cut) ok is).front
 
-  -- words with a text of so many bytes behind them, in whichever line they are
+  -- words with a text of so many bytes after them, in whichever line they are
   module _ (own : List ℕ) (own_lacks : Lacks 10 own) (len : ℕ) (text_of : (after : List ℕ) (line : Line) (rest : List ℕ) → Fits line → own ≡ front line → after ≡ body line ++ rest → HasText after rest len) where
     text_there : (after : List ℕ) (line : Line) (rest : List ℕ) → Fits line → own ++ (10 ∷ after) ≡ (front line ++ (10 ∷ body line)) ++ rest → HasText after rest len
     text_there after line rest ok is =

@@ -1,4 +1,4 @@
--- The line that tells a fault.
+-- The line that reports a fault.
 use Rattle.std.specs.Prelude.{ℕ, List, ◌++◌, codes, decimal}
 
 -- the fault of the k-th line

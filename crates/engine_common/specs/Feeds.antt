@@ -5,7 +5,7 @@ use Rattle.http_read.specs.Bytes.{End, HasFailed, IsSound}
 use Rattle.engine_common.specs.declared.ends.InputFault.{InputFault}
 use Rattle.engine_common.specs.declared.ends.InputFault.TheVariants as input
 
--- more bytes were read, and are held behind the others
+-- more bytes were read, and are held after the others
 pub record Grown (reader : End) (old new : List ℕ) : Type 0 where
   pub more : List ℕ
   pub taken : Consumes reader.before reader.after more

@@ -1,18 +1,18 @@
-//! What stands behind the words of a submission.
+//! What follows the words of a submission.
 ghost use Rattle.engine_common.specs.Bodies.{IsBody};
 
-/// A text of a length that was told, and the newline behind it.
+/// A text of a stated length, and the newline after it.
 #[derive(Clone, Copy)]
 pub enum Body<'a> {
     /// The bytes end before the newline.
     Short,
-    /// Another byte stands where the newline is to stand.
+    /// Another byte is in the place of the newline.
     Bad,
     /// The text, and what follows its newline.
     Text(&'a [u8], &'a [u8]),
 }
 
-/// The text of so many bytes at the front of these.
+/// The text of `len` bytes at the front of these.
 pub fn body_in(bytes: &[u8], len: usize) -> Body<'_>
     ensures { IsBody bytes.now len result }
 {

@@ -8,7 +8,7 @@ use memchr::memchr;
 /// The most bytes of a command text.
 pub const MAX_TEXT: u64 = 1_000_000;
 
-/// What stands before the first such byte, and after it.
+/// What is before the first such byte, and what is after it.
 pub fn cut(bytes: &[u8], at: u8) -> Option<(&[u8], &[u8])>
     ensures { MatchOption result (Lacks at bytes.now) (λ p. IsCut at bytes.now p.0.now p.1.now) }
 {

@@ -53,7 +53,7 @@ impl Feed {
         self.used += n;
     }
 
-    /// Reads once, behind what is held; false where the input has ended.
+    /// Reads once, after what is held. Returns false if the input has ended.
     pub fn read_more<R: Read>(&mut self, reader: &mut Counted<R>) -> Result<bool, InputFault>
         ensures { ReadEnds (end_of R.remaining reader.old reader.new) self.old self.new result }
     {

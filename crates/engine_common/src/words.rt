@@ -33,7 +33,7 @@ pub fn read_node(word: &[u8]) -> Option<NodeId>
     largest.node(number)
 }
 
-/// The word behind a front, and what follows its space.
+/// The word after a front, and what follows its space.
 pub fn word_after<'a>(head: &'a [u8], front: &str) -> Option<(&'a [u8], &'a [u8])>
     ensures { MatchOption result ((word rest : List ℕ) → Lacks 32 word → head.now ≢ front.now ++ (word ++ (32 ∷ rest)))
         (λ p. Lacks 32 p.0.now × (head.now ≡ front.now ++ (p.0.now ++ (32 ∷ p.1.now)))) }
@@ -51,7 +51,7 @@ pub fn number_at_node(head: &[u8], front: &str) -> Option<(NodeId, u64)>
     Some((node, read_number(number)?))
 }
 
-/// The numbers of a submission behind a front.
+/// The numbers of a submission, after a front.
 pub fn submission_after(head: &[u8], front: &str) -> Option<SubmissionLine>
     ensures { MatchOption result ((p : ℕ) (ticket : AbstractTicket) (len : ℕ) → FitsSubmission p ticket len → head.now ≢ front.now ++ joined (numbers p ticket len))
         (λ s. submission_fits s × (head.now ≡ front.now ++ joined (submission_numbers s))) }

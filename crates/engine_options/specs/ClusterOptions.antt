@@ -2,6 +2,6 @@
 use Rattle.std.specs.Prelude.{codes}
 use Rattle.clap.specs.Words.{App, new_app}
 
--- `sitecluster`, which takes nothing
+-- `sitecluster`, which has no options
 abbrev pub cluster_app : App
 cluster_app = new_app (codes "sitecluster")

@@ -6,7 +6,7 @@ use Rattle.engine_options.specs.declared.misuse.Misuse.TheVariants.{NotUtf8, Out
 abbrev SaysNoMemory : List ℕ → ℕ → Type 0
 SaysNoMemory said status = (said ≡ codes "out of memory\n") × (status ≡ 1)
 
--- help is told as a refusal is; memory may be wanting for its text
+-- help is reported as a refusal is; an allocation may fail for its text
 abbrev pub IsTold : Misuse → List ℕ → ℕ → Type 0
 IsTold NotUtf8 said status = (said ≡ codes "error: invalid UTF-8 was detected in one or more arguments\n") × (status ≡ 2)
 IsTold OutOfMemory said status = SaysNoMemory said status

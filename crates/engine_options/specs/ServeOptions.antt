@@ -39,7 +39,7 @@ serve_app = with_rule (with_rule (with_rule (with_rule (with_rule (with_rule (wi
     id_rule) (required_rule (codes "record"))) (required_rule (codes "http"))) rounds_rule) format_rule) above_rule)
     (number_rule (codes "patience-ms"))) (number_rule (codes "serve-ms"))) verbose_rule) address_rule
 
--- a flag is set where its text is `true`
+-- a flag is set if its text is `true`
 abbrev pub is_set : Option Text → Bool
 is_set (Some t) = bytes_eq t (codes "true")
 is_set None = false

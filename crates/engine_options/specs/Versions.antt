@@ -1,7 +1,7 @@
 -- A program's version.
 use Rattle.std.specs.Prelude.{ℕ, ◌≡◌, List, [], ◌∷◌, ◌++◌, codes}
 
--- the words are a name and `--version` alone
+-- the words are a name and `--version`, and nothing else
 abbrev pub AskVersion : List (List ℕ) → Type 0
 AskVersion words = (name : List ℕ) × (words ≡ name ∷ codes "--version" ∷ [])
 

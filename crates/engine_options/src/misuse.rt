@@ -61,7 +61,7 @@ fn tell<E: Write>(err: &mut Counted<E>, text: &str, status: u8) -> u8
     status
 }
 
-/// Says why on the other writer. The answer is the exit status: 2, and 1 where memory is wanting.
+/// Says why on the other writer, and returns the exit status: 2, or 1 if an allocation fails.
 pub fn refuse<E: Write>(alloc: Global, err: &mut Counted<E>, why: &Misuse) -> u8
     ensures { (said : List ℕ) × IsTold why.now said result × IsGiven (end_of E.contents err.old err.new) said }
 {

@@ -9,7 +9,7 @@ use clap::error::ErrorKind;
 use clap::{ArgMatches, Error};
 use std::alloc::Global;
 
-/// What a command line of `siterender` names: a release, or the newest where it names none, and a path.
+/// What a command line of `siterender` names: a release, or the newest if it names none, and a path.
 #[derive(Clone, Copy, Drop)]
 pub struct RenderOptions<'a> {
     pub release: Option<u64>,

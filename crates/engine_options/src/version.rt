@@ -8,7 +8,7 @@ use http_read::{Counted, write_all};
 use std::alloc::{AllocError, Global};
 use std::io::Write;
 
-/// Whether the words are a program's name and `--version` alone.
+/// Whether the words are a program's name and `--version`, and nothing else.
 pub fn asks_version(words: &[String]) -> bool
     ensures { IsTrue result ↔ AskVersion (words_of words.entry.now) }
 {
@@ -18,7 +18,8 @@ pub fn asks_version(words: &[String]) -> bool
     }
 }
 
-/// Writes a program's name and the heading of `docs/CHANGES.md` that it is of, and gives the exit status: 1 where the writer fails.
+/// Writes a program's name and the heading of `docs/CHANGES.md` that it is of, and returns the exit status: 1
+/// if the writer fails.
 pub fn tell_version<W: Write>(
     alloc: Global,
     out: &mut Counted<W>,

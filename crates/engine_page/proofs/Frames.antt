@@ -39,7 +39,7 @@ words_are bytes w e rest words ok is = one_words bytes w (framed_words e rest) w
 pub no_words : (bytes : List ℕ) → ((w : Words) → ¬ HasWords bytes w) → HasNoFrame bytes
 no_words bytes none e rest ok is = none (framed_words e rest) (rw is (frame_has_words e rest ok))
 
--- the words are a framed command's, so its frame stands at the front
+-- the words are a framed command's, so its frame is at the front
 pub frame_from_words : (bytes : List ℕ) (w : Words) (e : FramedCommand) (rest : List ℕ) → HasWords bytes w → w.editor ≡ decimal e.ticket.editor → w.number ≡ decimal e.ticket.number
     → w.length_word ≡ decimal (length e.text) → w.after ≡ e.text ++ rest → bytes ≡ frame e ++ rest
 frame_from_words bytes w e rest words editor number len after =

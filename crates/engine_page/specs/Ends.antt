@@ -31,7 +31,7 @@ IsRefusal reader asked path line =
     ⊎ ((line ≡ codes "read failed\n") × HasFailed reader)
     ⊎ (line ≡ codes "out of memory\n")
 
--- one line alone
+-- one line, and nothing else
 pub record Refused (reader out err : End) (asked : Option ℕ) (path : List ℕ) (status : ℕ) : Type 0 where
   pub line : List ℕ
   pub why : IsRefusal reader asked path line

@@ -18,7 +18,7 @@ frame e = decimal e.ticket.editor ++ (32 ∷ (decimal e.ticket.number ++ (32 ∷
 abbrev pub Fits : FramedCommand → Type 0
 Fits e = (e.ticket.editor < 2 ^ 32) × (e.ticket.number < 2 ^ 64) × (length e.text ≤ MAX_TEXT)
 
--- no frame stands at the front of the bytes
+-- no frame is at the front of the bytes
 abbrev pub HasNoFrame : List ℕ → Type 0
 HasNoFrame bytes = (e : FramedCommand) (rest : List ℕ) → Fits e → bytes ≢ frame e ++ rest
 

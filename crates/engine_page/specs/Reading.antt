@@ -38,7 +38,7 @@ pub record IsCommandFault (input line : List ℕ) : Type 0 where
   pub is : framed_reading command ≡ Err fault
   pub line_is : line ≡ fault_at (length framed + 1) (line_of fault)
 
--- bytes are left, and no frame stands there, or as many as an input has were read
+-- bytes are left, and no frame is there, or as many frames as an input may have were read
 pub record IsFramingFault (input line : List ℕ) : Type 0 where
   pub framed : List FramedCommand
   pub orders : List Order

@@ -1,4 +1,4 @@
--- What an `Input` stands for, and what comes of one command of it.
+-- What an `Input` stands for, and what becomes of one command of it.
 use Rattle.std.specs.Prelude.{ℕ, ◌≡◌, List, [], ◌∷◌, ◌++◌, string_bytes, Err}
 use Rattle.command.specs.Action.{Order}
 use Rattle.command.specs.Written.{line_of}
@@ -14,7 +14,7 @@ abbrev pub IsInput : List ℕ → Input → Type 0
 IsInput bytes (Fed values) = HasValues bytes values
 IsInput bytes (Fault line) = HasReading bytes (Err (string_bytes line))
 
--- the text is a command's, and its value is fed behind these
+-- the text is a command's, and its value is fed after these
 pub record IsFed (e : FramedCommand) (before after : List (List ℕ)) : Type 0 where
   pub order : Order
   pub reads : HasOrder e order

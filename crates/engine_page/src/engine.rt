@@ -20,7 +20,8 @@ pub(crate) enum Outcome {
     Says(String),
 }
 
-/// The page of the release that is asked for, the newest where none is named; or the line that there is no such release.
+/// The page of the release that is asked for, the newest if none is named; or the line that there is no such
+/// release.
 fn answered(
     alloc: Global,
     releases: &Releases,

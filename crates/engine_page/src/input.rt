@@ -25,7 +25,7 @@ pub(crate) enum Input {
     Fault(String),
 }
 
-/// Feeds the value of the command of that place. The answer is the line of its fault, where it has one.
+/// Feeds the value of the command at that place. Returns the line of its fault, if it has one.
 fn feed_one(
     alloc: Global,
     releases: &mut Releases,
@@ -43,7 +43,8 @@ fn feed_one(
     Ok(None)
 }
 
-/// Feeds the values of framed commands to releases that have none. The answer is the line of the first fault, told by the command's place, counted from 1.
+/// Feeds the values of framed commands to releases that have none. Returns the line of the first fault, which
+/// names the command's place, counted from 1.
 fn feed_all(
     alloc: Global,
     releases: &mut Releases,

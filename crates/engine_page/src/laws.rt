@@ -1,4 +1,4 @@
-//! What holds of the definitions alone.
+//! What holds of the definitions by themselves.
 ghost use Rattle.engine_page.specs.Laws.{OneFrame, OneSplit, OneReading, SomeReading, OneVerdict, SomeVerdict};
 
 /// Bytes are framed commands in at most one way, so an input has one reading and one verdict, and each has some.

@@ -36,7 +36,7 @@ lacks-words (show_line p) ok = lacks-behind (codes "show ") _ refl (lacks-last p
 lacks-words (get_line p n path) ok = lacks-behind (codes "get ") _ refl (lacks-number p _ (omega arith) (lacks-number n _ (omega arith) ok.2.no_newline))
 lacks-words trace_line ok = lacks-codes 10 (codes "trace") refl
 
--- ---- which line stands at the front
+-- ---- which line is at the front
 
 pub no_line_yet : (bytes : List ℕ) → Lacks 10 bytes → HasNoLine bytes
 no_line_yet bytes none = lines.no_line_yet Fits (λ line. joined (words line)) body lacks-words bytes none

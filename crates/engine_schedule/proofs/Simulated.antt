@@ -126,7 +126,7 @@ finished a b d f g h out err k s t feed so grown sound at_end silent = inl (reco
   status_is = refl;
 })
 
--- a run that stops behind the bytes that were read
+-- a run that stops after the bytes that were read
 stopped_behind : (a b d : Option (List ℕ)) (f g h : ℕ) (out err : End) (k status : ℕ) (s : Simulation) (feed held more said : List ℕ)
     → (so : SoFar (record { before = a; after = b; failures = f; failures_after = g }) out k s feed) → Consumes b d more → held ≡ feed ++ more
     → IsFault (record { before = a; after = d; failures = f; failures_after = h }) so.n (moment_of s so.events) (length so.lines + 2) held said → IsGiven err said → status ≡ 1

@@ -174,13 +174,13 @@ line_fault reader before after old held new line rest sim.BadEvent r is grown fi
 line_fault reader before after old held new line rest sim.OutOfMemory r is grown fits whole h = rw is (grown.more, grown.taken)
 line_fault reader before after old held new line rest sim.Read r is grown fits whole h = absurd h
 
--- a line stands in front, so it is found
+-- a line is in front, so it is found
 pub unfound : (bytes held : List ℕ) (f : Found) → IsFound held f → held ≡ bytes → HasLine bytes → ((line : LineCode) (rest : Bor (List ℕ)) → ¬ (f ≡ found.Line line rest)) → ⊥
 unfound bytes held (found.Line line rest) is same has not = not line rest refl
 unfound bytes held found.Short none same (line, rest, fits, whole) not = none line rest fits (same ∙ whole)
 unfound bytes held found.Bad none same (line, rest, fits, whole) not = none [] line rest fits (append-nil held ∙ (same ∙ whole))
 
--- a call that fails behind sound ones
+-- a call that fails after sound ones
 pub fault_then : (a b d : Option (List ℕ)) (f g h : ℕ) (old mid new : List ℕ) (e : InputFault) (r : Result Bool SimFault) → r ≡ Err (sim_fault e)
     → Grown (record { before = a; after = b; failures = f; failures_after = g }) old mid → g ≡ f → ReadEnds (record { before = b; after = d; failures = g; failures_after = h }) mid new (Err e)
     → FillEnds (record { before = a; after = d; failures = f; failures_after = h }) old new r

@@ -6,7 +6,7 @@ use Rattle.site_ids.specs.declared.Ticket.{Ticket}
 use Rattle.engine_common.specs.Cuts.{Lacks}
 use Rattle.engine_common.specs.Submissions.{numbers, joined, FitsSubmission}
 
--- a line behind the first, with the words of it that vary; a submission has its text too
+-- a line after the first, with the words of it that vary. A submission has its text too
 pub data Line : Type 0 where
   submit_line : (p : ℕ) → Ticket → (text : List ℕ) → Line
   tick_line : (p : ℕ) → Line
@@ -46,7 +46,7 @@ words (show_line p) = codes "show" ∷ decimal p ∷ []
 words (get_line p n path) = codes "get" ∷ decimal p ∷ decimal n ∷ path ∷ []
 words trace_line = codes "trace" ∷ []
 
--- what follows the newline behind the words
+-- what follows the newline after the words
 abbrev pub body : Line → List ℕ
 body (submit_line p ticket text) = text ++ (10 ∷ [])
 body _ = []
@@ -54,7 +54,7 @@ body _ = []
 abbrev pub spelled : Line → List ℕ
 spelled line = joined (words line) ++ (10 ∷ body line)
 
--- no space and no newline stands in the path
+-- the path has no space and no newline
 pub record IsPath (path : List ℕ) : Type 0 where
   pub no_space : Lacks 32 path
   pub no_newline : Lacks 10 path
@@ -79,7 +79,7 @@ Fits (show_line p) = IsNode 9 p
 Fits (get_line p n path) = IsNode 9 p × (n < 2 ^ 64) × IsPath path
 Fits trace_line = ⊤
 
--- no line stands at the front of the bytes
+-- no line is at the front of the bytes
 abbrev pub HasNoLine : List ℕ → Type 0
 HasNoLine bytes = (line : Line) (rest : List ℕ) → Fits line → bytes ≢ spelled line ++ rest
 

@@ -31,7 +31,7 @@ line_view code.Trace = trace_line
 abbrev pub submission_words : SubmissionLine → List (List ℕ)
 submission_words s = submit_words s.node s.ticket s.text_len
 
--- a line stands at the front, or none does yet, or none ever will
+-- a line is at the front, or none is yet, or none ever will be
 abbrev pub IsFound : List ℕ → Found → Type 0
 IsFound bytes (found.Line line rest) = Fits (line_view line) × (bytes ≡ spelled (line_view line) ++ rest.now)
 IsFound bytes found.Short = HasNoLine bytes

@@ -58,12 +58,13 @@ abbrev pub to_each : ℕ → ℕ → List Event
 to_each zero index = []
 to_each (suc p) index = to_each p index ++ Deliver (suc p) index ∷ []
 
--- so many messages from an index on, each to nodes 1 to n
+-- k messages from an index on, each to nodes 1 to n
 abbrev pub deliveries : ℕ → ℕ → ℕ → List Event
 deliveries n from zero = []
 deliveries n from (suc k) = deliveries n from k ++ to_each n (from + k)
 
--- the world takes these events, one after another, behind the earlier ones: from each world that the old value stands for to one that the new value stands for
+-- the world takes these events, one after another, after the earlier ones: from each world that the old value
+-- stands for to one that the new value stands for
 pub record Takes (n : ℕ) (old : Moment) (events : List Event) (new : Moment) : Type 0 where
   pub events_are : new.events ≡ old.events ++ events
   pub leads : LeadsTo old.world new.world (λ w after. TakesAll n w events after)
@@ -158,7 +159,8 @@ AsksNone n (show_line p) = ¬ IsNode n p
 AsksNone n (get_line p r path) = ¬ IsNode n p
 AsksNone n _ = ⊥
 
--- an event that can't be taken: of none of the nodes, of a message that was never handed out, or of a floor that is none
+-- an event that cannot be taken: at a node that does not exist, of a message that was never handed out, or
+-- with a floor that is not allowed
 pub record IsBadEvent (n : ℕ) (m : Moment) (line : Line) : Type 0 where
   pub event : Event
   pub is : event_of line ≡ Some event

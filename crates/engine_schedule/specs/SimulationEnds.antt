@@ -38,11 +38,11 @@ pub record Finished (reader out err : End) (status : ℕ) : Type 0 where
 
 -- ---- faults
 
--- no first line stands in what was read, nor ever will
+-- no first line is in what was read, nor ever will be
 abbrev pub HasBadNodes : End → List ℕ → Type 0
 HasBadNodes reader taken = (IsAtEnd reader.after × HasNoNodes taken) ⊎ GetsNoNodes taken
 
--- no line stands there, nor ever will; or one that asks none of the nodes
+-- no line is there, nor ever will be; or one that names none of the nodes
 abbrev pub HasBadLine : End → ℕ → List ℕ → Type 0
 HasBadLine reader n rest =
     (IsAtEnd reader.after × HasNoLine rest × (rest ≢ [])) ⊎ GetsNoLine rest
@@ -52,7 +52,8 @@ HasBadLine reader n rest =
 abbrev pub HasBadEvent : ℕ → Moment → List ℕ → Type 0
 HasBadEvent n m rest = (line : Line) × (more : List ℕ) × Fits line × (rest ≡ spelled line ++ more) × IsBadEvent n m line
 
--- the fault's line, where k is the line behind those that were done: bad lines and events; the reader failed; memory was wanted
+-- the fault's line. k is the line after those that were done: a bad line or event; or the reader failed; or
+-- an allocation failed
 abbrev pub IsFault : End → ℕ → Moment → ℕ → List ℕ → List ℕ → Type 0
 IsFault reader n m k rest said =
     ((said ≡ fault_at k (codes "bad line")) × HasBadLine reader n rest)

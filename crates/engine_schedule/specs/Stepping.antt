@@ -38,7 +38,7 @@ HappenEnds old new line (Err sim.Read) = ⊥
 
 -- ---- bytes
 
--- a line stands at the front
+-- a line is at the front
 abbrev pub HasLine : List ℕ → Type 0
 HasLine bytes = (line : Line) × (rest : List ℕ) × Fits line × (bytes ≡ spelled line ++ rest)
 
@@ -91,7 +91,7 @@ BeginEnds reader old new (Err sim.Read) = HasTaken reader × HasFailed reader
 abbrev pub behind : Option (List ℕ) → ℕ → End → End
 behind before failures later = record { before = before; after = later.after; failures = failures; failures_after = later.failures_after }
 
--- the line that a fault at line k is told by; memory for it may be wanted
+-- the line that reports a fault at line k. An allocation may fail for it
 abbrev pub IsSaid : ℕ → SimFault → List ℕ → Type 0
 IsSaid k sim.BadLine said = (said ≡ fault_at k (codes "bad line")) ⊎ (said ≡ codes "out of memory\n")
 IsSaid k sim.BadEvent said = (said ≡ fault_at k (codes "bad event")) ⊎ (said ≡ codes "out of memory\n")

@@ -16,12 +16,12 @@ abbrev pub value_words : List ℕ → List ℕ
 value_words v =
     if nat_le TICKET_BYTES (length v) then (decimal (ticket_of v).editor ++ (codes " " ++ decimal (ticket_of v).number)) else codes "none"
 
--- the vote that a promise tells of, if any
+-- the vote that a promise reports, if any
 abbrev pub prior_words : Option Vote → List ℕ
 prior_words None = codes " prior none\n"
 prior_words (Some vote) = codes " prior " ++ ballot_words vote.ballot (codes " value " ++ (value_words vote.value ++ codes "\n"))
 
--- whose message it is and of which instance, behind its kind
+-- whose message it is and about which instance, after its kind
 abbrev pub sender_words : ℕ → ℕ → List ℕ → List ℕ
 sender_words p i rest = codes " from " ++ (decimal p ++ (codes " instance " ++ (decimal i ++ rest)))
 
@@ -34,7 +34,7 @@ message_line (Nack p i b c) = codes "nack" ++ sender_words p i (codes " asked " 
 message_line (Ask p i) = codes "ask" ++ sender_words p i (codes "\n")
 message_line (Chosen p i v) = codes "chosen" ++ sender_words p i (codes " value " ++ (value_words v ++ codes "\n"))
 
--- the line's first word, and what it tells behind the sender and the instance
+-- the line's first word, and what the line says after the sender and the instance
 abbrev pub kind_word : Message → List ℕ
 kind_word (Prepare p i b k) = codes "prepare"
 kind_word (Promise p i b prior) = codes "promise"

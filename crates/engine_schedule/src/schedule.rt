@@ -1,7 +1,7 @@
 //! The lines of a schedule.
 //!
-//! A bad line is told as soon as nothing mends it; so are an empty file, a last line without its newline and a submission cut short. A fault's number counts
-//! lines; an index has 64 bits.
+//! A bad line is reported as soon as nothing that follows can mend it; so are an empty file, a last line
+//! without its newline and a submission cut short. A fault's number counts lines; an index has 64 bits.
 
 ghost use Rattle.std.specs.Prelude.{◌≡◌, ◌≢◌, ℕ, List, ◌∷◌, ◌++◌, ◌<◌, ◌≤◌, ◌^◌, MatchOption, codes, decimal, [], Some, None};
 ghost use Rattle.site_ids.specs.Ids.{IsNode, IsInstance};
@@ -18,7 +18,8 @@ use engine_common::{
 };
 use site_ids::{Cluster, Instance, NodeId, Ticket};
 
-/// A line behind the first, with the words of it that vary. A node of it need not be one of the schedule's nodes.
+/// A line after the first, with the words of it that vary. A node that it names need not be one of the
+/// schedule's nodes.
 #[derive(Clone, Copy)]
 pub(crate) enum Line<'a> {
     Submit {
@@ -77,7 +78,7 @@ pub(crate) enum Line<'a> {
     Trace,
 }
 
-/// What stands at the front of the bytes that were read so far.
+/// What is at the front of the bytes that were read so far.
 #[derive(Clone, Copy)]
 pub(crate) enum Found<'a> {
     /// A line, and what follows it.
@@ -226,7 +227,7 @@ fn plain_line(head: &[u8]) -> Option<Line<'_>>
     None
 }
 
-/// The submission, by what follows the newline behind its words.
+/// The submission, by what follows the newline after its words.
 fn submitted(submission: SubmissionLine, after: &[u8]) -> Found<'_>
     requires { submission_fits submission }
     ensures { IsFound (joined (submission_words submission) ++ (10 ∷ after.now)) result }

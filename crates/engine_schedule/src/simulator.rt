@@ -220,7 +220,8 @@ impl Simulation {
         Ok(())
     }
 
-    /// Takes the events by which a node learns its next value in a quiet state; outside of one there are none.
+    /// Takes the events by which a node learns its next value from a quiet state. From any other state there
+    /// are none.
     fn quiet(&mut self, node: NodeId) -> Result<(), SimFault>
         ensures ok { OnOk result (IsNode self.old.world.cluster node × ((n : ℕ) (events : List AbstractEvent) → IsMoment n (moment_of self.old events)
             → (later : List AbstractEvent) × TakesPlan n (moment_of self.old events) node (moment_of self.new later))) }
@@ -233,7 +234,7 @@ impl Simulation {
         let plan = self.world.quiet_plan(node)?;
         match self.world.run(plan.as_slice()) {
             Ok(()) => Ok(()),
-            // (a disk in memory that isn't armed fails for want of memory alone)
+            // (a disk in memory that is not armed fails only if an allocation fails)
             Err(_) => Err(SimFault::OutOfMemory),
         }
     }
@@ -255,7 +256,7 @@ impl Simulation {
         Ok(line)
     }
 
-    /// The line of `get`, and the body behind it.
+    /// The line of `get`, and the body after it.
     fn got(&self, alloc: Global, node: NodeId, release: u64, path: &str) -> Result<String, SimFault>
         ensures ok { IfOk result (λ text. IsNode self.now.world.cluster node × ((n : ℕ) (events : List AbstractEvent) → IsMoment n (moment_of self.now events)
             → IsPage (moment_of self.now events) node release path.now (string_bytes text) ⊎ IsNoPage (moment_of self.now events) node release path.now (string_bytes text))) }
@@ -334,7 +335,7 @@ impl Simulation {
     }
 }
 
-/// Reads until a line stands at the front; false at the input's end.
+/// Reads until a line is at the front. Returns false at the input's end.
 fn fill<R: Read>(feed: &mut Feed, reader: &mut Counted<R>) -> Result<bool, SimFault>
     ensures { FillEnds (end_of R.remaining reader.old reader.new) feed.old feed.new result }
 {
@@ -401,7 +402,7 @@ fn say_fault<E: Write>(alloc: Global, err: &mut Counted<E>, k: u64, fault: SimFa
     }
 }
 
-/// Does the lines behind the first one, and prints what they show.
+/// Does the lines after the first one, and prints what they show.
 fn run_lines<R: Read, W: Write, E: Write>(
     alloc: Global,
     simulation: &mut Simulation,

@@ -83,7 +83,7 @@ fn promise_words(alloc: Global, ballot: Ballot, prior: &Option<Vote>) -> Result<
     ballot_words(alloc, " ballot ", ballot, prior.as_str())
 }
 
-/// The ballot that was asked for, and the one that stands against it.
+/// The ballot that was asked for, and the higher one that was promised.
 fn nack_words(alloc: Global, asked: Ballot, promised: Ballot) -> Result<String, AllocError>
     ensures { IfOk result (λ text. string_bytes text ≡ codes " asked " ++ ballot_words asked (codes " promised " ++ ballot_words promised (codes "\n"))) }
 {
@@ -105,7 +105,7 @@ fn kind_word(message: &Message) -> &'static str
     }
 }
 
-/// What the message's line tells behind its sender and instance.
+/// What the message's line says after its sender and instance.
 fn own_words(alloc: Global, message: &Message) -> Result<String, AllocError>
     ensures { IfOk result (λ text. string_bytes text ≡ own_words message.now) }
 {

@@ -27,7 +27,7 @@ lacks-words (get_line p target) ok = lacks-behind (codes "get ") _ refl (lacks-n
 lacks-words (turns_line k) ok = lacks-behind (codes "turns ") _ refl (lacks-last k (omega arith))
 lacks-words (drive_line p k) ok = lacks-behind (codes "drive ") _ refl (lacks-number p _ (omega arith) (lacks-last k (omega arith)))
 
--- ---- which line stands at the front
+-- ---- which line is at the front
 
 pub no_line_yet : (bytes : List ℕ) → Lacks 10 bytes → HasNoLine bytes
 no_line_yet bytes none = lines.no_line_yet Fits (λ line. joined (words line)) body lacks-words bytes none

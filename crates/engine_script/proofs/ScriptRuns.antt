@@ -117,7 +117,7 @@ pub finished : (a b d : Option (List ℕ)) (f g h : ℕ) (out err : End) (k : �
 finished a b d f g h out err k feed new (Some text) is so ends silent = absurd (true≢false (ap is_some is))
 finished a b d f g h out err k feed new None is so (grown, sound, at_end) silent = finished_so a b d f g h out err k feed so grown sound at_end silent
 
--- a run that stops behind the bytes that were read
+-- a run that stops after the bytes that were read
 stopped_behind : (a b d : Option (List ℕ)) (f g h : ℕ) (out err : End) (k status : ℕ) (feed held more said : List ℕ)
     → (so : SoFar (record { before = a; after = b; failures = f; failures_after = g }) out k feed) → Consumes b d more → held ≡ feed ++ more
     → IsFault (record { before = a; after = d; failures = f; failures_after = h }) (length so.lines + 1) held said → IsGiven err said → status ≡ 1
@@ -178,7 +178,7 @@ broken a b d f g h p q r x y z err k status feed new text written same so step o
       status_is = one;
     }))
 
--- ---- a call that fails behind sound ones
+-- ---- a call that fails after sound ones
 
 pub fault_then : (a b d : Option (List ℕ)) (f g h : ℕ) (old mid new : List ℕ) (e : InputFault) (r : Result Bool ScriptFault) → r ≡ Err (of_input e)
     → Grown (record { before = a; after = b; failures = f; failures_after = g }) old mid → g ≡ f → ReadEnds (record { before = b; after = d; failures = g; failures_after = h }) mid new (Err e)

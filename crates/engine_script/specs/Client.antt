@@ -18,7 +18,7 @@ get_request target = codes "GET " ++ (target ++ codes " HTTP/1.1\r\nHost: localh
 abbrev pub IsResponse : List ℕ → ℕ → List ℕ → Type 0
 IsResponse received status body = (head : ResponseHead) × ReadsResponse received head body × (status ≡ status_code head)
 
--- no head with 16 field lines or fewer stands at the front
+-- no head with 16 field lines or fewer is at the front
 abbrev pub HasNoAnswer : List ℕ → Type 0
 HasNoAnswer received = (head : ResponseHead) (rest : List ℕ) → ReadsResponse received head rest → FIELDS < length head.fields
 

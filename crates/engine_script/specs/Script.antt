@@ -22,7 +22,7 @@ words (get_line p target) = codes "get" ∷ decimal p ∷ target ∷ []
 words (turns_line k) = codes "turns" ∷ decimal k ∷ []
 words (drive_line p k) = codes "drive" ∷ decimal p ∷ decimal k ∷ []
 
--- what follows the newline behind the words
+-- what follows the newline after the words
 abbrev pub body : Line → List ℕ
 body (post_line p ticket text) = text ++ (10 ∷ [])
 body _ = []
@@ -30,7 +30,7 @@ body _ = []
 abbrev pub spelled : Line → List ℕ
 spelled line = joined (words line) ++ (10 ∷ body line)
 
--- no space and no newline stands in the target
+-- the target has no space and no newline
 pub record IsTarget (target : List ℕ) : Type 0 where
   pub no_space : Lacks 32 target
   pub no_newline : Lacks 10 target
@@ -45,7 +45,7 @@ Fits (get_line p target) = IsNode SERVERS p × IsTarget target
 Fits (turns_line k) = k ≤ MAX_TURNS
 Fits (drive_line p k) = IsNode SERVERS p × (k ≤ MAX_TURNS)
 
--- no line stands at the front of the bytes
+-- no line is at the front of the bytes
 abbrev pub HasNoLine : List ℕ → Type 0
 HasNoLine bytes = (line : Line) (rest : List ℕ) → Fits line → bytes ≢ spelled line ++ rest
 

@@ -45,15 +45,16 @@ pub record Finished (reader out err : End) (status : ℕ) : Type 0 where
 
 -- ---- faults
 
--- no line stands there, nor ever will
+-- no line is there, nor ever will be
 abbrev pub HasBadLine : End → List ℕ → Type 0
 HasBadLine reader rest = (IsAtEnd reader.after × HasNoLine rest × (rest ≢ [])) ⊎ GetsNoLine rest
 
--- a request's line stands there
+-- a request's line is there
 abbrev pub HasRequest : List ℕ → Type 0
 HasRequest rest = (line : Line) × (more : List ℕ) × Fits line × (rest ≡ spelled line ++ more) × IsRequest line
 
--- the fault's line, where k is the line behind those that were done: a bad line; the reader failed; a request's socket failed; memory was wanted
+-- the fault's line. k is the line after those that were done: a bad line; or the reader failed; or a
+-- request's socket failed; or an allocation failed
 abbrev pub IsFault : End → ℕ → List ℕ → List ℕ → Type 0
 IsFault reader k rest said =
     ((said ≡ fault_at k (codes "bad line")) × HasBadLine reader rest)

@@ -22,13 +22,13 @@ abbrev pub of_input : InputFault → ScriptFault
 of_input input.Read = script.Read
 of_input input.OutOfMemory = script.OutOfMemory
 
--- a line that was done prints this; a socket fails a request's line alone
+-- a line that was done prints this. A socket fails only at a request's line
 abbrev pub HappenEnds : Line → Result (Vec ℕ Global) LoopbackFault → Type 0
 HappenEnds line (Ok text) = Prints line text.items
 HappenEnds line (Err loopback.Socket) = IsRequest line
 HappenEnds line (Err loopback.OutOfMemory) = ⊤
 
--- a line stands at the front
+-- a line is at the front
 abbrev pub HasLine : List ℕ → Type 0
 HasLine bytes = (line : Line) × (rest : List ℕ) × Fits line × (bytes ≡ spelled line ++ rest)
 
@@ -58,7 +58,7 @@ NextEnds reader old new (Err script.Socket) = (held : List ℕ) × Grown reader 
 NextEnds reader old new (Err script.OutOfMemory) = HasTaken reader
 NextEnds reader old new (Err script.Read) = HasTaken reader × HasFailed reader
 
--- the line that a fault at line k is told by; memory for it may be wanted
+-- the line that reports a fault at line k. An allocation may fail for it
 abbrev pub IsSaid : ℕ → ScriptFault → List ℕ → Type 0
 IsSaid k script.BadLine said = (said ≡ fault_at k (codes "bad line")) ⊎ (said ≡ codes "out of memory\n")
 IsSaid k script.Socket said = said ≡ codes "socket failed\n"

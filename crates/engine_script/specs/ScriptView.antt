@@ -19,7 +19,7 @@ posted_words s = post_words s.node s.ticket s.text_len
 abbrev pub post_fits : SubmissionLine → Type 0
 post_fits s = FitsPost s.node s.ticket s.text_len
 
--- a line stands at the front, or none does yet, or none ever will
+-- a line is at the front, or none is yet, or none ever will be
 abbrev pub IsFound : List ℕ → Found → Type 0
 IsFound bytes (found.Line line rest) = Fits (line_view line) × (bytes ≡ spelled (line_view line) ++ rest.now)
 IsFound bytes found.Short = HasNoLine bytes

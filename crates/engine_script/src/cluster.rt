@@ -108,7 +108,7 @@ fn happen<N: Net<Stream = TcpStream>>(
     }
 }
 
-/// Reads until a line stands at the front; false at the input's end.
+/// Reads until a line is at the front. Returns false at the input's end.
 fn fill<R: Read>(feed: &mut Feed, reader: &mut Counted<R>) -> Result<bool, ScriptFault>
     ensures { FillEnds (end_of R.remaining reader.old reader.new) feed.old feed.new result }
 {
@@ -202,7 +202,8 @@ fn run<N: Net<Stream = TcpStream>, R: Read, W: Write, E: Write>(
 
 /// Opens three servers, does a script line by line, and prints what its requests are answered with.
 ///
-/// A request's connection lives within its line, and no server works but where a line lets it. What sockets carry is not said.
+/// A request's connection lives within its line, and no server works unless a line lets it. What sockets
+/// carry is not said.
 pub fn sitecluster<N: Net<Listener = TcpListener, Stream = TcpStream>, R: Read, W: Write, E: Write>(
     net: &N,
     alloc: Global,

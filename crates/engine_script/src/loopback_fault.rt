@@ -14,7 +14,7 @@ pub(crate) enum LoopbackFault {
     /// A call of a socket failed, or its peer gave no whole response.
     #[error("socket failed")]
     Socket,
-    /// Memory was wanted: a disk in memory fails where it finds none.
+    /// An allocation failed: a disk in memory fails for that too.
     #[error("out of memory")]
     OutOfMemory,
 }

@@ -19,7 +19,7 @@ use std::time::Duration;
 /// How many seconds a call of a connection may wait.
 const PATIENCE: u64 = 1;
 
-/// A node, its link to the others, and where it is asked.
+/// A node, its link to the others, and the address of its requests.
 #[derive(Drop)]
 pub(crate) struct LoopbackServer {
     served: Served<MemDisk>,
@@ -87,13 +87,13 @@ impl LoopbackServer {
         })
     }
 
-    /// So many turns of its node.
+    /// Takes turns of its node.
     pub(crate) fn drive(&mut self, alloc: Global, turns: u32) -> Result<(), NodeFault> {
         drive(alloc, &mut self.served.node, &mut self.link, turns)?;
         Ok(())
     }
 
-    /// Takes the connection that waits, answers its requests and closes it. That it fails is passed over.
+    /// Accepts the connection that waits, answers its requests and closes it. If that fails, it is ignored.
     fn answer(&mut self, alloc: Global) -> Result<(), LoopbackFault> {
         let (stream, _from) = self.listener.accept()?;
         limit_waiting(&stream)?;

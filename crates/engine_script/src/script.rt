@@ -43,7 +43,7 @@ pub(crate) enum Line<'a> {
     },
 }
 
-/// What stands at the front of the bytes that were read so far.
+/// What is at the front of the bytes that were read so far.
 #[derive(Clone, Copy)]
 pub(crate) enum Found<'a> {
     /// A line, and what follows it.
@@ -118,7 +118,7 @@ fn plain_line(head: &[u8]) -> Option<Line<'_>>
     None
 }
 
-/// The post, by what follows the newline behind its words.
+/// The post, by what follows the newline after its words.
 fn posted(post: SubmissionLine, after: &[u8]) -> Found<'_>
     requires { post_fits post }
     ensures { IsFound (joined (posted_words post) ++ (10 ∷ after.now)) result }

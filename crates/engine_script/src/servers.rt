@@ -12,7 +12,7 @@ use site_ids::{Cluster, NodeId};
 use std::alloc::Global;
 use std::net::{Net, SocketAddr, TcpListener, TcpStream, UdpSocket};
 
-/// How many turns a node takes where all take turns.
+/// How many turns a node takes when all take turns.
 const TURNS: u32 = 20;
 
 /// The servers 1 to 3, in order. Each is boxed, since what owns one is proved to let it go, and a box is let go of in one step.
@@ -119,14 +119,14 @@ impl Servers {
         }
     }
 
-    /// So many turns of one node.
+    /// Takes turns of one node.
     pub(crate) fn drive(&mut self, alloc: Global, node: NodeId, turns: u32) -> Result<(), NodeFault>
         requires { IsNode SERVERS node }
     {
         self.at(node).drive(alloc, turns)
     }
 
-    /// So many times 20 turns of each node, in order.
+    /// Takes 20 turns of each node, in order, as often as is asked for.
     pub(crate) fn take_turns(&mut self, alloc: Global, count: u32) -> Result<(), NodeFault> {
         for _ in 0..count {
             self.first.drive(alloc, TURNS)?;

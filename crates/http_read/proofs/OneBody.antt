@@ -36,7 +36,7 @@ no_feed_extension None ok = λ k d below is. absurd (omega (arith, below))
 no_feed_extension (Some text) ok =
     All-append (λ b. b ≢ 10) (59 ∷ []) text (no_feed_one 59 (λ is. absurd (omega (arith, is)))) (no_feed_among is_extension_byte text refl ok)
 
--- no line feed stands before the end of a chunk line
+-- no line feed is before the end of a chunk line
 no_feed_inside : (l : ChunkLine) (rest : List ℕ) (k : ℕ) → IsChunkLine l → k + 1 < length (print_chunk_line l)
     → slice_index (print_chunk_line l ++ rest) k ≢ 10
 unfolding print_chunk_line

@@ -84,7 +84,7 @@ opened_before b held = (
 
 -- ---- its body
 
--- reading on in the body, behind a head
+-- reading on in the body, after a head
 body_advances : (p : Progress) (b : Begun) (new : Body) (held mid left : List ℕ) → Advances p (progress.Body b) held mid
     → so_far.GoesOn b.body new mid left
     → Advances p (progress.Body (record { passed = b.passed; path = b.path; of_head = b.of_head; body = new })) held left

@@ -238,7 +238,7 @@ chunk_whole old new n missing held left from to t none = record {
   falls = rw (from, to) (omega (arith, ap length t.passed, length-append t.front left));
 }
 
--- ---- behind a chunk
+-- ---- after a chunk
 
 pub break_open : (old : Body) (held left : List ℕ) → old.awaits ≡ at.Break → ShowsBreak break.Open held left → ShowsStep (Some came.Open) old old held left
 break_open old held left from (few, same) = record {
@@ -312,7 +312,7 @@ break_passed old new held left from to bytes is_break = record {
   falls = rw (from, to) (omega (arith, ap length is_break, length-append crlf_bytes left));
 }
 
--- ---- behind the last chunk
+-- ---- after the last chunk
 
 pub trailer_open : (old : Body) (held left : List ℕ) → old.awaits ≡ at.Trailer → ShowsTrailer trailer.Open held left → ShowsStep (Some came.Open) old old held left
 trailer_open old held left from (cut, same) = record {
@@ -364,7 +364,7 @@ goes_on_after a b c held mid left first then = λ framing used is.
       subst (λ t. IsUsed framing c t) (append_assoc used f.0 s.0) s.2,
     )
 
--- what is shown of the body behind a step is shown of it before
+-- what is shown of the body after a step is shown of it before
 pub read_after : (a b : Body) (held mid : List ℕ) (r : Reading (List ℕ)) → GoesOn a b held mid
     → ((framing : Framing) (used : List ℕ) → IsUsed framing b used → ReadsBody framing (used ++ mid) r)
     → (framing : Framing) (used : List ℕ) → IsUsed framing a used → ReadsBody framing (used ++ held) r

@@ -21,7 +21,7 @@ pub record IsFirstLine (input : List ℕ) (n : ℕ) : Type 0 where
   pub feed : slice_index input (n - 1) ≡ line_feed
   pub before : (k : ℕ) → k + 1 < n → slice_index input k ≢ line_feed
 
--- no line feed stands among the first 256 bytes
+-- no line feed is among the first 256 bytes
 abbrev pub HasNoFeed : List ℕ → Type 0
 HasNoFeed input = (k : ℕ) → k < LINE_LIMIT → k < length input → slice_index input k ≢ line_feed
 
@@ -30,7 +30,7 @@ pub record IsShortLine (line : ChunkLine) : Type 0 where
   pub well_formed : IsChunkLine line
   pub short : length (print_chunk_line line) ≤ LINE_LIMIT
 
--- the line is short and tells the number of the bytes, which isn't 0
+-- the line is short and states the number of the bytes, which is not 0
 pub record IsChunk (chunk : Chunk) : Type 0 where
   pub line : IsShortLine chunk.line
   pub size : chunk_size chunk.line ≡ length chunk.bytes
@@ -66,7 +66,7 @@ pub record IsCutLine (tail : List ℕ) : Type 0 where
   pub open_end : HasNoFeed tail
   pub short : length tail < LINE_LIMIT
 
--- What the chunks end with, behind so many bytes of them.
+-- What the chunks end with, after this many bytes of them.
 -- got: the line of the last chunk and the trailer section.
 abbrev pub EndsChunks : ℕ → List ℕ → Reading (List Field) → Type 0
 EndsChunks so_far tail (got fields rest) =

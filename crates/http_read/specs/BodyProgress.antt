@@ -20,7 +20,7 @@ pub record IsAfterChunks (bytes used : List ℕ) : Type 0 where
   pub begins : BeginsWithChunks used chunks []
   pub joined : bytes ≡ chunks_joined chunks
 
--- whole chunks are used, the line of one more, and a part of its bytes, of which so many are missing
+-- whole chunks are used, the line of one more, and a part of its bytes, of which `missing` are missing
 pub record IsWithinChunk (missing : ℕ) (bytes used : List ℕ) : Type 0 where
   pub chunks : List bodies.Chunk
   pub line : ChunkLine
@@ -52,11 +52,11 @@ IsUsedUpTo framing Trailer bytes used = (framing ≡ chunked) × IsAfterLastLine
 abbrev pub IsUsed : Framing → Body → List ℕ → Type 0
 IsUsed framing body used = IsUsedUpTo framing body.awaits body.bytes.items used
 
--- chunks take at most so many bytes behind so many of the body: a chunk of one byte has a line and a break
+-- after n bytes of the body, chunks use at most this many bytes: a chunk of one byte has a line and a break
 abbrev pub chunks_left : ℕ → ℕ
 chunks_left n = (LINE_LIMIT + 3) * (BODY_LIMIT - n) + LINE_LIMIT + HEAD_LIMIT + 1
 
--- so many bytes of the input are used at most until it is known what comes of the body
+-- at most this many bytes of the input are used until it is known what becomes of the body
 abbrev pub bytes_left : Awaited → ℕ → ℕ
 bytes_left (Fixed missing) n = missing
 bytes_left Line n = chunks_left n
@@ -93,7 +93,7 @@ ShowsRead Whole old new held left =
 ShowsRead (Refused status) old new held left =
     (framing : Framing) (used : List ℕ) → IsUsed framing old used → ReadsBody framing (used ++ held) (refused status)
 
--- falls with each step: a step uses two bytes or more, but for the one to a line break
+-- this falls with each step: a step uses two bytes or more, except the one to a line break
 abbrev pub steps_left : Awaited → List ℕ → ℕ
 steps_left Break held = length held
 steps_left (Fixed missing) held = length held + 1

@@ -8,13 +8,13 @@ use Rattle.http_read.specs.declared.trailers.TrailerRead.{TrailerRead}
 use Rattle.http_read.specs.declared.trailers.TrailerRead.TheVariants as trailer
 use Rattle.http_read.specs.Heads.{got, refused, ended, ReadsTrailer}
 
--- fewer than two bytes; or two others; or a line break stood there, and left is what follows it
+-- fewer than two bytes; or two others; or a line break was there, and left is what follows it
 abbrev pub ShowsBreak : BreakRead → List ℕ → List ℕ → Type 0
 ShowsBreak break.Open held left = (length held < 2) × (left ≡ held)
 ShowsBreak break.Wrong held left = (2 ≤ length held) × ¬ (take 2 held ≡ crlf_bytes)
 ShowsBreak break.Passed held left = held ≡ crlf_bytes ++ left
 
--- the bytes end within the section; or one stood there, and left is what follows it; or it is refused
+-- the bytes end within the section; or one was there, and left is what follows it; or it is refused
 abbrev pub ShowsTrailer : TrailerRead → List ℕ → List ℕ → Type 0
 ShowsTrailer trailer.Open held left = ReadsTrailer held ended × (left ≡ held)
 ShowsTrailer trailer.Whole held left = (fields : List Field) × ReadsTrailer held (got fields left)

@@ -1,4 +1,4 @@
--- How the code tells the framing of a body.
+-- How the code represents the framing of a body.
 use Rattle.std.specs.Prelude.{◌≡◌, ℕ, ◌≤◌, ◌⊎◌, List, Some, None}
 use Rattle.std.specs.String.{string_bytes}
 use Rattle.httparse.specs.Grammar.{RequestHead}

@@ -16,7 +16,7 @@ use Rattle.http_read.specs.Framings.{framing_meant, Judges}
 use Rattle.http_read.specs.BodyProgress.{IsUsed, left_of, chunks_left}
 use Rattle.http_read.specs.Requests.{Answers, refuses, IsCutShort, is_head}
 
--- where the reading of the body stands, if the head is used
+-- how far the reading of the body is, if the head is used
 abbrev pub awaited_of : Progress → Option Awaited
 awaited_of Head = None
 awaited_of (Body b) = Some b.body.awaits
@@ -32,7 +32,7 @@ Resumes (Body b) used =
     (head : RequestHead) × (front : List ℕ) × ReadsHead used (got head front) × Judges head (Asks b.passed b.path)
     × (b.of_head ≡ is_head head) × IsUsed (framing_meant b.passed.cut) b.body front
 
--- so many bytes are used at most until it is known what comes of the request
+-- at most this many bytes are used until it is known what becomes of the request
 abbrev pub bytes_left : Progress → ℕ
 bytes_left Head = HEAD_LIMIT + chunks_left 0
 bytes_left (Body b) = left_of b.body

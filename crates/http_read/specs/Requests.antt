@@ -25,7 +25,7 @@ pub data Heard : Type 0 where
 abbrev pub is_head : RequestHead → Bool
 is_head head = bytes_eq head.method (codes "HEAD")
 
--- What comes of the bytes behind a whole head: the first test that it fails, or the body.
+-- What becomes of the bytes after a whole head: the first test that it fails, or the body.
 abbrev pub Follows : RequestHead → List ℕ → Heard → Type 0
 Follows head rest (asks request left) =
     (head_fault head ≡ None) × (request.method ≡ head.method) × AsksFor head.target request.path

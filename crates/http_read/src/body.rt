@@ -18,7 +18,7 @@ use std::alloc::{AllocError, Global};
 /// A body of which a part is read.
 #[derive(Drop)]
 pub(crate) struct Body {
-    /// Its bytes so far, without what stands around chunks.
+    /// Its bytes so far, without what is around chunks.
     pub bytes: Vec<u8>,
     pub awaits: Awaited,
 }
@@ -104,7 +104,7 @@ impl Body {
         }
     }
 
-    /// Reads the line break behind a chunk.
+    /// Reads the line break after a chunk.
     fn read_break(&mut self, inbox: &mut Inbox) -> Option<BodyRead>
         requires { self.old.awaits ≡ Awaited.Break }
         ensures { ShowsStep result self.old self.new inbox.old inbox.new }

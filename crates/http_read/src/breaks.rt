@@ -1,21 +1,21 @@
-//! Reads the line break behind a chunk (RFC 9112, section 7.1).
+//! Reads the line break after a chunk (RFC 9112, section 7.1).
 ghost use Rattle.std.specs.Prelude.{◌≡◌, List};
 ghost use Rattle.http_read.specs.BodySteps.{ShowsBreak};
 
 use crate::inbox::Inbox;
 
-/// What stands at the front.
+/// What is at the front.
 #[derive(Clone, Copy)]
 pub(crate) enum BreakRead {
     /// More bytes are wanted.
     Open,
     /// Two other bytes.
     Wrong,
-    /// A line break stood there.
+    /// A line break was there.
     Passed,
 }
 
-/// Reads a line break and passes over it.
+/// Reads a line break and consumes it.
 pub(crate) fn pass_break(inbox: &mut Inbox) -> BreakRead
     ensures { ShowsBreak result inbox.old inbox.new }
 {

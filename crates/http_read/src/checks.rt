@@ -23,7 +23,7 @@ pub(crate) enum Cut {
     Chunks,
 }
 
-/// What the tests tell of a head.
+/// What the tests found in a head.
 #[derive(Clone, Copy)]
 pub(crate) struct Passed {
     pub method: Method,
@@ -81,7 +81,7 @@ fn coding_status(minor: u8, bytes: &[u8], fields: &[HeaderSpan]) -> Option<u16>
     }
 }
 
-/// The stated length of the body, or the status where it can't be taken (RFC 9112, section 6.2).
+/// The stated length of the body, or the status if it cannot be read (RFC 9112, section 6.2).
 fn length_named(bytes: &[u8], fields: &[HeaderSpan]) -> Result<usize, u16>
     requires { LieIn bytes.now fields.now }
     ensures stated { let values = values_of (codes "content-length") (covered bytes.now fields.now) in

@@ -8,14 +8,14 @@ use crate::inbox::Inbox;
 use crate::lines::{LINE_LIMIT, line_len};
 use httparse::{Status, parse_chunk_size};
 
-/// What stands at the front.
+/// What is at the front.
 #[derive(Clone, Copy)]
 pub(crate) enum LineRead {
     /// More bytes are wanted.
     Open,
     /// No chunk line.
     Wrong,
-    /// A chunk line, which tells this size.
+    /// A chunk line, which states this size.
     Size(u64),
 }
 
@@ -31,7 +31,7 @@ fn size_on(line: &[u8]) -> Option<u64>
     }
 }
 
-/// Reads a chunk line and passes over it.
+/// Reads a chunk line and consumes it.
 pub(crate) fn chunk_line(inbox: &mut Inbox) -> LineRead
     ensures { ShowsLine result inbox.old inbox.new }
 {

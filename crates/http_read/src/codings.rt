@@ -17,7 +17,7 @@ pub(crate) struct Codings {
     pub is_chunked_last: bool,
 }
 
-/// What stands before the first comma, and after it.
+/// What is before the first comma, and what is after it.
 pub(crate) fn cut_at_comma(value: &[u8]) -> Option<(&[u8], &[u8])>
     ensures { MatchOption result (comma_parts value.now ≡ value.now ∷ [])
         (λ cut. (comma_parts value.now ≡ cut.0.now ∷ comma_parts cut.1.now) × (length cut.1.now < length value.now)) }

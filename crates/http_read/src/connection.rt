@@ -1,4 +1,4 @@
-//! Whether a connection may stay behind a request (RFC 9112, section 9.3).
+//! Whether a connection may stay after a request (RFC 9112, section 9.3).
 ghost use Rattle.std.specs.Prelude.{◌≡◌, codes};
 ghost use Rattle.std.specs.Str.{str_eq_ignore_ascii_case};
 ghost use Rattle.httparse.specs.Grammar.{trim_ows};

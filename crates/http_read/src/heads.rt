@@ -1,6 +1,7 @@
 //! Finds the head of a request at the front of an input (RFC 9112, sections 2 to 5).
 //!
-//! The first 8,192 bytes are looked at again as they grow; exactly so many without a head, then the end, ended early.
+//! The first 8,192 bytes are looked at again as they grow. If exactly that many have no head, and then the
+//! input ends, it ended early.
 
 ghost use Rattle.std.specs.Prelude.{◌≡◌, if◌then◌else◌, ℕ, List, ◌≤◌, length, IfOk};
 ghost use Rattle.http_read.specs.declared.heads.TheConstants.{HEAD_LIMIT};
@@ -14,12 +15,12 @@ use std::alloc::AllocError;
 /// The most bytes of a head, its request line and its last line among them.
 pub(crate) const HEAD_LIMIT: usize = 8192;
 
-/// The most field lines that so many bytes can be: each has three of them at least.
+/// The most field lines that this many bytes can be: each has at least three.
 pub(crate) const FIELD_ROOM: usize = HEAD_LIMIT / 3;
 
 /// What the bytes so far say of a head.
 pub(crate) enum Look {
-    /// A whole head, where these spans say.
+    /// A whole head, at these spans.
     Head(RequestSpans),
     /// No bytes can follow that make a head.
     Never,
@@ -27,9 +28,9 @@ pub(crate) enum Look {
     Open,
 }
 
-/// What stands at the front of an input.
+/// What is at the front of an input.
 pub(crate) enum Found {
-    /// A head, where these spans say.
+    /// A head, at these spans.
     At(RequestSpans),
     /// No head: the status of the refusal.
     Refused(u16),
@@ -45,7 +46,7 @@ pub(crate) fn first_bytes(held: &[u8]) -> &[u8]
     &held[..HEAD_LIMIT.min(held.len())]
 }
 
-/// Looks for a head in these bytes. The spans grow where its field lines are more than they have room for.
+/// Looks for a head in these bytes. The spans grow if its field lines are more than they have room for.
 fn look_within(bytes: &[u8], spans: &mut Vec<HeaderSpan>) -> Result<Look, AllocError>
     requires { length bytes.now ≤ HEAD_LIMIT }
     ensures { IfOk result (Sees bytes.now spans.new.items) }

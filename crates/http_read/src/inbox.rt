@@ -71,7 +71,8 @@ impl Inbox {
         self.end - self.start >= ROOM
     }
 
-    /// Reads once, behind what is held, which is moved to the front first: so the room of all used bytes is given back.
+    /// Reads once, after what is held, which is moved to the front first: so the room of all used bytes is
+    /// free again.
     ///
     /// `Ok(0)` is the end of the input. A reader that has no byte yet and doesn't wait for one (`WouldBlock`) has failed; it can be read again.
     pub fn read_from<R: Read>(

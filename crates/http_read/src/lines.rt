@@ -5,7 +5,7 @@ ghost use Rattle.http_read.specs.Bodies.{IsFirstLine, HasNoFeed};
 /// The most bytes of a chunk line.
 pub(crate) const LINE_LIMIT: usize = 256;
 
-/// The length of the first line, if its end stands among the first 256 bytes.
+/// The length of the first line, if it ends within the first 256 bytes.
 pub(crate) fn line_len(bytes: &[u8]) -> Option<usize>
     ensures { MatchOption result (HasNoFeed bytes.now) (IsFirstLine bytes.now) }
 {

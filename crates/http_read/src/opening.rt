@@ -21,7 +21,7 @@ pub(crate) enum Opened {
     Refused(u16, bool),
 }
 
-/// Reads a head and passes over it.
+/// Reads a head and consumes it.
 pub(crate) fn open_head(
     alloc: Global,
     inbox: &mut Inbox,

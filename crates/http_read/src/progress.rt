@@ -28,7 +28,7 @@ pub enum Progress {
 /// A request whose head is used.
 #[derive(Drop)]
 pub struct Begun {
-    /// What the tests tell of the head.
+    /// What the tests found in the head.
     pub(crate) passed: Passed,
     pub(crate) path: String,
     /// Whether the method is HEAD.
@@ -81,9 +81,9 @@ fn take_begun(
 
 /// Reads on in what the inbox holds. `None`: more bytes are wanted, and an inbox has room for them.
 ///
-/// Behind a request the progress is that of the next one. Behind a refusal the connection is to be closed. The spans are room for where field
-/// lines lie, of any length at first: they grow where a head or a trailer section has more, up to 2,730 (87 KB). Beyond them memory is taken
-/// as `request` takes it.
+/// After a request the progress is that of the next one. After a refusal the connection is to be closed. The
+/// spans are room for where field lines lie, of any length at first: they grow if a head or a trailer section
+/// has more, up to 2,730 (87 KB). All other memory is allocated as `request` does.
 pub fn advance(
     alloc: Global,
     progress: &mut Progress,

@@ -1,6 +1,6 @@
 //! Reads one request.
 //!
-//! After a failed read none is made; it and the input's end differ by the count alone (`StopsAt`).
+//! After a failed read no read is made. It differs from the input's end only by the count (`StopsAt`).
 
 ghost use Rattle.std.specs.Prelude.{◌≡◌, ◌≢◌, ◌≤◌, ℕ, List, length, IfOk, IfErr, IfSome, IsErrOf, OnOk};
 ghost use Rattle.std.specs.Io.KnownBytes.{IsAtEnd, Keeps};
@@ -24,7 +24,7 @@ fn room_for_fields(alloc: Global) -> Result<Vec<HeaderSpan>, AllocError> {
     vec![in alloc; EMPTY_HEADER_SPAN; FIELD_LIMIT]
 }
 
-/// Whether there is a byte of a request. Where none is held, one reading waits for it.
+/// Whether there is a byte of a request. If none is held, one reading waits for it.
 fn has_begun<R: Read>(reader: &mut Counted<R>, inbox: &mut Inbox) -> Result<bool, ReadFault>
     ensures input { OnOk result (Keeps (input_of inbox.old (R.remaining (inside reader.old)))
         (input_of inbox.new (R.remaining (inside reader.new)))) }

@@ -5,7 +5,8 @@ ghost use Rattle.http_read.specs.Taken.{TakesHeld};
 use crate::inbox::Inbox;
 use std::alloc::AllocError;
 
-/// Adds to the body what is held of so many bytes, and passes over it. The answer is how many are still missing.
+/// Adds to the body what is held of this many bytes, and consumes it. Returns how many bytes are still
+/// missing.
 pub(crate) fn take_held(
     inbox: &mut Inbox,
     n: usize,

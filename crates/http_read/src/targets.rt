@@ -15,7 +15,7 @@ fn is_plain(target: &[u8]) -> bool
     target.iter().all(|b| *b > 32 && *b < 127 && *b != 35)
 }
 
-/// Whether the URI is a host and port alone.
+/// Whether the URI is a host and a port, and nothing else.
 fn is_host_alone(uri: &Uri) -> bool
     ensures { result ≡ is_authority_alone uri.now }
 {

@@ -1,4 +1,4 @@
-//! Reads the field lines behind the last chunk, the trailer section (RFC 9112, section 7.1.2).
+//! Reads the field lines after the last chunk, the trailer section (RFC 9112, section 7.1.2).
 ghost use Rattle.std.specs.Prelude.{◌≡◌, List, ◌≤◌, length, IfOk, OnErr};
 ghost use Rattle.http_read.specs.declared.heads.TheConstants.{HEAD_LIMIT};
 ghost use Rattle.http_read.specs.Sections.{SeesSection};
@@ -13,7 +13,7 @@ use std::alloc::AllocError;
 
 /// What the bytes so far say of a section of field lines.
 pub(crate) enum Section {
-    /// So many bytes are a whole one, with so many field lines.
+    /// A whole section: how many bytes it has, and how many field lines.
     Whole(usize, usize),
     /// No bytes can follow that make one.
     Never,
@@ -21,7 +21,7 @@ pub(crate) enum Section {
     Open,
 }
 
-/// Looks for a section in these bytes. The spans grow where its field lines are more than they have room for.
+/// Looks for a section in these bytes. The spans grow if its field lines are more than they have room for.
 fn look_for_section(bytes: &[u8], spans: &mut Vec<HeaderSpan>) -> Result<Section, AllocError>
     requires { length bytes.now ≤ HEAD_LIMIT }
     ensures { IfOk result (SeesSection bytes.now) }
@@ -36,18 +36,18 @@ fn look_for_section(bytes: &[u8], spans: &mut Vec<HeaderSpan>) -> Result<Section
     }
 }
 
-/// What stands at the front.
+/// What is at the front.
 #[derive(Clone, Copy)]
 pub(crate) enum TrailerRead {
     /// More bytes are wanted.
     Open,
-    /// A whole section stood there.
+    /// A whole section was there.
     Whole,
-    /// Field lines that can't be taken: the status of the refusal.
+    /// Field lines that are refused: the status of the refusal.
     Refused(u16),
 }
 
-/// Reads the field lines and passes over them.
+/// Reads the field lines and consumes them.
 pub(crate) fn pass_trailer(
     inbox: &mut Inbox,
     spans: &mut Vec<HeaderSpan>,

@@ -125,7 +125,7 @@ refusal_finds service n now incoming status to_head m is written input left show
     subst (λ b. Responds service n now input left now b m.bytes.items) (sym closed)
     (inr (status, to_head, subst (λ x. Shows x left input) is shows, refl, ap (λ (w : Written). w.bytes) written))
 
--- a connection doesn't stay behind it
+-- a connection doesn't stay after it
 pub not_kept : {P : Type 0} (m : Message) (to_head : Bool) (status : ℕ) → written_in m ≡ write_as (closing to_head) (refusal status)
     → m.stays ≡ true → P
 not_kept m to_head status written so =

@@ -14,7 +14,7 @@ use Rattle.http_serve.specs.Services.{Offered}
 pub some_same : {X : Type 0} (x y : X) → ◌≡◌ {A = Option X} (Some x) (Some y) → x ≡ y
 some_same x y is = cc
 
--- one more, behind which the connection stays
+-- one more, after which the connection stays
 pub one_more : {S : Type 0} (service : Offered S) (n : ℕ) (now mid after : S) (input between left earlier response : List ℕ) (rest : Option (List ℕ))
     → HasServed service n now input mid between earlier → Exchanges service (suc n) mid between (Some left) rest after response (Ok Stays)
     → HasServed service (suc n) now input after left (earlier ++ response)

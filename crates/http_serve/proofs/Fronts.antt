@@ -1,4 +1,4 @@
--- What stands before a space.
+-- What is before a space.
 use Rattle.std.proofs.Common.{◌≡◌, ◌≢◌, ℕ, ◌+◌, ◌<◌, List, ◌∷◌, ◌++◌, length, take, drop, slice_index, codes, arith, sym, ap, subst, ◌∙◌, length-append}
 use Rattle.std.proofs.lemmas.List.{get_or_append_left, get_or-take, append_cancel_left, drop_more, length-take-le, take-append-drop}
 use Rattle.std.specs.Prelude.{Option, Some, None, MatchOption}
@@ -12,14 +12,14 @@ use Rattle.http_serve.specs.declared.connection.Connection.{Connection}
 use Rattle.http_serve.proofs.OneResource.{one_ticket}
 use Rattle.http_serve.proofs.Slashes.{byte_there}
 
--- without a space nothing stands before one
+-- without a space nothing is before one
 pub no_target : (bytes rest target : List ℕ) → bytes ≡ codes "GET " ++ rest → ((k : ℕ) → k < length rest → slice_index rest k ≢ 32) → Gets bytes target → ⊥
 no_target bytes rest target is none gets =
     let same : rest ≡ target ++ 32 ∷ gets.rest = append_cancel_left (codes "GET ") rest (target ++ 32 ∷ gets.rest) (sym is ∙ gets.spelled) in
     let there : slice_index rest (length target) ≡ 32 = ap (λ t. slice_index t (length target)) same ∙ byte_there 32 target gets.rest in
     none (length target) (omega (arith, ap length same, length-append target (32 ∷ gets.rest))) there
 
--- one target stands before the first one
+-- one target is before the first one
 pub one_target : (bytes s t : List ℕ) → Gets bytes s → Gets bytes t → s ≡ t
 one_target bytes s t one other =
     let e : s ++ 32 ∷ one.rest ≡ t ++ 32 ∷ other.rest = append_cancel_left (codes "GET ") (s ++ 32 ∷ one.rest) (t ++ 32 ∷ other.rest) (sym one.spelled ∙ other.spelled) in
@@ -35,7 +35,7 @@ pub one_receipt : (bytes : List ℕ) (t u : Ticket) → GetsReceipt bytes t → 
 one_receipt bytes t u one other =
     one_ticket (codes "/_ticket/") other.target t u (subst (λ z. IsTicketPath (codes "/_ticket/") z t) (one_target bytes one.target other.target one.gets other.gets) one.path) other.path
 
--- what stands before the first space is got
+-- what is before the first space is got
 pub target_before : (bytes rest : List ℕ) (end : ℕ) → bytes ≡ codes "GET " ++ rest → end < length rest → slice_index rest end ≡ 32
     → ((k : ℕ) → k < end → slice_index rest k ≢ 32) → Gets bytes (take end rest)
 target_before bytes rest end is inside space first =

@@ -89,7 +89,7 @@ given_up service n now after (Some i) left rest known OutOfMemory unread ended s
 given_up service n now after (Some i) left rest known EndedEarly unread ended same same_too refused unwritten =
     ([], (ended refl, same_too refl, refl), Appends-nil known)
 
--- ---- one behind another
+-- ---- one after another
 
 -- so many whole exchanges, over ends of which this is known
 abbrev pub HasRun : {S : Type 0} → Offered S → ℕ → S → Option (List ℕ) → S → Option (List ℕ) → Option (List ℕ) → Option (List ℕ) → Type 0

@@ -74,7 +74,7 @@ nothing_more S k = omega arith
 one_longer : (S : Type 0) (x : Exchange S) (xs : List (Exchange S)) (k : ℕ) → length xs + suc k ≡ length (x ∷ xs) + k
 one_longer S x xs k = omega arith
 
--- behind exchanges that were served alone, further ones
+-- after exchanges that were served alone, further ones
 goes_on : {S : Type 0} (service : Offered S) (k : ℕ) (now mid after : S) (came between left earlier later : List ℕ) (xs : List (Exchange S))
     → HasServed service k now came mid between earlier → AreExchanges service k between left later xs → IsAlone mid xs after
     → HasServed service (length xs + k) now came after left (earlier ++ later)

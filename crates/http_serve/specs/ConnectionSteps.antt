@@ -26,7 +26,8 @@ owed connection = connection.outbox
 abbrev pub answered : Connection → ℕ
 answered connection = connection.answered
 
--- This is what is left of all that came, where the responses so far are taken away: what is used of the next request, and what is held.
+-- This is what is left of all that came, without what the responses so far have used: what is used of the
+-- next request, and what is held.
 abbrev pub HasLeft : Connection → List ℕ → Type 0
 HasLeft connection left = (used : List ℕ) × Resumes connection.progress used × (left ≡ used ++ connection.inbox)
 
@@ -68,7 +69,8 @@ IsDone connection = (connection.state ≡ Failed) ⊎ ((connection.state ≡ Clo
 abbrev pub failed_connection : Connection → Connection
 failed_connection connection = record connection { outbox = []; state = Failed }
 
--- What one reading did: bytes came, which are held behind the others; none was there; the client sends no more; or the reader failed.
+-- What one reading did: bytes came, which are held after the others; or none was there; or the client sends
+-- no more; or the reader failed.
 abbrev pub Reads : ReadOutcome → Connection → Connection → End → Type 0
 Reads read_outcome.Came old new reader =
     (more : List ℕ) × (0 < length more) × Consumes reader.before reader.after more × IsSound reader
@@ -85,7 +87,7 @@ Writes write_outcome.Written old new writer =
 Writes write_outcome.Nothing old new writer = Keeps writer.before writer.after × HasFailed writer × (new ≡ old)
 Writes write_outcome.Failed old new writer = Keeps writer.before writer.after × HasFailed writer × (new ≡ failed_connection old)
 
--- the response waits to be written; behind a last one the connection is to be closed
+-- the response waits to be written. After a last one the connection is to be closed
 abbrev pub with_response : Connection → Message → Connection
 with_response connection m = record connection { outbox = m.bytes.items; answered = suc connection.answered; state = if m.stays then connection.state else Closing }
 
@@ -98,7 +100,7 @@ pub record IsAnswered {S : Type 0} (service : Offered S) (now after : S) (old ne
   pub counted : new.answered ≡ suc old.answered
   pub state : new.state ≡ (if stays then old.state else Closing)
 
--- how a connection goes on without a whole request: where the client sends no more, it is closed
+-- how a connection goes on without a whole request. If the client sends no more, it is closed
 abbrev pub waiting : ConnectionState → ConnectionState
 waiting Open = Open
 waiting Ended = Closing
@@ -112,7 +114,7 @@ pub record Waits (old new : Connection) : Type 0 where
   pub outbox : new.outbox ≡ old.outbox
   pub answered : new.answered ≡ old.answered
 
--- memory is wanted for the next response: it was the last request
+-- an allocation failed for the next response: it was the last request
 pub record GivesUp {S : Type 0} (service : Offered S) (now after : S) (old new : Connection) : Type 0 where
   pub refused : (used : List ℕ) → Resumes old.progress used → MayRefuse service (used ++ old.inbox) now after
   pub state : new.state ≡ Closing

@@ -9,7 +9,8 @@ use Rattle.http_serve.specs.Replies.{Reply, stays_behind, print_reply}
 use Rattle.http_serve.specs.Responses.{RepliesTo, refusal, Refuses}
 use Rattle.http_serve.specs.Services.{Offered}
 
--- the connection may be kept behind its n-th request: the client lets it stay, and fewer than 100 were answered with this one
+-- the connection may be kept after its n-th request: the client lets it stay, and fewer than 100 were
+-- answered, this one included
 abbrev pub may_keep : ℕ → Bool → Bool
 may_keep n keep = keep && nat_lt n 100
 
@@ -24,7 +25,7 @@ pub record IsResponse {S : Type 0} (service : Offered S) (now : S) (request : As
   pub replies : RepliesTo service now request resource after reply
   pub spelled : text ≡ print_reply stays (bytes_eq request.method (codes "HEAD")) reply
 
--- the n-th request stands at the front of the input, left is what follows it, and this is its response
+-- the n-th request is at the front of the input, left is what follows it, and this is its response
 pub record IsExchange {S : Type 0} (service : Offered S) (n : ℕ) (now : S) (input left : List ℕ) (after : S) (stays : Bool) (text : List ℕ) : Type 0 where
   pub request : Asked
   pub reply : Reply
@@ -39,7 +40,8 @@ IsLast service n now input after text =
     ⊎ ((status : ℕ) × (to_head : Bool) × Answers input (refuses status to_head) × (after ≡ now)
     × (text ≡ print_reply false to_head (refusal status)))
 
--- n whole exchanges, after each of which the connection stays: the service, the input behind them, and all that was written
+-- n whole exchanges, after each of which the connection stays: the service, the input after them, and all
+-- that was written
 abbrev pub HasServed : {S : Type 0} → Offered S → ℕ → S → List ℕ → S → List ℕ → List ℕ → Type 0
 HasServed service zero now input after left text = (after ≡ now) × (left ≡ input) × (text ≡ [])
 HasServed {S} service (suc n) now input after left text =
@@ -54,7 +56,7 @@ IsServed {S} service now input after text =
     × HasServed service n now input mid left earlier × IsLast service (suc n) mid left after response
     × (text ≡ earlier ++ response)
 
--- exchanges, one at least, behind which the client sent no more
+-- exchanges, one at least, after which the client sent no more
 abbrev pub IsLeft : {S : Type 0} → Offered S → S → List ℕ → S → List ℕ → Type 0
 IsLeft service now input after text =
     (n : ℕ) × (left : List ℕ) × HasServed service (suc n) now input after left text × Answers left ends
@@ -67,7 +69,7 @@ IsCutOff {S} service now input after text =
     × (IsLast service (suc n) mid left after (front ++ rest)
     ⊎ ((behind : List ℕ) × IsExchange service (suc n) mid left behind after true (front ++ rest)))
 
--- exchanges, and nothing behind them, with P of the input that was left and of the service before and after
+-- exchanges, and nothing after them. P holds of the input that was left, and of the service before and after
 abbrev pub IsGivenUp : {S : Type 0} → Offered S → (List ℕ → S → S → Type 0) → S → List ℕ → S → List ℕ → Type 0
 IsGivenUp {S} service P now input after text =
     (n : ℕ) × (mid : S) × (left : List ℕ) × HasServed service n now input mid left text × P left mid after

@@ -10,14 +10,16 @@ use Rattle.http_serve.specs.declared.replies.Message.{Message}
 use Rattle.http_serve.specs.Connections.{IsExchange, IsLast, MayRefuse}
 use Rattle.http_serve.specs.Services.{Offered}
 
--- this is the response to the n-th request, at the front of the input, and whether the connection stays behind it: then left is what follows
+-- this is the response to the n-th request, at the front of the input, and whether the connection stays after
+-- it. If so, left is what follows
 abbrev pub Responds : {S : Type 0} → Offered S → ℕ → S → List ℕ → Option (List ℕ) → S → Bool → List ℕ → Type 0
 Responds service n now input left after true text =
     (behind : List ℕ) × IsExchange service n now input behind after true text × (left ≡ Some behind)
 Responds service n now input left after false text = IsLast service n now input after text
 
--- What comes of the n-th request of a connection, where this input is left, and left behind it, of which the reader has rest: the text that is
--- written, and the service.
+-- What becomes of the n-th request of a connection: the text that is written, and the service after it.
+-- `input` is what is left before the request, `left` is what is left after it, and the reader still has
+-- `rest` of it.
 abbrev pub Exchanges : {S : Type 0} → Offered S → ℕ → S → List ℕ → Option (List ℕ) → Option (List ℕ) → S → List ℕ → Result Next ServeFault → Type 0
 Exchanges service n now input left rest after text (Ok Stays) = Responds service n now input left after true text
 Exchanges service n now input left rest after text (Ok Closes) = Responds service n now input left after false text
@@ -28,17 +30,17 @@ Exchanges service n now input left rest after text (Err Write) =
 Exchanges service n now input left rest after text (Err OutOfMemory) = MayRefuse service input now after × (text ≡ [])
 Exchanges service n now input left rest after text (Err EndedEarly) = Answers input stops × (after ≡ now) × (text ≡ [])
 
--- how the connection goes on behind a response
+-- how the connection goes on after a response
 abbrev pub next_behind : Bool → Next
 next_behind true = Stays
 next_behind false = Closes
 
--- how a connection ends where its client sends no more, behind so many requests
+-- how a connection ends if its client sends no more, after this many requests
 abbrev pub end_behind : ℕ → Result ⊤ ServeFault
 end_behind zero = Err EndedEarly
 end_behind (suc n) = Ok tt
 
--- How a connection ends with an exchange behind so many others; where it stays, it doesn't.
+-- How a connection ends with an exchange, after this many others. If it stays, it does not end.
 abbrev pub ends_with : ℕ → Result Next ServeFault → Option (Result ⊤ ServeFault)
 ends_with n (Ok Stays) = None
 ends_with n (Ok Closes) = Some (Ok tt)

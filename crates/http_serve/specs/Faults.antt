@@ -1,4 +1,4 @@
--- How a fault of reading is told.
+-- How a fault of reading is reported.
 use Rattle.http_read.specs.declared.fault.ReadFault.{ReadFault}
 use Rattle.http_read.specs.declared.fault.ReadFault.TheVariants as reading
 use Rattle.http_serve.specs.declared.fault.ServeFault.{ServeFault}

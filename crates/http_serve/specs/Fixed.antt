@@ -1,4 +1,4 @@
--- What a submission is told, but for a fault's line.
+-- The answer to a submission, except for a fault's line.
 use Rattle.std.specs.Prelude.{codes}
 use Rattle.http_serve.specs.declared.fixed.FixedReply.{FixedReply}
 use Rattle.http_serve.specs.declared.fixed.FixedReply.TheVariants.{Queued, Already, Busy, Stopped}

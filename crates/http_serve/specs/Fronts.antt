@@ -1,4 +1,4 @@
--- What a request asks for, as its first bytes tell.
+-- What a request asks for, as its first bytes show.
 use Rattle.std.specs.Prelude.{◌≡◌, ◌≢◌, ℕ, ◌<◌, List, ◌++◌, length, slice_index, codes, nat_eq, None, IsTrue}
 use Rattle.std.specs.List.{ends_with}
 use Rattle.site_ids.specs.declared.Ticket.{Ticket}
@@ -7,7 +7,7 @@ use Rattle.http_serve.specs.ConnectionSteps.{MayAnswer}
 use Rattle.http_serve.specs.Paths.{IsTicketPath}
 use Rattle.http_serve.specs.declared.connection.Connection.{Connection}
 
--- between its method, GET, and the next space stands this target
+-- between its method, GET, and the next space is this target
 pub record Gets (bytes target : List ℕ) : Type 0 where
   pub rest : List ℕ
   pub spelled : bytes ≡ codes "GET " ++ (target ++ (codes " " ++ rest))

@@ -14,7 +14,7 @@ NamesOne = (path : List ℕ) (a b : Resource) → Names path a → Names path b 
 
 -- Exchanges one after another are a connection.
 pub record AreConnection {S : Type 0} (service : Offered S) : Type 0 where
-  -- one more, behind which it stays
+  -- one more, after which it stays
   pub more : (n : ℕ) (now mid after : S) (input between left earlier response : List ℕ) (rest : Option (List ℕ))
       → HasServed service n now input mid between earlier → Exchanges service (suc n) mid between (Some left) rest after response (Ok Stays)
       → HasServed service (suc n) now input after left (earlier ++ response)

@@ -4,7 +4,8 @@ use Rattle.std.specs.Fmt.{decimal}
 use Rattle.percent_encoding.specs.Percent.{percent_encode}
 use Rattle.http_serve.specs.declared.replies.TheConstants.{ESCAPED}
 
--- a line of the head that only some responses have: none, the path that a page moved to, or the methods allowed where another was used
+-- a line of the head that only some responses have: none, the path that a page moved to, or the methods that
+-- are allowed if another was used
 pub data OwnLine : Type 0 where
   no_line : OwnLine
   location : List ℕ → OwnLine
@@ -46,11 +47,11 @@ abbrev pub media_type : Bool → List ℕ
 media_type true = codes "text/html; charset=utf-8"
 media_type false = codes "text/plain; charset=utf-8"
 
--- a connection is closed behind these: the rest of its input may be anything
+-- a connection is closed after these: the rest of its input may be anything
 abbrev pub closes : ℕ → Bool
 closes status = status == 400 || status == 413 || status == 414 || status == 431 || status == 501
 
--- a connection that may be kept stays behind this reply
+-- a connection that may be kept stays after this reply
 abbrev pub stays_behind : Bool → Reply → Bool
 stays_behind keep r = keep && not (closes r.status)
 
@@ -59,13 +60,13 @@ abbrev pub head_end : Bool → List ℕ
 head_end true = codes "\r\n\r\n"
 head_end false = codes "\r\nConnection: close\r\n\r\n"
 
--- the head of a response, behind which the connection stays or not
+-- the head of a response, after which the connection stays or not
 abbrev pub reply_head : Bool → Reply → List ℕ
 reply_head stays r =
     codes "HTTP/1.1 " ++ (decimal r.status ++ (codes " " ++ (reason r.status ++ (codes "\r\nContent-Type: "
     ++ (media_type r.is_page ++ (codes "\r\n" ++ line_before r.own
     (codes "Content-Length: " ++ (decimal (length r.body) ++ head_end stays))))))))
 
--- the response; to a HEAD request its head alone
+-- the response, or only its head if the request is HEAD
 abbrev pub print_reply : Bool → Bool → Reply → List ℕ
 print_reply stays to_head r = reply_head stays r ++ (if to_head then [] else r.body)

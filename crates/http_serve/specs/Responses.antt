@@ -11,7 +11,7 @@ use Rattle.http_serve.specs.Replies.{OwnLine, no_line, location, allow, Reply}
 use Rattle.http_serve.specs.Paths.{Resource, Names, submission, receipt, newest, release, unknown, page}
 use Rattle.http_serve.specs.Services.{Outcome, Offered, Submits}
 
--- a text, and a line feed behind it
+-- a text, and a line feed after it
 abbrev pub line : List ℕ → List ℕ
 line text = text ++ 10 ∷ []
 
@@ -58,7 +58,7 @@ asked_reply service now path unknown = plain 404 (codes "not found")
 asked_reply service now path page =
     if service.newest_is now == 0 then page_reply None else page_reply (service.page_is now (service.newest_is now) path)
 
--- what the outcome of a submission is answered; where memory was missing, nothing
+-- the answer to the outcome of a submission; none if an allocation failed
 abbrev pub outcome_reply : Outcome → Option Reply
 outcome_reply (Ok Queued) = Some (plain 202 (codes "queued"))
 outcome_reply (Ok Already) = Some (plain 200 (codes "already"))
@@ -74,7 +74,8 @@ RepliesToPost service now body (submission ticket) after reply =
 RepliesToPost service now body unknown after reply = (after ≡ now) × (reply ≡ plain 404 (codes "not found"))
 RepliesToPost service now body resource after reply = (after ≡ now) × (reply ≡ wrong_method (codes "GET, HEAD"))
 
--- where memory is wanted behind a submission, this came of it: the words for the others were made before
+-- if an allocation fails after a submission, this was its outcome: the words for the other outcomes were made
+-- before
 abbrev pub MayGoUntold : SubmitFault → Type 0
 MayGoUntold (Command fault) = ⊤
 MayGoUntold OutOfMemory = ⊤

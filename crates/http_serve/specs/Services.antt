@@ -30,12 +30,12 @@ abbrev pub MaySubmit : {S : Type 0} → Offered S → S → S → Type 0
 MaySubmit service now after =
     (after ≡ now) ⊎ ((ticket : Ticket) × (text : List ℕ) × (done : Outcome) × Submits service now ticket text done after)
 
--- one after another, the service was given so many submissions at most
+-- the service was given at most n submissions, one after another
 abbrev pub MaySubmitMany : {S : Type 0} → Offered S → ℕ → S → S → Type 0
 MaySubmitMany service zero now after = after ≡ now
 MaySubmitMany {S} service (suc n) now after = (mid : S) × MaySubmitMany service n now mid × MaySubmit service mid after
 
--- a command's fault that is told has a line
+-- a command's fault that is reported has a line
 abbrev pub IsTold : SubmitFault → Type 0
 IsTold (Command fault) = HasLine fault
 IsTold _ = ⊤

@@ -9,7 +9,8 @@ pub record Exchange (S : Type 0) : Type 0 where
   pub after : S
   pub text : List ℕ
 
--- Exchanges behind k earlier ones, after each of which the connection stays: each request stands at the front of what the ones before it left.
+-- Exchanges after k earlier ones, after each of which the connection stays: each request is at the front of
+-- what the ones before it left.
 abbrev pub AreExchanges : {S : Type 0} → Offered S → ℕ → List ℕ → List ℕ → List ℕ → List (Exchange S) → Type 0
 AreExchanges service k input left text [] = (left ≡ input) × (text ≡ [])
 AreExchanges service k input left text (x ∷ xs) =
@@ -53,7 +54,7 @@ OneMore {S} service =
     (came left behind text response : List ℕ) (count : ℕ) (now after : S) → IsOpenTalk service came left text count
     → IsExchange service (suc count) now left behind after true response → IsOpenTalk service came behind (text ++ response) (suc count)
 
--- Exchanges with nothing between them are those of a connection that is served alone.
+-- Exchanges with nothing between them are those of a connection that is served by itself.
 pub record AloneIsServed {S : Type 0} (service : Offered S) : Type 0 where
   -- as far as it came
   pub so_far : (now after : S) (came left text : List ℕ) (xs : List (Exchange S)) → AreExchanges service zero came left text xs → IsAlone now xs after

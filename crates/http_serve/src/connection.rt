@@ -1,6 +1,7 @@
 //! A client's connection, without what carries its bytes.
 //!
-//! Where memory was refused it is over, an earlier response whole; a status of 400 closes it whoever shows it.
+//! If an allocation failed, the connection is over, and an earlier response is whole. A status of 400 closes
+//! it, whoever shows it.
 
 ghost use Rattle.std.specs.Prelude.{◌≡◌, ◌⊎◌, ◌<◌, ℕ, List, length, true, false, IfOk, OnErr, IsTrue, IsFalse, ◌↔◌, MatchOption};
 ghost use Rattle.http_read.specs.Bytes.{end_of};
@@ -21,7 +22,7 @@ use site_ids::Ticket;
 use std::alloc::{AllocError, Global};
 use std::io::{Read, Write};
 
-/// How a connection stands.
+/// The state of a connection.
 #[derive(Clone, Copy, Drop, PartialEq, Eq)]
 pub(crate) enum ConnectionState {
     /// The client may send more.
@@ -36,10 +37,11 @@ pub(crate) enum ConnectionState {
 
 /// A client's connection, without what carries its bytes: a server holds many at once, and none waits for another.
 ///
-/// A server reads by `read_from` where `may_read`, makes responses by `advance`, writes by `write_to` where the connection `owes`, and closes it where it
-/// `is_done`. A response is made only once the one before it is written whole: so it lies where it was made, and no memory is wanted behind a
-/// submission that was taken. Reading goes on meanwhile, up to 16 KB. Behind bytes that came, behind the end of the client's input, and behind
-/// a response that was written whole, `advance` is called again.
+/// A server reads with `read_from` if the connection `may_read`, makes responses with `advance`, writes with
+/// `write_to` if the connection `owes` something, and closes it if it `is_done`. A response is made only
+/// after the one before it is written whole. So it stays where it was made, and nothing is allocated after a
+/// submission that was accepted. Reading goes on meanwhile, up to 16 KB. After bytes that came, after the end
+/// of the client's input, and after a response that was written whole, `advance` is called again.
 #[derive(Drop)]
 pub struct Connection {
     inbox: Inbox,
@@ -61,7 +63,7 @@ impl ConnectionState {
 }
 
 impl Connection {
-    /// Nothing was read yet. It takes no memory.
+    /// Nothing was read yet. It does not allocate.
     pub fn new(alloc: Global) -> Connection
         ensures { IsNew result }
     {
@@ -81,7 +83,7 @@ impl Connection {
         matches!(self.state, ConnectionState::Open) && !self.inbox.is_full()
     }
 
-    /// Reads once. Behind the end of the client's input, and behind a failure, nothing more is read.
+    /// Reads once. After the end of the client's input, or after a failure, nothing more is read.
     pub fn read_from<R: Read>(&mut self, reader: &mut Counted<R>) -> Result<ReadOutcome, AllocError>
         requires { MayRead self.old }
         ensures read { IfOk result (λ read. Reads read self.old self.new (end_of R.remaining reader.old reader.new)) }
@@ -108,8 +110,9 @@ impl Connection {
         self.state.is_going() && self.outbox.is_empty() && self.answered < REQUESTS
     }
 
-    /// The ticket whose receipt the next request asks for, where that may be answered now. Its first bytes tell, and none of them is used: so a server can
-    /// leave the request until the receipt is there. A path that is percent-encoded is not seen.
+    /// The ticket whose receipt the next request asks for, if that request may be answered now. Its first
+    /// bytes show the ticket, and none of them is used: so a server can leave the request until the receipt
+    /// is there. A path that is percent-encoded is not seen.
     pub fn asks_receipt(&self) -> Option<Ticket>
         ensures { MatchOption result ((ticket : Ticket) → ¬ (AsksReceipt self.now ticket)) (AsksReceipt self.now) }
     {
@@ -132,11 +135,13 @@ impl Connection {
         }
     }
 
-    /// Answers the next request, if a whole one is there and the response before it is written whole: whether it did.
+    /// Answers the next request, if a whole one is there and the response before it is written whole. Returns
+    /// whether it did.
     ///
-    /// Of a connection's requests a hundred are answered at most: the last response says so (`Connection: close`), and so do those to a
-    /// request that is refused, or whose client wants no further one. Where memory was wanted the connection is closed too. The spans are room
-    /// for where field lines lie (`advance`), for all connections the same.
+    /// At most a hundred of a connection's requests are answered. The last response says so (`Connection:
+    /// close`), and so does the response to a request that is refused, or whose client wants no further one.
+    /// If an allocation failed, the connection is closed too. The spans are room for where field lines lie
+    /// (`advance`), for all connections the same.
     pub fn advance<S: Service>(
         &mut self,
         alloc: Global,
@@ -176,7 +181,7 @@ impl Connection {
         }
     }
 
-    /// A response is to be written; behind a last one nothing more is read or answered.
+    /// A response is to be written. After a last one nothing more is read or answered.
     fn put(&mut self, message: Message)
         requires { self.old.answered < REQUESTS }
         ensures { self.new ≡ with_response self.old message }
@@ -188,7 +193,7 @@ impl Connection {
         }
     }
 
-    /// No whole request is there: where the client sends no more, none will be.
+    /// No whole request is there. If the client sends no more, none will be.
     fn wait(&mut self)
         ensures { self.new ≡ record self.old { state = waiting self.old.state } }
     {
@@ -212,8 +217,8 @@ impl Connection {
         !self.outbox.is_empty()
     }
 
-    /// Writes once of what waits. Behind a failure, also where the writer takes no byte, the rest of it is never written, and nothing more is
-    /// read or answered. Nothing is flushed.
+    /// Writes once of what waits. After a failure, or if the writer accepts no byte, the rest of it is never
+    /// written, and nothing more is read or answered. Nothing is flushed.
     pub fn write_to<W: Write>(&mut self, writer: &mut Counted<W>) -> WriteOutcome
         requires { 0 < length (owed self.old) }
         ensures { Writes result self.old self.new (end_of W.contents writer.old writer.new) }

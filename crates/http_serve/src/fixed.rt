@@ -1,4 +1,5 @@
-//! Responses to submissions that are known before: room for any of them is made first, so that none is refused behind a submission that was taken.
+//! Responses to submissions that are known in advance. Room for any of them is made first, so that none fails
+//! after a submission that was accepted.
 
 ghost use Rattle.std.specs.Prelude.{◌≡◌, ◌≤◌, ◌++◌, Bool, [], length, vec_capacity, IfOk};
 ghost use Rattle.http_serve.specs.declared.fixed.TheConstants.{LONGEST};
@@ -12,7 +13,7 @@ use std::alloc::{AllocError, Global};
 /// How many bytes the longest has: its head without an end, the end, and the body.
 const LONGEST: usize = 92 + 23 + 8;
 
-/// What a submission is told, but for a fault's line.
+/// The answer to a submission, except for a fault's line.
 #[derive(Clone, Copy, Drop)]
 pub(crate) enum FixedReply {
     Queued,
@@ -35,7 +36,7 @@ impl Room {
         Ok(Room { bytes })
     }
 
-    /// The whole response, for a connection that may be kept or not. It takes no memory.
+    /// The whole response, for a connection that may be kept or not. It does not allocate.
     pub(crate) fn hold(self, reply: FixedReply, keep: bool) -> Message
         ensures { written_in result ≡ write_as (whole keep) (fixed_reply reply) }
     {
@@ -48,7 +49,7 @@ impl Room {
 }
 
 impl FixedReply {
-    /// The head, but for what ends it.
+    /// The head, except for what ends it.
     fn head(self) -> &'static str
         ensures value { (stays : Bool) → result.now ++ head_end stays ≡ reply_head stays (fixed_reply self) }
         ensures few { length result.now ≤ 92 }

@@ -1,4 +1,4 @@
-//! What a request asks for, as its first bytes tell, before it is read.
+//! What a request asks for, as its first bytes show, before it is read.
 ghost use Rattle.std.specs.Prelude.{ℕ, List, MatchOption, codes};
 ghost use Rattle.http_serve.specs.Fronts.{Gets, GetsReceipt};
 ghost use Rattle.http_serve.specs.Paths.{IsTicketPath};

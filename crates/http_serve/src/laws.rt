@@ -15,7 +15,7 @@ pub fn exchanges_are_a_connection<S: Service>(_service: &S)
     ensures { AreConnection S.offered }
 {}
 
-/// What passed on a connection stands when more bytes come.
+/// What happened on a connection stays the same if more bytes come.
 pub fn talks_stand<S: Service>(_service: &S)
     ensures { TalksStand S.offered }
 {}
@@ -25,7 +25,8 @@ pub fn one_exchange_more<S: Service>(_service: &S)
     ensures { OneMore S.offered }
 {}
 
-/// Where nothing else happens between its exchanges, a connection's exchanges are those of one that is served alone.
+/// If nothing else happens between its exchanges, a connection's exchanges are those of one that is served by
+/// itself.
 pub fn a_talk_alone_is_served<S: Service>(_service: &S)
     ensures { AloneIsServed S.offered }
 {}

@@ -1,7 +1,9 @@
 //! Answers HTTP/1.1 requests from a service behind it (RFC 9112).
 //!
-//! `serve` reads the requests of a connection, asks the service, and writes their responses, whole, over any reader and any writer; `exchange`
-//! does so for one request. `Connection` is a connection whose bytes come and go in many steps, so that a server holds many. `Service` is what they ask of the service: pages of releases, receipts, and taking submissions.
+//! `serve` reads the requests of a connection, asks the service, and writes their responses, whole, over any
+//! reader and any writer. `exchange` does so for one request. `Connection` is a connection whose bytes come
+//! and go in many steps, so that a server holds many. `Service` is what they ask of the service: pages of
+//! releases, receipts, and to handle submissions.
 #![tactic(auto)]
 
 mod connection;

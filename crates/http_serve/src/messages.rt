@@ -16,14 +16,15 @@ use std::alloc::{AllocError, Global};
 /// The most requests of a connection.
 pub(crate) const REQUESTS: u32 = 100;
 
-/// Whether a connection may be kept behind the request that comes behind so many.
+/// Whether a connection may be kept after the request that follows `answered` others.
 fn may_keep(keep: bool, answered: u32) -> bool
     ensures { result ≡ (keep && nat_lt (answered + 1) 100) }
 {
     keep && answered < REQUESTS - 1
 }
 
-/// The response to what was read behind so many answered requests; none where the client sent no more.
+/// The response to what was read, after the requests that were answered so far; none if the client sent no
+/// more.
 pub(crate) fn message_for<S: Service>(
     alloc: Global,
     incoming: Incoming,
@@ -48,7 +49,7 @@ pub(crate) fn message_for<S: Service>(
     }
 }
 
-/// The response to the next request, behind so many others; none where it isn't whole.
+/// The response to the next request, after the requests that were answered so far; none if it is not whole.
 pub(crate) fn next_response<S: Service>(
     alloc: Global,
     progress: &mut Progress,

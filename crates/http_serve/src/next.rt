@@ -2,7 +2,7 @@
 ghost use Rattle.std.specs.Prelude.{◌≡◌};
 ghost use Rattle.http_serve.specs.Exchanges.{next_behind};
 
-/// How a connection goes on behind an exchange.
+/// How a connection goes on after an exchange.
 #[derive(Clone, Copy, Debug, Drop, PartialEq, Eq)]
 pub enum Next {
     /// The client may send a further request.

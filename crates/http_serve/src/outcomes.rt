@@ -21,7 +21,7 @@ pub enum ReadOutcome {
 pub enum WriteOutcome {
     /// A byte or more was written.
     Written,
-    /// The writer takes none yet: it can be written again.
+    /// The writer accepts no byte yet. It can be written to again.
     Nothing,
     /// The writer failed, or took no byte.
     Failed,

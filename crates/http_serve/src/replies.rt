@@ -25,7 +25,7 @@ pub(crate) enum OwnLine {
     Absent,
     /// The path that a page moved to.
     Location(String),
-    /// The methods that are allowed, where another was used.
+    /// The methods that are allowed, if another was used.
     Allow(&'static str),
 }
 
@@ -42,7 +42,7 @@ pub(crate) struct Response {
 /// How a response is given.
 #[derive(Clone, Copy)]
 pub(crate) struct Manner {
-    /// Its head alone, as the method is HEAD.
+    /// Only its head is sent, as the method is HEAD.
     pub to_head: bool,
     /// The connection may be kept.
     pub keep: bool,
@@ -52,7 +52,7 @@ pub(crate) struct Manner {
 #[derive(Drop)]
 pub(crate) struct Message {
     pub bytes: Vec<u8>,
-    /// Whether the connection stays behind it.
+    /// Whether the connection stays after it.
     pub stays: bool,
 }
 
@@ -90,14 +90,14 @@ fn media_of(is_page: bool) -> &'static str
     }
 }
 
-/// Whether a connection is closed behind a response of this status.
+/// Whether a connection is closed after a response of this status.
 fn closes(status: u16) -> bool
     ensures { result ≡ is_closing status }
 {
     status == 400 || status == 413 || status == 414 || status == 431 || status == 501
 }
 
-/// Whether a connection stays behind a response of this status.
+/// Whether a connection stays after a response of this status.
 fn stays_behind(keep: bool, status: u16) -> bool
     ensures { result ≡ (keep && not (is_closing status)) }
 {
@@ -145,7 +145,7 @@ fn head_of(alloc: Global, stays: bool, response: &Response) -> Result<String, Al
     )
 }
 
-/// The whole response; to a HEAD request its head alone.
+/// The whole response, or only its head if the request is HEAD.
 pub(crate) fn message_of(
     alloc: Global,
     manner: Manner,

@@ -17,7 +17,7 @@ pub(crate) enum Resource<'a> {
     Page,
 }
 
-/// Where the byte stands first.
+/// The first place of the byte.
 pub(crate) fn first_of(byte: u8, bytes: &[u8]) -> Option<usize>
     ensures { MatchOption result ((k : ℕ) → k < length bytes.now → slice_index bytes.now k ≢ byte)
         (λ at. (at < length bytes.now) × (slice_index bytes.now at ≡ byte) × ((k : ℕ) → k < at → slice_index bytes.now k ≢ byte)) }
@@ -55,7 +55,7 @@ pub(crate) fn ticket_in(rest: &[u8]) -> Option<Ticket>
     })
 }
 
-/// The number of a release, and where the path in it begins.
+/// The number of a release, and the place where the path in it begins.
 fn release_in(rest: &[u8]) -> Option<(u64, usize)>
     ensures { MatchOption result ((n : ℕ) (tail : List ℕ) → n < 2 ^ 64 → rest.now ≢ decimal n ++ (codes "/" ++ tail))
         (λ r. (r.0 < 2 ^ 64) × (r.1 < length rest.now) × (slice_index rest.now r.1 ≡ 47) × (rest.now ≡ decimal r.0 ++ drop r.1 rest.now)) }

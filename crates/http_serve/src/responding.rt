@@ -21,7 +21,7 @@ use release::{Answer, AnswerFault};
 use site_ids::Ticket;
 use std::alloc::{AllocError, Global};
 
-/// The text with a line feed behind it.
+/// The text, and a line feed after it.
 fn line_of(alloc: Global, text: &str) -> Result<Vec<u8>, AllocError>
     ensures { IfOk result (λ bytes. bytes.items ≡ line text.now) }
 {
@@ -45,7 +45,7 @@ fn plain(alloc: Global, manner: Manner, status: u16, text: &str) -> Result<Messa
     )
 }
 
-/// The response where another method is wanted.
+/// The response if another method has to be used.
 fn wrong_method(alloc: Global, manner: Manner, methods: &'static str) -> Result<Message, AllocError>
     ensures { IfOk result (λ message. written_in message ≡ write_as manner (wrong_reply methods.now)) }
 {
@@ -62,7 +62,7 @@ fn wrong_method(alloc: Global, manner: Manner, methods: &'static str) -> Result<
     )
 }
 
-/// The response to a request that was refused as it was read, behind which no connection stays.
+/// The response to a request that was refused as it was read. No connection stays after it.
 pub(crate) fn refused(alloc: Global, to_head: bool, status: u16) -> Result<Message, AllocError>
     ensures { IfOk result (λ message. written_in message ≡ write_as (closing to_head) (refusal status)) }
 {
@@ -172,7 +172,8 @@ fn shown<S: Service>(
     }
 }
 
-/// Submits, and gives the response. Room for it is made before, but for a fault's line, which is made when nothing was taken.
+/// Submits, and returns the response. Room for it is made first, except for a fault's line: that is made when
+/// nothing was accepted.
 fn submitted<S: Service>(
     alloc: Global,
     keep: bool,
@@ -230,7 +231,7 @@ fn posted<S: Service>(
     }
 }
 
-/// The response to a request, behind which the connection may be kept or not.
+/// The response to a request, after which the connection may be kept or not.
 pub(crate) fn respond<S: Service>(
     alloc: Global,
     keep: bool,

@@ -8,15 +8,16 @@ use release::{Answer, AnswerFault};
 use site_ids::{Instance, Ticket};
 use std::alloc::Global;
 
-/// A service that shows releases of a site and takes submissions.
+/// A service that shows releases of a site and handles submissions.
 ///
-/// Its ghost member says what it is in each of its states (`Offered`: pages, receipts, what a submission may come to, and what leaves all that it
-/// shows and holds as it was). An `impl` chooses it: what `serve` promises over a service is what is said there.
+/// Its ghost member says what it is in each of its states (`Offered`: pages, receipts, how a submission may
+/// end, and what leaves all that it shows and holds as it was). An `impl` chooses it: what `serve` promises
+/// over a service is what is said there.
 pub trait Service {
     /// What the service offers in each of its states.
     ghost offered: { Offered Self };
 
-    /// The number of the newest release; 0 where there is none.
+    /// The number of the newest release; 0 if there is none.
     fn newest(&self) -> u64
         ensures { result ≡ offered.newest_is self.now };
 

@@ -1,6 +1,7 @@
 //! Serves one connection.
 //!
-//! That nothing was written at a fault is said of an exchange, as over a socket no clause tells which request failed.
+//! That nothing was written at a fault is said of an exchange: over a socket, no clause says which request
+//! failed.
 
 ghost use Rattle.std.specs.Prelude.{◌≡◌, ◌⊎◌, ◌+◌, ◌<◌, ◌≤◌, ℕ, suc, true, List, None, IfOk, IfSome, IsErrOf};
 ghost use Rattle.std.specs.Io.KnownBytes.{Appends};
@@ -21,7 +22,8 @@ use http_read::{Counted, Inbox, request, write_all};
 use std::alloc::Global;
 use std::io::{Read, Write};
 
-/// The response to the next request of a connection, of which so many were answered; none where the client sent no more.
+/// The response to the next request of a connection, after those that were answered so far; none if the
+/// client sent no more.
 fn next_message<R: Read, S: Service>(
     alloc: Global,
     reader: &mut Counted<R>,
@@ -49,10 +51,11 @@ fn next_message<R: Read, S: Service>(
     Ok(message_for(alloc, incoming, service, answered)?)
 }
 
-/// Reads the next request of a connection, of which so many were answered before, and writes its response.
+/// Reads the next request of a connection, after those that were answered so far, and writes its response.
 ///
-/// The inbox is the connection's: what a client sent ahead waits there for the next call. A server that holds many connections calls this for
-/// whichever has bytes; `serve` is this, again and again. Behind anything but `Next::Stays` the connection is to be closed.
+/// The inbox is the connection's: what a client sent ahead waits there for the next call. A server that holds
+/// many connections calls this for whichever has bytes; `serve` is this, again and again. After any result
+/// except `Next::Stays` the connection is to be closed.
 pub fn exchange<R: Read, W: Write, S: Service>(
     alloc: Global,
     reader: &mut Counted<R>,
@@ -85,8 +88,9 @@ pub fn exchange<R: Read, W: Write, S: Service>(
 
 /// Reads the requests of a connection, one after another, and writes their responses.
 ///
-/// It ends behind a response that closes the connection, or where the client sends no more: `EndedEarly` where it sent nothing at all. At a fault
-/// the earlier responses stand whole. What a client sent behind the last request is lost: the connection is to be closed.
+/// It ends after a response that closes the connection, or when the client sends no more: with `EndedEarly`
+/// if it sent nothing at all. At a fault the earlier responses are whole. What a client sent after the last
+/// request is lost: the connection is to be closed.
 pub fn serve<R: Read, W: Write, S: Service>(
     alloc: Global,
     reader: &mut Counted<R>,

@@ -15,13 +15,13 @@ pub enum Submission {
 /// Why a submission is refused.
 #[derive(Clone, Copy, Debug, Drop, PartialEq, Eq, Error)]
 pub enum SubmitFault {
-    /// The text is no command; the fault isn't want of memory.
+    /// The text is not a command. The fault is not a failed allocation.
     #[error("no command: {0}")]
     Command(CommandFault),
     /// No more can wait.
     #[error("busy")]
     Busy,
-    /// The service takes no submissions any more.
+    /// The service accepts no further submissions.
     #[error("stopped")]
     Stopped,
     #[error("out of memory")]

@@ -54,7 +54,8 @@ pub refused : {E : Type 0} (old new : Learner) (at : ℕ) (r : Result (Unit {0})
 refused old new at (Err e) keeps others = votes_kept old new at keeps others
 refused old new at (Ok u) keeps others = tt
 
--- the nodes that told a value, and the one whose vote comes, reach the quorum where there is a majority in the set with that vote
+-- the nodes that reported a value, and the one whose vote comes, reach the quorum if there is a majority in
+-- the set with that vote
 pub completes_by : (learner : Learner) (tallies : List Tally) (nodes more : NodeMask) (q i : ℕ) (b : BallotOf) (v : List ℕ) (quorum c : ℕ) → tallies ≡ tallies_at learner i
     → ((p : ℕ) → HasNode nodes p ↔ HasTold tallies p b v) → ((p : ℕ) → HasNode more p ↔ (HasNode nodes p ⊎ (p ≡ q))) → Counted (HasNode more) learner.cluster c → quorum ≡ learner.cluster / 2 + 1
     → IsTrue (nat_le quorum c) ↔ HasMajority learner.cluster (IsToldWith learner (told_vote q i b v)) i b v

@@ -1,4 +1,4 @@
--- The nodes that pass a test, counted one after the other.
+-- The nodes that pass a test, counted one after another.
 use Rattle.std.proofs.Common.{◌≡◌, ◌⊎◌, inl, inr, ℕ, ◌+◌, ◌/◌, ◌≤◌, List, [], ◌∷◌, refl, sym, subst, ⊎_elim, arith}
 use Rattle.std.specs.Prelude.{◌↔◌, IsTrue, nat_le}
 use Rattle.std.proofs.lemmas.Bool.Decides.{nat_tests}
@@ -43,7 +43,7 @@ majority_counted n c IsVote i b v h m =
     let all_counted = distinct_within m.0 h.nodes m.1.distinct (λ p k. h.all p (m.1.nodes p k) (m.2 p k)) in
     omega (arith, m.1.enough, all_counted, h.number)
 
--- a count reaches the quorum where there is a majority, and only there
+-- a count reaches the quorum if and only if there is a majority
 pub quorum_reached : (n quorum c : ℕ) (IsVote : ToldVote → Type 0) (i : ℕ) (b : BallotOf) (v : List ℕ) → quorum ≡ n / 2 + 1
     → Counted (λ p. IsVote (told_vote p i b v)) n c → IsTrue (nat_le quorum c) ↔ HasMajority n IsVote i b v
 quorum_reached n quorum c IsVote i b v is h =

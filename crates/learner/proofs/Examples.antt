@@ -1,4 +1,4 @@
--- Examples of votes told, in a cluster of five.
+-- Examples of votes reported, in a cluster of five.
 use Rattle.std.proofs.Common.{◌≡◌, inl, inr, ℕ, List, [], ◌∷◌, refl, subst, ⊎_elim, arith}
 use Rattle.site_ids.specs.Ids.{BallotOf}
 use Rattle.site_ids.specs.Lists.{In}

@@ -18,7 +18,7 @@ bit_added x k q p low is =
     (λ h. inl (sym same ∙ h), λ h. ⊎_elim (λ b. same ∙ b) (λ e. absurd (apart (e ∙ sym is))) h))
     (cases_eq p k)
 
--- a further bit counts one where it is 1
+-- a further bit counts one if it is 1
 one_more : (P : ℕ → Type 0) (k c d : ℕ) → d < 2 → (d ≡ 1) ↔ P (k + 1) → Counted P k c → Counted P (k + 1) (count_ones d + c)
 one_more P k c d small is h =
     ⊎_elim

@@ -15,12 +15,12 @@ use Rattle.learner.specs.Tallies.{IsOf, HasNoneOf, IsFirstOf, HasTold, AddsTold}
 same_of : (x y : Tally) (b c : BallotOf) (v w : List ℕ) → IsOf x b v → IsOf y b v → IsOf x c w → IsOf y c w
 same_of x y b c v w of_x of_y at = (of_y.0 ∙ (sym of_x.0 ∙ at.0), of_y.1 ∙ (sym of_x.1 ∙ at.1))
 
--- where none is of v at b, nobody told it
+-- if none is of v at b, no node reported it
 pub none_told : (xs : List Tally) (p : ℕ) (b : BallotOf) (v : List ℕ) → HasNoneOf xs b v → ¬ HasTold xs p b v
 none_told [] p b v none h = h
 none_told (x ∷ xs) p b v none h = ⊎_elim (λ k. none x (inl refl) k.0) (λ k. none_told xs p b v (λ y i. none y (inr i)) k.1) h
 
--- the first of v at b has those who told it
+-- the first of v at b has those that reported it
 pub first_told : (xs : List Tally) (k p : ℕ) (b : BallotOf) (v : List ℕ) (x : Tally) → slice_get xs k ≡ Some x → IsOf x b v → HasNoneOf (take k xs) b v → HasNode x.nodes p ↔ HasTold xs p b v
 first_told [] k p b v x at of none = absurd (cc)
 first_told (y ∷ xs) zero p b v x at of none =
@@ -36,7 +36,7 @@ first_told (y ∷ xs) (suc k) p b v x at of none =
       λ h. ⊎_elim (λ j. absurd (apart j.0)) (λ j. rest.1 j.1) h,
     )
 
--- a tally of v at b that is pushed behind others adds its node
+-- a tally of v at b that is pushed after others adds its node
 pub told_pushed : (xs : List Tally) (y : Tally) (p : ℕ) (b : BallotOf) (v : List ℕ) → HasNoneOf xs b v → IsOf y b v → ((q : ℕ) → HasNode y.nodes q ↔ (q ≡ p)) → AddsTold xs (xs ++ y ∷ []) p b v
 told_pushed [] y p b v none of has q c w = (
   λ h. ⊎_elim (λ k. inr ((has q).0 k.1, sym k.0.0 ∙ of.0, sym k.0.1 ∙ of.1)) (λ k. absurd k.1) h,

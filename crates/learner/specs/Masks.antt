@@ -9,7 +9,7 @@ use Rattle.learner.specs.declared.node_mask.NodeMask.{NodeMask}
 abbrev pub HasNode : NodeMask → ℕ → Type 0
 HasNode mask p = bit_at mask.bits p ≡ 1
 
--- c of the nodes 1 to n pass
+-- c of the nodes 1 to n have the property
 pub record Counted (Passes : ℕ → Type 0) (n c : ℕ) : Type 0 where
   pub nodes : List ℕ
   pub distinct : Distinct nodes

@@ -1,10 +1,10 @@
--- Votes told, and what they decide.
+-- Votes that were reported, and what they decide.
 use Rattle.std.specs.Prelude.{ℕ, List}
 use Rattle.site_ids.specs.Ids.{BallotOf}
 use Rattle.site_ids.specs.Lists.{In}
 use Rattle.site_ids.specs.Majorities.{Majority}
 
--- a vote that a node was told of
+-- a vote that was reported to a node
 pub record ToldVote : Type 0 where
   pub voter : ℕ
   pub instance : ℕ
@@ -15,6 +15,7 @@ pub record ToldVote : Type 0 where
 abbrev pub told_vote : ℕ → ℕ → BallotOf → List ℕ → ToldVote
 told_vote p i b v = record { voter = p; instance = i; ballot = b; value = v }
 
--- the votes at an instance, a ballot and a value are a majority's. (Votes are any set of them; those of a list xs are In xs.)
+-- a majority voted for v at instance i and ballot b. (IsVote says which votes there are; for those of a list
+-- xs it is In xs.)
 abbrev pub HasMajority : ℕ → (ToldVote → Type 0) → ℕ → BallotOf → List ℕ → Type 0
 HasMajority n IsVote i b v = (ps : List ℕ) × Majority n ps × ((p : ℕ) → In ps p → IsVote (told_vote p i b v))

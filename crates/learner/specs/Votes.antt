@@ -1,4 +1,4 @@
--- The set of votes that a learner was told.
+-- The set of votes that were reported to a learner.
 use Rattle.std.specs.Prelude.{◌≡◌, ◌⊎◌, ℕ, List, [], Vec}
 use Rattle.std.specs.BTreeMap.{BTreeMap, get}
 use Rattle.std.specs.Option.{option_map_or}

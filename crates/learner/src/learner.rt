@@ -1,4 +1,4 @@
-//! `completes` runs again in `on_accepted`, which so needs no condition.
+//! `on_accepted` computes `completes` again, so it needs no condition.
 
 ghost use Rattle.std.specs.Prelude.{◌≡◌, ◌≢◌, ◌↔◌, ℕ, OnOk, OnErr, IfOk, IsTrue, MatchOption};
 ghost use Rattle.learner.specs.ToldVotes.{ToldVote, told_vote, HasMajority};
@@ -31,7 +31,7 @@ impl Learner {
         }
     }
 
-    /// Adds a vote, and gives its value where the votes for it at that ballot are then a majority's.
+    /// Adds a vote, and returns its value if the votes for it at that ballot are now those of a majority.
     pub fn on_accepted(
         &mut self,
         from: NodeId,
@@ -53,7 +53,7 @@ impl Learner {
         Ok(chosen)
     }
 
-    /// Whether `on_accepted`, of the same arguments, would give the value.
+    /// Whether `on_accepted`, with the same arguments, would return the value.
     pub fn completes(&self, from: NodeId, instance: Instance, ballot: Ballot, value: &Value) -> bool
         ensures { IsTrue result ↔ HasMajority self.now.cluster (IsToldWith self.now (told_vote from instance ballot value.now)) instance ballot value.now }
     {

@@ -1,4 +1,4 @@
-//! The votes that a node was told of, and which values they make known.
+//! The votes that were reported to a node, and which values they make known.
 #![tactic(auto)]
 
 mod learner;

@@ -1,6 +1,7 @@
-//! Votes for one value at one ballot: the value as it was told first, and a mask of the nodes that told it.
+//! Votes for one value at one ballot: the value as it was first reported, and a mask of the nodes that
+//! reported it.
 //!
-//! Memory alone bounds the tallies, as forgetting some is no step.
+//! Only memory bounds the tallies, as no step forgets some.
 
 ghost use Rattle.std.specs.Prelude.{◌≡◌, ◌↔◌, ℕ, OnOk, OnErr, IfOk, IsTrue, MatchOption};
 ghost use Rattle.learner.specs.Masks.{HasNode};
@@ -10,7 +11,7 @@ use crate::node_mask::NodeMask;
 use site_ids::{Ballot, NodeId, Value};
 use std::alloc::AllocError;
 
-/// The nodes that told a value at a ballot.
+/// The nodes that reported a vote for a value at a ballot.
 #[derive(Drop)]
 pub(crate) struct Tally {
     ballot: Ballot,
@@ -37,7 +38,7 @@ impl Tally {
     }
 }
 
-/// The nodes that told this value at this ballot.
+/// The nodes that reported a vote for this value at this ballot.
 pub(crate) fn nodes_of(tallies: &[Tally], ballot: Ballot, value: &Value) -> NodeMask
     ensures { (p : ℕ) → HasNode result p ↔ HasTold tallies.now p ballot value.now }
 {
@@ -47,7 +48,8 @@ pub(crate) fn nodes_of(tallies: &[Tally], ballot: Ballot, value: &Value) -> Node
     }
 }
 
-/// Adds a node to those that told this value at this ballot. Of a value that was told before no second one is kept.
+/// Adds a node to those that reported a vote for this value at this ballot. Of a value that was reported
+/// before, no second copy is kept.
 pub(crate) fn add_to(
     tallies: &mut Vec<Tally>,
     from: NodeId,

@@ -115,7 +115,8 @@ other p ps w b c bs solid plain ih =
     ∙ moved_other w b (cut (p ∷ ps) (c ∷ bs)) plain ∙ ap (moved w) (sym (cut_past (p ∷ ps) b (c ∷ bs) not)))
     (cases_Bool (starts_with nat_eq (b ∷ c ∷ bs) (p ∷ ps)))
 
--- Indenting a text and cutting it: the cut of the text, with `w` after each newline of what stands before, and what follows indented.
+-- Indenting a text and cutting it: the cut of the text, with `w` after each newline of what is before, and
+-- what follows indented.
 pub cut-spread : (p : ℕ) (ps w t : List ℕ) → NoneAre is_padding (p ∷ ps) → AllAre is_blank w → cut (p ∷ ps) (spread w t) ≡ moved w (cut (p ∷ ps) t)
 cut-spread p ps w [] solid blank = cut_nil (p ∷ ps) ∙ ap (moved w) (sym (cut_nil (p ∷ ps)))
 cut-spread p ps w (b ∷ []) solid blank = ⊎_elim

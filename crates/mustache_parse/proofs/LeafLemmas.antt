@@ -17,7 +17,7 @@ use Rattle.mustache_parse.proofs.MarginTextLemmas.{no_lines}
 use Rattle.mustache_parse.proofs.StackLemmas.{reads_leaf, levels-push}
 use Rattle.mustache_parse.proofs.ViewLemmas.{onto_text, onto_variable, onto_raw, onto_partial}
 
--- a call that puts the node behind the others
+-- a call that puts the node after the others
 abbrev pub Adds : Nesting → Nesting → Node → Result (Unit {0}) TemplateFault → Type 0
 Adds old new n r = OnOk r (new.opened.items ≡ old.opened.items) × OnOk r (new.nodes.items ≡ old.nodes.items ++ n ∷ [])
 
@@ -65,7 +65,7 @@ begins-line old new s (Err f) none adds = tt
 begins-line old new s (Ok u) none adds =
     λ w ls. ap (λ f. levels_with w old (onto f ls)) (sym (onto_text w s true true ∙ ap (λ b. text_onto (literal_under w true true b)) none)) ∙ levels-push w old new (Text s true true) adds.0 adds.1 ls
 
--- a tag, behind the beginning of its line where it has one
+-- a tag, after the beginning of its line where it has one
 pub reads_tag : (t : Token) (leads trails : Bool) (old mid new : Nesting) (r : Result (Unit {0}) TemplateFault) → is_literal t.kind ≡ false → opens_view old ≡ opens_view mid
     → ((w : List ℕ) (ls : Levels) → levels_with w old (onto (text_onto (literal_under w (leads && not t.is_alone) true [])) ls) ≡ levels_with w mid ls)
     → OnOk r (Reads (token_view t) (tag_makes t) mid new) → OnOk r (Reads (token_view t) (token_makes t leads trails) old new)

@@ -2,7 +2,7 @@
 use Rattle.std.proofs.Common.{◌≡◌, List, [], ◌∷◌, refl, sym, ap}
 use Rattle.mustache_parse.specs.Tree.{Tree, nothing, Levels, last, up_to_end, onto, closing}
 
--- an open section: what its block makes of the rest of a list, and the nodes that stand before it in its list
+-- an open section: what its block makes of the rest of a list, and the nodes that are before it in its list
 pub record Waiting : Type 0 where
   pub make : Tree → Tree → Tree
   pub before : Tree → Tree

@@ -1,4 +1,5 @@
--- A tag is standalone in an indented text exactly where it is in the text, and what it leaves of the literal before it is that literal under the margin.
+-- A tag is standalone in an indented text if and only if it is in the text, and what it leaves of the literal
+-- before it is that literal under the margin.
 use Rattle.std.proofs.Common.{◌≡◌, ℕ, ◌+◌, ◌-◌, ◌<◌, ◌≤◌, Bool, true, false, not, ◌&&◌, List, [], ◌∷◌, ◌++◌, length, take, drop, take_while, is_some, slice_range, ◌⊎◌, inl, inr, Option, Some, None, refl, sym, ap, subst, ◌∙◌, arith, append_assoc, append-nil, length-append}
 use Rattle.std.proofs.Math.Seq.{take-append_seam, drop-append_seam, drop-append-add}
 use Rattle.std.proofs.lemmas.Bool.{false≢true}
@@ -26,7 +27,7 @@ slice-at t a l c from to is begins ends =
     let n : to - from ≡ length l = omega (arith, length-append a l) in
     ap (λ t. slice_range t from to) is ∙ ap (λ k. take (to - from) (drop k (a ++ (l ++ c)))) begins ∙ ap (take (to - from)) (drop-append_seam a (l ++ c)) ∙ ap (λ k. take k (l ++ c)) n ∙ take-append_seam l c
 
--- the lines of a tag, by what stands before it and behind it
+-- the lines of a tag, by what is before it and after it
 abbrev lines_by : List ℕ → ℕ → ℕ → List ℕ → List ℕ → List ℕ → Option (ℕ × ℕ)
 lines_by before first past r behind t = elim (list_all is_blank before) [ true ↦ lines_from (first - length before) (past + blanks r) (line_end behind) | false ↦ None ]
 
@@ -114,7 +115,7 @@ not_all y c l solid plain h =
     and_false true = refl
     and_false false = refl
 
--- a line that begins behind a seam
+-- a line that begins after a seam
 start-by : (leads : Bool) (a m v : List ℕ) (s : Split m) → Seam leads a v → 0 < length v → list_all is_blank (last_line (a ++ m)) ≡ true → IsLineStart s.first → IsLineStart (a ++ s.first)
 start-by true a m v s (inl start) some holds (inl none) = subst IsLineStart (sym (ap (λ l. a ++ l) none ∙ append-nil a)) start
 start-by true a m v s (inr end) some holds (inl none) = absurd (omega (arith, ap length end))
@@ -253,7 +254,7 @@ module _ (w z r y : List ℕ) (c : ℕ) (solid : is_padding c ≡ false) (first 
   next o o' (inr (none, none')) = subst (λ o. After o o') (sym none) (subst (After None) (sym none') after-inline)
   next o o' (inl h) = subst (λ o. After o o') (sym h.here) (subst (After (Some (first - length (last_line z), length (y ++ c ∷ []) + blanks r + h.len))) (sym h.there) (after-alone h.len (first - length (last_line z)) (first' - length (w ++ last_line z)) h.ending))
 
--- the same of a text that ends behind a tag
+-- the same of a text that ends after a tag
 pub next-for : (w z r u y : List ℕ) (c : ℕ) → u ≡ y ++ c ∷ [] → is_padding c ≡ false → (first first' : ℕ) (o o' : Option (ℕ × ℕ)) → Alike w z r first (length u) first' (length (open_under w u)) o o'
     → Next w r u (is_some o) (lines_or first (length u) o).1 (lines_or first' (length (open_under w u)) o').1
 next-for w z r u y c is solid first first' o o' =

@@ -34,7 +34,7 @@ module _ (w t : List ℕ) (leads : Bool) where
   abbrev mark : TokenSeen → Marked
   mark x = record { token = x; is_alone = is_alone t x }
 
-  -- a literal and the tag behind it
+  -- a literal and the tag after it
   pub chunk-levels : (at : ℕ) (l : List ℕ) (x : TokenSeen) (ts : List TokenSeen) → is_literal x.kind ≡ false
       → levels_under w leads (marked t (literal_at at l ++ x ∷ ts)) ≡ onto (text_onto (literal_under w leads (not (is_alone t x)) l)) (with_token (tag_under w (mark x)) x.kind (levels_under w (is_alone t x) (marked t ts)))
   chunk-levels at [] x ts tag = with-tag w leads (goes_on (marked t ts)) (mark x) x.kind (levels_under w (is_alone t x) (marked t ts)) tag

@@ -1,4 +1,4 @@
--- The line before a tag and the line's end behind it, in a text and in the text indented.
+-- The line before a tag and the line's end after it, in a text and in the text indented.
 use Rattle.std.proofs.Common.{◌≡◌, ℕ, suc, ◌+◌, ◌-◌, Bool, true, false, not, cond, ◌&&◌, ◌==◌, List, [], ◌∷◌, ◌++◌, length, drop, take_while, ◌⊎◌, inl, inr, Option, Some, None, refl, sym, ap, subst, ◌∙◌, arith, append_assoc, append-nil, ⊎_elim, length-append, drop_of_length-le}
 use Rattle.std.proofs.lemmas.Bool.{cases_Bool}
 use Rattle.std.proofs.lemmas.Bool.Decides.{nat_tests}
@@ -86,7 +86,7 @@ pub last-split : (z : List ℕ) (s : Split z) → last_line z ≡ s.line
 last-split z s = ap last_line s.parts ∙ last-append s.first s.line s.plain ∙ ap (λ t. t ++ s.line) (last-start s.first s.start)
 
 module _ (w : List ℕ) (blank : AllAre is_blank w) where
-  -- the lines that ended are indented, and the margin stands before the last
+  -- the lines that ended are indented, and the margin is before the last
   pub open-split : (z : List ℕ) (s : Split z) → open_under w z ≡ indented w s.first ++ (w ++ s.line)
   open-split z s =
       ap (open_under w) s.parts ∙ open-append w s.first s.line ∙ ap (λ t. open_under w s.first ++ t) (after_each-plain w s.line s.plain)
@@ -102,7 +102,7 @@ module _ (w : List ℕ) (blank : AllAre is_blank w) where
       ap last_line (open-split z s) ∙ last-append (indented w s.first) (w ++ s.line) (none-both w s.line (all-none w blank) s.plain)
       ∙ ap (λ t. t ++ (w ++ s.line)) (last-start (indented w s.first) (indented-start s.first s.start)) ∙ ap (λ t. w ++ t) (sym (last-split z s))
 
--- ---- what stands behind a tag
+-- ---- what follows a tag
 
 module _ (w : List ℕ) where
   blanks-cons : (b : ℕ) (bs : List ℕ) (c : Bool) → is_blank b ≡ c → take_while is_blank (b ∷ bs) ≡ cond c (b ∷ take_while is_blank bs) []
@@ -142,7 +142,7 @@ module _ (w : List ℕ) where
   end-same [] = refl
   end-same (b ∷ bs) = drop-spread b bs (spread w bs) (is_blank b) refl refl (end-same bs)
 
--- What a standalone tag takes behind it: blanks, and a newline or the text's end.
+-- What a standalone tag takes after it: blanks, and a newline or the text's end.
 pub record Behind (r : List ℕ) (n : ℕ) : Type 0 where
   pub taken : List ℕ
   pub left : List ℕ
@@ -215,7 +215,7 @@ module _ (w : List ℕ) (y : List ℕ) (c : ℕ) (r : List ℕ) (n : ℕ) (solid
   taken-same (inl k) = spread-none w h.taken k.0
   taken-same (inr k) = ap (spread w) k.1 ∙ spread-before w k.0 10 [] ∙ ap (λ t. t ++ 10 ∷ []) (after_each-plain w k.0 k.2) ∙ sym k.1
 
-  -- behind it a line begins, or the text ends
+  -- after it a line begins, or the text ends
   pub behind-under : indented w ((y ++ c ∷ []) ++ h.taken) ≡ open_under w (y ++ c ∷ []) ++ h.taken
   behind-under = indented-seam w y c h.taken (no_newline c solid) ∙ ap (λ t. open_under w (y ++ c ∷ []) ++ t) (taken-same h.how)
 

@@ -1,4 +1,4 @@
--- Texts under a margin, cut where their lines begin and behind their tags.
+-- Texts under a margin, cut where their lines begin and after their tags.
 use Rattle.std.proofs.Common.{◌≡◌, ℕ, ◌<◌, ◌≤◌, Bool, true, false, List, [], ◌∷◌, ◌++◌, length, nat_eq, ◌⊎◌, inl, inr, refl, sym, ap, subst, ◌∙◌, arith, append_assoc, append-nil, length-append}
 use Rattle.mustache_scan.specs.Cutting.{is_padding}
 use Rattle.mustache_parse.specs.Indent.{indented}
@@ -7,7 +7,7 @@ use Rattle.mustache_parse.specs.Margin.{literal_under}
 use Rattle.mustache_parse.proofs.IndentLemmas.{indented-spread, after_each_newline, after_each_other}
 use Rattle.mustache_parse.proofs.SpreadLemmas.{spread-plain, after_each-append, spread-before, no_newline}
 
--- a text with more behind it on its last line, once it is indented
+-- a text with more after it on its last line, once it is indented
 abbrev pub open_under : List ℕ → List ℕ → List ℕ
 open_under w a = w ++ after_each w a
 
@@ -15,7 +15,7 @@ open_under w a = w ++ after_each w a
 abbrev pub IsLineStart : List ℕ → Type 0
 IsLineStart a = (a ≡ []) ⊎ ((y : List ℕ) × (a ≡ y ++ 10 ∷ []))
 
--- where a literal may begin in a text, with `v` behind: where a line begins, at the end, or behind a tag
+-- where a literal may begin in a text, with `v` after: where a line begins, at the end, or after a tag
 abbrev pub Seam : Bool → List ℕ → List ℕ → Type 0
 Seam true a v = IsLineStart a ⊎ (v ≡ [])
 Seam false a v = (y : List ℕ) × (c : ℕ) × (a ≡ y ++ c ∷ []) × (is_padding c ≡ false)
@@ -57,7 +57,7 @@ module _ (w : List ℕ) where
       ∙ sym (append_assoc (open_under w y) (10 ∷ []) w)
       ∙ ap (λ t. t ++ w) (append_assoc w (after_each w y) (10 ∷ []) ∙ sym (ended y) ∙ ap (indented w) (sym is))
 
-  -- what ends behind a byte that is no newline
+  -- what ends after a byte that is no newline
   pub spread-seam : (y : List ℕ) (c : ℕ) (r : List ℕ) → nat_eq c 10 ≡ false → spread w ((y ++ c ∷ []) ++ r) ≡ after_each w (y ++ c ∷ []) ++ spread w r
   spread-seam y c r plain =
       ap (spread w) (snoc y c r) ∙ spread-before w y c r ∙ ap (λ t. after_each w y ++ t) (spread-plain w c r plain)
@@ -69,7 +69,7 @@ module _ (w : List ℕ) where
       indented-some ((y ++ c ∷ []) ++ r) (subst (λ t. 0 < length t) (sym (snoc y c r)) (some-snoc y c r)) ∙ ap (λ t. w ++ t) (spread-seam y c r plain)
       ∙ sym (append_assoc w (after_each w (y ++ c ∷ [])) (spread w r))
 
-  -- lines behind lines
+  -- lines after lines
   lines-on : (a l : List ℕ) → IsLineStart a → indented w (a ++ l) ≡ indented w a ++ indented w l
   lines-on a [] start = ap (indented w) (append-nil a) ∙ sym (append-nil (indented w a)) ∙ ap (λ t. indented w a ++ t) (sym (no_lines w))
   lines-on a (b ∷ bs) (inl none) = ap (λ a. indented w (a ++ b ∷ bs)) none ∙ ap (λ t. t ++ indented w (b ∷ bs)) (sym (ap (indented w) none ∙ no_lines w))

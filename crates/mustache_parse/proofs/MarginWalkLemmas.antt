@@ -29,7 +29,7 @@ use Rattle.mustache_parse.proofs.MarginLevelLemmas.{levels-literal, chunk-levels
 
 -- ---- parts of texts
 
--- what a tag takes behind it ends before the next opening delimiter
+-- what a tag takes after it ends before the next opening delimiter
 inside-of : (e v before : List ℕ) (q : ℕ) (more : List ℕ) → e ++ v ≡ before ++ q ∷ more → AllAre is_padding e → is_padding q ≡ false → (m : List ℕ) × (before ≡ e ++ m) × (v ≡ m ++ q ∷ more)
 inside-of [] v before q more is pad solid = (before, refl, is)
 inside-of (b ∷ e) v [] q more is pad solid = let same : b ≡ q = cc in absurd (false≢true (sym solid ∙ ap is_padding (sym same) ∙ pad.0))
@@ -66,7 +66,7 @@ max-of : (a b : ℕ) → a ≤ b → max a b ≡ b
 max-of a b le = omega arith
 
 module _ (w : List ℕ) (blank : AllAre is_blank w) (all : AreBlank w) (x x' : List ℕ) (is_indented : x' ≡ indented w x) (ts : List TokenSeen) (has : scanned x ≡ Ok ts) where
-  -- Both texts are read so far: the literal that comes begins behind what the last tag took.
+  -- Both texts are read so far: the literal that comes begins after what the last tag took.
   record Both (leads : Bool) (rest rest' : List ℕ) (d : Pair) (from from' : ℕ) (xs xs' : List TokenSeen) : Type 0 where
     pub front : List ℕ
     pub eaten : List ℕ

@@ -111,11 +111,11 @@ whole closing t o h =
 pub tag_kind : (closing t : List ℕ) (o : Opened) → tag_after closing t ≡ Some o → is_literal o.kind ≡ false
 tag_kind closing t o h = (whole closing t o h).is_tag
 
--- the text from a tag's inside on, to its closing delimiter and behind it
+-- the text from a tag's inside on, to its closing delimiter and after it
 pub tag_parts : (closing t : List ℕ) (o : Opened) → tag_after closing t ≡ Some o → (first : List ℕ) × (t ≡ first ++ (closing ++ o.rest))
 tag_parts closing t o h = let k = whole closing t o h in (k.first, k.parts)
 
--- what stands before the end of a text
+-- what is before the end of a text
 front-of : (xs ys t : List ℕ) → t ≡ xs ++ ys → take (length t - length ys) t ≡ xs
 front-of xs ys t is =
     let n : length xs ≡ length t - length ys = omega (arith, ap length is, length-append xs ys) in

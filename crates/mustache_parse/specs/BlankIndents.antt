@@ -1,9 +1,9 @@
--- What stands before a partial of a tree on its line.
+-- What is before a partial of a tree, on its line.
 use Rattle.std.specs.Prelude.{◌≡◌, ℕ, List, Ok}
 use Rattle.mustache_parse.specs.Indenting.{AreBlank}
 use Rattle.mustache_parse.specs.Tree.{Tree, nothing, text, variable, raw, partial, section, inverted, tree_of}
 
--- each partial is indented by spaces and tabs alone
+-- each partial is indented by spaces and tabs only
 abbrev pub HasBlankIndents : Tree → Type 0
 HasBlankIndents nothing = Unit {0}
 HasBlankIndents (text t rest) = HasBlankIndents rest

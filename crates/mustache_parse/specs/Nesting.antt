@@ -13,15 +13,17 @@ is_opening Section = true
 is_opening Inverted = true
 is_opening _ = false
 
--- Tokens that leave no section open make a tree. Those that leave one more open go on with its tag and with what makes the beginning of its block.
+-- Tokens that leave no section open make a tree. Tokens that leave one more section open have its tag, and
+-- after it tokens that make the beginning of its block.
 pub data LeavesOpen : List TokenSeen → List Open → Type 0 where
   none_open : (ts : List TokenSeen) (tree : Tree) → Makes ts tree → depth tree ≤ max_open → LeavesOpen ts []
   one_open : (front : List TokenSeen) (above : List Open) (t : TokenSeen) (inner : List TokenSeen) (block : Tree)
       → LeavesOpen front above → IsTrue (is_opening t.kind) → Makes inner block → depth block + length above + 1 ≤ max_open
       → LeavesOpen (front ++ t ∷ inner) (record { name = t.inside; place = t.place } ∷ above)
 
--- A fault is at the first tag that has one: an end where no section is open, or of another name than the innermost, or a section too many.
--- Only where there is none, it is at the outermost of the sections left open.
+-- A fault is at the first tag that has one: an end tag if no section is open, or if the innermost one has
+-- another name; or a tag that opens one section too many. Only if no tag has a fault, the fault is at the
+-- outermost of the sections left open.
 pub data HasFault : List TokenSeen → TemplateFault → Type 0 where
   no_section : (front : List TokenSeen) (t : TokenSeen) (after : List TokenSeen)
       → LeavesOpen front [] → t.kind ≡ End → HasFault (front ++ t ∷ after) (record { kind = NoSection; place = t.place })

@@ -1,4 +1,4 @@
--- What is known between two tokens: the sections open, and the nodes since the innermost opened.
+-- What is known between two tokens: the open sections, and the nodes since the innermost one opened.
 use Rattle.std.specs.Prelude.{◌≡◌, ℕ, Bool, true, false, List, [], ◌∷◌, map, reverse, Ok, string_bytes}
 use Rattle.mustache_scan.specs.Standalone.{TokenSeen}
 use Rattle.mustache_scan.specs.View.{token_view, tokens_view}
@@ -20,7 +20,8 @@ abbrev pub made_by : Bool → List ℕ → Tree → Tree → Tree
 made_by true name = inverted name
 made_by false name = section name
 
--- the levels that come of open sections, the innermost first, of the nodes since, and of what is left
+-- the levels that result from the open sections, the innermost first, from the nodes since, and from what is
+-- left
 abbrev pub levels_over : List ℕ → List OpenSection → List Node → Levels → Levels
 levels_over w [] nodes ls = onto (before w nodes) ls
 levels_over w (s ∷ above) nodes ls = levels_over w above s.before.items (closing (made_by s.is_inverted (string_bytes s.name)) (onto (before w nodes) ls))
@@ -39,12 +40,13 @@ levels_with w n ls = levels_over w (reverse n.opened.items) n.nodes.items ls
 abbrev pub marked_view : Token → Marked
 marked_view t = record { token = token_view t; is_alone = t.is_alone }
 
--- One more token was read: it nests, and what is left has the levels that it had with what the token makes of them under each margin.
+-- One more token was read. It nests. Under each margin, the old state gives the same levels with the token in
+-- front of the rest as the new state gives with the rest.
 pub record Reads (t : TokenSeen) (make : List ℕ → Levels → Levels) (old new : Nesting) : Type 0 where
   pub nests : nest t.kind t.inside t.place (opens_view old) ≡ Ok (opens_view new)
   pub levels_are : (w : List ℕ) (ls : Levels) → levels_with w old (make w ls) ≡ levels_with w new ls
 
--- what a tag makes of levels, and what any token does
+-- what a tag does to levels, and what any token does
 abbrev pub tag_makes : Token → List ℕ → Levels → Levels
 tag_makes t w ls = with_token (tag_under w (marked_view t)) t.kind ls
 

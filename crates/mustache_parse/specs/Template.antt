@@ -14,7 +14,8 @@ pub record TemplateSeen : Type 0 where
 abbrev pub template_tree : List ℕ → TemplateSeen → Tree
 template_tree w t = tree_view w t.nodes
 
--- A template of a text: it holds the text's tree, and under each margin that of the text indented by it.
+-- A template of a text: it has the text's tree, and under each margin the tree of the text indented by that
+-- margin.
 pub record IsTemplateOf (t : TemplateSeen) (x : List ℕ) : Type 0 where
   pub holds : tree_of x ≡ Ok (template_tree [] t)
   pub under : (w : List ℕ) → AreBlank w → tree_of (indented w x) ≡ Ok (template_tree w t)

@@ -8,8 +8,8 @@ use Rattle.mustache_scan.specs.declared.fault.FaultKind.{FaultKind}
 use Rattle.mustache_scan.specs.declared.fault.FaultKind.TheVariants.{NoSection, WrongEnd, UnclosedSection, TooDeep}
 use Rattle.mustache_scan.specs.declared.fault.TemplateFault.{TemplateFault}
 
--- A tree is a list of nodes. `text`, `variable`, `raw` and `partial` have their node and the rest of the list; `section` and
--- `inverted` have a name, a block, and the rest.
+-- A tree is a list of nodes. `text`, `variable`, `raw` and `partial` have what their node says, and the rest
+-- of the list. `section` and `inverted` have a name, a block, and the rest.
 pub data Tree : Type 0 where
   nothing : Tree
   text : List ℕ → Tree → Tree
@@ -38,7 +38,7 @@ opening name place above =
       | false ↦ fault TooDeep place
     ]
 
--- and after a tag that ends one, the innermost, which has to have its name
+-- the open sections after a tag that ends one: it ends the innermost, and has to have its name
 abbrev pub ending : List ℕ → ℕ → List Open → Result (List Open) TemplateFault
 ending name place [] = fault NoSection place
 ending name place (o ∷ above) = elim (bytes_eq name o.name) [ true ↦ Ok above | false ↦ fault WrongEnd place ]
@@ -60,17 +60,18 @@ left_open [] = None
 left_open (o ∷ []) = Some (record { kind = UnclosedSection; place = o.place })
 left_open (o ∷ p ∷ above) = left_open (p ∷ above)
 
--- The levels of a list of tokens: the nodes up to the first end tag without its section there, then those up to the next, and so on.
+-- The levels of a list of tokens: the nodes up to the first end tag whose section is not in the list, then
+-- those up to the next such tag, and so on.
 pub data Levels : Type 0 where
   last : Tree → Levels
   up_to_end : Tree → Levels → Levels
 
--- levels with more in front of the first one
+-- levels with more nodes in front of the first one
 abbrev pub onto : (Tree → Tree) → Levels → Levels
 onto f (last nodes) = last (f nodes)
 onto f (up_to_end nodes more) = up_to_end (f nodes) more
 
--- levels in front of which a section opens: its block is the first level
+-- levels in front of which a section opens: the first level becomes its block
 abbrev pub closing : (Tree → Tree → Tree) → Levels → Levels
 closing make (last nodes) = last nodes
 closing make (up_to_end nodes more) = onto (make nodes) more
@@ -106,6 +107,6 @@ abbrev pub tree_of_scanned : Result (List TokenSeen) TemplateFault → Result Tr
 tree_of_scanned (Ok ts) = nested ts
 tree_of_scanned (Err f) = Err f
 
--- the tree of a text, or its fault: a fault of reading comes before those of nesting
+-- the tree of a text, or its fault. A fault of reading comes before those of nesting
 unfoldable pub tree_of : List ℕ → Result Tree TemplateFault
 tree_of t = tree_of_scanned (scanned t)

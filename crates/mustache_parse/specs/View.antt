@@ -1,4 +1,5 @@
--- The tree that the code's nodes stand for under a margin `w`: blanks that stand before each line of their text.
+-- The tree that the code's nodes stand for under a margin `w`, which is blanks before each line of their
+-- text.
 use Rattle.std.specs.Prelude.{ℕ, List, [], ◌∷◌, ◌++◌, map, Option, Some, None, String, string_bytes}
 use Rattle.std.specs.Global.{Global}
 use Rattle.mustache_parse.specs.Margin.{literal_under, text_onto}
@@ -11,7 +12,7 @@ abbrev pub joined : List (Tree → Tree) → Tree
 joined [] = nothing
 joined (n ∷ ns) = n (joined ns)
 
--- the indentation of a partial: the margin and its own, where its tag is standalone
+-- the indentation of a partial: the margin and its own blanks if its tag is standalone, and none if it is not
 abbrev pub own_under : List ℕ → Option (String Global) → List ℕ
 own_under w None = []
 own_under w (Some own) = w ++ string_bytes own

@@ -1,6 +1,6 @@
 ghost use Rattle.mustache_parse.specs.Laws.{TreeIsMade, MakesAtMostOne, FaultIsFirst};
 
-/// Tokens have a tree exactly where they make it, and they make one at most.
+/// Tokens nest into a tree if and only if they make it, and they make one at most.
 pub fn trees_are_made()
     ensures made { TreeIsMade }
     ensures one { MakesAtMostOne }

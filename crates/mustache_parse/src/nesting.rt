@@ -17,7 +17,7 @@ use std::mem;
 /// How many sections may be open at once.
 const MAX_OPEN: usize = 64;
 
-/// A section whose end is still to come, at its tag's place.
+/// A section whose end is still to come, with the place of its tag.
 #[derive(Drop)]
 struct OpenSection {
     name: String,
@@ -27,7 +27,8 @@ struct OpenSection {
     before: Vec<Node>,
 }
 
-/// What was read of a template: the open sections, the outermost first, and the nodes since the innermost opened.
+/// What was read of a template: the open sections, the outermost first, and the nodes since the innermost one
+/// opened.
 #[derive(Drop)]
 struct Nesting {
     opened: Vec<OpenSection>,
@@ -177,7 +178,8 @@ impl Nesting {
         }
     }
 
-    /// Reads one more token. It `leads` where it begins a line, and `trails` where a tag comes next that isn't standalone.
+    /// Reads one more token. It `leads` if it begins a line, and `trails` if a tag comes next that is not
+    /// standalone.
     fn read(
         &mut self,
         alloc: Global,
@@ -205,7 +207,7 @@ impl Nesting {
         }
     }
 
-    /// The nodes, where no section is left open.
+    /// The nodes, if no section is left open.
     fn finish(self) -> Result<Vec<Node>, TemplateFault>
         ensures ends { MatchResult result (λ ns. (self.opened.items ≡ []) × (ns.items ≡ self.nodes.items)) (λ f. left_open (opens_view self) ≡ Some f) }
         ensures told { IfErr result (λ f. f.kind ≢ OutOfMemory) }
@@ -221,7 +223,7 @@ impl Nesting {
     }
 }
 
-/// Whether a tag comes next that isn't standalone.
+/// Whether a tag comes next that is not standalone.
 fn goes_on(left: &[Token]) -> bool
     ensures { result ≡ goes_on (map marked_view left.now) }
 {

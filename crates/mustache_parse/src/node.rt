@@ -1,10 +1,12 @@
 /// A node of a template's tree.
 ///
-/// The template's own lines begin where its texts say: at the front of one that `leads`, after each newline within it, and at the end of one
-/// that `trails` and ends a line. A text without bytes that does both is the beginning of a line before a tag.
+/// The texts say where the template's own lines begin: at the front of a text that `leads`, after each
+/// newline within a text, and at the end of a text that `trails` and ends a line. A text without bytes that
+/// does both is the beginning of a line before a tag.
 #[derive(Debug, Drop)]
 pub enum Node {
-    /// A text that is printed as it stands, but for the margin before each of its lines. It `trails` where its last line goes on with a tag.
+    /// A text that is printed as it is, except for the margin before each of its lines. It `trails` if a tag
+    /// follows on its last line.
     Text {
         text: String,
         leads: bool,
@@ -12,7 +14,7 @@ pub enum Node {
     },
     /// The name of a value that is printed escaped.
     Variable(String),
-    /// The name of a value that is printed as it stands.
+    /// The name of a value that is printed as it is.
     Raw(String),
     /// A block that is printed for a value that is true, once for each item of a list.
     Section {
@@ -24,7 +26,8 @@ pub enum Node {
         name: String,
         block: Vec<Node>,
     },
-    /// Another template: where its tag is standalone, with the blanks before that, which lengthen the margin; else it has no margin.
+    /// Another template. If its tag is standalone, it has the blanks before the tag, which lengthen the
+    /// margin. If not, it has no margin.
     Partial {
         name: String,
         own: Option<String>,

@@ -32,7 +32,7 @@ impl Template {
         Template { nodes }
     }
 
-    /// The nodes of its tree, outermost ones in order.
+    /// The nodes of its tree, the outermost ones in order.
     pub fn nodes(&self) -> &[Node]
         ensures nodes { result.now ≡ self.now.nodes }
         ensures blanks { HasBlankIndents (template_tree [] self.now) }

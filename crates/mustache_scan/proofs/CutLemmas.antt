@@ -9,7 +9,7 @@ use Rattle.memchr.specs.Find.{OccursAt, FindsNeedle}
 use Rattle.memchr.proofs.lemmas.MatchLemmas.{OccursAt-part, OccursAt-from_part}
 use Rattle.mustache_scan.specs.Cutting.{cut, behind}
 
--- the part stands at the front of the text
+-- the part is at the front of the text
 abbrev pub Here : List ℕ → List ℕ → Type 0
 Here part t = starts_with nat_eq t part ≡ true
 

@@ -1,4 +1,4 @@
--- A cut is round the first place of its part, and there is none exactly where the part stands nowhere.
+-- A cut is round the first place of its part, and there is none if and only if the part stands nowhere.
 use Rattle.std.proofs.Common.{◌≡◌, ℕ, ◌+◌, ◌<◌, ◌≤◌, List, [], ◌∷◌, ◌++◌, length, take, drop, nat_eq, Option, Some, None, refl, sym, ap, subst, ◌∙◌, arith, ⊎_elim, length-append, length-take, take-append-drop}
 use Rattle.std.proofs.Math.Seq.{take-append_seam, drop-append_seam, drop-append-add}
 use Rattle.std.proofs.lemmas.Bool.{cases_Bool}
@@ -9,7 +9,7 @@ use Rattle.mustache_scan.specs.Laws.{IsFirstCut, CutIsFirst, NoCutIsNowhere}
 use Rattle.mustache_scan.proofs.CutLemmas.{Here, cut_here, cut_past, cut_at, cut_nowhere}
 use Rattle.mustache_scan.proofs.ReadingLemmas.{cut_parts}
 
--- the part stands at the front of a text exactly where the text is the part and more
+-- the part is at the front of a text if and only if the text is the part and more
 from_here : (part u : List ℕ) → Here part u → u ≡ part ++ drop (length part) u
 from_here part u h = sym (take-append-drop (length part) u) ∙ ap (λ l. l ++ drop (length part) u) (sym ((bytes_eq-Decides part (take (length part) u)).0 h))
 

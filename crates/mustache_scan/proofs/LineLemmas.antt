@@ -54,7 +54,7 @@ module _ (t : List ℕ) (first past start : ℕ) (le : first ≤ length t) (blan
   blank_from : (i : ℕ) → start ≤ i → i < first → is_blank (get_or (take first t) i 0) ≡ true
   blank_from i low high = suffix_passes is_blank (take first t) i (omega (arith, long)) (omega (arith, long))
 
-  -- only blanks stand before the tag
+  -- only blanks are before the tag
   module _ (begins : 0 < start → get_or t (start - 1) 0 ≡ 10) where
     line_len : suffix_len (λ b. not (is_newline b)) (take first t) ≡ length (take first t) - start
     line_len = suffix_len_is (λ b. not (is_newline b)) (take first t) start 0 (omega (arith, long))

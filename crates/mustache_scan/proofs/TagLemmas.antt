@@ -50,7 +50,7 @@ ends-tag_after closing t o h =
     let n = prefix_len is_padding t in
     subst (λ l. EndsIn l o.rest) (take-append-drop n t) (ends-more (take n t) (unpadded t) o.rest (ends-tag_in closing (unpadded t) o h))
 
--- a text is what stands before its end, and that end
+-- a text is what is before its end, and that end
 pub before_end : (t end : List ℕ) → EndsIn t end → take (length t - length end) t ++ end ≡ t
 before_end t end ends =
     let l : length ends.0 ≡ length t - length end = omega (arith, ap length ends.1, length-append ends.0 end) in

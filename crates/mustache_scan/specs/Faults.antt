@@ -1,10 +1,10 @@
--- The words for each fault, as fault lines print them; and want of memory.
+-- The name of each fault, as fault lines print it, and that of a failed allocation.
 use Rattle.std.specs.Prelude.{ℕ, List, codes}
 use Rattle.mustache_scan.specs.declared.fault.FaultKind.{FaultKind}
 use Rattle.mustache_scan.specs.declared.fault.TemplateFault.{TemplateFault}
 use Rattle.mustache_scan.specs.declared.fault.FaultKind.TheVariants.{UnclosedTag, EmptyName, BadName, BadDelimiters, NoSection, WrongEnd, UnclosedSection, TooDeep, OutOfMemory}
 
--- a fault's number and name; want of memory has no number
+-- a fault's number and name. A failed allocation has no number
 abbrev pub label : FaultKind → List ℕ
 label UnclosedTag = codes "1 UnclosedTag"
 label EmptyName = codes "2 EmptyName"
@@ -16,6 +16,6 @@ label UnclosedSection = codes "7 UnclosedSection"
 label TooDeep = codes "8 TooDeep"
 label OutOfMemory = codes "OutOfMemory"
 
--- want of memory has no place in the text
+-- a failed allocation has no place in the text, so its place is 0
 abbrev pub memory_wanted : TemplateFault
 memory_wanted = record { kind = OutOfMemory; place = 0 }

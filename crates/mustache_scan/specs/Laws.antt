@@ -8,12 +8,12 @@ use Rattle.mustache_scan.specs.Reading.{one_tag, reading_within, reading}
 abbrev pub Opens : Pair → Type 0
 Opens d = 0 < length d.opening
 
--- `a`, the part and `b` make up the text, and the part stands at no earlier place.
+-- `a`, the part and `b` make up the text, and the part occurs at no earlier place.
 pub record IsFirstCut (part t a b : List ℕ) : Type 0 where
   pub whole : t ≡ a ++ (part ++ b)
   pub first : (c e : List ℕ) → t ≡ c ++ (part ++ e) → length a ≤ length c
 
--- a cut is round the first place of the part, and there is none exactly where the part stands nowhere
+-- a cut is at the first place of the part, and there is none if and only if the part occurs nowhere
 abbrev pub CutIsFirst : Type 0
 CutIsFirst = (part t a b : List ℕ) → 0 < length part → (cut part t ≡ Some (a, b)) ↔ IsFirstCut part t a b
 

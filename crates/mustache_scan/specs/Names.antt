@@ -9,7 +9,7 @@ pub record Pair : Type 0 where
   pub opening : List ℕ
   pub closing : List ℕ
 
--- two braces each, as every text begins
+-- two braces each: these are in force where a text begins
 abbrev pub braces : Pair
 braces = record { opening = 123 ∷ 123 ∷ []; closing = 125 ∷ 125 ∷ [] }
 
@@ -20,14 +20,14 @@ is_empty t = length t == 0
 abbrev pub parts : List ℕ → List (List ℕ)
 parts name = slice_split (λ b. b == 46) name
 
--- one dot alone
+-- one dot and nothing else
 abbrev pub is_dot : List ℕ → Bool
 is_dot name = bytes_eq name (46 ∷ [])
 
 abbrev pub has_padding : List ℕ → Bool
 has_padding = list_any is_padding
 
--- whether a name has no empty part, or is one dot alone
+-- whether a name has no empty part, or is one dot
 abbrev pub is_dotted : List ℕ → Bool
 is_dotted name = is_dot name || not (list_any is_empty (parts name))
 
@@ -35,7 +35,7 @@ is_dotted name = is_dot name || not (list_any is_empty (parts name))
 abbrev pub is_sequence : List ℕ → Bool
 is_sequence s = not (is_empty s) && not (list_any (λ b. is_padding b || b == 61) s)
 
--- the delimiters that the stripped inside of a delimiter tag names: two sequences, parted by padding
+-- the delimiters that the stripped inside of a delimiter tag names: two sequences with padding between them
 abbrev pub delimiters_in : List ℕ → Option Pair
 delimiters_in inside =
     let first = before_first is_padding inside in

@@ -18,7 +18,7 @@ abbrev pub checked : Option Opened → Result Opened FaultKind
 checked None = Err UnclosedTag
 checked (Some o) = or_wrong (record { kind = o.kind; inside = stripped o.inside; rest = o.rest }) (wrong_inside o.kind (stripped o.inside))
 
--- the lines of a tag of this kind, where it is standalone
+-- the lines of a tag of this kind, if it is standalone
 abbrev pub standalone_of : List ℕ → TokenKind → ℕ → ℕ → Option (ℕ × ℕ)
 standalone_of t kind first past = elim (may_be_standalone kind) [ true ↦ standalone_lines t first past | false ↦ None ]
 
@@ -26,7 +26,8 @@ abbrev pub lines_or : ℕ → ℕ → Option (ℕ × ℕ) → ℕ × ℕ
 lines_or first past None = (first, past)
 lines_or first past (Some lines) = lines
 
--- what a tag takes of its text, from place to place: its lines where it is standalone, else its own bytes
+-- what a tag takes of its text, from place to place: its lines if it is standalone, and its own bytes if it
+-- is not
 abbrev pub taken : List ℕ → TokenKind → ℕ → ℕ → ℕ × ℕ
 taken t kind first past = lines_or first past (standalone_of t kind first past)
 

@@ -7,9 +7,9 @@ use Rattle.mustache_scan.specs.declared.token.TokenKind.TheVariants.{Literal, Va
 use Rattle.mustache_scan.specs.declared.fault.FaultKind.{FaultKind}
 use Rattle.mustache_scan.specs.declared.fault.FaultKind.TheVariants.{UnclosedTag, EmptyName, BadName, BadDelimiters}
 
--- A fault's place is the length before it, so a rest reads the same anywhere.
+-- A fault's place is the length of the text before it, so the rest of a text reads alike after any beginning.
 
--- the kind that a sign stands for: { & # ^ / ! > =
+-- the kind that a sign means: { & # ^ / ! > =
 abbrev pub kind_of_sign : ℕ → Option TokenKind
 kind_of_sign b =
     if b == 123 || b == 38 then Some Raw else
@@ -20,11 +20,11 @@ kind_of_sign b =
     if b == 62 then Some Partial else
     if b == 61 then Some Delimiters else None
 
--- what a sign wants before the closing delimiter: { wants }, and = wants =
+-- what has to come just before the closing delimiter: } after the sign {, and = after the sign =
 abbrev pub partner : ℕ → List ℕ
 partner b = if b == 123 then 125 ∷ [] else if b == 61 then 61 ∷ [] else []
 
--- a tag's kind, its inside as it stands, and the text after the tag
+-- a tag's kind, its inside as it is written, and the text after the tag
 pub record Opened : Type 0 where
   pub kind : TokenKind
   pub inside : List ℕ
@@ -34,7 +34,7 @@ abbrev pub opened_as : TokenKind → Option (List ℕ × List ℕ) → Option Op
 opened_as kind None = None
 opened_as kind (Some (inside, rest)) = Some (record { kind = kind; inside = inside; rest = rest })
 
--- The tag in a text that begins with a sign or a name. A sign that may stand is always one.
+-- The tag in a text that begins with a sign or a name. If the first byte can be a sign, it is one.
 abbrev pub signed : List ℕ → ℕ → List ℕ → Option TokenKind → Option Opened
 signed closing b bs (Some kind) = opened_as kind (cut (partner b ++ closing) bs)
 signed closing b bs None = opened_as Variable (cut closing (b ∷ bs))
@@ -43,11 +43,11 @@ abbrev pub tag_in : List ℕ → List ℕ → Option Opened
 tag_in closing [] = None
 tag_in closing (b ∷ bs) = signed closing b bs (kind_of_sign b)
 
--- the tag whose opening delimiter stands before the text, up to its first end; None where it has none
+-- the tag whose opening delimiter is just before the text, up to its first end. None if it has no end
 abbrev pub tag_after : List ℕ → List ℕ → Option Opened
 tag_after closing t = tag_in closing (unpadded t)
 
--- what is wrong with a name, where `dotted` says that it is split at its dots
+-- what is wrong with a name. `dotted` says whether it is split at its dots
 abbrev pub wrong_name : Bool → List ℕ → Option FaultKind
 wrong_name dotted name =
     if is_empty name then Some EmptyName else
@@ -65,12 +65,12 @@ abbrev pub changed : Pair → Option Pair → Pair
 changed d None = d
 changed d (Some e) = e
 
--- the delimiters that hold after a tag
+-- the delimiters in force after a tag
 abbrev pub delimiters_after : Pair → TokenKind → List ℕ → Pair
 delimiters_after d Delimiters inside = changed d (delimiters_in inside)
 delimiters_after d _ inside = d
 
--- A piece of a text: a literal, or a tag with its name, if it has one; and its bytes as they stand in the text.
+-- A piece of a text: a literal, or a tag with its name, if it has one; and its bytes as they are in the text.
 pub record Piece : Type 0 where
   pub kind : TokenKind
   pub inside : List ℕ
@@ -89,21 +89,22 @@ abbrev pub literal : List ℕ → List Piece
 literal [] = []
 literal (b ∷ bs) = record { kind = Literal; inside = []; bytes = b ∷ bs } ∷ []
 
--- the stripped inside of a tag is kept where it is a name
+-- the stripped inside of a tag is kept if it is a name
 abbrev pub name_of : TokenKind → List ℕ → List ℕ
 name_of Comment inside = []
 name_of Delimiters inside = []
 name_of _ inside = inside
 
--- a tag's bytes: its opening delimiter, and what stands between that and the rest
+-- a tag's bytes: its opening delimiter, and what is between that and the rest
 abbrev pub tag : List ℕ → List ℕ → Opened → List Piece
 tag opening after o = record { kind = o.kind; inside = name_of o.kind (stripped o.inside); bytes = opening ++ take (length after - length o.rest) after } ∷ []
 
 abbrev pub ends_here : Option FaultKind → Pieces
 ends_here w = record { pieces = []; wrong = w }
 
--- The reading of a text, where `more` reads what follows a tag under the delimiters that then hold: without an opening delimiter
--- one literal; else a literal up to the first one, the tag there up to its first end, and the reading of the rest.
+-- The reading of a text. `more` reads what follows a tag, under the delimiters in force after it. A text
+-- without an opening delimiter is one literal. Any other is a literal up to the first opening delimiter, the
+-- tag there up to its first end, and the reading of the rest.
 module _ (more : Pair → List ℕ → Pieces) (d : Pair) where
   abbrev pub after_tag : List ℕ → Opened → Option FaultKind → Pieces
   after_tag after o (Some w) = ends_here (Some w)

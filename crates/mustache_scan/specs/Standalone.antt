@@ -1,4 +1,4 @@
--- Standalone tags, and what is left of the literals round them.
+-- Standalone tags, and what they leave of the literals around them.
 use Rattle.std.specs.Prelude.{ℕ, ◌+◌, ◌-◌, Bool, true, false, ◌&&◌, ◌==◌, nat_lt, nat_le, List, [], ◌∷◌, map, Option, None, Some, Result, Ok, Err, length, take, drop, is_some}
 use Rattle.std.specs.List.{list_any, list_all, after_last, take_while, filter_map, flat_map}
 use Rattle.mustache_scan.specs.Cutting.{is_blank, is_newline}
@@ -9,13 +9,14 @@ use Rattle.mustache_scan.specs.declared.token.TokenKind.TheVariants.{Literal, Va
 use Rattle.mustache_scan.specs.declared.fault.FaultKind.{FaultKind}
 use Rattle.mustache_scan.specs.declared.fault.TemplateFault.{TemplateFault}
 
--- The length of the line's end at the front of a text: nothing at the end of the text, else a newline, or a carriage return and a newline.
+-- The length of the line end at the front of a text: of a newline, or of a carriage return and a newline; 0
+-- at the end of the text. None if the line goes on.
 abbrev pub line_end : List ℕ → Option ℕ
 line_end [] = Some 0
 line_end (b ∷ []) = elim (b == 10) [ true ↦ Some 1 | false ↦ None ]
 line_end (b ∷ c ∷ bs) = elim (b == 10) [ true ↦ Some 1 | false ↦ elim (b == 13 && c == 10) [ true ↦ Some 2 | false ↦ None ] ]
 
--- what stands on the line before the end of a text
+-- what is on the last line of a text
 abbrev pub last_line : List ℕ → List ℕ
 last_line t = after_last is_newline t
 
@@ -23,8 +24,9 @@ abbrev pub lines_from : ℕ → ℕ → Option ℕ → Option (ℕ × ℕ)
 lines_from first past None = None
 lines_from first past (Some n) = Some (first, past + n)
 
--- The lines of a standalone tag, from place to place: in the text `t` the tag's first byte is at `first`, and `past` is the
--- place after its last. Only blanks stand before it on its first line, and after it on its last.
+-- The lines of a standalone tag, from place to place. In the text `t` the tag's first byte is at `first`, and
+-- `past` is the place after its last. The tag is standalone if only blanks are before it on its first line,
+-- and after it on its last.
 abbrev pub standalone_lines : List ℕ → ℕ → ℕ → Option (ℕ × ℕ)
 standalone_lines t first past =
     let before = last_line (take first t) in
@@ -43,7 +45,7 @@ abbrev pub placed : ℕ → List Piece → List (ℕ × Piece)
 placed at [] = []
 placed at (p ∷ ps) = (at, p) ∷ placed (at + length p.bytes) ps
 
--- the lines of a piece, where it is a standalone tag
+-- the lines of a piece, if it is a standalone tag
 abbrev pub standalone : List ℕ → ℕ × Piece → Option (ℕ × ℕ)
 standalone t p = elim (may_be_standalone p.1.kind) [ true ↦ standalone_lines t p.0 (p.0 + length p.1.bytes) | false ↦ None ]
 
@@ -54,7 +56,7 @@ standalone_lines_of t ps = filter_map (standalone t) ps
 abbrev pub is_covered : List (ℕ × ℕ) → ℕ → Bool
 is_covered lines place = list_any (λ l. nat_le l.0 place && nat_lt place l.1) lines
 
--- A token: its kind, a tag's name, its place, its text, and of a standalone partial the blanks before it.
+-- A token: its kind, a tag's name, its place, its text, and for a standalone partial the blanks before it.
 pub record TokenSeen : Type 0 where
   pub kind : TokenKind
   pub inside : List ℕ
@@ -66,7 +68,7 @@ pub record TokenSeen : Type 0 where
 abbrev pub is_alone : List ℕ → TokenSeen → Bool
 is_alone t x = is_some (standalone t (x.place, record { kind = x.kind; inside = x.inside; bytes = x.text }))
 
--- the bytes that no such line covers, with their places
+-- the bytes that no line of a standalone tag covers, with their places
 abbrev pub kept : List (ℕ × ℕ) → ℕ → List ℕ → List (ℕ × ℕ)
 kept lines at [] = []
 kept lines at (b ∷ bs) = elim (is_covered lines at) [ true ↦ kept lines (at + 1) bs | false ↦ (at, b) ∷ kept lines (at + 1) bs ]
@@ -96,7 +98,7 @@ tag_token t p = record { kind = p.1.kind; inside = p.1.inside; place = p.0; text
 abbrev pub tokens_at : List ℕ → List (ℕ × ℕ) → ℕ × Piece → List TokenSeen
 tokens_at t lines p = elim (is_literal p.1.kind) [ true ↦ literal_of (kept lines p.0 p.1.bytes) | false ↦ tag_token t p ∷ [] ]
 
--- the tokens of a text's pieces: its tags, and what no line of a standalone tag covers of its literals
+-- the tokens of a text's pieces: its tags, and of its literals what no line of a standalone tag covers
 abbrev pub tokens_of : List ℕ → List (ℕ × Piece) → List TokenSeen
 tokens_of t ps = flat_map (tokens_at t (standalone_lines_of t ps)) ps
 
@@ -105,6 +107,6 @@ abbrev pub outcome : List ℕ → Pieces → Option FaultKind → Result (List T
 outcome t r None = Ok (tokens_of t (placed 0 r.pieces))
 outcome t r (Some kind) = Err (record { kind = kind; place = length (text_of r.pieces) })
 
--- what scanning a text gives: its tokens, or the first fault
+-- the result of scanning a text: its tokens, or the first fault
 unfoldable pub scanned : List ℕ → Result (List TokenSeen) TemplateFault
 scanned t = let r = reading braces t in outcome t r r.wrong

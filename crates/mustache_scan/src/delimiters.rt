@@ -9,7 +9,8 @@ ghost use Rattle.mustache_scan.specs.Reading.{partner};
 use crate::padding::{is_padding, unpadded};
 use std::alloc::{AllocError, Global};
 
-/// What opens a tag and what closes it, and the ends of the tags that want a sign before the closing delimiter.
+/// What opens a tag and what closes it, and the ends of the tags that need a sign before the closing
+/// delimiter.
 #[derive(Drop)]
 pub(crate) struct Delimiters<'a> {
     pub(crate) opening: &'a str,
@@ -63,7 +64,7 @@ impl<'a> Delimiters<'a> {
     }
 }
 
-/// Whether a byte may not stand in a delimiter: padding or an equals sign.
+/// Whether a byte may not be in a delimiter: padding or an equals sign.
 fn is_barred(byte: u8) -> bool
     ensures { result ≡ (is_padding byte || byte == 61) }
 {
@@ -89,7 +90,7 @@ fn is_in_word(byte: u8) -> bool
     !is_padding(byte)
 }
 
-/// How many bytes stand before the first padding.
+/// How many bytes are before the first padding.
 fn len_before_padding(bytes: &[u8]) -> usize
     ensures { result ≡ position_or_len is_padding bytes.now }
 {

@@ -47,7 +47,7 @@ impl FaultKind {
     }
 }
 
-/// A fault, and the byte at which its tag begins. Want of memory is at place 0.
+/// A fault, and the byte at which its tag begins. A failed allocation is at place 0.
 #[derive(Clone, Copy, Debug, Drop, PartialEq, Eq, Error)]
 #[error("{kind} at byte {place}")]
 pub struct TemplateFault {

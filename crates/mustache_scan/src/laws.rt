@@ -1,6 +1,6 @@
 ghost use Rattle.mustache_scan.specs.Laws.{CutIsFirst, NoCutIsNowhere, ReadingIsOneTag, BoundIsEnough};
 
-/// A text is cut round the first place of a part, and isn't cut exactly where the part stands nowhere.
+/// A text is cut at the first place of a part, and is not cut if and only if the part occurs nowhere.
 pub fn cuts_are_first()
     ensures first { CutIsFirst }
     ensures nowhere { NoCutIsNowhere }

@@ -9,7 +9,7 @@ use crate::standalone::lines_of;
 use crate::tag::{Tag, name_of};
 use crate::{TemplateFault, Token, TokenKind};
 
-/// Adds what stands from place to place as a literal, unless it is empty.
+/// Adds what is from place to place as a literal, unless it is empty.
 pub(crate) fn push_literal<'a>(
     tokens: &mut Vec<Token<'a>>,
     source: &'a str,
@@ -35,7 +35,8 @@ pub(crate) fn push_literal<'a>(
     Ok(())
 }
 
-/// Adds a tag, and before it the literal that begins at `from`. Gives the place from which a literal after the tag counts.
+/// Adds a tag, and before it the literal that begins at `from`. Returns the place where a literal after the
+/// tag begins.
 pub(crate) fn push_tag<'a>(
     tokens: &mut Vec<Token<'a>>,
     source: &'a str,

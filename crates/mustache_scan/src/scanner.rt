@@ -1,4 +1,4 @@
-//! A literal is cut when the next tag is known, so one place is kept.
+//! A literal is cut once the next tag is known, so only one place is kept.
 
 ghost use Rattle.std.specs.Prelude.{◌≡◌, ◌≢◌, IfOk, IfErr, Ok, Err};
 ghost use Rattle.mustache_scan.specs.Marks.{AreMarked};
@@ -15,7 +15,7 @@ use crate::tag::{Tag, tag_after};
 use crate::{TemplateFault, Token, TokenKind};
 use std::alloc::{AllocError, Global};
 
-/// The delimiters that hold after a tag.
+/// The delimiters in force after a tag.
 fn delimiters_after<'a>(
     alloc: Global,
     delimiters: Delimiters<'a>,

@@ -1,4 +1,4 @@
-//! The scanner tells standalone tags, as blanks before a tag don't.
+//! The scanner marks standalone tags, as the blanks before a tag do not show them.
 
 ghost use Rattle.std.specs.Prelude.{◌≡◌, ◌+◌, ◌≤◌, IfSome, length, take, drop};
 ghost use Rattle.std.specs.List.{prefix_len, suffix_len};
@@ -26,7 +26,7 @@ fn trailing_blanks(bytes: &[u8]) -> usize
     bytes.iter().rev().take_while(|b| is_blank(**b)).count()
 }
 
-/// The length of the line's end at the front of a text, if it is there.
+/// The length of the line end at the front of a text, if there is one.
 fn line_end(bytes: &[u8]) -> Option<usize>
     ensures value { result ≡ line_end bytes.now }
     ensures within { IfSome result (λ n. n ≤ length bytes.now) }
@@ -80,7 +80,7 @@ fn may_be_standalone(kind: TokenKind) -> bool
     )
 }
 
-/// The lines that a tag takes of its text where it is standalone.
+/// The lines that a tag takes of its text, if it is standalone.
 pub(crate) fn lines_of(
     text: &[u8],
     kind: TokenKind,

@@ -1,4 +1,4 @@
-//! A piece keeps an inside only where it is a name.
+//! A piece keeps an inside only if it is a name.
 
 ghost use Rattle.std.specs.Prelude.{◌≡◌, ◌≢◌, ◌<◌, length, option_map, IfSome, IfOk, IfErr, Ok, Err};
 ghost use Rattle.std.specs.Str.{IsUtf8};
@@ -14,7 +14,7 @@ use crate::names::wrong_name;
 use crate::padding::{stripped, unpadded};
 use crate::{FaultKind, TokenKind};
 
-/// A tag: its kind, what stands inside it, and the text after it.
+/// A tag: its kind, what is inside it, and the text after it.
 #[derive(Clone, Copy)]
 pub(crate) struct Tag<'a> {
     pub(crate) kind: TokenKind,
@@ -22,7 +22,7 @@ pub(crate) struct Tag<'a> {
     pub(crate) rest: &'a str,
 }
 
-/// The kind that a sign stands for.
+/// The kind that a sign means.
 fn kind_of_sign(byte: u8) -> Option<TokenKind>
     ensures { result ≡ kind_of_sign byte }
 {
@@ -76,7 +76,7 @@ fn wrong_inside(kind: TokenKind, inside: &str) -> Option<FaultKind>
     }
 }
 
-/// The tag whose opening delimiter stands before the text, without the padding round its inside.
+/// The tag whose opening delimiter is just before the text, without the padding around its inside.
 pub(crate) fn tag_after<'a>(
     delimiters: &Delimiters<'_>,
     after: &'a str,
@@ -96,7 +96,7 @@ pub(crate) fn tag_after<'a>(
     }
 }
 
-/// The name of a tag, where it has one.
+/// The name of a tag, if it has one.
 pub(crate) fn name_of<'a>(kind: TokenKind, inside: &'a str) -> &'a str
     ensures { result.now ≡ name_of kind inside.now }
 {

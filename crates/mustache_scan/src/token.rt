@@ -12,10 +12,11 @@ pub enum TokenKind {
     Delimiters,
 }
 
-/// A token of a source, whose text stands at the byte `place`.
+/// A token of a source. Its text is at the byte `place`.
 ///
-/// `inside` is a tag's name, and `indent` the blanks before a standalone partial's tag; else both are empty. `is_alone` says of a tag that it
-/// is standalone: its lines are no part of the literals round it.
+/// `inside` is a tag's name, and `indent` is the blanks before a standalone partial's tag. In all other
+/// tokens both are empty. `is_alone` says that a tag is standalone: its lines are not part of the literals
+/// around it.
 #[derive(Clone, Copy, Debug, PartialEq, Eq)]
 pub struct Token<'a> {
     pub kind: TokenKind,

@@ -1,4 +1,4 @@
--- What a widening finds: the least free instance and those behind it, and the oldest untried values.
+-- What a widening finds: the least free instance and those after it, and the oldest untried values.
 use Rattle.std.proofs.Common.{◌≡◌, ◌≢◌, ◌⊎◌, inl, inr, ⊎_elim, ℕ, zero, suc, ◌+◌, ◌-◌, ◌<◌, ◌≤◌, true, false, Option, Some, None, List, [], ◌∷◌, ◌++◌, length, take, drop, append-nil, take-append-drop, refl, sym, ap, subst, ◌∙◌, arith}
 use Rattle.std.specs.Prelude.{slice_get}
 use Rattle.std.specs.Str.{bytes_eq}
@@ -25,7 +25,7 @@ last_or_not j k below = grind (arith, below)
 
 -- ---- an instance
 
--- of so many instances from the first on none is free
+-- none of some instances from the first on is free
 abbrev pub NoneFree : Node → ℕ → ℕ → Type 0
 NoneFree s first past = (j : ℕ) → first ≤ j → j < first + past → ¬ IsFree s j
 
@@ -49,7 +49,7 @@ next_found s first past i is not_mute none near at free = record {
 pub mute_takes_none : (s : Node) (first : ℕ) → IsFirstUnknown s.known first → IsMute s first → (i : ℕ) → ¬ IsNextFree s i
 mute_takes_none s first is mute i next = next.not_mute (subst (IsMute s) (sym (one_first s.known first next.first is next.is_first)) mute)
 
--- there is none further
+-- there is no further one
 pub no_next : (s : Node) (first past : ℕ) → IsFirstUnknown s.known first → NoneFree s first past → ((j : ℕ) → IsInstance j → j < first + 64 → j < first + past) → (i : ℕ) → ¬ IsNextFree s i
 no_next s first past is none short i next =
     let near = next.near in
@@ -68,7 +68,7 @@ all_seen first past within done j instance near = omega (arith, within, done, ne
 
 -- ---- a value
 
--- no attempt at so many instances from the first on has the value as its own
+-- no attempt at some instances from the first on has the value as its own
 abbrev NoneTries : Node → Value → ℕ → ℕ → Type 0
 NoneTries s v first past = (j : ℕ) (a : Attempt) → first ≤ j → j < first + past → s.attempts j ≡ Some a → a.own ≢ v
 
@@ -103,7 +103,7 @@ tried_within s v first (suc past) = ⊎_elim
     (own_or_not (s.attempts (first + past)) v))
     (tried_within s v first past)
 
--- attempts stand in the window, so whether one has the value as its own is decided there
+-- attempts are in the window, so whether one has the value as its own is decided there
 pub tried_or_not : (s : Node) (first : ℕ) → IsTidy s → IsFirstUnknown s.known first → (v : Value) → IsTried s v ⊎ (¬ IsTried s v)
 tried_or_not s first tidy is v = ⊎_elim
     (λ tried. inl tried)
@@ -141,7 +141,7 @@ not_unknown s i copied v known some none = clash v (sym (sym some ∙ known ∙ 
 pub not_untried : (s : Node) (i : ℕ) (own : Option Value) (v : Value) → own ≡ own_of (s.attempts i) → own ≡ Some v → ¬ (s.attempts i ≡ None)
 not_untried s i own v tried some none = some_own (s.attempts i) v (sym some ∙ tried) none
 
--- ---- instances one behind the other
+-- ---- instances one after another
 
 -- all from this one up to another, which isn't among them
 abbrev pub FreeUpTo : Node → ℕ → ℕ → Type 0
@@ -208,7 +208,7 @@ untried_tried s (u ∷ vs) left v are tried = ⊎_elim
     (λ (x : (¬ IsTried s u) × ((rest : List Value) × (left ≡ u ∷ rest) × AreUntried s vs rest)). inr (x.0, (x.1.0, x.1.1, untried_tried s vs x.1.0 v x.1.2 tried)))
     are
 
--- of two lists, one behind the other
+-- of two lists, one after another
 pub untried_both : (s : Node) (us vs xs ys : List Value) → AreUntried s us xs → AreUntried s vs ys → AreUntried s (us ++ vs) (xs ++ ys)
 untried_both s [] vs xs ys a b = subst (λ (l : List Value). AreUntried s vs (l ++ ys)) (sym a) b
 untried_both s (u ∷ us) vs xs ys a b = ⊎_elim

@@ -26,7 +26,7 @@ both : {P Q R : Type 0} → P ↔ Q → Q ↔ R → P ↔ R
 both a b = (λ p. b.0 (a.0 p), λ r. a.1 (b.1 r))
 
 module _ {D : Type 0} (old : Running D) (s : Node) (parts : HasParts old s) (q i : ℕ) (b : BallotOf) (v : Value) where
-  -- the votes told, and one more
+  -- the votes reported, and one more
   pub more_votes : (new : Learner) → ((t : ToldVote) → IsTold new t ↔ IsToldWith old.learner (told_vote q i b v) t) → (t : ToldVote) → IsTold new t ↔ In (told_vote q i b v ∷ s.votes) t
   more_votes new added t = both (added t) (told_or_one old.learner (told_vote q i b v) s.votes parts.votes t)
 

@@ -20,7 +20,7 @@ counts_none r before now none same = record { counted = λ device. absurd (none 
 pub counts_kept : {D T : Type 0} (failed : D → ℕ) (r : Result T NodeFault) (old new : Record D) → (¬ IsErrOf r fault.Device) × (new ≡ old) → CountsDevice r (failed old.disk) (failed new.disk)
 counts_kept {D} failed r old new kept = counts_none r (failed old.disk) (failed new.disk) kept.0 (ap (λ (store : Record D). failed store.disk) kept.1)
 
--- want of memory alone is no failure
+-- a failed allocation by itself is no failure of the device
 pub no_device : {T : Type 0} (r : Result T NodeFault) → IsErrAnd r (λ y. y ≡ fault.OutOfMemory) → ¬ IsErrOf r fault.Device
 no_device (Ok x) memory device = absurd memory
 no_device (Err y) memory device = absurd (cc)

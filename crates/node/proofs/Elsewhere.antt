@@ -91,7 +91,7 @@ module _ (s : Node) (i count : ℕ) (xs : List (ℕ × Attempt)) (are : AreOpenE
       let c = open_there.counted in
       omega (arith, up, down, same, c)
 
--- as a byte, less one where an attempt is open at the first unknown instance
+-- as a byte, one less if an attempt is open at the first unknown instance
 pub tried_elsewhere : (s : Node) (i count here : ℕ) (xs : List (ℕ × Attempt)) → IsTidy s → IsFirstUnknown s.known i → AreOpenElsewhere s i xs → AreOpen s.attempts count
     → (IsSome (s.attempts i) → here ≡ 1) → (s.attempts i ≡ None → here ≡ 0) → (length xs ≡ count - here) × (length xs ≤ 63)
 tried_elsewhere s i count here xs tidy first are open_there some none = by_attempt (s.attempts i) refl

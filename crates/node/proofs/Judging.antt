@@ -111,7 +111,7 @@ answered p i b (nack c) rest some = inl (λ e. cc)
 answered p i b accepted rest some = inl (λ e. cc)
 answered p i b no_answer rest some = inr some
 
--- where there are answers, an instance is owed one
+-- if there are answers, an instance is owed one
 pub owed_in : (slots : ℕ → Slot) (p i : ℕ) (b : BallotOf) (xs : List Judged) → AreJudgedAt slots b i xs → span_out p i b xs ≢ [] → (at : ℕ) × IsInSpan i (length xs) at × IsOwed (slots at) b
 owed_in slots p i b [] are some = absurd (some refl)
 owed_in slots p i b (x ∷ xs) are some =

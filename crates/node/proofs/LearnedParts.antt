@@ -1,4 +1,4 @@
--- Votes told, and a value that becomes known.
+-- Votes reported, and a value that becomes known.
 use Rattle.std.proofs.Common.{◌≡◌, ◌≢◌, inl, inr, ⊎_elim, ℕ, Bool, true, false, cond, not, Option, Some, None, List, [], ◌∷◌, refl, sym, ap, subst, ◌∙◌, arith}
 use Rattle.std.specs.Prelude.{◌↔◌, filter, nat_eq}
 use Rattle.std.proofs.lemmas.Bool.Decides.{nat_tests}

@@ -129,7 +129,7 @@ on_prepare s b none (Some c) is =
     more)
     (one_of_three c b).0
 
--- the judgement of so many instances, and whether a slot changes
+-- the judgement of some instances, and whether a slot changes
 abbrev AnyChanges : List Judged → Type 0
 AnyChanges xs = ((x : Judged) × In xs x × (x.after ≢ x.slot)) ⊎ ((x : Judged) → In xs x → x.after ≡ x.slot)
 
@@ -158,7 +158,7 @@ on_proposal : (s : Slot) (b : BallotOf) (v : Value) → ((verdict : ProposeVerdi
 on_proposal s b v none None is = free_proposal s b v none (rw is tt)
 on_proposal s b v none (Some c) is = ⊎_elim (λ (low : Below b c). none (to_proposal.Nack c) (is, low)) (λ (high : NotAbove c b). free_proposal s b v none (rw is high)) (below_or_not b c)
 
--- ---- the highest vote told
+-- ---- the highest vote reported
 
 best : (answers : List Answer) → (prior : Option Vote) × IsBest answers prior
 best [] = (None, λ x k. absurd k)

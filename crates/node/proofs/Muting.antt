@@ -56,7 +56,7 @@ ends_so n p s t Whole out learns ends =
 ends_so n p s t (Refused cause) out learns ends = record { refuses = refuses_so s cause learns ends.refuses; nothing = ends.nothing; node = ends.node }
 ends_so n p s t Failed out learns ends = absurd (none_put ends.entry (sym (ap (λ (x : Effect). x.entry) ends.does.is) ∙ ends.puts))
 
--- where the node only learns, a question is what a tick is
+-- if the node only learns, a tick is a question
 pub asks_instead : {D : Type 0} (stands_for : D → DiskState → Type 0) (old new : Running D) (ending : Ending) (before after : Handed) → ((s : Node) → IsNodeOf old s → OnlyLearns s) → IsEvent stands_for old new ask ending before after
     → IsEvent stands_for old new tick ending before after
 asks_instead stands_for old new ending before after learns event = record {

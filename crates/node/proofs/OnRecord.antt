@@ -1,4 +1,4 @@
--- What stands on record: the last vote is an entry, and each entry is in its ranges.
+-- What is on record: the last vote is an entry, and each entry is in its ranges.
 use Rattle.std.proofs.Common.{◌≡◌, ◌⊎◌, inl, inr, ℕ, Bool, true, false, cond, Option, Some, None, List, [], ◌∷◌, ◌++◌, refl, ap, ⊎_elim, arith}
 use Rattle.std.specs.Prelude.{nat_eq}
 use Rattle.std.proofs.lemmas.Bool.Decides.{nat_tests}

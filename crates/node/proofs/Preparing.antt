@@ -54,13 +54,13 @@ module _ {D : Type 0} (old : Running D) where
     )
 
     module _ (told : Judgement) (is : IsJudgement slots old.me i b k told) where
-      -- so it is where there are answers
+      -- so it is if there are answers
       pub answers_take : told.answers.items ≢ [] → (at : ℕ) × IsInSpan i k at × IsOwed (slots at) b
       answers_take some =
           let owed = owed_in slots old.me i b is.judged is.each (λ none. some (is.answers ∙ none)) in
           (owed.0, subst (λ (n : ℕ). IsInSpan i n owed.0) is.counted owed.1, owed.2)
 
-      -- and where a promise rises, which is free there
+      -- and if a promise rises, which is free there
       pub rises_where : told.rises ≡ true → (at : ℕ) × IsInSpan i k at × IsFreeBelow (slots at).promised b
       rises_where rises =
           let free = rising slots b i is.judged is.each (subst (λ (r : Bool). Rises is.judged r) rises is.rises) in
@@ -69,7 +69,7 @@ module _ {D : Type 0} (old : Running D) where
       pub rises_takes : told.rises ≡ true → (at : ℕ) × IsInSpan i k at × IsOwed (slots at) b
       rises_takes rises = let free = rises_where rises in (free.0, free.1, free_owed (slots free.0) b free.2)
 
-      -- it goes on record where it rises, and only there
+      -- it goes on record if it rises, and only then
       pub prepare_rises : (from : ℕ) → Speaks old i → told.rises ≡ true → (s : Node) → IsNodeOf old s
           → Does old.cluster old.me s (deliver (Prepare from i b k)) (record { entry = Some (promise_of i k b); after = touched (last_of i k) s; out = span_out old.me i b is.judged })
       prepare_rises from speaks rises s stands = inr (

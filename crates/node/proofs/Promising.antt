@@ -26,7 +26,7 @@ use Rattle.node.specs.Endings.{Whole}
 use Rattle.node.specs.Standing.{IsEvent, KeepsOthers}
 use Rattle.node.proofs.Stepping.{Handed, whole, touched, same_store, same_record, stays_there}
 
--- a step that finds no memory leaves the attempts
+-- a step in which an allocation fails leaves the attempts as they are
 pub attempts_stay : (n : ℕ) (attempts : ℕ → Option Attempt) (q i : ℕ) (b : BallotOf) (prior : Option Vote) (e : ProposerFault) (new : Proposer) → Promised n attempts q i b prior (Err e) new → Attempting new attempts
 attempts_stay n attempts q i b prior OutOfMemory new h = h
 attempts_stay n attempts q i b prior RoundsUsedUp new h = absurd h

@@ -30,7 +30,7 @@ or_false : (x : Bool) → (x || false) ≡ x
 or_false true = refl
 or_false false = refl
 
--- a receipt stays, whatever is published behind it
+-- a receipt stays, whatever is published after it
 some_stays : (t : Ticket) (published more : List Value) → is_some (receipt_of t published) ≡ true → is_some (receipt_of t (published ++ more)) ≡ true
 some_stays t published more = by (receipt_of t published) refl
   where

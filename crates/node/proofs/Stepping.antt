@@ -137,7 +137,7 @@ module _ {D : Type 0} where
 
   -- ---- what is kept beside the record
 
-  -- nothing of it has changed, but for what was counted
+  -- nothing of it has changed, except what was counted
   pub record KeepsRest (old new : Running D) : Type 0 where
     pub learner : new.learner ≡ old.learner
     pub known : new.known ≡ old.known

@@ -16,7 +16,7 @@ use Rattle.node.specs.Ranges.{HasRanges}
 use Rattle.node.specs.Tellings.{or_else, remembered, IsTellable, message_of, telling, with_first, tellings, value_in, fitting, told_from, addressed, TellsOn}
 use Rattle.node.proofs.OnRecord.{last_vote-in, learned_at-in, entry_in_range}
 
--- ---- what is told
+-- ---- what is reported
 
 -- what is remembered is known or was learned
 either_from : (known other : Option Value) (v : Value) → or_else known other ≡ Some v → (known ≡ Some v) ⊎ (other ≡ Some v)
@@ -109,7 +109,7 @@ one_told (x ∷ told) len is some = omega arith
 
 -- ---- how it is put together
 
--- nothing is told of this instance
+-- nothing is reported of this instance
 skipped : (p : ℕ) (s : Node) (k i : ℕ) → telling p s i ≡ None → tellings p s (suc k) i ≡ tellings p s k (suc i)
 skipped p s k i none = ap (λ o. with_first o (tellings p s k (suc i))) none
 
@@ -137,7 +137,7 @@ module _ (p : ℕ) (s : Node) (to : To) (first : ℕ) where
     pub whole_telling : k ≡ 0 → before ≡ whole
     whole_telling is = sym (so_far ∙ ap (λ n. before ++ left_of room n (first + past)) is ∙ append-nil before)
 
--- past the last instance nothing is told
+-- past the last instance nothing is reported
 none_past : (n p : ℕ) (s : Node) (i : ℕ) → HasRanges n s → IsHistory n s.entries → ¬ IsInstance i → telling p s i ≡ None
 none_past n p s i h history outside = by (remembered s i) (last_vote i s.entries) refl refl
   where
@@ -151,7 +151,7 @@ all_told n p s zero i h history past = refl
 all_told n p s (suc k) i h history past =
     skipped p s k i (none_past n p s i h history (λ instance. let high = instance.1 in absurd (omega (arith, past, high)))) ∙ all_told n p s k (suc i) h history (omega (arith, past))
 
--- ---- where memory is wanted
+-- ---- when an allocation may fail
 
 pub tellable : (p : ℕ) (s : Node) (m : Message) (i : ℕ) → IsToldOf p s m i → IsTellable s i
 tellable p s m i told =
@@ -174,7 +174,7 @@ pub some_told : (p : ℕ) (s : Node) (to : To) (i : ℕ) (told : List (To × Mes
 some_told p s to i [] is some = absurd (omega (arith, some))
 some_told p s to i (x ∷ told) is some = let at = each_told p s to i x (subst (λ (l : List (To × Message)). In l x) is (inl refl)) in (at.0, at.1, tellable p s x.1 at.0 at.2)
 
--- none are left where there is no further instance
+-- none are left if there is no further instance
 pub last_telling : (n p : ℕ) (s : Node) (to : To) (first past k room : ℕ) (whole before : List (To × Message)) → HasRanges n s → IsHistory n s.entries → 1 ≤ first → ¬ IsInstance (first + past)
     → whole ≡ before ++ map (addressed to) (fitting room (tellings p s k (first + past))) → before ≡ whole
 last_telling n p s to first past k room whole before h history low outside so_far =

@@ -15,7 +15,7 @@ use Rattle.node.proofs.Stepping.{Handed, is_up, same_store, stays_there, whole}
 no_value : (v : Value) → ◌≡◌ {A = Option Value} None (Some v) → ⊥
 no_value v e = cc
 
--- where all is known, none is free
+-- if all is known, no instance is free
 pub none_free : (s : Node) → AllKnown s → ¬ MayWiden s
 none_free s all may = let free = may.0.1.free in let v = all may.0.0 free.instance in no_value v.0 (sym free.unknown ∙ v.1)
 

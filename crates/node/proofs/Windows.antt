@@ -33,7 +33,7 @@ within_window known first i is at =
     order : (i first : ℕ) → (i < first + 64) ⊎ (first + 64 ≤ i)
     order i first = grind arith
 
--- ---- the attempts behind the first unknown instance
+-- ---- the attempts after the first unknown instance
 
 rises_above : (low : ℕ) (xs : List (ℕ × Attempt)) → RisesFrom 0 xs → ((x : ℕ × Attempt) → In xs x → low < x.0) → RisesFrom low xs
 rises_above low [] rising above = tt

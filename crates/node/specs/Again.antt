@@ -6,13 +6,13 @@ use Rattle.node.specs.declared.to.To.{To}
 use Rattle.node.specs.Nodes.{Node}
 use Rattle.node.specs.Calls.{AreOpenElsewhere, resent}
 
--- the latest messages of all open attempts but that at instance i, by their instance
+-- the latest messages of all open attempts except the one at instance i, in the order of their instances
 pub record IsSentAgain (p : ℕ) (s : Node) (i : ℕ) (again : List (To × Message)) : Type 0 where
   pub elsewhere : List (ℕ × Attempt)
   pub are : AreOpenElsewhere s i elsewhere
   pub is : again ≡ map (resent p) elsewhere
 
--- messages, and behind them the latest one of the attempt at an instance, if one is open
+-- the messages, and after them the latest message of the attempt at an instance, if one is open
 abbrev pub with_latest : ℕ → List (To × Message) → ℕ → Option Attempt → List (To × Message)
 with_latest p out i None = out
 with_latest p out i (Some a) = out ++ resent p (i, a) ∷ []

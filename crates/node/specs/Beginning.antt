@@ -19,7 +19,8 @@ use Rattle.node.specs.Endings.{Refuses}
 use Rattle.node.specs.Ranges.{IsCallInRange}
 use Rattle.node.specs.Standing.{IsNodeOf}
 
--- a round on record, attempts with it from an instance on, and their prepare before what is sent again
+-- a round goes on record, attempts begin with it at an instance and those after it, and their prepare goes
+-- out before what is sent again
 abbrev pub begun : ℕ → Node → ℕ → BallotOf → List Value → List (To × Message) → Effect
 begun p s i b values again = record {
   entry = Some (Round b.round);
@@ -27,11 +28,13 @@ begun p s i b values again = record {
   out = (All, Prepare p i b (length values)) ∷ again;
 }
 
--- the ballot that it takes: above the last round on record and each that a nack told
+-- the ballot that the node takes: above the last round on record, and above each round that a refusal
+-- reported
 abbrev pub next_of : {D : Type 0} → Running D → BallotOf
 next_of code = record { round = max code.store.recorded.round code.proposer.heard + 1; node = code.proposer.me }
 
--- the call begins these attempts at each node that the code stands for, and may be refused there for want of memory
+-- the call begins these attempts at each node that the code stands for, and there it may be refused if an
+-- allocation fails
 pub record IsDue {D : Type 0} (code : Running D) (call : Call) (due : Beginning) : Type 0 where
   pub running : code.store.stopped ≡ false
   pub above : code.store.recorded.round < due.ballot.round
@@ -40,7 +43,7 @@ pub record IsDue {D : Type 0} (code : Running D) (call : Call) (due : Beginning)
   pub does : (s : Node) → IsNodeOf code s → Does code.cluster code.me s call (begun code.me s due.first due.ballot due.values.items due.again.items)
   pub wants : (s : Node) → IsNodeOf code s → Refuses s call OutOfMemory
 
--- it is refused by this fault there
+-- the call is refused with this fault, at each node that the code stands for
 pub record IsRefusedBy {D : Type 0} (code : Running D) (call : Call) (fault : NodeFault) : Type 0 where
   pub in_range : IsCallInRange code.cluster call
   pub apart : fault ≢ Device

@@ -1,4 +1,4 @@
--- Faults of the layers below, told by a node; a fault's number and name.
+-- How a node reports the faults of the layers below it; a fault's number and name.
 use Rattle.std.specs.Prelude.{◌≡◌, ℕ, List, Err, codes, ⊤}
 use Rattle.durable.specs.declared.fault.RecordFault.{RecordFault}
 use Rattle.durable.specs.declared.fault.RecordFault.TheVariants as stored
@@ -10,13 +10,13 @@ use Rattle.node.specs.declared.fault.NodeFault.{NodeFault}
 use Rattle.node.specs.declared.fault.NodeFault.TheVariants.{OutOfMemory, Device, Stopped, QueueFull, NotACommand, InstancesUsedUp, RoundsUsedUp, Conflict}
 use Rattle.node.specs.Nodes.{Value}
 
--- a put that is refused as full is a growth refused
+-- a full record is reported as out of memory
 abbrev pub of_record : RecordFault → NodeFault
 of_record stored.Device = Device
 of_record stored.Stopped = Stopped
 of_record _ = OutOfMemory
 
--- what reads as no command is told, or want of memory
+-- bytes that are not a command are reported as that, and a failed allocation as out of memory
 abbrev pub of_command : CommandFault → NodeFault
 of_command command.OutOfMemory = OutOfMemory
 of_command command.TooLong = NotACommand command.TooLong
@@ -26,7 +26,7 @@ of_command command.Path = NotACommand command.Path
 of_command (command.Template why) = NotACommand (command.Template why)
 of_command (command.Data why) = NotACommand (command.Data why)
 
--- why a value that is submitted was not read
+-- why a submitted value was not read
 abbrev pub IsUnread : Value → NodeFault → Type 0
 IsUnread v (NotACommand why) = (value_reading v ≡ Err why) × HasLine why
 IsUnread v OutOfMemory = TakesMemory v
@@ -43,7 +43,7 @@ label InstancesUsedUp = codes "6 InstancesUsedUp"
 label RoundsUsedUp = codes "7 RoundsUsedUp"
 label Conflict = codes "8 Conflict"
 
--- why a submission is refused: for no other cause, and a command's fault is no want of memory
+-- why a submission is refused. There is no other cause, and the fault of a command is not a failed allocation
 abbrev pub IsSubmitCause : NodeFault → Type 0
 IsSubmitCause (NotACommand why) = HasLine why
 IsSubmitCause Stopped = ⊤

@@ -1,4 +1,4 @@
--- What the code tells of a span that it judges, by the slots in memory.
+-- What the code returns for a span that it judges, by the slots in memory.
 use Rattle.std.specs.Prelude.{◌≡◌, ◌≢◌, ◌⊎◌, ℕ, suc, Bool, true, false, List, [], ◌∷◌, ◌++◌, length, ⊤}
 use Rattle.site_ids.specs.Ids.{BallotOf}
 use Rattle.site_ids.specs.Lists.{In}
@@ -25,7 +25,7 @@ pub record IsJudgement (slots : ℕ → Slot) (p i : ℕ) (b : BallotOf) (k : �
   pub rises : Rises judged told.rises
   pub answers : told.answers.items ≡ span_out p i b judged
 
--- it is that of one instance more, whose answer stands behind those before it
+-- the judgement has one instance more, whose answer comes after the answers before it
 pub record JudgesMore (slot : Slot) (p i : ℕ) (b : BallotOf) (old new : Judgement) : Type 0 where
   pub judged : Judged
   pub of_slot : judged.slot ≡ slot

@@ -9,14 +9,15 @@ use Rattle.node.specs.Calls.{keep, IsOwnVote, MayKeep}
 use Rattle.node.specs.Endings.{Whole, Ends}
 use Rattle.node.specs.Ranges.{HasRanges}
 
--- after the call nothing is left to keep at the instance; it hands out nothing
+-- after the call nothing is left to keep at the instance, and the call hands out nothing
 abbrev pub KeepLeavesNone : Type 0
 KeepLeavesNone = (n p i : ℕ) (s new : Node) (out : List (To × Message)) → Ends n p s (keep i) Whole out new → (¬ MayKeep new i) × (out ≡ [])
 
--- and where nothing is left, what is known stands on the record: a learned value, or the last vote is for it
+-- if nothing is left to keep at an instance, the known value there is on record: a value is learned there, or
+-- the last vote is for it
 abbrev pub KnownIsOnRecord : Type 0
 KnownIsOnRecord = (s : Node) (i : ℕ) (v : Value) → s.known i ≡ Some v → ¬ MayKeep s i → ((u : Value) × (learned_at i s.entries ≡ Some u)) ⊎ IsOwnVote s i v
 
--- what goes on record may follow what is there
+-- the entry that goes on record may follow what is there
 abbrev pub KeepStaysHistory : Type 0
 KeepStaysHistory = (n p i : ℕ) (s new : Node) (out : List (To × Message)) → Ends n p s (keep i) Whole out new → IsHistory n s.entries → HasRanges n s → IsHistory n new.entries

@@ -29,14 +29,14 @@ use Rattle.node.specs.Waiting.{AreWaiting}
 
 -- ---- in memory, over any disk
 
--- its record keeps what these entries record, and none is in flight while it runs
+-- the record keeps what these entries record. While it runs, no entry is in flight
 pub record IsOnRecord {D : Type 0} (store : Record D) (n : ℕ) (mode : Mode) (entries : List Entry) (in_flight : Option Entry) : Type 0 where
   pub mode_is : mode ≡ (if store.stopped then Stopped else Up)
   pub kept : IsKept entries store.recorded
   pub history : IsHistory n entries
   pub settled : store.stopped ≡ false → in_flight ≡ None
 
--- what a node keeps
+-- what a node keeps in memory and on record
 pub record HasParts {D : Type 0} (code : Running D) (s : Node) : Type 0 where
   pub on_record : IsOnRecord code.store code.cluster s.mode s.entries s.in_flight
   pub votes : (t : ToldVote) → IsTold code.learner t ↔ In s.votes t
@@ -46,7 +46,7 @@ pub record HasParts {D : Type 0} (code : Running D) (s : Node) : Type 0 where
   pub heard : code.proposer.heard ≡ s.heard
   pub reached : code.reached ≡ s.reached
 
--- and it is tidy and in range, and published what begins the known prefix
+-- and the node is tidy and in range, and it published a beginning of the known prefix
 pub record IsNodeOf {D : Type 0} (code : Running D) (s : Node) : Type 0 where
   pub parts : HasParts code s
   pub tidy : IsTidy s
@@ -55,7 +55,8 @@ pub record IsNodeOf {D : Type 0} (code : Running D) (s : Node) : Type 0 where
 
 -- ---- on the disk
 
--- The disk stands for this state, which keeps the node's entries and the one in flight, whether it crashes or not. While the node runs, all of it is synced
+-- The disk stands for this state. The state keeps the node's entries and the one in flight, whether it
+-- crashes or not. While the node runs, all of it is synced
 pub record IsOnDisk {D : Type 0} (stands_for : D → DiskState → Type 0) (code : Running D) (s : Node) (d : DiskState) : Type 0 where
   pub stands : stands_for code.store.disk d
   pub keeps : Keeps code.me code.cluster s.entries s.in_flight d
@@ -65,16 +66,17 @@ pub record IsOnDisk {D : Type 0} (stands_for : D → DiskState → Type 0) (code
 abbrev pub IsEither : ℕ → ℕ → Node → Node → List ℕ → Type 0
 IsEither p n s next file = IsFound p n s.entries s.in_flight file ⊎ IsFound p n next.entries next.in_flight file
 
--- So it is after a call as it was before it, and a crash at any moment of the call leaves what may be left before the call or after it
+-- After the call the disk is related to the node as before it. A crash at any moment of the call leaves what
+-- may be left before the call or after it
 abbrev pub StaysOnDisk : {D : Type 0} → (D → DiskState → Type 0) → Running D → Running D → Node → Node → Type 0
 StaysOnDisk stands_for old new s next = (d : DiskState) → IsOnDisk stands_for old s d → (e : DiskState) × IsOnDisk stands_for new next e × LeavesOnly d e (IsEither old.me old.cluster s next)
 
--- ---- what of its record others speak of
+-- ---- what others say of its record
 
 abbrev pub disk_of : {D : Type 0} → Running D → D
 disk_of code = code.store.disk
 
--- how many calls of its disk failed, as that counts them
+-- how many calls of its disk failed, by the disk's own count
 abbrev pub failures : {D : Type 0} → (D → ℕ) → Running D → ℕ
 failures failed code = failed (disk_of code)
 
@@ -84,11 +86,11 @@ HasStopped code = code.store.stopped ≡ true
 
 -- ---- calls
 
--- messages are added, at the end alone
+-- messages are only added, at the end
 abbrev pub OnlyGrows : List (To × Message) → List (To × Message) → Type 0
 OnlyGrows before after = (more : List (To × Message)) × (after ≡ before ++ more)
 
--- Ok is the whole ending, a failure of the device the failed one, and any other fault a refusal
+-- Ok is the whole ending, the fault Device is the failed one, and any other fault is a refusal
 abbrev pub ending_by : NodeFault → Ending
 ending_by fault.Device = Failed
 ending_by cause = Refused cause
@@ -97,8 +99,9 @@ abbrev pub ending_of : {T : Type 0} → Result T NodeFault → Ending
 ending_of (Ok x) = Whole
 ending_of (Err cause) = ending_by cause
 
--- From s the call ends so, at a node that the new value stands for, on the disk as before or, while a batch is open, ahead of it. The outbox is longer by what
--- is handed out: few messages, each of the cluster
+-- From s the call ends like this, at a node that the new value stands for. The disk is as before, or the node
+-- is ahead of it while a batch is open. The outbox has grown by what is handed out: at most 64 messages, each
+-- of the cluster
 pub record Leads {D : Type 0} (stands_for : D → DiskState → Type 0) (old new : Running D) (call : Call) (ending : Ending) (before after : List (To × Message)) (s : Node) : Type 0 where
   pub next : Node
   pub out : List (To × Message)
@@ -110,11 +113,11 @@ pub record Leads {D : Type 0} (stands_for : D → DiskState → Type 0) (old new
   pub few : length out ≤ 64
   pub messages : (x : To × Message) → In out x → IsMessage old.cluster x.1
 
--- and so it does from each node that the old value stands for
+-- and it does so from each node that the old value stands for
 pub record IsEvent {D : Type 0} (stands_for : D → DiskState → Type 0) (old new : Running D) (call : Call) (ending : Ending) (before after : List (To × Message)) : Type 0 where
   pub leads : (s : Node) → IsNodeOf old s → Leads stands_for old new call ending before after s
 
--- of which node it is, and what was published, stays
+-- it is the same node of the same cluster, and what it published is the same
 pub record KeepsOthers {D : Type 0} (old new : Running D) : Type 0 where
   pub me : new.me ≡ old.me
   pub cluster : new.cluster ≡ old.cluster
@@ -125,19 +128,21 @@ pub record TakesRound {D : Type 0} (old new : Running D) : Type 0 where
   pub above : old.store.recorded.round < new.store.recorded.round
   pub fits : new.store.recorded.round < 2 ^ 32
 
--- a failure of the device is told where its count rose, or stands at its last value, and else nothing was counted
+-- if a failure of the device is reported, its count has risen, or is at its last value. If none is reported,
+-- nothing was counted
 pub record CountsDevice {T : Type 0} (result : Result T NodeFault) (before now : ℕ) : Type 0 where
   pub counted : IsErrOf result fault.Device → (before < now) ⊎ (before ≡ 2 ^ 64 - 1)
   pub none : ¬ IsErrOf result fault.Device → now ≡ before
 
 -- ---- opening
 
--- no accident had cut its record short, as it was opened
+-- no accident had cut its record short when it was opened
 abbrev pub IsWhole : {D : Type 0} → Running D → Type 0
 IsWhole code = code.store.cut_short ≡ false
 
--- The node has these entries on record, over any disk, and nothing else. Of each state that the disk stood for, they are those of its file, and where it kept a
--- record with an entry in flight, they are that record's, with that entry or without it.
+-- The node has these entries on record, over any disk, and nothing else. They are the entries in the file of
+-- each state that the disk stood for. If such a state kept a record with an entry in flight, they are that
+-- record's, with that entry or without it.
 pub record OpensAs {D : Type 0} (stands_for : D → DiskState → Type 0) (disk : D) (code : Running D) (entries : List Entry) : Type 0 where
   pub stands : IsNodeOf code (opened Up entries None)
   pub on_disk : (d : DiskState) → stands_for disk d → IsOnDisk stands_for code (opened Up entries None) (after_sync d)

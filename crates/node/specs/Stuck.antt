@@ -8,9 +8,10 @@ use Rattle.node.specs.Effects.{Effect}
 use Rattle.node.specs.Endings.{MayRefuse}
 use Rattle.node.specs.Tidy.{IsTidy}
 
--- Not stuck is a contradiction, without an excluded middle.
+-- That a call is not stuck is said as a contradiction: no excluded middle is assumed.
 
--- nothing can come of the call but want of memory: it has no effect, and no other cause to refuse it stands
+-- nothing can come of the call except a failed allocation: it has no effect, and no other cause to refuse it
+-- holds
 pub record IsStuck (n p : ℕ) (s : Node) (call : Call) : Type 0 where
   pub no_effect : (effect : Effect) → ¬ Does n p s call effect
   pub no_cause : (cause : NodeFault) → cause ≢ OutOfMemory → ¬ MayRefuse s call cause

@@ -13,7 +13,8 @@ impl<D: Disk> Node<D> {
     ghost use Rattle.node.specs.Calls.{deliver};
     ghost use Rattle.node.specs.Standing.{IsEvent, KeepsOthers, ending_of};
 
-    /// One vote more at an unknown instance; its value becomes known where that makes a majority.
+    /// Counts a vote at an unknown instance. Its value becomes known if the votes are now those of a
+    /// majority.
     pub(crate) fn on_accepted(
         &mut self,
         from: NodeId,

@@ -14,7 +14,8 @@ impl<D: Disk> Node<D> {
     ghost use Rattle.node.specs.Standing.{IsNodeOf};
     ghost use Rattle.node.specs.Again.{IsSentAgain, with_latest};
 
-    /// The latest message of each attempt but the one at the first unknown instance, by instance.
+    /// The latest message of each attempt except the one at the first unknown instance, in the order of their
+    /// instances.
     pub(crate) fn sent_again(&self, first: Instance) -> Result<Outbox, AllocError>
         ensures { IfOk result (λ again. (s : AbstractNode) → IsNodeOf self.now s → IsFirstUnknown s.known first → IsSentAgain self.now.me s first again.items) }
     {
@@ -30,7 +31,7 @@ impl<D: Disk> Node<D> {
         Ok(again)
     }
 
-    /// The latest message of the attempt at an instance, if one is open, behind what is there.
+    /// If an attempt is open at the instance, puts its latest message after what is there.
     fn push_latest(&self, instance: Instance, again: &mut Outbox) -> Result<(), AllocError>
         ensures { OnOk result ((attempts : ℕ → Option Attempt) → Attempting self.now.proposer attempts → again.new.items ≡ with_latest self.now.me again.old.items instance (attempts instance)) }
     {

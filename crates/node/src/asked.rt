@@ -12,7 +12,7 @@ impl<D: Disk> Node<D> {
     ghost use Rattle.node.specs.Calls.{deliver};
     ghost use Rattle.node.specs.Standing.{IsEvent, OnlyGrows, KeepsOthers, ending_of};
 
-    /// The value goes to the asker, where it is known.
+    /// If the value is known, it goes to the node that asked.
     pub(crate) fn on_ask(
         &mut self,
         from: NodeId,

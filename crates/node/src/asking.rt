@@ -1,4 +1,4 @@
-//! A question: the first unknown instance is asked for.
+//! A question: the node asks for its first unknown instance.
 
 ghost use Rattle.std.specs.Prelude.{◌≡◌, IsErrOf};
 
@@ -10,7 +10,7 @@ impl<D: Disk> Node<D> {
     ghost use Rattle.node.specs.Calls.{ask as asking};
     ghost use Rattle.node.specs.Standing.{IsEvent, OnlyGrows, KeepsOthers, ending_of};
 
-    /// Asks all nodes for the first unknown instance.
+    /// Asks all nodes for the value of the first unknown instance.
     pub fn ask(&mut self, outbox: &mut Outbox) -> Result<(), NodeFault>
         ensures event { IsEvent D.stands_for self.old self.new asking (ending_of result) outbox.old.items outbox.new.items }
         ensures no_put { (¬ IsErrOf result NodeFault.Device) × (self.new.store ≡ self.old.store) }

@@ -1,4 +1,4 @@
-//! A batch of calls: what they put on record stands on the disk together, or none of it.
+//! A batch of calls: all that they put on record reaches the disk together, or none of it.
 
 ghost use Rattle.std.specs.Prelude.{◌≡◌, ◌⊎◌, ◌↔◌, IsErrOf, OnOk, OnErr, true};
 ghost use Rattle.site_disk.specs.Model.{DiskState};
@@ -12,8 +12,9 @@ impl<D: Disk> Node<D> {
     ghost use Rattle.node.specs.Batches.{BeginsAt, SealsAt, LosesOneOf};
     ghost use Rattle.node.specs.Standing.{IsNodeOf, IsOnDisk, KeepsOthers, CountsDevice};
 
-    /// Opens a batch: until it is sealed each call is the event that it is, but what it puts on record is in memory alone, so
-    /// what it hands out may be given to nobody, nor to the node itself. A batch that is open stays as it is.
+    /// Opens a batch. Until it is sealed each call is the event that it is, but what it puts on record is in
+    /// memory only. So what it hands out may be given to nobody yet, not even to the node itself. If a batch
+    /// is open already, nothing changes.
     pub fn begin(&mut self) -> Result<(), NodeFault>
         ensures begun { OnOk result (BeginsAt D.stands_for self.old self.new) }
         ensures same { (s : AbstractNode) → IsNodeOf self.old s → IsNodeOf self.new s }
@@ -28,9 +29,10 @@ impl<D: Disk> Node<D> {
         Ok(())
     }
 
-    /// Has all that the calls of the batch put on record stand on the disk, and closes it: then what they handed out may be
-    /// given away. Where the device fails all of it stands there or none: the node is stopped, its memory is ahead of
-    /// the disk, and what stands only the next opening tells.
+    /// Writes all that the calls of the batch put on record to the disk, and closes the batch. After that
+    /// what they handed out may be given away. If the device fails, either all of it is on the disk or none.
+    /// The node is then stopped, its memory is ahead of the disk, and only the next opening shows what is on
+    /// the disk.
     pub fn seal(&mut self) -> Result<(), NodeFault>
         ensures sealed { OnOk result (SealsAt D.stands_for self.old self.new) }
         ensures same { OnOk result ((s : AbstractNode) → IsNodeOf self.old s → IsNodeOf self.new s) }

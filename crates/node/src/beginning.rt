@@ -9,7 +9,8 @@ use site_disk::Disk;
 use site_ids::{Ballot, Instance, Value};
 use wire::Message;
 
-/// Attempts that are to begin: one for each value, from an instance on, all at one ballot. What is sent again goes out behind their prepare.
+/// Attempts that are to begin: one for each value, from an instance on, all at one ballot. What is sent again
+/// goes out after their prepare.
 #[derive(Drop)]
 pub(crate) struct Beginning {
     pub(crate) first: Instance,
@@ -22,7 +23,8 @@ impl<D: Disk> Node<D> {
     ghost use Rattle.node.specs.Calls.{Call};
     ghost use Rattle.node.specs.Standing.{IsEvent, TakesRound, OnlyGrows, KeepsOthers, CountsDevice, ending_of};
 
-    /// The ballot's round goes on record, the attempts begin, and one prepare for all of them goes out. All room is made before.
+    /// The ballot's round goes on record, the attempts begin, and one prepare for all of them goes out. All
+    /// room is reserved first.
     pub(crate) fn begin_attempts(
         &mut self,
         due: Beginning,

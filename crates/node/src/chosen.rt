@@ -13,7 +13,7 @@ impl<D: Disk> Node<D> {
     ghost use Rattle.node.specs.Calls.{deliver};
     ghost use Rattle.node.specs.Standing.{IsEvent, KeepsOthers, ending_of};
 
-    /// The value becomes known, or is known already.
+    /// The value becomes known, unless it is known already.
     pub(crate) fn on_chosen(&mut self, instance: Instance, value: &Value) -> Result<(), NodeFault>
         requires running { self.old.store.stopped ≡ false }
         ensures event { (from : ℕ) (before : List (To × Message)) → IsMessage self.old.cluster (Message.Chosen from instance value.now) → IsEvent D.stands_for self.old self.new (deliver (Message.Chosen from instance value.now)) (ending_of result) before before }

@@ -1,6 +1,7 @@
 //! A message that is delivered.
 //!
-//! A promise always may want memory (`TakesRoom`), as the majority is known behind the step.
+//! An allocation may always fail for a promise (`TakesRoom`), as only the step shows whether there is a
+//! majority.
 
 ghost use Rattle.std.specs.Prelude.{◌≡◌, IsErrOf};
 ghost use Rattle.wire.specs.Messages.{IsMessage};
@@ -13,7 +14,7 @@ impl<D: Disk> Node<D> {
     ghost use Rattle.node.specs.Calls.{deliver as delivery};
     ghost use Rattle.node.specs.Standing.{IsEvent, OnlyGrows, KeepsOthers, CountsDevice, ending_of};
 
-    /// Takes a message, of whatever age.
+    /// Handles a message, however old it is.
     pub fn deliver(&mut self, message: &Message, outbox: &mut Outbox) -> Result<(), NodeFault>
         requires { IsMessage self.old.cluster message.now }
         ensures event { IsEvent D.stands_for self.old self.new (delivery message.now) (ending_of result) outbox.old.items outbox.new.items }

@@ -11,14 +11,14 @@ use site_disk::Disk;
 use site_ids::{Instance, MAX_VALUE, Value};
 use std::alloc::AllocError;
 
-/// The two are one value.
+/// Whether the two are one value.
 pub(crate) fn is_same(one: &Value, other: &Value) -> bool
     ensures { IsTrue result ↔ (one.now ≡ other.now) }
 {
     one.as_bytes() == other.as_bytes()
 }
 
-/// The last vote there is for the value.
+/// Whether the last vote there is for the value.
 fn is_vote_for(slot: &Slot, value: &Value) -> bool
     ensures { IsTrue result ↔ IsVoteFor slot.now.vote value.now }
 {
@@ -33,10 +33,11 @@ impl<D: Disk> Node<D> {
     ghost use Rattle.node.specs.Calls.{keep as keeping, IsUnkept, MayKeep};
     ghost use Rattle.node.specs.Standing.{IsNodeOf, IsEvent, KeepsOthers, CountsDevice, ending_of};
 
-    /// Puts the value known at an instance on record as learned, if none is learned there on record and the node's own
-    /// last vote there isn't for it. It raises nothing, and hands out nothing.
+    /// Puts the value known at an instance on record as learned, unless a value is learned there on record,
+    /// or the node's own last vote there is for it. It raises no ballot, and hands out nothing.
     ///
-    /// So nodes that start anew tell one another what one of them had learned, and it need not be decided again.
+    /// So nodes that restart can report to one another what one of them had learned, and it need not be
+    /// decided again.
     pub fn keep(&mut self, instance: Instance) -> Result<(), NodeFault>
         ensures event { IsEvent D.stands_for self.old self.new (keeping instance) (ending_of result) [] [] }
         ensures counts { CountsDevice result (D.failed self.old.store.disk) (D.failed self.new.store.disk) }

@@ -12,8 +12,9 @@ pub fn calls_forget_nothing()
     ensures mark { MarkStays }
 {}
 
-/// Attempts stand at unknown instances less than `MAX_ATTEMPTS` past the first unknown one, and where one is open, each unknown instance below it has one.
-/// Votes stand at unknown instances, and what is pending has tickets of its own. So a call hands out few messages.
+/// Attempts are at unknown instances, less than `MAX_ATTEMPTS` past the first unknown one, and each unknown
+/// instance below an attempt has one too. Votes are at unknown instances, and pending values have tickets of
+/// their own. So a call hands out few messages.
 pub fn nodes_stay_tidy()
     ensures opens { OpensTidy }
     ensures stays { StaysTidy }
@@ -22,20 +23,22 @@ pub fn nodes_stay_tidy()
     ensures few { SaysFew }
 {}
 
-/// What a node knows, attempts and keeps waiting stays in its ranges, and what it hands out are messages of its cluster.
+/// What a node knows, attempts and has pending stays in its ranges, and what it hands out is messages of its
+/// cluster.
 pub fn nodes_stay_in_range()
     ensures opens { OpensInRange }
     ensures stays { StaysInRange }
     ensures messages { SaysMessages }
 {}
 
-/// At a node that runs each call has an effect, or a cause to refuse it other than want of memory.
+/// At a node that runs each call has an effect, or a cause to refuse it other than a failed allocation.
 pub fn no_call_is_stuck()
     ensures { NeverStuck }
 {}
 
-/// After a call that keeps what is known at an instance nothing is left to keep there, and the value is on record: as one that was learned, or as that of the
-/// last vote. Nothing goes on record so that may not follow what is there.
+/// After a call that keeps what is known at an instance, nothing is left to keep there. The value is on
+/// record: a value is learned there, or the last vote is for it. The entry that goes on record may follow
+/// what is there.
 pub fn known_values_are_kept()
     ensures none { KeepLeavesNone }
     ensures on_record { KnownIsOnRecord }

@@ -9,7 +9,7 @@ use site_disk::Disk;
 use site_ids::{Instance, Value};
 use std::alloc::AllocError;
 
-/// The value, by the bytes that a slot has of it where its vote is for that value, so that both are kept once.
+/// The value. If the slot's vote is for it, these are the slot's bytes, so that they are kept once.
 fn kept_by<'a>(slot: &'a Slot, value: &'a Value) -> &'a Value
     ensures { result.now ≡ value.now }
 {
@@ -25,7 +25,8 @@ impl<D: Disk> Node<D> {
     ghost use Rattle.node.specs.Effects.{learned};
     ghost use Rattle.node.specs.Standing.{HasParts, KeepsOthers};
 
-    /// Makes a value known where none is. Its votes and its attempt have served, and what is pending with its ticket.
+    /// Makes a value known at an instance that has none. Its votes and its attempt, and pending values with
+    /// its ticket, are dropped.
     pub(crate) fn learn(&mut self, instance: Instance, value: &Value) -> Result<(), AllocError>
         requires unknown { value_at self.old.known.log instance ≡ None }
         ensures learned { OnOk result ((s : AbstractNode) → HasParts self.old s → HasParts self.new (learned s instance value.now)) }
@@ -43,7 +44,8 @@ impl<D: Disk> Node<D> {
         Ok(())
     }
 
-    /// A copy of the value, by the bytes that what was learned on record or the slot has of it, where that is this value.
+    /// A copy of the value. If the value is learned on record or is that of the slot's vote, the copy shares
+    /// those bytes.
     fn shared_copy(&self, instance: Instance, value: &Value) -> Result<Value, AllocError>
         ensures { IfOk result (λ copy. copy ≡ value.now) }
     {

@@ -41,11 +41,12 @@ use proposer::MAX_ATTEMPTS;
 pub use submitted::Submitted;
 pub use to::{Outbox, To};
 
-/// Attempts stand at so many instances, from the first unknown one on.
+/// A node has attempts at no more than 64 instances, from the first unknown one on.
 pub(crate) const WINDOW: u32 = MAX_ATTEMPTS as u32;
 
-/// A telling is of so many instances.
+/// A telling is about 64 instances.
 pub const MAX_TOLD: u32 = 64;
 
-/// Its values have so many bytes in all at most: those of a few nodes that tell as one fit into the buffer of a socket.
+/// The values of a telling have at most 65,536 bytes in all: the tellings of a few nodes at once fit into the
+/// buffer of a socket.
 pub const MAX_TOLD_BYTES: usize = 65_536;

@@ -1,6 +1,6 @@
-//! What a node says, and to whom.
+//! The messages of a node, and to whom they go.
 //!
-//! Messages' ranges are a premise of a handler's clause, not a condition.
+//! That a message is in range is a premise of a handler's clause, not a condition of the call.
 
 ghost use Rattle.std.specs.Prelude.{◌≡◌};
 
@@ -8,7 +8,7 @@ use crate::To;
 use site_ids::{Ballot, Instance, NodeId, Value, Vote};
 use wire::Message;
 
-/// A promise goes to the node of the ballot asked.
+/// A promise goes to the node of the ballot in question.
 pub(crate) fn promise(
     from: NodeId,
     instance: Instance,
@@ -28,7 +28,7 @@ pub(crate) fn promise(
     )
 }
 
-/// So does a refusal.
+/// A refusal goes there too.
 pub(crate) fn nack(
     from: NodeId,
     instance: Instance,
@@ -48,7 +48,7 @@ pub(crate) fn nack(
     )
 }
 
-/// A vote goes to all.
+/// A vote goes to all nodes.
 pub(crate) fn accepted(
     from: NodeId,
     instance: Instance,

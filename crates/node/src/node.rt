@@ -1,6 +1,6 @@
 //! What a running node keeps.
 //!
-//! The record's mark of a stop is the one truth.
+//! Whether the node is stopped is marked in its record only.
 
 ghost use Rattle.std.specs.Prelude.{◌≡◌, ◌≢◌, ◌<◌, ◌⊎◌, ◌↔◌, ◌^◌, ◌-◌, [], List, Option, IsTrue, IfOk, IfErr, length, true};
 ghost use Rattle.site_disk.specs.Model.{DiskState, after_sync};
@@ -30,7 +30,7 @@ pub struct Node<D> {
     pub(crate) learner: Learner,
     pub(crate) known: Known,
     pub(crate) queue: Queue,
-    /// The greatest instance that a delivery counted for wanting a tick, or 0.
+    /// The greatest instance of the delivered messages that count towards wanting a tick, or 0.
     pub(crate) reached: u32,
     pub(crate) releases: Releases,
     ghost of_cluster: { IsNode cluster me },
@@ -42,7 +42,7 @@ pub struct Node<D> {
 }
 
 impl<D: Drop> Drop for Node<D> {
-    // Whoever lets go of it proves one step: what lies in it is proved to be let go of here alone.
+    // Whoever drops it proves one step: only here it is proved that its parts can be dropped.
     fn drop(self) {
         let Node {
             alloc: _,
@@ -64,8 +64,8 @@ impl<D: Disk> Node<D> {
     ghost use Rattle.node.specs.Nodes.{Value as Bytes};
     ghost use Rattle.node.specs.Standing.{IsNodeOf, IsOnDisk, OpensAs};
 
-    /// Opens the record of a node of a cluster, with nothing known, attempted, pending or heard. A refusal gives the
-    /// disk back.
+    /// Opens the record of a node of a cluster. Nothing is known, attempted, pending or heard. A refusal
+    /// gives the disk back.
     pub fn open(
         alloc: Global,
         cluster: Cluster,
@@ -99,14 +99,14 @@ impl<D: Disk> Node<D> {
         }
     }
 
-    /// Whose messages it takes.
+    /// The cluster whose messages it handles.
     pub fn cluster(&self) -> Cluster
         ensures { result ≡ self.now.cluster }
     {
         self.cluster
     }
 
-    /// Whether an accident had cut its record short, as it was opened (`Record::is_cut_short`).
+    /// Whether an accident had cut its record short when it was opened (`Record::is_cut_short`).
     pub fn is_cut_short(&self) -> bool
         ensures { result ≡ self.now.store.cut_short }
     {
@@ -127,7 +127,8 @@ impl<D: Disk> Node<D> {
         self.known.log.prefix().len() as u32
     }
 
-    /// The furthest instance that messages delivered since it was opened were of, questions and refusals aside; 0 before the first.
+    /// The greatest instance of the messages delivered since the node was opened, except questions and
+    /// refusals; 0 before the first.
     pub fn reached(&self) -> u32
         ensures { (s : AbstractNode) → IsNodeOf self.now s → result ≡ s.reached }
     {
@@ -141,7 +142,7 @@ impl<D: Disk> Node<D> {
         !self.queue.is_empty()
     }
 
-    /// A value is pending, or a delivery counted the first unknown instance or one past it.
+    /// Whether a value is pending, or a delivered message counted the first unknown instance or a later one.
     pub fn wants_tick(&self) -> bool
         ensures { (s : AbstractNode) → IsNodeOf self.now s → IsTrue result ↔ WantsTick s }
     {
@@ -184,7 +185,7 @@ impl<D: Armed> Node<D> {
     ghost use Rattle.node.specs.Nodes.{Node as AbstractNode};
     ghost use Rattle.node.specs.Standing.{IsNodeOf, IsOnDisk, KeepsOthers};
 
-    /// Hands the arming on to the disk.
+    /// Passes the arming on to the disk.
     pub fn arm(&mut self, calls: u32)
         ensures same { (s : AbstractNode) → IsNodeOf self.old s → IsNodeOf self.new (record s { armed = true }) }
         ensures on_disk { (s : AbstractNode) (d : DiskState) → IsOnDisk D.Disk.stands_for self.old s d → IsOnDisk D.Disk.stands_for self.new (record s { armed = true }) d }

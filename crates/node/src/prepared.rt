@@ -27,7 +27,8 @@ fn copy_of(vote: &Option<Vote>) -> Result<Option<Vote>, AllocError>
     }
 }
 
-/// Puts the promise of a span that raises one of its instances at least. That of one instance is an entry of its own kind.
+/// Puts the promise of a span on record. The promise raises at least one of its instances. A span of one
+/// instance has an entry of its own kind.
 fn put_promises<D: Disk>(
     store: &mut Record<D>,
     first: Instance,
@@ -45,7 +46,7 @@ fn put_promises<D: Disk>(
     store.put_promise_span(first, count, ballot)
 }
 
-/// What a prepare of a span comes to.
+/// The judgement of a prepare of a span.
 #[derive(Drop)]
 pub(crate) struct Judgement {
     /// Whether a promise rises.
@@ -59,9 +60,9 @@ impl<D: Disk> Node<D> {
     ghost use Rattle.node.specs.Standing.{IsEvent, OnlyGrows, KeepsOthers, CountsDevice, ending_of};
     ghost use Rattle.node.specs.Judgements.{IsJudgement, JudgesMore, IsOwed};
 
-    /// A promise is on record before it is handed out: that of a span as one entry, whole, also where few of its
-    /// instances rise. The answers are made before, so nothing is left to refuse behind the put. A node that is mute at
-    /// the first instance answers at none of the span.
+    /// A promise is on record before it is handed out. The promise of a span is one entry for the whole span,
+    /// even if few of its instances rise. The answers are made first, so nothing can be refused after the
+    /// put. A node that is mute at the first instance answers at no instance of the span.
     pub(crate) fn on_prepare(
         &mut self,
         first: Instance,
@@ -95,7 +96,8 @@ impl<D: Disk> Node<D> {
         Ok(())
     }
 
-    /// Judges each instance of a span. Nothing changes. Memory is wanted only where an instance is owed an answer.
+    /// Judges each instance of a span, and changes nothing. An allocation can fail only if some instance is
+    /// owed an answer.
     fn judge_span(
         &self,
         first: Instance,
@@ -121,7 +123,7 @@ impl<D: Disk> Node<D> {
         Ok(judgement)
     }
 
-    /// Judges one instance more. A silent one takes no memory.
+    /// Judges one instance more. One that is owed no answer needs no memory.
     fn judge(
         &self,
         at: Instance,

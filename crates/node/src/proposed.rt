@@ -16,7 +16,7 @@ impl<D: Disk> Node<D> {
     ghost use Rattle.node.specs.Calls.{deliver};
     ghost use Rattle.node.specs.Standing.{IsEvent, OnlyGrows, KeepsOthers, CountsDevice, ending_of};
 
-    /// A vote is on record before it is handed out. A node that is mute there casts none.
+    /// A vote is on record before it is handed out. A node that is mute at the instance casts none.
     pub(crate) fn on_propose(
         &mut self,
         instance: Instance,

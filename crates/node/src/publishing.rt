@@ -26,7 +26,7 @@ fn ticket_of(read: &Option<ReadValue>) -> Option<Ticket> {
     }
 }
 
-// Takes a ticket out of a set, where the releases have it.
+// Takes a ticket out of a set if the releases have it.
 fn drop_published(tickets: &mut BTreeSet<Ticket>, releases: &Releases, ticket: Option<Ticket>)
     ensures { AreHeldWith tickets.old tickets.new releases.now }
 {
@@ -38,7 +38,8 @@ fn drop_published(tickets: &mut BTreeSet<Ticket>, releases: &Releases, ticket: O
     }
 }
 
-// Feeds those of the values that were not fed yet, one after the other, with what was read of them. The releases have the tickets that are taken out.
+// Feeds those of the values that were not fed yet, in order, each with what was read of it. The tickets that
+// are taken out are those that the releases have.
 fn feed(
     values: &[Value],
     unpublished: &mut BTreeMap<u32, ReadValue>,
@@ -65,8 +66,8 @@ impl<D: Disk> Node<D> {
     ghost use Rattle.node.specs.Nodes.{Node as AbstractNode, IsKnownPrefix};
     ghost use Rattle.node.specs.Standing.{IsNodeOf, IsOnDisk};
 
-    /// Publishes all that is known without a gap, and gives the number of the newest release. Where memory is short a
-    /// part is published.
+    /// Publishes all that is known without a gap, and returns the number of the newest release. If an
+    /// allocation fails, a part is published.
     pub fn publish(&mut self) -> Result<u64, NodeFault>
         ensures same { (s : AbstractNode) → IsNodeOf self.old s → IsNodeOf self.new s }
         ensures on_disk { (s : AbstractNode) (d : DiskState) → IsOnDisk D.stands_for self.old s d → IsOnDisk D.stands_for self.new s d }
@@ -87,7 +88,7 @@ impl<D: Disk> Node<D> {
         Ok(self.releases.newest())
     }
 
-    /// The number of the newest release published; 0 where there is none.
+    /// The number of the newest release published; 0 if there is none.
     pub fn newest(&self) -> u64
         ensures { result ≡ release_count (effective self.now.releases) }
     {

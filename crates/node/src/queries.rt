@@ -1,6 +1,6 @@
-//! What a node tells of its record and its attempts.
+//! What a node reports of its record and its attempts.
 //!
-//! `next_ballot` stands for the next round, as promises are compared with ballots.
+//! `next_ballot` gives the next round as a ballot, as promises are compared with ballots.
 
 ghost use Rattle.std.specs.Prelude.{◌≡◌, ◌↔◌, ◌<◌, ℕ, max, List, length, IsSome, IsTrue, MatchOption};
 ghost use Rattle.site_ids.specs.declared.TheConstants.{MAX_ROUND};
@@ -21,7 +21,7 @@ impl<D: Disk> Node<D> {
     ghost use Rattle.node.specs.Standing.{IsNodeOf};
     ghost use Rattle.node.specs.Beginning.{next_of};
 
-    /// The slot of an instance, an empty one where none stands.
+    /// The slot of an instance; an empty one if the record has nothing there.
     pub fn slot(&self, instance: Instance) -> &Slot
         ensures { (s : AbstractNode) → IsNodeOf self.now s → IsSlot s.entries instance result.now }
     {
@@ -35,28 +35,29 @@ impl<D: Disk> Node<D> {
         self.store.disk()
     }
 
-    /// The greatest round that was recorded or promised, 0 where there is none.
+    /// The greatest round that was recorded or promised; 0 if there is none.
     pub fn greatest_round(&self) -> u32
         ensures { (s : AbstractNode) → IsNodeOf self.now s → result ≡ greatest_of s.entries }
     {
         self.store.greatest_round()
     }
 
-    /// The floor of its record, up to which it is mute; 0 where that took no lost one's place.
+    /// The floor of its record, up to which it is mute; 0 if the record did not take the place of a lost one.
     pub fn floor(&self) -> u32
         ensures { (s : AbstractNode) → IsNodeOf self.now s → result ≡ floor_of s.entries }
     {
         self.store.floor()
     }
 
-    /// How far its record reaches: the greatest instance of a vote, or the floor where that is greater; 0 where there are neither.
+    /// How far its record reaches: the greatest instance of a vote, or the floor if that is greater; 0 if it
+    /// has neither.
     pub fn reach(&self) -> u32
         ensures { (s : AbstractNode) → IsNodeOf self.now s → result ≡ reach_of s.entries }
     {
         self.store.reach()
     }
 
-    /// Whether it is mute at the instance, which is no higher than its floor then.
+    /// Whether it is mute at the instance, that is, whether its floor is at or above the instance.
     pub fn is_mute(&self, instance: Instance) -> bool
         ensures { (s : AbstractNode) → IsNodeOf self.now s → IsTrue result ↔ IsMute s instance }
     {
@@ -73,14 +74,14 @@ impl<D: Disk> Node<D> {
         }
     }
 
-    /// The ballot that the next attempt takes, None where rounds are used up.
+    /// The ballot of the next attempt, `None` if the rounds are used up.
     pub fn next_ballot(&self) -> Option<Ballot>
         ensures { (s : AbstractNode) → IsNodeOf self.now s → MatchOption result (¬ HasRound s) (λ b. (b ≡ fresh_ballot self.now.me s) × HasRound s) }
     {
         self.own_ballot()
     }
 
-    /// The same, in words of what is kept.
+    /// The same, said of what the code keeps.
     pub(crate) fn own_ballot(&self) -> Option<Ballot>
         ensures { MatchOption result (max self.now.store.recorded.round self.now.proposer.heard ≡ MAX_ROUND) (λ b. (b ≡ next_of self.now) × (max self.now.store.recorded.round self.now.proposer.heard < MAX_ROUND)) }
     {
@@ -104,14 +105,15 @@ impl<D: Disk> Node<D> {
         self.proposer.attempts()
     }
 
-    /// An attempt is open at the instance.
+    /// Whether an attempt is open at the instance.
     fn tries_at(&self, instance: Instance) -> bool
         ensures { (s : AbstractNode) → IsNodeOf self.now s → IsTrue result ↔ IsSome (s.attempts instance) }
     {
         self.proposer.own_value(instance).is_some()
     }
 
-    /// How many attempts are open but that at the first unknown instance: so many messages a tick sends again, 63 at most.
+    /// How many attempts are open, except the one at the first unknown instance: a tick sends this many
+    /// messages again, 63 at most.
     pub fn tried_elsewhere(&self, first: Instance) -> u8
         ensures { (s : AbstractNode) (elsewhere : List (ℕ × Attempt)) → IsNodeOf self.now s → IsFirstUnknown s.known first → AreOpenElsewhere s first elsewhere → result ≡ length elsewhere }
     {

@@ -32,7 +32,7 @@ impl Model for ReadValue {
 }
 
 impl ReadValue {
-    /// A value that is a command, read; none of any other.
+    /// Reads a value that is a command. Any other value gives `None`.
     pub(crate) fn read(alloc: Global, value: &Value) -> Result<Option<ReadValue>, AllocError>
         ensures { IfOk result (λ read. MatchOption read (ticket_in value.now ≡ None) (λ r. r ≡ value.now)) }
     {
@@ -70,7 +70,7 @@ impl ReadValue {
     }
 }
 
-/// Feeds a value, without reading it again where it was read.
+/// Feeds a value. It is not read again if it was read before.
 pub(crate) fn feed_value(
     value: &Value,
     read: Option<ReadValue>,

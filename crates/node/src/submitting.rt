@@ -25,7 +25,7 @@ impl<D: Disk> Node<D> {
     ghost use Rattle.node.specs.Tickets.{HoldsTicket};
     ghost use Rattle.node.specs.Standing.{IsNodeOf, IsEvent, KeepsOthers, ending_of};
 
-    /// Takes a command to be proposed, unless its ticket is pending or known.
+    /// Queues a command to be proposed, unless its ticket is pending or known.
     pub fn submit(&mut self, value: &Value) -> Result<Submitted, NodeFault>
         ensures event { IsEvent D.stands_for self.old self.new (submission value.now) (ending_of result) [] [] }
         ensures answered { IfOk result (λ answer. (s : AbstractNode) → IsNodeOf self.old s → IsAnswered s value.now answer) }
@@ -47,7 +47,7 @@ impl<D: Disk> Node<D> {
         Ok(Submitted::Queued)
     }
 
-    /// A value with that ticket is pending or known.
+    /// Whether a pending or known value has that ticket.
     fn holds(&self, ticket: Ticket) -> bool
         ensures { (s : AbstractNode) → IsNodeOf self.now s → IsTrue result ↔ HoldsTicket s ticket }
     {

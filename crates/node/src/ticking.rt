@@ -1,4 +1,5 @@
-//! A tick: a fresh attempt at the first unknown instance, and the other attempts' messages once more. Where the node is mute there it asks instead.
+//! A tick: a fresh attempt at the first unknown instance, and the other attempts' messages once more. If the
+//! node is mute there, it asks instead.
 //!
 //! A tick asks for a round that is left, so effect and RoundsUsedUp exclude each other; resent prepares are of one instance.
 
@@ -14,9 +15,10 @@ impl<D: Disk> Node<D> {
     ghost use Rattle.node.specs.Calls.{tick as ticking};
     ghost use Rattle.node.specs.Standing.{IsNodeOf, IsEvent, OnlyGrows, KeepsOthers, CountsDevice, ending_of};
 
-    /// A fresh round goes on record, and an attempt at the first unknown instance begins with it, for the oldest value
-    /// that is pending. The latest messages of the other attempts are sent again behind its prepare, by instance. A node
-    /// that only learns asks for the first unknown instance instead: it takes no round.
+    /// A fresh round goes on record. With it an attempt begins at the first unknown instance, for the oldest
+    /// pending value. After its prepare the latest messages of the other attempts are sent again, in the
+    /// order of their instances. A node that only learns asks for the first unknown instance instead, and
+    /// uses no round.
     pub fn tick(&mut self, outbox: &mut Outbox) -> Result<(), NodeFault>
         ensures event { IsEvent D.stands_for self.old self.new ticking (ending_of result) outbox.old.items outbox.new.items }
         ensures counts { CountsDevice result (D.failed self.old.store.disk) (D.failed self.new.store.disk) }

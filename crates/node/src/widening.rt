@@ -1,6 +1,7 @@
-//! A widening: fresh attempts at the least free instance and on.
+//! A widening: fresh attempts from the least free instance on.
 //!
-//! Whether an attempt has a value is looked up among 64; a set would want memory. Each widening takes a round, which bounds a drive.
+//! Whether an attempt has a value is looked up among 64 attempts; a set would have to allocate. Each widening
+//! uses up a round, which bounds a drive.
 
 ghost use Rattle.std.specs.Prelude.{◌≡◌, ◌↔◌, ◌+◌, ◌<◌, ◌≤◌, ℕ, List, Option, None, Some, IfOk, IfErr, IfSome, OnOk, IsTrue, MatchOption, length, false};
 ghost use Rattle.site_ids.specs.Spans.{IsSpan};
@@ -21,9 +22,10 @@ impl<D: Disk> Node<D> {
     ghost use Rattle.node.specs.Widening.{IsFreeRun, IsOldestUntried, AreOldest, PushesUntried};
     ghost use Rattle.node.specs.Standing.{IsNodeOf, IsEvent, TakesRound, OnlyGrows, KeepsOthers, CountsDevice, ending_of};
 
-    /// A fresh round goes on record, and attempts at the least free instance and on begin with it, as long as the next
-    /// one is free and in reach, for the oldest values that are pending and that no attempt has as its own. One prepare
-    /// for all of them goes out. Without such an instance or value it answers false, and nothing happens.
+    /// A fresh round goes on record. With it attempts begin from the least free instance on, as long as the
+    /// next instance is free and in reach. They are for the oldest pending values that no attempt has as its
+    /// own. One prepare for all of them goes out. If there is no such instance or no such value, it returns
+    /// false, and nothing happens.
     pub fn widen(&mut self, outbox: &mut Outbox) -> Result<bool, NodeFault>
         ensures event { IsEvent D.stands_for self.old self.new widening (ending_of result) outbox.old.items outbox.new.items }
         ensures widened { IfOk result (λ widened. (s : AbstractNode) → IsNodeOf self.old s → IsTrue widened ↔ MayWiden s) }
@@ -90,7 +92,7 @@ impl<D: Disk> Node<D> {
         None
     }
 
-    /// How many instances are free one behind the other, from a free one on, up to the window's end.
+    /// How many instances from a free one on are free, without a gap, up to the window's end.
     fn free_run(&self, first: Instance, instance: Instance) -> usize
         requires near { (first ≤ instance) × (instance < first + MAX_ATTEMPTS) }
         ensures free { (s : AbstractNode) → IsNodeOf self.now s → IsFirstUnknown s.known first → IsNextFree s instance → IsFreeRun s first instance result }
@@ -110,7 +112,7 @@ impl<D: Disk> Node<D> {
         (next - instance.number()) as usize
     }
 
-    /// It is unknown, and has no attempt.
+    /// Whether the instance is unknown and has no attempt.
     fn is_free(&self, instance: Instance) -> bool
         ensures { (s : AbstractNode) → IsNodeOf self.now s → IsTrue result ↔ (IsUnknown s instance × (s.attempts instance ≡ None)) }
     {
@@ -139,8 +141,8 @@ impl<D: Disk> Node<D> {
         None
     }
 
-    /// Copies of the values that no attempt has as its own, from the oldest on, which stands here in the queue: all of
-    /// them, or so many.
+    /// Copies of the values that no attempt has as its own, from the oldest on, which is at this place of the
+    /// queue: all of them, or as many as `most`.
     fn untried(&self, oldest: usize, most: usize) -> Result<Vec<Value>, AllocError>
         requires within { oldest < length self.now.queue.items.items }
         requires some { 1 ≤ most }
@@ -164,7 +166,7 @@ impl<D: Disk> Node<D> {
         Ok(values)
     }
 
-    /// A copy of the value behind what is there, unless an attempt has it as its own.
+    /// Puts a copy of the value after what is there, unless an attempt has it as its own.
     fn push_untried(&self, value: &Value, values: &mut Vec<Value>) -> Result<(), AllocError>
         ensures pushes { OnOk result ((attempts : ℕ → Option Attempt) → Attempting self.now.proposer attempts → PushesUntried attempts value.now values.old.items values.new.items) }
         ensures few { OnOk result ((length values.old.items ≤ length values.new.items) × (length values.new.items ≤ length values.old.items + 1)) }

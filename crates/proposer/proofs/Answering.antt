@@ -67,7 +67,7 @@ stands_after n old new a q prior proposal h is first c made = record {
   proposal = made;
 }
 
--- the answer counts, where the tests pass
+-- the answer counts if the tests pass
 pub counts : (n : ℕ) (old : OpenAttempt) (a : Attempt) (q : ℕ) (b : BallotOf) → StandsFor n old a → b ≡ old.ballot → old.proposed ≡ false → ¬ In old.promised.items q → Counts a q b
 counts n old a q b h at open_yet first = (
   sym (at ∙ h.ballot),

@@ -1,4 +1,4 @@
--- The highest vote told is kept along with the answers, and suffices for the choice.
+-- The highest vote reported is kept along with the answers, and suffices for the choice.
 use Rattle.std.proofs.Common.{◌≡◌, ◌⊎◌, inl, inr, ℕ, Option, Some, None, List, [], ◌∷◌, ◌++◌, sym, ap, subst, ◌∙◌, ⊎_elim, arith}
 use Rattle.site_ids.specs.Ids.{BallotOf, Below, NotAbove}
 use Rattle.site_ids.specs.Lists.{In}
@@ -25,7 +25,7 @@ no_vote w e = cc
 same_vote : (v u : Vote) → Some v ≡ Some u → v ≡ u
 same_vote v u e = cc
 
--- the choice needs the best vote alone
+-- the choice needs only the best vote
 pub best_chooses : (own : List ℕ) (answers : List Answer) (best : Option Vote) → IsBest answers best → Chooses own answers (value_by own best)
 best_chooses own answers None h = inl (h, λ _. own)
 best_chooses own answers (Some best) h = inr (h.0.0, best.ballot, h.0.1, h.0.2, h.1)
@@ -39,7 +39,7 @@ exceeds_or_not (Some vote) (Some best) = ⊎_elim (λ h. inl h) (λ low. inr (λ
     apart : (a b : BallotOf) → Below a b → NotAbove b a → ⊥
     apart a b h k = grind arith
 
--- an answer that tells no vote above the best one leaves it
+-- an answer that reports no vote above the best one leaves it
 pub best_kept : (answers : List Answer) (q : ℕ) (prior best : Option Vote) → ¬ Exceeds prior best → IsBest answers best → IsBest (answers ++ answer q prior ∷ []) best
 best_kept answers q None None below h = λ x k. ⊎_elim (h x) (λ e. ap (λ (a : Answer). a.prior) (sym e)) (in_push answers (answer q None) x k)
 best_kept answers q (Some vote) None below h = absurd (below tt)
@@ -53,7 +53,7 @@ best_kept answers q prior (Some best) below h = (
     under (Some vote) w below e =
         ⊎_elim (λ h. absurd (below h)) (λ low. subst (λ (z : Vote). NotAbove z.ballot best.ballot) (same_vote vote w e) low) (below_or_not best.ballot vote.ballot)
 
--- a vote told that no other exceeds is the best
+-- a reported vote that no other exceeds is the best
 highest : (answers : List Answer) (q : ℕ) (vote : Vote) → ((y : Answer) (w : Vote) → In answers y → y.prior ≡ Some w → NotAbove w.ballot vote.ballot) → IsBest (answers ++ answer q (Some vote) ∷ []) (Some vote)
 highest answers q vote under = (
   (answer q (Some vote), in_last answers (answer q (Some vote)), λ _. Some vote),
@@ -62,7 +62,7 @@ highest answers q vote under = (
       (in_push answers (answer q (Some vote)) y k),
 )
 
--- one that tells a vote above the best one takes its place
+-- one that reports a vote above the best one takes its place
 pub best_taken : (answers : List Answer) (q : ℕ) (prior best : Option Vote) → Exceeds prior best → IsBest answers best → IsBest (answers ++ answer q prior ∷ []) prior
 best_taken answers q None best above h = absurd above
 best_taken answers q (Some vote) None above h = highest answers q vote (λ y w k e. absurd (no_vote w (sym (h y k) ∙ e)))

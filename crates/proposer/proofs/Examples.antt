@@ -13,7 +13,7 @@ at round node = record { round = round; node = node }
 abbrev told : ℕ → ℕ → ℕ → Option Vote
 told round node byte = Some (record { ballot = at round node; value = byte ∷ [] })
 
--- node 2 told the vote P of (1, 2), and node 4 the vote Q of (2, 3)
+-- node 2 reported the vote P of (1, 2), and node 4 the vote Q of (2, 3)
 abbrev answers : List Answer
 answers = record { sender = 2; prior = told 1 2 80 } ∷ record { sender = 4; prior = told 2 3 81 } ∷ []
 
@@ -27,14 +27,14 @@ two_answers = record { ballot = at 3 1; own = 88 ∷ []; answers = answers; prop
 abbrev attempts : ℕ → Option Attempt
 attempts i = Some two_answers
 
--- a second promise of node 2 changes nothing, whatever it tells
+-- a second promise of node 2 changes nothing, whatever it reports
 told_again : TakesPromise 5 attempts 2 7 (at 3 1) (told 2 5 82) attempts None
 told_again = inl (λ a e c. c.2 (subst (λ (x : Attempt). In (senders x.answers) 2) (inside two_answers a e) (inl refl)), refl)
   where
     inside : (a b : Attempt) → Some a ≡ Some b → a ≡ b
     inside a b e = cc
 
--- a promise of node 1, which has no vote, makes three of five: the value is that of the highest vote told
+-- a promise of node 1, which has no vote, makes three of five: the value is that of the highest vote reported
 third_proposes : TakesPromise 5 attempts 1 7 (at 3 1) None (put_at attempts 7 (Some (proposing two_answers 1 None (81 ∷ [])))) (Some (81 ∷ []))
 third_proposes = (
   two_answers,

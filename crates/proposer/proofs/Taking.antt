@@ -38,7 +38,7 @@ none_at n None None h e = λ _. None
 none_at n None (Some a) h e = absurd h
 none_at n (Some k) attempt h e = absurd (cc)
 
--- the one is there where the other is
+-- the one is there if the other is
 pub both_there : (n : ℕ) (kept : Option OpenAttempt) (attempt : Option Attempt) → StandsForAny n kept attempt → IsSome kept ↔ IsSome attempt
 both_there n None None h = (λ some. some, λ some. some)
 both_there n None (Some a) h = absurd h

@@ -1,4 +1,4 @@
--- The highest vote told.
+-- The highest vote reported.
 use Rattle.std.specs.Prelude.{◌≡◌, ℕ, List, Option, Some, None, ⊤}
 use Rattle.std.proofs.Common.{Bor}
 use Rattle.std.specs.Option.{option_map}
@@ -7,28 +7,28 @@ use Rattle.site_ids.specs.Lists.{In}
 use Rattle.site_ids.specs.declared.value.Vote.{Vote}
 use Rattle.proposer.specs.Attempts.{Answer, ToldNone}
 
--- it is one that was told and that none told exceeds, or none was told
+-- the vote was reported, and none that was reported is higher; or none was reported
 abbrev pub IsBest : List Answer → Option Vote → Type 0
 IsBest answers None = ToldNone answers
 IsBest answers (Some best) =
     ((x : Answer) × In answers x × (x.prior ≡ Some best)) × ((y : Answer) (w : Vote) → In answers y → y.prior ≡ Some w → NotAbove w.ballot best.ballot)
 
--- a vote told takes the place of the best one
+-- a reported vote takes the place of the best one if it is higher, or if there is none yet
 abbrev pub Exceeds : Option Vote → Option Vote → Type 0
 Exceeds None best = ⊥
 Exceeds (Some vote) None = ⊤
 Exceeds (Some vote) (Some best) = Below best.ballot vote.ballot
 
--- the value of the best vote, or one's own
+-- the value of the best vote, or the attempt's own if there is none
 abbrev pub value_by : List ℕ → Option Vote → List ℕ
 value_by own None = own
 value_by own (Some best) = best.value
 
--- a vote in the place of another, where there is one
+-- the vote, if there is one, takes the place of the best one
 abbrev pub replacing : Option Vote → Option Vote → Option Vote
 replacing None best = best
 replacing (Some vote) best = Some vote
 
--- the vote that a promise told
+-- the vote that a promise reported
 abbrev pub vote_told : Option (Bor Vote) → Option Vote
 vote_told prior = option_map (λ vote. vote.now) prior

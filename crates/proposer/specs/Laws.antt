@@ -4,7 +4,7 @@ use Rattle.site_ids.specs.Ids.{BallotOf}
 use Rattle.site_ids.specs.declared.value.Vote.{Vote}
 use Rattle.proposer.specs.Attempts.{Attempt, TakesPromise}
 
--- by whichever promise an attempt has proposed, no further promise of any ballot makes it propose again
+-- after an attempt has proposed, no further promise makes it propose again, whatever its ballot
 abbrev pub ProposesOnce : Type 0
 ProposesOnce = (n q r i : ℕ) (b c : BallotOf) (prior other : Option Vote) (attempts after later : ℕ → Option Attempt) (v u : List ℕ)
     → TakesPromise n attempts q i b prior after (Some v) → ¬ TakesPromise n after r i c other later (Some u)

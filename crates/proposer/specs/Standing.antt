@@ -1,4 +1,4 @@
--- Which attempts a proposer stands for: it keeps of the answers their senders and the best vote told.
+-- Which attempts a proposer stands for. Of the answers it keeps who sent them, and the best vote reported.
 use Rattle.std.specs.Prelude.{◌≡◌, ◌⊎◌, ℕ, List, Option, Some, None, Result, Ok, Err, ⊤, IsSome, unwrap_or, if◌then◌else◌}
 use Rattle.std.specs.BTreeMap.{BTreeMap, get}
 use Rattle.std.specs.Ordering.{nat_cmp}
@@ -25,7 +25,7 @@ pub record StandsFor (n : ℕ) (kept : OpenAttempt) (a : Attempt) : Type 0 where
   pub best : IsBest a.answers kept.best
   pub proposal : a.proposal ≡ (if kept.proposed then Some (value_by kept.own kept.best) else None)
 
--- both are there, and the one stands for the other, or neither is
+-- both are there, and the one stands for the other; or neither is there
 abbrev pub StandsForAny : ℕ → Option OpenAttempt → Option Attempt → Type 0
 StandsForAny n None None = ⊤
 StandsForAny n None (Some a) = ⊥
@@ -44,8 +44,8 @@ HasRoom proposer i = IsSome (get nat_cmp proposer.attempts i)
 abbrev pub Attempting : Proposer → (ℕ → Option Attempt) → Type 0
 Attempting proposer attempts = (i : ℕ) → StandsForAny proposer.cluster (attempt_at proposer.attempts i) (attempts i)
 
--- what an attempt's answer to a promise is: none where it doesn't count or leaves it waiting, the value that it proposes by it,
--- or want of memory, which changes nothing
+-- what an attempt answers to a promise: nothing if the promise does not count or leaves it waiting, the value
+-- that it proposes after it, or that an allocation failed, which changes nothing
 abbrev pub Answered : ℕ → Attempt → ℕ → BallotOf → Option Vote → Result (Option (List ℕ)) AllocError → OpenAttempt → Type 0
 Answered n a q b prior (Ok None) kept =
     (¬ Counts a q b × StandsFor n kept a) ⊎ (Counts a q b × ¬ Majority n (senders (with_answer a q prior)) × StandsFor n kept (waiting a q prior))
@@ -53,7 +53,8 @@ Answered n a q b prior (Ok (Some v)) kept =
     Counts a q b × Majority n (senders (with_answer a q prior)) × Chooses a.own (with_answer a q prior) v × StandsFor n kept (proposing a q prior v)
 Answered n a q b prior (Err e) kept = StandsFor n kept a
 
--- a promise is taken as the step has it, and what is proposed is handed out, or memory is wanted and the attempts stay
+-- the promise is handled as the step says, and what is proposed is handed out; or an allocation fails, and
+-- the attempts stay as they are
 abbrev pub Promised : ℕ → (ℕ → Option Attempt) → ℕ → ℕ → BallotOf → Option Vote → Result (Option Proposal) ProposerFault → Proposer → Type 0
 Promised n attempts q i b prior (Ok None) new = (after : ℕ → Option Attempt) × TakesPromise n attempts q i b prior after None × Attempting new after
 Promised n attempts q i b prior (Ok (Some proposal)) new =

@@ -1,7 +1,7 @@
 use std::alloc::AllocError;
 use thiserror::Error;
 
-/// Why a proposer gave no ballot, or took no promise.
+/// Why a proposer returned no ballot, or did not count a promise.
 #[derive(Clone, Copy, Debug, Drop, PartialEq, Eq, Error)]
 pub enum ProposerFault {
     #[error("out of memory")]

@@ -1,6 +1,7 @@
 //! One attempt, and the promises of its ballot.
 //!
-//! After its proposal an attempt counts no answer, so counting and proposing once are one condition.
+//! After its proposal an attempt counts no answer. So "it counts" and "it has not proposed" are one
+//! condition.
 
 ghost use Rattle.std.specs.Prelude.{◌≡◌, ◌↔◌, ◌<◌, ◌++◌, [], ◌∷◌, IfOk, IsTrue, None, Some, vec_len, vec_capacity};
 ghost use Rattle.site_ids.specs.Ids.{IsNode};
@@ -12,11 +13,11 @@ ghost use Rattle.proposer.specs.Standing.{StandsFor, Answered};
 use site_ids::{Ballot, Cluster, NodeId, Value, Vote};
 use std::alloc::AllocError;
 
-/// An open attempt. Of the votes told it keeps the one of the highest ballot.
+/// An open attempt. Of the votes reported it keeps the one of the highest ballot.
 #[derive(Drop)]
 pub(crate) struct OpenAttempt {
     pub(crate) ballot: Ballot,
-    /// The value to propose where no vote is told.
+    /// The value to propose if no vote is reported.
     pub(crate) own: Value,
     /// The nodes whose promises count.
     pub(crate) promised: Vec<NodeId>,
@@ -26,7 +27,7 @@ pub(crate) struct OpenAttempt {
 }
 
 impl OpenAttempt {
-    /// Counts a promise, and gives the value to propose where it makes a majority.
+    /// Counts a promise, and returns the value to propose if there is now a majority.
     pub(crate) fn on_promise(
         &mut self,
         cluster: Cluster,
@@ -52,7 +53,7 @@ impl OpenAttempt {
         Ok(Some(value))
     }
 
-    /// A copy of the vote told, where its ballot is higher than those of all told before.
+    /// A copy of the reported vote, if its ballot is higher than those of all reported before.
     fn better(&self, prior: Option<&Vote>) -> Result<Option<Vote>, AllocError>
         ensures higher { IfOk result (λ better. Exceeds (vote_told prior.entry) self.now.best → better ≡ vote_told prior.entry) }
         ensures lower { IfOk result (λ better. ¬ Exceeds (vote_told prior.entry) self.now.best → better ≡ None) }
@@ -63,7 +64,8 @@ impl OpenAttempt {
         }
     }
 
-    /// The value to propose with this vote in the place of the best one, or with the best one where there is none.
+    /// The value to propose with this vote in the place of the best one, or with the best one if this is
+    /// `None`.
     fn choice(&self, better: &Option<Vote>) -> Result<Value, AllocError>
         ensures { IfOk result (λ v. v ≡ value_by self.now.own (replacing better.now self.now.best)) }
     {
@@ -79,7 +81,7 @@ impl OpenAttempt {
         self.promised.contains(&from)
     }
 
-    /// Keeps a promise for which there is room, and a vote in the place of the best one.
+    /// Keeps a promise, for which there is room, and puts a vote in the place of the best one.
     fn count(&mut self, from: NodeId, better: Option<Vote>)
         requires { vec_len self.old.promised < vec_capacity self.old.promised }
         ensures ballot { self.new.ballot ≡ self.old.ballot }
@@ -95,7 +97,7 @@ impl OpenAttempt {
     }
 }
 
-/// The value that an attempt of its own value proposes where this is the best vote told.
+/// The value that an attempt proposes: that of the best vote reported, or its own if there is none.
 pub(crate) fn proposed_value<'a>(own: &'a Value, best: &'a Option<Vote>) -> &'a Value
     ensures { result.now ≡ value_by own.now best.now }
 {

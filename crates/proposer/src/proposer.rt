@@ -1,4 +1,4 @@
-//! `make_room` and `open` are apart; a refused span hands values back.
+//! `make_room` and `open` are two functions. A refused span hands the values back.
 
 ghost use Rattle.std.specs.Prelude.{◌≡◌, ◌↔◌, ◌+◌, ◌<◌, ℕ, max, None, Some, Option, OnOk, OnErr, IfOk, IfErr, IsTrue, MatchResult, length};
 ghost use Rattle.std.specs.Option.{option_map};
@@ -18,14 +18,15 @@ use std::alloc::{AllocError, Global};
 use std::collections::BTreeMap;
 use wire::Message;
 
-// Whether both are the same. Values that wait differ in their tickets, most in the last byte of its number: that is looked at first.
+// Whether the two are the same. Pending values differ in their tickets, most of them in the last byte of the
+// number, so that byte is compared first.
 fn is_same(own: &[u8], value: &[u8]) -> bool
     ensures { IsTrue result ↔ (own.now ≡ value.now) }
 {
     own.get(TICKET_BYTES - 1) == value.get(TICKET_BYTES - 1) && own == value
 }
 
-// An attempt is there, and has the value as its own.
+// Whether an attempt is there that has the value as its own.
 fn has_own(attempt: &Option<OpenAttempt>, value: &[u8]) -> bool
     ensures { IsTrue result ↔ ((a : OpenAttempt) × (attempt.now ≡ Some a) × (a.own ≡ value.now)) }
 {
@@ -49,9 +50,9 @@ pub struct Proposer {
     alloc: Global,
     cluster: Cluster,
     me: NodeId,
-    /// The greatest round that a nack told, or 0.
+    /// The greatest round that a refusal reported, or 0.
     heard: u32,
-    /// By instance. None where room was made for one.
+    /// By instance. `None` if only room was made.
     attempts: BTreeMap<u32, Option<OpenAttempt>>,
 }
 
@@ -71,7 +72,7 @@ impl Proposer {
         }
     }
 
-    /// A ballot above the last round on record and above each round that a nack told.
+    /// A ballot above the last round on record and above each round that a refusal reported.
     pub fn next_ballot(&self, recorded: u32) -> Result<Ballot, ProposerFault>
         ensures { MatchResult result (λ b. (b ≡ record { round = max recorded self.now.heard + 1; node = self.now.me }) × (max recorded self.now.heard < MAX_ROUND)) (λ fault. (fault ≡ RoundsUsedUp) × (max recorded self.now.heard ≡ MAX_ROUND)) }
     {
@@ -85,7 +86,7 @@ impl Proposer {
         }
     }
 
-    /// Makes room for an attempt at an instance, which changes none of them.
+    /// Makes room for an attempt at an instance. The attempts stay as they are.
     pub fn make_room(&mut self, instance: Instance) -> Result<(), AllocError>
         ensures same { (self.new.cluster ≡ self.old.cluster) × (self.new.me ≡ self.old.me) × (self.new.heard ≡ self.old.heard) }
         ensures stays { (attempts : ℕ → Option Attempt) → Attempting self.old attempts → Attempting self.new attempts }
@@ -98,9 +99,9 @@ impl Proposer {
         Ok(())
     }
 
-    /// Opens an attempt where room was made, in place of one at that instance. It takes no memory. A node gives a ballot
-    /// of its own, of a round above those of all its earlier attempts, and keeps at most `MAX_ATTEMPTS` open; nothing
-    /// here rests on either.
+    /// Opens an attempt where room was made, in the place of one at that instance. It does not allocate. A
+    /// node gives it a ballot of its own, of a round above those of all its earlier attempts, and keeps at
+    /// most `MAX_ATTEMPTS` open. Nothing here depends on either.
     pub fn open(&mut self, instance: Instance, ballot: Ballot, own: Value)
         requires { HasRoom self.old instance }
         ensures same { (self.new.cluster ≡ self.old.cluster) × (self.new.me ≡ self.old.me) × (self.new.heard ≡ self.old.heard) }
@@ -117,7 +118,8 @@ impl Proposer {
         let _ = self.attempts.insert(instance.number(), Some(attempt));
     }
 
-    /// Opens an attempt at each instance from this one on, for each of the values, all at one ballot, where room was made. It takes no memory.
+    /// Opens an attempt at each instance from this one on, for each of the values, all at one ballot. Room
+    /// was made there, so it does not allocate.
     pub fn open_span(&mut self, first: Instance, ballot: Ballot, values: Vec<Value>)
         requires span { IsSpan first (length values.items) }
         requires room { (at : ℕ) → IsInSpan first (length values.items) at → HasRoom self.old at }
@@ -134,7 +136,7 @@ impl Proposer {
         }
     }
 
-    /// Makes room for an attempt of a copy of the value, and opens it.
+    /// Makes room for an attempt with a copy of the value, and opens it.
     pub fn start(
         &mut self,
         instance: Instance,
@@ -151,7 +153,8 @@ impl Proposer {
         Ok(())
     }
 
-    /// Makes room for an attempt at each of so many instances, from one on, which changes none of them.
+    /// Makes room for an attempt at each of `count` instances, from this one on. The attempts stay as they
+    /// are.
     pub fn make_room_for_span(&mut self, first: Instance, count: u8) -> Result<(), AllocError>
         requires { IsSpan first count }
         ensures same { (self.new.cluster ≡ self.old.cluster) × (self.new.me ≡ self.old.me) × (self.new.heard ≡ self.old.heard) }
@@ -168,8 +171,8 @@ impl Proposer {
         Ok(())
     }
 
-    /// Makes room for an attempt of each of the values, and opens them from this instance on, all at one ballot. Refused, it opens none and hands
-    /// the values back.
+    /// Makes room for an attempt for each of the values, and opens these from this instance on, all at one
+    /// ballot. If an allocation fails it opens none, and hands the values back.
     pub fn start_span(
         &mut self,
         first: Instance,
@@ -189,8 +192,8 @@ impl Proposer {
         Ok(())
     }
 
-    /// Takes a promise of one of the cluster's nodes, with the vote that it told, and gives the proposal where it makes
-    /// a majority of an open attempt's ballot.
+    /// Handles a promise of one of the cluster's nodes, with the vote that it reported. It returns the
+    /// proposal if the promises are now those of a majority, at an open attempt's ballot.
     pub fn on_promise(
         &mut self,
         from: NodeId,
@@ -219,7 +222,7 @@ impl Proposer {
         }
     }
 
-    /// Remembers the round of a promise that a nack told.
+    /// Remembers the round that a refusal reported.
     pub fn on_nack(&mut self, promised: Ballot)
         ensures { self.new ≡ record self.old { heard = max self.old.heard promised.round } }
     {

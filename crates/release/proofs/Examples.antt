@@ -55,7 +55,7 @@ no_release = refl
 moved : page_of (order 1 (put_redirect (codes "/old") (codes "/")) ∷ []) (codes "/old") ≡ moved_to (codes "/")
 moved = refl
 
--- a redirect leads on from a path without a route alone
+-- a redirect leads on only from a path without a route
 routed_first : page_of (order 1 (put_redirect (codes "/") (codes "/x")) ∷ order 2 (put_route (codes "/") (codes "t") (codes "d")) ∷ []) (codes "/") ≡ no_template
 routed_first = refl
 

@@ -45,7 +45,7 @@ passes values v fault reads =
     let is : applied values v ≡ NotACommand = ap (applied_after (commands_of values)) reads in
     (λ e. let never : NotACommand ≡ Changed = sym is ∙ e in cc, λ e. let never : NotACommand ≡ Released = sym is ∙ e in cc)
 
--- whether a ticket is kept tells whether it has a receipt
+-- whether a ticket is kept says whether it has a receipt
 pub is_kept : (values now : List (List ℕ)) (receipts : BTreeMap Ticket ℕ) (t u : Ticket) (told b : Bool) → values ≡ now → ((k : Ticket) → get ticket_cmp receipts k ≡ receipt_of k values)
     → told ≡ is_some (get ticket_cmp receipts t) → told ≡ b → t ≡ u → is_some (receipt_of u now) ≡ b
 is_kept values now receipts t u told b same found tells is alike =
@@ -58,7 +58,7 @@ repeats values v o reads had =
     let is : applied values v ≡ Repeat = (repeat_has_receipt values v o reads).1 had in
     (is, λ e. let never : Repeat ≡ Changed = sym is ∙ e in cc, λ e. let never : Repeat ≡ Released = sym is ∙ e in cc)
 
--- a command whose ticket has none has the effect of its action, and stands behind the others
+-- a command whose ticket has none has the effect of its action, and comes after the others
 pub is_first : (values : List (List ℕ)) (v : List ℕ) (o : Order) → value_reading v ≡ Ok o → is_some (receipt_of o.ticket values) ≡ false
     → (applied values v ≡ answered o.action) × (effective (values ++ v ∷ []) ≡ effective values ++ o ∷ [])
 is_first values v o reads had =

@@ -44,7 +44,7 @@ counts values v = by (value_reading v) refl
 
 -- ---- up to a release
 
--- with fewer releases than n all commands stand in the list of release n, and so does one more
+-- with fewer releases than n all commands are in the list of release n, and so is one more
 pub through_last : (os : List Order) (o : Order) (n : ℕ) → release_count os < n → through (os ++ o ∷ []) n ≡ os ++ o ∷ []
 through_last os o zero less = absurd (omega arith)
 through_last [] o (suc n) less = refl

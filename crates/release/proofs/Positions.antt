@@ -22,7 +22,7 @@ named_by ticket v o reads = rw reads
 abbrev Or : Bool → ℕ → Option ℕ → Option ℕ
 Or found n o = cond (is_some o) o (cond found (Some n) None)
 
--- the first place, or that of the value behind the list
+-- the first place, or that of the value after the list
 pub position_more : {X : Type 0} (t : X → Bool) (k : ℕ) (xs : List X) (y : X)
     → position_from t k (xs ++ y ∷ []) ≡ cond (is_some (position_from t k xs)) (position_from t k xs) (cond (t y) (Some (k + length xs)) None)
 position_more t k [] y = ap (λ n. cond (t y) (Some n) None) (sym (add-zero k))
@@ -36,7 +36,7 @@ position_more t k (x ∷ xs) y = step (t x) (position_more t (k + 1) xs y)
 abbrev Later : Ticket → ℕ → List (List ℕ) → Type 0
 Later ticket k values = has_ticket ticket (commands_of values) ≡ is_some (position_from (is_named ticket) (k + 1) values)
 
--- a ticket stands among the commands exactly where there is a receipt
+-- a ticket is among the commands if and only if there is a receipt
 pub has_position : (ticket : Ticket) (k : ℕ) (values : List (List ℕ)) → has_ticket ticket (commands_of values) ≡ is_some (position_from (is_named ticket) k values)
 has_position ticket k [] = refl
 has_position ticket k (v ∷ values) = heads (value_reading v) refl ∙ some (is_named ticket v) (has_position ticket (k + 1) values) refl
@@ -79,7 +79,7 @@ from_next ticket v values place at = record { value = at.value; order = at.order
 pub nowhere : (ticket : Ticket) (place : ℕ) → ¬ IsNamedAt ticket [] place
 nowhere ticket place at = none-some at.value at.there
 
--- the first place, where the list starts at k
+-- the first place, if the list starts at k
 pub record IsFirstFrom (ticket : Ticket) (k : ℕ) (values : List (List ℕ)) (i : ℕ) : Type 0 where
   pub before : ℕ
   pub counted : i ≡ k + before

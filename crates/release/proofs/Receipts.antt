@@ -46,7 +46,7 @@ unnamed_more ticket values v not =
 pub no_command_keeps : (ticket : Ticket) (values : List (List ℕ)) (v : List ℕ) (fault : CommandFault) → value_reading v ≡ Err fault → receipt_of ticket (values ++ v ∷ []) ≡ receipt_of ticket values
 no_command_keeps ticket values v fault reads = unnamed_more ticket values v (not_named ticket v fault reads)
 
--- a command whose ticket stood earlier changes no receipt
+-- a command whose ticket came earlier changes no receipt
 pub repeat_keeps : (ticket : Ticket) (values : List (List ℕ)) (v : List ℕ) (o : Order) → value_reading v ≡ Ok o → is_some (receipt_of o.ticket values) ≡ true
     → receipt_of ticket (values ++ v ∷ []) ≡ receipt_of ticket values
 repeat_keeps ticket values v o reads had = by (is_same_ticket o.ticket ticket) refl

@@ -1,4 +1,4 @@
--- What is kept beside the values fed.
+-- What is kept beside the values that were fed.
 use Rattle.std.specs.Prelude.{ℕ, suc, ◌≡◌, ◌≤◌, List, [], ◌∷◌, length, Option, None, Some, slice_get}
 use Rattle.std.specs.BTreeMap.{BTreeMap, get}
 use Rattle.std.specs.declared.cmp.Ordering.{Ordering}
@@ -20,7 +20,7 @@ abbrev pub listed : {X : Type 0} → Option X → List X
 listed None = []
 listed (Some x) = x ∷ []
 
--- what is kept beside the values: the site of all, that of each release, and the receipts
+-- what is kept beside the values: the contents of all, those of each release, and the receipts
 pub record Keeps (values : List (List ℕ)) (live : ContentsSeen) (sites : List ContentsSeen) (receipts : BTreeMap Ticket ℕ) : Type 0 where
   pub few : length values ≤ MAX_INSTANCE
   pub stands : HasContents live (effective values)

@@ -35,7 +35,7 @@ abbrev pub shown : Option (List ℕ) → Page
 shown None = in_place 500 (codes "page over limit\n")
 shown (Some t) = in_place 200 t
 
--- a template's text over data, in the site that the commands leave; a text without a tree is never put
+-- a template's text over data, in the site that the commands leave. A text without a tree is never put
 abbrev pub rendered : List Order → Result Tree TemplateFault → Whole → Page
 rendered orders (Ok tree) d = shown (rendering (λ name. partial_at name orders) tree d)
 rendered orders (Err f) d = no_template
@@ -56,11 +56,12 @@ abbrev pub at_route : List Order → List ℕ → Option (List ℕ × List ℕ) 
 at_route orders path None = redirected (redirect_at path orders)
 at_route orders path (Some names) = with_template orders (template_at names.0 orders) (data_at names.1 orders)
 
--- the page that a list of commands leaves for a path: by its route, its template, its data; without a route by its redirect
+-- the page that a list of commands leaves for a path: by its route, its template and its data; or by its
+-- redirect, if it has no route
 abbrev pub page_of : List Order → List ℕ → Page
 page_of orders path = at_route orders path (route_at path orders)
 
--- the page of release n of a list of effective commands, or none where there is no such release
+-- the page of release n of a list of effective commands; None if there is no such release
 abbrev pub released : List Order → ℕ → List ℕ → Option Page
 released orders n path = if nat_lt 0 n && nat_le n (release_count orders) then Some (page_of (through orders n) path) else None
 
@@ -68,7 +69,7 @@ released orders n path = if nat_lt 0 n && nat_le n (release_count orders) then S
 abbrev pub answer : List (List ℕ) → ℕ → List ℕ → Option Page
 answer values n path = released (effective values) n path
 
--- the release that is asked for in a list of effective commands: the newest where none is named
+-- the release that is asked for, in a list of effective commands: the newest if none is named
 abbrev pub asked_of : List Order → Option ℕ → ℕ
 asked_of orders None = release_count orders
 asked_of orders (Some n) = n

@@ -1,4 +1,4 @@
--- Receipts: where the command with a ticket first stands.
+-- Receipts: the first place of the command with a ticket.
 use Rattle.std.specs.Prelude.{ℕ, suc, ◌≡◌, ◌<◌, List, Bool, false, Option, Some, Result, Ok, Err, slice_get}
 use Rattle.std.specs.List.{position_from}
 use Rattle.site_ids.specs.declared.Ticket.{Ticket}
@@ -15,7 +15,7 @@ has_that ticket (Err fault) = false
 abbrev pub is_named : Ticket → List ℕ → Bool
 is_named ticket v = has_that ticket (value_reading v)
 
--- the first place of a command with that ticket; places count from 1
+-- the first place of a command with that ticket. Places count from 1
 abbrev pub receipt_of : Ticket → List (List ℕ) → Option ℕ
 receipt_of ticket values = position_from (is_named ticket) 1 values
 
@@ -27,7 +27,7 @@ pub record IsNamedAt (ticket : Ticket) (values : List (List ℕ)) (place : ℕ) 
   pub reads : value_reading value ≡ Ok order
   pub named : order.ticket ≡ ticket
 
--- the value at place i, as places count from 1, is a command with that ticket, and none before it is
+-- the value at place i is a command with that ticket, and no value before it is. Places count from 1
 pub record IsReceipt (ticket : Ticket) (values : List (List ℕ)) (i : ℕ) : Type 0 where
   pub before : ℕ
   pub counted : i ≡ suc before

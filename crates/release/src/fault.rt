@@ -4,7 +4,7 @@ use thiserror::Error;
 /// Why there is no answer.
 #[derive(Clone, Copy, Debug, Drop, PartialEq, Eq, Error)]
 pub enum AnswerFault {
-    /// The number is 0, or above the newest.
+    /// The number is 0, or above that of the newest release.
     #[error("no such release")]
     NoSuchRelease,
     #[error("out of memory")]

@@ -1,4 +1,4 @@
-//! The values fed, and what is kept beside them.
+//! The values that were fed, and what is kept beside them.
 ghost use Rattle.std.specs.Prelude.{◌≡◌, ◌+◌, ◌<◌, List, [], ◌∷◌, ◌++◌, length, Some, OnOk, OnErr};
 ghost use Rattle.std.specs.BTreeMap.{Updates};
 ghost use Rattle.site_ids.specs.declared.TheConstants.{MAX_INSTANCE};
@@ -8,7 +8,7 @@ use site_ids::{Instance, Ticket, Value};
 use std::alloc::AllocError;
 use std::collections::BTreeMap;
 
-/// The values, and beside them sites of any type and the receipts.
+/// The values, and beside them sites, of any type, and the receipts.
 #[derive(Drop)]
 pub(crate) struct Kept<S> {
     pub fed: Vec<Value>,
@@ -19,7 +19,8 @@ pub(crate) struct Kept<S> {
     pub receipts: BTreeMap<Ticket, Instance>,
 }
 
-/// A command that has an effect: its value and its ticket, the site that it leaves, and that of the release if it makes one.
+/// A command that has an effect: its value, its ticket, the site that it leaves, and the site of the release
+/// if it makes one.
 #[derive(Drop)]
 pub(crate) struct Effect<S> {
     pub value: Value,
@@ -29,7 +30,7 @@ pub(crate) struct Effect<S> {
 }
 
 impl<S: Drop> Kept<S> {
-    /// Takes the next value. All room is made before the first change.
+    /// Adds the next value. All room is reserved before the first change.
     pub(crate) fn take(&mut self, effect: Effect<S>) -> Result<(), AllocError>
         requires { length self.old.fed.items < MAX_INSTANCE }
         ensures fed { OnOk result (self.new.fed.items ≡ self.old.fed.items ++ (effect.value ∷ [])) }

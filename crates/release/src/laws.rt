@@ -1,7 +1,7 @@
 ghost use Rattle.release.specs.Laws.{ListBegins, AnswerStays, ReleasesStay, AnswerIsNone};
 ghost use Rattle.release.specs.Laws.{ReceiptIsFirst, ReceiptIsNone, ReceiptStays, RepeatHasReceipt};
 
-/// Releases, and their answers, as values are added.
+/// Releases and their answers stay, as values are added.
 pub fn answers_stay()
     ensures begins { ListBegins }
     ensures stays { AnswerStays }
@@ -9,7 +9,7 @@ pub fn answers_stay()
     ensures none { AnswerIsNone }
 {}
 
-/// Receipts in words of places, and as values are added.
+/// Receipts are first places, and they stay, as values are added.
 pub fn receipts_are_first()
     ensures first { ReceiptIsFirst }
     ensures none { ReceiptIsNone }

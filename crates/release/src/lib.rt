@@ -1,4 +1,4 @@
-//! Releases of a site: the values fed in their order, and the pages of each release.
+//! Releases of a site: the values fed in order, and the pages of each release.
 #![tactic(auto)]
 
 mod answer;

@@ -1,6 +1,6 @@
 //! The page of a site for a path.
 //!
-//! A page takes the list of commands, so partials are of that release's site.
+//! A page is defined by the list of commands, so its partials are those of that release's site.
 
 ghost use Rattle.std.specs.Prelude.{◌≡◌, List, IfOk};
 ghost use Rattle.command.specs.Action.{Order};

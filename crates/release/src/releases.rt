@@ -1,4 +1,5 @@
-//! Receipts tell a repeat, so kept sites have no set of tickets: 112 bytes a value.
+//! A repeat is found by its receipt, so kept sites have no set of tickets: this saves 112 bytes a value in
+//! each of them.
 
 ghost use Rattle.std.specs.Prelude.{◌≡◌, ◌≢◌, ◌⊎◌, ◌<◌, ◌≤◌, ◌↔◌, ℕ, List, [], ◌∷◌, ◌++◌, length, Some, Ok, IfOk, IfSome, IsNone, OnOk, OnErr, IsErrOf};
 ghost use Rattle.site_ids.specs.declared.TheConstants.{MAX_INSTANCE};
@@ -33,7 +34,7 @@ pub struct Releases {
 }
 
 impl Drop for Releases {
-    // Whoever lets go of it proves one step: what lies in it is proved to be let go of here alone.
+    // Whoever drops it proves one step: only here it is proved that its parts can be dropped.
     fn drop(self) {
         let Releases { alloc: _, kept: _ } = self;
     }
@@ -54,7 +55,7 @@ impl Model for Releases {
     ghost invariant = { IsKept };
 }
 
-/// Of a value that was not read: whether it is no command, or memory was missing.
+/// What a value that was not read gives: it is not a command, or an allocation failed.
 fn no_command(fault: CommandFault) -> Result<(), AllocError>
     ensures { IfOk result (λ done. fault ≢ CommandFault.OutOfMemory) }
 {
@@ -88,7 +89,7 @@ impl Releases {
         self.kept.fed.len()
     }
 
-    /// Takes the value of the next instance.
+    /// Feeds the value of the next instance.
     pub fn feed(&mut self, value: &[u8]) -> Result<Applied, AllocError>
         requires { length self.old < MAX_INSTANCE }
         ensures ok { IfOk result (λ a. (self.new ≡ self.old ++ (value.now ∷ [])) × (a ≡ applied self.old value.now)) }
@@ -98,7 +99,7 @@ impl Releases {
         self.feed_value(value)
     }
 
-    /// Takes the value of the next instance, without a copy.
+    /// Feeds the value of the next instance, without a copy of it.
     pub fn feed_value(&mut self, value: Value) -> Result<Applied, AllocError>
         requires { length self.old < MAX_INSTANCE }
         ensures ok { IfOk result (λ a. (self.new ≡ self.old ++ (value ∷ [])) × (a ≡ applied self.old value)) }
@@ -114,7 +115,7 @@ impl Releases {
         }
     }
 
-    /// Takes the value of the next instance, which was read as this command.
+    /// Feeds the value of the next instance, which was read as this command.
     pub fn feed_command(&mut self, value: Value, command: Command) -> Result<Applied, AllocError>
         requires few { length self.old < MAX_INSTANCE }
         requires reads { (order : Order) × (value_reading value ≡ Ok order) × StandsFor command order }
@@ -156,7 +157,7 @@ impl Releases {
         }
     }
 
-    /// Takes a value that has no effect.
+    /// Adds a value that has no effect.
     fn pass(&mut self, value: Value) -> Result<(), AllocError>
         requires few { length self.old < MAX_INSTANCE }
         requires passes { (applied self.old value ≢ Applied.Changed) × (applied self.old value ≢ Applied.Released) }
@@ -167,7 +168,7 @@ impl Releases {
         Ok(())
     }
 
-    /// The number of the newest release; 0 where there is none.
+    /// The number of the newest release; 0 if there is none.
     pub fn newest(&self) -> u64
         ensures { result ≡ release_count (effective self.now) }
     {

@@ -1,6 +1,6 @@
-//! What a command that is no repeat does to the site of those before it.
+//! What a command that is not a repeat does to the site of the commands before it.
 //!
-//! A value that is no command is read once more for its fault's line.
+//! A value that is not a command is read again for the line of its fault.
 
 ghost use Rattle.std.specs.Prelude.{◌≡◌, List, IfOk};
 ghost use Rattle.command.specs.Action.{Order};
@@ -34,7 +34,7 @@ fn released(site: Contents) -> Result<Step, AllocError>
     }
 }
 
-/// The step by an action that the site takes.
+/// The step of an action: the site applies it.
 fn acted(mut site: Contents, action: Action) -> Result<Step, AllocError>
     ensures { IfOk result (λ step. (orders : List Order) (order : Order) → StandsAs action order.action → HasContents site orders → IsStep step orders order) }
 {

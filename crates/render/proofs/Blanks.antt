@@ -61,7 +61,7 @@ both-blank : (w : List ℕ) (own : Option (String Global)) → AreBlank w → Ar
 both-blank w None blank h = refl
 both-blank w (Some own) blank h = list_all-append is_blank w (string_bytes own) ∙ ap (λ c. c && list_all is_blank (string_bytes own)) blank ∙ h
 
--- a partial's own blanks, behind the margin
+-- a partial's own blanks, after the margin
 pub partial-blank : (w : List ℕ) (node : Node) (name : String Global) (own : Option (String Global)) → node ≡ Partial name own → AreBlank w → HasBlankIndents (node_onto [] node nothing) → AreBlank (own_under w own)
 partial-blank w node name own is blank h =
     let k : HasBlankIndents (node_onto [] (Partial name own) nothing) = subst (λ n. HasBlankIndents (node_onto [] n nothing)) is h in

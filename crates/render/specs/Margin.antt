@@ -11,20 +11,20 @@ outer_of (Some x) = x.now
 abbrev pub margin_step : Margin-F (List ℕ) → List ℕ
 margin_step m = outer_of m.outer ++ m.own.now
 
--- the outer ones before its own
+-- the blanks of the outer margins, and after them its own
 abbrev pub margin_text : Margin → List ℕ
 margin_text = fold-Margin (List ℕ) margin_step
 
--- none where there is no margin
+-- no blanks if there is no margin
 abbrev pub margin_of : Option Margin → List ℕ
 margin_of None = []
 margin_of (Some m) = margin_text m
 
--- and of one that is lent
+-- the blanks of a borrowed margin
 abbrev pub margin_at : Option (Bor Margin) → List ℕ
 margin_at m = margin_of (option_copied m)
 
--- a margin stands before what begins a line
+-- a margin is put before what begins a line
 abbrev pub lead : List ℕ → Bool → List ℕ
 lead w true = w
 lead w false = []

@@ -22,7 +22,7 @@ and_then (Costs t c) (Costs u e) = Costs (t ++ u) (c + e)
 abbrev pub prints : List ℕ → Meaning
 prints t = Costs t (length t)
 
--- and so does a tag rendered, and an item pushed
+-- a tag rendered costs 1, and so does an item pushed
 abbrev pub costs_one : Meaning
 costs_one = Costs [] 1
 
@@ -31,16 +31,16 @@ abbrev pub for_each : (Whole → Meaning) → List Whole → Meaning
 for_each block [] = Costs [] 0
 for_each block (v ∷ vs) = and_then (and_then costs_one (block v)) (for_each block vs)
 
--- an inverted section's block stands where there is no item
+-- an inverted section's block is rendered if there is no item
 abbrev pub where_none : Meaning → List Whole → Meaning
 where_none block [] = block
 where_none block (v ∷ vs) = Costs [] 0
 
--- the texts of the partials that are there
+-- the text of each partial, if there is one of that name
 abbrev pub Partials : Type 0
 Partials = List ℕ → Option (List ℕ)
 
--- The meaning of a tree over a stack, where `call name indent stack` is that of a partial.
+-- The meaning of a tree over a stack. `call name indent stack` is the meaning of a partial.
 unfoldable pub meaning_with : ((name indent : List ℕ) → List Whole → Meaning) → Tree → List Whole → Meaning
 meaning_with call nothing stack = Costs [] 0
 meaning_with call (literal t rest) stack = and_then (prints t) (meaning_with call rest stack)
@@ -52,12 +52,13 @@ meaning_with call (section name block rest) stack =
 meaning_with call (inverted name block rest) stack =
     and_then (and_then costs_one (where_none (meaning_with call block stack) (items_of (look_up name stack)))) (meaning_with call rest stack)
 
--- the meaning of a text's tree; the second case never comes, as a partial's text has a tree and indenting takes none away
+-- the meaning of a text's tree. The second case never occurs: a partial's text has a tree, and the indented
+-- text has one too
 abbrev pub of_tree : (Tree → Meaning) → Result Tree TemplateFault → Meaning
 of_tree mean (Ok t) = mean t
 of_tree mean (Err f) = Costs [] 0
 
--- a missing partial prints nothing; of another the text is indented and then read
+-- a missing partial prints nothing. The text of any other partial is indented, and then read
 abbrev pub called : (Tree → List Whole → Meaning) → Option (List ℕ) → List ℕ → List Whole → Meaning
 called mean None indent stack = Costs [] 0
 called mean (Some t) indent stack = of_tree (λ tree. mean tree stack) (tree_of (indented indent t))
@@ -76,11 +77,11 @@ max_nested = 32
 abbrev pub max_cost : ℕ
 max_cost = 1_000_000
 
--- the text of a page whose cost is within the limit
+-- the text of a page, if its cost is within the limit
 abbrev pub within_limit : Meaning → Option (List ℕ)
 within_limit Over = None
 within_limit (Costs t c) = if nat_le c max_cost then Some t else None
 
--- The text of a tree over data, or None where it is over limit.
+-- The text of a tree over data, or None if it is over the limit.
 unfoldable pub rendering : Partials → Tree → Whole → Option (List ℕ)
 rendering partials t d = within_limit (meaning_to max_nested partials t (d ∷ []))

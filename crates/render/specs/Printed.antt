@@ -3,7 +3,7 @@ use Rattle.std.specs.Prelude.{ℕ, true, false, ◌==◌, if◌then◌else◌, c
 use Rattle.std.specs.Fmt.{signed_decimal}
 use Rattle.context.specs.Whole.{Whole, null, boolean, int, text, list, hash}
 
--- a miss, null, lists and hashes print nothing
+-- a missing value, null, lists and hashes print nothing
 abbrev pub printed : Option Whole → List ℕ
 printed None = []
 printed (Some null) = []
@@ -14,7 +14,7 @@ printed (Some (text t)) = t
 printed (Some (list _)) = []
 printed (Some (hash _)) = []
 
--- & " < > as entities, every other byte as it is
+-- & " < > become entities, every other byte stays as it is
 abbrev pub escaped_byte : ℕ → List ℕ
 escaped_byte b =
     if b == 38 then codes "&amp;" else

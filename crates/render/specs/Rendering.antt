@@ -1,4 +1,5 @@
--- What printing adds to a page: the text and the cost of a meaning, or more than was left.
+-- What printing adds to a page: the text and the cost of a meaning. It fails if the cost is more than what is
+-- left.
 use Rattle.std.specs.Prelude.{◌≡◌, ℕ, zero, suc, ◌+◌, ◌<◌, ◌++◌, List, Result, Ok, Err, string_bytes, ⊤}
 use Rattle.context.specs.Whole.{Whole}
 use Rattle.render.specs.Meaning.{Meaning, Over, Costs, Partials, called, too_deep, meaning_to}
@@ -21,7 +22,7 @@ Adds old new m (Ok done) = IsPaid old new m
 Adds old new m (Err OverLimit) = Exceeds old.left m
 Adds old new m (Err OutOfMemory) = ⊤
 
--- what a partial means where n more may nest
+-- what a partial means if n more may nest
 abbrev pub called_at : ℕ → Partials → (name indent : List ℕ) → List Whole → Meaning
 called_at zero partials name indent stack = called too_deep (partials name) indent stack
 called_at (suc n) partials name indent stack = called (meaning_to n partials) (partials name) indent stack

@@ -11,7 +11,7 @@ struct Special<'a> {
     rest: &'a str,
 }
 
-/// The entity of a byte that does not stand for itself.
+/// The entity of a byte that is not printed as itself.
 fn entity_of(byte: u8) -> Option<&'static str>
     ensures { MatchOption result (escaped_byte byte ≡ byte ∷ []) (λ x. (escaped_byte byte ≡ x.now) × (byte < 128)) }
 {
@@ -43,7 +43,7 @@ fn next_special(text: &str) -> Option<Special<'_>>
     None
 }
 
-/// Adds the text escaped, or a beginning of that where memory is refused.
+/// Adds the text escaped, or a beginning of that if an allocation fails.
 fn push_escaped(text: &str, out: &mut String) -> Result<(), AllocError>
     ensures ok { OnOk result (string_bytes out.new ≡ string_bytes out.old ++ escaped text.now) }
     ensures err { OnErr result ((more : List ℕ) × (string_bytes out.new ≡ string_bytes out.old ++ more)) }
@@ -57,7 +57,8 @@ fn push_escaped(text: &str, out: &mut String) -> Result<(), AllocError>
     out.push_str(rest)
 }
 
-/// Adds the text with its `&`, `"`, `<` and `>` as entities (mustache(5), "Variables"). Where memory is refused, nothing is added.
+/// Adds the text with its `&`, `"`, `<` and `>` as entities (mustache(5), "Variables"). If an allocation
+/// fails, nothing is added.
 pub fn escape_into(text: &str, out: &mut String) -> Result<(), AllocError>
     ensures ok { OnOk result (string_bytes out.new ≡ string_bytes out.old ++ escaped text.now) }
     ensures err { OnErr result (string_bytes out.new ≡ string_bytes out.old) }

@@ -8,7 +8,7 @@ use crate::fault::RenderFault;
 use crate::margin::{Margin, print_line};
 use crate::output::Output;
 
-/// The first line, without its newline, and what follows it; nothing where the text has no newline.
+/// The first line, without its newline, and what follows it; `None` if the text has no newline.
 fn first_line(text: &str) -> Option<(&str, &str)>
     ensures line { MatchOption result
         ((w : List ℕ) (leads trails : Bool) → literal_under w leads trails text.now ≡ lead w (leads && (trails || not (length text.now == 0))) ++ text.now)
@@ -18,7 +18,7 @@ fn first_line(text: &str) -> Option<(&str, &str)>
     text.split_once('\n')
 }
 
-/// Prints a text line by line, each behind the margin.
+/// Prints a text line by line, each line after the margin.
 fn print_lines(
     text: &str,
     leads: bool,
@@ -39,7 +39,7 @@ fn print_lines(
     print_line(rest, begins && (trails || !rest.is_empty()), margin, out)
 }
 
-/// Prints a template's text under a margin. Without one it is printed whole.
+/// Prints a template's text under a margin. Without a margin it is printed whole.
 pub(crate) fn print_text(
     text: &str,
     leads: bool,

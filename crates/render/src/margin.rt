@@ -9,14 +9,16 @@ ghost use Rattle.render.specs.Rendering.{Adds};
 use crate::fault::RenderFault;
 use crate::output::Output;
 
-/// The blanks before each line of a partial: those of its own tag, behind those of the tags that called its caller.
+/// The blanks before each line of a partial: those of the tags that called its caller, and after them those
+/// of its own tag.
 #[derive(Clone, Copy)]
 pub(crate) struct Margin<'a> {
     pub own: &'a str,
     pub outer: Option<&'a Margin<'a>>,
 }
 
-/// The margin of a partial under another: longer by its own blanks where its tag is standalone, the same where it has none, else none.
+/// The margin of a partial under another one. If its tag is standalone, it is longer by the tag's own blanks,
+/// and the same if there are none. If its tag is not standalone, there is no margin.
 #[tactic(auto, using(crate::proofs::Margins::longer))]
 pub(crate) fn margin_within<'a>(
     own: &'a Option<String>,
@@ -44,7 +46,7 @@ pub(crate) fn print_margin(margin: &Margin<'_>, out: &mut Output) -> Result<(), 
     out.print(margin.own)
 }
 
-/// Prints what stands on one line, behind the margin where it begins the line.
+/// Prints what is on one line, after the margin if it begins the line.
 pub(crate) fn print_line(
     line: &str,
     leads: bool,

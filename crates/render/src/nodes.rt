@@ -46,7 +46,7 @@ fn render_raw(name: &str, frame: &Frame<'_>, out: &mut Output) -> Result<(), Ren
     out.print(printed(resolve(frame, name), &mut buffer))
 }
 
-/// The items of what a name means; none of a miss.
+/// The items of what a name means; none if it means nothing.
 fn items_named<'a>(name: &str, frame: &Frame<'a>) -> &'a [Data]
     ensures { map data_view result.now ≡ items_of (look_up name.now (stack_of frame.now)) }
 {
@@ -56,7 +56,7 @@ fn items_named<'a>(name: &str, frame: &Frame<'a>) -> &'a [Data]
     }
 }
 
-/// Prints nodes at a scope. Each part is entered only once it was paid for, so this ends.
+/// Prints nodes at a scope. Each part is paid for before it is entered, so this ends.
 #[cycle(nodes)]
 pub(crate) fn render_nodes<P: Partials>(
     nodes: &[Node],
@@ -135,7 +135,7 @@ fn render_items<P: Partials>(
     Ok(())
 }
 
-/// Prints a block where there is no item, with nothing pushed.
+/// Prints a block if there is no item. Nothing is pushed.
 #[cycle(nodes)]
 fn render_where_none<P: Partials>(
     block: &[Node],
@@ -154,7 +154,8 @@ fn render_where_none<P: Partials>(
     }
 }
 
-/// Prints a partial: under a longer margin where its tag is standalone, else under none; nothing where it is missing.
+/// Prints a partial: under a longer margin if its tag is standalone, and under none if it is not. A missing
+/// partial prints nothing.
 #[cycle(nodes)]
 fn render_partial<P: Partials>(
     name: &str,

@@ -16,7 +16,8 @@ use std::alloc::Global;
 /// How many partials may nest in a page.
 const MAX_NESTED: u32 = 32;
 
-/// The text of a template over data (mustache(5)); over limit where it costs more than a page may, or partials nest too deep.
+/// The text of a template over data (mustache(5)). It is over the limit if it costs more than a page may, or
+/// if partials nest too deep.
 pub fn render<P: Partials>(
     alloc: Global,
     template: &Template,

@@ -7,7 +7,7 @@ use mustache_parse::Template;
 
 /// The partials that a page may use.
 pub trait Partials {
-    /// The partials are of these texts, by name.
+    /// The relation: the partials are of these texts, by name.
     ghost stands: { Self → (List ℕ → Option (List ℕ)) → Type 0 };
 
     /// The partial of that name, if there is one.

@@ -5,7 +5,7 @@ ghost use Rattle.render.specs.Printed.{printed};
 use context::Data;
 use itoa::Buffer;
 
-/// The text that a value prints, and nothing for a miss. A number's digits are written to the buffer.
+/// The text that a value prints; nothing if it is missing. A number's digits are written to the buffer.
 pub(crate) fn printed<'a>(value: Option<&'a Data>, buffer: &'a mut Buffer) -> &'a str
     ensures { result.now ≡ printed (option_map (λ v. data_view v.now) value.entry) }
 {

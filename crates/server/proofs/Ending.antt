@@ -14,7 +14,7 @@ use Rattle.server_faults.specs.declared.server_fault.ServerFault.TheVariants as 
 use Rattle.server_faults.specs.declared.serve_options.ServeOptions.{ServeOptions}
 use Rattle.server.proofs.Noting.{ends_by, alone, ended}
 
--- it was not ready, as memory was wanted or the writer failed
+-- it was not ready, as an allocation or the writer failed
 pub not_ready : (asked : Bool) (out err : End) (p : ℕ) (why : ServerFault) → GivesNotes 0 err → HaltsReady out p why → HaltsWork asked out err p why
 not_ready asked out err p why none (inl (same, silent)) = inl (same, silent, none)
 not_ready asked out err p why none (inr (same, broken)) = inr (inr (
@@ -72,7 +72,7 @@ has_worked out err o (Err why) placed (inl (same, silent, none)) = inl (inr (inr
 has_worked out err o (Err why) placed (inr (inl (ends, written, noted))) = inr (inl (placed, ends, written, noted))
 has_worked out err o (Err why) placed (inr (inr (same, broken, noted))) = inr (inr (placed, same, broken, noted))
 
--- behind the line of a writer that failed nothing is said
+-- after the line of a writer that failed nothing is said
 none_behind : (asked : Bool) (e : End) (o : ServeOptions) → SaysWhyIf asked e o server_fault.Write → GivesNone e
 none_behind true e o says = says
 none_behind false e o says = says

@@ -29,7 +29,7 @@ pub drive_counts : {T U : Type 0} (r : Result T ServerFault) (fault : NodeFault)
 drive_counts (Ok x) fault before now is c running = absurd is
 drive_counts (Err y) fault before now is c running = c.none (λ e. running (ap Err (is ∙ ap of_node (one_fault fault Device e))))
 
--- the fault that is passed on, behind laps that counted nothing
+-- the fault that is passed on, after laps that counted nothing
 pub counts_on : {T U : Type 0} (r : Result T ServerFault) (why : ServerFault) (before mid now : ℕ) → IsErrAnd r (λ y. y ≡ why) → mid ≡ before → CountsNone {T = U} (Err why) mid now → CountsNone r before now
 counts_on (Ok x) why before mid now is same c running = absurd is
 counts_on (Err y) why before mid now is same c running = c (λ e. running (ap Err (is ∙ one_halt why Stopped e))) ∙ same

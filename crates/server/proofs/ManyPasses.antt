@@ -59,7 +59,7 @@ module _ {D : Type 0} (stands_for : D → DiskState → Type 0) where
       record { leads = λ s stands. let r = batch.leads s stands in (r.0, (r.1, are r.1.works.fits), r.2, r.3) },
     )
 
-    -- memory was wanted to spell them
+    -- an allocation failed as they were spelled
     pub not_posted : (told : ServerFault) → told ≡ server_fault.OutOfMemory → LeadsSealed stands_for old new (BreaksStep old.cluster old.me came told)
     not_posted told is =
         sealed_as stands_for old new (TakesBatch last old.cluster old.me came malformed out new.releases) (BreaksStep old.cluster old.me came told)
@@ -108,7 +108,7 @@ module _ {D : Type 0} (stands_for : D → DiskState → Type 0) where
           (λ s t u h takes. record { last = b.0; malformed = malformed; out = b.1.0; mid = t; batch = h.0; letters_are = h.1; requests = k; few = few; takes = takes })
           b.1.1)
 
-      -- memory was wanted for one
+      -- an allocation failed for one
       pub not_answered : (told : ServerFault) → told ≡ server_fault.OutOfMemory → LeadsSealed stands_for old new.node (BreaksStep old.cluster old.me came told)
       not_answered told is =
           sealed_as stands_for old new.node (TakesStep old.cluster old.me came letters new.node.releases) (BreaksStep old.cluster old.me came told) (λ s t h. inr (is, (letters, new.node.releases, h))) answered

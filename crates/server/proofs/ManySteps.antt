@@ -124,7 +124,7 @@ module _ {D : Type 0} (stands_for : D → DiskState → Type 0) where
       subst (λ p. MayTake old.node.cluster p a.0 b.0) others.me (subst (λ n. MayTake n mid.node.me a.0 b.0) others.cluster b.1) in
       (b.0, (a.0, a.1, takes), b.2, λ d on. b.3 d (a.3 d on))
 
-  -- a file with what either of two nodes has on record is one also where requests came behind the second
+  -- a file with what either of two nodes has on record is one also where requests came after the second
   behind_requests : (n p k : ℕ) (s t u : Node) → MayTakeMany n p k t u → (q m : ℕ) (file : List ℕ) → IsEither q m s t file → IsEither q m s u file
   behind_requests n p k s t u takes q m file either =
       let left = requests_leave n p k t u takes in

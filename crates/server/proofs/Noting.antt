@@ -39,7 +39,7 @@ pub ends_by : (asked : Bool) (a b c : Option (List ℕ)) (f g h : ℕ) (Last : E
     → EndsBy asked (record { before = a; after = c; failures = f; failures_after = h }) Last
 ends_by asked a b c f g h Last noted last = (b, g, noted, last)
 
--- what was done behind none
+-- what was done after none
 pub alone : (a b c : Option (List ℕ)) (f g h : ℕ) (P : End → Type 0) → GivesNotes 0 (record { before = a; after = b; failures = f; failures_after = g }) → P (record { before = b; after = c; failures = g; failures_after = h })
     → P (record { before = a; after = c; failures = f; failures_after = h })
 alone a b c f g h P (same, sound) done =

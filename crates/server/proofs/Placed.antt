@@ -1,4 +1,4 @@
--- Addresses read one after the other.
+-- Addresses read one after another.
 use Rattle.std.proofs.Common.{◌<◌, ◌≤◌, ℕ, zero, suc, List, [], ◌∷◌, length, take, get_or, refl, subst, inl, inr, arith}
 use Rattle.site_ids.specs.Lists.{In}
 use Rattle.server.specs.Placing.{IsAddress, AreAddresses}

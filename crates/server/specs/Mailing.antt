@@ -1,4 +1,4 @@
--- Datagrams that wait for a step, and letters that one handed out.
+-- Datagrams that wait for a step, and letters that a step handed out.
 use Rattle.std.specs.Prelude.{ℕ, ◌+◌, ◌-◌, ◌^◌, ◌<◌, min, vec_len, length, nat_eq, Bool, true, if◌then◌else◌, List, [], ◌∷◌}
 use Rattle.node.specs.declared.to.To.{To}
 use Rattle.node.specs.declared.to.To.TheVariants.{One, All}
@@ -14,7 +14,7 @@ waiting_of mail = bytes_of mail.came.items
 abbrev pub HasRoom : Mail → Type 0
 HasRoom mail = (vec_len mail.came < DATAGRAMS) × (mail.bytes < BYTES)
 
--- how many bytes are counted once these datagrams came, too: as far as a number goes
+-- how many bytes are counted after these datagrams came, too. The count stays at the last value of its type
 abbrev pub counted : ℕ → List (List ℕ) → ℕ
 counted bytes [] = bytes
 counted bytes (d ∷ ds) = counted (min (bytes + length d) (2 ^ 64 - 1)) ds
@@ -23,7 +23,7 @@ counted bytes (d ∷ ds) = counted (min (bytes + length d) (2 ^ 64 - 1)) ds
 abbrev pub posted_of : Mail → List (To × List ℕ)
 posted_of mail = letters_of mail.letters.items
 
--- whether a letter is for node p: one for all is too
+-- whether a letter is for node p. One for all is
 abbrev pub is_for : ℕ → To → Bool
 is_for p (One q) = nat_eq q p
 is_for p All = true

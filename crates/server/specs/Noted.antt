@@ -5,15 +5,16 @@ use Rattle.server_faults.specs.Why.{GivesNone, behind, up_to}
 use Rattle.server_notes.specs.Lines.{line_of_note}
 use Rattle.server_notes.specs.declared.note.Note.{Note}
 
--- so many lines were given one after another, each that of a note: whole, or a beginning of it where the writer failed. None leaves all as it was
+-- some lines were given one after another. Each is that of a note, whole, or a beginning of it if the writer
+-- failed. If there is none, all is as it was
 abbrev pub GivesNotes : ℕ → End → Type 0
 GivesNotes zero e = GivesNone e
 GivesNotes (suc k) e = (held : Option (List ℕ)) × (failures : ℕ) × (note : Note) × GivesNotes k (up_to e held failures) × IsGiven (behind e held failures) (line_of_note note)
 
--- some were, where that was asked for, and else none
+-- some lines were given if that was asked for, and none if not
 abbrev pub HasNoted : Bool → End → Type 0
 HasNoted asked e = (k : ℕ) × (asked ≡ false → k ≡ 0) × GivesNotes k e
 
--- so it was, and then this was done
+-- such lines were given, and then this was done
 abbrev pub EndsBy : Bool → End → (End → Type 0) → Type 0
 EndsBy asked e Last = (held : Option (List ℕ)) × (failures : ℕ) × HasNoted asked (up_to e held failures) × Last (behind e held failures)

@@ -28,19 +28,19 @@ use Rattle.server_faults.specs.declared.server_fault.ServerFault.TheVariants as 
 
 -- ---- requests
 
--- a request is answered at node p of n: nothing is done, or one submission, of a ticket and a text
+-- the answer to a request at node p of n: nothing is done, or one submission is made, of a ticket and a text
 abbrev pub MayTake : ℕ → ℕ → Node → Node → Type 0
 MayTake n p s next = (next ≡ s) ⊎ ((ticket : Ticket) × (text : List ℕ) × (done : Outcome) × ComesTo n p s (value_of ticket text) done next)
 
--- so many requests are, one after another
+-- the answers to some requests, one after another
 abbrev pub MayTakeMany : ℕ → ℕ → ℕ → Node → Node → Type 0
 MayTakeMany n p zero s next = next ≡ s
 MayTakeMany n p (suc k) s next = (mid : Node) × MayTakeMany n p k s mid × MayTake n p mid next
 
 -- ---- a step
 
--- A step: these datagrams are one batch, behind which these values are published, and these letters are what it handed out, each message once; then
--- requests are answered, 64 at most
+-- A step: these datagrams are one batch, and after it these values are published. These letters are what the
+-- batch handed out, each message once. Then requests are answered, 64 at most
 pub record TakesStep (n p : ℕ) (came : List (List ℕ)) (letters : List (To × List ℕ)) (fed : List (List ℕ)) (s next : Node) : Type 0 where
   pub last : LastCall
   pub malformed : ℕ
@@ -52,17 +52,18 @@ pub record TakesStep (n p : ℕ) (came : List (List ℕ)) (letters : List (To ×
   pub few : requests ≤ 64
   pub takes : MayTakeMany n p requests mid next
 
--- a step that ends its server: its batch is given up; or that is whole, and memory was wanted to spell what it hands out, or to answer a request
+-- a step that ends its server: its batch is given up; or the batch is whole, and an allocation failed as what
+-- it handed out was spelled, or as a request was answered
 abbrev pub BreaksStep : ℕ → ℕ → List (List ℕ) → ServerFault → Node → Node → Type 0
 BreaksStep n p came why s next =
     ((last : LastCall) × (fault : NodeFault) × (why ≡ of_node fault) × GivesUpBatch last n p came fault s next)
     ⊎ ((why ≡ server_fault.OutOfMemory) × ((letters : List (To × List ℕ)) × (fed : List (List ℕ)) × TakesStep n p came letters fed s next))
 
--- a pass: one step, over what came by then
+-- a pass: one step over what has come
 abbrev pub TakesPass : ℕ → ℕ → List (List ℕ) → Node → Node → Type 0
 TakesPass n p fed s next = (came : List (List ℕ)) × (letters : List (To × List ℕ)) × TakesStep n p came letters fed s next
 
--- a pass that ends its server: in its step, or as memory is wanted before it, for what came
+-- a pass that ends its server: in its step, or because an allocation failed before it, for what came
 abbrev pub BreaksPass : ℕ → ℕ → ServerFault → Node → Node → Type 0
 BreaksPass n p why s next = ((came : List (List ℕ)) × BreaksStep n p came why s next) ⊎ ((why ≡ server_fault.OutOfMemory) × (next ≡ s))
 
@@ -73,20 +74,20 @@ abbrev pub AreSteps : (Node → Node → Type 0) → Node → List Node → Type
 AreSteps Step s [] = ⊤
 AreSteps Step s (x ∷ xs) = Step s x × AreSteps Step x xs
 
--- the node behind all of them
+-- the node after all of them
 abbrev pub last_of : Node → List Node → Node
 last_of s [] = s
 last_of s (x ∷ xs) = last_of x xs
 
--- so many passes, one after another, each of which leads to one of these nodes; behind the last, all that is known
--- without a gap is published
+-- `count` passes, one after another, each of which leads to one of these nodes. After the last one, all that
+-- is known without a gap is published
 pub record TakesPasses (n p count : ℕ) (fed : List (List ℕ)) (through : List Node) (s next : Node) : Type 0 where
   pub as_many : length through ≡ count
   pub each : AreSteps (λ x y. (then : List (List ℕ)) × TakesPass n p then x y) s through
   pub last : next ≡ last_of s through
   pub fed_is : count ≢ 0 → IsKnownPrefix next fed
 
--- whole passes, fewer than so many, and then one that ends the server
+-- some whole passes, fewer than `count`, and then one that ends the server
 pub record BreaksPasses (n p count : ℕ) (why : ServerFault) (through : List Node) (s next : Node) : Type 0 where
   pub whole : ℕ
   pub fewer : whole < count
@@ -101,7 +102,8 @@ pub record BreaksPasses (n p count : ℕ) (why : ServerFault) (through : List No
 abbrev pub passes_of : ℕ → ℕ → ℕ
 passes_of p rounds = rounds * (40 + 10 * p)
 
--- a server's work that isn't done: it can't say that it is ready, and takes no pass; or it halts in one; or it can't write that they are done
+-- a server's work that is not done: it cannot say that it is ready, and takes no pass; or a pass ends it; or
+-- it cannot say that its laps are done
 abbrev pub BreaksWork : ℕ → ℕ → ℕ → ServerFault → List Node → Node → Node → Type 0
 BreaksWork n p count why through s next =
     (((why ≡ server_fault.OutOfMemory) ⊎ (why ≡ server_fault.Write)) × (through ≡ []) × (next ≡ s))
@@ -114,8 +116,8 @@ BreaksWork n p count why through s next =
 abbrev pub IsOneOf : ℕ → ℕ → List Node → List ℕ → Type 0
 IsOneOf p n nodes file = (x : Node) × In nodes x × IsFound p n x.entries x.in_flight file
 
--- what the disk keeps of the first node it keeps of the last, and a crash at any moment leaves what one of them, or of
--- those between, has on record
+-- what the disk keeps of the first node it keeps of the last one. A crash at any moment leaves what one of
+-- them, or one of those between, has on record
 abbrev pub StaysAlong : {D : Type 0} → (D → DiskState → Type 0) → Running D → Running D → Node → List Node → Node → Type 0
 StaysAlong stands_for old new s through next = (d : DiskState) → IsOnDisk stands_for old s d
     → (e : DiskState) × IsOnDisk stands_for new next e × LeavesOnly d e (IsOneOf old.me old.cluster (s ∷ through))
@@ -125,12 +127,13 @@ pub record Led {D : Type 0} (stands_for : D → DiskState → Type 0) (old new :
   pub leads : (s : Node) → IsNodeOf old s
       → (through : List Node) × (next : Node) × How through s next × IsNodeOf new next × StaysAlong stands_for old new s through next
 
--- a batch over this mail with that last call, of which so many spelled no message, is whole, and these are the letters of what it handed out
+-- a batch over these datagrams, with that last call, is whole. This many of them spelled no message, and
+-- these are the letters of what it handed out
 abbrev pub IsBatchOf : {D : Type 0} → (D → DiskState → Type 0) → LastCall → List (List ℕ) → ℕ → List (To × List ℕ) → Running D → Running D → Type 0
 IsBatchOf stands_for last came malformed letters old new = (out : List (To × Message))
     × LeadsSealed stands_for old new (λ s next. TakesBatch last old.cluster old.me came malformed out new.releases s next × (letters ≡ spelled_of out))
 
--- with some last call
+-- the same with some last call
 abbrev pub IsBatched : {D : Type 0} → (D → DiskState → Type 0) → List (List ℕ) → ℕ → List (To × List ℕ) → Running D → Running D → Type 0
 IsBatched stands_for came malformed letters old new = (last : LastCall) × IsBatchOf stands_for last came malformed letters old new
 
@@ -139,7 +142,8 @@ abbrev pub AreSenders : ℕ → List (List ℕ) → List Bool → Type 0
 AreSenders n came heard =
     (delivered : Delivered) × AreNoted n came none_noted delivered × (heard ≡ delivered.heard)
 
--- The pace of a step: it called what was due, where all that had come was taken in if the mail had room; and then it heard what the batch delivered
+-- The pace of a step: it called what was due. If the mail had room, all that had come was taken in. Then it
+-- heard what the batch delivered
 pub record Paces {D : Type 0} (node : Running D) (mail : Mail) (now : ℕ) (last : LastCall) (old new : Pace) : Type 0 where
   pub drained : Bool
   pub drained_is : IsTrue drained ↔ HasRoom mail
@@ -149,7 +153,8 @@ pub record Paces {D : Type 0} (node : Running D) (mail : Mail) (now : ℕ) (last
   pub noted : AreNoted node.cluster (waiting_of mail) none_noted delivered
   pub hears : HearsBatch mid delivered new
 
--- What may be sent though a step ended its server so: nothing; or, where memory was wanted, letters of its batch, which is sealed, from the first on
+-- What may be sent though a step ended its server like this: nothing; or, if an allocation failed, the first
+-- letters of its batch, which is sealed
 abbrev pub MaySend : {D : Type 0} → (D → DiskState → Type 0) → List (List ℕ) → List (To × List ℕ) → ServerFault → Running D → Type 0
 MaySend {D} stands_for came letters why old = (letters ≡ [])
     ⊎ ((why ≡ server_fault.OutOfMemory)
@@ -162,11 +167,11 @@ MaySend {D} stands_for came letters why old = (letters ≡ [])
 abbrev pub LosesStep : {D : Type 0} → (D → DiskState → Type 0) → List (List ℕ) → Running D → Running D → ServerFault → Type 0
 LosesStep stands_for came old new why = (why ≡ server_fault.Stopped) × ((last : LastCall) × LosesBatch stands_for last came old new)
 
--- in a pass
+-- the device failed in a pass
 abbrev pub LosesPass : {D : Type 0} → (D → DiskState → Type 0) → Running D → Running D → ServerFault → Type 0
 LosesPass stands_for old new why = (came : List (List ℕ)) × LosesStep stands_for came old new why
 
--- whole passes, fewer than so many, and then one in which the device failed
+-- some whole passes, fewer than `count`, and then one in which the device failed
 pub record LosesPasses {D : Type 0} (stands_for : D → DiskState → Type 0) (old new : Running D) (count : ℕ) (why : ServerFault) : Type 0 where
   pub whole : ℕ
   pub fewer : whole < count

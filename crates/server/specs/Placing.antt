@@ -1,4 +1,4 @@
--- What a server is asked to be, read.
+-- What the options ask a server to be.
 use Rattle.std.specs.Prelude.{ℕ, List, length}
 use Rattle.std.specs.Net.Grammar.{IsSocketText}
 use Rattle.std.specs.declared.net.socket_addr.SocketAddr.{SocketAddr}
@@ -10,11 +10,11 @@ use Rattle.server_faults.specs.declared.serve_options.ServeOptions.{ServeOptions
 abbrev pub IsAddress : List ℕ → Type 0
 IsAddress text = (at : SocketAddr) × IsSocketText text at
 
--- so is each of these
+-- each of these is such a text
 abbrev pub AreAddresses : {X : Type 0} → List X → (X → List ℕ) → Type 0
 AreAddresses {X} texts text_of = (x : X) → In texts x → IsAddress (text_of x)
 
--- one to nine nodes, the server one of them, and each has an address, as its requests have
+-- there are one to nine nodes, and the server is one of them. Each has an address, and so have its requests
 pub record IsPlaced (o : ServeOptions) : Type 0 where
   pub cluster : IsNode 9 (length o.peers.items)
   pub me : IsNode (length o.peers.items) o.id

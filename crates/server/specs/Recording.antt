@@ -5,12 +5,12 @@ use Rattle.node.specs.Nodes.{Node}
 use Rattle.node.specs.Tellings.{remembered}
 use Rattle.server.specs.declared.recorded.Recorded.{Recorded}
 
--- how many of the instances 1 to k pass
+-- how many of the instances 1 to k have the property
 abbrev pub count_to : (ℕ → Bool) → ℕ → ℕ
 count_to passes zero = 0
 count_to passes (suc k) = if passes (suc k) then suc (count_to passes k) else count_to passes k
 
--- the furthest of them that passes, 0 where none does
+-- the furthest of them that has it; 0 if none has
 abbrev pub furthest_to : (ℕ → Bool) → ℕ → ℕ
 furthest_to passes zero = 0
 furthest_to passes (suc k) = if passes (suc k) then suc k else furthest_to passes k

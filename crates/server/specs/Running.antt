@@ -20,18 +20,20 @@ done_line = codes "rounds done\n"
 abbrev pub printed : ℕ → List ℕ
 printed p = ready_line p ++ done_line
 
--- before it is ready: the options are no place; or they are one, and record or sockets are not opened, or the reaches that they tell give no floor; or memory is wanted
+-- how it ends before it is ready: the options are not valid; or they are, and the record or the sockets are
+-- not opened, or the reaches give no floor; or an allocation failed
 abbrev pub EndsBefore : ServeOptions → ServerFault → Type 0
 EndsBefore o why = ((why ≡ server_fault.BadAddress) × ¬ IsPlaced o) ⊎ (IsPlaced o × (EndsOpening why ⊎ EndsBinding why ⊎ HasNoFloor o why)) ⊎ (why ≡ server_fault.OutOfMemory)
 
--- it was ready, and did all its laps; on standard error lines of notes where that was asked for, and nothing else
+-- it was ready, and did all its laps. On standard error there are lines of notes, if they were asked for, and
+-- nothing else
 pub record Finished (out err : End) (o : ServeOptions) (status : ℕ) : Type 0 where
   pub placed : IsPlaced o
   pub written : IsWritten out (printed o.id)
   pub noted : HasNoted o.verbose err
   pub status_is : status ≡ 0
 
--- one line, and perhaps why, before it was ready
+-- before it was ready: one line, and perhaps a line that says why
 pub record Refused (out err : End) (o : ServeOptions) (status : ℕ) : Type 0 where
   pub why : ServerFault
   pub ends : EndsBefore o why
@@ -41,7 +43,8 @@ pub record Refused (out err : End) (o : ServeOptions) (status : ℕ) : Type 0 wh
   pub given : GivesFault err o why said
   pub status_is : status ≡ 1
 
--- it was ready, and one line behind those of notes says what ended its laps, and perhaps one more why
+-- it was ready. After the lines of notes one line says what ended its laps, and perhaps one more line says
+-- why
 pub record Halted (out err : End) (o : ServeOptions) (status : ℕ) : Type 0 where
   pub placed : IsPlaced o
   pub why : ServerFault
@@ -52,7 +55,8 @@ pub record Halted (out err : End) (o : ServeOptions) (status : ℕ) : Type 0 whe
   pub given : EndsBy o.verbose err (λ e. GivesFault e o why said)
   pub status_is : status ≡ 1
 
--- the writer failed, and a beginning of what a whole run prints was written; one line behind those of notes says so
+-- the writer failed, and a beginning of what a whole run prints was written. After the lines of notes one
+-- line says so
 pub record Broken (out err : End) (o : ServeOptions) (status : ℕ) : Type 0 where
   pub placed : IsPlaced o
   pub broken : IsBroken out (printed o.id)
@@ -64,14 +68,14 @@ HasServed out err o status = Finished out err o status ⊎ Refused out err o sta
 
 -- ---- the parts of a run
 
--- a fault's place: before it is ready, without a note; in its laps; or where it writes
+-- where a fault ends it: before it is ready, without a note; in its laps; or as it writes
 abbrev pub HaltsAt : End → End → ServeOptions → ServerFault → Type 0
 HaltsAt out err o why =
     (EndsBefore o why × IsSilent out × GivesNotes 0 err)
     ⊎ (IsPlaced o × EndsLaps why × IsWritten out (ready_line o.id) × HasNoted o.verbose err)
     ⊎ (IsPlaced o × (why ≡ server_fault.Write) × IsBroken out (printed o.id) × HasNoted o.verbose err)
 
--- `node P ready` could not be made, or not be written whole
+-- the line `node P ready` could not be made, or not be written whole
 abbrev pub HaltsReady : End → ℕ → ServerFault → Type 0
 HaltsReady out p why = ((why ≡ server_fault.OutOfMemory) × IsSilent out) ⊎ ((why ≡ server_fault.Write) × IsBroken out (ready_line p))
 
@@ -83,7 +87,7 @@ abbrev pub DoneEnds : {T : Type 0} → End → Result T ServerFault → Type 0
 DoneEnds out (Ok _) = IsWritten out done_line
 DoneEnds out (Err why) = (why ≡ server_fault.Write) × IsBroken out done_line
 
--- the work of a server that is opened: ready, laps, done
+-- where the work of an opened server ends: at ready, in its laps, or at done
 abbrev pub HaltsWork : Bool → End → End → ℕ → ServerFault → Type 0
 HaltsWork asked out err p why =
     ((why ≡ server_fault.OutOfMemory) × IsSilent out × GivesNotes 0 err)

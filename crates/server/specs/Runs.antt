@@ -1,4 +1,4 @@
--- Which node a server opens, and what it is led through.
+-- Which node a server opens, and through which nodes it is led.
 use Rattle.std.specs.Prelude.{◌≡◌, ℕ, List, []}
 use Rattle.site_disk.specs.Model.{DiskState}
 use Rattle.durable.specs.Entries.{Entry}
@@ -16,7 +16,7 @@ pub record IsOpened {D : Type 0} (stands_for : D → DiskState → Type 0) (n p 
   pub entries : List Entry
   pub opens : OpensAs stands_for disk node entries
 
--- node p of n is opened and then led so, with what it has published in the end
+-- node p of n is opened and then led in this way. It has published this in the end
 pub record IsRun {D : Type 0} (stands_for : D → DiskState → Type 0) (n p : ℕ) (How : List (List ℕ) → List Node → Node → Node → Type 0) : Type 0 where
   pub opened : Running D
   pub ended : Running D

@@ -9,12 +9,12 @@ use site_ids::{Cluster, MAX_NODES, NodeId};
 use std::alloc::Global;
 use std::net::SocketAddr;
 
-/// Which node of which cluster a server is, and where nodes are found.
+/// Which node of which cluster a server is, and the addresses of nodes.
 #[derive(Drop)]
 pub(crate) struct Addresses {
     pub cluster: Cluster,
     pub me: NodeId,
-    /// Those of nodes 1 to n, in order.
+    /// The addresses of nodes 1 to n, in order.
     pub peers: Vec<SocketAddr>,
     pub http: SocketAddr,
 }
@@ -45,7 +45,7 @@ fn all(alloc: Global, texts: &[&str]) -> Result<Vec<SocketAddr>, ServerFault>
     Ok(found)
 }
 
-/// The cluster of so many nodes, and the node of that number.
+/// The cluster of this size, and the node of that number.
 fn placed(size: usize, id: u8) -> Option<(Cluster, NodeId)>
     ensures some { IfSome result (λ p. (p.0 ≡ size) × (p.1 ≡ id) × IsNode 9 size × IsNode size id) }
     ensures none { IfNone result (¬ (IsNode 9 size × IsNode size id)) }

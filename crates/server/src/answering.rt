@@ -12,7 +12,7 @@ use server_pace::Returning;
 use site_disk::Disk;
 use std::alloc::AllocError;
 
-/// Whether a server over that node comes back, so many milliseconds after it began: requests are left.
+/// Whether a server over that node is coming back, `now` milliseconds after it began. Then requests are left.
 pub(crate) fn is_returning<D: Disk>(returning: Returning, node: &Node<D>, now: u64) -> bool
     ensures returns { result ≡ true → ComesBack returning now node.now }
     ensures back { result ≡ false → IsBack returning now node.now }
@@ -20,7 +20,8 @@ pub(crate) fn is_returning<D: Disk>(returning: Returning, node: &Node<D>, now: u
     returning.is_due(now, node.known())
 }
 
-/// Answers one request of each client at most, none while the server comes back: whether there was one.
+/// Answers at most one request of each client, and none while the server is coming back. Returns whether
+/// there was one.
 pub(crate) fn answer<D: Disk, S: Drop>(
     returning: Returning,
     seats: &mut Seats<S>,

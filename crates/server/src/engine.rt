@@ -33,7 +33,7 @@ use std::rt::{Clock, Files};
 
 type FileServer = Server<FileDisk, TcpStream>;
 
-/// What owns a server is proved to let it go, and a box is let go of in one step.
+/// Whoever owns a server is proved to drop it, and a box is dropped in one step.
 fn boxed(alloc: Global, server: FileServer) -> Result<Box<FileServer>, ServerFault>
     ensures kept { IfOk result (λ boxed. boxed.value ≡ server) }
     ensures fault { IfErr result EndsOpening }
@@ -47,7 +47,7 @@ fn boxed(alloc: Global, server: FileServer) -> Result<Box<FileServer>, ServerFau
     }
 }
 
-/// A server of the node over the record, and at how many instances that has a vote.
+/// A server of the node over the record, and at how many instances the record has a vote.
 fn open_server<R: Files<File = File>>(
     rt: &R,
     alloc: Global,
@@ -99,14 +99,14 @@ fn open<R: Net<Listener = TcpListener, Stream = TcpStream> + Files<File = File> 
     Ok((server, shell))
 }
 
-/// How many passes so many laps of a node are.
+/// How many passes this many laps of a node are.
 fn count_passes(node: u8, rounds: u32) -> u64
     ensures { result ≡ passes_of node rounds }
 {
     u64::from(rounds) * (40 + 10 * u64::from(node))
 }
 
-/// Says that the node is ready, takes so many passes, and says that its laps are done.
+/// Says that the node is ready, takes this many passes, and says that its laps are done.
 fn work<R: Files<File = File> + Clock, W: Write, E: Write>(
     rt: &R,
     alloc: Global,
@@ -169,7 +169,7 @@ fn run<
     done
 }
 
-/// Runs a node for its laps. The answer is the exit status.
+/// Runs a node for its laps, and returns the exit status.
 pub fn sited<
     R: Net<Listener = TcpListener, Stream = TcpStream> + Files<File = File> + Clock,
     W: Write,

@@ -8,7 +8,8 @@ use std::rt::Files;
 /// How many bytes a page of memory has on x86-64.
 const PAGE: u64 = 4096;
 
-/// Where Linux tells how many pages the process has in memory: the second number of the line (proc_pid_statm(5)).
+/// Where Linux reports how many pages the process has in memory: the second number of the line
+/// (proc_pid_statm(5)).
 const PAGES: &str = "/proc/self/statm";
 
 fn second_number(line: &[u8]) -> Option<u64> {
@@ -16,7 +17,7 @@ fn second_number(line: &[u8]) -> Option<u64> {
     line.split_ascii_whitespace().nth(1)?.parse().ok()
 }
 
-/// How many bytes a file has; 0 where the system doesn't tell.
+/// How many bytes a file has; 0 if the system does not report it.
 fn bytes_of<R: Files<File = File>>(rt: &R, path: &str) -> u64 {
     match fs::metadata(rt, path) {
         Ok(data) => data.len(),
@@ -30,7 +31,7 @@ fn read_front<R: Files<File = File>>(rt: &R, path: &str, front: &mut [u8]) -> io
     file.read(front)
 }
 
-/// How many pages the process has in memory; 0 where the system doesn't tell.
+/// How many pages the process has in memory; 0 if the system does not report it.
 fn pages<R: Files<File = File>>(rt: &R) -> u64 {
     let mut front = [0; 128];
     match read_front(rt, PAGES, &mut front) {

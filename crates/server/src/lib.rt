@@ -1,4 +1,4 @@
-//! A server: one node on UDP and TCP, and its clients (`server_clients`), for so many laps.
+//! A server: one node on UDP and TCP, and its clients (`server_clients`), for the laps that it is asked for.
 #![tactic(auto)]
 
 mod addresses;

@@ -1,4 +1,4 @@
-//! Datagrams between a node and who carries them, in memory.
+//! Datagrams between a node and what carries them, in memory.
 
 ghost use Rattle.std.specs.Prelude.{◌≡◌, ◌++◌, ◌∷◌, [], ◌↔◌, ◌⊎◌, ◌≤◌, ℕ, List, length, IsTrue, OnOk, OnErr, vec_len};
 ghost use Rattle.site_drive.specs.Posting.{bytes_of, letters_of};
@@ -19,7 +19,7 @@ use wire::decode;
 /// How many datagrams wait at most.
 const DATAGRAMS: usize = 256;
 
-/// Where so many bytes wait, some 1 MB, no further datagram is received.
+/// While this many bytes wait, some 1 MB, no further datagram is received.
 const BYTES: usize = 1_000_000;
 
 /// Datagrams that came and wait for the next step, and letters that the last one handed out.
@@ -48,7 +48,7 @@ pub(crate) fn reaches(to: To, node: NodeId) -> bool
     }
 }
 
-/// A letter is one more datagram where it is for that node.
+/// If a letter is for that node, it is one more datagram.
 fn put_own(
     alloc: Global,
     letter: &Letter,
@@ -63,7 +63,7 @@ fn put_own(
     Ok(())
 }
 
-/// So are these.
+/// The same for each of these letters.
 fn put_each(
     alloc: Global,
     letters: &[Letter],
@@ -109,7 +109,7 @@ impl Mail {
         self.came.is_empty()
     }
 
-    /// A datagram came: it waits behind the others.
+    /// A datagram came: it waits after the others.
     pub fn push(&mut self, datagram: &[u8]) -> Result<(), AllocError>
         ensures came { OnOk result (waiting_of self.new ≡ waiting_of self.old ++ datagram.now ∷ []) }
         ensures room { OnOk result (self.new.bytes ≡ counted self.old.bytes (datagram.now ∷ [])) }
@@ -123,7 +123,8 @@ impl Mail {
         Ok(())
     }
 
-    /// What came in one piece: each datagram that it holds waits behind the others. Where memory is refused the first of them may. Who sends a packet reads packets.
+    /// Takes in what came in one piece: each datagram that it holds waits after the others. If an allocation
+    /// fails, the first of them may wait. A node that sends a packet reads packets.
     pub fn take_in(&mut self, piece: &[u8], now: u64) -> Result<(), AllocError>
         ensures came { OnOk result ((ds : List (List ℕ)) × Holds piece.now ds
             × (waiting_of self.new ≡ waiting_of self.old ++ ds) × (self.new.bytes ≡ counted self.old.bytes ds)) }
@@ -140,7 +141,8 @@ impl Mail {
         }
     }
 
-    /// Who sent the first message of a packet reads packets. Where memory is refused nobody is noticed.
+    /// The node that sent the first message of a packet reads packets. If an allocation fails, no node is
+    /// noted.
     fn hear(&mut self, frames: &[u8], now: u64)
         ensures hears { HearsFrames self.old.cluster frames.now now self.old.peers self.new.peers ⊎ (self.new.peers ≡ self.old.peers) }
         ensures same { self.new ≡ record self.old { peers = self.new.peers } }
@@ -153,7 +155,7 @@ impl Mail {
         }
     }
 
-    /// What stands behind the mark of a packet.
+    /// Takes in what follows the mark of a packet.
     fn take_frames(&mut self, frames: &[u8]) -> Result<(), AllocError>
         requires { length frames.now ≤ MAX_PACKET }
         ensures came { OnOk result ((ds : List (List ℕ)) → frames.now ≡ framed_all ds
@@ -178,7 +180,7 @@ impl Mail {
         self.letters.as_slice()
     }
 
-    /// What waited was taken: what waits now is what these letters have for this node.
+    /// What waited was taken. What waits now is what these letters have for this node.
     pub(crate) fn keep_own(&mut self, me: NodeId) -> Result<(), AllocError>
         ensures own { OnOk result (waiting_of self.new ≡ own_of me (posted_of self.old)) }
         ensures room { self.new.bytes ≡ 0 }

@@ -11,11 +11,11 @@ use std::alloc::Global;
 /// What an empty or absent file becomes before it is opened.
 #[derive(Clone, Copy, Drop)]
 pub(crate) enum Making {
-    /// It stays what it is.
+    /// It stays as it is.
     Nothing,
     /// An empty record, of a node of a new group.
     Empty,
-    /// A record of this floor alone, of a node whose own was lost.
+    /// A record with only this floor, of a node whose own record was lost.
     Above(Instance),
 }
 
@@ -29,7 +29,7 @@ impl Making {
     }
 }
 
-/// What the options ask for: where they tell reaches, a record with a floor.
+/// What the options ask for: a record with a floor, if they say how far records reach.
 pub(crate) fn read_making(
     alloc: Global,
     cluster: Cluster,

@@ -20,7 +20,7 @@ use std::io;
 use std::path::Path;
 use std::rt::Files;
 
-/// The file, once it is this process's alone.
+/// The file, once only this process has it.
 fn lock(file: File, cause: &mut Cause) -> Result<File, ServerFault>
     ensures { IfErr result EndsOpening }
 {
@@ -37,7 +37,8 @@ fn lock(file: File, cause: &mut Cause) -> Result<File, ServerFault>
     }
 }
 
-/// The record's file, made where it is absent and that was asked. It is this process's alone as long as it runs: two that write one record would damage it.
+/// The record's file. It is made if it is absent and that was asked for. Only this process has it as long as
+/// it runs: two processes that write one record would damage it.
 fn file<R: Files<File = File>>(
     rt: &R,
     path: &str,
@@ -82,8 +83,8 @@ fn sync_folder<R: Files<File = File>>(
     }
 }
 
-/// Makes an empty file the record that is asked for, and tells whether it did. A file that is not empty stays as it is: it may be an empty record's
-/// place no more, and never that of one with a floor.
+/// Makes an empty file the record that is asked for, and returns whether it did. A file that is not empty
+/// stays as it is: it may be an empty record's place no more, and never that of one with a floor.
 fn make<D: Disk>(
     cluster: Cluster,
     me: NodeId,
@@ -108,7 +109,7 @@ fn make<D: Disk>(
     }
 }
 
-/// The disk of a record at a path. Where that is asked, an empty or absent file becomes a record first.
+/// The disk of a record at a path. If that was asked for, an empty or absent file becomes a record first.
 fn open_disk<R: Files<File = File>>(
     rt: &R,
     cluster: Cluster,
@@ -131,7 +132,8 @@ fn open_disk<R: Files<File = File>>(
     Ok(disk)
 }
 
-/// Opens a node over the record at a path. Where that is asked, an empty or absent file becomes a record first.
+/// Opens a node over the record at a path. If that was asked for, an empty or absent file becomes a record
+/// first.
 pub(crate) fn open_node<R: Files<File = File>>(
     rt: &R,
     alloc: Global,

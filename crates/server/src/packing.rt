@@ -1,4 +1,4 @@
-//! Letters, packed for whom they are.
+//! Letters, packed for the nodes that they are for.
 
 ghost use Rattle.std.specs.Prelude.{◌≡◌, ◌≤◌, ◌↔◌, [], ℕ, List, length, take, true, IfOk, IsTrue};
 ghost use Rattle.site_drive.specs.Posting.{letters_of};
@@ -12,15 +12,17 @@ use site_drive::Letter;
 use site_ids::NodeId;
 use std::alloc::AllocError;
 
-/// Whether a datagram of so many bytes may go with those that are packed: the first may, and with others where that is wanted and there is room.
+/// Whether a datagram of `len` bytes may go with those that are packed. The first may. A further one may if
+/// it is not to go `alone` and there is room.
 fn may_join(packet: &Packet, len: usize, alone: bool) -> bool
     ensures { (ds : List (List ℕ)) → Packs packet.now ds → IsTrue result ↔ MayJoin ds len alone }
 {
     packet.is_empty() || (!alone && packet.has_room(len))
 }
 
-/// Packs what the first of these letters have for a node, in place of what was packed: as many as go into one packet, and one at least, however long; or
-/// one alone, for a node that reads no packets (`Peers`). The answer is how many letters that are, those for other nodes among them.
+/// Packs what the first of these letters have for a node, in the place of what was packed. It packs as many
+/// as go into one packet, and at least one, however long that is; or only one, for a node that reads no
+/// packets (`Peers`). It returns how many letters these are, those for other nodes among them.
 pub fn pack(
     letters: &[Letter],
     to: NodeId,

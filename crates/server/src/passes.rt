@@ -23,7 +23,7 @@ use std::io::Write;
 use std::net::TcpStream;
 use std::rt::{Clock, Files};
 
-/// Rests behind a step, where it is to.
+/// Rests after a step, if it is time to.
 fn rest_behind<D: Disk + Drop, C: Clock>(
     clock: &C,
     shell: &mut Shell,
@@ -38,7 +38,7 @@ fn rest_behind<D: Disk + Drop, C: Clock>(
     }
 }
 
-/// One pass. Where nothing came and nothing went, it rests.
+/// One pass. If nothing came and nothing went, it rests.
 fn take_pass<D: Disk + Drop, C: Clock>(
     clock: &C,
     shell: &mut Shell,

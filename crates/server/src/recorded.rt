@@ -11,7 +11,7 @@ use node::Node;
 use site_disk::Disk;
 use site_ids::{Instance, MAX_INSTANCE};
 
-/// How far a node's record goes. Each is 0 where there is none.
+/// How far a node's record reaches. Each number is 0 if the record has no such instance.
 #[derive(Clone, Copy, Drop)]
 pub struct Recorded {
     /// At how many instances it has a vote.
@@ -22,14 +22,14 @@ pub struct Recorded {
     pub furthest: u32,
 }
 
-/// One more, where that is so.
+/// One more, if that holds.
 fn count_on(count: u32, is: bool) -> u32
     ensures { result ≡ (if is then min (count + 1) (2 ^ 32 - 1) else count) }
 {
     if is { count.saturating_add(1) } else { count }
 }
 
-/// This instance, where that is so at it, and else the one found so far.
+/// This instance, if that holds at it, or else the one found so far.
 fn further(found: u32, instance: u32, is: bool) -> u32
     ensures { result ≡ (if is then instance else found) }
 {
@@ -37,7 +37,7 @@ fn further(found: u32, instance: u32, is: bool) -> u32
 }
 
 impl Recorded {
-    /// With what the record has at an instance behind those that were looked at.
+    /// With what the record has at an instance after those that were looked at.
     fn look_at<D: Disk>(self, node: &Node<D>, instance: Instance) -> Recorded
         ensures { (s : AbstractNode) → IsNodeOf node.now s → result ≡ recorded_at s instance self }
     {
@@ -51,8 +51,8 @@ impl Recorded {
         }
     }
 
-    /// What a node's record has at the first so many instances. A value that the node knows counts as one on
-    /// record: one that was just opened knows none.
+    /// What a node's record has at the first `instances` instances. A value that the node knows counts as one
+    /// on record; a node that was just opened knows none.
     pub fn of<D: Disk>(node: &Node<D>, instances: u32) -> Recorded
         ensures { (s : AbstractNode) → IsNodeOf node.now s
             → result ≡ recorded_to s (min instances MAX_INSTANCE) }

@@ -1,4 +1,4 @@
-//! What a server says of its work.
+//! What a server reports of its work.
 
 ghost use Rattle.std.specs.Prelude.{◌≡◌, ℕ, List, ◌++◌, IfOk, true, string_bytes, codes};
 ghost use Rattle.http_read.specs.Bytes.{end_of, IsGiven};
@@ -24,7 +24,7 @@ fn note_line(alloc: Global, note: &Note) -> Result<String, AllocError>
     format!(in alloc; "{note}\n")
 }
 
-/// Writes the line of a note. Where that fails, or memory is wanted for it, it is passed over.
+/// Writes the line of a note. If that or an allocation fails, it is ignored.
 fn tell_note<E: Write>(alloc: Global, err: &mut Counted<E>, note: &Note)
     ensures { HasNoted true (end_of E.contents err.old err.new) }
 {
@@ -33,7 +33,8 @@ fn tell_note<E: Write>(alloc: Global, err: &mut Counted<E>, note: &Note)
     }
 }
 
-/// Writes all that is to be said after a pass, of each of the fourteen kinds a line at most, if options ask for that.
+/// Writes all that is to be reported after a pass, if the options ask for that: at most one line of each of
+/// the fourteen kinds.
 pub(crate) fn tell_notes<R: Files<File = File>, E: Write>(
     rt: &R,
     alloc: Global,

@@ -31,8 +31,9 @@ use std::alloc::Global;
 
 /// A server without sockets and clock: a node, its mail, its clients, and when it tries and asks.
 ///
-/// Who has the sockets puts datagrams into the mail and clients on seats, has the seats hear, takes a step, sends the mail's letters, has the seats tell, and parts
-/// with the clients that leave. S is what a client's bytes come and go by.
+/// Whoever has the sockets puts datagrams into the mail and clients on seats, has the seats read, takes a
+/// step, sends the mail's letters, has the seats write, and parts with the clients that leave. S is what a
+/// client's bytes come and go by.
 #[derive(Drop)]
 pub struct Server<D, S> {
     me: NodeId,
@@ -44,30 +45,30 @@ pub struct Server<D, S> {
     returning: Returning,
 }
 
-/// What a step came to.
+/// What a step did.
 #[derive(Clone, Copy, Debug, PartialEq, Eq, Drop)]
 pub struct Stepped {
-    /// Datagrams waited for it.
+    /// Whether datagrams waited for it.
     pub came: bool,
-    /// So many of them spelled no message.
+    /// How many of them spelled no message.
     pub malformed: u64,
-    /// These nodes sent the others.
+    /// The nodes that sent the others.
     pub heard: NodeSet,
-    /// Requests were answered.
+    /// Whether requests were answered.
     pub answered: bool,
 }
 
-/// What came of the batch of a step.
+/// What the batch of a step did.
 #[derive(Clone, Copy, Drop)]
 struct Batched {
-    // so many of its datagrams spelled no message
+    // how many of its datagrams spelled no message
     malformed: u64,
-    // these nodes sent the others
+    // the nodes that sent the others
     heard: NodeSet,
 }
 
 impl<D: Disk + Drop, S: Drop> Server<D, S> {
-    /// This node serves nobody yet, and has heard nothing. The desk is an empty one.
+    /// The node serves nobody yet, and has heard nothing. The desk is an empty one.
     pub fn new(
         alloc: Global,
         me: NodeId,
@@ -97,7 +98,8 @@ impl<D: Disk + Drop, S: Drop> Server<D, S> {
         }
     }
 
-    /// The batch of a step: all that waits, and the call that is due after it. What that hands out is posted.
+    /// Takes the batch of a step: all that waits, and the call that is due after it. What that hands out is
+    /// posted.
     fn take_batch(&mut self, now: u64) -> Result<Batched, ServerFault>
         ensures ok { IfOk result (λ batched. (last : LastCall) × IsBatchOf D.stands_for last (waiting_of self.old.mail) batched.malformed (posted_of self.new.mail) self.old.served.node self.new.served.node
             × Paces self.old.served.node self.old.mail now last self.old.pace self.new.pace) }
@@ -133,7 +135,7 @@ impl<D: Disk + Drop, S: Drop> Server<D, S> {
         })
     }
 
-    /// Whether it comes back, so many milliseconds after it began: requests are left.
+    /// Whether the server is coming back, `now` milliseconds after it began. Then requests are left.
     pub fn is_returning(&self, now: u64) -> bool
         ensures returns { result ≡ true → ComesBack self.now.returning now self.now.served.node }
         ensures back { result ≡ false → IsBack self.now.returning now self.now.served.node }
@@ -141,8 +143,9 @@ impl<D: Disk + Drop, S: Drop> Server<D, S> {
         is_returning(self.returning, &self.served.node, now)
     }
 
-    /// One step, so many milliseconds after the server began, and never less than before: all that waits is one batch, behind which the node publishes, and what that
-    /// hands out are the mail's letters; then requests are answered, but for those that are left. While the server comes back all are.
+    /// One step, `now` milliseconds after the server began, and never less than before. All that waits is one
+    /// batch, after which the node publishes. What the batch hands out is the mail's letters. Then requests
+    /// are answered, except those that are left. While the server is coming back, all are left.
     pub fn step(&mut self, now: u64) -> Result<Stepped, ServerFault>
         ensures clients { IfOk result (λ stepped. (mid : Served D) × (last : LastCall) × IsBatchOf D.stands_for last (waiting_of self.old.mail) stepped.malformed (posted_of self.new.mail) self.old.served.node mid.node
             × Paces self.old.served.node self.old.mail now last self.old.pace self.new.pace
@@ -177,7 +180,7 @@ impl<D: Disk + Drop, S: Drop> Server<D, S> {
         })
     }
 
-    /// The node, without all else.
+    /// The node, and nothing else.
     pub fn into_served(self) -> Served<D>
         ensures { result ≡ self.served }
     {
@@ -192,7 +195,7 @@ impl<D: Disk + Drop, S: Drop> Server<D, S> {
         stepped.came || !self.mail.is_empty()
     }
 
-    /// How many microseconds to rest behind a step, where it came to this, and bytes of clients moved or none: none
+    /// How many microseconds to rest after this step. `moved` says whether bytes of clients moved. `None`
     /// while datagrams or bytes of clients came or went.
     pub fn rest(&mut self, stepped: Stepped, moved: bool) -> Option<u64>
         ensures rests { IsSome result ↔ Rests (resting_of self.old.pace

@@ -1,6 +1,8 @@
-//! What carries a server's bytes: its sockets and its clock. It is read: nothing is proved of it but that it is safe and returns.
+//! What carries a server's bytes: its sockets and its clock. It is read: nothing is proved of it except that
+//! it is safe and returns.
 //!
-//! What it sends a node in a pass goes as packets (`server_packets`), where that node reads such (`Peers`): each call that sends costs some microseconds, as much as a message.
+//! What it sends a node in a pass goes as packets (`server_packets`), if that node reads them (`Peers`): each
+//! call that sends costs some microseconds, as much as a message.
 //!
 //! A rest of 10 ms or more waits for a datagram and ends with it; a shorter one sleeps, as the system counts such waits in steps of some milliseconds.
 
@@ -28,10 +30,12 @@ const RECEIVED: u32 = 256;
 
 const ACCEPTED: u32 = 64;
 
-/// So many microseconds or more are a long rest, which a datagram ends. The system counts such a wait in milliseconds, so a shorter one sleeps.
+/// A rest of this many microseconds or more is a long one, which a datagram ends. The system counts such a
+/// wait in milliseconds, so a shorter rest sleeps.
 const LONG: u64 = 10_000;
 
-/// How many reads of what a script's client still sends come before its connection is closed, each of at most 4,096 bytes.
+/// How many reads of what a script's client still sends are made before its connection is closed, each of at
+/// most 4,096 bytes.
 const LINGER: u32 = 16;
 
 /// The sockets, none of which waits, and the time.
@@ -41,7 +45,7 @@ pub(crate) struct Shell {
     // the other nodes
     others: Vec<(NodeId, SocketAddr)>,
     listener: TcpListener,
-    // room for the longest datagram and a byte more, so that one that was cut spells nothing
+    // room for the longest datagram and one more byte, so that one that was cut short spells nothing
     datagram: Vec<u8>,
     packet: Packet,
     // clients that have their last response: they have no seat, and keep nobody from one
@@ -51,8 +55,9 @@ pub(crate) struct Shell {
     pub(crate) watch: Watch,
 }
 
-/// Closes a connection of a script, whose client has sent all that it sends: where that is left unread, the system resets the connection, and the client
-/// may lose its response. A server's clients may send on (`Partings`).
+/// Closes a connection of a script, whose client has sent all that it sends. If some of that is left unread,
+/// the system resets the connection, and the client may lose its response. A server's clients may go on
+/// sending (`Partings`).
 pub fn close(stream: TcpStream) {
     if stream.shutdown(Shutdown::Write).is_err() || stream.set_nonblocking(true).is_err() {
         return;
@@ -66,7 +71,7 @@ pub fn close(stream: TcpStream) {
     }
 }
 
-/// Where the other nodes are: node p has the p-th address.
+/// The addresses of the other nodes: node p has the p-th address.
 fn others_of(
     alloc: Global,
     addresses: &Addresses,
@@ -81,7 +86,8 @@ fn others_of(
     Ok(others)
 }
 
-/// Sends a node what was packed for it. Once in a while that goes as a packet, one datagram too; to a node that reads none it goes as it is, too.
+/// Sends a node what was packed for it. Once in a while that goes as a packet, even if it is one datagram. To
+/// a node that reads no packets it then goes as it is, too.
 fn send_packed(
     socket: &UdpSocket,
     packet: &Packet,
@@ -103,7 +109,7 @@ fn send_packed(
     }
 }
 
-/// Sends a node what these letters have for it. A failure is a loss, and so is want of memory.
+/// Sends a node what these letters have for it. A failure is a loss, and so is a failed allocation.
 fn send_to(
     socket: &UdpSocket,
     packet: &mut Packet,
@@ -155,7 +161,8 @@ impl Shell {
         })
     }
 
-    /// How many milliseconds have passed since it began, and never less than before. Where the clock can't tell, one more than before.
+    /// How many milliseconds have passed since it began, never less than before. If the clock fails, one more
+    /// than before.
     pub(crate) fn now<C: Clock>(&mut self, clock: &C) -> u64 {
         let passed = match self.start {
             Some(start) => start.elapsed(clock).ok(),
@@ -169,7 +176,7 @@ impl Shell {
         self.now
     }
 
-    /// Takes in what has come, of other nodes and of clients: whether a client sent any.
+    /// Takes in what has come from other nodes and from clients. Returns whether a client sent any.
     pub(crate) fn take_in(
         &mut self,
         mail: &mut Mail,
@@ -181,7 +188,7 @@ impl Shell {
         seats.read_each(now)
     }
 
-    /// Sends the letters and what clients are owed: whether anything went to a client.
+    /// Sends the letters and what clients are owed. Returns whether anything went to a client.
     pub(crate) fn give_out(
         &mut self,
         mail: &mut Mail,
@@ -209,7 +216,8 @@ impl Shell {
         Ok(())
     }
 
-    /// Seats the clients that have come, each perhaps for one that was silent for long. One that fails at once is passed over.
+    /// Seats the clients that have come, each perhaps in the place of one that was silent for long. A client
+    /// that fails at once is ignored.
     fn accept(&mut self, seats: &mut Seats<TcpStream>, now: u64) -> Result<(), AllocError> {
         for _ in 0..ACCEPTED {
             if !seats.has_room(now) {
@@ -232,7 +240,8 @@ impl Shell {
         Ok(())
     }
 
-    /// Rests for so many microseconds, a long rest until a datagram comes. One that finds no memory is a loss.
+    /// Rests for this many microseconds. A long rest ends when a datagram comes. A datagram for which an
+    /// allocation fails is lost.
     pub(crate) fn rest<C: Clock>(&mut self, clock: &C, micros: u64, mail: &mut Mail) {
         let length = Duration::from_micros(micros);
         if micros < LONG || self.may_wait(length).is_err() {
@@ -246,7 +255,7 @@ impl Shell {
         }
     }
 
-    /// From now on a receive waits so long. Where it can't, none waits.
+    /// From now on a receive waits this long. If that cannot be set, none waits.
     fn may_wait(&self, length: Duration) -> io::Result<()> {
         self.socket.set_read_timeout(Some(length))?;
         self.socket.set_nonblocking(false)
@@ -276,7 +285,7 @@ impl Shell {
         self.partings.read_each(now)
     }
 
-    /// Parts with the clients that leave, with so many at most.
+    /// Parts with the clients that leave, with a limited number at most.
     fn part_each(&mut self, seats: &mut Seats<TcpStream>, now: u64) {
         for _ in 0..ACCEPTED {
             match seats.leave(now) {
@@ -286,8 +295,8 @@ impl Shell {
         }
     }
 
-    /// Nothing more is written to a client: its stream is read on until it closes. Where that can't be, and where another one goes for it, the
-    /// connection is closed here.
+    /// Nothing more is written to a client, and its stream is read until it closes. If that is not possible,
+    /// or if another stream is given up for it, the connection is closed here.
     fn part_with(&mut self, stream: TcpStream, now: u64) {
         if stream.shutdown(Shutdown::Write).is_ok() {
             let _ = self.partings.take_in(stream, now);

@@ -35,7 +35,7 @@ fn connections<R: Net<Listener = TcpListener, Stream = TcpStream>>(
     Ok(listener)
 }
 
-/// Opens both sockets. Where the system picked the server's own port, the server is found there.
+/// Opens both sockets. If the system picked the server's own port, the server is found there.
 fn open<R: Net<Listener = TcpListener, Stream = TcpStream>>(
     rt: &R,
     addresses: &mut Addresses,

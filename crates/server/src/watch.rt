@@ -1,11 +1,12 @@
 //! What a pass saw, for the lines that a server says of itself.
 //!
-//! A message counts for the node that it names as its sender, as the server's node takes it: by addresses nobody would be heard where those are translated.
+//! A message counts for the node that it names as its sender, as it does for the server's node. By addresses
+//! no node would be heard if they are translated.
 
 use crate::server::Stepped;
 use server_notes::{Figures, Note, Notes};
 
-/// What became of clients in a pass, beside the notes of all passes before it.
+/// What became of clients in a pass, and the notes of all passes before it.
 #[derive(Drop)]
 pub(crate) struct Watch {
     notes: Notes,
@@ -66,12 +67,12 @@ impl Watch {
         self.notes.is_hour(self.now)
     }
 
-    /// These were taken.
+    /// Keeps the figures that were taken.
     pub(crate) fn figure(&mut self, figures: Figures) {
         self.notes.figure(figures);
     }
 
-    /// What is said next, if anything.
+    /// The next note to be written, if any.
     pub(crate) fn next(&mut self) -> Option<Note> {
         self.notes.next(self.now, self.known, self.newest)
     }

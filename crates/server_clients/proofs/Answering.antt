@@ -20,7 +20,7 @@ found_none found true told is = refl
 found_none found false told is = absurd (false≢true (sym (ap is_some is) ∙ told))
 
 module _ {T : Type 0} where
-  -- a write behind them leaves what is told of them
+  -- a write after them leaves what is told of them
   tells_on : (told : Bool) (i : ℕ) (old new : List (Seat T)) (y : Seat T) → TellsAnswered told i old new → TellsAnswered told i old (set new i y)
   tells_on true i old new y (at, below, more) = (at, below, λ none. subst (λ s. s.connection.answered ≡ suc (get_or old at none).connection.answered) (sym (get_or-set_other new i at y none (omega (arith, below)))) (more none))
   tells_on false i old new y same = λ at below none. subst (λ s. s.connection.answered ≡ (get_or old at none).connection.answered) (sym (get_or-set_other new i at y none (omega (arith, below)))) (same at below none)
@@ -52,7 +52,7 @@ module _ {S : Type 0} (service : Offered S) where
       ]
 
 module _ {S T : Type 0} (service : Offered S) (times : Times) (time : ℕ) where
-  -- a write behind them leaves them
+  -- a write after them leaves them
   pub turns_stand : (k i : ℕ) (now after : S) (old new : List (Seat T)) (y : Seat T) → k ≤ i → AreTurns service times time k now after old new → AreTurns service times time k now after old (set new i y)
   turns_stand zero i now after old new y within turns = turns
   turns_stand (suc k) i now after old new y within turns =

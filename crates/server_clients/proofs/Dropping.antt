@@ -1,4 +1,4 @@
--- Readings one behind the other; and the first one of a list goes.
+-- Readings one after another; and the first one of a list goes.
 use Rattle.std.proofs.Common.{◌≡◌, ◌≢◌, ◌<◌, ◌-◌, ℕ, zero, suc, List, [], ◌∷◌, ◌≤◌, length, get_or, remove, inl, inr, arith, ap, sym, subst, ◌∙◌}
 use Rattle.std.specs.Prelude.{Option}
 use Rattle.http_serve.specs.declared.outcomes.ReadOutcome.{ReadOutcome}

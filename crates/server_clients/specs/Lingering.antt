@@ -31,12 +31,12 @@ pub record IsShut {T : Type 0} (stream : T) (now : ℕ) (parting : Parting T) : 
   pub dropped : parting.dropped ≡ 0
   pub ended : parting.ended ≡ false
 
--- bytes are counted, up to the last number
+-- the bytes are counted. The count stays at the last value of its type
 abbrev pub counted : ℕ → List ℕ → ℕ
 counted dropped more = min (dropped + length more) (2 ^ 64 - 1)
 
--- What one reading did: bytes came, which are counted and dropped; none was there; its client closed; or it
--- failed
+-- What one reading did: bytes came, which are counted and dropped; or no byte was there; or its client
+-- closed; or it failed
 abbrev pub DropsBy : {T : Type 0} → ReadOutcome → End → Parting T → Parting T → Type 0
 DropsBy Came reader old new =
     (more : List ℕ) × (0 < length more) × Consumes reader.before reader.after more × IsSound reader
@@ -52,27 +52,27 @@ DropsBy Failed reader old new =
 abbrev pub Drops : {T : Type 0} → (T → Option (List ℕ)) → ReadOutcome → Parting T → Parting T → Type 0
 Drops remaining outcome old new = DropsBy outcome (end_of remaining old.stream new.stream) old new
 
--- up to k readings, one behind the other, until one brings no bytes
+-- up to k readings, one after another, until one brings no bytes
 abbrev pub AreDropped : {T : Type 0} → (T → Option (List ℕ)) → ℕ → Parting T → Parting T → Type 0
 AreDropped remaining zero old new = new ≡ old
 AreDropped {T} remaining (suc k) old new =
     ((mid : Parting T) × Drops remaining Came old mid × AreDropped remaining k mid new)
     ⊎ ((outcome : ReadOutcome) × (outcome ≢ Came) × Drops remaining outcome old new)
 
--- Its own stream is read, until nothing more is there or as often as a step may: whether bytes came
+-- Its own stream is read, until nothing more is there or as often as a step may. Whether bytes came is said
 abbrev pub IsDropped : {T : Type 0} → (T → Option (List ℕ)) → Bool → Parting T → Parting T → Type 0
 IsDropped remaining came old new =
     AreDropped remaining READS old new × (came ≡ nat_lt old.dropped new.dropped)
 
 -- ---- all of them
 
--- Where there is no room, the one that was shut down first is given up, and its stream handed out
+-- If there is no room, the stream that was shut down first is given up, and handed out
 abbrev pub IsOutOf : {T : Type 0} → List (Parting T) → List (Parting T) → Option T → Type 0
 IsOutOf old new None = (length old < 64) × (new ≡ old)
 IsOutOf {T} old new (Some gone) =
     (64 ≤ length old) × (first : Parting T) × (old ≡ first ∷ new) × (gone ≡ inside first.stream)
 
--- A stream comes behind the others; where there is no room, the first one goes for it
+-- A stream comes after the others. If there is no room, the first one goes for it
 abbrev pub TakesIn : {T : Type 0} → T → ℕ → List (Parting T) → List (Parting T) → Option T → Type 0
 TakesIn {T} stream now old new gone = (rest : List (Parting T)) × IsOutOf old rest gone
     × (last : Parting T) × IsShut stream now last × (new ≡ rest ++ last ∷ [])

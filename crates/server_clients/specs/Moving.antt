@@ -25,13 +25,13 @@ has_come _ = true
 abbrev pub SameTimes : {T : Type 0} → Seat T → Seat T → Type 0
 SameTimes old new = (new.moved ≡ old.moved) × (new.came ≡ old.came) × (new.begun ≡ old.begun)
 
--- its times after a reading: bytes that came begin a request where none is under way
+-- its times after a reading: bytes that came begin a request if none is under way
 abbrev pub TimesRead : {T : Type 0} → ReadOutcome → ℕ → Seat T → Seat T → Type 0
 TimesRead read_outcome.Came now old new =
     (new.moved ≡ now) × (new.came ≡ now) × (new.begun ≡ Some (unwrap_or old.begun now))
 TimesRead _ now old new = SameTimes old new
 
--- Its own stream is read once into its own connection, where it may be: whether anything came
+-- Its own stream is read once into its own connection, if it may be read. Whether anything came is said
 abbrev pub IsReadOnce : {T : Type 0} → (T → Option (List ℕ)) → ℕ → Bool → Seat T → Seat T → Type 0
 IsReadOnce remaining now came old new =
     (¬ (MayBeRead old) × (came ≡ false) × (new ≡ old))
@@ -44,7 +44,7 @@ abbrev pub has_gone : WriteOutcome → Bool
 has_gone write_outcome.Nothing = false
 has_gone _ = true
 
--- its times after a writing: where all is written its request is over, and the next one has begun if a part of
+-- its times after a writing. If all is written, its request is over, and the next one has begun if a part of
 -- it is there
 abbrev pub TimesWritten : {T : Type 0} → WriteOutcome → ℕ → Seat T → Seat T → Type 0
 TimesWritten write_outcome.Written now old new = (new.moved ≡ now) × (new.came ≡ old.came)
@@ -53,7 +53,8 @@ TimesWritten write_outcome.Written now old new = (new.moved ≡ now) × (new.cam
     × (length (owed new.connection) ≡ 0 → ¬ (IsIdle new.connection) → new.begun ≡ Some now)
 TimesWritten _ now old new = SameTimes old new
 
--- What its own connection owes is written to its own stream once, if it owes anything: whether anything went
+-- What its own connection owes is written to its own stream once, if it owes anything. Whether anything went
+-- is said
 abbrev pub IsWrittenOnce : {T : Type 0} → (T → Option (List ℕ)) → ℕ → Bool → Seat T → Seat T → Type 0
 IsWrittenOnce contents now went old new =
     ((length (owed old.connection) ≡ 0) × (went ≡ false) × (new ≡ old))
@@ -63,8 +64,8 @@ IsWrittenOnce contents now went old new =
 
 -- ---- all of them
 
--- One thing is done once to each of the first k clients, and to no other; did tells whether it came to anything
--- at one of them
+-- One thing is done once to each of the first k clients, and to no other. `did` says whether anything came of
+-- it at one of them
 pub record AreDone {C : Type 0} (Once : Bool → C → C → Type 0) (k : ℕ) (did : Bool) (old new : List C)
     : Type 0 where
   pub as_many : length new ≡ length old

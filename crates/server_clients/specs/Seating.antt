@@ -1,4 +1,5 @@
--- Who takes a seat, who leaves, and who goes for another. Moments are milliseconds since the server began.
+-- Which clients take a seat, which leave, and which go for another one. Moments are milliseconds since the
+-- server began.
 use Rattle.std.specs.Prelude.{◌≡◌, ◌⊎◌, ◌<◌, ◌≤◌, ◌-◌, ℕ, List, [], ◌∷◌, ◌++◌, length, get_or, swap_remove, nat_le, if◌then◌else◌, Option, Some, None}
 use Rattle.http_read.specs.Counted.{inside, failed}
 use Rattle.http_serve.specs.ConnectionSteps.{owed, IsNew, IsDone}
@@ -28,7 +29,7 @@ stay_of now seat = record { still = now - seat.moved; busy = busy_of now seat.be
 abbrev pub IsLeaving : {T : Type 0} → Times → ℕ → Seat T → Type 0
 IsLeaving times now seat = IsDone seat.connection ⊎ IsTooLong (stay_of now seat) times
 
--- its request takes longer than one may keep others from a seat
+-- its request keeps others from a seat for longer than it may
 abbrev pub IsSlow : {T : Type 0} → Times → ℕ → Seat T → Type 0
 IsSlow times now seat = (begun : ℕ) × (seat.begun ≡ Some begun) × (times.keeps_seat ≤ now - begun)
 
@@ -36,14 +37,15 @@ IsSlow times now seat = (begun : ℕ) × (seat.begun ≡ Some begun) × (times.k
 abbrev pub MayGo : {T : Type 0} → Times → ℕ → Seat T → Type 0
 MayGo times now seat = (length (owed seat.connection) ≡ 0) ⊎ IsSlow times now seat
 
--- of a seat found so far, with the moment since when it was silent, and the next one: whichever was silent
--- longer; where both were as long, the one found
+-- of the seat found so far, with the moment since when it was silent, and the next one: whichever was silent
+-- longer, or the one found if both were silent equally long
 abbrev pub earlier : Option (ℕ × ℕ) → ℕ → Option ℕ → Option (ℕ × ℕ)
 earlier found i None = found
 earlier None i (Some since) = Some (i, since)
 earlier (Some (at, least)) i (Some since) = if nat_le least since then Some (at, least) else Some (i, since)
 
--- the seat that goes first: it may go, none that may was silent for longer, and none before it for as long
+-- the seat that goes first: it may go, no seat that may go was silent for longer, and none before it was
+-- silent as long
 pub record IsFirstToGo {T : Type 0} (times : Times) (now : ℕ) (seats : List (Seat T)) (i : ℕ) : Type 0 where
   pub below : i < length seats
   pub may : (none : Seat T) → MayGo times now (get_or seats i none)
@@ -56,21 +58,21 @@ pub record IsFirstToGo {T : Type 0} (times : Times) (now : ℕ) (seats : List (S
 abbrev pub NoneGoes : {T : Type 0} → Times → ℕ → List (Seat T) → Type 0
 NoneGoes {T} times now seats = (i : ℕ) → i < length seats → (none : Seat T) → ¬ (MayGo times now (get_or seats i none))
 
--- seat i is given up, and its stream handed out: the last seat takes its place
+-- seat i is given up, and its stream is handed out. The last seat comes into its place
 pub record HandsOut {T : Type 0} (old new : List (Seat T)) (i : ℕ) (stream : T) : Type 0 where
   pub seat : Seat T
   pub is : seat ≡ get_or old i seat
   pub stream_is : stream ≡ inside seat.stream
   pub left : new ≡ swap_remove old i seat
 
--- A client takes a seat where one is free: the last one. Otherwise its stream is given back
+-- A client gets a seat if one is free: the last one. Otherwise its stream is given back
 abbrev pub IsAdmitted : {T : Type 0} → T → ℕ → List (Seat T) → List (Seat T) → Option T → Type 0
 IsAdmitted {T} stream now old new None =
     (length old < 64) × (seat : Seat T) × IsFresh stream now seat × (new ≡ old ++ seat ∷ [])
 IsAdmitted stream now old new (Some back) = (64 ≤ length old) × (back ≡ stream) × (new ≡ old)
 
--- Where all seats are taken, the one that goes first is given up; none is where one is free, or where none may
--- go
+-- If all seats are taken, the one that goes first is given up. None is given up if a seat is free, or if none
+-- may go
 abbrev pub MakesRoom : {T : Type 0} → Times → ℕ → List (Seat T) → List (Seat T) → Option T → Type 0
 MakesRoom times now old new (Some stream) =
     (64 ≤ length old) × (i : ℕ) × IsFirstToGo times now old i × HandsOut old new i stream
@@ -81,7 +83,7 @@ abbrev pub StayBefore : {T : Type 0} → ℕ → Times → ℕ → List (Seat T)
 StayBefore {T} k times now seats =
     (j : ℕ) → j < k → (none : Seat T) → ¬ (IsLeaving times now (get_or seats j none))
 
--- The first seat that is to be closed is given up; none is where none is to be closed
+-- The first seat that is to be closed is given up. None is given up if none is to be closed
 abbrev pub Leaves : {T : Type 0} → Times → ℕ → List (Seat T) → List (Seat T) → Option T → Type 0
 Leaves {T} times now old new (Some stream) =
     (i : ℕ) × (i < length old) × ((none : Seat T) → IsLeaving times now (get_or old i none))

@@ -17,8 +17,9 @@ use Rattle.release.specs.Receipts.{receipt_of}
 use Rattle.site_ids.specs.declared.Ticket.{Ticket}
 use Rattle.server_clients.specs.declared.served.Served.{Served}
 
--- So the submission of a value ends at node p of n, which stands as s before it. It is queued, or its ticket is held, in a whole call; or it is refused for
--- the cause that is told. Memory may be wanted before the call is made, as in it: then the node is as it was
+-- How the submission of a value ends at node p of n, which is s before it. It is queued, or its ticket is
+-- held, in a whole call; or it is refused for the cause that is reported. An allocation may fail before the
+-- call is made, or in it: then the node is as it was
 abbrev pub ComesTo : ℕ → ℕ → Node → Value → Outcome → Node → Type 0
 ComesTo n p s v (Ok Queued) next = Ends n p s (submit v) Whole [] next × IsAnswered s v answered.Queued
 ComesTo n p s v (Ok Already) next = Ends n p s (submit v) Whole [] next × IsAnswered s v answered.Already
@@ -27,8 +28,8 @@ ComesTo n p s v (Err Busy) next = Ends n p s (submit v) (Refused fault.QueueFull
 ComesTo n p s v (Err Stopped) next = Ends n p s (submit v) (Refused fault.Stopped) [] next
 ComesTo n p s v (Err OutOfMemory) next = next ≡ s
 
--- From each node that the service stands for, the submission of that ticket and text leads to one that it stands for after it. Of which node it is, what it
--- has published and what is on record stay
+-- From each node that the service stands for, the submission of that ticket and text leads to one that it
+-- stands for afterwards. It stays the same node, and what it has published and what is on record stay
 pub record Takes {D : Type 0} (old : Served D) (ticket : Ticket) (text : List ℕ) (done : Outcome) (new : Served D) : Type 0 where
   pub leads : (s : Node) → IsNodeOf old.node s → (next : Node) × ComesTo old.node.cluster old.node.me s (value_of ticket text) done next × IsNodeOf new.node next
   pub others : KeepsOthers old.node new.node
@@ -50,6 +51,6 @@ offered = record {
   stays = Stays;
 }
 
--- a connection was answered at most: a hundred requests, each of which may have been a submission
+-- at most one connection was answered: at most a hundred requests, each of which may have been a submission
 abbrev pub MayAnswer : {D : Type 0} → Served D → Served D → Type 0
 MayAnswer old new = (n : ℕ) × (n ≤ 100) × MaySubmitMany offered n old new

@@ -17,8 +17,9 @@ const READS: u32 = 16;
 /// How many bytes a reading takes at most.
 const PIECE: usize = 4096;
 
-/// A stream whose writing half is shut down: its client has its last response on the way, and may still send. Where that is left unread, the system resets
-/// the connection when it is closed, and the client may lose the response (RFC 9112, section 9.6).
+/// A stream whose writing half is shut down: its client's last response is on the way, and the client may
+/// still send. If that is left unread when the connection is closed, the system resets the connection, and
+/// the client may lose the response (RFC 9112, section 9.6).
 #[derive(Drop)]
 pub(crate) struct Parting<S> {
     stream: Counted<S>,
@@ -99,7 +100,7 @@ impl<S: Read> Parting<S> {
         }
     }
 
-    /// The same: whether any bytes came.
+    /// The same. Returns whether any bytes came.
     pub(crate) fn read(&mut self) -> bool
         ensures { IsDropped S.remaining result self.old self.new }
     {

@@ -14,8 +14,9 @@ use std::io::Read;
 /// How many there are at most.
 const PARTINGS: usize = 64;
 
-/// The streams of clients that have their last response, in the order in which they were shut down, 64 at most: each is read, and what comes is dropped,
-/// until its client closes. None has a seat. All room is made at the beginning, so none is lost for want of memory.
+/// The streams of clients that have their last response, in the order in which they were shut down, 64 at
+/// most. Each is read, and what comes is dropped, until its client closes. None has a seat. All room is made
+/// at the beginning, so none is lost because an allocation fails.
 #[derive(Drop)]
 pub struct Partings<S> {
     times: Times,
@@ -25,7 +26,7 @@ pub struct Partings<S> {
 }
 
 impl<S: Drop> Partings<S> {
-    /// None is there yet.
+    /// No stream is there yet.
     pub fn new(alloc: Global, times: Times) -> Result<Partings<S>, AllocError>
         ensures { IfOk result (λ none. (none.partings.items ≡ []) × (none.times ≡ times)) }
     {
@@ -42,7 +43,7 @@ impl<S: Drop> Partings<S> {
         self.partings.len()
     }
 
-    /// Where there is no room, the one that was shut down first goes: its stream.
+    /// If there is no room, the stream that was shut down first goes, and is returned.
     fn make_room(&mut self) -> Option<S>
         ensures room { IsOutOf self.old.partings.items self.new.partings.items result }
         ensures below { length self.new.partings.items < 64 }
@@ -54,7 +55,8 @@ impl<S: Drop> Partings<S> {
         Some(self.partings.remove(0).into_stream())
     }
 
-    /// A stream comes whose writing half was just shut down. The one that is handed back went for it, and is to be closed.
+    /// A stream comes whose writing half was just shut down. The stream that is returned had to go for it,
+    /// and is to be closed.
     pub fn take_in(&mut self, stream: S, now: u64) -> Option<S>
         ensures taken { TakesIn stream now self.old.partings.items self.new.partings.items result }
         ensures same { self.new.times ≡ self.old.times }
@@ -77,7 +79,7 @@ impl<S: Drop> Partings<S> {
 }
 
 impl<S: Read + Drop> Partings<S> {
-    /// Reads each: whether any bytes came.
+    /// Reads each. Returns whether any bytes came.
     fn drop_each(&mut self) -> bool
         ensures dropped { AreDone (IsDropped S.remaining) (length self.old.partings.items) result
             self.old.partings.items self.new.partings.items }
@@ -93,7 +95,8 @@ impl<S: Read + Drop> Partings<S> {
         came
     }
 
-    /// Reads from each, drops what came, and closes those that leave: whether any bytes came. The others keep their order.
+    /// Reads from each, drops what came, and closes those that leave. Returns whether any bytes came. The
+    /// others keep their order.
     pub fn read_each(&mut self, now: u64) -> bool
         ensures read { (read : List (Parting S))
             × AreDone (IsDropped S.remaining) (length self.old.partings.items) result self.old.partings.items read

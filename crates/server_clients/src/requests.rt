@@ -16,7 +16,7 @@ use std::io::{Read, Write};
 
 /// Reads the requests of a connection, and writes the node's responses.
 ///
-/// This is `serve` of the node as a service.
+/// This is `serve`, with the node as the service.
 pub fn serve_requests<D: Disk, R: Read, W: Write>(
     alloc: Global,
     reader: &mut Counted<R>,

@@ -65,7 +65,7 @@ impl<S> Seat<S> {
         self.connection.is_done() || self.stay(now).is_too_long(times)
     }
 
-    /// Whether its request takes longer than one may keep others from a seat: its client sends or reads slowly.
+    /// Whether its request keeps others from a seat for longer than it may: its client sends or reads slowly.
     fn is_slow(&self, times: Times, now: u64) -> bool
         ensures { IsTrue result ↔ IsSlow times now self.now }
     {
@@ -75,7 +75,7 @@ impl<S> Seat<S> {
         }
     }
 
-    /// Since when nothing moved, where it may be given up for another client: it owes no response, or is slow.
+    /// Since when nothing moved, if it may be given up for another client: it owes no response, or is slow.
     pub(crate) fn goes_since(&self, times: Times, now: u64) -> Option<u64>
         ensures { MatchOption result
             (¬ (MayGo times now self.now)) (λ since. MayGo times now self.now × (since ≡ self.now.moved)) }
@@ -100,7 +100,7 @@ impl<S> Seat<S> {
         }
     }
 
-    /// Its turn: one request is answered at most, and none that is left.
+    /// Takes its turn: at most one request is answered, and none that is left.
     pub(crate) fn answer<D: Disk>(
         &mut self,
         alloc: Global,
@@ -129,14 +129,14 @@ impl<S> Seat<S> {
 }
 
 impl<S: Read> Seat<S> {
-    /// Whether it is read: its client may send more, and more than the request that is left.
+    /// Whether it is read: its client may send more, and it has more than the request that is left.
     fn may_be_read(&self) -> bool
         ensures { IsTrue result ↔ MayBeRead self.now }
     {
         self.connection.may_read() && !self.connection.has_asked()
     }
 
-    /// Reads once, if it may: whether anything came.
+    /// Reads once, if it may. Returns whether anything came.
     pub(crate) fn read(&mut self, now: u64) -> Result<bool, AllocError>
         ensures read { IfOk result (λ came. IsReadOnce S.remaining now came self.old self.new) }
         ensures memory { OnErr result (self.new ≡ self.old) }
@@ -160,7 +160,7 @@ impl<S: Read> Seat<S> {
 }
 
 impl<S: Write> Seat<S> {
-    /// Writes once, if something waits: whether anything went.
+    /// Writes once, if something waits. Returns whether anything went.
     pub(crate) fn write(&mut self, now: u64) -> bool
         ensures { IsWrittenOnce S.contents now result self.old self.new }
     {

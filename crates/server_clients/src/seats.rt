@@ -29,8 +29,8 @@ pub struct Seats<S> {
     ghost within: { vec_len seats ≤ 64 },
 }
 
-/// Of a seat found so far, with the moment since when it was silent, and the next one: whichever was silent
-/// longer. Where both were as long, it is the one found.
+/// Of the seat found so far, with the moment since when it was silent, and the next one: whichever was silent
+/// longer. If both were silent equally long, it is the one found.
 fn earlier(found: Option<(usize, u64)>, i: usize, since: Option<u64>) -> Option<(usize, u64)>
     ensures { result ≡ earlier found i since }
 {
@@ -50,7 +50,7 @@ fn earlier(found: Option<(usize, u64)>, i: usize, since: Option<u64>) -> Option<
 }
 
 impl<S: Drop> Seats<S> {
-    /// Nobody came yet.
+    /// No client came yet.
     pub fn new(alloc: Global, times: Times) -> Seats<S>
         ensures { (result.seats.items ≡ []) × (result.times ≡ times) }
     {
@@ -69,7 +69,7 @@ impl<S: Drop> Seats<S> {
         self.seats.len()
     }
 
-    /// The seat of the client that was silent longest, of those that may go for another one.
+    /// Of the clients that may go for another one, the seat of the one that was silent longest.
     fn first_to_go(&self, now: u64) -> Option<usize>
         ensures { MatchOption result (NoneGoes self.now.times now self.now.seats.items) (IsFirstToGo self.now.times now self.now.seats.items) }
     {
@@ -86,8 +86,8 @@ impl<S: Drop> Seats<S> {
         }
     }
 
-    /// The stream of the client that goes for another one, where all seats are taken: whoever was silent longest, of those to whom no response is
-    /// owed, or for too long.
+    /// The stream of the client that goes for another one, if all seats are taken. It is the client that was
+    /// silent longest, of those that are owed no response, or are owed one for too long.
     pub fn make_room(&mut self, now: u64) -> Option<S>
         ensures room { MakesRoom self.old.times now self.old.seats.items self.new.seats.items result }
         ensures same { (self.new.times ≡ self.old.times) × (self.new.alloc ≡ self.old.alloc) }
@@ -107,7 +107,7 @@ impl<S: Drop> Seats<S> {
         self.seats.len() < SEATS || self.first_to_go(now).is_some()
     }
 
-    /// A client takes a seat, where one is free. Otherwise its stream is given back.
+    /// A client gets a seat, if one is free. Otherwise its stream is returned.
     pub fn admit(&mut self, stream: S, now: u64) -> Result<Option<S>, AllocError>
         ensures admitted { IfOk result (IsAdmitted stream now self.old.seats.items self.new.seats.items) }
         ensures memory { OnErr result (self.new.seats.items ≡ self.old.seats.items) }
@@ -135,7 +135,8 @@ impl<S: Drop> Seats<S> {
         None
     }
 
-    /// Answers one request of each client that sent a whole one and read the response before it, but for one that is left: whether there was one.
+    /// Answers one request of each client that sent a whole one and read the response before it, except a
+    /// request that is left. Returns whether there was one.
     pub fn answer_each<D: Disk>(
         &mut self,
         served: &mut Served<D>,
@@ -159,7 +160,8 @@ impl<S: Drop> Seats<S> {
 }
 
 impl<S: Read + Drop> Seats<S> {
-    /// Reads once from each client: whether anything came. After a failed allocation the first were read.
+    /// Reads once from each client, and returns whether anything came. After a failed allocation the first
+    /// clients were read.
     pub fn read_each(&mut self, now: u64) -> Result<bool, AllocError>
         ensures read { IfOk result (λ came. AreDone (IsReadOnce S.remaining now)
             (length self.old.seats.items) came self.old.seats.items self.new.seats.items) }
@@ -179,7 +181,7 @@ impl<S: Read + Drop> Seats<S> {
 }
 
 impl<S: Write + Drop> Seats<S> {
-    /// Writes once to each client that is owed something: whether anything went.
+    /// Writes once to each client that is owed something. Returns whether anything went.
     pub fn write_each(&mut self, now: u64) -> bool
         ensures written { AreDone (IsWrittenOnce S.contents now)
             (length self.old.seats.items) result self.old.seats.items self.new.seats.items }

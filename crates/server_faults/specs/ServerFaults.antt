@@ -10,7 +10,7 @@ use Rattle.server_floor.specs.declared.fault.FloorFault.TheVariants as floor_fau
 use Rattle.server_faults.specs.declared.server_fault.ServerFault.{ServerFault}
 use Rattle.server_faults.specs.declared.server_fault.ServerFault.TheVariants as server_fault
 
--- the one line of each
+-- the one line of each fault
 abbrev pub line_of : ServerFault → List ℕ
 line_of server_fault.BadAddress = codes "bad address\n"
 line_of (server_fault.BadFloor fault) = codes "bad floor\n"
@@ -22,22 +22,22 @@ line_of server_fault.RoundsUsedUp = codes "node: 7 RoundsUsedUp\n"
 line_of server_fault.Conflict = codes "node: 8 Conflict\n"
 line_of server_fault.Write = codes "write failed\n"
 
--- its line; the line of a record's fault is made, and where memory is wanted for it that is said
+-- the fault's line. The line of a record's fault has to be made: if an allocation fails, the line says that
 abbrev pub IsSaid : ServerFault → List ℕ → Type 0
 IsSaid (server_fault.Record fault) said = (said ≡ line_of (server_fault.Record fault)) ⊎ (said ≡ line_of server_fault.OutOfMemory)
 IsSaid why said = said ≡ line_of why
 
--- what a fault of reaches is to a server
+-- what a fault of reaches is for a server
 abbrev pub of_floor : FloorFault → ServerFault
 of_floor floor_fault.OutOfMemory = server_fault.OutOfMemory
 of_floor fault = server_fault.BadFloor fault
 
--- what a record's fault is to a server
+-- what a record's fault is for a server
 abbrev pub of_record : RecordFault → ServerFault
 of_record record_fault.OutOfMemory = server_fault.OutOfMemory
 of_record fault = server_fault.Record fault
 
--- and a node's; a drive ends by no other than these
+-- what a node's fault is for a server. A drive ends by no other than these
 abbrev pub of_node : NodeFault → ServerFault
 of_node node_fault.Device = server_fault.Stopped
 of_node node_fault.Stopped = server_fault.Stopped
@@ -45,20 +45,20 @@ of_node node_fault.RoundsUsedUp = server_fault.RoundsUsedUp
 of_node node_fault.Conflict = server_fault.Conflict
 of_node _ = server_fault.OutOfMemory
 
--- ends a node's opening: a fault of the record other than want of memory, or that
+-- it ends a node's opening: a fault of the record other than a failed allocation, or a failed allocation
 abbrev pub EndsOpening : ServerFault → Type 0
 EndsOpening (server_fault.Record record_fault.OutOfMemory) = ⊥
 EndsOpening (server_fault.Record _) = ⊤
 EndsOpening server_fault.OutOfMemory = ⊤
 EndsOpening _ = ⊥
 
--- ends the opening of sockets
+-- it ends the opening of sockets
 abbrev pub EndsBinding : ServerFault → Type 0
 EndsBinding server_fault.Socket = ⊤
 EndsBinding server_fault.OutOfMemory = ⊤
 EndsBinding _ = ⊥
 
--- ends laps
+-- it ends laps
 abbrev pub EndsLaps : ServerFault → Type 0
 EndsLaps server_fault.OutOfMemory = ⊤
 EndsLaps server_fault.Stopped = ⊤

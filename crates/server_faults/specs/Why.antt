@@ -1,18 +1,19 @@
--- The line behind that of a fault, which says why it was.
+-- The line after that of a fault, which says why the fault happened.
 use Rattle.std.specs.Prelude.{◌≡◌, ◌⊎◌, ℕ, List, ◌++◌, codes, decimal, Option, Bool, true, false}
 use Rattle.http_read.specs.Bytes.{End, IsGiven}
 use Rattle.server_faults.specs.declared.server_fault.ServerFault.{ServerFault}
 use Rattle.server_faults.specs.declared.server_fault.ServerFault.TheVariants as server_fault
 use Rattle.server_faults.specs.declared.serve_options.ServeOptions.{ServeOptions}
 
--- what was done with a writer up to a moment, at which it held this and so many calls had failed, and what from it on
+-- what was done with a writer up to a moment, and what was done from then on. At that moment it held this,
+-- and this many calls had failed
 abbrev pub up_to : End → Option (List ℕ) → ℕ → End
 up_to e held failures = record e { after = held; failures_after = failures }
 
 abbrev pub behind : End → Option (List ℕ) → ℕ → End
 behind e held failures = record e { before = held; failures = failures }
 
--- nothing was
+-- nothing was given
 abbrev pub GivesNone : End → Type 0
 GivesNone e = (e.after ≡ e.before) × (e.failures_after ≡ e.failures)
 
@@ -32,8 +33,9 @@ GivesLine e line = GivesNone e ⊎ IsGiven e line
 abbrev pub GivesWhy : End → List ℕ → List ℕ → Type 0
 GivesWhy e what which = GivesNone e ⊎ ((cause : List ℕ) × IsGiven e (why_line what which cause))
 
--- Of a fault of the record it is about the record that was named, of one of a socket about an address, of one of the command line about a word or an option; behind
--- any other fault there is none. Of the cause nothing is claimed
+-- The line is about the record that was named if the fault is the record's, about an address if it is a
+-- socket's, and about a word or an option if it is the command line's. After any other fault there is no such
+-- line. Of the cause nothing is claimed
 abbrev pub SaysWhy : End → ServeOptions → ServerFault → Type 0
 SaysWhy e o server_fault.BadAddress = (word : List ℕ) × GivesWhy e (codes "bad address ") word
 SaysWhy e o (server_fault.BadFloor _) = GivesWhy e (codes "bad floor ") (codes "--above")
@@ -42,11 +44,11 @@ SaysWhy e o server_fault.Stopped = GivesWhy e (codes "record ") o.record.now
 SaysWhy e o server_fault.Socket = (word : List ℕ) × GivesWhy e (codes "address ") word
 SaysWhy e o _ = GivesNone e
 
--- that is said where it was asked for, and else nothing
+-- that is said if it was asked for, and otherwise nothing is
 abbrev pub SaysWhyIf : Bool → End → ServeOptions → ServerFault → Type 0
 SaysWhyIf true e o why = SaysWhy e o why
 SaysWhyIf false e o why = GivesNone e
 
--- a line, and what is said behind it
+-- a line, and what is said after it
 abbrev pub GivesFault : End → ServeOptions → ServerFault → List ℕ → Type 0
 GivesFault e o why said = (held : Option (List ℕ)) × (failures : ℕ) × IsGiven (up_to e held failures) said × SaysWhyIf o.verbose (behind e held failures) o why

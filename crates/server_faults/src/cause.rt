@@ -1,12 +1,12 @@
-//! What a server knows of its fault beside the fault itself.
+//! What a server knows of its fault, besides the fault itself.
 
 use std::io;
 
-/// Which address could not be bound, and what the system said of a file or an address, where it said something. It is written into as parts are opened, and read
-/// where the server says why it halted.
+/// Which address could not be bound, and what the system reported of a file or an address, if it reported
+/// something. It is filled in as parts are opened, and read if the server says why it halted.
 #[derive(Clone, Copy, Drop)]
 pub struct Cause {
-    /// The address for datagrams, and else that of requests.
+    /// The address for datagrams; if false, the address of requests.
     pub datagrams: bool,
     /// Another process has the record.
     pub locked: bool,

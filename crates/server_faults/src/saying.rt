@@ -20,7 +20,7 @@ fn record_line(alloc: Global, fault: RecordFault) -> Result<String, AllocError>
     format!(in alloc; "record: {label}\n")
 }
 
-/// Writes the line of a fault, or that memory was wanted for it, and gives status 1.
+/// Writes the line of a fault, or that an allocation failed for it, and returns status 1.
 pub fn say<E: Write>(alloc: Global, err: &mut Counted<E>, fault: ServerFault) -> u8
     ensures status { result ≡ 1 }
     ensures said { (said : List ℕ) × IsSaid fault said × IsGiven (end_of E.contents err.old err.new) said }

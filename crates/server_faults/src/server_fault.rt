@@ -69,7 +69,7 @@ impl From<RecordFault> for ServerFault {
     }
 }
 
-/// A drive ends by no other fault of a node than these.
+/// A drive ends by no fault of a node except these.
 impl From<NodeFault> for ServerFault {
     ghost use Rattle.std.specs.Prelude.{◌≡◌};
     ghost use Rattle.server_faults.specs.ServerFaults.{of_node};

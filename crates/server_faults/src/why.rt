@@ -1,6 +1,6 @@
-//! Why a server halted: a line behind that of the fault, where that was asked for.
+//! Why a server halted: a line after that of the fault, if that was asked for.
 //!
-//! It stands in a line of its own, so that each line of a fault stays as the formats have it.
+//! It is a line of its own, so that each line of a fault stays as the formats have it.
 
 ghost use Rattle.std.specs.Prelude.{◌≡◌, ℕ, List, IfOk, codes, string_bytes};
 ghost use Rattle.http_read.specs.Bytes.{end_of};
@@ -24,7 +24,7 @@ fn line(alloc: Global, what: &str, which: &str, cause: &str) -> Result<String, A
     format!(in alloc; "{what}{which}: {cause}\n")
 }
 
-/// Writes it. Where memory is wanted for it, it is left out.
+/// Writes the line. If an allocation fails, it is left out.
 fn tell<E: Write>(alloc: Global, err: &mut Counted<E>, what: &str, which: &str, cause: &str)
     ensures { GivesWhy (end_of E.contents err.old err.new) what.now which.now }
 {
@@ -33,12 +33,12 @@ fn tell<E: Write>(alloc: Global, err: &mut Counted<E>, what: &str, which: &str, 
     }
 }
 
-/// In the words of the system.
+/// The system's own words.
 fn words(alloc: Global, error: io::Error) -> Result<String, AllocError> {
     format!(in alloc; "{error}")
 }
 
-/// The same where the system said something, and else in these words.
+/// The same if the system reported something, or else these words.
 fn tell_cause<E: Write>(
     alloc: Global,
     err: &mut Counted<E>,
@@ -59,7 +59,8 @@ fn tell_cause<E: Write>(
     }
 }
 
-/// What is wrong with a record of which the system said nothing; it was to be made above a floor, or not.
+/// What is wrong with a record of which the system reported nothing. The record was to be made above a floor,
+/// or not.
 fn wrong_with(fault: RecordFault, cause: &Cause, above: bool) -> &'static str {
     match fault {
         RecordFault::NotARecord if above => {
@@ -82,7 +83,7 @@ fn address_of<'a>(options: &ServeOptions<'a>, cause: &Cause) -> &'a str {
     }
 }
 
-/// The first word that is no address.
+/// The first word that is not an address.
 fn first_bad<'a>(options: &ServeOptions<'a>) -> &'a str {
     for peer in options.peers.as_slice() {
         if peer.parse::<SocketAddr>().is_err() {
@@ -92,7 +93,7 @@ fn first_bad<'a>(options: &ServeOptions<'a>) -> &'a str {
     options.http
 }
 
-/// Which word of the command line is none, and why.
+/// Which word of the command line is invalid, and why.
 fn bad_word<'a>(options: &ServeOptions<'a>) -> (&'a str, &'static str) {
     let size = options.peers.len();
     if size == 0 || size > MAX_NODES as usize {
@@ -122,7 +123,7 @@ fn wrong_with_reaches(fault: FloorFault) -> &'static str {
     }
 }
 
-/// Says why a record is refused, which was to be made above a floor, or not.
+/// Says why a record is refused. The record was to be made above a floor, or not.
 pub fn say_why_of_record<E: Write>(
     alloc: Global,
     err: &mut Counted<E>,
@@ -153,7 +154,7 @@ pub fn say_where_of_record<E: Write>(alloc: Global, err: &mut Counted<E>, path: 
     }
 }
 
-/// Says why it halted so, where that is more than its line says.
+/// Says why it halted, if that is more than its line says.
 fn say_cause<E: Write>(
     alloc: Global,
     err: &mut Counted<E>,
@@ -204,7 +205,7 @@ fn say_cause<E: Write>(
     }
 }
 
-/// Says why it halted so behind its line, where that was asked for (`--verbose`).
+/// Says after its line why it halted, if that was asked for (`--verbose`).
 pub fn say_why<E: Write>(
     alloc: Global,
     err: &mut Counted<E>,

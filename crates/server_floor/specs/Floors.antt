@@ -1,4 +1,4 @@
--- Which floor the record of node p of n has that takes the place of a lost one.
+-- Which floor a record of node p of n has, if it takes the place of a lost one.
 use Rattle.std.specs.Prelude.{◌≡◌, ◌≢◌, ℕ, ◌+◌, ◌/◌, ◌<◌, map, List, length}
 use Rattle.site_ids.specs.Ids.{IsInstance}
 use Rattle.site_ids.specs.Lists.{Distinct}
@@ -10,14 +10,14 @@ use Rattle.server_floor.specs.declared.fault.FloorFault.{FloorFault}
 use Rattle.server_floor.specs.declared.fault.FloorFault.TheVariants.{OutOfMemory, NotTold, NotAnother, Twice, TooFew, TooFar}
 use Rattle.server_floor.specs.declared.told.Told.{Told}
 
--- a majority of the n was asked, node p not among them, and the floor is 64 above the furthest reach
+-- a majority of the n was asked, node p is not among them, and the floor is 64 above the furthest reach
 pub record IsFloorAbove (n p : ℕ) (told : List Told) (floor : ℕ) : Type 0 where
   pub others : AreOthers n p told
   pub majority : Majority n (nodes_of told)
   pub above : floor ≡ furthest told + MAX_ATTEMPTS
   pub instance : IsInstance floor
 
--- the first of these that fits
+-- the first of these that applies
 abbrev pub Refuses : ℕ → ℕ → List Told → FloorFault → Type 0
 Refuses n p told NotAnother = ¬ AreOthers n p told
 Refuses n p told Twice = AreOthers n p told × ¬ Distinct (nodes_of told)
@@ -27,7 +27,7 @@ Refuses n p told _ = ⊥
 
 -- ---- in words
 
--- the words tell it
+-- the words say the floor
 pub record NamesFloor (n p : ℕ) (words : List (List ℕ)) (floor : ℕ) : Type 0 where
   pub told : List Told
   pub fit : AreFitting told

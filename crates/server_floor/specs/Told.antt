@@ -1,10 +1,10 @@
--- How far records reach, as their operators tell it.
+-- How far records reach, as their operators report it.
 use Rattle.std.specs.Prelude.{◌≢◌, ℕ, ◌<◌, ◌^◌, max, map, List, [], ◌∷◌, ◌++◌, decimal}
 use Rattle.site_ids.specs.Ids.{IsNode}
 use Rattle.site_ids.specs.Lists.{In}
 use Rattle.server_floor.specs.declared.told.Told.{Told}
 
--- of a node of some group, and a number below 2^64
+-- it is of a node of some group, and its number is below 2^64
 abbrev pub Fits : Told → Type 0
 Fits t = IsNode 9 t.node × (t.reach < 2 ^ 64)
 
@@ -23,6 +23,6 @@ abbrev pub furthest : List Told → ℕ
 furthest [] = 0
 furthest (t ∷ told) = max t.reach (furthest told)
 
--- each is of a node of the n, and none of node p
+-- each is of a node of the n, and none is of node p
 abbrev pub AreOthers : ℕ → ℕ → List Told → Type 0
 AreOthers n p told = (t : Told) → In told t → IsNode n t.node × (t.node ≢ p)

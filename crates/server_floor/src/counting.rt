@@ -1,4 +1,4 @@
-//! What is asked of all that was told.
+//! What has to hold of all that was reported.
 
 ghost use Rattle.std.specs.Prelude.{◌≡◌, ◌↔◌, IsTrue};
 ghost use Rattle.site_ids.specs.Lists.{In, Distinct};
@@ -7,7 +7,7 @@ ghost use Rattle.server_floor.specs.Told.{nodes_of, furthest, AreOthers};
 use crate::told::Told;
 use site_ids::{Cluster, NodeId};
 
-/// Whether each is of a node of the group, and none of this one.
+/// Whether each is of a node of the group, and none is of this one.
 pub(crate) fn are_others(cluster: Cluster, me: NodeId, told: &[Told]) -> bool
     ensures { IsTrue result ↔ AreOthers cluster me told.now }
 {
@@ -31,7 +31,7 @@ fn is_among(told: &[Told], node: NodeId) -> bool
     false
 }
 
-/// Whether no node stands twice.
+/// Whether no node occurs twice.
 pub(crate) fn are_distinct(told: &[Told]) -> bool
     ensures { IsTrue result ↔ Distinct (nodes_of told.now) }
 {

@@ -2,19 +2,19 @@
 
 use std::alloc::AllocError;
 
-/// Why reaches give no floor: the first of these that fits.
+/// Why reaches give no floor: the first of these that applies.
 #[derive(Clone, Copy, Debug, Drop, PartialEq, Eq)]
 pub enum FloorFault {
     OutOfMemory,
-    /// A word is no node and its reach.
+    /// A word is not a node and its reach.
     NotTold,
     /// A node is not one of the group, or is the one in whose place the record is made.
     NotAnother,
     /// A node was asked twice.
     Twice,
-    /// Those asked are no majority of the group.
+    /// Those asked are not a majority of the group.
     TooFew,
-    /// No instance is so far above the furthest reach.
+    /// No instance is 64 above the furthest reach.
     TooFar,
 }
 

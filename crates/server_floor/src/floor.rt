@@ -33,7 +33,8 @@ fn told_each(alloc: Global, words: &[&str]) -> Result<Vec<Told>, FloorFault>
     Ok(told)
 }
 
-/// The floor of a record that takes the place of this node's: 64 above the furthest reach, where a majority of the group was asked, all of them other nodes.
+/// The floor of a record that takes the place of this node's: 64 above the furthest reach. A majority of the
+/// group was asked, all of them other nodes.
 pub fn floor_above(cluster: Cluster, me: NodeId, told: &[Told]) -> Result<Instance, FloorFault>
     ensures { MatchResult result (IsFloorAbove cluster me told.now) (Refuses cluster me told.now) }
 {
@@ -56,7 +57,7 @@ pub fn floor_above(cluster: Cluster, me: NodeId, told: &[Told]) -> Result<Instan
     }
 }
 
-/// The floor that words give, each a node and its reach.
+/// The floor that words give. Each word is a node and its reach.
 pub fn read_floor(
     alloc: Global,
     cluster: Cluster,

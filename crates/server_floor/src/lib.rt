@@ -1,4 +1,5 @@
-//! The floor of a record that takes the place of a lost one: how far the records of others reach, as their operator tells it, and what is 64 above the furthest.
+//! The floor of a record that takes the place of a lost one: how far the records of others reach, as their
+//! operators report it, and what is 64 above the furthest.
 #![tactic(auto)]
 
 mod counting;

@@ -1,4 +1,4 @@
-//! How far the record of a node reaches, as its operator tells it.
+//! How far the record of a node reaches, as its operator reports it.
 
 ghost use Rattle.std.specs.Prelude.{◌≢◌, ◌≡◌, MatchOption};
 ghost use Rattle.server_floor.specs.Told.{Fits, spelled};
@@ -14,7 +14,7 @@ pub struct Told {
     pub reach: u64,
 }
 
-/// Reads a word as `2:57`, which tells that the record of node 2 reaches to instance 57.
+/// Reads a word such as `2:57`, which says that the record of node 2 reaches to instance 57.
 pub fn told_in(word: &str) -> Option<Told>
     ensures { MatchOption result ((t : AnyTold) → Fits t → word.now ≢ spelled t) (λ t. Fits t × (word.now ≡ spelled t)) }
 {

@@ -11,18 +11,19 @@ use Rattle.server_inspect.specs.declared.view.View.{View}
 abbrev HasPrinted : End → End → ℕ → Type 0
 HasPrinted out err status = (view : View) × IsWritten out (text_of view) × GivesNone err × (status ≡ 0)
 
--- the writer failed, and a beginning of them was written; one line says so
+-- the writer failed, and a beginning of the lines was written. One line says so
 abbrev HasBroken : End → End → ℕ → Type 0
 HasBroken out err status = (view : View) × IsBroken out (text_of view) × IsGiven err (codes "write failed\n") × (status ≡ 1)
 
--- memory was wanted for them
+-- an allocation failed for them
 abbrev HasNoMemory : End → End → ℕ → Type 0
 HasNoMemory out err status = IsSilent out × IsGiven err (codes "out of memory\n") × (status ≡ 1)
 
 abbrev pub HasShown : End → End → ℕ → Type 0
 HasShown out err status = HasPrinted out err status ⊎ HasBroken out err status ⊎ HasNoMemory out err status
 
--- what is said behind it: the byte from which on the record is damaged, if that was found; else perhaps a line that says why
+-- what is said after the line: the byte from which on the record is damaged, if that was found; or else
+-- perhaps a line that says why
 abbrev pub SaysMore : End → List ℕ → Option ℕ → Type 0
 SaysMore e path (Some at) = GivesLine e (damaged_line path at)
 SaysMore e path None = GivesWhy e (codes "record ") path

@@ -45,7 +45,7 @@ whose_lines v = codes "node: " ++ (decimal v.node ++ (codes "\nnodes: " ++ (deci
 abbrev pub counted_lines : View → List ℕ
 counted_lines v = codes "votes: " ++ (decimal v.votes ++ (codes "\nlearned: " ++ (decimal v.learned ++ (codes "\nlast instance: " ++ (decimal v.last ++ codes "\n")))))
 
--- its floor, where there is one
+-- its floor, if it has one
 abbrev pub floor_line : ℕ → List ℕ
 floor_line floor = if nat_eq floor 0 then [] else codes "floor: " ++ (decimal floor ++ codes "\n")
 

@@ -19,7 +19,7 @@ use std::rt::Files;
 /// How often a file is read that seems damaged: a node may have written over a torn end while it was read.
 const READS: u32 = 10;
 
-/// The file as it stands now.
+/// The file as it is now.
 fn open<R: Files<File = File>>(
     rt: &R,
     path: &str,
@@ -49,7 +49,7 @@ struct Refusal {
     place: Option<u64>,
 }
 
-/// Where a record is damaged that was refused so.
+/// The byte from which on a record is damaged, if it was refused for that.
 fn place_of(alloc: Global, fault: RecordFault, snapshot: &mut Snapshot) -> Option<u64> {
     if fault != RecordFault::Damaged {
         return None;
@@ -104,7 +104,7 @@ fn look_again<R: Files<File = File>>(
     look(rt, alloc, path, cause)
 }
 
-/// Prints what is reported of it.
+/// Prints what is reported of the record.
 fn show<W: Write, E: Write>(
     alloc: Global,
     out: &mut Counted<W>,
@@ -154,7 +154,7 @@ fn refuse<E: Write>(
     status
 }
 
-/// Prints what the record at a path holds, of which a node may have a lock. The answer is the exit status.
+/// Prints what the record at a path holds, even if a node has it locked. Returns the exit status.
 pub fn inspect<R: Files<File = File>, W: Write, E: Write>(
     rt: &R,
     alloc: Global,

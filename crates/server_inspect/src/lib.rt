@@ -1,4 +1,5 @@
-//! What a record holds, for who runs a server: read without a lock, also while a node runs over it, and nothing is written.
+//! What a record holds, for whoever runs a server. It is read without a lock, even while a node runs over it,
+//! and nothing is written.
 #![tactic(auto)]
 
 mod counting;

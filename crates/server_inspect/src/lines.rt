@@ -1,4 +1,4 @@
-//! The lines that tell of a record, a name and a value each.
+//! The lines that report a record. Each is a name and a value.
 
 ghost use Rattle.std.specs.Prelude.{◌≡◌, IfOk, string_bytes};
 ghost use Rattle.server_inspect.specs.Views.{whose_lines, counted_lines, floor_line, end_lines, text_of};
@@ -22,7 +22,7 @@ fn counted(alloc: Global, view: &View) -> Result<String, AllocError>
     format!(in alloc; "votes: {votes}\nlearned: {learned}\nlast instance: {last}\n")
 }
 
-/// Its floor, where there is one.
+/// Its floor, if it has one.
 fn floor(alloc: Global, floor: u32) -> Result<String, AllocError>
     ensures { IfOk result (λ text. string_bytes text ≡ floor_line floor) }
 {

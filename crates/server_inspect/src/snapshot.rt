@@ -1,4 +1,4 @@
-//! A file as it stands at a moment, while another process may append to it.
+//! A file as it is at a moment, while another process may append to it.
 //!
 //! A node writes after its last gate, and then opens it. What stands after an open gate never changes, so only the gate
 //! at the end might be read open while what it opens lies past the length that was taken: its byte is read once, between
@@ -9,7 +9,7 @@ ghost use Rattle.std.specs.Prelude.{◌≡◌};
 use site_disk::{Disk, DiskFailed, FileDisk};
 use std::fs::File;
 
-/// So often it looks for an end at rest.
+/// How many times it looks for an end at rest.
 const LOOKS: u32 = 1000;
 
 /// The end of a file: its length, and its last byte.
@@ -49,7 +49,7 @@ fn end_at_rest(file: &mut FileDisk) -> Result<End, DiskFailed> {
 }
 
 impl Snapshot {
-    /// The file as it stands now. Where it cannot be read it is given back.
+    /// The file as it is now. If it cannot be read, it is given back.
     pub fn new(file: File) -> Result<Snapshot, FileDisk> {
         let mut file = FileDisk::new(file);
         match end_at_rest(&mut file) {
@@ -98,7 +98,7 @@ impl Disk for Snapshot {
         Ok(())
     }
 
-    /// It is refused by the system, as the file is open for reading.
+    /// The system refuses this, as the file is open for reading.
     fn write_at(&mut self, at: u64, bytes: &[u8]) -> Result<(), DiskFailed> {
         self.file.write_at(at, bytes)
     }

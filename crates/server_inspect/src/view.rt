@@ -27,11 +27,11 @@ pub struct View {
     pub votes: u32,
     /// At how many instances it has a learned value.
     pub learned: u32,
-    /// The last instance at which it has either; 0 where it has neither.
+    /// The last instance at which it has either; 0 if it has neither.
     pub last: u32,
-    /// Its floor, where it took a lost record's place, and else 0.
+    /// Its floor, if it took a lost record's place; 0 if not.
     pub floor: u32,
-    /// The greatest instance of a vote, or the floor where that is greater; 0 where it has neither.
+    /// The greatest instance of a vote, or the floor if that is greater; 0 if it has neither.
     pub reach: u32,
     /// The length of its file.
     pub bytes: u64,

@@ -34,7 +34,7 @@ following c majority now known reached = learned_at (if majority then joined_at 
 abbrev pub due_if : Bool → Note → Option Note
 due_if is note = if is then Some note else None
 
--- a count is due where it is not 0
+-- a count is due if it is not 0
 abbrev pub counted : ℕ → Note → Option Note
 counted count note = if nat_eq count 0 then None else Some note
 
@@ -42,7 +42,8 @@ abbrev pub opened_of : Option ℕ → Option Note
 opened_of None = None
 opened_of (Some votes) = Some (note.Opened votes)
 
--- of the first node whose silence is to be told, and of the first whose end is; millis is how long it is
+-- the first node whose silence is to be reported, and the first the end of whose silence is; `millis` is how
+-- long it is
 abbrev pub silent_of : Option (ℕ × ℕ) → Option Note
 silent_of None = None
 silent_of (Some (p, millis)) = Some (note.Silent p (millis / 1000))
@@ -71,7 +72,7 @@ due_notes n now known newest silent ended =
     ∷ figures_note n.hours known newest
     ∷ []
 
--- a line of a kind that was said last then, or never, may be said where a second has passed since
+-- a line of a kind that was last said then, or never, may be said if a second has passed since
 abbrev pub is_free : Option ℕ → ℕ → Bool
 is_free None now = true
 is_free (Some said) now = nat_le EACH (now - said)
@@ -109,7 +110,7 @@ abbrev pub SaysOf : Notes → ℕ → List (Option Note) → Option Note → Not
 SaysOf old now due (Some note) new = IsNext old now due note new
 SaysOf old now due None new = ((k : ℕ) → k < 14 → may_say old.said now due k ≡ None) × (new ≡ old)
 
--- A server says this next, where that many values are known and that release is the newest
+-- A server says this next, if that many values are known and that release is the newest
 pub record Says (old : Notes) (now known newest : ℕ) (next : Option Note) (new : Notes) : Type 0 where
   pub silent : Option (ℕ × ℕ)
   pub ended : Option (ℕ × ℕ)

@@ -30,7 +30,7 @@ pub record Hears (old : Listening) (now : ℕ) (heard : List Bool) (majority : B
   pub is_majority : IsTrue majority ↔ (old.cluster / 2 + 1 ≤ count_of all)
   pub same : new ≡ record new { cluster = old.cluster; me = old.me; gathered = if majority then no_nodes else all; majority = if majority then heard_at old.majority now else old.majority }
 
--- node p is the first whose silence is to be told, which is so long
+-- node p is the first whose silence is to be reported, and this is its length
 pub record IsFirstSilent (l : Listening) (now p millis : ℕ) : Type 0 where
   pub node : IsNode l.cluster p
   pub long : is_long (silence_at l.silences (p - 1)) now ≡ true
@@ -42,7 +42,7 @@ abbrev pub FindsSilent : Listening → ℕ → Option (ℕ × ℕ) → Type 0
 FindsSilent l now (Some x) = IsFirstSilent l now x.0 x.1
 FindsSilent l now None = (p : ℕ) → IsNode l.cluster p → is_long (silence_at l.silences (p - 1)) now ≡ false
 
--- node p is the first the end of whose silence is to be told, which was so long
+-- node p is the first the end of whose silence is to be reported, and this was its length
 pub record IsFirstEnded (l : Listening) (p millis : ℕ) : Type 0 where
   pub node : IsNode l.cluster p
   pub ended : millis ≢ 0

@@ -14,11 +14,11 @@ no_silence = record { heard = 0; told = 0; ended = 0 }
 abbrev pub silence_of : Silence → ℕ → ℕ
 silence_of s now = now - s.heard
 
--- a silence that was told has ended
+-- a silence that was reported has ended
 abbrev pub heard_at : Silence → ℕ → Silence
 heard_at s now = record { heard = now; told = 0; ended = if nat_eq s.told 0 then s.ended else silence_of s now }
 
--- five seconds, and twice as long as was told last
+-- five seconds, and twice as long as the length that was reported last
 abbrev pub is_long : Silence → ℕ → Bool
 is_long s now = nat_le LONG (silence_of s now) && nat_le s.told (silence_of s now / 2)
 

@@ -3,7 +3,7 @@
 ghost use Rattle.std.specs.Prelude.{◌≡◌};
 ghost use Rattle.server_notes.specs.Noting.{joined_at, learned_at, has_settled};
 
-/// Milliseconds in which few values become known where a server has caught up.
+/// Milliseconds in which few values become known once a server has caught up.
 const SETTLING: u64 = 2000;
 
 /// What is heard of in the first that many of them is to be known by their end, which is enough for a question and its

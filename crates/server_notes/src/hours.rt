@@ -8,7 +8,8 @@ use crate::note::Note;
 /// Milliseconds of an hour.
 pub const HOUR: u64 = 3_600_000;
 
-/// How many bytes a server's record has, and how many bytes of memory it takes; 0 where the system doesn't tell.
+/// How many bytes a server's record has, and how many bytes of memory it uses; 0 if the system does not
+/// report it.
 #[derive(Clone, Copy, Debug, PartialEq, Eq, Drop)]
 pub struct Figures {
     pub bytes: u64,

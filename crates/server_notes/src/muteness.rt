@@ -17,7 +17,7 @@ pub enum Muteness {
 }
 
 impl Muteness {
-    /// The server begins, over a record with that floor, 0 where it has none.
+    /// The server begins, over a record with that floor; 0 if it has none.
     pub fn new(floor: u32) -> Muteness
         ensures { result ≡ first_muteness floor }
     {

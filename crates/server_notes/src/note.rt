@@ -16,7 +16,8 @@ pub enum Note {
     },
     /// It knows all values up to its floor: it takes part in all that follows.
     NoLongerMute,
-    /// After a start or an absence: it knows all values up to this instance and all that it heard of, but for the last moments; and little more comes.
+    /// After a start or an absence: it knows all values up to this instance, and all that it heard of except
+    /// in the last moments; and little more comes.
     CaughtUp {
         instance: u32,
     },

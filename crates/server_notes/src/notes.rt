@@ -179,7 +179,7 @@ impl Notes {
     }
 }
 
-/// Where a line of its kind was said last then, or never, and a second has passed since.
+/// The line, if it was never said, or a second has passed since one of its kind was said.
 fn may_say(said: Option<u64>, now: u64, due: Option<Note>) -> Option<Note>
     ensures { result ≡ (if is_free said now then due else None) }
 {

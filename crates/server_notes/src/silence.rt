@@ -6,12 +6,13 @@ ghost use Rattle.server_notes.specs.Noting.{no_silence, heard_at, told_at, ended
 /// Milliseconds of silence after which it is first reported.
 pub const LONG: u64 = 5000;
 
-/// When somebody was heard last, and what was told of it. Moments and lengths are milliseconds, moments since the server began.
+/// When a node was last heard, and what was reported of it. Moments and lengths are milliseconds, moments
+/// since the server began.
 #[derive(Clone, Copy, Drop)]
 pub struct Silence {
-    /// When it was heard last: at the beginning, where it never was.
+    /// When it was last heard; the server's start if it never was.
     pub heard: u64,
-    /// So long a silence was told last, 0 where none was told since it was heard.
+    /// The length of the silence that was last reported; 0 if none was since it was heard.
     pub told: u64,
     /// The length of a silence that was reported and has ended; 0 if there is none, or its end was reported.
     pub ended: u64,
@@ -36,7 +37,7 @@ impl Silence {
         now.saturating_sub(self.heard)
     }
 
-    /// It is heard: a silence that was told has ended.
+    /// It is heard: a silence that was reported has ended.
     pub fn heard(self, now: u64) -> Silence
         ensures { result ≡ heard_at self now }
     {

@@ -1,4 +1,4 @@
--- Frames: a length, a datagram, and what stands behind.
+-- Frames: a length, a datagram, and what follows.
 use Rattle.std.proofs.Common.{◌≡◌, ℕ, ◌+◌, ◌<◌, ◌^◌, List, [], ◌∷◌, ◌++◌, length, take, drop, refl, sym, ap, ◌∙◌, arith}
 use Rattle.std.proofs.Math.Seq.{take-append_seam, drop-append_seam}
 use Rattle.std.proofs.lemmas.List.{length-append}
@@ -6,7 +6,7 @@ use Rattle.byteorder.specs.Endian.{big_bytes, big_number}
 use Rattle.byteorder.specs.Numbers.{big_number-reads_back}
 use Rattle.server_packets.specs.Packets.{framed, framed_all}
 
--- one number stands in front
+-- one number is in front
 front_is_one : (a b : ℕ) (x y : List ℕ) → a < 2 ^ 32 → b < 2 ^ 32 → big_bytes 4 a ++ x ≡ big_bytes 4 b ++ y → a ≡ b
 front_is_one a b x y la lb e = sym (big_number-reads_back 4 a x la) ∙ ap (big_number 4) e ∙ big_number-reads_back 4 b y lb
 
@@ -39,7 +39,7 @@ list_is_one (d ∷ ds) (e ∷ es) short same =
     let more = list_is_one ds es (omega arith) one.1 in
     λ i. one.0 i ∷ more i
 
--- frames that begin with a datagram are it and what stands behind
+-- frames that begin with a datagram are it and what follows
 pub frames_behind : (d rest : List ℕ) (ds : List (List ℕ)) → length (framed d ++ rest) < 2 ^ 32 → framed d ++ rest ≡ framed_all ds → (es : List (List ℕ)) × (ds ≡ d ∷ es) × (rest ≡ framed_all es)
 frames_behind d rest [] short same = absurd (let l = ap length same in let m = first_is_shorter d rest in omega arith)
 frames_behind d rest (e ∷ es) short same =

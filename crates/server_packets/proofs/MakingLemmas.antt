@@ -6,12 +6,12 @@ use Rattle.server_packets.specs.Packets.{framed, framed_all}
 use Rattle.server_packets.specs.Making.{HasRoom, IsMadeOf}
 use Rattle.server_packets.specs.declared.TheConstants.{MARK, MAX_PACKET}
 
--- one more stands behind the others
+-- one more comes after the others
 framed_more : (ds : List (List ℕ)) (d : List ℕ) → framed_all (ds ++ d ∷ []) ≡ framed_all ds ++ framed d
 framed_more [] d = append-nil (framed d)
 framed_more (e ∷ ds) d = ap (λ x. framed e ++ x) (framed_more ds d) ∙ sym (append_assoc (framed e) (framed_all ds) (framed d))
 
--- of what is one datagram, nothing stands before it
+-- of what is one datagram, nothing is before it
 is_alone : (ds : List (List ℕ)) (d e : List ℕ) → ds ++ d ∷ [] ≡ e ∷ [] → (ds ≡ []) × (d ≡ e)
 is_alone [] d e same = (refl, ap head_of same)
   where

@@ -11,7 +11,7 @@ OneList = (bytes : List ℕ) (ds es : List (List ℕ)) → Holds bytes ds → Ho
 abbrev pub IsUnmarked : List ℕ → Type 0
 IsUnmarked d = (rest : List ℕ) → d ≢ MARK ∷ rest
 
--- no datagram that goes alone does
+-- no datagram that goes by itself begins with the mark
 abbrev pub MayGo : List (List ℕ) → Type 0
 MayGo (d ∷ []) = IsUnmarked d
 MayGo ds = ⊤

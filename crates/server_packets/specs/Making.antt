@@ -4,11 +4,13 @@ use Rattle.server_packets.specs.Packets.{framed_all}
 use Rattle.server_packets.specs.declared.TheConstants.{MARK, MAX_PACKET}
 use Rattle.server_packets.specs.declared.packet.Packet.{Packet}
 
--- a datagram of so many bytes may go with these: it is the first, or the packet has no more bytes than it may
+-- a datagram of `len` bytes may go with these: it is the first, or the packet then has no more bytes than it
+-- may
 abbrev pub HasRoom : List (List ℕ) → ℕ → Type 0
 HasRoom ds len = (ds ≡ []) ⊎ (length (framed_all ds) + 5 + len ≤ MAX_PACKET)
 
--- The bytes of a packet with so many datagrams, which are these: behind the mark each stands behind its length. One alone may be of any length
+-- The bytes of a packet with `count` datagrams, which are these. After the mark each datagram comes after its
+-- length. A datagram by itself may be of any length
 pub record IsMadeOf (bytes : List ℕ) (count : ℕ) (ds : List (List ℕ)) : Type 0 where
   pub counted : count ≡ length ds
   pub frames : List ℕ

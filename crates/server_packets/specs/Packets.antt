@@ -19,11 +19,11 @@ pub record IsPacketOf (ds : List (List ℕ)) (bytes : List ℕ) : Type 0 where
 abbrev pub IsPacket : List ℕ → Type 0
 IsPacket bytes = (ds : List (List ℕ)) × IsPacketOf ds bytes
 
--- What came holds these datagrams: those of the packet that it is; where it is none, itself
+-- What came holds these datagrams: those of the packet that it is, or itself if it is not a packet
 abbrev pub Holds : List ℕ → List (List ℕ) → Type 0
 Holds bytes ds = IsPacketOf ds bytes ⊎ ((¬ IsPacket bytes) × (ds ≡ bytes ∷ []))
 
--- These datagrams are sent so: one alone as it is, several as a packet
+-- These datagrams are sent in this way: one by itself as it is, several as a packet
 abbrev pub IsSent : List (List ℕ) → List ℕ → Type 0
 IsSent (d ∷ []) bytes = bytes ≡ d
 IsSent ds bytes = IsPacketOf ds bytes

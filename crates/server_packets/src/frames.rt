@@ -8,7 +8,7 @@ ghost use Rattle.server_packets.specs.declared.TheConstants.{MARK, MAX_PACKET};
 use crate::{LENGTH_BYTES, MARK, MAX_PACKET};
 use byteorder::{BigEndian, ByteOrder};
 
-/// The length at the front, and what stands behind it.
+/// The length at the front, and what follows it.
 fn length_at(frames: &[u8]) -> Option<(u32, &[u8])>
     ensures found { IfSome result (λ r. frames.now ≡ big_bytes 4 r.0 ++ r.1.now) }
     ensures none { IfNone result (length frames.now < 4) }
@@ -19,7 +19,7 @@ fn length_at(frames: &[u8]) -> Option<(u32, &[u8])>
     Some((BigEndian::read_u32(frames), &frames[LENGTH_BYTES..]))
 }
 
-/// The first datagram of what stands behind the mark, and what stands behind it.
+/// The first datagram of what follows the mark, and what follows that datagram.
 pub fn first_frame(frames: &[u8]) -> Option<(&[u8], &[u8])>
     ensures found { IfSome result (λ r. frames.now ≡ framed r.0.now ++ r.1.now) }
     ensures none { IfNone result ((d rest : List ℕ) → length d < 2 ^ 32 → frames.now ≢ framed d ++ rest) }
@@ -28,7 +28,7 @@ pub fn first_frame(frames: &[u8]) -> Option<(&[u8], &[u8])>
     rest.split_at_checked(len as usize)
 }
 
-/// Whether these are whole datagrams, each behind its length.
+/// Whether these are whole datagrams, each after its length.
 fn are_frames(frames: &[u8]) -> bool
     requires { length frames.now ≤ MAX_PACKET }
     ensures { IsTrue result ↔ ((ds : List (List ℕ)) × (frames.now ≡ framed_all ds)) }
@@ -40,7 +40,7 @@ fn are_frames(frames: &[u8]) -> bool
     rest.is_empty()
 }
 
-/// What stands behind the mark, where these bytes are a packet of several datagrams.
+/// What follows the mark, if these bytes are a packet of several datagrams.
 pub fn frames_in(bytes: &[u8]) -> Option<&[u8]>
     ensures { MatchOption result (¬ IsPacket bytes.now) (λ frames. (bytes.now ≡ MARK ∷ frames.now) × (length bytes.now ≤ MAX_PACKET) × ((ds : List (List ℕ)) × (frames.now ≡ framed_all ds))) }
 {

@@ -5,7 +5,7 @@ pub fn packets_hold_one_list()
     ensures { OneList }
 {}
 
-/// What is sent of datagrams holds these, where none begins with the mark of a packet.
+/// What is sent of datagrams holds these datagrams, if none of them begins with the mark of a packet.
 pub fn what_is_sent_is_held()
     ensures { SentIsHeld }
 {}

@@ -12,13 +12,14 @@ use std::alloc::{AllocError, Global};
 /// Datagrams that go together, in order.
 #[derive(Drop)]
 pub struct Packet {
-    // the mark, and then each datagram behind its length
+    // the mark, and after it each datagram, after its length
     bytes: Vec<u8>,
     count: usize,
     ghost lengths: { 4 * count + 1 ≤ vec_len bytes },
 }
 
-/// The length of a datagram, its highest byte first; where four bytes can't tell it, no packet has it among others.
+/// The length of a datagram, its highest byte first. No packet has a datagram among others whose length needs
+/// more than four bytes.
 fn length_of(datagram: &[u8]) -> [u8; LENGTH_BYTES]
     ensures { length datagram.now ≤ MAX_PACKET → result ≡ big_bytes 4 (length datagram.now) }
 {
@@ -48,14 +49,14 @@ impl Packet {
         self.count = 0;
     }
 
-    /// Whether there is none.
+    /// Whether it has no datagram.
     pub fn is_empty(&self) -> bool
         ensures { (ds : List (List ℕ)) → Packs self.now ds → IsTrue result ↔ (ds ≡ []) }
     {
         self.count == 0
     }
 
-    /// Whether a datagram of so many bytes may go with these: the first may, however long it is.
+    /// Whether a datagram of `len` bytes may go with these. The first one may, however long it is.
     pub fn has_room(&self, len: usize) -> bool
         ensures { (ds : List (List ℕ)) → Packs self.now ds → IsTrue result ↔ HasRoom ds len }
     {
@@ -68,7 +69,7 @@ impl Packet {
                 <= MAX_PACKET
     }
 
-    /// A datagram more, where there is room.
+    /// Adds one more datagram, for which there is room.
     pub fn push(&mut self, datagram: &[u8]) -> Result<(), AllocError>
         ensures ok { OnOk result ((ds : List (List ℕ)) → Packs self.old ds → HasRoom ds (length datagram.now) → Packs self.new (ds ++ datagram.now ∷ [])) }
         ensures refused { OnErr result ((ds : List (List ℕ)) → Packs self.old ds → Packs self.new ds) }
@@ -83,7 +84,7 @@ impl Packet {
         Ok(())
     }
 
-    /// The same as a packet, one datagram too, where that has no more bytes than a packet may.
+    /// The same as a packet, even if it is one datagram, unless that has more bytes than a packet may.
     pub fn as_packet(&self) -> Option<&[u8]>
         ensures fits { IfSome result (λ bytes. (ds : List (List ℕ)) → Packs self.now ds → IsPacketOf ds bytes.now) }
         ensures long { IfNone result ((ds : List (List ℕ)) → Packs self.now ds → MAX_PACKET ≤ length (framed_all ds)) }
@@ -94,7 +95,7 @@ impl Packet {
         Some(self.bytes.as_slice())
     }
 
-    /// What is to be sent: a datagram alone as it is.
+    /// What is to be sent. One datagram by itself is sent as it is.
     pub fn bytes(&self) -> &[u8]
         ensures { (ds : List (List ℕ)) → Packs self.now ds → IsSent ds result.now }
     {

@@ -5,19 +5,19 @@ use Rattle.site_disk.specs.declared.mem_disk.MemDisk.{MemDisk}
 use Rattle.site_disk.specs.declared.mem_disk.Call.{Call}
 use Rattle.site_disk.specs.declared.mem_disk.Call.TheVariants.{Len, Read, Write, Sync}
 
--- how many calls an armed disk lets pass, after one call more; none: it isn't armed
+-- how many calls an armed disk lets pass, after one more call. None: it is not armed
 abbrev pub after_one : Option ℕ → Option ℕ
 after_one None = None
 after_one (Some calls) = Some (calls - 1)
 
--- one call
+-- the state after one call
 abbrev pub after_call : DiskState → Call → DiskState
 after_call d Len = d
 after_call d Read = d
 after_call d (Write at bytes) = after_write d at (length bytes.items) (overwritten d.seen at bytes.items)
 after_call d Sync = after_sync d
 
--- all calls, the first of them first
+-- the state after all calls, the first of them first
 abbrev pub after_calls : DiskState → List Call → DiskState
 after_calls d [] = d
 after_calls d (call ∷ calls) = after_calls (after_call d call) calls
@@ -31,7 +31,7 @@ pub record MemoryStandsFor (disk : MemDisk) (d : DiskState) : Type 0 where
   pub room_kept : length disk.bytes.items ≤ vec_capacity disk.kept
   pub room_first : length disk.bytes.items ≤ vec_capacity disk.first
 
--- as read, but each byte in a range written since the last sync is this one
+-- the bytes as read, except that each byte in a range written since the last sync is this one
 pub record IsFilled (byte : ℕ) (d : DiskState) (left : List ℕ) : Type 0 where
   pub size : length left ≡ length d.seen
   pub outside : (place : ℕ) → IsOutside place d.written → slice_index left place ≡ slice_index d.seen place

@@ -1,23 +1,24 @@
--- What a disk file holds, and what a crash may make of it.
+-- What a disk file holds, and what a crash may leave of it.
 use Rattle.std.specs.Prelude.{◌≡◌, ◌⊎◌, ℕ, ◌+◌, ◌-◌, ◌≤◌, ◌<◌, ◌^◌, max, List, [], ◌∷◌, ◌++◌, length, take, drop, slice_index, Result, IsErr, OnOk}
 
--- so many bytes from a place on
+-- `size` bytes from a place on
 pub record Range : Type 0 where
   pub start : ℕ
   pub size : ℕ
 
--- what a crash at one moment reckons with: the bytes as of the last sync, the ranges written since, the length as it reads
+-- what a crash at one moment depends on: the bytes as of the last sync, the ranges written since, the length
+-- as it reads
 pub record Moment : Type 0 where
   pub synced : List ℕ
   pub written : List Range
   pub longest : ℕ
 
--- the place lies in none of the ranges
+-- the place is in none of the ranges
 abbrev pub IsOutside : ℕ → List Range → Type 0
 IsOutside place [] = Unit {0}
 IsOutside place (range ∷ ranges) = ((place < range.start) ⊎ (range.start + range.size ≤ place)) × IsOutside place ranges
 
--- the place lies in one of the ranges
+-- the place is in one of the ranges
 abbrev pub IsWithin : ℕ → List Range → Type 0
 IsWithin place [] = ⊥
 IsWithin place (range ∷ ranges) = ((range.start ≤ place) × (place < range.start + range.size)) ⊎ IsWithin place ranges
@@ -29,7 +30,7 @@ pub record MayLeave (m : Moment) (left : List ℕ) : Type 0 where
   pub no_longer : length left ≤ m.longest
   pub outside : (place : ℕ) → place < length m.synced → IsOutside place m.written → slice_index left place ≡ slice_index m.synced place
 
--- what a read gives, what the next crash reckons with, and the moments that have been, the newest first
+-- what a read gives, what the next crash depends on, and the moments that have been, the newest first
 pub record DiskState : Type 0 where
   pub seen : List ℕ
   pub synced : List ℕ
@@ -43,11 +44,11 @@ moment d = record { synced = d.synced; written = d.written; longest = length d.s
 abbrev pub at_rest : List ℕ → List Moment → DiskState
 at_rest bytes past = record { seen = bytes; synced = bytes; written = []; past = past }
 
--- after a write of so many bytes, after which a read gives these
+-- the state after a write of `size` bytes, after which a read gives these bytes
 abbrev pub after_write : DiskState → ℕ → ℕ → List ℕ → DiskState
 after_write d at size seen = record { seen = seen; synced = d.synced; written = record { start = at; size = size } ∷ d.written; past = moment d ∷ d.past }
 
--- after a sync that succeeded
+-- the state after a sync that succeeded
 abbrev pub after_sync : DiskState → DiskState
 after_sync d = at_rest d.seen (moment d ∷ d.past)
 
@@ -55,14 +56,16 @@ after_sync d = at_rest d.seen (moment d ∷ d.past)
 abbrev pub overwritten : List ℕ → ℕ → List ℕ → List ℕ
 overwritten old at bytes = take at old ++ bytes ++ drop (at + length bytes) old
 
--- after a write that failed: any bytes in its range, and past the old end any number of them
+-- what a read gives after a write that failed: any bytes in its range, and past the old end any number of
+-- them
 pub record IsTorn (at size : ℕ) (old new : List ℕ) : Type 0 where
   pub before : take at new ≡ take at old
   pub after : drop (at + size) new ≡ drop (at + size) old
   pub no_shorter : length old ≤ length new
   pub no_longer : length new ≤ max (length old) (at + size)
 
--- A failure is counted, and nothing else. The count stays at the last value of its type, and there a failure needs no rise.
+-- A failure is counted, and nothing else is. The count stays at the last value of its type, where a failure
+-- need not raise it.
 pub record CountsFailure {T E : Type 0} (result : Result T E) (before now : ℕ) : Type 0 where
   pub no_fewer : before ≤ now
   pub counted : IsErr result → (before < now) ⊎ (before ≡ 2 ^ 64 - 1)
@@ -73,7 +76,7 @@ abbrev pub EachLeaves : (List ℕ → Type 0) → List Moment → Type 0
 EachLeaves P [] = Unit {0}
 EachLeaves P (m ∷ moments) = ((left : List ℕ) → MayLeave m left → P left) × EachLeaves P moments
 
--- a crash at any moment from an earlier state on, the present one included, leaves only bytes that have P
+-- a crash at any moment since an earlier state, the present moment included, leaves only bytes that have P
 pub record LeavesOnly (old new : DiskState) (P : List ℕ → Type 0) : Type 0 where
   pub recent : List Moment
   pub joined : new.past ≡ recent ++ old.past

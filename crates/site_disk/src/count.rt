@@ -5,7 +5,7 @@ ghost use Rattle.site_disk.specs.Model.{CountsFailure};
 
 use crate::DiskFailed;
 
-/// What a device call answered, with its failure counted. At its last value the count stays.
+/// The result of a device call, whose failure is counted. At its last value the count stays.
 pub(crate) fn counted<T: Drop, E: Drop>(
     answer: Result<T, E>,
     failures: &mut u64,

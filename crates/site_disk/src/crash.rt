@@ -1,4 +1,4 @@
-//! What a crash makes of the calls since the last sync.
+//! What a crash does to the ranges written since the last sync.
 
 ghost use Rattle.std.specs.Prelude.{◌≡◌, ◌⊎◌, ◌+◌, ◌≤◌, ◌<◌, ℕ, [], length, slice_index};
 ghost use Rattle.site_disk.specs.Model.{DiskState, IsOutside, IsWithin};

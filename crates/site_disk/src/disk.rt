@@ -1,6 +1,6 @@
 //! What a disk promises to the layers above it.
 //!
-//! A range beyond the end is left open; `MemDisk` refuses it.
+//! What a range beyond the end gives is left open; `MemDisk` refuses it.
 
 ghost use Rattle.std.specs.Prelude.{◌≡◌, ◌⊎◌, ◌+◌, ◌≤◌, ◌∷◌, List, ℕ, length, take, drop, IfOk, OnOk, OnErr};
 ghost use Rattle.site_disk.specs.Model.{DiskState, after_write, after_sync, overwritten, IsTorn, CountsFailure};
@@ -11,7 +11,7 @@ use std::alloc::AllocError;
 #[derive(Clone, Copy, Debug, PartialEq, Eq)]
 pub struct DiskFailed;
 
-/// Want of memory inside a disk is a failure of the device.
+/// A failed allocation inside a disk is a failure of the device.
 impl From<AllocError> for DiskFailed {
     ghost use Rattle.std.specs.Prelude.{⊤};
 
@@ -22,8 +22,8 @@ impl From<AllocError> for DiskFailed {
     }
 }
 
-/// One file. Its clauses speak of each state of the model that the disk stands for; what a range beyond the file's end
-/// gives is left open.
+/// One file. Its clauses speak of each state of the model that the disk stands for. What a range beyond the
+/// file's end gives is left open.
 pub trait Disk {
     /// The disk stands for this state of the model.
     ghost stands_for: { Self → DiskState → Type 0 };
@@ -55,7 +55,7 @@ pub trait Disk {
             → stands_for self.new d ⊎ ((seen : List ℕ) × IsTorn at (length bytes.now) d.seen seen × stands_for self.new (after_write d at (length bytes.now) seen))) }
         ensures cause { CountsFailure result (failed self.old) (failed self.new) };
 
-    /// Has what was written stand on the disk. One that fails counts as none.
+    /// Puts all that was written on the disk to stay. A sync that fails counts as none.
     fn sync(&mut self) -> Result<(), DiskFailed>
         ensures synced { OnOk result ((d : DiskState) → stands_for self.old d → stands_for self.new (after_sync d)) }
         ensures kept { OnErr result ((d : DiskState) → stands_for self.old d → stands_for self.new d) }
@@ -64,10 +64,10 @@ pub trait Disk {
 
 /// A disk that can be told to fail.
 pub trait Armed: Disk {
-    /// It was told to let so many further calls pass.
+    /// How many further calls it was told to let pass.
     ghost armed: { Self → ℕ → Type 0 };
 
-    /// Lets so many further calls pass before it fails.
+    /// Lets this many further calls pass before it fails.
     fn arm(&mut self, calls: u32)
         ensures state { (d : DiskState) → Self.Disk.stands_for self.old d → Self.Disk.stands_for self.new d }
         ensures failed { Self.Disk.failed self.new ≡ Self.Disk.failed self.old }

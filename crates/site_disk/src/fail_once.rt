@@ -7,8 +7,8 @@ ghost use Rattle.site_disk.specs.Once.{after_next};
 use crate::count::counted;
 use crate::{Armed, Disk, DiskFailed};
 
-/// A disk over another. Once armed, it lets so many calls pass and fails the next one, which does nothing. From then on
-/// it isn't armed.
+/// A disk over another one. Once armed, it lets some calls pass and fails the next one, which does nothing.
+/// After that it is not armed.
 #[derive(Drop)]
 pub struct FailOnce<D> {
     disk: D,
@@ -16,7 +16,7 @@ pub struct FailOnce<D> {
     failures: u64,
 }
 
-// Tells whether this call is the one that fails, and counts it.
+// Whether this call is the one that fails. It counts the call.
 fn is_due(left: &mut Option<u32>) -> bool
     ensures due { IsTrue result ↔ (left.old ≡ Some 0) }
     ensures counts { left.new ≡ after_next left.old }
@@ -35,7 +35,7 @@ fn is_due(left: &mut Option<u32>) -> bool
 }
 
 impl<D: Disk> FailOnce<D> {
-    /// It isn't armed.
+    /// The disk is not armed.
     pub fn new(disk: D) -> Self
         ensures { result ≡ record { disk = disk; left = None; failures = 0 } }
     {

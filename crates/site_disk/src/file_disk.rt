@@ -9,7 +9,7 @@ use std::fs::File;
 use std::io;
 use std::os::unix::fs::FileExt;
 
-/// What the system said of calls on one file.
+/// What the system reported of calls on one file.
 #[derive(Drop)]
 struct Failures {
     count: u64,
@@ -17,7 +17,7 @@ struct Failures {
 }
 
 impl Failures {
-    /// What a call answered, with its failure counted and kept.
+    /// The result of a call, whose failure is counted and kept.
     fn take<T: Drop>(&mut self, answer: io::Result<T>) -> Result<T, DiskFailed>
         ensures same { MatchResult answer (λ x. result ≡ Ok x) (λ _. IsErr result) }
         ensures cause { CountsFailure result self.old.count self.new.count }
@@ -31,8 +31,8 @@ impl Failures {
     }
 }
 
-/// A real file, open for reading and writing. That it keeps the model is a premise: no state of the model is claimed
-/// of it.
+/// A real file, open for reading and writing. That it keeps the model is a premise: it is not claimed to
+/// stand for any state of the model.
 #[derive(Drop)]
 pub struct FileDisk {
     file: File,
@@ -53,7 +53,7 @@ impl FileDisk {
         }
     }
 
-    /// What the system said of the last call that failed, None where none has.
+    /// What the system reported of the last call that failed, `None` if none has failed.
     pub fn last_failure(&self) -> Option<io::Error>
         ensures { result ≡ self.now.failures.last }
     {

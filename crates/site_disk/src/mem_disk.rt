@@ -1,6 +1,6 @@
 //! A disk in memory, which can be made to fail and to crash.
 //!
-//! `crash` takes no memory, as each write made room; the calls that passed are listed.
+//! `crash` does not allocate, as each write reserved room. The calls that passed are listed.
 
 ghost use Rattle.std.specs.Prelude.{◌≡◌, ◌≢◌, ◌↔◌, ◌⊎◌, ◌+◌, ◌-◌, ◌≤◌, ◌<◌, ◌^◌, ◌∷◌, ◌++◌, [], List, ℕ, length, take, drop, max, None, Some, OnOk, OnErr, IfOk, vec_capacity, slice_index, IsTrue};
 ghost use Rattle.site_disk.specs.Memory.{after_one};
@@ -21,7 +21,7 @@ pub enum Call {
     Sync,
 }
 
-/// A file in memory. Want of memory inside it is a failure of the device.
+/// A file in memory. A failed allocation inside it is a failure of the device.
 #[derive(Drop)]
 pub struct MemDisk {
     alloc: Global,
@@ -35,7 +35,7 @@ pub struct MemDisk {
     failures: u64,
 }
 
-// Tells whether a disk that is perhaps armed lets a call pass, and counts it.
+// Whether a disk that may be armed lets a call pass. It counts the call.
 fn lets_pass(left: &mut Option<u32>) -> bool
     ensures passes { IsTrue result ↔ (left.old ≢ Some 0) }
     ensures counts { left.new ≡ after_one left.old }
@@ -65,7 +65,7 @@ fn overwrite(file: &mut Vec<u8>, at: usize, bytes: &[u8])
     }
 }
 
-// Room for so many bytes in all.
+// Reserves room for this many bytes in all.
 fn reserve_to(file: &mut Vec<u8>, size: usize) -> Result<(), AllocError>
     ensures items { file.new.items ≡ file.old.items }
     ensures room { OnOk result (size ≤ vec_capacity file.new) }
@@ -112,7 +112,7 @@ impl MemDisk {
         }
     }
 
-    /// The calls that it let pass since the last crash, the first of them first. One that failed isn't among them.
+    /// The calls that passed since the last crash, the oldest first. A call that failed is not among them.
     pub fn calls(&self) -> &[Call]
         ensures { result.now ≡ self.now.calls.items }
     {

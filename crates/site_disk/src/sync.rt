@@ -6,7 +6,7 @@ ghost use Rattle.site_disk.specs.Memory.{after_calls};
 
 use crate::Call;
 
-/// Makes what was kept by the last sync what is read, where these calls came since.
+/// Makes what the last sync kept equal to what is read, given the calls since then.
 pub(crate) fn catch_up(calls: &[Call], bytes: &[u8], kept: &mut Vec<u8>)
     ensures items { (d : DiskState) → d.written ≡ [] → length kept.old.items ≤ length bytes.now → length bytes.now ≤ vec_capacity kept.old
         → ((place : ℕ) → place < length kept.old.items → IsOutside place (after_calls d calls.now).written → slice_index bytes.now place ≡ slice_index kept.old.items place) → kept.new.items ≡ bytes.now }
@@ -28,7 +28,8 @@ fn grow(bytes: &[u8], kept: &mut Vec<u8>)
     }
 }
 
-// Copies each range written since the last sync. Bytes that differ nowhere else are then the same.
+// Copies each range written since the last sync. If the bytes differ nowhere else, they are the same after
+// that.
 fn copy_unsynced(calls: &[Call], from: &[u8], to: &mut [u8])
     requires { length to.old ≡ length from.now }
     ensures { (d : DiskState) → d.written ≡ [] → ((place : ℕ) → place < length from.now → IsOutside place (after_calls d calls.now).written → slice_index to.old place ≡ slice_index from.now place) → to.new ≡ from.now }

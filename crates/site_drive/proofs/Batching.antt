@@ -1,4 +1,4 @@
--- Datagrams that came, delivered one after the other, and the last call.
+-- Datagrams that came, delivered one after another, and the last call.
 use Rattle.std.proofs.Common.{◌≡◌, ◌≢◌, inl, inr, ℕ, suc, ◌+◌, ◌<◌, ◌≤◌, Some, List, [], ◌∷◌, ◌++◌, length, map, take, drop, slice_index_or, refl, sym, ap, subst, ◌∙◌, append-nil, append_assoc, arith}
 use Rattle.std.proofs.lemmas.List.{map-append, take-append-drop}
 use Rattle.site_disk.specs.Model.{DiskState}
@@ -26,7 +26,7 @@ module _ {X : Type 0} (bytes : X → List ℕ) (xs : List X) (i : ℕ) (x : X) w
       ap (λ k. map Some (map bytes (take k xs))) (sym next) ∙ ap (λ l. map Some (map bytes l)) (take_more xs i x below got)
       ∙ ap (map Some) (map-append bytes (take i xs) (x ∷ [])) ∙ map-append Some (map bytes (take i xs)) (bytes x ∷ [])
 
-  -- those before it, it, and those behind
+  -- those before it, it, and those after
   split_at : i < length xs → x ≡ slice_index_or xs i x → map bytes xs ≡ map bytes (take i xs) ++ bytes x ∷ map bytes (drop (suc i) xs)
   split_at below got =
       ap (map bytes) (sym (take-append-drop (suc i) xs)) ∙ ap (λ l. map bytes (l ++ drop (suc i) xs)) (take_more xs i x below got)

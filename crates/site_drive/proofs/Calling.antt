@@ -22,7 +22,7 @@ use Rattle.site_drive.specs.declared.last_call.LastCall.TheVariants.{TickOrAsk, 
 pub all_fit : (xs ys : List (To × Message)) → AllFit xs → AllFit ys → AllFit (xs ++ ys)
 all_fit xs ys left right x k = ⊎_elim (λ a. left x a) (λ b. right x b) (in_split xs ys x k)
 
--- one call ends so, from a node that the value stands for; what it hands out stands behind what was there
+-- one call ends so, from a node that the value stands for; what it hands out comes after what was there
 abbrev Calls : {D : Type 0} → Running D → ℕ → ℕ → Call → Ending → List (To × Message) → List (To × Message) → Node → Node → Type 0
 Calls code n p call ending before after s next = IsNodeOf code s × ((out : List (To × Message)) × (after ≡ before ++ out) × Ends n p s call ending out next × AllFit out)
 
@@ -90,7 +90,7 @@ module _ {D : Type 0} (stands_for : D → DiskState → Type 0) where
       eased old new (λ s next. KeepsEach n p i count s ending next) (Called (Keep i count) n p ending before before)
       (λ s t keeps. ([], sym (append-nil before), (keeps, refl), λ x k. absurd k)) h
 
-  -- behind turns that nothing is called behind
+  -- after turns that nothing is called after
   pub none_called : (old : Running D) (n p : ℕ) (before : List (To × Message)) → NodeLeads stands_for old old (Called Nothing n p Whole before before)
   none_called old n p before = record { leads = λ s stands. (s, ([], sym (append-nil before), (refl, refl, refl), λ x k. absurd k), stands, (λ d on. (d, on)), λ b d of. of) }
 

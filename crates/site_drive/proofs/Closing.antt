@@ -1,4 +1,4 @@
--- What is behind the last turn, and turns with it.
+-- What is after the last turn, and turns with it.
 use Rattle.std.proofs.Common.{◌≡◌, ◌≢◌, ◌⊎◌, inl, inr, ⊎_elim, ℕ, zero, suc, ◌+◌, ◌<◌, List, [], ◌++◌, length, take, append-nil, refl, sym, ap, subst, ◌∙◌}
 use Rattle.site_ids.specs.Ids.{IsInstance}
 use Rattle.site_disk.specs.Model.{DiskState}

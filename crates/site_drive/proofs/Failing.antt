@@ -25,14 +25,14 @@ none_failed x before now c = c.none (fine x)
 pub all_fine : {T : Type 0} (x : T) (before now : ℕ) → now ≡ before → CountsDevice {T = T} (Ok x) before now
 all_fine x before now same = record { counted = λ e. absurd (fine x e); none = λ _. same }
 
--- a fault that is passed on, behind calls that counted nothing
+-- a fault that is passed on, after calls that counted nothing
 pub counts_on : {T U : Type 0} (r : Result T NodeFault) (fault : NodeFault) (before mid now : ℕ) → IsErrAnd r (λ y. y ≡ fault) → mid ≡ before → CountsDevice {T = U} (Err fault) mid now → CountsDevice r before now
 counts_on (Ok x) fault before mid now is same c = absurd is
 counts_on {T} {U} (Err y) fault before mid now is same c =
     let there : CountsDevice {T = U} (Err fault) before now = subst (λ k. CountsDevice {T = U} (Err fault) k now) same c in
     record { counted = λ e. there.counted (ap Err (sym is ∙ one_fault y Device e)); none = λ no. there.none (λ e. no (ap Err (is ∙ one_fault fault Device e))) }
 
--- a call whose answer is handed on, behind calls that counted nothing
+-- a call whose answer is handed on, after calls that counted nothing
 pub counts_behind : {T : Type 0} (r : Result T NodeFault) (before mid now : ℕ) → mid ≡ before → CountsDevice r mid now → CountsDevice r before now
 counts_behind r before mid now same c = subst (λ k. CountsDevice r k now) same c
 
@@ -40,12 +40,12 @@ counts_behind r before mid now same c = subst (λ k. CountsDevice r k now) same 
 pub none_of : {T : Type 0} (fault cause : NodeFault) (before now : ℕ) → fault ≡ cause → (cause ≡ Device → ⊥) → CountsDevice {T = T} (Err fault) before now → now ≡ before
 none_of fault cause before now is apart c = c.none (λ e. apart (sym is ∙ one_fault fault Device e))
 
--- want of memory
+-- a failed allocation
 pub memory_alone : {T : Type 0} (r : Result T NodeFault) (fault : NodeFault) (before now : ℕ) → IsErrAnd r (λ y. y ≡ fault) → fault ≡ OutOfMemory → now ≡ before → CountsDevice r before now
 memory_alone (Ok x) fault before now is memory same = absurd is
 memory_alone (Err y) fault before now is memory same = record { counted = λ e. absurd (other (sym memory ∙ (sym is ∙ one_fault y Device e))); none = λ _. same }
 
--- and behind the fault as before it
+-- and after the fault as before it
 pub counts_before : {T : Type 0} (r : Result T NodeFault) (before mid now : ℕ) → now ≡ mid → CountsDevice r before mid → CountsDevice r before now
 counts_before r before mid now same c = subst (λ k. CountsDevice r before k) (sym same) c
 

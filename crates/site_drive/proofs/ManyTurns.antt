@@ -144,7 +144,7 @@ stays_on old mid new first then = record {
   more = (first.more.0 ++ then.more.0, then.more.1 ∙ ap (λ l. l ++ then.more.0) first.more.1 ∙ append_assoc old.releases first.more.0 then.more.0);
 }
 
--- memory was wanted before the first turn
+-- an allocation failed before the first turn
 pub none_taken : {D L : Type 0} (stands_for : D → DiskState → Type 0) (received : L → List (List ℕ) → Type 0) (given : L → List (ℕ × List ℕ) → Type 0) (code : Running D) (link : L) (n p turns : ℕ)
     (told : NodeFault) → told ≡ fault.OutOfMemory → LeadsTo stands_for received given code code link link (GivesUp n p turns told)
 none_taken stands_for received given code link n p turns told is = record {

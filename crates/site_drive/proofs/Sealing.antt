@@ -102,7 +102,7 @@ module _ {D : Type 0} (stands_for : D → DiskState → Type 0) where
         );
       })
 
-  -- a publication behind the seal leaves the disk alone
+  -- a publication after the seal leaves the disk alone
   pub published : (mid new public : Running D) → ((s : Node) (d : DiskState) → IsOnDisk stands_for new s d → IsOnDisk stands_for public s d) → SealsAt stands_for mid new → SealsAt stands_for mid public
   published mid new public on_disk seals = λ s t d stands of. let e = seals s t d stands of in (e.0, on_disk t e.0 e.1, e.2)
 
@@ -137,7 +137,7 @@ module _ {D : Type 0} (stands_for : D → DiskState → Type 0) where
         sealed malformed out fed known worked =
             sealed_so (Works last n p came malformed out) (TakesBatch last n p came malformed out fed) (λ s t stands w. record { works = w; fed_is = known t stands }) worked
 
-        -- memory was wanted to publish
+        -- an allocation failed as the node published
         pub sealed_alone : (malformed : ℕ) (out : List (To × Message)) (why told : NodeFault) → told ≡ why → why ≡ fault.OutOfMemory → NodeLeads stands_for begun mid (Works last n p came malformed out)
             → LeadsSealed stands_for old new (GivesUpBatch last n p came told)
         sealed_alone malformed out why told is memory worked =

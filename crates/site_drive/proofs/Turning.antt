@@ -97,7 +97,7 @@ passed stands_for old bytes waits none = record {
   leads = λ s stands. (s, ([], sym (append-nil waits), inr (none, refl, refl, refl), λ x k. absurd k), stands, (λ d on. (d, on)), λ b d of. of);
 }
 
--- memory was wanted to read it
+-- an allocation failed as it was read
 pub unread : {D : Type 0} (stands_for : D → DiskState → Type 0) (old : Running D) (bytes : List ℕ) → ((m : Message) × Spells old.cluster bytes m)
     → NodeLeads stands_for old old (λ s next. BreaksOff old.cluster old.me s bytes fault.OutOfMemory next)
 unread stands_for old bytes some = record { leads = λ s stands. (s, (some.0, some.1, inr (refl, refl)), stands, (λ d on. (d, on)), λ b d of. of) }
@@ -170,7 +170,7 @@ module _ {D L : Type 0} (stands_for : D → DiskState → Type 0) (received : L 
               );
         }
 
-        -- or memory is wanted for it
+        -- or an allocation fails for it
         pub turned_short : (why : NodeFault) → why ≡ fault.OutOfMemory
             → (AllFit out → (gs : List (ℕ × List ℕ)) → given heard_by gs → (k : ℕ) × given after (gs ++ take k (sent_of n out)))
             → LeadsTo stands_for received given old new before after (GivesUp n p 1 why)

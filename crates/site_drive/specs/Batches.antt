@@ -1,4 +1,5 @@
--- A batch: all that came is delivered, and then comes the last call. What they put on record stands on the disk before anything that they hand out is given.
+-- A batch: all that came is delivered, and then comes the last call. What they put on record is on the disk
+-- before anything that they hand out is given away.
 use Rattle.std.specs.Prelude.{◌≡◌, ◌≢◌, ◌⊎◌, ℕ, List, ◌∷◌, ◌++◌, map, Some, Result, IfOk, IfErr}
 use Rattle.site_disk.specs.Model.{DiskState, LeavesOnly}
 use Rattle.wire.specs.declared.message.Message.{Message}
@@ -14,13 +15,13 @@ use Rattle.site_drive.specs.declared.last_call.LastCall.{LastCall}
 use Rattle.site_drive.specs.Drives.{TakesAll, EndsLast, EndsTurns, BreaksOff}
 use Rattle.site_drive.specs.Leading.{AllFit, StaysWhose}
 
--- ---- deliveries and calls, of which nothing is given yet
+-- ---- deliveries and calls, of which nothing is given away yet
 
--- these datagrams are delivered, one after the other, as turns have it
+-- these datagrams are delivered, one after another, as in turns
 abbrev pub TakesEach : ℕ → ℕ → List (List ℕ) → ℕ → List (To × Message) → Node → Node → Type 0
 TakesEach n p came malformed out s next = TakesAll n p s (map Some came) malformed out next
 
--- and then comes the last call; what all of them hand out waits
+-- these deliveries, and then the last call. What all of them hand out waits
 pub record Works (last : LastCall) (n p : ℕ) (came : List (List ℕ)) (malformed : ℕ) (out : List (To × Message)) (s next : Node) : Type 0 where
   pub mid : Node
   pub first : List (To × Message)
@@ -42,7 +43,7 @@ pub record GivesUpTaking (n p : ℕ) (came : List (List ℕ)) (why : NodeFault) 
   pub takes : TakesEach n p front malformed out s mid
   pub breaks : BreaksOff n p mid bytes why next
 
--- or behind all of them: the last call ended by this fault, which isn't passed over
+-- given up after all deliveries: the last call ended by this fault, which is not ignored
 pub record GivesUpCall (last : LastCall) (n p : ℕ) (came : List (List ℕ)) (why : NodeFault) (s next : Node) : Type 0 where
   pub mid : Node
   pub malformed : ℕ
@@ -63,16 +64,19 @@ HasWorked last n p came s next =
 
 -- ---- a batch that is sealed
 
--- So a node leads on, and all that was put is on the disk: a crash at any moment leaves what was there before or all of it
+-- The node goes on in this way, and all that was put is on the disk. A crash at any moment leaves what was
+-- there before, or all of it
 pub record LeadsSealed {D : Type 0} (stands_for : D → DiskState → Type 0) (old new : Running D) (How : Node → Node → Type 0) : Type 0 where
   pub leads : (s : Node) → IsNodeOf old s → (next : Node) × How s next × IsNodeOf new next × StaysOnDisk stands_for old new s next
 
--- a whole batch, behind which all that is known without a gap is published; what it handed out may be given
+-- a whole batch, after which all that is known without a gap is published. What it handed out may be given
+-- away
 pub record TakesBatch (last : LastCall) (n p : ℕ) (came : List (List ℕ)) (malformed : ℕ) (out : List (To × Message)) (fed : List (List ℕ)) (s next : Node) : Type 0 where
   pub works : Works last n p came malformed out s next
   pub fed_is : IsKnownPrefix next fed
 
--- given up: not begun, at a node that is stopped or for want of memory; or its work is given up; or memory was wanted to publish
+-- given up. The batch was not begun, as the node is stopped or an allocation failed; or its work is given up;
+-- or an allocation failed as the node published
 abbrev pub GivesUpBatch : LastCall → ℕ → ℕ → List (List ℕ) → NodeFault → Node → Node → Type 0
 GivesUpBatch last n p came why s next =
     ((why ≡ fault.Stopped) × (s.mode ≡ Stopped) × (next ≡ s))
@@ -81,13 +85,15 @@ GivesUpBatch last n p came why s next =
 
 -- ---- a batch that is lost
 
--- the disk keeps what was there before, with all that was put since or with none of it, whether it crashes or not; and so it was at any moment
+-- the disk keeps what was there before, with all that was put since or with none of it, whether it crashes or
+-- not. The same is so at any moment of the batch
 abbrev pub LeavesEither : {D : Type 0} → (D → DiskState → Type 0) → Running D → Running D → Node → Node → Type 0
 LeavesEither stands_for old new s t = (d : DiskState) → IsOnDisk stands_for old s d
     → (e : DiskState) × stands_for (disk_of new) e × LeavesOnly d e (IsEither old.me old.cluster s t)
     × ((batch : List Entry) × (t.entries ≡ s.entries ++ batch) × KeepsNoneOrAll old.me old.cluster s.entries batch e)
 
--- The device failed. The node is stopped; whether what its work came to is on the disk, only the next opening tells
+-- The device failed. The node is stopped, and only the next opening shows whether the result of its work is
+-- on the disk
 pub record LosesBatch {D : Type 0} (stands_for : D → DiskState → Type 0) (last : LastCall) (came : List (List ℕ)) (old new : Running D) : Type 0 where
   pub loses : (s : Node) → IsNodeOf old s → (t : Node) × HasWorked last old.cluster old.me came s t × HasStopped new × LeavesEither stands_for old new s t
 
@@ -97,7 +103,8 @@ pub record LosesBatch {D : Type 0} (stands_for : D → DiskState → Type 0) (la
 abbrev pub IsStop : NodeFault → Type 0
 IsStop why = (why ≡ fault.Device) ⊎ (why ≡ fault.Stopped)
 
--- It is whole, and this waits to be given; or given up and sealed; or lost. Whose node it is stays, and a failure of the device is told
+-- The batch is whole, and what it handed out waits to be given away; or it is given up, and sealed; or it is
+-- lost. It stays the same node, and a failure of the device is reported
 pub record EndsBatch {D : Type 0} (stands_for : D → DiskState → Type 0) (device : D → ℕ) (last : LastCall) (came : List (List ℕ)) (out : List (To × Message)) (old new : Running D) (result : Result ℕ NodeFault) : Type 0 where
   pub ok : IfOk result (λ malformed. LeadsSealed stands_for old new (TakesBatch last old.cluster old.me came malformed out new.releases))
   pub fault : IfErr result (λ why. LeadsSealed stands_for old new (GivesUpBatch last old.cluster old.me came why)

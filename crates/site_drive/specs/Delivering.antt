@@ -7,25 +7,25 @@ use Rattle.wire.specs.declared.message.Message.{Message}
 use Rattle.wire.specs.declared.message.Message.TheVariants.{Prepare, Promise, Propose, Nack, Ask}
 use Rattle.site_drive.specs.declared.delivered.Delivered.{Delivered}
 
--- of each node, node p at the place p - 1, the instance that its last question was for
+-- the instance that each node's last question was for. Node p has the place p - 1
 abbrev pub asked_by : Message → List (Option ℕ) → List (Option ℕ)
 asked_by (Ask q i) asked = set asked (q - 1) (Some i)
 asked_by _ asked = asked
 
--- who answers an attempt, by a promise or a refusal
+-- which nodes answered an attempt, by a promise or a refusal
 abbrev pub answered_by : Message → List Bool → List Bool
 answered_by (Promise q i b prior) answered = with_node answered q
 answered_by (Nack q i b c) answered = with_node answered q
 answered_by _ answered = answered
 
--- it is of an attempt: a prepare, a promise or a proposal
+-- the message is of an attempt: a prepare, a promise or a proposal
 abbrev pub is_of_attempt : Message → Bool
 is_of_attempt (Prepare q i b count) = true
 is_of_attempt (Promise q i b prior) = true
 is_of_attempt (Propose q i b v) = true
 is_of_attempt _ = false
 
--- it is no question
+-- the message is not a question
 abbrev pub stirs : Message → Bool
 stirs (Ask q i) = false
 stirs _ = true
@@ -36,7 +36,7 @@ counted_if is n = if is then min (n + 1) (2 ^ 32 - 1) else n
 abbrev pub none_noted : Delivered
 none_noted = record { heard = no_nodes; answered = no_nodes; questions = replicate 9 None; attempts = 0; stirs = 0 }
 
--- one message more
+-- one more message is noted
 abbrev pub noted : Message → Delivered → Delivered
 noted m d = record {
   heard = with_node d.heard (sender_of m);
@@ -46,11 +46,11 @@ noted m d = record {
   stirs = counted_if (stirs m) d.stirs;
 }
 
--- of a datagram in a group of n: the message that it spells, if any
+-- what a datagram adds in a group of n: the message that it spells, if any, is noted
 abbrev pub IsNoted : ℕ → List ℕ → Delivered → Delivered → Type 0
 IsNoted n bytes old new = ((m : Message) × Spells n bytes m × (new ≡ noted m old)) ⊎ (((m : Message) → ¬ Spells n bytes m) × (new ≡ old))
 
--- of datagrams, one after the other
+-- what datagrams add, one after another
 abbrev pub AreNoted : ℕ → List (List ℕ) → Delivered → Delivered → Type 0
 AreNoted n [] old new = new ≡ old
 AreNoted n (bytes ∷ came) old new = (mid : Delivered) × IsNoted n bytes old mid × AreNoted n came mid new

@@ -1,4 +1,5 @@
--- What a drive does with its node: turn after turn, and then a tick with widenings, or a question, or what else is called there.
+-- What a drive does with its node: turn after turn, and then a tick with widenings, or a question, or another
+-- call.
 use Rattle.std.specs.Prelude.{◌≡◌, ◌≢◌, ◌⊎◌, ℕ, zero, suc, ◌+◌, ◌<◌, ◌≤◌, Option, Some, None, List, [], ◌∷◌, ◌++◌, length, map, take, flat_map}
 use Rattle.site_ids.specs.Ids.{IsInstance}
 use Rattle.wire.specs.declared.message.Message.{Message}
@@ -65,7 +66,8 @@ pub record Scene : Type 0 where
   pub received : List (List ℕ)
   pub given : List (ℕ × List ℕ)
 
--- So many turns: what was heard is taken turn after turn, and what is handed out is given to the link. After a turn all that is known without a gap is fed
+-- Some turns: what was heard is handled turn after turn, and what is handed out is given to the link. After a
+-- turn all that is known without a gap is fed
 pub record Exchanges (n p turns malformed : ℕ) (fed : List (List ℕ)) (before after : Scene) : Type 0 where
   pub heard : List Heard
   pub out : List (To × Message)
@@ -75,16 +77,16 @@ pub record Exchanges (n p turns malformed : ℕ) (fed : List (List ℕ)) (before
   pub given : after.given ≡ before.given ++ sent_of n out
   pub fed_is : turns ≢ 0 → IsKnownPrefix after.node fed
 
--- ---- behind the last turn
+-- ---- after the last turn
 
--- so many widenings, one after the other, each of which begins an attempt
+-- k widenings, one after another, each of which begins an attempt
 abbrev pub Begin : ℕ → ℕ → ℕ → Node → List (To × Message) → Node → Type 0
 Begin n p zero s out next = (out ≡ []) × (next ≡ s)
 Begin n p (suc k) s out next =
     (mid : Node) × (first : List (To × Message)) × (then : List (To × Message))
     × Begin n p k s first mid × MayWiden mid × Ends n p mid widen Whole then next × (out ≡ first ++ then)
 
--- and a last one, which ends so and hands out nothing
+-- such widenings, and then a last one, which ends in this way and hands out nothing
 pub record Widens (n p : ℕ) (s : Node) (ending : Ending) (out : List (To × Message)) (next : Node) : Type 0 where
   pub count : ℕ
   pub mid : Node
@@ -100,18 +102,19 @@ pub record TicksAndWidens (n p : ℕ) (s : Node) (ending : Ending) (out : List (
   pub widens : Widens n p mid ending widened next
   pub out_is : out ≡ ticked ++ widened
 
--- Where a tick is wanted, it ends so and isn't whole, or widenings follow it, of which the last ends so. Else a question does
+-- If a tick is wanted, either the tick ends in this way and is not whole, or widenings follow it, and the
+-- last of them ends in this way. If no tick is wanted, a question ends in this way
 abbrev pub TicksOrAsks : ℕ → ℕ → Node → Ending → List (To × Message) → Node → Type 0
 TicksOrAsks n p s ending out next =
     (WantsTick s × (((ending ≢ Whole) × Ends n p s tick ending out next) ⊎ TicksAndWidens n p s ending out next))
     ⊎ ((¬ WantsTick s) × Ends n p s ask ending out next)
 
--- what is known at so many instances from i on is kept, one instance after the other
+-- what is known at k instances from i on is kept, one instance after another
 abbrev pub KeepAll : ℕ → ℕ → ℕ → ℕ → Node → Node → Type 0
 KeepAll n p i zero s next = next ≡ s
 KeepAll n p i (suc k) s next = (mid : Node) × KeepAll n p i k s mid × Ends n p mid (keep (i + k)) Whole [] next
 
--- of so many instances, behind the last of which there is none; or it ends so at one of them
+-- the same for `count` instances, as far as there are instances; or it ends in this way at one of them
 pub record KeepsEach (n p i count : ℕ) (s : Node) (ending : Ending) (next : Node) : Type 0 where
   pub whole : ℕ
   pub mid : Node
@@ -121,7 +124,7 @@ pub record KeepsEach (n p i count : ℕ) (s : Node) (ending : Ending) (next : No
       ((ending ≡ Whole) × (next ≡ mid) × ((whole ≡ count) ⊎ ¬ IsInstance (i + whole)))
       ⊎ ((ending ≢ Whole) × (whole < count) × Ends n p mid (keep (i + whole)) ending [] next)
 
--- the calls behind the last turn end so, where there is one
+-- the calls after the last turn end in this way, if there are any
 abbrev pub EndsLast : LastCall → ℕ → ℕ → Node → Ending → List (To × Message) → Node → Type 0
 EndsLast TickOrAsk n p s ending out next = TicksOrAsks n p s ending out next
 EndsLast Widen n p s ending out next = Widens n p s ending out next
@@ -130,7 +133,7 @@ EndsLast (Tell q i) n p s ending out next = Ends n p s (tell (One q) i) ending o
 EndsLast (Keep i count) n p s ending out next = KeepsEach n p i count s ending next × (out ≡ [])
 EndsLast Nothing n p s ending out next = (ending ≡ Whole) × (out ≡ []) × (next ≡ s)
 
--- they are whole, or passed over, as every instance is known
+-- they are whole; or they are refused as every instance is known, which is ignored
 abbrev pub EndsTurns : LastCall → ℕ → ℕ → Node → List (To × Message) → Node → Type 0
 EndsTurns last n p s out next = EndsLast last n p s Whole out next ⊎ EndsLast last n p s (Refused InstancesUsedUp) out next
 
@@ -141,7 +144,7 @@ pub record Closes (last : LastCall) (n p : ℕ) (before after : Scene) : Type 0 
   pub received : after.received ≡ before.received
   pub given : after.given ≡ before.given ++ sent_of n out
 
--- turns, and what is behind the last one
+-- turns, and what comes after the last one
 pub record DrivesWith (last : LastCall) (n p turns malformed : ℕ) (fed : List (List ℕ)) (before after : Scene) : Type 0 where
   pub mid : Scene
   pub turns_first : Exchanges n p turns malformed fed before mid
@@ -154,17 +157,19 @@ Drives = DrivesWith TickOrAsk
 
 -- ---- given up
 
--- what was given to the link is a beginning of what was handed out
+-- the link was given a beginning of what was handed out
 abbrev pub IsPartlyGiven : ℕ → List (To × Message) → Scene → Scene → Type 0
 IsPartlyGiven n out before after = (k : ℕ) × (after.given ≡ before.given ++ take k (sent_of n out))
 
--- a turn that is not whole: its delivery ends by this fault; or memory is wanted to read the datagram, and it is not delivered
+-- a turn that is not whole: its delivery ends by this fault; or an allocation failed as the datagram was
+-- read, and it is not delivered
 abbrev pub BreaksOff : ℕ → ℕ → Node → List ℕ → NodeFault → Node → Type 0
 BreaksOff n p s bytes fault next =
     (m : Message) × Spells n bytes m
     × (Ends n p s (deliver m) (ending_by fault) [] next ⊎ ((fault ≡ OutOfMemory) × (next ≡ s)))
 
--- Given up in a turn: turns that were taken, and then one that broke off; or memory was wanted to publish or to send what was handed out
+-- Given up in a turn: some turns were taken, and one broke off; or an allocation failed in publishing, or in
+-- sending what was handed out
 pub record GivesUp (n p turns : ℕ) (fault : NodeFault) (before after : Scene) : Type 0 where
   pub heard : List Heard
   pub malformed : ℕ
@@ -176,7 +181,8 @@ pub record GivesUp (n p turns : ℕ) (fault : NodeFault) (before after : Scene) 
       ((bytes : List ℕ) × BreaksOff n p mid bytes fault after.node × (after.received ≡ before.received ++ datagrams (heard ++ Some bytes ∷ [])) × (suc (length heard) ≤ turns))
       ⊎ ((fault ≡ OutOfMemory) × (after.node ≡ mid) × (after.received ≡ before.received ++ datagrams heard) × (length heard ≤ turns))
 
--- given up behind the last turn: the last call ended by this fault, which isn't passed over, or memory was wanted to send what was handed out
+-- given up after the last turn: the last call ended by this fault, which is not ignored; or an allocation
+-- failed in sending what was handed out
 pub record GivesUpLast (last : LastCall) (n p : ℕ) (fault : NodeFault) (before after : Scene) : Type 0 where
   pub out : List (To × Message)
   pub ends : EndsLast last n p before.node (ending_by fault) out after.node ⊎ ((fault ≡ OutOfMemory) × EndsTurns last n p before.node out after.node)
@@ -184,7 +190,7 @@ pub record GivesUpLast (last : LastCall) (n p : ℕ) (fault : NodeFault) (before
   pub received : after.received ≡ before.received
   pub given : IsPartlyGiven n out before after
 
--- given up in a turn, or behind all of them
+-- given up in a turn, or after all turns
 abbrev pub GivesUpDrivingWith : LastCall → ℕ → ℕ → ℕ → NodeFault → Scene → Scene → Type 0
 GivesUpDrivingWith last n p turns fault before after =
     GivesUp n p turns fault before after

@@ -25,11 +25,11 @@ KeepsRecord stands_for old new s next = (d : DiskState) → IsOnDisk stands_for 
 pub record NodeLeads {D : Type 0} (stands_for : D → DiskState → Type 0) (old new : Running D) (How : Node → Node → Type 0) : Type 0 where
   pub leads : (s : Node) → IsNodeOf old s → (next : Node) × How s next × IsNodeOf new next × KeepsRecord stands_for old new s next × StaysAhead stands_for old new s next
 
--- what was heard is taken; what that hands out stands behind what was there, and fits
+-- what was heard is handled. What that hands out comes after what was there, and fits
 abbrev pub TakesIn : ℕ → ℕ → Heard → ℕ → List (To × Message) → List (To × Message) → Node → Node → Type 0
 TakesIn n p h malformed before after s next = (out : List (To × Message)) × (after ≡ before ++ out) × Takes n p s h malformed out next × AllFit out
 
--- calls behind the last turn end so; what they hand out stands behind what was there, and fits
+-- the calls after the last turn end in this way. What they hand out comes after what was there, and fits
 abbrev pub Called : LastCall → ℕ → ℕ → Ending → List (To × Message) → List (To × Message) → Node → Node → Type 0
 Called last n p ending before after s next = (out : List (To × Message)) × (after ≡ before ++ out) × EndsLast last n p s ending out next × AllFit out
 
@@ -43,7 +43,7 @@ pub record IsAt {D L : Type 0} (received : L → List (List ℕ) → Type 0) (gi
 pub record LeadsTo {D L : Type 0} (stands_for : D → DiskState → Type 0) (received : L → List (List ℕ) → Type 0) (given : L → List (ℕ × List ℕ) → Type 0) (old new : Running D) (before after : L) (How : Scene → Scene → Type 0) : Type 0 where
   pub leads : (x : Scene) → IsAt received given old before x → (y : Scene) × How x y × IsAt received given new after y × KeepsRecord stands_for old new x.node y.node
 
--- whose node it is stays, and what was published grows at its end alone
+-- it stays the same node, and what was published only grows, at its end
 pub record StaysWhose {D : Type 0} (old new : Running D) : Type 0 where
   pub me : new.me ≡ old.me
   pub cluster : new.cluster ≡ old.cluster

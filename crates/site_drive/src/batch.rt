@@ -1,4 +1,5 @@
-//! A batch: all that a node does with what came stands on the disk together, before anything that it hands out is given.
+//! A batch: all that a node does with what came is on the disk together, before anything that it hands out is
+//! given away.
 //!
 //! A batch that isn't begun is given up: some bytes are missing, which ends a server anywhere.
 
@@ -17,7 +18,7 @@ use node::{Node, NodeFault};
 use site_disk::Disk;
 
 impl Desk {
-    /// Delivers these datagrams in order: how many were malformed.
+    /// Delivers these datagrams in order, and returns how many were malformed.
     fn take_each<D: Disk>(
         &mut self,
         node: &mut Node<D>,
@@ -45,7 +46,7 @@ impl Desk {
         Ok(malformed)
     }
 
-    /// These, and then the last call.
+    /// Delivers these datagrams, and then makes the last call.
     fn work<D: Disk>(
         &mut self,
         node: &mut Node<D>,
@@ -65,7 +66,8 @@ impl Desk {
         Ok(malformed)
     }
 
-    /// The batch, from its beginning to its publication. Where it is given up, the outbox may hold what was never sealed.
+    /// The batch, from its beginning to its publication. If it is given up, the outbox may have messages that
+    /// were never sealed.
     fn take_sealed<D: Disk>(
         &mut self,
         node: &mut Node<D>,
@@ -92,12 +94,14 @@ impl Desk {
         Ok(malformed)
     }
 
-    /// One batch: delivers what came, in order, and makes the last call. What that puts on record is written to the disk by two writes and two syncs, or by
-    /// none where nothing was put. Then the node publishes. What the node hands out waits for `post`. The answer is how many datagrams spell no message:
-    /// they are ignored, as losses.
+    /// One batch: delivers what came, in order, and makes the last call. What that puts on record is written
+    /// to the disk by two writes and two syncs, or by none if nothing was put. Then the node publishes. What
+    /// the node hands out waits for `post`. Returns how many datagrams spell no message: they are ignored, as
+    /// losses.
     ///
-    /// A device that fails leaves all of it on the disk or nothing, and stops the node. After a failed allocation what was done before is on the disk.
-    /// After any fault nothing waits for `post`: what waits there is sealed. What was delivered stays to be asked for (`delivered`).
+    /// A device that fails leaves all of it on the disk or nothing, and stops the node. After a failed
+    /// allocation what was done before is on the disk. After any fault nothing waits for `post`: what waits
+    /// there is sealed. What was delivered stays to be asked for (`delivered`).
     pub fn take_batch<D: Disk>(
         &mut self,
         node: &mut Node<D>,

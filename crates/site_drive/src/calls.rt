@@ -1,4 +1,4 @@
-//! The calls behind the last turn.
+//! The calls after the last turn.
 
 ghost use Rattle.std.specs.Prelude.{◌≡◌, ◌≢◌, ◌++◌, [], List, IfErr, OnOk};
 ghost use Rattle.wire.specs.declared.message.Message.{Message};
@@ -15,7 +15,7 @@ use node::{Node, NodeFault, To};
 use site_disk::Disk;
 use site_ids::Instance;
 
-/// Keeps what is known at so many instances from one on, as far as there are instances.
+/// Keeps what is known at `count` instances from the first one on, as far as there are instances.
 fn keep_each<D: Disk>(node: &mut Node<D>, first: Instance, count: u32) -> Result<(), NodeFault>
     ensures event { NodeLeads D.stands_for node.old node.new (λ s next. KeepsEach node.old.cluster node.old.me first count s (ending_of result) next) }
     ensures others { KeepsOthers node.old node.new }
@@ -34,7 +34,7 @@ fn keep_each<D: Disk>(node: &mut Node<D>, first: Instance, count: u32) -> Result
 }
 
 impl Desk {
-    /// Widens until no attempt more begins.
+    /// Widens until no further attempt begins.
     fn widen_all<D: Disk>(&mut self, node: &mut Node<D>) -> Result<(), NodeFault>
         ensures event { NodeLeads D.stands_for node.old node.new (Called LastCall.Widen node.old.cluster node.old.me (ending_of result) self.old.outbox.items self.new.outbox.items) }
         ensures others { KeepsOthers node.old node.new }
@@ -46,7 +46,7 @@ impl Desk {
         Ok(())
     }
 
-    /// Ticks and then widens where a tick is wanted, and else asks.
+    /// Ticks and then widens if a tick is wanted, and asks if not.
     fn tick_or_ask<D: Disk>(&mut self, node: &mut Node<D>) -> Result<(), NodeFault>
         ensures event { NodeLeads D.stands_for node.old node.new (Called LastCall.TickOrAsk node.old.cluster node.old.me (ending_of result) self.old.outbox.items self.new.outbox.items) }
         ensures others { KeepsOthers node.old node.new }
@@ -78,7 +78,7 @@ impl Desk {
         }
     }
 
-    /// The same. That every instance is known is passed over.
+    /// The same. That every instance is known is ignored.
     pub(crate) fn last_call<D: Disk>(
         &mut self,
         node: &mut Node<D>,
@@ -99,7 +99,7 @@ impl Desk {
         }
     }
 
-    /// The calls behind the last turn, and what they hand out is sent.
+    /// Makes the calls after the last turn, and sends what they hand out.
     pub(crate) fn close<D: Disk, L: Link>(
         &mut self,
         node: &mut Node<D>,

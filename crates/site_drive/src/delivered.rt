@@ -7,8 +7,8 @@ ghost use Rattle.site_drive.specs.Delivering.{counted_if, none_noted, noted};
 use site_ids::{Instance, NodeId, NodeSet};
 use wire::Message;
 
-/// The messages that a drive delivered: who sent them, who answered an attempt, each node's last question,
-/// and how many were of an attempt or no questions.
+/// The messages that a drive delivered: which nodes sent them, which nodes answered an attempt, each node's
+/// last question, how many were of an attempt, and how many were not questions.
 #[derive(Clone, Copy, Debug, PartialEq, Eq, Drop)]
 pub struct Delivered {
     heard: NodeSet,
@@ -19,7 +19,7 @@ pub struct Delivered {
 }
 
 impl Delivered {
-    /// None.
+    /// No message.
     pub(crate) fn none() -> Delivered
         ensures { result ≡ none_noted }
     {
@@ -32,7 +32,7 @@ impl Delivered {
         }
     }
 
-    /// One message more.
+    /// One more message.
     pub(crate) fn note(&mut self, message: &Message)
         ensures { self.new ≡ noted message.now self.old }
     {
@@ -54,14 +54,14 @@ impl Delivered {
         }
     }
 
-    /// It promised, or refused.
+    /// The node promised, or refused.
     fn note_answer(&mut self, from: NodeId)
         ensures { self.new ≡ record self.old { answered = with_node self.old.answered from } }
     {
         self.answered.insert(from);
     }
 
-    /// One of an attempt more.
+    /// One more message of an attempt.
     fn note_attempt(&mut self)
         ensures { self.new ≡ record self.old { attempts = counted_if true self.old.attempts; stirs = counted_if true self.old.stirs } }
     {
@@ -69,7 +69,7 @@ impl Delivered {
         self.note_stir();
     }
 
-    /// One more that is no question.
+    /// One more message that is not a question.
     fn note_stir(&mut self)
         ensures { self.new ≡ record self.old { stirs = counted_if true self.old.stirs } }
     {
@@ -111,7 +111,7 @@ impl Delivered {
         self.attempts
     }
 
-    /// How many were no questions: those say that somebody does something.
+    /// How many were not questions. These show that some node does something.
     pub fn stirs(&self) -> u32
         ensures { result ≡ self.now.stirs }
     {

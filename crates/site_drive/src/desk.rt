@@ -1,4 +1,4 @@
-//! What turns and calls behind them work with.
+//! What turns and the calls after them work with.
 //!
 //! Room for turns is made once, a fifth of an idle node's cost; the buffer has a byte more than the longest spelling.
 
@@ -10,8 +10,9 @@ use node::Outbox;
 use std::alloc::{AllocError, Global};
 use wire::MAX_MESSAGE;
 
-/// Room for a datagram and a byte more, so that one that was cut spells nothing; for a spelling; and for what the node
-/// hands out. Many drives can share it: each begins it anew, and none allocates the 32 KB of a datagram again.
+/// Room for a datagram and one more byte, so that one that was cut short spells nothing; for a spelling; and
+/// for what the node hands out. Many drives can share a desk: each begins it anew, and none allocates the 32
+/// KB of a datagram again.
 #[derive(Drop)]
 pub struct Desk {
     pub(crate) alloc: Global,
@@ -26,7 +27,7 @@ pub struct Desk {
 }
 
 impl Desk {
-    /// An empty one, whose memory is taken from here.
+    /// An empty desk, whose memory is allocated here.
     pub fn new(alloc: Global) -> Result<Desk, AllocError>
         ensures { IfOk result (λ desk. (desk.outbox.items ≡ []) × (desk.failed ≡ 0)) }
     {

@@ -1,4 +1,4 @@
-/// What a drive passed over, as losses.
+/// What a drive ignored, as losses.
 #[derive(Clone, Copy, Debug, PartialEq, Eq, Drop)]
 pub struct Driven {
     /// Datagrams that spell no message.

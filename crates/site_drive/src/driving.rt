@@ -1,4 +1,4 @@
-//! Turns alone, and turns with calls behind the last one.
+//! Turns by themselves, and turns with calls after the last one.
 
 ghost use Rattle.std.specs.Prelude.{◌≡◌, ◌≤◌, [], ℕ, IfOk, IfErr, OnOk, OnErr};
 ghost use Rattle.node.specs.Standing.{CountsDevice, failures};
@@ -16,7 +16,7 @@ use site_disk::Disk;
 use std::alloc::Global;
 
 impl Desk {
-    /// So many turns: how many datagrams were malformed.
+    /// Takes `turns` turns, and returns how many datagrams were malformed.
     fn take_turns<D: Disk, L: Link>(
         &mut self,
         node: &mut Node<D>,
@@ -42,11 +42,12 @@ impl Desk {
         Ok(malformed)
     }
 
-    /// So many turns: each receives at most one datagram, delivers what it spells, publishes, and sends what is handed out; and then these calls, of
-    /// which what is handed out is sent. That every instance is known is passed over there.
+    /// Takes `turns` turns. Each receives at most one datagram, delivers what it spells, publishes, and sends
+    /// what is handed out. After the last turn it makes the last call, and sends what that hands out. If that
+    /// call is refused because every instance is known, the refusal is ignored.
     ///
-    /// A datagram that spells no message and a call of the link that fails are counted and passed over, as losses. What an earlier drive left on the
-    /// desk does not count.
+    /// A datagram that spells no message and a call of the link that fails are counted, and otherwise
+    /// ignored, as losses. What an earlier drive left on the desk does not count.
     pub fn drive_with<D: Disk, L: Link>(
         &mut self,
         node: &mut Node<D>,
@@ -69,7 +70,8 @@ impl Desk {
     }
 }
 
-/// Turns as those of `Desk::drive_with`, and then a tick and widenings where a tick is wanted, and else a question.
+/// Takes turns as `Desk::drive_with` does. After them it ticks and widens if a tick is wanted, and asks if
+/// not.
 pub fn drive<D: Disk, L: Link>(
     alloc: Global,
     node: &mut Node<D>,

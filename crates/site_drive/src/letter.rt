@@ -28,7 +28,7 @@ fn spell(alloc: Global, to: To, message: &Message) -> Result<Letter, AllocError>
     Ok(Letter { to, bytes })
 }
 
-/// Puts a message behind these letters. One that fits no datagram, as none is, is passed over.
+/// Puts a message after these letters. One that fits no datagram is ignored; no message of a node is such.
 fn put(
     alloc: Global,
     letters: &mut Vec<Letter>,
@@ -45,7 +45,8 @@ fn put(
 }
 
 impl Desk {
-    /// Puts what waits behind these letters, in order: one for each message, whether it is for one node or for all.
+    /// Puts what waits after these letters, in order: one letter for each message, whether it is for one node
+    /// or for all.
     pub fn post(&self, letters: &mut Vec<Letter>) -> Result<(), AllocError>
         ensures ok { OnOk result (AllFit self.now.outbox.items → letters_of letters.new.items ≡ letters_of letters.old.items ++ spelled_of self.now.outbox.items) }
         ensures refused { OnErr result (AllFit self.now.outbox.items → (k : ℕ) × (letters_of letters.new.items ≡ letters_of letters.old.items ++ take k (spelled_of self.now.outbox.items))) }

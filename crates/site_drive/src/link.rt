@@ -1,13 +1,14 @@
 //! What carries datagrams.
 //!
-//! A failed receive is a turn without a datagram; a failed send is passed over, as is a message that fits no datagram: nodes hand none out.
+//! A failed receive is a turn without a datagram. A failed send is ignored, and so is a message that fits no
+//! datagram: nodes hand out none.
 
 ghost use Rattle.std.specs.Prelude.{◌≡◌, ◌≤◌, ◌++◌, ◌∷◌, [], ℕ, List, length, take, IfOk, IfSome, IfNone, OnOk, OnErr};
 ghost use Rattle.site_drive.specs.Links.{RoseBy};
 
 use site_ids::NodeId;
 
-/// The link failed. Nothing was received, or it isn't known whether anything was sent.
+/// The link failed. Nothing was received, or it is not known whether anything was sent.
 #[derive(Clone, Copy, Debug, PartialEq, Eq, Drop)]
 pub struct LinkFailed;
 
@@ -23,7 +24,8 @@ pub trait Link {
 
     ghost failed: { Self → ℕ };
 
-    /// Receives one datagram, of which as much is given as the slice holds: how many bytes. `None`: none is there.
+    /// Receives one datagram, and gives as much of it as the slice holds. Returns how many bytes that is;
+    /// `None` if no datagram is there.
     fn receive(&mut self, buf: &mut [u8]) -> Result<Option<usize>, LinkFailed>
         ensures bound { IfOk result (λ r. IfSome r (λ n. n ≤ length buf.new)) }
         ensures heard { IfOk result (λ r. IfSome r (λ n. (ds : List (List ℕ)) → received self.old ds → (d : List ℕ) × received self.new (ds ++ d ∷ []) × (take n buf.new ≡ take (length buf.new) d))) }

@@ -5,7 +5,7 @@ ghost use Rattle.std.specs.Prelude.{◌≤◌, length};
 use site_ids::NodeId;
 use std::alloc::Global;
 
-/// Receives what was queued for it, and keeps what it was given to send, where memory suffices.
+/// Receives what was queued for it, and keeps what it was given to send, unless an allocation fails.
 #[derive(Drop)]
 pub struct MemLink {
     pub(crate) alloc: Global,

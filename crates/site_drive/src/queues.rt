@@ -24,7 +24,7 @@ impl MemLink {
         }
     }
 
-    /// Queues a datagram behind the others, to be received.
+    /// Queues a datagram after the others, to be received.
     pub fn push(&mut self, datagram: &[u8]) -> Result<(), AllocError>
         ensures queued { OnOk result (waiting_of self.new ≡ waiting_of self.old ++ datagram.now ∷ []) }
         ensures refused { OnErr result (waiting_of self.new ≡ waiting_of self.old) }

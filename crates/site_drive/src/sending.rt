@@ -16,7 +16,7 @@ use site_ids::{Cluster, NodeId};
 use std::alloc::AllocError;
 use wire::{Message, encode};
 
-// Sends one datagram. A failure is counted, and passed over.
+// Sends one datagram. A failure is counted, and otherwise ignored.
 fn send_to<L: Link>(link: &mut L, to: NodeId, datagram: &[u8], failed: &mut u64)
     ensures received { (ds : List (List ℕ)) → L.received link.old ds → L.received link.new ds }
     ensures given { (gs : List (ℕ × List ℕ)) → L.given link.old gs → L.given link.new (gs ++ (to, datagram.now) ∷ []) }
@@ -46,7 +46,8 @@ fn send_to_all<L: Link>(link: &mut L, cluster: Cluster, datagram: &[u8], failed:
     }
 }
 
-// Sends a message to whom it is for. One that fits no datagram, as none is, is passed over.
+// Sends a message to the nodes that it is for. One that fits no datagram is ignored; no message of a node is
+// such.
 fn send_message<L: Link>(
     link: &mut L,
     cluster: Cluster,
@@ -73,7 +74,7 @@ fn send_message<L: Link>(
     Ok(())
 }
 
-/// Sends each message of an outbox to whom it is for, in order.
+/// Sends each message of an outbox to the nodes that it is for, in order.
 pub(crate) fn send_all<L: Link>(
     link: &mut L,
     cluster: Cluster,

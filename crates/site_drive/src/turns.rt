@@ -20,7 +20,8 @@ use site_disk::Disk;
 use std::alloc::Global;
 use wire::{WireFault, decode};
 
-/// Delivers a datagram, and has what that hands out wait behind what does already: how many were malformed, one or none.
+/// Delivers a datagram, and puts what that hands out after what waits already. Returns how many were
+/// malformed: one or none.
 pub(crate) fn deliver_datagram<D: Disk>(
     alloc: Global,
     node: &mut Node<D>,
@@ -49,7 +50,7 @@ pub(crate) fn deliver_datagram<D: Disk>(
 }
 
 impl Desk {
-    /// Receives once: how many bytes came. A failure is counted, and nothing came.
+    /// Receives once, and returns how many bytes came. A failure is counted, and then nothing came.
     pub(crate) fn hear<L: Link>(&mut self, link: &mut L) -> Option<usize>
         ensures bound { IfSome result (λ n. n ≤ length self.new.datagram.items) }
         ensures heard { (ds : List (List ℕ)) → L.received link.old ds → (h : Heard) × L.received link.new (ds ++ datagrams (h ∷ [])) × IsHeldAs result self.new.datagram.items h }
@@ -67,7 +68,8 @@ impl Desk {
         }
     }
 
-    /// Delivers what came, and has what that hands out wait behind what does already: how many datagrams were malformed, one or none.
+    /// Delivers what came, and puts what that hands out after what waits already. Returns how many datagrams
+    /// were malformed: one or none.
     pub(crate) fn take_in<D: Disk>(
         &mut self,
         node: &mut Node<D>,
@@ -94,7 +96,7 @@ impl Desk {
         )
     }
 
-    /// One turn: how many datagrams were malformed, one or none.
+    /// Takes one turn, and returns how many datagrams were malformed: one or none.
     pub(crate) fn turn<D: Disk, L: Link>(
         &mut self,
         node: &mut Node<D>,

@@ -13,7 +13,7 @@ below_next (suc k) (suc i) l = ⊎_elim
     (λ (m : k < i). inr (omega (arith, m)))
     (below_next k i (omega (arith, l)))
 
--- one place more is as it is to be, and those behind it stay
+-- one place more is as it is to be, and those after it stay
 pub set_next : {X : Type 0} (xs : List X) (i : ℕ) (v d : X) (f g : ℕ → X) → i < length xs → v ≡ f i
     → ((k : ℕ) → k < i → get_or xs k d ≡ f k) × ((k : ℕ) → i ≤ k → get_or xs k d ≡ g k)
     → ((k : ℕ) → k < i + 1 → get_or (set xs i v) k d ≡ f k) × ((k : ℕ) → i + 1 ≤ k → get_or (set xs i v) k d ≡ g k)

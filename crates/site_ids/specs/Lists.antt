@@ -1,12 +1,12 @@
 -- Members of lists, and functions of the instance.
 use Rattle.std.specs.Prelude.{◌≡◌, ◌⊎◌, ℕ, nat_eq, if◌then◌else◌, List, [], ◌∷◌}
 
--- x stands in the list
+-- x is in the list
 abbrev pub In : {X : Type 0} → List X → X → Type 0
 In [] x = ⊥
 In (y ∷ ys) x = (y ≡ x) ⊎ In ys x
 
--- no member stands twice
+-- no member is in the list twice
 abbrev pub Distinct : {X : Type 0} → List X → Type 0
 Distinct [] = Unit {0}
 Distinct (x ∷ xs) = (¬ In xs x) × Distinct xs

@@ -1,4 +1,4 @@
--- Spans: so many instances, from one on.
+-- Spans: some instances in a row, from one on.
 use Rattle.std.specs.Prelude.{ℕ, suc, ◌+◌, ◌-◌, ◌<◌, ◌≤◌}
 use Rattle.site_ids.specs.declared.TheConstants.{MAX_INSTANCE, MAX_SPAN}
 

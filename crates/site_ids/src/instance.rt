@@ -47,7 +47,7 @@ impl Instance {
         self.number
     }
 
-    /// Whether this one and those behind it, so many in all, are a span.
+    /// Whether this instance and those after it, `count` in all, are a span.
     pub fn begins_span(self, count: u8) -> bool
         ensures { IsTrue result ↔ IsSpan self count }
     {

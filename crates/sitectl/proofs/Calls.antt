@@ -24,7 +24,7 @@ use Rattle.server.specs.Passes.{MayTake, MayTakeMany}
 use Rattle.world.specs.Batches.{AllEnd}
 use Rattle.sitectl.specs.Passes.{AreCalls}
 
--- ---- one after the other
+-- ---- one after another
 
 all_end_on : (n p : ℕ) (s mid next : Node) (calls more : List Call) (out then : List (To × Message)) → AllEnd n p s calls out mid → AllEnd n p mid more then next → AllEnd n p s (calls ++ more) (out ++ then) next
 all_end_on n p s mid next [] more out then first rest = subst (λ u. AllEnd n p u more (out ++ then) next) first.1 (subst (λ o. AllEnd n p mid more (o ++ then) next) (sym first.0) rest)

@@ -22,7 +22,7 @@ all_came (d ∷ ds) = ap (λ l. d ∷ l) (all_came ds)
 each_called : (n p : ℕ) (came : List (List ℕ)) (malformed : ℕ) (out : List (To × Message)) (s next : Node) → TakesEach n p came malformed out s next → AreCalls n p came out s next
 each_called n p came malformed out s next t = subst (λ l. AreCalls n p l out s next) (all_came came) (turns_called n p s next (map Some came) malformed out t)
 
--- calls without a datagram behind them
+-- calls without a datagram after them
 then_called : (n p : ℕ) (came : List (List ℕ)) (out then : List (To × Message)) (s t u : Node) → AreCalls n p came out s t → AreCalls n p [] then t u → AreCalls n p came (out ++ then) s u
 then_called n p came out then s t u a b = subst (λ l. AreCalls n p l (out ++ then) s u) (append-nil came) (called_on n p came [] out then s t u a b)
 

@@ -7,7 +7,8 @@ use Rattle.server_floor.specs.Floors.{IsFloorAbove}
 use Rattle.server_floor.specs.declared.told.Told.{Told}
 use Rattle.world.specs.Worlds.{World, IsFloor}
 
--- each of these nodes runs, or is stopped, in the world, and its record reaches no further than is told
+-- each of these nodes runs or is stopped in the world, and its record reaches no further than what is
+-- reported of it
 abbrev pub AreTold : World → List Told → Type 0
 AreTold w told = (t : Told) → In told t → ((w.node t.node).mode ≢ Down) × (reach_of (w.node t.node).entries ≤ t.reach)
 

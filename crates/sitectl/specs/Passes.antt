@@ -47,7 +47,8 @@ StepIsCalls = (n p : ℕ) (came : List (List ℕ)) (letters : List (To × List �
 abbrev pub GivenUpIsCalls : Type 0
 GivenUpIsCalls = (last : LastCall) (n p : ℕ) (came : List (List ℕ)) (why : NodeFault) (s next : Node) → GivesUpBatch last n p came why s next → (out : List (To × Message)) × AreCalls n p came out s next
 
--- Where nothing is forged such calls are a batch of the world: a run of their events, and cut short a crash before the first of them or behind the last one
+-- If nothing is forged, such calls are a batch of the world: a run of their events. If the batch is cut
+-- short, it is a crash before the first of them or after the last one
 abbrev pub CallsAreABatch : Type 0
 CallsAreABatch = (n p : ℕ) (came : List (List ℕ)) (out : List (To × Message)) (next : Node) (w : World) → IsNode n p → NoneForged n w.sent came → AreCalls n p came out (w.node p) next
     → (events : List Event) × IsBatch n w events p out next × LeadTo n w events p (messages_of out) next

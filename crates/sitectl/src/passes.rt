@@ -4,9 +4,10 @@ ghost use Rattle.sitectl.specs.Passes.{WorkIsCalls, StepIsCalls, GivenUpIsCalls,
 use site_disk::MemDisk;
 use world::batches_are_runs;
 
-/// A step of a server is calls of its node: those of one batch, of which each delivery is of a datagram that came, and then submissions. Where
-/// no datagram is forged they are a batch of the world, of which `batches_are_runs` speaks: a run of its events, and where it is cut short a crash
-/// of the node before the first of them or behind the last one.
+/// A step of a server is calls of its node: those of one batch, each of whose deliveries is of a datagram
+/// that came, and then submissions. If no datagram is forged, the batch's calls are a batch of the world, of
+/// which `batches_are_runs` speaks: a run of its events. If it is cut short, it is a crash of the node before
+/// the first of them or after the last one.
 pub fn passes_are_batches()
     ensures work { WorkIsCalls }
     ensures step { StepIsCalls }

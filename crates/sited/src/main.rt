@@ -11,7 +11,7 @@ use server_inspect::inspect;
 use std::io::Write;
 use std::process::ExitCode;
 
-/// The node's rounds, one line where it is ready, where they are done, and for a fault, and the exit status.
+/// The node's rounds, with a line when it is ready, when they are done, and for a fault; and the exit status.
 fn run<E: Write>(rt: &HostRuntime, err: &mut Counted<E>) -> Result<u8, Misuse> {
     let alloc = rt.alloc();
     let words = command_line(rt)?;

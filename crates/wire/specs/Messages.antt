@@ -1,4 +1,4 @@
--- What a message says of itself, and the ranges of its fields.
+-- What a message is about and from whom, and the ranges of its fields.
 use Rattle.std.specs.Prelude.{ℕ, ◌≤◌, length, ⊤}
 use Rattle.std.specs.Option.{IfSome}
 use Rattle.site_ids.specs.declared.TheConstants.{MAX_VALUE}
@@ -35,7 +35,7 @@ kind_of (Nack q i b c) = 5
 kind_of (Ask q i) = 6
 kind_of (Chosen q i v) = 7
 
--- each value has at most 32,768 bytes, and a prepare's span is one
+-- each value has at most 32,768 bytes, and a prepare's instances are a span
 abbrev pub Fits : Message → Type 0
 Fits (Prepare q i b k) = IsSpan i k
 Fits (Promise q i b prior) = IfSome prior (λ vote. length vote.value ≤ MAX_VALUE)
@@ -45,7 +45,7 @@ Fits (Nack q i b c) = ⊤
 Fits (Ask q i) = ⊤
 Fits (Chosen q i v) = length v ≤ MAX_VALUE
 
--- each ballot has its round in range, and one of the n nodes
+-- each ballot has a round in range, and is of one of the n nodes
 abbrev pub HasBallots : ℕ → Message → Type 0
 HasBallots n (Prepare q i b k) = IsBallot n b
 HasBallots n (Promise q i b prior) = IsBallot n b × IfSome prior (λ vote. IsBallot n vote.ballot)

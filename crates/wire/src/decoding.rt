@@ -68,7 +68,7 @@ fn prepare(cluster: Cluster, head: Head, fields: &[u8]) -> Result<Message, WireF
     }
 }
 
-// One of two instances or more.
+// A prepare of two or more instances.
 fn prepare_span(cluster: Cluster, head: Head, fields: &[u8]) -> Result<Message, WireFault>
     requires { IsHead cluster head }
     ensures { Decodes cluster (datagram 2 1 head fields.now) result }

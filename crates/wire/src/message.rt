@@ -4,10 +4,10 @@ ghost use Rattle.wire.specs.Spelling.{version_of};
 
 use site_ids::{Ballot, Instance, MAX_VALUE, NodeId, Value, Vote};
 
-/// What one node tells others about one instance, or asks about a span of them.
+/// What one node reports to others about one instance, or asks of them about an instance or a span.
 #[derive(Drop)]
 pub enum Message {
-    /// Asks for the promise of a ballot at each of so many instances, from one on.
+    /// Asks for the promise of a ballot at each of `count` instances, from this one on.
     Prepare {
         from: NodeId,
         instance: Instance,
@@ -106,7 +106,8 @@ impl Message {
         }
     }
 
-    /// Whether its value, if it has one, is within the limit, and its span, if it has one, is one.
+    /// Whether its value, if it has one, is within the limit, and its instances, if it is a prepare, are a
+    /// span.
     pub fn fits(&self) -> bool
         ensures { IsTrue result ↔ Fits self.now }
     {

@@ -18,7 +18,7 @@ use Rattle.world.proofs.Firsts.{first_after, none_after}
 abbrev pub AreQuietTo : Code → ℕ → Type 0
 AreQuietTo code k = (w : World) → IsWorldOf code w → (q : ℕ) → 1 ≤ q → q ≤ k → IsQuietAt (w.node q)
 
--- what a machine tells of its node
+-- what a machine reports of its node
 abbrev pub Tells : Machine → Bool → Type 0
 Tells machine told = (n p : ℕ) (s : Node) → IsMachineOf n p machine s → IsTrue told ↔ IsQuietAt s
 
@@ -52,7 +52,7 @@ all_seen code k past so w stands = (λ is q node. so w stands q node.0 (let high
 
 -- ---- with an unknown instance
 
--- so many values are known without a gap
+-- this many values are known without a gap
 abbrev pub Knows : Node → ℕ → Type 0
 Knows s known = (values : List Value) × IsKnownPrefix s values × (known ≡ length values)
 

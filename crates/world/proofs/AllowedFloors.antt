@@ -33,7 +33,7 @@ pub record BelowTo (w : World) (floor k many : ℕ) : Type 0 where
 abbrev pub AreBelow : Code → ℕ → ℕ → ℕ → Type 0
 AreBelow code floor k many = (w : World) → IsWorldOf code w → BelowTo w floor k many
 
--- what a machine tells of its node
+-- what a machine reports of its node
 abbrev pub TellsBelow : ℕ → Machine → Bool → Type 0
 TellsBelow floor machine told = (n p : ℕ) (s : Node) → IsMachineOf n p machine s → IsTrue told ↔ IsBelow floor s
 
@@ -84,7 +84,7 @@ module _ (code : Code) (floor : ℕ) where
   one_counted k many machine true got tells so = one_below k many machine true got tells so refl
   one_counted k many machine false got tells so = one_above k many machine false got tells so refl
 
-  -- a floor is one where they are a majority
+  -- a floor is one if they are a majority
   pub all_below : (k many : ℕ) (r : Bool) → IsInstance floor → length code.machines.items ≤ k → k ≤ length code.machines.items → IsTrue r ↔ (code.cluster / 2 + 1 ≤ many) → AreBelow code floor k many → (w : World) → IsWorldOf code w → IsTrue r ↔ IsFloor code.cluster w floor
   all_below k many r instance past within test so w stands =
       let of = so w stands in

@@ -31,7 +31,7 @@ follows_on old mid new first second = record {
       (a.0 ++ b.0, b.1, runs_on old.cluster a.0 b.0 w a.1 b.1 a.2 (subst (λ (n : ℕ). Runs n a.1 b.0 b.1) first.cluster b.2), b.3);
 }
 
--- a run leads on by the events taken, and an opening that was refused behind them
+-- a run goes on by the events that were taken, and a refused opening after them
 pub run_follows : (old new : Code) (events : List Event) (result : Result (Unit {0}) WorldFault) → new.cluster ≡ old.cluster → RunEnds old new events result → Follows old new
 run_follows old new events (Ok x) same ends = record {
   cluster = same;

@@ -22,7 +22,7 @@ use Rattle.world.proofs.Turning.{not_down}
 use Rattle.world.proofs.Agreed.{decides_submitted, knows_decided}
 use Rattle.world.proofs.Published.{place_of, one_list_answers}
 
--- there is such a release where there is an answer
+-- there is such a release if there is an answer
 pub has_release : (orders : List Order) (n : ℕ) (path : List ℕ) (page : Page) → released orders n path ≡ Some page → (1 ≤ n) × (n ≤ release_count orders)
 has_release orders n path page is = by_tests orders n path page (nat_lt 0 n) (nat_le n (release_count orders)) refl refl is
   where

@@ -55,7 +55,7 @@ resent_many p (x ∷ xs) = let r = resent_many p xs in omega (arith, r)
 
 -- ---- the tick
 
--- node p has begun an attempt at the instance, and sent so many other messages behind its prepare
+-- node p has begun an attempt at the instance, and sent this many other messages after its prepare
 pub record Ticked (p i : ℕ) (w after : World) (e : ℕ) : Type 0 where
   pub again : List Message
   pub many : length again ≡ e
@@ -131,7 +131,7 @@ first_behind l before rest m k is at = (behind l before (m ∷ rest) k is at).0
 pub longer : (l before ms : List Message) → l ≡ before ++ ms → length l ≡ length before + length ms
 longer l before ms is = ap (λ (x : List Message). length x) is ∙ length-append before ms
 
--- node p knows a value at the instance: its oldest pending one, or the no-op, where nobody had voted there
+-- node p knows a value at the instance: its oldest pending one, or the no-op, if no node had voted there
 pub record Decides (n p i : ℕ) (w after : World) : Type 0 where
   pub value : Value
   pub known : (after.node p).known i ≡ Some value

@@ -1,4 +1,5 @@
--- A batch of calls is a run of its events, and where it is cut short a crash before the first of them or behind the last one.
+-- A batch of calls is a run of its events. If it is cut short, it is a crash before the first of them or
+-- after the last one.
 use Rattle.std.proofs.Common.{◌≡◌, inl, inr, ℕ, Option, Some, None, List, [], ◌∷◌, ◌++◌, map, refl, sym, ap, subst, ◌∙◌, ⊎_elim, append-nil, append_assoc}
 use Rattle.std.proofs.lemmas.List.{map-append}
 use Rattle.site_ids.specs.Ids.{IsNode}
@@ -42,7 +43,7 @@ calls_are_events p sent (call ∷ calls) was =
     let rest = calls_are_events p sent calls (λ m k. was m (inr k)) in
     (one.0 ∷ rest.0, (one.1, rest.1))
 
--- messages that come behind those change nothing of it
+-- messages that come after those change nothing of it
 event_stays : (p : ℕ) (sent more : List Message) (call : Call) (event : Event) → IsEventOf p sent call event → IsEventOf p (sent ++ more) call event
 event_stays p sent more (submit v) event is = is
 event_stays p sent more tick event is = is
@@ -58,7 +59,7 @@ events_stay p sent more [] (event ∷ events) are = absurd are
 events_stay p sent more (call ∷ calls) [] are = absurd are
 events_stay p sent more (call ∷ calls) (event ∷ events) are = (event_stays p sent more call event are.0, events_stay p sent more calls events are.1)
 
--- so it is where other nodes do something first
+-- so it is if other nodes do something first
 pub others_come_first : OthersComeFirst
 others_come_first n w later [] events p out next apart how batch = subst (λ (x : World). IsBatch n x events p out next) (sym how) batch
 others_come_first n w later (event ∷ between) events p out next apart how batch =

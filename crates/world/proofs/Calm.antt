@@ -103,7 +103,8 @@ module _ (n : ℕ) (w : World) (q : ℕ) (call : Call) (after : World) where
       (either r q))
       how
 
-  -- a relation between nodes, which holds of each node with itself, holds over a call where it holds at the call's node
+  -- a relation between nodes, which holds of each node with itself, holds over a call if it holds at the
+  -- call's node
   pub for_each : (P : Node → Node → Type 0) → ((s : Node) → P s s) → (acts : Acts n w q call after) → P (w.node q) (recorded (w.node q) acts.effect) → (r : ℕ) → P (w.node r) (after.node r)
   for_each P same acts here r =
       ⊎_elim

@@ -25,7 +25,7 @@ use Rattle.world.proofs.Tables.{NodeBy, node_by, opened_by, WorldBy, nodes_of, w
 use Rattle.world.proofs.DoingVotes.{Done}
 use Rattle.world.proofs.Doing.{done}
 
--- an event, and where the definitions leave it open how it goes
+-- an event, and how it goes if the definitions leave that open
 pub data Step : Type 0 where
   as_is : (event : Event) → Step
   failing : (event : Event) → Step

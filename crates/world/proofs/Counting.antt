@@ -1,4 +1,5 @@
--- At each node of a schedule, of no unknown instance a majority's votes were told: what they decide is known.
+-- At no unknown instance of a node of a schedule were a majority's votes reported: what such votes decide is
+-- known.
 use Rattle.std.proofs.Common.{◌≡◌, ◌≢◌, ◌⊎◌, inl, inr, ⊎_elim, ℕ, ◌<◌, true, not, Option, Some, None, List, [], ◌∷◌, length, refl, sym, ap, subst, ◌∙◌, arith}
 use Rattle.std.specs.Prelude.{nat_eq}
 use Rattle.site_ids.specs.Ids.{BallotOf}
@@ -38,7 +39,7 @@ counted_none n s none i b v unknown many =
     let one = one_of n many.0 many.1 in
     subst (λ (l : List ToldVote). In l (told_vote one.0 i b v)) none (many.2 one.0 one.1)
 
--- of votes told, one is the last that was told, or all were told before
+-- of the votes reported, one is the last that was reported, or all were reported before
 last_or_before : (t : ToldVote) (votes : List ToldVote) (ps : List ℕ) (i : ℕ) (b : BallotOf) (v : Value) → ((p : ℕ) → In ps p → In (t ∷ votes) (told_vote p i b v))
     → ((p : ℕ) × (t ≡ told_vote p i b v)) ⊎ ((p : ℕ) → In ps p → In votes (told_vote p i b v))
 last_or_before t votes [] i b v each = inr (λ p k. absurd k)
@@ -67,7 +68,7 @@ counted_vote n s q i b v h few j c u unknown many =
 no_value : (v : Value) → ◌≡◌ {A = Option Value} (Some v) None → ⊥
 no_value v e = cc
 
--- what is told of other instances than the one that is learned is counted
+-- what is reported of other instances than the one that is learned is counted
 counted_learned : (n : ℕ) (s : Node) (i : ℕ) (v : Value) → ((j : ℕ) (c : BallotOf) (u : Value) → j ≢ i → s.known j ≡ None → ¬ HasMajority n (In s.votes) j c u) → IsCounted n (learned s i v)
 counted_learned n s i v h j c u unknown many =
     ⊎_elim

@@ -373,7 +373,7 @@ own_vote t i v = elim (last_vote i t.entries) as (λ o. last_vote i t.entries �
   ]
 ] refl
 
--- a value that isn't kept at the instance, or there is none
+-- a value that is not kept at the instance, or there is none
 abbrev pub unkept : (t : NodeBy) (i : ℕ) → MayKeep (node_by t) i ⊎ (¬ MayKeep (node_by t) i)
 unkept t i = elim (learned_at i t.entries) as (λ o. learned_at i t.entries ≡ o → MayKeep (node_by t) i ⊎ (¬ MayKeep (node_by t) i)) [
   | Some u ↦ λ learned. inr (λ x. no_such u (sym x.1.unlearned ∙ learned))

@@ -75,7 +75,7 @@ fed_of : (n p : ℕ) (machine : Machine) (s : Node) → IsMachineOf n p machine 
 fed_of n p (Open code armed) s at published = published
 fed_of n p (Bare disk) s at published = record { begins = λ k v lost. cc; gap = ap (λ (t : Node). t.known 1) at.down }
 
--- a node that has published all was fed its known prefix, and none where it is down
+-- a node that has published all was fed its known prefix, or nothing if it is down
 pub fed_whole : (code : Code) (w : World) (p : ℕ) → IsNode code.cluster p → IsWorldOf code w → IsPublishedAt code w p → IsKnownPrefix (w.node p) (fed_at code p)
 fed_whole code w p node stands published =
     let k = p - 1 in

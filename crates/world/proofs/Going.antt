@@ -13,7 +13,7 @@ use Rattle.world.specs.Taking.{IsTaken, Takes, TakesAll, IsBad}
 use Rattle.world.specs.Quiet.{AllRun, AreCalm, to_each, each_to}
 use Rattle.world.proofs.Calm.{run_before}
 
--- the next event isn't bad, nor is any one behind it, as long as all nodes run
+-- neither the next event is bad, nor any one after it, as long as all nodes run
 abbrev pub NeverBad : ℕ → World → List Event → Type 0
 NeverBad n w [] = ⊤
 NeverBad n w (event ∷ events) = (¬ IsBad n w event) × ((next : World) → Takes n w event next → AllRun n next → NeverBad n next events)

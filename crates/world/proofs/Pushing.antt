@@ -24,7 +24,7 @@ pub to_each_push : (index q k : ℕ) → to_each index q (suc k) ≡ to_each ind
 to_each_push index q zero = ap (λ (j : ℕ). Deliver j index ∷ []) (no_more q)
 to_each_push index q (suc k) = ap (λ (l : List Event). Deliver q index ∷ l) (to_each_push index (suc q) k ∙ ap (λ (j : ℕ). to_each index (suc q) k ++ Deliver j index ∷ []) (one_on q k))
 
--- one more event behind those that stand
+-- one more event after those that are there
 pub each_to_more : (old now new : List Event) (p index k next : ℕ) (event : Event) → now ≡ old ++ each_to p index k → new ≡ now ++ event ∷ [] → event ≡ Deliver p (index + k) → next ≡ suc k → new ≡ old ++ each_to p index next
 each_to_more old now new p index k next event is more at on =
     more ∙ ap (λ (l : List Event). l ++ event ∷ []) is ∙ append_assoc old (each_to p index k) (event ∷ []) ∙ ap (λ (e : Event). old ++ (each_to p index k ++ e ∷ [])) at

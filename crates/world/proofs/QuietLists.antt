@@ -21,7 +21,7 @@ get_within [] k x e = (cc)
 get_within (y ∷ xs) zero x e = omega arith
 get_within (y ∷ xs) (suc k) x e = let rest = get_within xs k x e in omega (arith, rest)
 
--- the messages stand one after the other from the place on
+-- the messages are there one after another, from the place on
 abbrev pub Stand : List Message → ℕ → List Message → Type 0
 Stand sent k [] = ⊤
 Stand sent k (m ∷ ms) = (slice_get sent k ≡ Some m) × Stand sent (suc k) ms
@@ -43,7 +43,7 @@ stand_behind before (m ∷ ms) = (
 
 -- ---- nodes
 
--- so many nodes, from node q on
+-- k nodes, from node q on
 abbrev pub nodes_from : ℕ → ℕ → List ℕ
 nodes_from q zero = []
 nodes_from q (suc k) = q ∷ nodes_from (suc q) k

@@ -1,4 +1,4 @@
--- The plan of a quiet state, by what the code of a world tells.
+-- The plan of a quiet state, by what the code of a world reports.
 use Rattle.std.proofs.Common.{◌≡◌, ℕ, zero, suc, ◌+◌, Option, List, [], ◌∷◌, ◌++◌, length, refl, sym, ap, ap₂, subst, ◌∙◌, append-nil, inl, inr, arith}
 use Rattle.std.specs.Prelude.{MatchOption}
 use Rattle.site_ids.specs.Ids.{BallotOf, IsNode}
@@ -28,7 +28,7 @@ use Rattle.world.proofs.Quieting.{attempt_is_short, refused_is_short, some_nodes
 pub all_run : (n p : ℕ) (w : World) → IsQuiet n w p → AllRun n w
 all_run n p w quiet q node = (quiet.each q node).running
 
--- where rounds are used up, each promise on record is below the next ballot
+-- if the rounds are used up, each promise on record is below the next ballot
 pub none_left : (n p i : ℕ) (w : World) → IsNode n p → IsQuiet n w p → ¬ HasRound (w.node p) → HasNoneAbove n w i (fresh_ballot p (w.node p))
 none_left n p i w node quiet used q e c at here raised =
     let most = raised_within (w.node q).entries e i c here raised in
@@ -121,7 +121,7 @@ module _ (code : Code) (p i e : ℕ) (node : IsNode code.cluster p)
 pub no_events : (n : ℕ) → IsShort n []
 no_events n = record { calm = tt; ticked = omega arith; delivered = omega arith }
 
--- outside of a quiet state there are none
+-- outside of a quiet state there are no events
 pub pushed_none : (code : Code) (p : ℕ) (events : List Event) → ((w : World) → IsWorldOf code w → ¬ IsQuiet code.cluster w p) → PushesPlan code p events events
 pushed_none code p events unquiet = record {
   plan = [];
@@ -130,6 +130,6 @@ pushed_none code p events unquiet = record {
   is = λ w stands quiet. absurd (unquiet w stands quiet);
 }
 
--- behind none they are all of the plan
+-- after no events they are all of the plan
 pub all_of_it : (code : Code) (p : ℕ) (old new : List Event) → old ≡ [] → PushesPlan code p old new → (w : World) → IsWorldOf code w → IsQuiet code.cluster w p → IsPlan code.cluster w p new
 all_of_it code p old new none pushed w stands quiet = subst (λ (l : List Event). IsPlan code.cluster w p l) (sym (pushed.pushed ∙ ap (λ (l : List Event). l ++ pushed.plan) none)) (pushed.is w stands quiet)

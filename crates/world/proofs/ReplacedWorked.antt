@@ -16,7 +16,7 @@ use Rattle.world.proofs.Told.{IsSo, the_told, majority}
 use Rattle.world.proofs.Tables.{world_by, started}
 use Rattle.world.proofs.Computing.{Step, all_as_is, run, the, Ran}
 
--- two messages tell the votes of two nodes, which are a majority
+-- two messages report the votes of two nodes, which are a majority
 decided_by : (n : ℕ) (sent : List Message) (i : ℕ) (b : BallotOf) (v : Value) (j k p q : ℕ) → slice_get sent j ≡ Some (Accepted p i b v) → slice_get sent k ≡ Some (Accepted q i b v) → IsSo (majority n (p ∷ q ∷ []))
     → Decides n sent i v
 decided_by n sent i b v j k p q one two many = record {

@@ -1,4 +1,5 @@
--- A node whose record is lost is replaced: what stood on it lies at or below the floor, so the invariant is kept.
+-- A node whose record is lost is replaced. What that record held is at or below the floor, so the invariant
+-- is kept.
 use Rattle.std.proofs.Common.{◌≡◌, ◌≢◌, ◌⊎◌, inl, inr, ℕ, ◌+◌, ◌-◌, ◌<◌, ◌≤◌, true, false, cond, Option, Some, None, List, [], ◌∷◌, ◌++◌, append-nil, refl, sym, subst, ◌∙◌, ⊎_elim, arith}
 use Rattle.std.specs.Prelude.{nat_eq}
 use Rattle.site_ids.specs.Ids.{BallotOf}
@@ -72,14 +73,14 @@ module _ (n : ℕ) (fair : Value → Type 0) (gone : ℕ → Entry → Type 0) (
         (λ (x : In (w.node q).entries (Voted j b v)). let reached = in_reach (w.node q).entries (Voted j b v) x in omega (arith, reached, top))
         (in_split (all.lost q) (w.node q).entries (Voted j b v) k)
 
-    -- one node was asked at least
+    -- at least one node was asked
     least : 64 ≤ floor
     least =
         let both = share_a_node n how.is_floor.asked how.is_floor.asked how.is_floor.majority how.is_floor.majority in
         let top = how.is_floor.above both.0 both.1 in
         omega (arith, top)
 
-    -- so what is within reach of an attempt lies at or below the new floor
+    -- so what is within reach of an attempt is at or below the new floor
     reach_under : (i : ℕ) → IsInReach n w.sent i → i ≤ floor
     reach_under i reach = ⊎_elim (λ low. low) (λ high. go high) (order i floor)
       where

@@ -1,4 +1,4 @@
--- What is told again is sound: a value known or learned is decided, and a vote is on record.
+-- What is reported again is sound: a value known or learned is decided, and a vote is on record.
 use Rattle.std.proofs.Common.{◌≡◌, inr, ⊎_elim, ℕ, Some, None, List, refl, sym, subst, map}
 use Rattle.site_ids.specs.Ids.{BallotOf}
 use Rattle.site_ids.specs.Lists.{In}

@@ -65,7 +65,7 @@ unfolding ran_to_publish is_utf8 chars encode
 knows_release zero x is = is
 knows_release (suc k) x is = absurd (no_other x is)
 
--- two messages tell the votes of two nodes, which are a majority
+-- two messages report the votes of two nodes, which are a majority
 decided_by : (n : ℕ) (sent : List Message) (b : BallotOf) (v : Value) (j k p q : ℕ) → slice_get sent j ≡ Some (Accepted p 1 b v) → slice_get sent k ≡ Some (Accepted q 1 b v) → IsSo (majority n (p ∷ q ∷ []))
     → Decides n sent 1 v
 decided_by n sent b v j k p q one two many = record {
@@ -299,6 +299,6 @@ two_answers = refl
 short_entry : (on_prepare 2 before 5 (at 2 1) 1).entry ≡ Some (Promised 5 (at 2 1))
 short_entry = refl
 
--- and where nothing rises there is none
+-- and if nothing rises there is none
 no_entry : (on_prepare 2 before 6 (at 2 1) 2).entry ≡ None
 no_entry = refl

@@ -27,7 +27,7 @@ use Rattle.world.proofs.QuietAnswers.{IsClear, SameMind, same_mind, mind_on, Sta
 
 -- ---- prepares
 
--- promises of nodes q, q + 1 .. with these votes told
+-- promises of nodes q, q + 1 .. that report these votes
 abbrev pub promises_from : ℕ → ℕ → BallotOf → List (Option Vote) → List Message
 promises_from q i b [] = []
 promises_from q i b (x ∷ xs) = Promise q i b x ∷ promises_from (suc q) i b xs

@@ -41,7 +41,7 @@ use Rattle.world.proofs.Counting.{counted_none, all_counted}
 
 -- ---- a node over a telling
 
--- it is told a vote or a value
+-- the message reports a vote or a value
 abbrev IsSaid : Message → Type 0
 IsSaid (Accepted q i b v) = ⊤
 IsSaid (Chosen q i v) = ⊤
@@ -123,7 +123,7 @@ learned_onward s i v unknown = record {
 vote_onward : (s : Node) (t : ToldVote) → Onward s (with_vote s t)
 vote_onward s t = record { mode = refl; entries = refl; known = λ i v e. e; votes = λ x k. inl (inr k) }
 
--- a message that is told has no other effect
+-- a message that is reported has no other effect
 record Hears (s : Node) (m : Message) (effect : Effect) : Type 0 where
   pub onward : Onward s (recorded s effect)
   pub heard : Heard (recorded s effect) m
@@ -388,7 +388,7 @@ module _ (n : ℕ) where
     from_remembered : IsRemembered nodes w j → (q : ℕ) → In nodes q → IsKnown (after.node q) j
     from_remembered x q k = round.heard q k (Chosen x.0 j x.1) (told_one nodes w first x.0 (Chosen x.0 j x.1) x.2 (reach x.0 x.2 (Chosen x.0 j x.1) (chosen_told x.0 (w.node x.0) j x.1 x.3)))
 
-    -- one of these remembers it, or each tells its vote
+    -- one of these remembers it, or each reports its vote
     each_votes : (x : Vote) (ps : List ℕ) → ((p : ℕ) → In ps p → In nodes p × (last_vote j (w.node p).entries ≡ Some x)) → IsRemembered nodes w j ⊎ ((p : ℕ) → In ps p → In (told_by nodes w first) (Accepted p j x.ballot x.value))
     each_votes x [] all = inr (λ p k. absurd k)
     each_votes x (p ∷ ps) all = by (remembered (w.node p) j) refl (each_votes x ps (λ r k. all r (inr k)))
@@ -519,7 +519,7 @@ called_so n w p call effect node up does = inl (record {
   moves = has_moved n w p (messages_of effect.out) (recorded (w.node p) effect) node;
 })
 
--- whatever is told has some effect
+-- each reported message has some effect
 some_effect : (n p : ℕ) (s : Node) (m : Message) → IsSaid m → s.mode ≡ Up → ¬ Refuses s (deliver m) Conflict → (effect : Effect) × OnMessage n p s m effect
 some_effect n p s (Prepare q i b k) said up agrees = absurd said
 some_effect n p s (Promise q i b prior) said up agrees = absurd said
@@ -595,7 +595,7 @@ round_is_taken n first nodes past w runs up =
 
 -- ---- how far a telling reaches
 
--- what comes behind does no harm, where what comes before has room
+-- what comes after does no harm, if what comes before has room
 fits_first : (o : Option Message) (ms : List Message) (room : ℕ) (m : Message) → o ≡ Some m → length (value_in m) ≤ room → In (fitting room (with_first o ms)) m
 fits_first None ms room m is fits = absurd (cc)
 fits_first (Some x) ms room m is fits = by (nat_le (length (value_in x)) room) refl

@@ -98,7 +98,7 @@ passed_over n p call disk before = record {
   };
 }
 
--- ---- by how the call was passed over
+-- ---- by what `passed` returned
 
 pub on_ok : {T E A B : Type 0} (r : Result T E) → (A → B) → OnOk r A → OnOk r B
 on_ok (Ok x) f a = f a
@@ -161,7 +161,7 @@ unarmed_at n p q calls here disk is = subst (λ (x : Machine). Turns n p (λ s o
   };
 })
 
--- ---- what a machine tells
+-- ---- what a machine reports
 
 pub open_in : (n p : ℕ) (here : Machine) (node : Running MemDisk) (armed : Bool) → here ≡ Open node armed → (s : Node) → IsMachineOf n p here s → IsOpen n p node armed s
 open_in n p here node armed is s at = subst (λ (x : Machine). IsMachineOf n p x s) is at
@@ -248,7 +248,7 @@ refused_opening {A} n p here disk after taken refuses = record {
 
 -- ---- a replacement
 
--- a disk just formatted, with that floor alone on record
+-- a disk that was just formatted, with only that floor on record
 pub replaced : (n p floor : ℕ) (here : Machine) (disk : MemDisk) (d : DiskState) → MemoryStandsFor disk d → IsSettled d → StandsFor p n d.seen (Floor floor ∷ [])
     → Turns n p (λ s out next. (out ≡ []) × (next ≡ opened Down (Floor floor ∷ []) None)) here (Bare disk) [] []
 replaced n p floor here disk d stands settled reads = record {
@@ -281,13 +281,13 @@ stopped_at message here node armed before is stops n p = subst (λ (x : Machine)
 pub up_wanting : (n p : ℕ) (call : Call) (old new : Machine) (before after : Handed) → CallWants n p call old new before after → Wants n p IsUp old new before after
 up_wanting n p call old new before after wants = record { leads = λ s at. let w = wants.leads s at in (w.0.0, w.1, w.2, w.3) }
 
--- memory for the copy is wanted where the node runs
+-- an allocation for the copy may fail if the node runs
 pub copy_wanted : (here : Machine) (node : Running MemDisk) (armed : Bool) (before : Handed) → here ≡ Open node armed → ((s : Node) → IsNodeOf node s → ¬ (s.mode ≡ Stopped)) → (n p : ℕ) → Wants n p IsUp here (Open node armed) before before
 copy_wanted here node armed before is runs n p = subst (λ (x : Machine). Wants n p IsUp x (Open node armed) before before) (sym is) (record {
   leads = λ s stands. (is_running node.store.stopped s.mode stands.stands.parts.on_record.mode_is (runs s stands.stands), stands, refl, (λ published. published));
 })
 
--- no message of the cluster is passed over
+-- no message of the cluster is ignored
 pub not_passed : (message : Message) (here new : Machine) (node : Running MemDisk) (armed : Bool) (before : Handed) → here ≡ Open node armed → ¬ IsMessage node.cluster message → (n p : ℕ) → IsMessage n message → CallTurns n p (deliver message) here new before before
 not_passed message here new node armed before is alien n p mine = subst (λ (x : Machine). Turns n p (λ s out next. AtNode n p s (deliver message) out next) x new before before) (sym is) (record {
   leads = λ s stands. absurd (alien (subst (λ (k : ℕ). IsMessage k message) (sym stands.cluster) mine));

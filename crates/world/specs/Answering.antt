@@ -5,7 +5,7 @@ use Rattle.world.specs.declared.event.Event.{Event}
 use Rattle.world.specs.declared.world.World.{World as Code}
 use Rattle.world.specs.Steps.{Follows, Reached, IsAnswer}
 
--- a value follows itself, and what follows a later one follows the earlier one
+-- each value follows itself, and what follows a later value follows the earlier one
 abbrev pub FollowsItself : Type 0
 FollowsItself = (code : Code) → Follows code code
 

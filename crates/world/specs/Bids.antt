@@ -4,7 +4,7 @@ use Rattle.site_ids.specs.Ids.{BallotOf, Below}
 use Rattle.acceptor.specs.Judging.{IsFreeAt}
 use Rattle.world.specs.declared.bid.Bid.{Bid}
 
--- the promise where it is above the ballot, and else the bid as it was
+-- the promise if it is above the ballot, or else the bid as it was
 abbrev pub IsHigher : Bid → ℕ → Option BallotOf → Bid → Type 0
 IsHigher bid q promised after =
     (IsFreeAt promised bid.ballot × (after ≡ bid))

@@ -1,4 +1,4 @@
--- What a call makes of one node's machine.
+-- What a call does to one node's machine.
 use Rattle.std.specs.Prelude.{◌≡◌, ◌≢◌, ◌⊎◌, ℕ, List, Some, None, true, [], ◌∷◌, ◌++◌, slice_get, ⊤}
 use Rattle.site_ids.specs.Lists.{In}
 use Rattle.wire.specs.declared.message.Message.{Message}
@@ -28,11 +28,11 @@ AtNode n p s call out next =
     ((ending : Ending) × IsTaken ending × Ends n p s call ending out next)
     ⊎ ((s.mode ≡ Down) × (out ≡ []) × (next ≡ s))
 
--- node p of n, in this mode over its record, with the entry in flight or without it
+-- node p of n, in this mode over its record, which has the entry in flight or not
 abbrev pub Settled : Mode → Node → Handed → Node → Type 0
 Settled mode s out next = (entries : List Entry) × Settles s.entries s.in_flight entries × (out ≡ []) × (next ≡ opened mode entries None)
 
--- the event at its node, p of n. Whether a floor is one is asked of the world
+-- what the event does at its node, p of n. Whether a floor is allowed is asked of the world
 abbrev pub NodeTakes : ℕ → ℕ → List Message → Node → Event → Handed → Node → Type 0
 NodeTakes n p sent s (Submit q v) out next = AtNode n p s (submit v) out next
 NodeTakes n p sent s (Tick q) out next = AtNode n p s tick out next
@@ -46,7 +46,7 @@ NodeTakes n p sent s (Restart q) out next = Settled Up s out next
 NodeTakes n p sent s (Replace q floor) out next = (out ≡ []) × (next ≡ opened Down (Floor floor ∷ []) None)
 NodeTakes n p sent s (Keep q i) out next = AtNode n p s (keep i) out next
 
--- with a machine that stands for the node afterwards, and what is handed out at the end of the list
+-- the machine stands for the node afterwards, and what is handed out is added at the end of the list
 pub record Turned (n p : ℕ) (Does : Node → Handed → Node → Type 0) (new : Machine) (before after : Handed) (s : Node) : Type 0 where
   pub next : Node
   pub out : Handed
@@ -55,11 +55,11 @@ pub record Turned (n p : ℕ) (Does : Node → Handed → Node → Type 0) (new 
   pub outbox : after ≡ before ++ out
   pub messages : (m : Message) → In (messages_of out) m → IsMessage n m
 
--- and so from each node that the machine stands for
+-- and it does so from each node that the machine stands for
 pub record Turns (n p : ℕ) (Does : Node → Handed → Node → Type 0) (old new : Machine) (before after : Handed) : Type 0 where
   pub leads : (s : Node) → IsMachineOf n p old s → Turned n p Does new before after s
 
--- memory is wanted at a node that may want it, and nothing happens; what was published stays
+-- an allocation failed, at a node where it may fail, and nothing happens. What was published stays published
 pub record Wants (n p : ℕ) (May : Node → Type 0) (old new : Machine) (before after : Handed) : Type 0 where
   pub leads : (s : Node) → IsMachineOf n p old s → May s × IsMachineOf n p new s × (after ≡ before) × (HasPublished old s → HasPublished new s)
 
@@ -71,7 +71,7 @@ pub record RefusesOpening (n p : ℕ) (old new : Machine) : Type 0 where
 abbrev pub CallTurns : ℕ → ℕ → Call → Machine → Machine → Handed → Handed → Type 0
 CallTurns n p call old new before after = Turns n p (λ s out next. AtNode n p s call out next) old new before after
 
--- it isn't taken, and want of memory is a cause to refuse it
+-- the call is not taken, and a failed allocation is a cause to refuse it
 abbrev pub CallWants : ℕ → ℕ → Call → Machine → Machine → Handed → Handed → Type 0
 CallWants n p call old new before after = Wants n p (λ s. Refuses s call OutOfMemory) old new before after
 
@@ -79,7 +79,7 @@ CallWants n p call old new before after = Wants n p (λ s. Refuses s call OutOfM
 abbrev pub IsUp : Node → Type 0
 IsUp s = s.mode ≡ Up
 
--- the event isn't taken for want of memory
+-- the event is not taken, because an allocation failed
 abbrev pub EventWants : ℕ → ℕ → Event → Machine → Machine → Handed → Handed → Type 0
 EventWants n p (Restart q) old new before after = RefusesOpening n p old new × (after ≡ before)
 EventWants n p (Arm q calls) old new before after = ⊥
@@ -93,10 +93,10 @@ EventWants n p (Tell q i) old new before after = CallWants n p (tell All i) old 
 EventWants n p (Keep q i) old new before after = CallWants n p (keep i) old new before after
 EventWants n p (Deliver q index) old new before after = Wants n p IsUp old new before after
 
--- all of them are messages of the cluster
+-- all of them are messages of the cluster's nodes
 abbrev pub AreMessages : ℕ → Handed → Type 0
 AreMessages n sent = (m : Message) → In (messages_of sent) m → IsMessage n m
 
--- the event is taken at its node, but for the publication behind it
+-- the event is taken at its node, except for the publication after it
 abbrev pub EventTurns : ℕ → Event → Machine → Machine → Handed → Handed → Type 0
 EventTurns n event old new before after = AreMessages n before → Turns n (node_of event) (λ s out next. NodeTakes n (node_of event) (messages_of before) s event out next) old new before after

@@ -1,4 +1,4 @@
--- Worked plans: they are taken, and lead where they should.
+-- Worked plans: each is taken, and leads where it should.
 use Rattle.std.specs.Prelude.{◌≡◌, ◌≢◌, ℕ, Some, List, [], ◌∷◌}
 use Rattle.node.specs.Nodes.{Value}
 use Rattle.world.specs.declared.event.Event.{Event}
@@ -8,7 +8,8 @@ use Rattle.world.specs.Taking.{TakesAll}
 use Rattle.site_ids.specs.Ids.{IsNode}
 use Rattle.world.specs.Quiet.{IsQuiet, IsPlan, one_attempt, overbid_first}
 
--- Nodes 2 and 3 have voted for node 1's value, and no vote was delivered. Node 2 learns that value first, and then its own at the next instance
+-- Nodes 2 and 3 have voted for node 1's value, and no vote was delivered. Node 2 learns that value first, and
+-- after it its own at the next instance
 abbrev pub two_votes : Value → Value → List Event
 two_votes a b = Submit 1 a ∷ Submit 2 b ∷ Tick 1 ∷ Deliver 1 0 ∷ Deliver 2 0 ∷ Deliver 1 1 ∷ Deliver 1 2 ∷ Deliver 2 3 ∷ Deliver 3 3 ∷ []
 
@@ -25,7 +26,7 @@ pub record VotesAreTakenUp : Type 0 where
   pub known : (first.node 2).known 1 ≡ Some a
   pub own : (second.node 2).known 2 ≡ Some b
 
--- Node 2's prepare is promised by nodes 1 and 2, above the ballot that node 1 begins with
+-- Nodes 1 and 2 have promised node 2's prepare, at a ballot above the one that node 1 begins with
 pub record RefusalIsHeard : Type 0 where
   pub a : Value
   pub before : World
@@ -38,7 +39,7 @@ pub record RefusalIsHeard : Type 0 where
 abbrev pub StartIsQuiet : Type 0
 StartIsQuiet = (n p : ℕ) → IsNode n p → IsQuiet n start p × IsPlan n start p (one_attempt n p 0 0)
 
--- the last of nine nodes, with five others' help
+-- the last of nine nodes decides with the help of five
 pub record NineAreEnough : Type 0 where
   pub a : Value
   pub before : World

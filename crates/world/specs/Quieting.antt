@@ -14,8 +14,8 @@ use Rattle.world.specs.Steps.{RunEnds, Reached}
 use Rattle.world.specs.Taking.{TakesAll, IsBad}
 use Rattle.world.specs.Quiet.{AllRun, IsQuiet, IsPlan, IsShort}
 
--- Node p knows the instance that was its first unknown one. Where no slot there held a vote, the value is the oldest one that was pending at p, or the no-op
--- where none was
+-- Node p knows the instance that was its first unknown one. If no node had voted there, the value is the
+-- oldest one that was pending at p, or the no-op if none was pending
 pub record Learns (n : ℕ) (w : World) (p : ℕ) (after : World) : Type 0 where
   pub instance : ℕ
   pub unknown : IsFirstUnknown (w.node p).known instance
@@ -27,19 +27,19 @@ pub record Learns (n : ℕ) (w : World) (p : ℕ) (after : World) : Type 0 where
 abbrev pub PlansAreShort : Type 0
 PlansAreShort = (n p : ℕ) (w : World) (events : List Event) → IsNode n p → IsPlan n w p events → IsShort n events
 
--- where it is taken and all nodes still run, so that no device failed in it, the node has learned
+-- if the plan is taken and all nodes still run after it, so that no device failed, the node has learned
 abbrev pub QuietDecides : Type 0
 QuietDecides = (n p : ℕ) (past events : List Event) (w after : World) → Runs n start past w → IsNode n p → IsQuiet n w p → IsPlan n w p events
     → TakesAll n w events after → AllRun n after → Learns n w p after
 
--- and as long as all nodes run, none of its events is a bad one
+-- as long as all nodes run, none of the plan's events is a bad one
 abbrev pub PlansAreGood : Type 0
 PlansAreGood = (n p k : ℕ) (past events : List Event) (w after : World) (event : Event) → Runs n start past w → IsNode n p → IsQuiet n w p → IsPlan n w p events
     → TakesAll n w (take k events) after → AllRun n after → slice_get events k ≡ Some event → ¬ IsBad n after event
 
 -- ---- calls
 
--- some events more: in a quiet state they are its plan, and they are short
+-- some more events. In a quiet state they are its plan, and they are short
 pub record PushesPlan (code : Code) (p : ℕ) (old new : List Event) : Type 0 where
   pub plan : List Event
   pub pushed : new ≡ old ++ plan
@@ -48,11 +48,12 @@ pub record PushesPlan (code : Code) (p : ℕ) (old new : List Event) : Type 0 wh
 
 -- ---- a run
 
--- whichever world the value stands for, all nodes run
+-- all nodes run, in each world that the value stands for
 abbrev pub AreUp : ℕ → Code → Type 0
 AreUp n code = (u : World) → IsWorldOf code u → AllRun n u
 
--- It answers Ok, and then the node has learned in each world that the value stands for, or want of memory; it meets no bad event
+-- If the result is Ok, the node has learned, in each world that the value stands for. Otherwise an allocation
+-- failed: the run meets no bad event
 abbrev pub LearnsBy : ℕ → World → ℕ → Code → Result (Unit {0}) WorldFault → Type 0
 LearnsBy n w p new (Ok x) = (u : World) → IsWorldOf new u → Learns n w p u
 LearnsBy n w p new (Err (OutOfMemory k)) = ⊤

@@ -1,4 +1,5 @@
--- A worked schedule of three nodes: one is lost and replaced. It is mute up to its floor, learns, and votes above it.
+-- A worked schedule of three nodes: one is lost and replaced. The new node is mute up to its floor, learns,
+-- and votes above it.
 use Rattle.std.specs.Prelude.{◌≡◌, ℕ, zero, suc, None, Some, List, [], ◌∷◌, ◌++◌}
 use Rattle.site_ids.specs.Ids.{BallotOf}
 use Rattle.wire.specs.declared.message.Message.{Message}
@@ -14,7 +15,7 @@ use Rattle.world.specs.Decided.{Decides}
 abbrev pub by_2 : ℕ → BallotOf
 by_2 round = record { round = round; node = 2 }
 
--- so many values are submitted at node 2, from the k-th on
+-- values are submitted at node 2, as many as the last number says, from the k-th on
 abbrev pub submits_each : (ℕ → Value) → ℕ → ℕ → List Event
 submits_each v k zero = []
 submits_each v k (suc more) = Submit 2 (v k) ∷ submits_each v (suc k) more
@@ -23,8 +24,9 @@ submits_each v k (suc more) = Submit 2 (v k) ∷ submits_each v (suc k) more
 abbrev pub before_loss : (ℕ → Value) → List Event
 before_loss v = Submit 2 (v 1) ∷ Tick 2 ∷ Deliver 1 0 ∷ Deliver 2 0 ∷ Deliver 2 1 ∷ Deliver 2 2 ∷ Deliver 1 3 ∷ Deliver 2 3 ∷ Deliver 2 4 ∷ Deliver 2 5 ∷ []
 
--- Node 1 is lost. No other has voted past instance 1, so 65 is a floor. The new node learns the first value by the old votes, its own among them, and keeps
--- it. At instance 2 it answers nothing, and nodes 2 and 3 decide
+-- Node 1 is lost. No other node has voted past instance 1, so 65 is a floor. The new node learns the first
+-- value from the old votes, its own among them, and keeps the value. At instance 2 it answers nothing, and
+-- nodes 2 and 3 decide
 abbrev pub mute_below : (ℕ → Value) → List Event
 mute_below v =
     Replace 1 65 ∷ Restart 1 ∷ Deliver 1 4 ∷ Deliver 1 5 ∷ Keep 1 1 ∷ Submit 2 (v 2) ∷ Tick 2 ∷ Deliver 1 6 ∷ Deliver 2 6 ∷ Deliver 3 6 ∷ Deliver 2 7 ∷ Deliver 2 8 ∷ Deliver 1 9 ∷ Deliver 2 9 ∷ Deliver 3 9
@@ -34,7 +36,7 @@ mute_below v =
 abbrev pub heard_above : (ℕ → Value) → List Event
 heard_above v = submits_each v 3 63 ++ (Widen 2 ∷ Submit 2 (v 66) ∷ Widen 2 ∷ Deliver 1 13 ∷ Deliver 2 13 ∷ Deliver 2 14 ∷ Deliver 2 15 ∷ Deliver 1 16 ∷ Deliver 2 16 ∷ [])
 
--- it is opened anew, and hears what it tells of the value that it kept
+-- node 1 is opened again, and receives what it reports of the value that it kept
 abbrev pub opened_anew : List Event
 opened_anew = Restart 1 ∷ Tell 1 1 ∷ Deliver 1 19 ∷ []
 
@@ -61,7 +63,8 @@ said_of_replaced v =
     ∷ say.Accepted 2 66 (by_2 4) (v 66)
     ∷ []
 
--- With its vote the value at 66 is decided. On its record stand the floor, what it learned, and what it promised and voted for above the floor
+-- With its vote the value at 66 is decided. Its record has the floor, what it learned, and what it promised
+-- and voted for above the floor
 pub record ReplacedVotes : Type 0 where
   pub v : ℕ → Value
   pub w : World

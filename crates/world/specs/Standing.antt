@@ -37,12 +37,13 @@ abbrev pub IsMachineOf : ℕ → ℕ → Machine → Node → Type 0
 IsMachineOf n p (Open code armed) s = IsOpen n p code armed s
 IsMachineOf n p (Bare disk) s = IsBare n p disk s
 
--- what was published is all of the known prefix
+-- the node has published all of the known prefix, or is down
 abbrev pub HasPublished : Machine → Node → Type 0
 HasPublished (Open code armed) s = IsKnownPrefix s code.releases
 HasPublished (Bare disk) s = ⊤
 
--- Each machine is that of its node, the first one of node 1. The messages are those handed out, and they are of the cluster's nodes
+-- Each machine is that of its node, the first one of node 1. The messages are those handed out, and each of
+-- them is a message of the cluster's nodes
 pub record IsWorldOf (code : Code) (w : World) : Type 0 where
   pub machines : (k : ℕ) (machine : Machine) → slice_get code.machines.items k ≡ Some machine → IsMachineOf code.cluster (suc k) machine (w.node (suc k))
   pub sent : w.sent ≡ messages_of code.sent.items
@@ -52,7 +53,7 @@ pub record IsWorldOf (code : Code) (w : World) : Type 0 where
 abbrev pub IsPublishedAt : Code → World → ℕ → Type 0
 IsPublishedAt code w p = (k : ℕ) (machine : Machine) → p ≡ suc k → slice_get code.machines.items k ≡ Some machine → HasPublished machine (w.node p)
 
--- the node isn't down, and has not
+-- the node is not down, and has not published all of that
 pub record IsUnpublishedAt (code : Code) (w : World) (p : ℕ) : Type 0 where
   pub up : (w.node p).mode ≢ Down
   pub lacks : ¬ IsPublishedAt code w p

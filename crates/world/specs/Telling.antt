@@ -1,4 +1,4 @@
--- What a world tells of its nodes.
+-- What a world reports of its nodes.
 use Rattle.std.specs.Prelude.{ℕ, ◌-◌, Option, Some, None, List, [], slice_get}
 use Rattle.node.specs.Nodes.{Value, Mode, Up, Stopped, Down}
 use Rattle.world.specs.declared.machine.Machine.{Machine}
@@ -17,6 +17,6 @@ fed_in None = []
 fed_in (Some (Open code armed)) = code.releases
 fed_in (Some (Bare disk)) = []
 
--- the values that node p was fed, none where it is down
+-- the values that node p was fed; none if it is down
 abbrev pub fed_at : Code → ℕ → List Value
 fed_at code p = fed_in (slice_get code.machines.items (p - 1))

@@ -20,8 +20,8 @@ vote b v = record { ballot = b; value = v }
 
 -- ---- a duel
 
--- Nodes 1 and 2 both begin at instance 1. Node 2's ballot is the higher one, so nodes 2 and 3 refuse node 1's proposal and vote for that of node 2. Node 1
--- hears of it, and begins anew at instance 2, a round higher
+-- Nodes 1 and 2 both begin at instance 1. Node 2's ballot is the higher one, so nodes 2 and 3 refuse node 1's
+-- proposal, and vote for that of node 2. Node 1 learns this, and begins again at instance 2, a round higher
 abbrev pub duel : Value → Value → List Event
 duel a b =
     Submit 1 a ∷ Submit 2 b ∷ Tick 1 ∷ Tick 2 ∷ Deliver 1 0 ∷ Deliver 2 0 ∷ Deliver 2 1 ∷ Deliver 3 1 ∷ Deliver 1 2 ∷ Deliver 1 3 ∷ Deliver 1 6 ∷ Deliver 2 6 ∷ Deliver 3 6 ∷ Deliver 2 4
@@ -59,7 +59,8 @@ pub record DuelIsTaken : Type 0 where
 
 -- ---- a vote lost, or not
 
--- Node 2's device fails as it votes for node 1's proposal, which nobody else has. Node 2 crashes, and node 3 goes on with it
+-- Node 2's device fails as it votes for node 1's proposal, which no other node has received. Node 2 crashes,
+-- and node 3 continues with it
 abbrev pub vote_in_flight : Value → ℕ → List Event
 vote_in_flight a choice =
     Submit 1 a ∷ Tick 1 ∷ Deliver 1 0 ∷ Deliver 2 0 ∷ Deliver 1 1 ∷ Deliver 1 2 ∷ Arm 2 3 ∷ Deliver 2 3 ∷ Crash 2 choice ∷ Restart 2 ∷ Tick 3 ∷ Deliver 2 4 ∷ Deliver 3 4 ∷ Deliver 3 5
@@ -68,7 +69,7 @@ vote_in_flight a choice =
 abbrev pub said_before_crash : Value → List Message
 said_before_crash a = say.Prepare 1 1 (at 1 1) 1 ∷ say.Promise 1 1 (at 1 1) None ∷ say.Promise 2 1 (at 1 1) None ∷ say.Propose 1 1 (at 1 1) a ∷ []
 
--- the crash leaves the vote: node 2 tells it, and node 3 proposes its value
+-- the crash leaves the vote: node 2 reports it, and node 3 proposes its value
 pub record VoteIsKept : Type 0 where
   pub a : Value
   pub some : a ≢ []
@@ -77,7 +78,7 @@ pub record VoteIsKept : Type 0 where
   pub said : w.sent
       ≡ said_before_crash a ++ (say.Prepare 3 1 (at 1 3) 1 ∷ say.Promise 2 1 (at 1 3) (Some (vote (at 1 1) a)) ∷ say.Promise 3 1 (at 1 3) None ∷ say.Propose 3 1 (at 1 3) a ∷ [])
 
--- it leaves none: nobody voted, and node 3 proposes the no-op
+-- the crash leaves no vote: nobody voted, and node 3 proposes the no-op
 pub record VoteIsLost : Type 0 where
   pub a : Value
   pub some : a ≢ []
@@ -87,16 +88,17 @@ pub record VoteIsLost : Type 0 where
 
 -- ---- a release over a gap
 
--- Node 1 brings its oldest pending value through at the first instance that it doesn't know, with node 2's help. So many messages were handed out before
+-- Node 1 gets its oldest pending value decided at its first unknown instance, with node 2's help. k messages
+-- were handed out before
 abbrev pub bring_through : ℕ → List Event
 bring_through k = Tick 1 ∷ Deliver 1 k ∷ Deliver 2 k ∷ Deliver 1 (k + 1) ∷ Deliver 1 (k + 2) ∷ Deliver 1 (k + 3) ∷ Deliver 2 (k + 3) ∷ Deliver 1 (k + 4) ∷ Deliver 1 (k + 5) ∷ []
 
--- node 3 is told of the votes at instances 1 and 3
+-- node 3 receives the votes at instances 1 and 3
 abbrev pub gap : Value → Value → Value → List Event
 gap a b c =
     Submit 1 a ∷ Submit 1 b ∷ Submit 1 c ∷ (bring_through 0 ++ (bring_through 6 ++ (bring_through 12 ++ (Deliver 3 4 ∷ Deliver 3 5 ∷ Deliver 3 16 ∷ Deliver 3 17 ∷ []))))
 
--- and then of those at instance 2
+-- and then those at instance 2
 abbrev pub gap_closes : List Event
 gap_closes = Deliver 3 10 ∷ Deliver 3 11 ∷ []
 
@@ -116,9 +118,10 @@ pub record GapIsWaitedFor : Type 0 where
 
 -- ---- openings
 
--- Node 1 has voted for its own proposal, and is opened anew while it runs. Node 3 begins above it, is told that vote, and refuses the proposal that comes
--- late. Node 2's device is set to fail, does so as it votes for node 3's proposal, and node 2 is opened without a crash: its vote stands, and is told once
--- the proposal comes again. Node 1 asks, and is told the value
+-- Node 1 has voted for its own proposal, and is opened again while it runs. Node 3 begins above it, receives
+-- that vote, and refuses the proposal that comes late. Node 2's device is set to fail, and fails as node 2
+-- votes for node 3's proposal. Node 2 is opened without a crash: its vote is on record, and it reports the
+-- vote when the proposal comes again. Node 1 asks, and receives the value
 abbrev pub openings : Value → List Event
 openings a =
     Submit 1 a ∷ Tick 1 ∷ Deliver 1 0 ∷ Deliver 2 0 ∷ Deliver 1 1 ∷ Deliver 1 2 ∷ Deliver 1 3 ∷ Restart 1 ∷ Tick 3 ∷ Deliver 1 5 ∷ Deliver 3 5 ∷ Deliver 3 3 ∷ Deliver 1 8 ∷ Deliver 3 6
@@ -156,7 +159,7 @@ pub record OpeningsAreTaken : Type 0 where
 abbrev pub three_begun : Value → Value → Value → List Event
 three_begun a b c = Submit 1 a ∷ Submit 1 b ∷ Submit 1 c ∷ Tick 1 ∷ Widen 1 ∷ Widen 1 ∷ []
 
--- a round for the first, and one for the span of the other two: then nothing is left to widen for
+-- one round is for the first, and one is for the span of the other two: then nothing is left to widen for
 abbrev pub said_by_three : List Message
 said_by_three = say.Prepare 1 1 (at 1 1) 1 ∷ say.Prepare 1 2 (at 2 1) 2 ∷ []
 
@@ -164,7 +167,8 @@ said_by_three = say.Prepare 1 1 (at 1 1) 1 ∷ say.Prepare 1 2 (at 2 1) 2 ∷ []
 abbrev pub promised_by_two : List Message
 promised_by_two = say.Promise 1 2 (at 2 1) None ∷ say.Promise 1 3 (at 2 1) None ∷ say.Promise 2 2 (at 2 1) None ∷ say.Promise 2 3 (at 2 1) None ∷ []
 
--- Node 1 tries its three values at once, and node 2 helps it with the last one: node 3 knows that, and nothing below it
+-- Node 1 tries its three values at once, and node 2 helps it with the last one. Node 3 knows that one, and
+-- nothing below it
 abbrev pub last_of_three : Value → Value → Value → List Event
 last_of_three a b c = three_begun a b c ++ (Deliver 1 1 ∷ Deliver 2 1 ∷ Deliver 1 3 ∷ Deliver 1 5 ∷ Deliver 1 6 ∷ Deliver 2 6 ∷ Deliver 3 7 ∷ Deliver 3 8 ∷ [])
 
@@ -178,8 +182,8 @@ pub record LastOfThreeIsKnown : Type 0 where
   pub third : (w.node 3).known 3 ≡ Some c
   pub second : (w.node 3).known 2 ≡ None
 
--- Node 1 has proposed the second of its three values, and node 2 has voted for it, as node 1 crashes. Node 3 widens over that instance, is told of the vote
--- by node 2, and proposes its value
+-- Node 1 has proposed the second of its three values, node 2 has voted for it, and node 1 crashes. Node 3
+-- widens over that instance, node 2 reports the vote to it, and it proposes the vote's value
 abbrev pub crash_of_three : Value → Value → Value → Value → Value → List Event
 crash_of_three a b c d e =
     three_begun a b c
@@ -207,8 +211,9 @@ pub record CrashOfThreeIsTaken : Type 0 where
 
 -- ---- a higher span
 
--- Node 1's span of two is promised by nodes 1 and 2, and node 2 votes at its first instance. Node 3, with two values of its own, takes the same span at a higher ballot: node 2
--- promises both instances by one entry, and tells the vote at the first. Node 1's proposal at the second comes late, and is refused
+-- Nodes 1 and 2 promise node 1's span of two, and node 2 votes at its first instance. Node 3, with two values
+-- of its own, prepares the same span at a higher ballot. Node 2 promises both instances with one entry, and
+-- reports the vote at the first. Node 1's proposal at the second comes late, and is refused
 abbrev pub higher_span : Value → Value → Value → Value → Value → List Event
 higher_span a b c d e =
     three_begun a b c

@@ -2,9 +2,10 @@ ghost use Rattle.world.specs.Batches.{CallsAreEvents, SaysItself, OthersComeFirs
 
 use site_disk::Disk;
 
-/// A batch of a node's calls is a run of the events that are there. Sealed it is its calls, one after the other. Where it is cut short, by a
-/// crash at any moment or by a device that fails in the seal, it is a crash of the node before the first of them or behind the last one, as
-/// the next opening finds. So all that holds of every schedule holds of nodes that batch.
+/// A batch of a node's calls is a run of events of the definitions. If it is sealed, the run is its calls,
+/// one after another. It may be cut short, by a crash at any moment or by a device that fails in the seal.
+/// Then the run ends in a crash of the node, before the first of the calls or after the last one: the next
+/// opening finds which. So all that holds of every schedule holds of nodes that batch.
 pub fn batches_are_runs<D: Disk>()
     ensures events { CallsAreEvents }
     ensures says { SaysItself }

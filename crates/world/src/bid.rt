@@ -4,7 +4,7 @@ ghost use Rattle.world.specs.Bids.{IsHigher};
 
 use site_ids::{Ballot, NodeId};
 
-/// A ballot that is to be promised, or a higher one with the node that promised it.
+/// A ballot that asks for promises, or a higher one and the node that promised it.
 #[derive(Clone, Copy, Drop)]
 pub(crate) struct Bid {
     pub ballot: Ballot,

@@ -6,7 +6,7 @@ ghost use Rattle.world.specs.Worlds.{World as AbstractWorld, IsFloor};
 use crate::{Event, World};
 use site_ids::Instance;
 
-// One more, where it is so.
+// One more if `is` holds.
 fn counted(many: usize, is: bool) -> usize
     requires { many < 2 ^ 64 - 1 }
     ensures { result ≡ (if is then many + 1 else many) }
@@ -21,7 +21,7 @@ impl World {
     ghost use Rattle.world.specs.Standing.{IsWorldOf};
     ghost use Rattle.world.specs.Taking.{NamesFloor};
 
-    /// Whether an event names a floor that may be one, or names none.
+    /// Whether the event names a floor that is allowed, or names none.
     pub(crate) fn names_floor(&self, event: &Event) -> bool
         ensures { (w : AbstractWorld) → IsWorldOf self.now w → IsTrue result ↔ NamesFloor self.now.cluster w event.now }
     {
@@ -31,8 +31,8 @@ impl World {
         }
     }
 
-    /// Whether a majority of the nodes answer, and the record of each of them reaches an instance that is 64 or more
-    /// below the floor, or none.
+    /// Whether a majority of the nodes answer, and the floor is 64 or more above what the record of each of
+    /// them reaches.
     pub fn is_floor(&self, floor: Instance) -> bool
         ensures { (w : AbstractWorld) → IsWorldOf self.now w → IsTrue result ↔ IsFloor self.now.cluster w floor }
     {

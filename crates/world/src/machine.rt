@@ -13,14 +13,14 @@ use site_ids::{Ballot, Cluster, Instance, MAX_ROUND, NodeId, Value};
 use std::alloc::{AllocError, Global};
 use std::mem;
 
-/// The greatest round that leaves two more.
+/// The greatest round above which two are left.
 const LAST_QUIET_ROUND: u32 = MAX_ROUND - 2;
 
 #[derive(Drop)]
 pub(crate) enum Machine {
     /// The node runs, or its device has stopped it. Armed: the disk is set to fail.
     Open { node: Node<MemDisk>, armed: bool },
-    /// The node is down: its disk alone is left.
+    /// The node is down: only its disk is left.
     Bare(MemDisk),
 }
 
@@ -123,7 +123,7 @@ impl Machine {
         }
     }
 
-    /// Delivers a message that was handed out. One that is none of the cluster's is passed over.
+    /// Delivers a message that was handed out. One that is not of the cluster's nodes is ignored.
     pub(crate) fn deliver(&mut self, index: usize, sent: &mut Outbox) -> Result<(), AllocError>
         requires { index < length sent.old.items }
         ensures ok { OnOk result ((message : AbstractMessage) → slice_get (messages_of sent.old.items) index ≡ Some message
@@ -159,7 +159,8 @@ impl Machine {
         }
     }
 
-    /// The node runs, its disk is not armed, and each round on record leaves two more.
+    /// Whether the node runs, its disk is not armed, and at least two rounds are left above each round on
+    /// record.
     pub(crate) fn is_quiet(&self) -> bool
         ensures { (n p : ℕ) (s : AbstractNode) → IsMachineOf n p self.now s → IsTrue result ↔ IsQuietAt s }
     {
@@ -171,7 +172,7 @@ impl Machine {
         }
     }
 
-    /// A node that runs is not mute at an instance.
+    /// Whether a node that runs is not mute at an instance.
     pub(crate) fn speaks_at(&self, instance: Instance) -> bool
         ensures { (n p : ℕ) (s : AbstractNode) → IsMachineOf n p self.now s → s.mode ≡ Up → IsTrue result ↔ (¬ IsMute s instance) }
     {
@@ -181,7 +182,7 @@ impl Machine {
         }
     }
 
-    /// The next round of a node that runs leaves one more.
+    /// Whether a node that runs has two rounds left.
     pub(crate) fn has_two_rounds(&self) -> bool
         ensures { (n p : ℕ) (s : AbstractNode) → IsMachineOf n p self.now s → s.mode ≡ Up → IsTrue result ↔ (max (last_round s.entries) s.heard ≤ 4294967293) }
     {
@@ -191,7 +192,7 @@ impl Machine {
         }
     }
 
-    /// The node is not down, and its record reaches an instance that is `MAX_ATTEMPTS` or more below the floor, or none.
+    /// Whether the node is not down, and the floor is `MAX_ATTEMPTS` or more above what its record reaches.
     pub(crate) fn reaches_below(&self, floor: u32) -> bool
         ensures { (n p : ℕ) (s : AbstractNode) → IsMachineOf n p self.now s → IsTrue result ↔ ((s.mode ≢ Down) × (reach_of s.entries + WINDOW ≤ floor)) }
     {
@@ -213,7 +214,7 @@ impl Machine {
         }
     }
 
-    /// The ballot of its next attempt, None where rounds are used up.
+    /// The ballot of its next attempt, `None` if the rounds are used up.
     pub(crate) fn next_ballot(&self) -> Option<Ballot>
         ensures { (n p : ℕ) (s : AbstractNode) → IsMachineOf n p self.now s → s.mode ≡ Up → MatchOption result (¬ HasRound s) (λ b. (b ≡ fresh_ballot p s) × HasRound s) }
     {
@@ -223,7 +224,7 @@ impl Machine {
         }
     }
 
-    /// How many attempts of a node that runs are open but that at its first unknown instance.
+    /// How many attempts of a node that runs are open, except the one at its first unknown instance.
     pub(crate) fn tried_elsewhere(&self, first: Instance) -> u8
         ensures { (n p : ℕ) (s : AbstractNode) (elsewhere : List (ℕ × Attempt)) → IsMachineOf n p self.now s → s.mode ≡ Up → IsFirstUnknown s.known first → AreOpenElsewhere s first elsewhere → result ≡ length elsewhere }
     {
@@ -249,14 +250,14 @@ impl Machine {
         mem::replace(self, Machine::Bare(MemDisk::new(alloc))).close()
     }
 
-    /// It is that machine from now on. What it was is let go of here alone.
+    /// Puts the machine in the place of the old one. Only here is an old machine dropped.
     fn put(&mut self, machine: Machine)
         ensures { self.new ≡ machine }
     {
         drop(mem::replace(self, machine));
     }
 
-    /// The node is down, and its disk has lost what wasn't synced, by the choice.
+    /// The node is down, and its disk has lost what was not synced, by the choice.
     pub(crate) fn crash(&mut self, alloc: Global, choice: u8)
         ensures { (n p : ℕ) → Turns n p (λ s out next. Settled Down s out next) self.old self.new [] [] }
     {
@@ -265,7 +266,7 @@ impl Machine {
         self.put(Machine::Bare(disk));
     }
 
-    /// Opens the node over its disk. Where that is refused, the node is down.
+    /// Opens the node over its disk. If that is refused, the node is down.
     pub(crate) fn restart(
         &mut self,
         alloc: Global,
@@ -291,7 +292,7 @@ impl Machine {
         }
     }
 
-    /// The node is lost with its disk: it is down, over a new disk with a record of that floor alone.
+    /// The node is lost with its disk: it is down, over a new disk with a record of that floor only.
     pub(crate) fn replace(
         &mut self,
         alloc: Global,
@@ -327,7 +328,7 @@ impl Machine {
         }
     }
 
-    /// Takes an event of this node, but for its publication.
+    /// Takes an event of this node, except for its publication.
     pub(crate) fn happen(
         &mut self,
         alloc: Global,

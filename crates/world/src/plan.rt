@@ -1,6 +1,6 @@
 //! The events of a plan.
 //!
-//! The highest of the promises is heard first, so one refusal is enough.
+//! The refusal of the highest promise is delivered first, so one refusal is enough.
 
 ghost use Rattle.std.specs.Prelude.{◌≡◌, ◌++◌, ◌+◌, ◌<◌, ◌^◌, OnOk, length};
 ghost use Rattle.world.specs.Quiet.{each_to, one_attempt, overbid_first, quorum, to_each};
@@ -10,7 +10,7 @@ use node::Outbox;
 use site_ids::{Cluster, NodeId};
 use std::alloc::AllocError;
 
-// The message at an index, to each node of a quorum.
+// The message at an index goes to each node of a quorum.
 fn push_to_each(events: &mut Vec<Event>, cluster: Cluster, index: usize) -> Result<(), AllocError>
     ensures { OnOk result (events.new.items ≡ events.old.items ++ to_each index 1 (quorum cluster)) }
 {
@@ -25,7 +25,7 @@ fn push_to_each(events: &mut Vec<Event>, cluster: Cluster, index: usize) -> Resu
     Ok(())
 }
 
-// So many messages, from an index on, to a node.
+// Some messages, from an index on, go to a node.
 fn push_each_to(
     events: &mut Vec<Event>,
     node: NodeId,
@@ -46,7 +46,8 @@ fn push_each_to(
     Ok(())
 }
 
-// An attempt of a node, where so many messages were handed out, and its tick sends so many again.
+// An attempt of a node: how many messages were handed out before it, and how many its tick sends again, are
+// given.
 fn push_attempt_at(
     events: &mut Vec<Event>,
     cluster: Cluster,
@@ -67,7 +68,8 @@ fn push_attempt_at(
     push_each_to(events, me, proposal + 1, quorum)
 }
 
-/// An attempt of a node, behind the messages that were handed out. Its tick sends so many again.
+/// An attempt of a node, after the messages that were handed out. How many messages its tick sends again is
+/// given.
 pub(crate) fn push_attempt(
     events: &mut Vec<Event>,
     cluster: Cluster,
@@ -80,7 +82,7 @@ pub(crate) fn push_attempt(
     push_attempt_at(events, cluster, me, sent.len(), again)
 }
 
-/// An attempt of a node that another refuses, and one more.
+/// An attempt of a node that another node refuses, and then one more.
 pub(crate) fn push_overbid(
     events: &mut Vec<Event>,
     cluster: Cluster,

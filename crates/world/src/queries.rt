@@ -1,6 +1,7 @@
-//! What a world tells of its nodes and messages.
+//! What a world reports of its nodes and messages.
 //!
-//! A question is about a node of the cluster: all others are as at the start, so "down" would be false.
+//! A query is about a node of the cluster. All other nodes are as at the start, so "down" would be false of
+//! them.
 
 ghost use Rattle.std.specs.Prelude.{◌≡◌, ◌≢◌, ◌≤◌, ◌<◌, ◌⊎◌, ◌↔◌, ◌-◌, List, Some, length, slice_get, option_copied, IfOk, IsErrOf};
 ghost use Rattle.command.specs.Effective.{effective};
@@ -23,7 +24,7 @@ impl World {
     ghost use Rattle.world.specs.Steps.{Reached, IsAnswer, AreOfRun};
     ghost use Rattle.world.specs.Telling.{mode_told, fed_at};
 
-    /// Whose nodes they are.
+    /// The cluster of its nodes.
     pub fn cluster(&self) -> Cluster
         ensures { result ≡ self.now.cluster }
     {
@@ -70,7 +71,7 @@ impl World {
         }
     }
 
-    /// How many values a node knows from the first instance on without a gap; 0 where it is down.
+    /// How many values a node knows from the first instance on without a gap; 0 if it is down.
     pub fn known(&self, node: NodeId) -> u32
         requires { node ≤ self.now.cluster }
         ensures is { (w : AbstractWorld) → IsWorldOf self.now w → (values : List Bytes) × IsKnownPrefix (w.node node) values × (result ≡ length values) }
@@ -82,7 +83,7 @@ impl World {
         }
     }
 
-    /// The number of the newest release that a node has published; 0 where there is none, or the node is down.
+    /// The number of the newest release that a node has published; 0 if there is none, or the node is down.
     pub fn published(&self, node: NodeId) -> u64
         requires { node ≤ self.now.cluster }
         ensures count { result ≡ release_count (effective (fed_at self.now node)) }
@@ -95,8 +96,8 @@ impl World {
         }
     }
 
-    /// What a node answers for release n and a path. Whichever events led here, and whichever node is asked: it is the
-    /// answer of the one list of values that the messages decide.
+    /// What a node answers for release n and a path. Whichever events led here, and whichever node is asked,
+    /// it is the answer of the one list of values that the messages decide.
     pub fn answer(&self, node: NodeId, n: u64, path: &str) -> Result<Answer, AskFault>
         requires { node ≤ self.now.cluster }
         ensures ok { IfOk result (λ a. (events : List AbstractEvent) → Reached self.now events → IsAnswer self.now events n path.now (answer_view a)) }

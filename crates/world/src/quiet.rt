@@ -21,9 +21,9 @@ impl World {
     ghost use Rattle.world.specs.Standing.{IsWorldOf};
     ghost use Rattle.world.specs.Steps.{Reached, RunEnds};
 
-    /// Whether all nodes run with no disk armed, the node has an unknown instance, and no round that was recorded or
-    /// promised, or that the node heard of, is above 4,294,967,293. At that instance neither the node is mute nor one of
-    /// the first nodes that make a majority.
+    /// Whether the state is quiet for the node. All nodes run, with no disk armed. The node has an unknown
+    /// instance. No round that was recorded or promised, or that the node heard of, is above 4,294,967,293.
+    /// At that instance neither the node nor one of the first nodes that make a majority is mute.
     pub fn is_quiet(&self, node: NodeId) -> bool
         requires { node ≤ self.now.cluster }
         ensures { (w : AbstractWorld) → IsWorldOf self.now w → IsTrue result ↔ IsQuiet self.now.cluster w node }
@@ -37,11 +37,12 @@ impl World {
         self.may_decide(node, instance)
     }
 
-    /// Events by which the node learns its first unknown instance from a quiet state: two ticks and 8 n deliveries at
-    /// most. Outside of one there are none.
+    /// Events by which the node learns its first unknown instance, from a quiet state: two ticks and 8 n
+    /// deliveries at most. From any other state there are none.
     ///
-    /// Whatever was promised, voted for or attempted, and whatever is on its way: a tick, and its messages to the first
-    /// nodes that make a majority and back. Where one of these has promised a higher ballot, its refusal comes first.
+    /// This holds whatever was promised, voted for or attempted, and whatever is on its way. The plan is a
+    /// tick, and its messages to the first nodes that make a majority and back. If one of these nodes has
+    /// promised a higher ballot, its refusal comes first.
     pub fn quiet_plan(&self, node: NodeId) -> Result<Vec<Event>, AllocError>
         requires { node ≤ self.now.cluster }
         ensures short { IfOk result (λ plan. IsShort self.now.cluster plan.items) }
@@ -57,7 +58,7 @@ impl World {
         Ok(plan)
     }
 
-    // The first instance that a node doesn't know.
+    // The first instance that a node does not know.
     fn first_unknown(&self, node: NodeId) -> Option<Instance>
         requires { node ≤ self.now.cluster }
         ensures { (w : AbstractWorld) → IsWorldOf self.now w → MatchOption result ((i : ℕ) → ¬ IsFirstUnknown (w.node node).known i) (λ i. IsFirstUnknown (w.node node).known i) }
@@ -65,7 +66,7 @@ impl World {
         Instance::new(self.known(node).saturating_add(1))
     }
 
-    // Each node runs with no disk armed, and has rounds left.
+    // Whether each node runs with no disk armed, and has rounds left.
     fn are_quiet(&self) -> bool
         ensures { (w : AbstractWorld) → IsWorldOf self.now w → IsTrue result ↔ ((q : ℕ) → IsNode self.now.cluster q → IsQuietAt (w.node q)) }
     {
@@ -79,7 +80,8 @@ impl World {
         true
     }
 
-    // Where all nodes run: nobody who is needed is mute at the instance, and the node's rounds leave two more.
+    // If all nodes run: whether no node that is needed is mute at the instance, and the node has two more
+    // rounds left.
     fn may_decide(&self, node: NodeId, instance: Instance) -> bool
         requires { node ≤ self.now.cluster }
         ensures { (w : AbstractWorld) → IsWorldOf self.now w → AllRun self.now.cluster w → IsTrue result ↔ MayDecide self.now.cluster w node instance }
@@ -94,7 +96,7 @@ impl World {
         self.none_mute(instance)
     }
 
-    // Where all nodes run, none of the first nodes that make a majority is mute at the instance.
+    // If all nodes run: whether none of the first nodes that make a majority is mute at the instance.
     fn none_mute(&self, instance: Instance) -> bool
         ensures { (w : AbstractWorld) → IsWorldOf self.now w → AllRun self.now.cluster w → IsTrue result ↔ ((q : ℕ) → IsNode (quorum self.now.cluster) q → ¬ IsMute (w.node q) instance) }
     {
@@ -127,7 +129,8 @@ impl World {
         }
     }
 
-    // The node that refuses another's next attempt, if one of the first nodes that make a majority does: the highest promise of all.
+    // The node that refuses this node's next attempt, if one of the first nodes that make a majority does:
+    // the one with the highest promise of all.
     fn refuser(&self, node: NodeId, instance: Instance) -> Option<NodeId>
         requires { node ≤ self.now.cluster }
         ensures { (w : AbstractWorld) → IsWorldOf self.now w → IsQuiet self.now.cluster w node
@@ -137,7 +140,8 @@ impl World {
         self.overbidder(instance, ballot)
     }
 
-    // Of the first nodes that make a majority the one whose promise at the instance is the highest above the ballot.
+    // Of the first nodes that make a majority, the one whose promise at the instance is the highest above the
+    // ballot.
     fn overbidder(&self, instance: Instance, ballot: Ballot) -> Option<NodeId>
         ensures { (w : AbstractWorld) → IsWorldOf self.now w → AllRun self.now.cluster w → MatchOption result (HasNoneAbove self.now.cluster w instance ballot) (λ q. Overbids self.now.cluster w instance ballot q) }
     {

@@ -1,8 +1,8 @@
 /// Why a run stops at an event.
 pub(crate) enum RunStop {
-    /// The event isn't taken for want of memory.
+    /// The event is not taken, because an allocation failed.
     Wanted,
-    /// It is taken, and its node finds no memory to publish.
+    /// The event is taken, but an allocation failed as its node published.
     Unpublished,
     /// It names no node of the cluster, or no message.
     Bad,

@@ -1,6 +1,7 @@
 //! A cluster's nodes, each over a disk in memory, and all messages ever handed out.
 //!
-//! The list of messages is the nodes' outbox, for a copy a delivery. A run does not tell why an opening was refused: nothing but the device or want of memory can refuse it (`records_of_worlds_open`).
+//! The list of messages is the nodes' outbox, so that a delivery makes one copy. A run does not report why an
+//! opening was refused: only a failed device or a failed allocation can refuse it (`records_of_worlds_open`).
 
 ghost use Rattle.std.specs.Prelude.{◌≡◌, length};
 
@@ -16,9 +17,9 @@ use std::alloc::{AllocError, Global};
 pub struct World {
     pub(crate) alloc: Global,
     pub(crate) cluster: Cluster,
-    // that of node 1 first
+    // the machine of node 1 first
     pub(crate) machines: Vec<Machine>,
-    // the oldest first, to whomever
+    // the oldest first, to any node
     pub(crate) sent: Outbox,
     ghost all_there: { length machines.items ≡ cluster },
 }
@@ -31,8 +32,8 @@ impl World {
     ghost use Rattle.world.specs.Standing.{IsWorldOf};
     ghost use Rattle.world.specs.Steps.{StepEnds, RunEnds, Follows, Reached, Reaches};
 
-    /// The nodes of a cluster, each opened over an empty record. No message was handed out. Where a disk or a node finds
-    /// no memory there is no world.
+    /// The nodes of a cluster, each opened over an empty record. No message was handed out. If an allocation
+    /// fails, there is no world.
     pub fn new(alloc: Global, cluster: Cluster) -> Result<World, AllocError>
         ensures start { IfOk result (λ world. IsWorldOf world start) }
         ensures whose { IfOk result (λ world. world.cluster ≡ cluster) }
@@ -51,10 +52,10 @@ impl World {
         })
     }
 
-    /// Takes the events in order, each at its node, which then publishes all that it knows without a gap. It stops at a
-    /// bad event, or where memory is wanted; the fault tells how many events were taken, and a run over those that are
-    /// left goes on from there. A call at a node that is down or stopped does nothing, and so does one that is refused
-    /// for another cause than memory.
+    /// Takes the events in order, each at its node, which then publishes all that it knows without a gap. It
+    /// stops at a bad event, or if an allocation fails. The fault reports how many events were taken; a run
+    /// over those that are left continues from there. A call at a node that is down or stopped does nothing.
+    /// A call that is refused does nothing either, unless an allocation failed.
     pub fn run(&mut self, events: &[Event]) -> Result<(), WorldFault>
         ensures ends { RunEnds self.old self.new events.now result }
         ensures follows { Follows self.old self.new }
@@ -74,7 +75,7 @@ impl World {
         Ok(())
     }
 
-    // Takes an event, and has its node publish.
+    // Takes an event, and lets its node publish.
     fn step(&mut self, event: &Event) -> Result<(), RunStop>
         ensures ends { StepEnds self.old self.new event.now result }
         ensures grows { OnlyGrows self.old.sent.items self.new.sent.items }

@@ -18,14 +18,14 @@ first_alone : (ds : List (List ℕ)) (d : List ℕ) (len : ℕ) (alone : Bool) �
 first_alone ds d len alone (inl none) is = subst (λ b. length (b ++ d ∷ []) ≤ 1) (sym none) (omega arith)
 first_alone ds d len alone (inr more) is = let together = more.0 in absurd (cc)
 
--- the first one may join, so it was not passed over
+-- the first one may join, so it was not skipped
 pub returns-then-not-may_join-clause-goes_on : goal.returns-then-not-may_join-clause-goes_on
 returns-then-not-may_join-clause-goes_on c = λ ds made none.
     let zero : Packs c.loop-n.packet [] = subst (λ k. Packs c.loop-n.packet (own_of c.args.to (letters_of (take k c.args.letters.now)))) none (c.loop-n.invariant ds made).0 in
     let room = (c.may_join.ensures [] zero).1 (inl refl) in
     absurd (grind (arith, room, c.if-not-may_join.true))
 
--- the letter behind those that were packed may not join
+-- the letter after those that were packed may not join
 pub returns-then-not-may_join-clause-full : goal.returns-then-not-may_join-clause-full
 returns-then-not-may_join-clause-full c = λ ds made x below at may.
     let letters = c.args.letters.now in

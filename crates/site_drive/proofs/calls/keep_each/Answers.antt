@@ -20,7 +20,7 @@ loop-past-init g c = record {
   counts = refl;
 }
 
--- behind the last instance
+-- after the last instance
 pub returns-in_default-clause-event : goal.returns-in_default-clause-event
 returns-in_default-clause-event g c =
     let old = c.args.node.now in

@@ -32,7 +32,7 @@ loop-next-preserved g c =
           });
     }
 
--- the last instance is behind
+-- the last instance has been passed
 pub returns-in_default-clause-free : goal.returns-in_default-clause-free
 returns-in_default-clause-free g c s stands first next =
     let l = c.loop-next in

@@ -3,7 +3,7 @@ use Rattle.durable.specs.Slots.{slot_at}
 use Rattle.node.specs.Judgements.{IsJudgement}
 use Rattle.node.proofs.node.Node.judge_span.Given as goal
 
--- so many of them are judged
+-- this many of them are judged
 abbrev pub invariant-loop-past : goal.invariant-loop-past
 invariant-loop-past g l = record {
   within : l.past ≤ l.count;

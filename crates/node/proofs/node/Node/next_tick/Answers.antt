@@ -17,7 +17,7 @@ use Rattle.node.proofs.Starting.{has_round, no_round, next_is_fresh}
 use Rattle.node.proofs.Stepping.{Handed, is_up}
 use Rattle.node.proofs.node.Node.next_tick.Goals as goal
 
--- want of memory is told where an instance is unknown and a round is left
+-- a failed allocation is reported if an instance is unknown and a round is left
 wants_it : {D : Type 0} (old : Running D) (s : Node) (i : ℕ) → IsNodeOf old s → old.store.stopped ≡ false → IsGap old.known.log i → max old.store.recorded.round old.proposer.heard < MAX_ROUND → Refuses s ticking OutOfMemory
 wants_it old s i stands runs gap low = (is_up old s stands.parts runs, (not_all_known s i (first_unknown old.known.log s.known i stands.parts.known.values gap), inr (has_round old s stands.parts low)))
 

@@ -5,7 +5,7 @@ use Rattle.node.specs.Calls.{resent}
 use Rattle.node.proofs.SendingAgain.{open_past}
 use Rattle.node.proofs.node.Node.sent_again.Given as goal
 
--- so many instances behind the first were looked at
+-- this many instances after the first were looked at
 abbrev pub invariant-loop-past : goal.invariant-loop-past
 invariant-loop-past g l = record {
   within : l.past ≤ 64;

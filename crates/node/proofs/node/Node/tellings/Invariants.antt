@@ -4,7 +4,7 @@ use Rattle.node.specs.Standing.{IsNodeOf}
 use Rattle.node.specs.Tellings.{tellings, fitting, told_from, addressed}
 use Rattle.node.proofs.node.Node.tellings.Given as goal
 
--- what is told so far, and then what is told of the instances that are left
+-- what is reported so far, and then what is reported of the instances that are left
 abbrev pub invariant-loop-past : goal.invariant-loop-past
 invariant-loop-past g l = record {
   within : l.past ≤ 64;

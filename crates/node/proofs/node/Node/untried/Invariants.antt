@@ -5,7 +5,7 @@ use Rattle.node.specs.Standing.{IsNodeOf}
 use Rattle.node.specs.Widening.{IsOldestUntried}
 use Rattle.node.proofs.node.Node.untried.Given as goal
 
--- of so many values these are the untried ones
+-- of this many values these are the untried ones
 abbrev pub invariant-loop-place : goal.invariant-loop-place
 invariant-loop-place g l = record {
   some : 1 ≤ length l.values.items;

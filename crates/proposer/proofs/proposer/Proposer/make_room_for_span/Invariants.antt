@@ -4,7 +4,7 @@ use Rattle.proposer.specs.Attempts.{Attempt}
 use Rattle.proposer.specs.Standing.{Attempting, HasRoom}
 use Rattle.proposer.proofs.proposer.Proposer.make_room_for_span.Given as goal
 
--- there is room for so many of them, and the attempts are as they were
+-- there is room for this many of them, and the attempts are as they were
 abbrev pub invariant-loop-past : goal.invariant-loop-past
 invariant-loop-past l = record {
   within : l.past ≤ l.count;

@@ -11,7 +11,7 @@ pub returns-in-None-clause-refused : goal.returns-in-None-clause-refused
 returns-in-None-clause-refused c =
     on_err_weaker c.push.result (λ same. ([], c.args.piece.now ∷ [], inr (c.in-None.ensures, refl), same ∙ sym (append-nil (waiting_of c.args.self.now)))) c.push.ensures.refused
 
--- what stands behind a mark is of a packet, so its sender may be heard
+-- what follows a mark is of a packet, so its sender may be heard
 pub returns-in-Some-clause-peers : goal.returns-in-Some-clause-peers
 returns-in-Some-clause-peers c =
     let f = c.in-Some.ensures in

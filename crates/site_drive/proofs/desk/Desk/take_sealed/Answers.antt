@@ -45,7 +45,7 @@ returns-in-Err-clause-ends g c =
       counts = counts_on (Err c.in-Err.fault) c.in-Err.fault _ _ _ refl (ap g.D.Disk.failed c.begin.ensures.disk) c.in-Err.ensures.counts;
     }
 
--- the seal failed, behind work that was given up
+-- the seal failed, after work that was given up
 pub returns-in_err-seal-in-Err-2-clause-ends : goal.returns-in_err-seal-in-Err-2-clause-ends
 returns-in_err-seal-in-Err-2-clause-ends g c =
     let old = c.args.node.now in
@@ -87,7 +87,7 @@ returns-in-Err-2-clause-ends g c =
           (counts_on (Err c.in-Err.fault) c.in-Err.fault _ _ _ refl (ap g.D.Disk.failed c.begin.ensures.disk) c.in-Err.ensures.counts);
     }
 
--- the seal failed, behind work that was whole
+-- the seal failed, after work that was whole
 pub returns-in_err-seal-clause-ends : goal.returns-in_err-seal-clause-ends
 returns-in_err-seal-clause-ends g c =
     let old = c.args.node.now in
@@ -110,7 +110,7 @@ returns-in_err-seal-clause-ends g c =
       counts = counts_on c.from_residual-in_err-seal.result c.in_err-seal.field-0.0 _ _ _ c.from_residual-in_err-seal.ensures.1 (none_failed _ _ _ c.in-Ok.ensures.counts ∙ ap g.D.Disk.failed c.begin.ensures.disk) c.in_err-seal.ensures.counts;
     }
 
--- memory was wanted to publish
+-- an allocation failed as the node published
 pub returns-in_err-publish-clause-ends : goal.returns-in_err-publish-clause-ends
 returns-in_err-publish-clause-ends g c =
     let old = c.args.node.now in
