@@ -16,7 +16,7 @@ all_taken (Some input) None P end stops_there = absurd stops_there
 all_taken (Some input) (Some rest) P end (taken, whole, holds) =
     subst P (sym (whole ∙ ap (λ t. taken ++ t) end ∙ append-nil taken)) holds
 
--- a fault that isn't want of memory
+-- whether the fault is a failed allocation
 abbrev pub is_memory : ReadFault → Bool
 is_memory fault.Read = false
 is_memory fault.OutOfMemory = true

@@ -284,12 +284,13 @@ module _ (n p i : ℕ) (b : BallotOf) where
   -- ---- votes
 
   module _ (v : Value) where
-    -- the node knows v, or was told the votes of the nodes below q, and those told are not yet a majority's
+    -- the node does not know the instance. Nodes below q reported their votes, which are no majority yet
     pub record IsUnsure (s : Node) (q : ℕ) : Type 0 where
       pub unknown : s.known i ≡ None
       pub told : (x : ℕ) → 1 ≤ x → x < q → In s.votes (told_vote x i b v)
       pub few : 1 < q → ¬ HasMajority n (In s.votes) i b v
 
+    -- the node knows v, or is unsure
     abbrev pub Seen : Node → ℕ → Type 0
     Seen s q = (s.known i ≡ Some v) ⊎ IsUnsure s q
 
