@@ -1,10 +1,10 @@
 //! Batches: all of one stands or none of it, whichever call of its seal fails and whatever a crash chooses. Their bytes are
-//! those of single puts, behind their sum.
+//! those of single puts, after their sum.
 use crate::changes::with_byte;
 use crate::comparing::{ensure, same};
 use crate::damage::is_of;
 use crate::disks::{crashed_within, is_long, is_long_behind, reads};
-use crate::listed::{RECORD, SUMMED, SUMMED_FLOOR, entries};
+use crate::listed::{RECORD, SPANNED_SUMMED, SUMMED, SUMMED_FLOOR, entries};
 use crate::samples::{ballot, instance, is_bytes};
 use crate::steps::{Step, act, disk_behind, take};
 use crate::stored::{
@@ -59,21 +59,17 @@ const NOT_SEALED: &[Step] = &[Step::Begin, ROUND, PROMISE, VOTE];
 
 const IN_ONE_BATCH: &[Step] = &[Step::Begin, ROUND, PROMISE, VOTE, Step::Seal];
 
-/// The entries of `RECORD`, the second and the third behind their sum.
+/// The entries of `RECORD`, the second and the third after their sum.
 const THE_LATER: [u8; 71] =
     *b"SITEREC1\x02\x03\x01\x00\x00\x00\x05\x01\x00\x00\x00\x01\x01\x00\x00\x00\x0d\x18\x00\x00\x00 \x06]\xbc\x13\xfd9x\xfa\x01\x00\x00\x00\x0a\x02\x00\x00\x00\x01\x00\x00\x00\x01\x01\x01\x00\x00\x00\x0c\x03\x00\x00\x00\x01\x00\x00\x00\x02\x01ab\x00";
 
-/// The same, the first and the second behind their sum.
+/// The same, the first and the second after their sum.
 const THE_FIRST: [u8; 71] =
     *b"SITEREC1\x02\x03\x01\x00\x00\x00\x0d\x18\x00\x00\x00\x19`\xef\xa0v\xe89\x02\xfd\x01\x00\x00\x00\x05\x01\x00\x00\x00\x01\x01\x00\x00\x00\x0a\x02\x00\x00\x00\x01\x00\x00\x00\x01\x01\x01\x00\x00\x00\x0c\x03\x00\x00\x00\x01\x00\x00\x00\x02\x01ab\x00";
 
-/// The same, the first behind its sum, and the third.
+/// The same, the first after its sum, and the third.
 const TWICE: [u8; 89] =
     *b"SITEREC1\x02\x03\x01\x00\x00\x00\x0d\x18\x00\x00\x00\x0a\x9a\xd4\x91\x0b\xa7`7;\x01\x00\x00\x00\x05\x01\x00\x00\x00\x01\x01\x00\x00\x00\x0a\x02\x00\x00\x00\x01\x00\x00\x00\x01\x01\x01\x00\x00\x00\x0d\x18\x00\x00\x00\x11\x89\x04\xd1\xc0\x01d\x07U\x01\x00\x00\x00\x0c\x03\x00\x00\x00\x01\x00\x00\x00\x02\x01ab\x00";
-
-/// The entry of `SPANNED` behind its sum.
-const SPANNED_SUMMED: [u8; 45] =
-    *b"SITEREC1\x02\x03\x01\x00\x00\x00\x0d\x18\x00\x00\x00\x10\xb3$\x04i\x888\xa2\x0e\x01\x00\x00\x00\x0b\x04\x00\x00\x00\x05\x03\x00\x00\x00\x01\x01\x00";
 
 /// Steps that write the entries of `RECORD`, the bytes, and how many writes and syncs there are then, an opening's among
 /// them.
@@ -257,7 +253,7 @@ const SPAN_BATCH: &[Step] = &[Step::Begin, Step::Span(5, 3, 1), Step::Seal];
 
 const EMPTY_BATCH: &[Step] = &[Step::Begin, Step::Seal];
 
-/// However a record's entries came there, their bytes are the same; a batch's stand behind their sum.
+/// However a record's entries came there, their bytes are the same; a batch's stand after their sum.
 #[test]
 fn batches_and_puts_write_the_same_bytes(rt: HostRuntime) {
     let alloc = rt.alloc();
@@ -277,7 +273,7 @@ fn record_behind(rt: &impl Abort, alloc: Global, steps: &[Step]) -> [u8; 71] {
     bytes
 }
 
-/// What a batch wrote behind its sum is what the definition of a record reads there.
+/// What a batch wrote after its sum is what the definition of a record reads there.
 #[test]
 fn a_batch_stands_for_its_entries(rt: HostRuntime) {
     let batch = record_behind(&rt, rt.alloc(), IN_ONE_BATCH);

@@ -2,8 +2,8 @@
 use crate::changes::with_byte;
 use crate::comparing::{ensure, same};
 use crate::listed::{
-    FLOORED, LEARNED, Listed, RECORD, SPANNED, SUMMED, SUMMED_FLOOR, entries, floored, learned,
-    spanned,
+    FLOORED, LEARNED, LEARNED_SUMMED, Listed, RECORD, SPANNED, SPANNED_SUMMED, SUMMED,
+    SUMMED_FLOOR, entries, floored, learned, spanned,
 };
 use crate::samples::{instance, is_bytes, is_text};
 use crate::stored::{damaged_from, one_of_three, read_bytes};
@@ -301,6 +301,17 @@ struct OneBatch<'a> {
     count: usize,
 }
 
+impl<'a> OneBatch<'a> {
+    /// The record of that many entries: its last byte is its last gate.
+    fn of(record: &'a [u8], count: usize) -> OneBatch<'a> {
+        OneBatch {
+            record,
+            last: record.len().saturating_sub(1),
+            count,
+        }
+    }
+}
+
 /// What becomes of the record if the byte at a place has one other bit: how many entries are read, or the refusal.
 fn flipped(batch: OneBatch<'_>, place: usize, byte: u8) -> Result<usize, RecordFault> {
     match place {
@@ -385,16 +396,12 @@ fn flip_each(rt: &impl Abort, alloc: Global, batch: OneBatch<'_>, entries: Vec<E
 #[test]
 fn a_record_with_a_sum_and_each_bit_flipped(rt: HostRuntime) {
     let alloc = rt.alloc();
-    let batch = OneBatch {
-        record: &SUMMED,
-        last: 70,
-        count: 3,
-    };
+    let batch = OneBatch::of(&SUMMED, 3);
     flip_each(&rt, alloc, batch, entries(&rt, alloc));
-    let floor = OneBatch {
-        record: &SUMMED_FLOOR,
-        last: 38,
-        count: 1,
-    };
+    let span = OneBatch::of(&SPANNED_SUMMED, 1);
+    flip_each(&rt, alloc, span, spanned(&rt, alloc));
+    let value = OneBatch::of(&LEARNED_SUMMED, 1);
+    flip_each(&rt, alloc, value, learned(&rt, alloc));
+    let floor = OneBatch::of(&SUMMED_FLOOR, 1);
     flip_each(&rt, alloc, floor, floored(&rt, alloc));
 }

@@ -17,7 +17,7 @@ use test_record::standing::stands_plainly_for;
 pub const RECORD: [u8; 53] =
     *b"SITEREC1\x02\x03\x01\x00\x00\x00\x05\x01\x00\x00\x00\x01\x01\x00\x00\x00\x0a\x02\x00\x00\x00\x01\x00\x00\x00\x01\x01\x01\x00\x00\x00\x0c\x03\x00\x00\x00\x01\x00\x00\x00\x02\x01ab\x00";
 
-/// The same as a batch writes it, behind the sum of its entries: at 10 the gate of the sum, at 28 that of the first entry, at 70
+/// The same as a batch writes it, after the sum of its entries: at 10 the gate of the sum, at 28 that of the first entry, at 70
 /// the last gate.
 pub const SUMMED: [u8; 71] =
     *b"SITEREC1\x02\x03\x01\x00\x00\x00\x0d\x18\x00\x00\x00*`\x9a\xe6Ms\x1e$\x0d\x01\x00\x00\x00\x05\x01\x00\x00\x00\x01\x01\x00\x00\x00\x0a\x02\x00\x00\x00\x01\x00\x00\x00\x01\x01\x01\x00\x00\x00\x0c\x03\x00\x00\x00\x01\x00\x00\x00\x02\x01ab\x00";
@@ -46,8 +46,16 @@ pub fn spanned(rt: &impl Abort, alloc: Global) -> Vec<Entry> {
     entries
 }
 
+/// The same after the sum of its entry: at 10 the gate of the sum, at 44 the last one.
+pub const SPANNED_SUMMED: [u8; 45] =
+    *b"SITEREC1\x02\x03\x01\x00\x00\x00\x0d\x18\x00\x00\x00\x10\xb3$\x04i\x888\xa2\x0e\x01\x00\x00\x00\x0b\x04\x00\x00\x00\x05\x03\x00\x00\x00\x01\x01\x00";
+
 /// The record of node 2 of 3 whose one entry is `ab`, learned at instance 1. At 10 its gate, at 22 the last one.
 pub const LEARNED: [u8; 23] = *b"SITEREC1\x02\x03\x01\x00\x00\x00\x07\x06\x00\x00\x00\x01ab\x00";
+
+/// The same after the sum of its entry: at 10 the gate of the sum, at 40 the last one.
+pub const LEARNED_SUMMED: [u8; 41] =
+    *b"SITEREC1\x02\x03\x01\x00\x00\x00\x0d\x18\x00\x00\x00\x0c\x83\x0e+\xdc:9\xf2V\x01\x00\x00\x00\x07\x06\x00\x00\x00\x01ab\x00";
 
 /// Its history.
 pub fn learned(rt: &impl Abort, alloc: Global) -> Vec<Entry> {
