@@ -1,27 +1,53 @@
 -- The node that a URL names.
-use Rattle.std.specs.Prelude.{◌≡◌, ◌⊎◌, ⊤, ℕ, List, [], ◌∷◌, ◌++◌, codes, string_bytes}
+use Rattle.std.specs.Prelude.{◌≡◌, ◌≢◌, ◌⊎◌, ⊤, ℕ, ◌<◌, List, [], ◌∷◌, ◌++◌, length, slice_index, codes, string_bytes}
 use Rattle.std.specs.Option.{option_map}
 use Rattle.editor_http.specs.Authorities.{login_before, login_shown, host_in}
 use Rattle.editor_group.specs.declared.address.Address.{Address}
 
--- with a slash at its end, or without one
+abbrev pub HasByte : List ℕ → ℕ → Type 0
+HasByte text c = (k : ℕ) × (k < length text) × (slice_index text k ≡ c)
+
+-- the URL without a slash (47) at its end
 abbrev pub IsBare : List ℕ → List ℕ → Type 0
-IsBare url bare = (url ≡ bare) ⊎ (url ≡ bare ++ 47 ∷ [])
+IsBare url bare = (url ≡ bare ++ 47 ∷ []) ⊎ ((url ≡ bare) × ((front : List ℕ) → url ≢ front ++ 47 ∷ []))
 
 abbrev pub IsHttp : List ℕ → List ℕ → Type 0
 IsHttp url text = IsBare url (codes "http://" ++ text)
 
--- where the host names no port, that is 80
+-- after `http://` the URL has only texts with a slash or a blank
+abbrev pub HasNoText : List ℕ → Type 0
+HasNoText url = (text : List ℕ) → IsHttp url text → HasByte text 47 ⊎ HasByte text 32
+
+-- after `http://` the URL has this text and no other; neither a slash nor a blank (32) is in it
+pub record HasText (url text : List ℕ) : Type 0 where
+  pub http : IsHttp url text
+  pub no_slash : ¬ HasByte text 47
+  pub no_blank : ¬ HasByte text 32
+  pub only : (other : List ℕ) → IsHttp url other → other ≡ text
+
+-- neither a slash nor a blank is in the text, and a host is, in which no at sign (64) is left
+pub record HasHost (text : List ℕ) : Type 0 where
+  pub no_slash : ¬ HasByte text 47
+  pub no_blank : ¬ HasByte text 32
+  pub some : host_in text ≢ []
+  pub one_login : ¬ HasByte (host_in text) 64
+
+-- if the host names no port, that is 80
 abbrev pub IsAt : List ℕ → List ℕ → Type 0
 IsAt host whole = (whole ≡ host) ⊎ (whole ≡ host ++ codes ":80")
 
--- behind `http://` stands who is asked there, and as whom; it is told without the login
+-- after `http://` stands who is asked there, and as whom; it is shown without the login
 pub record Names (url : List ℕ) (node : Address) : Type 0 where
   pub text : List ℕ
   pub http : IsHttp url text
+  pub fair : HasHost text
   pub login : option_map login_shown node.authority.login ≡ login_before text
   pub host : IsAt (host_in text) (string_bytes node.authority.host)
   pub told : string_bytes node.url ≡ codes "http://" ++ host_in text
+
+-- the URL names no node
+abbrev pub NamesNone : List ℕ → Type 0
+NamesNone url = (text : List ℕ) → IsHttp url text → ¬ HasHost text
 
 -- each URL names one of the nodes, in order
 abbrev pub AreNamed : {X : Type 0} → (X → List ℕ) → List X → List Address → Type 0
