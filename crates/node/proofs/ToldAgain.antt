@@ -1,6 +1,6 @@
 -- What a telling consists of, and how it is put together.
 use Rattle.std.proofs.Common.{◌≡◌, ◌⊎◌, inl, inr, ⊎_elim, ℕ, zero, suc, ◌+◌, ◌-◌, ◌<◌, ◌≤◌, Bool, true, false, cond, Option, Some, None, List, [], ◌∷◌, ◌++◌, length, map, append-nil, refl, sym, ap, subst, ◌∙◌, arith}
-use Rattle.std.specs.Prelude.{nat_eq, nat_le}
+use Rattle.std.specs.Prelude.{nat_eq, nat_le, if◌then◌else◌}
 use Rattle.std.proofs.lemmas.Bool.Decides.{nat_tests}
 use Rattle.site_ids.specs.Ids.{IsInstance}
 use Rattle.site_ids.specs.Lists.{In}
@@ -13,7 +13,7 @@ use Rattle.durable.specs.Histories.{IsHistory}
 use Rattle.node.specs.declared.to.To.{To}
 use Rattle.node.specs.Nodes.{Value, Node}
 use Rattle.node.specs.Ranges.{HasRanges}
-use Rattle.node.specs.Tellings.{or_else, remembered, IsTellable, message_of, telling, with_first, tellings, value_in, fitting, told_from, addressed, TellsOn}
+use Rattle.node.specs.Tellings.{or_else, remembered, IsTellable, message_of, telling, with_first, tellings, value_in, fitting, told_from, told_size, covered, covered_from, addressed, TellsOn}
 use Rattle.node.proofs.OnRecord.{last_vote-in, learned_at-in, entry_in_range}
 
 -- ---- what is told
@@ -183,3 +183,40 @@ last_telling n p s to first past k room whole before h history low outside so_fa
   where
     over : (i : ℕ) → 1 ≤ i → ¬ IsInstance i → 1000000 < i
     over i low outside = grind (arith, low, outside)
+
+-- ---- how many instances it covers
+
+at_most : (a b : ℕ) → a ≤ b → nat_le a b ≡ true
+at_most a b less = grind (arith, nat_tests, less)
+
+more_than : (a b : ℕ) → ¬ (a ≤ b) → nat_le a b ≡ false
+more_than a b more = grind (arith, nat_tests, more)
+
+pub begun_covered : (p : ℕ) (s : Node) (first : ℕ) → covered_from p s first ≡ 0 + covered 65536 p s 64 (first + 0)
+begun_covered p s first =
+    let here : first ≡ first + 0 = omega arith in
+    let there = ap (λ i. covered 65536 p s 64 i) here in
+    omega (arith, there)
+
+module _ (p : ℕ) (s : Node) (first whole room past j k size : ℕ) (is : k ≡ suc j) (so_far : whole ≡ past + covered room p s k (first + past)) (here : size ≡ told_size (telling p s (first + past))) where
+  abbrev by : Bool → ℕ → ℕ
+  by b n = if b then suc (covered (room - n) p s j (suc (first + past))) else 0
+
+  -- one instance more
+  pub more_covered : size ≤ room → whole ≡ past + 1 + covered (room - size) p s j (first + (past + 1))
+  more_covered less =
+      let next : suc (first + past) ≡ first + (past + 1) = omega arith in
+      let left = covered (room - size) p s j (suc (first + past)) in
+      let there = so_far ∙ ap (λ n. past + covered room p s n (first + past)) is ∙ ap (λ n. past + by (nat_le n room) n) (sym here) ∙ ap (λ b. past + by b size) (at_most size room less) in
+      let turned : past + suc left ≡ past + 1 + left = omega arith in
+      there ∙ turned ∙ ap (λ i. past + 1 + covered (room - size) p s j i) next
+
+  -- no room for the next
+  pub all_covered : ¬ (size ≤ room) → past ≡ whole
+  all_covered more =
+      let there = so_far ∙ ap (λ n. past + covered room p s n (first + past)) is ∙ ap (λ n. past + by (nat_le n room) n) (sym here) ∙ ap (λ b. past + by b size) (more_than size room more) in
+      omega (arith, there)
+
+-- past the last instance nothing has a size
+pub no_size : (n p : ℕ) (s : Node) (i : ℕ) → HasRanges n s → IsHistory n s.entries → ¬ IsInstance i → 0 ≡ told_size (telling p s i)
+no_size n p s i h history outside = sym (ap told_size (none_past n p s i h history outside))

@@ -55,6 +55,22 @@ fitting room (m ∷ ms) = if nat_le (length (value_in m)) room then m ∷ fittin
 abbrev pub told_from : ℕ → Node → ℕ → List Message
 told_from p s i = fitting MAX_TOLD_BYTES (tellings p s MAX_TOLD i)
 
+-- the bytes of the value that is told, if anything is
+abbrev pub told_size : Option Message → ℕ
+told_size None = 0
+told_size (Some m) = length (value_in m)
+
+-- Of how many of k instances from i on the values have room for so many bytes, up to the first that has not
+abbrev pub covered : ℕ → ℕ → Node → ℕ → ℕ → ℕ
+covered room p s zero i = 0
+covered room p s (suc k) i =
+    if nat_le (told_size (telling p s i)) room then suc (covered (room - told_size (telling p s i)) p s k (suc i))
+    else 0
+
+-- of how many instances from i on the telling is
+abbrev pub covered_from : ℕ → Node → ℕ → ℕ
+covered_from p s i = covered MAX_TOLD_BYTES p s MAX_TOLD i
+
 abbrev pub addressed : To → Message → To × Message
 addressed to m = (to, m)
 

@@ -3,15 +3,17 @@
 ghost use Rattle.std.specs.Prelude.{◌↔◌, IsTrue};
 ghost use Rattle.server_pace.specs.Questioning.{Asks, Tells};
 
-use node::MAX_TOLD;
 
 /// What stands where a server may ask.
 #[derive(Clone, Copy, Debug, PartialEq, Eq, Drop)]
 pub struct Asking {
     /// So many values became known since it asked last.
     pub learned: u32,
-    /// It asked just now.
-    pub quick: bool,
+    /// It is behind, or a gap stands.
+    pub behind: bool,
+    pub gap: bool,
+    /// Its time to ask again has passed.
+    pub waited: bool,
     /// Nothing waits to be received.
     pub drained: bool,
     /// Nobody was seen to try a value since it asked last, or what it tried itself is known, and more is on its record.
@@ -27,8 +29,8 @@ impl Asking {
         ensures { IsTrue result ↔ Asks self }
     {
         self.passed
-            || (self.learned >= MAX_TOLD && self.quick)
-            || (self.learned != 0 && self.drained && self.calm)
+            || (self.learned != 0 && self.drained && (self.calm || self.behind))
+            || (self.learned == 0 && self.drained && self.gap && self.waited)
     }
 }
 

@@ -47,14 +47,14 @@ impl Due {
                 LastCall::Keep { first, count }
             };
         }
-        if let Some((to, first)) = self.telling {
-            return LastCall::Tell { to, first };
+        if self.tick || self.goes_on {
+            return LastCall::TickOrAsk;
         }
         if self.question {
             return LastCall::Ask;
         }
-        if self.tick || self.goes_on {
-            return LastCall::TickOrAsk;
+        if let Some((to, first)) = self.telling {
+            return LastCall::Tell { to, first };
         }
         if self.yields {
             return LastCall::Nothing;

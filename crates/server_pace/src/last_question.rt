@@ -16,6 +16,8 @@ pub struct LastQuestion {
     pub known: u32,
     /// Somebody was seen to try a value since.
     pub tried: bool,
+    /// So many questions in a row were for one instance, this one aside.
+    pub again: u32,
 }
 
 impl LastQuestion {
@@ -27,6 +29,7 @@ impl LastQuestion {
             at: None,
             known: 0,
             tried: false,
+            again: 0,
         }
     }
 
@@ -35,11 +38,17 @@ impl LastQuestion {
     pub fn asking(self, times: Times, now: u64, seen: Seen, empty: u32, more: bool) -> Asking
         ensures { result ≡ asking_of self times now seen empty more }
     {
+        let most = times.asks_after(empty);
+        let wait = (crate::course::digit(times, 1000).max(1) * (u64::from(self.again) + 1)).min(most);
+        let behind = seen.reached >= seen.known.saturating_add(64);
+        let calm = !self.tried || more;
         Asking {
             learned: seen.known.saturating_sub(self.known),
-            quick: !has_passed(self.at, now, times.quick),
+            behind,
+            gap: behind || (calm && seen.reached > seen.known) || seen.known == 0,
+            waited: has_passed(self.at, now, wait),
             drained: seen.drained,
-            calm: !self.tried || more,
+            calm,
             passed: has_passed(self.at, now, times.asks_after(empty)),
         }
     }

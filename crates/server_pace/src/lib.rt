@@ -2,6 +2,7 @@
 #![tactic(auto)]
 
 mod asking;
+mod course;
 mod due;
 mod keeping;
 mod last_question;
@@ -14,6 +15,7 @@ mod ticking;
 mod yielding;
 
 pub use asking::{Asking, Telling};
+pub use course::Course;
 pub use due::Due;
 pub use keeping::Keeping;
 pub use last_question::LastQuestion;

@@ -50,6 +50,8 @@ pub struct Pace {
     // the furthest instance at which its record had a vote as it began
     recorded: u32,
     yielding: Yielding,
+    // the last call was a telling
+    told: bool,
 }
 
 impl Pace {
@@ -71,6 +73,7 @@ impl Pace {
             me,
             recorded,
             yielding: Yielding::new(),
+            told: false,
         }
     }
 
@@ -99,9 +102,8 @@ impl Pace {
     {
         let seen = Seen::of(node, self.me, self.recorded, drained);
         let block = self.next_block(now, seen.known);
-        let telling = self.next_telling(now, node, seen, block.is_some());
         let tries = first_tried_by(node, seen.known);
-        self.call(now, seen, tries, block, telling)
+        self.call(now, seen, tries, block, node)
     }
 
     /// From which instance on, and how many, are put on record next, if any.
@@ -109,25 +111,6 @@ impl Pace {
         ensures { IsNextBlock (owed_at self.now.keeping now known) self.now.times now known result }
     {
         self.keeping.noted(now, known).next(self.times, now, known)
-    }
-
-    /// The next telling, unless a value is fresh, or what is known is put on record: then it waits.
-    fn next_telling<D: Disk>(
-        &mut self,
-        now: u64,
-        node: &Node<D>,
-        seen: Seen,
-        keeps: bool,
-    ) -> Option<(NodeId, Instance)>
-        ensures told { (s : AbstractNode) → IsNodeOf node.now s → IsTelling self.old node.now.cluster s now seen.wanted keeps result self.new.questions }
-        ensures same { self.new ≡ record self.old { questions = self.new.questions } }
-        ensures waits { IsFresh self.old.ticking seen.wanted self.old.stirred → (result ≡ None) × (self.new ≡ self.old) }
-    {
-        if keeps || self.ticking.is_fresh(seen.wanted, self.stirred) {
-            return None;
-        }
-        let calm = !self.last.tried;
-        self.questions.next(self.times, now, node, calm)
     }
 
     /// Whether a value was just submitted that is tried at once: it does not yield to another server.
@@ -144,18 +127,14 @@ impl Pace {
         self.answered.len() >= usize::from(self.cluster.quorum())
     }
 
-    /// What is called behind the turns of the next batch, where so much is seen and this telling is due. What is called counts from now on.
-    fn call(
+    fn call<D: Disk>(
         &mut self,
         now: u64,
         seen: Seen,
         tries: Option<NodeId>,
         block: Option<(Instance, u32)>,
-        telling: Option<(NodeId, Instance)>,
+        node: &Node<D>,
     ) -> LastCall
-        ensures due { (due : Due) × IsDue self.old now seen tries block telling due × (result ≡ call_behind due) × (self.new ≡ pace_after self.old now seen tries due result) }
-        ensures fresh { IsFresh self.old.ticking seen.wanted self.old.stirred → ¬ IsYielding self.old now tries → result ≡ TickOrAsk }
-        ensures news { ¬ IsFresh self.old.ticking seen.wanted self.old.stirred → block ≡ None → telling ≡ None → self.old.last.known < seen.known → seen.drained ≡ true → self.old.last.tried ≡ false → result ≡ Ask }
     {
         let (me, times) = (self.me, self.times);
         self.yielding.note(now, tries);
@@ -168,10 +147,10 @@ impl Pace {
         let tick = self.ticking.is_due(now, self.patience, times, seen.stake);
         let asking = self.last.asking(self.times, now, seen, self.empty, more);
         self.keeping = self.keeping.noted(now, seen.known);
-        let due = Due {
+        let mut due = Due {
             fresh,
             block,
-            telling,
+            telling: None,
             question: asking.is_due(),
             tick,
             answered: self.is_answered(),
@@ -179,6 +158,13 @@ impl Pace {
             waits,
             yields,
         };
+        let held = fresh || block.is_some() || due.question || tick || due.goes_on || self.told;
+        self.told = false;
+        if !held {
+            let calm = !self.last.tried;
+            due.telling = self.questions.next(times, now, node, me, calm);
+            self.told = due.telling.is_some();
+        }
         let last = due.last_call();
         self.begin(now, seen.known, &due, &last);
         self.stirred = false;
@@ -210,6 +196,7 @@ impl Pace {
                     at: Some(now),
                     known,
                     tried: false,
+                    again: if known == self.last.known { self.last.again.saturating_add(1) } else { 0 },
                 };
             }
             LastCall::TickOrAsk => {

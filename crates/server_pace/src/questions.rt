@@ -7,7 +7,7 @@ ghost use Rattle.site_ids.specs.Ids.{IsNode};
 ghost use Rattle.server_pace.specs.Questioning.{newer, no_questions, AreAsked, IsFirstAsked, IsFull, Tells, TellsNext};
 ghost use Rattle.server_times.specs.Timing.{passed};
 
-use crate::asking::Telling;
+use crate::course::Course;
 use node::{MAX_TOLD, Node};
 use server_times::{Times, has_passed};
 use site_disk::Disk;
@@ -19,6 +19,8 @@ use site_ids::{Cluster, Instance, NodeId};
 pub struct Questions {
     asked: [Option<Instance>; 9],
     told: [Option<u64>; 9],
+    courses: [Option<Course>; 9],
+    last: u8,
 }
 
 /// Whether there is something to tell of the last instance of a telling.
@@ -59,6 +61,8 @@ impl Questions {
         Questions {
             asked: [None; 9],
             told: [None; 9],
+            courses: [None; 9],
+            last: 0,
         }
     }
 
@@ -70,54 +74,86 @@ impl Questions {
         self.asked = newer_each(&self.asked, delivered.questions());
     }
 
-    /// The first node whose question waits, and the instance that it was for. By that it is forgotten.
-    fn take_first(&mut self, cluster: Cluster) -> Option<(NodeId, Instance)>
-        ensures some { IfSome result (λ x. IsNode cluster x.0 × IsFirstAsked self.old.asked x.0 x.1 × (self.new.asked ≡ set self.old.asked (x.0 - 1) None)) }
-        ensures none { IfNone result ((self.new ≡ self.old) × ((p : ℕ) → IsNode cluster p → get_or self.old.asked (p - 1) None ≡ None)) }
-        ensures told { self.new.told ≡ self.old.told }
-    {
-        for number in 1..=cluster.size() {
-            let to = cluster.node(number)?;
-            let at = usize::from(number) - 1;
-            if let Some(asked) = self.asked[at] {
+    /// Each question that waits changes how far its node is told.
+    fn take_in<D: Disk>(&mut self, times: Times, now: u64, node: &Node<D>) {
+        for at in 0..9 {
+            if let Some(instance) = self.asked[at] {
                 self.asked[at] = None;
-                return Some((to, asked));
+                let count = node.tells(instance);
+                let instance = instance.number();
+                self.courses[at] = Some(match self.courses[at] {
+                    Some(course) => course.heard(times, now, instance, count),
+                    None => Course::new(times, now, instance),
+                });
             }
         }
-        None
     }
 
-    /// Whom a node tells, and from which instance on: the first one whose question waits, from what it asked
-    /// for on. That may have become known behind the question, and then no answer
-    /// told it. By that the question is forgotten, whether its telling is due or not.
+    /// Whom a node tells, and from which instance on.
     pub(crate) fn next<D: Disk>(
         &mut self,
         times: Times,
         now: u64,
         node: &Node<D>,
+        me: NodeId,
         calm: bool,
-    ) -> Option<(NodeId, Instance)>
-        ensures { (s : AbstractNode) → IsNodeOf node.now s → TellsNext self.old times node.now.cluster s now calm result self.new }
-    {
-        let (to, first) = self.take_first(node.cluster())?;
-        let full = is_full(node, first);
-        self.tells(times, now, to, full, calm)
-            .then_some((to, first))
+    ) -> Option<(NodeId, Instance)> {
+        self.take_in(times, now, node);
+        let size = node.cluster().size();
+        for step in 1..=size {
+            let number = (self.last + step - 1) % size + 1;
+            let to = node.cluster().node(number)?;
+            if let Some(first) = self.tells(times, now, node, me, to, calm) {
+                self.last = number;
+                return Some((to, first));
+            }
+        }
+        None
     }
 
-    /// Whether a telling to a node is due, which is of all 64 instances or less, while nobody tries a value or somebody does. The time of one that is of less
-    /// counts from now on.
-    fn tells(&mut self, times: Times, now: u64, to: NodeId, full: bool, calm: bool) -> bool
-        ensures due { IsTrue result ↔ Tells (record { full = full; calm = calm; passed = passed (get_or self.old.told (to - 1) None) now times.telling }) }
-        ensures counts { self.new ≡ record self.old { told = if result && not full then set self.old.told (to - 1) (Some now) else self.old.told } }
-    {
+    fn tells<D: Disk>(
+        &mut self,
+        times: Times,
+        now: u64,
+        node: &Node<D>,
+        me: NodeId,
+        to: NodeId,
+        calm: bool,
+    ) -> Option<Instance> {
         let at = usize::from(to.number()) - 1;
+        let course = self.courses[at]?;
+        let first = Instance::new(course.next)?;
+        let asked = course.asked;
+        self.courses[at] = Some(Course { asked: false, ..course });
+        let count = node.tells(first);
+        if !course.is_open(count) {
+            return None;
+        }
+        let known = first.number() <= node.known();
+        if known && !has_turn(times, node.cluster().size(), to.number(), me.number(), course.repeats) {
+            return None;
+        }
+        let full = is_full(node, first);
         let passed = has_passed(self.told[at], now, times.telling);
-        let telling = Telling { full, calm, passed };
-        let due = telling.is_due();
-        if due && !full {
+        if !(full || (asked && (known || (calm && passed)))) {
+            return None;
+        }
+        if !full && !known {
             self.told[at] = Some(now);
         }
-        due
+        self.courses[at] = Some(course.told(if full { count } else { count.min((node.known() + 1).saturating_sub(first.number())) }));
+        Some(first)
     }
+}
+
+/// Whether it is this node's turn to tell one that asked, in a cluster of so many, after so many questions that brought nothing.
+fn has_turn(times: Times, size: u8, to: u8, me: u8, repeats: u32) -> bool {
+    let behind = (me + size - to) % size;
+    let mut most = repeats + 1;
+    match crate::course::digit(times, 100) {
+        1 => most = repeats.max(1),
+        2 => most = repeats + 2,
+        _ => {}
+    }
+    u32::from(behind) <= most
 }

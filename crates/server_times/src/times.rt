@@ -22,8 +22,11 @@ pub struct Times {
     pub asking: u64,
     /// The same where it is quiet.
     pub quiet_asking: u64,
-    /// Milliseconds in which 64 values that were on record come as answers to one question: what is decided meanwhile takes longer (`LastQuestion`).
-    pub quick: u64,
+    /// Milliseconds after which a node that nothing new came to asks again, the first time (`LastQuestion`).
+    pub again: u64,
+    /// So many instances past its last question a node is told of, at first and at most (`Course`).
+    pub least: u32,
+    pub most: u32,
     /// Milliseconds between two tellings to one server of less than 64 instances (`Questions`).
     pub telling: u64,
     /// Milliseconds that a value which became known waits to be put on record, at most: others that become known meanwhile share its seal (`Keeping`).
@@ -74,7 +77,9 @@ const STANDARD: Times = Times {
     leaving: 15_000,
     asking: 400,
     quiet_asking: 800,
-    quick: 20,
+    again: 5,
+    least: 64,
+    most: 4096,
     telling: 400,
     keeping: 100,
     block: 1024,
