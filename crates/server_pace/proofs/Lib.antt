@@ -1,1 +1,2 @@
 pub mod OpenAttempts
+pub mod NextTold

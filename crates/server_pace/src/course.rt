@@ -1,137 +1,142 @@
 //! How far a node is told that asked.
 
+ghost use Rattle.std.specs.Prelude.{◌≡◌, Some};
+ghost use Rattle.server_pace.specs.Courses.{asked_again, first_course, flight_by, heard_on, is_open, moved_on, stretches_to, told_on};
+
+use node::MAX_TOLD;
 use server_times::{Times, has_passed};
+use site_ids::Instance;
 
 /// What another node asked for last, and how far it was told since.
+///
+/// It is told stretch after stretch. How many may be on their way grows while it asks further on, and shrinks when it asks again for what it was told: so
+/// the line is kept full, and no fuller.
 #[derive(Clone, Copy, Debug, PartialEq, Eq, Drop)]
 pub struct Course {
-    /// The instance of its last question.
+    /// The number of the instance that it asked for last.
     pub first: u32,
-    /// From there on it is told next.
+    /// From that instance on it is told next.
     pub next: u32,
-    /// What is told again ends there, and goes on at the front.
-    pub until: u32,
-    pub front: u32,
-    /// So many tellings past the first instance.
+    /// So many stretches from the first instance on may be on their way.
     pub budget: u32,
     /// So many questions in a row came no further on than the one before.
     pub repeats: u32,
-    /// When its last question was heard.
+    /// When its last question was heard, in milliseconds since the server began.
     pub at: u64,
-    /// Since when it is told from the first on, until it asks further on.
+    /// Since when it is told from the first instance on, until it asks further on.
     pub began: Option<u64>,
     /// How many milliseconds that took the last time.
     pub took: u64,
-    /// A question waits for a telling.
+    /// It was told nothing since its last question.
     pub asked: bool,
 }
 
-pub fn digit(times: Times, place: u64) -> u64 {
-    times.serve_ms.unwrap_or(0) / place % 10
-}
-
 impl Course {
-    /// That of a node that asks for this instance, of which nothing was heard before.
-    pub fn new(times: Times, now: u64, instance: u32) -> Course {
+    /// That of a node which asks for this instance, and of which nothing was heard before.
+    pub fn new(times: Times, now: u64, instance: Instance) -> Course
+        ensures { result ≡ first_course times now instance }
+    {
         Course {
-            first: instance,
-            next: instance,
-            until: instance,
-            front: instance,
-            budget: digit(times, 10_000).max(1) as u32,
+            first: instance.number(),
+            next: instance.number(),
+            budget: times.least,
             repeats: 0,
             at: now,
             began: Some(now),
-            took: 20,
+            took: times.flight,
             asked: true,
         }
     }
 
-    fn moved(self, times: Times, now: u64, instance: u32, count: u32) -> Course {
+    /// By how many stretches an instance is further on than the last that was asked for.
+    fn stretches_to(self, instance: u32) -> u32
+        ensures { result ≡ stretches_to self instance }
+    {
         let further = instance.saturating_sub(self.first);
-        let took = match self.began {
+        further.saturating_sub(1) / MAX_TOLD + 1
+    }
+
+    /// How long it took to ask further on.
+    fn flight_by(self, now: u64) -> u64
+        ensures { result ≡ flight_by self.began now self.took }
+    {
+        match self.began {
             Some(began) => now.saturating_sub(began),
             None => self.took,
-        };
-        let front = self.front.max(instance);
-        let next = if instance >= self.until || self.next >= self.front { front } else { self.next.max(instance) };
+        }
+    }
+
+    /// It asked further on.
+    fn moved_on(self, times: Times, now: u64, instance: u32) -> Course
+        ensures { result ≡ moved_on times now instance self }
+    {
+        let more = self.budget.saturating_add(self.stretches_to(instance));
         Course {
             first: instance,
-            next,
-            until: self.until,
-            front,
-            budget: self.budget.saturating_add((further / count.max(1)).max(1)).min(64),
+            next: self.next.max(instance),
+            budget: more.min(times.most),
             repeats: 0,
             at: now,
             began: None,
-            took,
+            took: self.flight_by(now),
             asked: true,
         }
     }
 
-    fn repeated(self, times: Times, now: u64, instance: u32, count: u32) -> Course {
-        let back = Course {
+    /// It asked again, for what an answer to its last question does not bring it past.
+    fn asked_again(self, times: Times, now: u64, instance: u32) -> Course
+        ensures { result ≡ asked_again times now instance self }
+    {
+        let again = Course {
             first: instance,
             next: self.next.max(instance),
-            front: self.front.max(instance),
             repeats: self.repeats.saturating_add(1),
             at: now,
             asked: true,
             ..self
         };
-        let flight = if digit(times, 100_000) == 0 { self.took.saturating_mul(2) } else { self.took + self.took / 4 + 5 };
-        if !has_passed(self.began, now, flight) {
-            return back;
+        if !has_passed(self.began, now, self.took.saturating_mul(2)) {
+            return again;
         }
-        let least = digit(times, 10_000).max(1) as u32;
-        let budget = match digit(times, 1) {
-            0 => self.budget / 2,
-            1 => self.budget - self.budget / 4,
-            2 => self.budget,
-            _ => self.budget - self.budget / 8,
-        };
-        let tells = match digit(times, 10) {
-            0 => 1000,
-            9 => 1,
-            8 => 2,
-            7 => 4,
-            k => (self.budget / k as u32).max(1),
-        };
         Course {
             next: instance,
-            until: instance.saturating_add(tells * count),
-            budget: budget.max(least),
+            budget: (self.budget - self.budget / 4).max(times.least),
             began: Some(now),
-            ..back
+            ..again
         }
     }
 
     /// What stands where it asks for this instance.
-    pub fn heard(self, times: Times, now: u64, instance: u32, count: u32) -> Course {
-        if instance > self.first.saturating_add(1) {
-            return self.moved(times, now, instance, count);
+    pub fn heard(self, times: Times, now: u64, instance: Instance) -> Course
+        ensures { result ≡ heard_on times now instance self }
+    {
+        let number = instance.number();
+        if number > self.first.saturating_add(1) {
+            return self.moved_on(times, now, number);
         }
-        if instance >= self.first {
-            return self.repeated(times, now, instance, count);
+        if number >= self.first {
+            return self.asked_again(times, now, number);
         }
-        if has_passed(Some(self.at), now, times.telling) {
+        if has_passed(Some(self.at), now, times.late) {
             return Course::new(times, now, instance);
         }
         self
     }
 
-    /// Whether it may be told further on, before it asks again.
-    pub fn is_open(self, count: u32) -> bool {
-        self.next.saturating_sub(self.first) <= (self.budget - 1) * count
+    /// Whether a telling of so many instances may set out now.
+    pub fn is_open(self, count: u32) -> bool
+        ensures { result ≡ is_open self count }
+    {
+        let ahead = self.next.saturating_sub(self.first);
+        ahead <= self.budget.saturating_sub(1).saturating_mul(count)
     }
 
-    /// It was told of so many instances.
-    pub fn told(self, count: u32) -> Course {
-        let next = self.next.saturating_add(count);
-        let front = self.front.max(next);
+    /// It is told of so many instances.
+    pub fn told(self, count: u32) -> Course
+        ensures { result ≡ told_on self count }
+    {
         Course {
-            next: if next >= self.until { front } else { next },
-            front,
+            next: self.next.saturating_add(count),
             asked: false,
             ..self
         }

@@ -1,20 +1,20 @@
 //! When a server tries again, when it asks and tells, and how long it rests: all of it numbers.
 
-ghost use Rattle.std.specs.Prelude.{◌≡◌, ◌↔◌, ◌⊎◌, ◌<◌, ℕ, suc, Option, IsSome, IsTrue, IfSome, Some, None, true, false, if◌then◌else◌};
+ghost use Rattle.std.specs.Prelude.{◌≡◌, ◌↔◌, ◌⊎◌, ◌<◌, ◌||◌, ℕ, suc, Option, IsSome, IsTrue, IfSome, Some, None, true, false, if◌then◌else◌};
 ghost use Rattle.node.specs.Nodes.{Node as AbstractNode, WantsTick};
 ghost use Rattle.node.specs.Standing.{IsNodeOf};
 ghost use Rattle.server_pace.specs.declared.due.Due.{Due};
 ghost use Rattle.server_pace.specs.declared.seen.Seen.{Seen};
 ghost use Rattle.site_drive.specs.declared.last_call.LastCall.TheVariants.{Ask, TickOrAsk};
 ghost use Rattle.server_pace.specs.Keeping.{keeping_after, owed_at, IsNextBlock};
-ghost use Rattle.server_pace.specs.Pacing.{answers_after, empty_after, first_pace, heard, pace_after, question_after, resting_of, ticking_after, IsAnswered, CallsDue, HearsBatch, IsDue, IsFresh, IsTelling, IsUntried, IsYielding};
+ghost use Rattle.server_pace.specs.Pacing.{answers_after, called, empty_after, first_pace, heard, noticed, pace_after, question_after, resting_of, ticking_after, IsAnswered, CallsDue, HearsBatch, IsDue, IsFresh, IsTelling, IsUntried, IsYielding};
 ghost use Rattle.server_times.specs.Timing.{rest_after};
-ghost use Rattle.server_pace.specs.Turns.{call_behind};
+ghost use Rattle.server_pace.specs.Turns.{call_behind, goes_first, is_telling};
 
 use crate::due::Due;
 use crate::keeping::Keeping;
 use crate::last_question::LastQuestion;
-use crate::questions::Questions;
+use crate::questions::{Questions, Teller};
 use crate::resting::Resting;
 use crate::seen::{Seen, first_tried_by};
 use crate::ticking::Ticking;
@@ -54,6 +54,13 @@ pub struct Pace {
     told: bool,
 }
 
+/// Whether it is a telling.
+fn is_telling(last: &LastCall) -> bool
+    ensures { result ≡ is_telling last.now }
+{
+    matches!(last, LastCall::Tell { .. })
+}
+
 impl Pace {
     /// That of a server which begins, over a record whose furthest vote is at that instance, or 0: it is quiet.
     pub fn new(times: Times, cluster: Cluster, me: NodeId, recorded: u32) -> Pace
@@ -66,7 +73,7 @@ impl Pace {
             ticking: Ticking::new(),
             answered: NodeSet::new(),
             last: LastQuestion::never(),
-            questions: Questions::new(),
+            questions: Questions::new(me),
             keeping: Keeping::new(),
             stirred: false,
             empty: times.quiet,
@@ -103,7 +110,10 @@ impl Pace {
         let seen = Seen::of(node, self.me, self.recorded, drained);
         let block = self.next_block(now, seen.known);
         let tries = first_tried_by(node, seen.known);
-        self.call(now, seen, tries, block, node)
+        let due = self.notice(now, seen, tries, block);
+        let waits = self.tells_nobody(&due);
+        let telling = self.next_telling(now, node, seen.known, waits);
+        self.call(now, seen.known, Due { telling, ..due })
     }
 
     /// From which instance on, and how many, are put on record next, if any.
@@ -111,6 +121,37 @@ impl Pace {
         ensures { IsNextBlock (owed_at self.now.keeping now known) self.now.times now known result }
     {
         self.keeping.noted(now, known).next(self.times, now, known)
+    }
+
+    /// Whether nobody is told, where that is due: somebody was in the last step, or something goes before a telling.
+    fn tells_nobody(&self, due: &Due) -> bool
+        ensures { result ≡ (self.now.told || goes_first due.now) }
+    {
+        self.told || due.goes_first()
+    }
+
+    /// The next telling, unless it waits.
+    fn next_telling<D: Disk>(
+        &mut self,
+        now: u64,
+        node: &Node<D>,
+        known: u32,
+        waits: bool,
+    ) -> Option<(NodeId, Instance)>
+        ensures told { (s : AbstractNode) → IsNodeOf node.now s → IsTelling self.old node.now.cluster s now known waits result self.new.questions }
+        ensures same { self.new ≡ record self.old { questions = self.new.questions } }
+    {
+        if waits {
+            return None;
+        }
+        let teller = Teller {
+            times: self.times,
+            at: now,
+            me: self.me,
+            known,
+            calm: !self.last.tried,
+        };
+        self.questions.next(&teller, node)
     }
 
     /// Whether a value was just submitted that is tried at once: it does not yield to another server.
@@ -127,14 +168,16 @@ impl Pace {
         self.answered.len() >= usize::from(self.cluster.quorum())
     }
 
-    fn call<D: Disk>(
+    /// What is due but tellings, where so much is seen.
+    fn notice(
         &mut self,
         now: u64,
         seen: Seen,
         tries: Option<NodeId>,
         block: Option<(Instance, u32)>,
-        node: &Node<D>,
-    ) -> LastCall
+    ) -> Due
+        ensures due { IsDue self.old now seen tries block None result }
+        ensures noticed { self.new ≡ noticed self.old now seen tries result }
     {
         let (me, times) = (self.me, self.times);
         self.yielding.note(now, tries);
@@ -147,7 +190,7 @@ impl Pace {
         let tick = self.ticking.is_due(now, self.patience, times, seen.stake);
         let asking = self.last.asking(self.times, now, seen, self.empty, more);
         self.keeping = self.keeping.noted(now, seen.known);
-        let mut due = Due {
+        Due {
             fresh,
             block,
             telling: None,
@@ -157,17 +200,18 @@ impl Pace {
             goes_on: self.ticking.goes_on(),
             waits,
             yields,
-        };
-        let held = fresh || block.is_some() || due.question || tick || due.goes_on || self.told;
-        self.told = false;
-        if !held {
-            let calm = !self.last.tried;
-            due.telling = self.questions.next(times, now, node, me, calm);
-            self.told = due.telling.is_some();
         }
+    }
+
+    /// What is called where that is due and so many values are known. It counts from now on.
+    fn call(&mut self, now: u64, known: u32, due: Due) -> LastCall
+        ensures called { result ≡ call_behind due }
+        ensures after { self.new ≡ called self.old now known due result }
+    {
         let last = due.last_call();
-        self.begin(now, seen.known, &due, &last);
+        self.begin(now, known, &due, &last);
         self.stirred = false;
+        self.told = is_telling(&last);
         last
     }
 
@@ -196,7 +240,7 @@ impl Pace {
                     at: Some(now),
                     known,
                     tried: false,
-                    again: if known == self.last.known { self.last.again.saturating_add(1) } else { 0 },
+                    again: self.last.again_after(known),
                 };
             }
             LastCall::TickOrAsk => {

@@ -14,7 +14,7 @@ use site_ids::{Instance, NodeId};
 pub struct Seen {
     /// So many values are known.
     pub known: u32,
-    /// The furthest instance that messages were of.
+    /// The furthest instance that messages were of, questions and refusals aside; 0 before the first.
     pub reached: u32,
     /// A tick is wanted.
     pub wanted: bool,

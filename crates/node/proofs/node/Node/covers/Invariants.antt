@@ -10,7 +10,7 @@ invariant-loop-past g l = record {
   within : l.past ≤ 64;
   left : ℕ;
   counted : l.past + left ≡ 64;
-  so_far : (s : Node) → IsNodeOf l.self s → covered_from l.self.me s l.first ≡ l.past + covered l.room l.self.me s left (l.first + l.past);
+  so_far : (s : Node) → IsNodeOf l.self s → covered_from s l.first ≡ l.past + covered l.room s left (l.first + l.past);
 }
 
 abbrev pub decreases-loop-past : goal.decreases-loop-past
