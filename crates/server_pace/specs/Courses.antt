@@ -37,7 +37,7 @@ abbrev pub asked_again : Times → ℕ → ℕ → Course → Course
 asked_again times now i c =
     let again = record c { first = i; next = max c.next i; repeats = min (c.repeats + 1) (2 ^ 32 - 1); at = now; asked = true } in
     if passed c.began now (min (2 * c.took) (2 ^ 64 - 1))
-    then record again { next = i; budget = max (c.budget - c.budget / 4) times.least; began = Some now }
+    then record again { next = i; budget = max (min (c.budget * 3) (2 ^ 32 - 1) / 4) times.least; began = Some now }
     else again
 
 -- it asked for instance i; a question for an earlier one comes late, or begins anew

@@ -54,6 +54,8 @@ pub struct Telling {
     pub asked: bool,
     /// The first of the instances is known.
     pub known: bool,
+    /// It is the one that its node asked for.
+    pub first: bool,
     /// Nobody was seen to try a value since the teller asked last.
     pub calm: bool,
     /// It is the teller's turn.
@@ -65,7 +67,7 @@ impl Telling {
     fn has_news(self) -> bool
         ensures { IsTrue result ↔ HasNews self }
     {
-        self.full || (self.asked && (self.known || self.calm))
+        self.full || (self.asked && (self.known || (self.calm && self.first)))
     }
 
     /// Votes are told by each node, as a majority of them counts, and what is known by the one whose turn it is.

@@ -100,7 +100,7 @@ impl Course {
         }
         Course {
             next: instance,
-            budget: (self.budget - self.budget / 4).max(times.least),
+            budget: (self.budget.saturating_mul(3) / 4).max(times.least),
             began: Some(now),
             ..again
         }

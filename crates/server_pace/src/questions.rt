@@ -180,6 +180,7 @@ impl Questions {
             full: is_full(node, first),
             asked: course.asked,
             known: course.next <= teller.known,
+            first: course.next <= course.first,
             calm: teller.calm,
             turn: self
                 .present

@@ -26,13 +26,13 @@ returns-clause-due g c = λ s h.
     let was : mid ≡ noticed old now seen tries noted = c.notice-due.ensures.noticed in
     let asked = c.next_telling-telling.new.self.questions in
     let after : c.call.new.self ≡ record (pace_after old now seen tries due c.call.result) { questions = asked } =
-        c.call.ensures.after
-        ∙ ap (λ (p : Pace). called p now seen.known due c.call.result) c.next_telling-telling.ensures.same
-        ∙ ap (λ (p : Pace). called (record p { questions = asked }) now seen.known due c.call.result) was in
+    c.call.ensures.after
+    ∙ ap (λ (p : Pace). called p now seen.known due c.call.result) c.next_telling-telling.ensures.same
+    ∙ ap (λ (p : Pace). called (record p { questions = asked }) now seen.known due c.call.result) was in
     let same : c.call.new.self.questions ≡ asked = ap (λ (p : Pace). p.questions) after in
     let told : IsTelling old c.args.node.now.cluster s now seen.known (old.told || goes_first due) telling asked =
-        subst (λ (p : Pace). IsTelling p c.args.node.now.cluster s now seen.known (p.told || goes_first due) telling asked) was
-        (subst (λ w. IsTelling mid c.args.node.now.cluster s now seen.known w telling asked) c.tells_nobody-waits.ensures (c.next_telling-telling.ensures.told s h)) in
+    subst (λ (p : Pace). IsTelling p c.args.node.now.cluster s now seen.known (p.told || goes_first due) telling asked) was
+    (subst (λ w. IsTelling mid c.args.node.now.cluster s now seen.known w telling asked) c.tells_nobody-waits.ensures (c.next_telling-telling.ensures.told s h)) in
     record {
       seen = seen;
       tries = tries;
