@@ -6,3 +6,4 @@ pub mod Questioning
 pub mod Turns
 pub mod Returning
 pub mod Pacing
+pub mod Laws
