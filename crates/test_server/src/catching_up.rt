@@ -1,6 +1,6 @@
 //! A server that is behind catches up, however bad the network.
 use crate::comparing::{ensure, same};
-use crate::far::Far;
+use crate::far::{Far, release};
 use crate::group::{Group, turn};
 use std::alloc::Global;
 use std::process::Abort;
@@ -66,7 +66,7 @@ fn behind(
 fn catches_up(rt: &impl Abort, far: &mut Far, size: u8, bound: u64) -> u64 {
     let since = far.group.now;
     for _ in 0..=bound {
-        if far.group.server(rt, size).served.node.known() == KNOWN {
+        if far.group.server(rt, size).served.node.known() >= KNOWN {
             break;
         }
         far.goes_on(rt, size);
@@ -100,6 +100,15 @@ fn a_server_catches_up_in_time(rt: HostRuntime) {
         let millis = catches_up(&rt, &mut far, size, bound);
         ensure(&rt, millis <= bound, (size, takes, away, millis));
     }
+}
+
+#[test]
+fn a_value_of_its_own_keeps_nobody_back(rt: HostRuntime) {
+    let mut far = behind(&rt, rt.alloc(), 3, 10, &[], &[]);
+    let value = release(&rt, rt.alloc(), 3);
+    far.submit(&rt, 3, &value);
+    let millis = catches_up(&rt, &mut far, 3, 2_000);
+    ensure(&rt, millis <= 1_000, millis);
 }
 
 /// In the name of a server another one is asked for the first instance.

@@ -33,7 +33,7 @@ pub(crate) struct Far {
 }
 
 /// A release that an editor of that number submits.
-fn release(rt: &impl Abort, alloc: Global, editor: u8) -> Value {
+pub(crate) fn release(rt: &impl Abort, alloc: Global, editor: u8) -> Value {
     let ticket = Ticket {
         editor: u32::from(editor),
         number: 1,
@@ -73,7 +73,7 @@ impl Far {
     }
 
     /// It is submitted to the server of that number.
-    fn submit(&mut self, rt: &impl Abort, number: u8, value: &Value) {
+    pub(crate) fn submit(&mut self, rt: &impl Abort, number: u8, value: &Value) {
         let done = self.group.server(rt, number).served.node.submit(value);
         same(rt, (number, done), (number, Ok(Submitted::Queued)));
     }
