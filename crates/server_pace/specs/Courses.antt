@@ -31,8 +31,8 @@ moved_on times now i c = record c {
   asked = true;
 }
 
--- It asked once more for the same, or for the one after it, which an answer to the question brings. What it was told may be on its way still; else it is
--- told from there on again, and a quarter less may be on its way
+-- It asked once more for the same, or for the one after it, which an answer to the question brings. What it
+-- was told may be on its way still; else it is told from there on again, and a quarter less may be on its way
 abbrev pub asked_again : Times → ℕ → ℕ → Course → Course
 asked_again times now i c =
     let again = record c { first = i; next = max c.next i; repeats = min (c.repeats + 1) (2 ^ 32 - 1); at = now; asked = true } in

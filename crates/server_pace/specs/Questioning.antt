@@ -38,7 +38,8 @@ Asks a = (a.passed ≡ true) ⊎ ((a.drained ≡ true) × (GoesFurther a ⊎ Ask
 abbrev pub is_behind : Seen → Bool
 is_behind seen = nat_le (min (seen.known + MAX_TOLD) (2 ^ 32 - 1)) seen.reached
 
--- it is behind; or it knows nothing yet; or messages were of instances that it does not know, and nobody tries a value
+-- it is behind; or it knows nothing yet; or messages were of instances that it does not know, and nobody
+-- tries a value
 abbrev pub lacks : Seen → Bool → Bool
 lacks seen calm = is_behind seen || (nat_eq seen.known 0 || (calm && nat_lt seen.known seen.reached))
 
@@ -56,8 +57,8 @@ asking_of last times now seen empty more = record {
 
 -- ---- tellings
 
--- Something is to be told: all instances of a telling; or, as it asked, what is known; or what was voted for from the instance on that it asked for, where nobody
--- tries a value
+-- Something is to be told: all instances of a telling; or, as it asked, what is known; or what was voted for
+-- from the instance on that it asked for, where nobody tries a value
 abbrev pub HasNews : Telling → Type 0
 HasNews t = (t.full ≡ true) ⊎ ((t.asked ≡ true) × ((t.known ≡ true) ⊎ ((t.calm ≡ true) × (t.first ≡ true))))
 
@@ -93,7 +94,8 @@ pub record TakesIn (old : Questions) (times : Times) (now : ℕ) (new : Question
   pub noted : new.present.came ≡ no_nodes
   pub last : new.last ≡ old.last
 
--- so many values are known: of those from instance i on that a telling covers, none past the last of them are told
+-- so many values are known: of those from instance i on that a telling covers, none past the last of them are
+-- told
 abbrev pub told_count : ℕ → ℕ → ℕ → ℕ
 told_count known i count = if nat_le i known then min count (known - i + 1) else count
 

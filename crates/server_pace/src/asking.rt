@@ -23,9 +23,9 @@ pub struct Asking {
 }
 
 impl Asking {
-    /// A question that brought something is followed by the next once all of that came, where nobody tries a value or
-    /// the server is behind. One that brought nothing is asked again in a while, where something is missing. Any other
-    /// comes only after its time.
+    /// A question that brought something is followed by the next once all of that came, where nobody tries a
+    /// value or the server is behind. One that brought nothing is asked again in a while, where something is
+    /// missing. Any other comes only after its time.
     pub fn is_due(self) -> bool
         ensures { IsTrue result ↔ Asks self }
     {
@@ -63,14 +63,16 @@ pub struct Telling {
 }
 
 impl Telling {
-    /// Whether there is news: of all the instances; or, for a question, of what is known, and of votes where nobody tries a value.
+    /// Whether there is news: of all the instances; or, for a question, of what is known, and of votes where
+    /// nobody tries a value.
     fn has_news(self) -> bool
         ensures { IsTrue result ↔ HasNews self }
     {
         self.full || (self.asked && (self.known || (self.calm && self.first)))
     }
 
-    /// Votes are told by each node, as a majority of them counts, and what is known by the one whose turn it is.
+    /// Votes are told by each node, as a majority of them counts, and what is known by the one whose turn it
+    /// is.
     pub fn is_due(self) -> bool
         ensures { IsTrue result ↔ Tells self }
     {

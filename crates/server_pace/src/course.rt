@@ -9,8 +9,8 @@ use site_ids::Instance;
 
 /// What another node asked for last, and how far it was told since.
 ///
-/// It is told stretch after stretch. How many may be on their way grows while it asks further on, and shrinks when it asks again for what it was told: so
-/// the line is kept full, and no fuller.
+/// It is told stretch after stretch. How many may be on their way grows while it asks further on, and shrinks
+/// when it asks again for what it was told: so the line is kept full, and no fuller.
 #[derive(Clone, Copy, Debug, PartialEq, Eq, Drop)]
 pub struct Course {
     /// The number of the instance that it asked for last.

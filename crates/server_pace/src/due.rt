@@ -30,10 +30,10 @@ pub struct Due {
 }
 
 impl Due {
-    /// A tick at once for a value that is fresh; else what is known is put on record, or a tick, a question or a telling
-    /// that is due; else nothing where it yields, and else widenings, so that the values that came since the
-    /// last batch share a prepare. A question that is due goes before what is put on record: its answer comes
-    /// while the disk writes, and what waited is due in the next batch.
+    /// A tick at once for a value that is fresh; else what is known is put on record, or a tick, a question
+    /// or a telling that is due; else nothing where it yields, and else widenings, so that the values that
+    /// came since the last batch share a prepare. A question that is due goes before what is put on record:
+    /// its answer comes while the disk writes, and what waited is due in the next batch.
     pub fn last_call(self) -> LastCall
         ensures { result ≡ call_behind self }
     {

@@ -29,7 +29,8 @@ fn is_behind(seen: Seen) -> bool
     seen.known.saturating_add(MAX_TOLD) <= seen.reached
 }
 
-/// Whether others know what this server does not, as far as that shows; somebody tries a value, or not (`calm`).
+/// Whether others know what this server does not, as far as that shows; somebody tries a value, or not
+/// (`calm`).
 fn lacks(seen: Seen, calm: bool) -> bool
     ensures { result ≡ lacks seen calm }
 {
@@ -49,7 +50,8 @@ impl LastQuestion {
         }
     }
 
-    /// How many questions in a row are for one instance, where the next one comes and so many values are known.
+    /// How many questions in a row are for one instance, where the next one comes and so many values are
+    /// known.
     pub(crate) fn again_after(self, known: u32) -> u32
         ensures { result ≡ again_after self known }
     {

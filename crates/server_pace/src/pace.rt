@@ -123,7 +123,8 @@ impl Pace {
         self.keeping.noted(now, known).next(self.times, now, known)
     }
 
-    /// Whether nobody is told, where that is due: somebody was in the last step, or something goes before a telling.
+    /// Whether nobody is told, where that is due: somebody was in the last step, or something goes before a
+    /// telling.
     fn tells_nobody(&self, due: &Due) -> bool
         ensures { result ≡ (self.now.told || goes_first due.now) }
     {

@@ -61,7 +61,8 @@ fn is_full<D: Disk>(node: &Node<D>, first: Instance) -> bool
     }
 }
 
-/// Of how many instances from that one on is told, where so many values are known, and the telling covers so many.
+/// Of how many instances from that one on is told, where so many values are known, and the telling covers so
+/// many.
 fn told_count(known: u32, first: u32, count: u32) -> u32
     ensures { result ≡ told_count known first count }
 {

@@ -22,19 +22,22 @@ pub struct Times {
     pub asking: u64,
     /// The same where it is quiet.
     pub quiet_asking: u64,
-    /// Milliseconds after which a server that knows no more than at its last question, and is behind, asks again the first time. It waits as much longer each
-    /// time after that (`LastQuestion`).
+    /// Milliseconds after which a server that knows no more than at its last question, and is behind, asks
+    /// again the first time. It waits as much longer each time after that (`LastQuestion`).
     pub again: u64,
-    /// A node is told of so many stretches past the instance of its last question, at first and at least (`Course`). A stretch is what one telling covers: 64
-    /// instances, or 65,536 bytes of values.
+    /// A node is told of so many stretches past the instance of its last question, at first and at least
+    /// (`Course`). A stretch is what one telling covers: 64 instances, or 65,536 bytes of values.
     pub least: u32,
     /// The same, at most.
     pub most: u32,
-    /// Milliseconds that a question and the first of its answers are taken to need, before any came (`Course`).
+    /// Milliseconds that a question and the first of its answers are taken to need, before any came
+    /// (`Course`).
     pub flight: u64,
-    /// Milliseconds after which an instance that was asked for before is no late datagram: the node that asks began anew (`Course`).
+    /// Milliseconds after which an instance that was asked for before is no late datagram: the node that asks
+    /// began anew (`Course`).
     pub late: u64,
-    /// Milliseconds without a message of a node after which it is taken to tell nobody anything (`Present`). A node asks more often.
+    /// Milliseconds without a message of a node after which it is taken to tell nobody anything (`Present`).
+    /// A node asks more often.
     pub silent: u64,
     /// Milliseconds that a value which became known waits to be put on record, at most: others that become known meanwhile share its seal (`Keeping`).
     pub keeping: u64,
@@ -150,8 +153,8 @@ impl Times {
         }
     }
 
-    /// How many milliseconds behind a question the next one comes, if it is behind and knows no more: after so many
-    /// questions in a row for one instance, and so many steps in which nothing came.
+    /// How many milliseconds behind a question the next one comes, if it is behind and knows no more: after
+    /// so many questions in a row for one instance, and so many steps in which nothing came.
     pub fn asks_again_after(self, again: u32, empty: u32) -> u64
         ensures is { result ≡ asks_again_after self again empty }
         ensures bound { result ≤ asks_after self empty }

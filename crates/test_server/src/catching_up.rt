@@ -62,7 +62,8 @@ fn behind(
     Far::new(group, takes, 1, loses, away)
 }
 
-/// After how many milliseconds the last of so many servers knows all; more than the bound where it does not within it.
+/// After how many milliseconds the last of so many servers knows all; more than the bound where it does not
+/// within it.
 fn catches_up(rt: &impl Abort, far: &mut Far, size: u8, bound: u64) -> u64 {
     let since = far.group.now;
     for _ in 0..=bound {
@@ -74,8 +75,8 @@ fn catches_up(rt: &impl Abort, far: &mut Far, size: u8, bound: u64) -> u64 {
     far.group.now.saturating_sub(since)
 }
 
-/// How many servers there are, how many milliseconds a letter takes, which pieces are lost, which servers are away; and after how many
-/// milliseconds the last one knows all, at most.
+/// How many servers there are, how many milliseconds a letter takes, which pieces are lost, which servers are
+/// away; and after how many milliseconds the last one knows all, at most.
 type Row = (u8, u64, &'static [bool], &'static [u8], u64);
 
 const ROWS: &[Row] = &[
@@ -121,7 +122,8 @@ fn asks(rt: &impl Abort, far: &mut Far, from: u8, number: u8) {
 
 #[test]
 fn no_more_sets_out_than_the_line_takes(rt: HostRuntime) {
-    // Server 2 hears nothing, and asks in each millisecond of a second: it is told two stretches in 40 ms, and the first value at each question.
+    // Server 2 hears nothing, and asks in each millisecond of a second: it is told two stretches in 40 ms,
+    // and the first value at each question.
     let mut far = behind(&rt, rt.alloc(), 2, 5, &[true], &[]);
     for _ in 0..1_000 {
         asks(&rt, &mut far, 2, 1);

@@ -8,7 +8,8 @@ fn times() -> Times {
     Times::new(None, None)
 }
 
-/// A node asked for instance 100 at 1000, and is told from 228 on, of five stretches; it takes a tenth of a second.
+/// A node asked for instance 100 at 1000, and is told from 228 on, of five stretches; it takes a tenth of a
+/// second.
 fn course() -> Course {
     Course {
         first: 100,
@@ -113,7 +114,8 @@ fn an_earlier_question_comes_late_or_begins_anew(rt: HostRuntime) {
     }
 }
 
-/// From which instance on it is told next, of how many stretches, how many instances the next one covers; and whether that may set out.
+/// From which instance on it is told next, of how many stretches, how many instances the next one covers; and
+/// whether that may set out.
 const OPEN: &[(u32, u32, u32, bool)] = &[
     (100, 1, 64, true),
     (101, 1, 64, false),

@@ -363,8 +363,8 @@ fn a_tick_that_a_majority_answers_in_vain_is_counted(rt: HostRuntime) {
     }
 }
 
-/// When it asked at known 7, the moment, empty steps, how many are known, how far messages reached, whether all came, whether somebody tried a
-/// value, whether more on its record is to be told; and whether it asks.
+/// When it asked at known 7, the moment, empty steps, how many are known, how far messages reached, whether
+/// all came, whether somebody tried a value, whether more on its record is to be told; and whether it asks.
 type Asks = (Option<u64>, u64, u32, u32, u32, bool, bool, bool, bool);
 
 const ASKS: &[Asks] = &[
@@ -387,8 +387,9 @@ const ASKS: &[Asks] = &[
     (Some(1000), 1001, 0, 71, 71, false, false, false, false),
 ];
 
-/// How many questions in a row were for one instance, the moment, how far messages reached, whether all came, whether somebody tried a value;
-/// and whether it asks, where it asked at 1000, and knows seven as it did then.
+/// How many questions in a row were for one instance, the moment, how far messages reached, whether all came,
+/// whether somebody tried a value; and whether it asks, where it asked at 1000, and knows seven as it did
+/// then.
 const AGAIN: &[(u32, u64, u32, bool, bool, bool)] = &[
     (0, 1004, 8, true, false, false),
     (0, 1005, 8, true, false, true),

@@ -4,8 +4,8 @@ use crate::group::{node_of, nodes_of};
 use server_pace::{Present, Times};
 use std::process::Abort;
 
-/// The nodes that were heard at 1000, those that were heard at 2500, who asks, how often it asked in a row for nothing more; and who
-/// tells it at 3000.
+/// The nodes that were heard at 1000, those that were heard at 2500, who asks, how often it asked in a row
+/// for nothing more; and who tells it at 3000.
 type Row = (&'static [u8], &'static [u8], u8, u32, &'static [u8]);
 
 const ROWS: &[Row] = &[

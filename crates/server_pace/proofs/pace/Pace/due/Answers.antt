@@ -10,7 +10,8 @@ use Rattle.server_pace.specs.declared.due.Due.{Due}
 use Rattle.server_pace.specs.declared.pace.Pace.{Pace}
 use Rattle.server_pace.proofs.pace.Pace.due.Goals as goal
 
--- it is what `call` answered, of what was noticed first; that the questions moved on between changes nothing else
+-- it is what `call` answered, of what was noticed first; that the questions moved on between changes nothing
+-- else
 pub returns-clause-due : goal.returns-clause-due
 returns-clause-due g c = λ s h.
     let old = c.args.self.now in
