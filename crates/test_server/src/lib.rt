@@ -23,6 +23,8 @@ mod group;
 #[cfg(test)]
 mod keeping;
 #[cfg(test)]
+mod last_questions;
+#[cfg(test)]
 mod majorities;
 #[cfg(test)]
 mod notes;
