@@ -1,6 +1,6 @@
 -- What a telling consists of, and how it is put together.
 use Rattle.std.proofs.Common.{◌≡◌, ◌⊎◌, inl, inr, ⊎_elim, ℕ, zero, suc, ◌+◌, ◌-◌, ◌<◌, ◌≤◌, Bool, true, false, cond, Option, Some, None, List, [], ◌∷◌, ◌++◌, length, map, append-nil, refl, sym, ap, subst, ◌∙◌, arith}
-use Rattle.std.specs.Prelude.{nat_eq, nat_le}
+use Rattle.std.specs.Prelude.{nat_eq, nat_le, if◌then◌else◌}
 use Rattle.std.proofs.lemmas.Bool.Decides.{nat_tests}
 use Rattle.site_ids.specs.Ids.{IsInstance}
 use Rattle.site_ids.specs.Lists.{In}
@@ -13,7 +13,7 @@ use Rattle.durable.specs.Histories.{IsHistory}
 use Rattle.node.specs.declared.to.To.{To}
 use Rattle.node.specs.Nodes.{Value, Node}
 use Rattle.node.specs.Ranges.{HasRanges}
-use Rattle.node.specs.Tellings.{or_else, remembered, IsTellable, message_of, telling, with_first, tellings, value_in, fitting, told_from, addressed, TellsOn}
+use Rattle.node.specs.Tellings.{or_else, remembered, IsTellable, message_of, telling, with_first, tellings, value_in, fitting, told_from, value_size, told_size, covered, covered_from, addressed, TellsOn}
 use Rattle.node.proofs.OnRecord.{last_vote-in, learned_at-in, entry_in_range}
 
 -- ---- what is reported
@@ -183,3 +183,48 @@ last_telling n p s to first past k room whole before h history low outside so_fa
   where
     over : (i : ℕ) → 1 ≤ i → ¬ IsInstance i → 1000000 < i
     over i low outside = grind (arith, low, outside)
+
+-- ---- how many instances it covers
+
+at_most : (a b : ℕ) → a ≤ b → nat_le a b ≡ true
+at_most a b less = grind (arith, nat_tests, less)
+
+more_than : (a b : ℕ) → ¬ (a ≤ b) → nat_le a b ≡ false
+more_than a b more = grind (arith, nat_tests, more)
+
+pub begun_covered : (s : Node) (first : ℕ) → covered_from s first ≡ 0 + covered 65536 s 64 (first + 0)
+begun_covered s first =
+    let here : first ≡ first + 0 = omega arith in
+    let there = ap (λ i. covered 65536 s 64 i) here in
+    omega (arith, there)
+
+module _ (s : Node) (first whole room past j k size : ℕ) (is : k ≡ suc j) (so_far : whole ≡ past + covered room s k (first + past)) (here : size ≡ told_size s (first + past)) where
+  abbrev by : Bool → ℕ → ℕ
+  by b n = if b then suc (covered (room - n) s j (suc (first + past))) else 0
+
+  abbrev there : Bool → Type 0
+  there b = whole ≡ past + by b size
+
+  looked_at : (b : Bool) → nat_le size room ≡ b → there b
+  looked_at b at = so_far ∙ ap (λ n. past + covered room s n (first + past)) is ∙ ap (λ n. past + by (nat_le n room) n) (sym here) ∙ ap (λ b. past + by b size) at
+
+  -- one instance more
+  pub more_covered : size ≤ room → whole ≡ past + 1 + covered (room - size) s j (first + (past + 1))
+  more_covered less =
+      let next : suc (first + past) ≡ first + (past + 1) = omega arith in
+      let left = covered (room - size) s j (suc (first + past)) in
+      let turned : past + suc left ≡ past + 1 + left = omega arith in
+      looked_at true (at_most size room less) ∙ turned ∙ ap (λ i. past + 1 + covered (room - size) s j i) next
+
+  -- no room for the next
+  pub all_covered : ¬ (size ≤ room) → past ≡ whole
+  all_covered more = let none = looked_at false (more_than size room more) in omega (arith, none)
+
+-- past the last instance no value is told
+pub no_size : (n : ℕ) (s : Node) (i : ℕ) → HasRanges n s → IsHistory n s.entries → ¬ IsInstance i → 0 ≡ told_size s i
+no_size n s i h history outside = by (remembered s i) (last_vote i s.entries) refl refl
+  where
+    by : (known : Option Value) (vote : Option Vote) → remembered s i ≡ known → last_vote i s.entries ≡ vote → 0 ≡ value_size known vote
+    by (Some v) vote k l = absurd (outside (⊎_elim (λ x. (h.known i v x).0) (λ x. (entry_in_range n s.entries (Learned i v) history x).0) (remembered_from s i v k)))
+    by None (Some w) k l = absurd (outside (entry_in_range n s.entries (Voted i w.ballot w.value) history (last_vote-in i s.entries w l)).0)
+    by None None k l = refl

@@ -55,6 +55,25 @@ fitting room (m ∷ ms) = if nat_le (length (value_in m)) room then m ∷ fittin
 abbrev pub told_from : ℕ → Node → ℕ → List Message
 told_from p s i = fitting MAX_TOLD_BYTES (tellings p s MAX_TOLD i)
 
+abbrev pub value_size : Option Value → Option Vote → ℕ
+value_size (Some v) vote = length v
+value_size None (Some vote) = length vote.value
+value_size None None = 0
+
+-- the bytes of the value that is told of an instance, if anything is
+abbrev pub told_size : Node → ℕ → ℕ
+told_size s i = value_size (remembered s i) (last_vote i s.entries)
+
+-- how many of k instances from i on have room for their values in so many bytes, before the first that has not
+abbrev pub covered : ℕ → Node → ℕ → ℕ → ℕ
+covered room s zero i = 0
+covered room s (suc k) i =
+    if nat_le (told_size s i) room then suc (covered (room - told_size s i) s k (suc i)) else 0
+
+-- how many instances a telling from i on covers
+abbrev pub covered_from : Node → ℕ → ℕ
+covered_from s i = covered MAX_TOLD_BYTES s MAX_TOLD i
+
 abbrev pub addressed : To → Message → To × Message
 addressed to m = (to, m)
 

@@ -1,1 +1,3 @@
 pub mod OpenAttempts
+pub mod NextTold
+pub mod Bounds

@@ -7,7 +7,8 @@ use Rattle.durable.specs.Entries.{last_vote, IsPromise}
 use Rattle.node.specs.Nodes.{Node, Value, IsKnownPrefix, WantsTick}
 use Rattle.server_pace.specs.Keeping.{keeping_after, owed_at, IsNextBlock}
 use Rattle.server_pace.specs.Questioning.{asking_of, no_questions, AreAsked, Asks, TellsNext}
-use Rattle.server_pace.specs.Turns.{call_behind}
+use Rattle.server_pace.specs.Places.{places_behind}
+use Rattle.server_pace.specs.Turns.{call_behind, goes_first, is_telling}
 use Rattle.server_pace.specs.declared.due.Due.{Due}
 use Rattle.site_drive.specs.declared.delivered.Delivered.{Delivered}
 use Rattle.site_drive.specs.declared.last_call.LastCall.{LastCall}
@@ -15,6 +16,7 @@ use Rattle.site_drive.specs.declared.last_call.LastCall.TheVariants.{Ask, TickOr
 use Rattle.server_pace.specs.declared.last_question.LastQuestion.{LastQuestion}
 use Rattle.server_pace.specs.declared.pace.Pace.{Pace}
 use Rattle.server_pace.specs.declared.questions.Questions.{Questions}
+use Rattle.server_pace.specs.declared.questions.Teller.{Teller}
 use Rattle.server_pace.specs.declared.resting.Resting.{Resting}
 use Rattle.server_pace.specs.declared.seen.Seen.{Seen}
 use Rattle.server_pace.specs.declared.ticking.Ticking.{Ticking}
@@ -99,10 +101,6 @@ ticked t times now answered = record (begun t) {
 }
 
 -- ---- yields: nodes take turns at the first unknown instance, by their numbers, with 1 behind 9
-
--- how many places behind a number another one comes; behind itself 9
-abbrev pub places_behind : ℕ → ℕ → ℕ
-places_behind last number = if nat_lt last number then number - last else number + 9 - last
 
 -- it saw no attempt
 abbrev pub first_yielding : Yielding
@@ -218,6 +216,7 @@ pub record Resumes (s : Node) (me known recorded : ℕ) : Type 0 where
 -- and whether it decides again what is on its record
 pub record IsSeen (s : Node) (p recorded : ℕ) (drained : Bool) (seen : Seen) : Type 0 where
   pub known : (values : List Value) × IsKnownPrefix s values × (seen.known ≡ length values)
+  pub reached : seen.reached ≡ s.reached
   pub wanted : IsTrue seen.wanted ↔ WantsTick s
   pub drained_is : seen.drained ≡ drained
   pub stake : IsTrue seen.stake ↔ HasStake s seen.known recorded
@@ -231,14 +230,15 @@ first_pace times n node recorded = record {
   patience = patience_of times node;
   ticking = first_ticking;
   answered = no_nodes;
-  last = record { at = None; known = 0; tried = false };
-  questions = no_questions;
+  last = record { at = None; known = 0; tried = false; again = 0 };
+  questions = no_questions node;
   keeping = record { kept = 0; since = None };
   stirred = false;
   empty = times.quiet;
   me = node;
   recorded = recorded;
   yielding = first_yielding;
+  told = false;
 }
 
 -- more than half of the nodes promised or refused something since the last tick, itself included
@@ -257,25 +257,40 @@ abbrev pub answers_after : List Bool → LastCall → List Bool
 answers_after answered TickOrAsk = no_nodes
 answers_after answered last = answered
 
+-- one more question in a row for one instance, or the first
+abbrev pub again_after : LastQuestion → ℕ → ℕ
+again_after q known = if nat_eq known q.known then min (q.again + 1) (2 ^ 32 - 1) else 0
+
 -- what came since is counted anew from a question on
 abbrev pub question_after : LastQuestion → ℕ → ℕ → LastCall → LastQuestion
-question_after q now known Ask = record { at = Some now; known = known; tried = false }
+question_after q now known Ask = record { at = Some now; known = known; tried = false; again = again_after q known }
 question_after q now known last = q
 
 -- it yields where the first unknown instance is promised so
 abbrev pub IsYielding : Pace → ℕ → Option ℕ → Type 0
 IsYielding p now tries = Yields (noted_tries p.yielding now tries) p.times now p.me
 
--- once that is called
-abbrev pub pace_after : Pace → ℕ → Seen → Option ℕ → Due → LastCall → Pace
-pace_after p now seen tries due last = record p {
-  ticking = ticking_after p.times (noted p.ticking p.times now seen p.stirred) now due last;
-  answered = answers_after p.answered last;
-  last = question_after p.last now seen.known last;
-  keeping = keeping_after (owed_at p.keeping now seen.known) last;
-  stirred = false;
+-- as that was noticed
+abbrev pub noticed : Pace → ℕ → Seen → Option ℕ → Due → Pace
+noticed p now seen tries due = record p {
+  ticking = noted p.ticking p.times now seen p.stirred;
+  keeping = owed_at p.keeping now seen.known;
   yielding = yielding_after (noted_tries p.yielding now tries) now due.waits due.yields;
 }
+
+-- once that is called, where so many values are known
+abbrev pub called : Pace → ℕ → ℕ → Due → LastCall → Pace
+called p now known due last = record p {
+  ticking = ticking_after p.times p.ticking now due last;
+  answered = answers_after p.answered last;
+  last = question_after p.last now known last;
+  keeping = keeping_after p.keeping last;
+  stirred = false;
+  told = is_telling last;
+}
+
+abbrev pub pace_after : Pace → ℕ → Seen → Option ℕ → Due → LastCall → Pace
+pace_after p now seen tries due last = called (noticed p now seen tries due) now seen.known due last
 
 -- as a batch begins
 pub record IsDue (p : Pace) (now : ℕ) (seen : Seen) (tries : Option ℕ) (block telling : Option (ℕ × ℕ)) (due : Due) : Type 0 where
@@ -292,11 +307,15 @@ pub record IsDue (p : Pace) (now : ℕ) (seen : Seen) (tries : Option ℕ) (bloc
 
 -- ---- what is called, and heard
 
--- none is told where a value is fresh, or what is known is put on record; else the next one may be
-abbrev pub IsTelling : Pace → ℕ → Node → ℕ → Bool → Bool → Option (ℕ × ℕ) → Questions → Type 0
-IsTelling p n s now wanted keeps telling new =
-    ((IsFresh p.ticking wanted p.stirred ⊎ (keeps ≡ true)) × (telling ≡ None) × (new ≡ p.questions))
-    ⊎ ((¬ IsFresh p.ticking wanted p.stirred) × (keeps ≡ false) × TellsNext p.questions p.times n s now (not p.last.tried) telling new)
+-- as it tells others
+abbrev pub teller_of : Pace → ℕ → ℕ → Teller
+teller_of p now known = record { times = p.times; at = now; me = p.me; known = known; calm = not p.last.tried }
+
+-- nobody is told in the step behind a telling, nor where something goes first; else the next one may be
+abbrev pub IsTelling : Pace → ℕ → Node → ℕ → ℕ → Bool → Option (ℕ × ℕ) → Questions → Type 0
+IsTelling p n s now known waits telling new =
+    ((waits ≡ true) × (telling ≡ None) × (new ≡ p.questions))
+    ⊎ ((waits ≡ false) × TellsNext p.questions (teller_of p now known) n s telling new)
 
 -- This is called behind the turns of a batch that begins now, by a server in a group of n, over this node; and that is its pace then
 pub record CallsDue (old : Pace) (n : ℕ) (s : Node) (now : ℕ) (drained : Bool) (last : LastCall) (new : Pace) : Type 0 where
@@ -308,7 +327,7 @@ pub record CallsDue (old : Pace) (n : ℕ) (s : Node) (now : ℕ) (drained : Boo
   pub is_seen : IsSeen s old.me old.recorded drained seen
   pub is_tried : IsTriedBy s (suc seen.known) tries
   pub is_block : IsNextBlock (owed_at old.keeping now seen.known) old.times now seen.known block
-  pub is_told : IsTelling old n s now seen.wanted (is_some block) telling new.questions
+  pub is_told : IsTelling old n s now seen.known (old.told || goes_first due) telling new.questions
   pub is_due : IsDue old now seen tries block telling due
   pub is_called : last ≡ call_behind due
   pub after : new ≡ record (pace_after old now seen tries due last) { questions = new.questions }
@@ -316,5 +335,9 @@ pub record CallsDue (old : Pace) (n : ℕ) (s : Node) (now : ℕ) (drained : Boo
 -- and this once it heard what the batch delivered
 pub record HearsBatch (old : Pace) (delivered : Delivered) (new : Pace) : Type 0 where
   pub asked : AreAsked old.questions.asked delivered.questions new.questions.asked
+  pub came : AreUnited delivered.heard old.questions.present.came new.questions.present.came
   pub answered : AreUnited delivered.answered old.answered new.answered
-  pub is : new ≡ record (heard old delivered.attempts delivered.stirs) { questions = record old.questions { asked = new.questions.asked }; answered = new.answered }
+  pub is : new ≡ record (heard old delivered.attempts delivered.stirs) {
+    questions = record old.questions { asked = new.questions.asked; present = record old.questions.present { came = new.questions.present.came } };
+    answered = new.answered;
+  }

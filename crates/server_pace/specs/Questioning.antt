@@ -1,49 +1,78 @@
 -- When a server asks, and when it tells whom. Times are milliseconds since it began.
-use Rattle.std.specs.Prelude.{◌≡◌, ◌≢◌, ◌⊎◌, ℕ, ◌+◌, ◌-◌, ◌<◌, ◌≤◌, List, replicate, get_or, set, Bool, true, not, ◌&&◌, ◌||◌, if◌then◌else◌, Option, Some, None, IsTrue, ◌↔◌}
+use Rattle.std.specs.Prelude.{◌≡◌, ◌≢◌, ◌⊎◌, ℕ, ◌+◌, ◌-◌, ◌^◌, ◌<◌, ◌≤◌, min, nat_eq, nat_le, nat_lt, List, replicate, get_or, set, Bool, true, false, not, ◌&&◌, ◌||◌, if◌then◌else◌, Option, Some, None, IsTrue, ◌↔◌}
 use Rattle.site_ids.specs.declared.TheConstants.{MAX_INSTANCE}
-use Rattle.site_ids.specs.Ids.{IsNode}
+use Rattle.site_ids.specs.Ids.{IsInstance, IsNode}
+use Rattle.site_ids.specs.NodeSets.{no_nodes}
 use Rattle.node.specs.Nodes.{Node}
-use Rattle.node.specs.Tellings.{IsTellable}
+use Rattle.node.specs.Tellings.{covered_from, IsTellable}
 use Rattle.node.specs.declared.TheConstants.{MAX_TOLD}
+use Rattle.server_pace.specs.Courses.{course_after, is_open, told_on}
+use Rattle.server_pace.specs.Places.{places_behind}
+use Rattle.server_pace.specs.Presence.{nobody_heard, AreHeard, HasTurn}
 use Rattle.server_pace.specs.declared.asking.Asking.{Asking}
 use Rattle.server_pace.specs.declared.asking.Telling.{Telling}
+use Rattle.server_pace.specs.declared.course.Course.{Course}
 use Rattle.server_pace.specs.declared.last_question.LastQuestion.{LastQuestion}
+use Rattle.server_pace.specs.declared.questions.Next.{Next}
 use Rattle.server_pace.specs.declared.questions.Questions.{Questions}
+use Rattle.server_pace.specs.declared.questions.Teller.{Teller}
 use Rattle.server_pace.specs.declared.seen.Seen.{Seen}
-use Rattle.server_times.specs.Timing.{asks_after, passed}
+use Rattle.server_times.specs.Timing.{asks_after, asks_again_after, passed}
 use Rattle.server_times.specs.declared.times.Times.{Times}
 
 -- ---- questions
 
--- its time has passed; or the last one brought a whole telling in no time; or it brought anything, all of that came, and nobody tries a value
+-- more is known than at the last question, and nobody tries a value or it is behind
+abbrev pub GoesFurther : Asking → Type 0
+GoesFurther a = (a.learned ≢ 0) × ((a.calm ≡ true) ⊎ (a.behind ≡ true))
+
+-- no more is known, something is missing, and the time to ask again has passed
+abbrev pub AsksAgain : Asking → Type 0
+AsksAgain a = (a.learned ≡ 0) × (a.lacks ≡ true) × (a.waited ≡ true)
+
+-- its time has passed; or all that came was taken in, and it goes further or asks again
 abbrev pub Asks : Asking → Type 0
-Asks a =
-    (a.passed ≡ true)
-    ⊎ ((MAX_TOLD ≤ a.learned) × (a.quick ≡ true))
-    ⊎ ((a.learned ≢ 0) × (a.drained ≡ true) × (a.calm ≡ true))
+Asks a = (a.passed ≡ true) ⊎ ((a.drained ≡ true) × (GoesFurther a ⊎ AsksAgain a))
+
+-- messages were of instances that nobody tries before the first unknown one is known
+abbrev pub is_behind : Seen → Bool
+is_behind seen = nat_le (min (seen.known + MAX_TOLD) (2 ^ 32 - 1)) seen.reached
+
+-- it is behind; or it knows nothing yet; or messages were of instances that it does not know, and nobody
+-- tries a value
+abbrev pub lacks : Seen → Bool → Bool
+lacks seen calm = is_behind seen || (nat_eq seen.known 0 || (calm && nat_lt seen.known seen.reached))
 
 -- what stands since the last question, where it is to hear of more of what is on its record, or not
 abbrev pub asking_of : LastQuestion → Times → ℕ → Seen → ℕ → Bool → Asking
 asking_of last times now seen empty more = record {
   learned = seen.known - last.known;
-  quick = not (passed last.at now times.quick);
   drained = seen.drained;
   calm = not last.tried || more;
+  behind = is_behind seen;
+  lacks = lacks seen (not last.tried || more);
+  waited = passed last.at now (asks_again_after times last.again empty);
   passed = passed last.at now (asks_after times empty);
 }
 
 -- ---- tellings
 
--- it is of all its instances; or its time has passed, and nobody tries a value
+-- Something is to be told: all instances of a telling; or, as it asked, what is known; or what was voted for
+-- from the instance on that it asked for, where nobody tries a value
+abbrev pub HasNews : Telling → Type 0
+HasNews t = (t.full ≡ true) ⊎ ((t.asked ≡ true) × ((t.known ≡ true) ⊎ ((t.calm ≡ true) × (t.first ≡ true))))
+
+-- what others may tell too is told in turn; votes are told by each
 abbrev pub Tells : Telling → Type 0
-Tells t = (t.full ≡ true) ⊎ ((t.calm ≡ true) × (t.passed ≡ true))
+Tells t = HasNews t × ((t.known ≡ false) ⊎ (t.turn ≡ true))
 
 -- there is something to tell of the last instance of a telling
 abbrev pub IsFull : Node → ℕ → Type 0
 IsFull s first = let final = first + (MAX_TOLD - 1) in (final ≤ MAX_INSTANCE) × IsTellable s final
 
-abbrev pub no_questions : Questions
-no_questions = record { asked = replicate 9 None; told = replicate 9 None }
+-- none was heard
+abbrev pub no_questions : ℕ → Questions
+no_questions me = record { asked = replicate 9 None; courses = replicate 9 None; present = nobody_heard; last = me }
 
 -- of a node its newest question: one that was heard, or else the one before
 abbrev pub newer : Option ℕ → Option ℕ → Option ℕ
@@ -53,28 +82,66 @@ newer None before = before
 abbrev pub AreAsked : List (Option ℕ) → List (Option ℕ) → List (Option ℕ) → Type 0
 AreAsked asked heard all = (i : ℕ) → i < 9 → get_or all i None ≡ newer (get_or heard i None) (get_or asked i None)
 
--- node p is the first whose question waits, by their numbers, and is told from there on: from instance i, for which it asked
-abbrev pub IsFirstAsked : List (Option ℕ) → ℕ → ℕ → Type 0
-IsFirstAsked asked p i =
-    (get_or asked (p - 1) None ≡ Some i)
-    × ((q : ℕ) → 1 ≤ q → q < p → get_or asked (q - 1) None ≡ None)
+-- each question that waits changes how far its node is told
+abbrev pub AreOnCourse : Times → ℕ → List (Option ℕ) → List (Option Course) → List (Option Course) → Type 0
+AreOnCourse times now asked old new = (i : ℕ) → i < 9 → get_or new i None ≡ course_after times now (get_or asked i None) (get_or old i None)
 
--- The first node whose question waits is told, if that is due; and its question is forgotten in any case. The time of a telling of less than all its
--- instances counts from now on
-pub record TellsFirst (old : Questions) (times : Times) (n : ℕ) (s : Node) (now : ℕ) (calm : Bool) (telling : Option (ℕ × ℕ)) (new : Questions) : Type 0 where
-  pub node : ℕ
-  pub first : ℕ
-  pub is_node : IsNode n node
-  pub asked : IsFirstAsked old.asked node first
-  pub full : Bool
-  pub full_is : IsTrue full ↔ IsFull s first
-  pub due : Bool
-  pub due_is : IsTrue due ↔ Tells (record { full = full; calm = calm; passed = passed (get_or old.told (node - 1) None) now times.telling })
-  pub telling_is : telling ≡ (if due then Some (node, first) else None)
-  pub after : new ≡ record { asked = set old.asked (node - 1) None; told = if due && not full then set old.told (node - 1) (Some now) else old.told }
+-- none waits then, and who was heard was so now
+pub record TakesIn (old : Questions) (times : Times) (now : ℕ) (new : Questions) : Type 0 where
+  pub none : new.asked ≡ replicate 9 None
+  pub courses : AreOnCourse times now old.asked old.courses new.courses
+  pub heard : AreHeard old.present.came old.present.at now new.present.at
+  pub noted : new.present.came ≡ no_nodes
+  pub last : new.last ≡ old.last
 
--- or no question waits
-abbrev pub TellsNext : Questions → Times → ℕ → Node → ℕ → Bool → Option (ℕ × ℕ) → Questions → Type 0
-TellsNext old times n s now calm telling new =
-    TellsFirst old times n s now calm telling new
-    ⊎ (((p : ℕ) → IsNode n p → get_or old.asked (p - 1) None ≡ None) × (telling ≡ None) × (new ≡ old))
+-- so many values are known: of those from instance i on that a telling covers, none past the last of them are
+-- told
+abbrev pub told_count : ℕ → ℕ → ℕ → ℕ
+told_count known i count = if nat_le i known then min count (known - i + 1) else count
+
+-- what stands of node p, on that course
+pub record StandsSo (q : Questions) (teller : Teller) (s : Node) (p : ℕ) (course : Course) (telling : Telling) : Type 0 where
+  pub full : IsTrue telling.full ↔ IsFull s course.next
+  pub asked : telling.asked ≡ course.asked
+  pub known : telling.known ≡ nat_le course.next teller.known
+  pub is_first : telling.first ≡ nat_le course.next course.first
+  pub calm : telling.calm ≡ teller.calm
+  pub turn : IsTrue telling.turn ↔ HasTurn q.present.at teller.times teller.at p teller.me course.repeats
+
+-- node p is told next, on that course: that is due, and may set out
+pub record IsDueTo (q : Questions) (teller : Teller) (s : Node) (p : ℕ) (course : Course) : Type 0 where
+  pub is_course : get_or q.courses (p - 1) None ≡ Some course
+  pub range : IsInstance course.next
+  pub telling : Telling
+  pub stands : StandsSo q teller s p course telling
+  pub due : Tells telling
+  pub may_set_out : is_open course (covered_from s course.next) ≡ true
+
+-- in a group of n, so it is told
+pub record IsNextTo (q : Questions) (teller : Teller) (n : ℕ) (s : Node) (p : ℕ) (next : Next) : Type 0 where
+  pub to : next.to ≡ p
+  pub is_node : IsNode n p
+  pub due : IsDueTo q teller s p next.course
+  pub first : next.first ≡ next.course.next
+  pub count : next.count ≡ told_count teller.known next.course.next (covered_from s next.course.next)
+
+-- it comes first behind the node that was told last
+abbrev pub IsFirstDue : Questions → Teller → ℕ → Node → Next → Type 0
+IsFirstDue q teller n s next =
+    (p : ℕ) × IsNextTo q teller n s p next
+    × ((other : ℕ) (c : Course) → IsNode n other → places_behind q.last other < places_behind q.last p → ¬ IsDueTo q teller s other c)
+
+abbrev pub NobodyIsDue : Questions → Teller → ℕ → Node → Type 0
+NobodyIsDue q teller n s = (p : ℕ) (c : Course) → IsNode n p → ¬ IsDueTo q teller s p c
+
+-- from then on it is told behind that
+abbrev pub told_so : Questions → Next → Questions
+told_so q next = record q { courses = set q.courses (next.to - 1) (Some (told_on next.course next.count)); last = next.to }
+
+-- What was heard is taken in, and then the first node to which something is due is told, if there is one
+pub record TellsNext (old : Questions) (teller : Teller) (n : ℕ) (s : Node) (telling : Option (ℕ × ℕ)) (new : Questions) : Type 0 where
+  pub mid : Questions
+  pub takes : TakesIn old teller.times teller.at mid
+  pub tells :
+      ((next : Next) × IsFirstDue mid teller n s next × (telling ≡ Some (next.to, next.first)) × (new ≡ told_so mid next))
+      ⊎ (NobodyIsDue mid teller n s × (telling ≡ None) × (new ≡ mid))

@@ -1,53 +1,81 @@
 //! When a server asks, and when it tells.
 
 ghost use Rattle.std.specs.Prelude.{◌↔◌, IsTrue};
-ghost use Rattle.server_pace.specs.Questioning.{Asks, Tells};
-
-use node::MAX_TOLD;
+ghost use Rattle.server_pace.specs.Questioning.{Asks, AsksAgain, GoesFurther, HasNews, Tells};
 
 /// What stands where a server may ask.
 #[derive(Clone, Copy, Debug, PartialEq, Eq, Drop)]
 pub struct Asking {
     /// So many values became known since it asked last.
     pub learned: u32,
-    /// It asked just now.
-    pub quick: bool,
     /// Nothing waits to be received.
     pub drained: bool,
     /// Nobody was seen to try a value since it asked last, or what it tried itself is known, and more is on its record.
     pub calm: bool,
+    /// Messages were of instances that nobody tries before the first unknown one is known.
+    pub behind: bool,
+    /// Others know what it does not.
+    pub lacks: bool,
+    /// Its time to ask again for what it lacks has passed.
+    pub waited: bool,
     /// Its time has passed since it asked last.
     pub passed: bool,
 }
 
 impl Asking {
-    /// A question that brought a whole telling, in no time, is followed by the next; where nobody tries a value, one that brought anything, once all of it
-    /// came; any other only after its time.
+    /// A question that brought something is followed by the next once all of that came, where nobody tries a
+    /// value or the server is behind. One that brought nothing is asked again in a while, where something is
+    /// missing. Any other comes only after its time.
     pub fn is_due(self) -> bool
         ensures { IsTrue result ↔ Asks self }
     {
-        self.passed
-            || (self.learned >= MAX_TOLD && self.quick)
-            || (self.learned != 0 && self.drained && self.calm)
+        self.passed || (self.drained && (self.goes_further() || self.asks_again()))
+    }
+
+    fn goes_further(self) -> bool
+        ensures { IsTrue result ↔ GoesFurther self }
+    {
+        self.learned != 0 && (self.calm || self.behind)
+    }
+
+    fn asks_again(self) -> bool
+        ensures { IsTrue result ↔ AsksAgain self }
+    {
+        self.learned == 0 && self.lacks && self.waited
     }
 }
 
-/// What stands where a question was heard.
+/// What stands of a node that asked.
 #[derive(Clone, Copy, Debug, PartialEq, Eq, Drop)]
 pub struct Telling {
     /// There is something to tell of the last of the instances.
     pub full: bool,
+    /// It was told nothing since its last question.
+    pub asked: bool,
+    /// The first of the instances is known.
+    pub known: bool,
+    /// It is the one that its node asked for.
+    pub first: bool,
     /// Nobody was seen to try a value since the teller asked last.
     pub calm: bool,
-    /// Its time has passed since that node was told less.
-    pub passed: bool,
+    /// It is the teller's turn.
+    pub turn: bool,
 }
 
 impl Telling {
-    /// A telling to the last of its instances comes at once; any other where nobody tries a value, after its time.
+    /// Whether there is news: of all the instances; or, for a question, of what is known, and of votes where
+    /// nobody tries a value.
+    fn has_news(self) -> bool
+        ensures { IsTrue result ↔ HasNews self }
+    {
+        self.full || (self.asked && (self.known || (self.calm && self.first)))
+    }
+
+    /// Votes are told by each node, as a majority of them counts, and what is known by the one whose turn it
+    /// is.
     pub fn is_due(self) -> bool
         ensures { IsTrue result ↔ Tells self }
     {
-        self.full || (self.calm && self.passed)
+        self.has_news() && (!self.known || self.turn)
     }
 }

@@ -1,7 +1,7 @@
 //! What a server calls behind the turns of a batch.
 
 ghost use Rattle.std.specs.Prelude.{◌≡◌};
-ghost use Rattle.server_pace.specs.Turns.{call_behind};
+ghost use Rattle.server_pace.specs.Turns.{call_behind, goes_first};
 
 use site_drive::LastCall;
 use site_ids::{Instance, NodeId};
@@ -30,10 +30,10 @@ pub struct Due {
 }
 
 impl Due {
-    /// A tick at once for a value that is fresh; else what is known is put on record, or a telling, a question or a
-    /// tick that is due; else nothing where it yields, and else widenings, so that the values that came since the
-    /// last batch share a prepare. A question that is due goes before what is put on record: its answer comes
-    /// while the disk writes, and what waited is due in the next batch.
+    /// A tick at once for a value that is fresh; else what is known is put on record, or a tick, a question
+    /// or a telling that is due; else nothing where it yields, and else widenings, so that the values that
+    /// came since the last batch share a prepare. A question that is due goes before what is put on record:
+    /// its answer comes while the disk writes, and what waited is due in the next batch.
     pub fn last_call(self) -> LastCall
         ensures { result ≡ call_behind self }
     {
@@ -47,18 +47,25 @@ impl Due {
                 LastCall::Keep { first, count }
             };
         }
-        if let Some((to, first)) = self.telling {
-            return LastCall::Tell { to, first };
+        if self.tick || self.goes_on {
+            return LastCall::TickOrAsk;
         }
         if self.question {
             return LastCall::Ask;
         }
-        if self.tick || self.goes_on {
-            return LastCall::TickOrAsk;
+        if let Some((to, first)) = self.telling {
+            return LastCall::Tell { to, first };
         }
         if self.yields {
             return LastCall::Nothing;
         }
         LastCall::Widen
+    }
+
+    /// Whether something goes before a telling.
+    pub fn goes_first(self) -> bool
+        ensures { result ≡ goes_first self }
+    {
+        self.fresh || self.block.is_some() || self.tick || self.goes_on || self.question
     }
 }

@@ -2,10 +2,14 @@
 #![tactic(auto)]
 
 mod asking;
+mod course;
 mod due;
 mod keeping;
 mod last_question;
+mod laws;
 mod pace;
+mod places;
+mod present;
 mod questions;
 mod resting;
 mod returning;
@@ -14,10 +18,13 @@ mod ticking;
 mod yielding;
 
 pub use asking::{Asking, Telling};
+pub use course::Course;
 pub use due::Due;
 pub use keeping::Keeping;
 pub use last_question::LastQuestion;
+pub use laws::{no_line_is_flooded, questions_come_in_time};
 pub use pace::Pace;
+pub use present::Present;
 pub use resting::Resting;
 pub use returning::Returning;
 pub use seen::Seen;

@@ -1,20 +1,20 @@
 //! When a server tries again, when it asks and tells, and how long it rests: all of it numbers.
 
-ghost use Rattle.std.specs.Prelude.{◌≡◌, ◌↔◌, ◌⊎◌, ◌<◌, ℕ, suc, Option, IsSome, IsTrue, IfSome, Some, None, true, false, if◌then◌else◌};
+ghost use Rattle.std.specs.Prelude.{◌≡◌, ◌↔◌, ◌⊎◌, ◌<◌, ◌||◌, ℕ, suc, Option, IsSome, IsTrue, IfSome, Some, None, true, false, if◌then◌else◌};
 ghost use Rattle.node.specs.Nodes.{Node as AbstractNode, WantsTick};
 ghost use Rattle.node.specs.Standing.{IsNodeOf};
 ghost use Rattle.server_pace.specs.declared.due.Due.{Due};
 ghost use Rattle.server_pace.specs.declared.seen.Seen.{Seen};
 ghost use Rattle.site_drive.specs.declared.last_call.LastCall.TheVariants.{Ask, TickOrAsk};
 ghost use Rattle.server_pace.specs.Keeping.{keeping_after, owed_at, IsNextBlock};
-ghost use Rattle.server_pace.specs.Pacing.{answers_after, empty_after, first_pace, heard, pace_after, question_after, resting_of, ticking_after, IsAnswered, CallsDue, HearsBatch, IsDue, IsFresh, IsTelling, IsUntried, IsYielding};
+ghost use Rattle.server_pace.specs.Pacing.{answers_after, called, empty_after, first_pace, heard, noticed, pace_after, question_after, resting_of, ticking_after, IsAnswered, CallsDue, HearsBatch, IsDue, IsFresh, IsTelling, IsUntried, IsYielding};
 ghost use Rattle.server_times.specs.Timing.{rest_after};
-ghost use Rattle.server_pace.specs.Turns.{call_behind};
+ghost use Rattle.server_pace.specs.Turns.{call_behind, goes_first, is_telling};
 
 use crate::due::Due;
 use crate::keeping::Keeping;
 use crate::last_question::LastQuestion;
-use crate::questions::Questions;
+use crate::questions::{Questions, Teller};
 use crate::resting::Resting;
 use crate::seen::{Seen, first_tried_by};
 use crate::ticking::Ticking;
@@ -50,6 +50,15 @@ pub struct Pace {
     // the furthest instance at which its record had a vote as it began
     recorded: u32,
     yielding: Yielding,
+    // the last call was a telling
+    told: bool,
+}
+
+/// Whether it is a telling.
+fn is_telling(last: &LastCall) -> bool
+    ensures { result ≡ is_telling last.now }
+{
+    matches!(last, LastCall::Tell { .. })
 }
 
 impl Pace {
@@ -64,13 +73,14 @@ impl Pace {
             ticking: Ticking::new(),
             answered: NodeSet::new(),
             last: LastQuestion::never(),
-            questions: Questions::new(),
+            questions: Questions::new(me),
             keeping: Keeping::new(),
             stirred: false,
             empty: times.quiet,
             me,
             recorded,
             yielding: Yielding::new(),
+            told: false,
         }
     }
 
@@ -99,9 +109,11 @@ impl Pace {
     {
         let seen = Seen::of(node, self.me, self.recorded, drained);
         let block = self.next_block(now, seen.known);
-        let telling = self.next_telling(now, node, seen, block.is_some());
         let tries = first_tried_by(node, seen.known);
-        self.call(now, seen, tries, block, telling)
+        let due = self.notice(now, seen, tries, block);
+        let waits = self.tells_nobody(&due);
+        let telling = self.next_telling(now, node, seen.known, waits);
+        self.call(now, seen.known, Due { telling, ..due })
     }
 
     /// From which instance on, and how many, are put on record next, if any.
@@ -111,23 +123,36 @@ impl Pace {
         self.keeping.noted(now, known).next(self.times, now, known)
     }
 
-    /// The next telling, unless a value is fresh, or what is known is put on record: then it waits.
+    /// Whether nobody is told, where that is due: somebody was in the last step, or something goes before a
+    /// telling.
+    fn tells_nobody(&self, due: &Due) -> bool
+        ensures { result ≡ (self.now.told || goes_first due.now) }
+    {
+        self.told || due.goes_first()
+    }
+
+    /// The next telling, unless it waits.
     fn next_telling<D: Disk>(
         &mut self,
         now: u64,
         node: &Node<D>,
-        seen: Seen,
-        keeps: bool,
+        known: u32,
+        waits: bool,
     ) -> Option<(NodeId, Instance)>
-        ensures told { (s : AbstractNode) → IsNodeOf node.now s → IsTelling self.old node.now.cluster s now seen.wanted keeps result self.new.questions }
+        ensures told { (s : AbstractNode) → IsNodeOf node.now s → IsTelling self.old node.now.cluster s now known waits result self.new.questions }
         ensures same { self.new ≡ record self.old { questions = self.new.questions } }
-        ensures waits { IsFresh self.old.ticking seen.wanted self.old.stirred → (result ≡ None) × (self.new ≡ self.old) }
     {
-        if keeps || self.ticking.is_fresh(seen.wanted, self.stirred) {
+        if waits {
             return None;
         }
-        let calm = !self.last.tried;
-        self.questions.next(self.times, now, node, calm)
+        let teller = Teller {
+            times: self.times,
+            at: now,
+            me: self.me,
+            known,
+            calm: !self.last.tried,
+        };
+        self.questions.next(&teller, node)
     }
 
     /// Whether a value was just submitted that is tried at once: it does not yield to another server.
@@ -144,18 +169,16 @@ impl Pace {
         self.answered.len() >= usize::from(self.cluster.quorum())
     }
 
-    /// What is called behind the turns of the next batch, where so much is seen and this telling is due. What is called counts from now on.
-    fn call(
+    /// What is due but tellings, where so much is seen.
+    fn notice(
         &mut self,
         now: u64,
         seen: Seen,
         tries: Option<NodeId>,
         block: Option<(Instance, u32)>,
-        telling: Option<(NodeId, Instance)>,
-    ) -> LastCall
-        ensures due { (due : Due) × IsDue self.old now seen tries block telling due × (result ≡ call_behind due) × (self.new ≡ pace_after self.old now seen tries due result) }
-        ensures fresh { IsFresh self.old.ticking seen.wanted self.old.stirred → ¬ IsYielding self.old now tries → result ≡ TickOrAsk }
-        ensures news { ¬ IsFresh self.old.ticking seen.wanted self.old.stirred → block ≡ None → telling ≡ None → self.old.last.known < seen.known → seen.drained ≡ true → self.old.last.tried ≡ false → result ≡ Ask }
+    ) -> Due
+        ensures due { IsDue self.old now seen tries block None result }
+        ensures noticed { self.new ≡ noticed self.old now seen tries result }
     {
         let (me, times) = (self.me, self.times);
         self.yielding.note(now, tries);
@@ -168,20 +191,28 @@ impl Pace {
         let tick = self.ticking.is_due(now, self.patience, times, seen.stake);
         let asking = self.last.asking(self.times, now, seen, self.empty, more);
         self.keeping = self.keeping.noted(now, seen.known);
-        let due = Due {
+        Due {
             fresh,
             block,
-            telling,
+            telling: None,
             question: asking.is_due(),
             tick,
             answered: self.is_answered(),
             goes_on: self.ticking.goes_on(),
             waits,
             yields,
-        };
+        }
+    }
+
+    /// What is called where that is due and so many values are known. It counts from now on.
+    fn call(&mut self, now: u64, known: u32, due: Due) -> LastCall
+        ensures called { result ≡ call_behind due }
+        ensures after { self.new ≡ called self.old now known due result }
+    {
         let last = due.last_call();
-        self.begin(now, seen.known, &due, &last);
+        self.begin(now, known, &due, &last);
         self.stirred = false;
+        self.told = is_telling(&last);
         last
     }
 
@@ -210,6 +241,7 @@ impl Pace {
                     at: Some(now),
                     known,
                     tried: false,
+                    again: self.last.again_after(known),
                 };
             }
             LastCall::TickOrAsk => {

@@ -1,24 +1,54 @@
 //! Questions that were heard, and whom to tell what.
 
-ghost use Rattle.std.specs.Prelude.{◌≡◌, ◌↔◌, ◌⊎◌, ◌-◌, ◌&&◌, ℕ, true, not, get_or, set, IsSome, IfSome, IfNone, IsTrue, if◌then◌else◌};
+ghost use Rattle.std.specs.Prelude.{◌≡◌, ◌↔◌, ◌≤◌, ◌-◌, ℕ, true, get_or, set, Some, None, IfSome, IfNone, IsTrue, replicate};
 ghost use Rattle.node.specs.Nodes.{Node as AbstractNode};
 ghost use Rattle.node.specs.Standing.{IsNodeOf};
-ghost use Rattle.site_ids.specs.Ids.{IsNode};
-ghost use Rattle.server_pace.specs.Questioning.{newer, no_questions, AreAsked, IsFirstAsked, IsFull, Tells, TellsNext};
-ghost use Rattle.server_times.specs.Timing.{passed};
+ghost use Rattle.node.specs.Tellings.{covered_from};
+ghost use Rattle.site_ids.specs.Ids.{IsInstance, IsNode};
+ghost use Rattle.site_ids.specs.NodeSets.{AreUnited};
+ghost use Rattle.server_pace.specs.Courses.{course_after};
+ghost use Rattle.server_pace.specs.Places.{number_behind};
+ghost use Rattle.server_pace.specs.Questioning.{newer, no_questions, told_count, told_so, AreAsked, AreOnCourse, IsDueTo, IsFirstDue, IsFull, IsNextTo, NobodyIsDue, StandsSo, TakesIn, TellsNext};
 
 use crate::asking::Telling;
+use crate::course::Course;
+use crate::places::number_behind;
+use crate::present::Present;
 use node::{MAX_TOLD, Node};
-use server_times::{Times, has_passed};
+use server_times::Times;
 use site_disk::Disk;
 use site_drive::Delivered;
 use site_ids::{Cluster, Instance, NodeId};
 
-/// For each node the instance that it asked for and was not told of yet, and when it was told less than it may be at once.
+/// What each node asked for and how far it was told, node p at the place p - 1; and who was told last.
 #[derive(Clone, Copy, Drop)]
 pub struct Questions {
     asked: [Option<Instance>; 9],
-    told: [Option<u64>; 9],
+    courses: [Option<Course>; 9],
+    present: Present,
+    last: NodeId,
+}
+
+/// Who tells, with what it sees of itself as a batch begins.
+#[derive(Clone, Copy, Drop)]
+pub(crate) struct Teller {
+    pub times: Times,
+    /// The moment.
+    pub at: u64,
+    pub me: NodeId,
+    /// So many values are known.
+    pub known: u32,
+    /// Nobody was seen to try a value since it asked last.
+    pub calm: bool,
+}
+
+/// What is told next: to whom, on which course, from which instance on, and of how many.
+#[derive(Clone, Copy, Drop)]
+struct Next {
+    to: NodeId,
+    course: Course,
+    first: Instance,
+    count: u32,
 }
 
 /// Whether there is something to tell of the last instance of a telling.
@@ -31,6 +61,18 @@ fn is_full<D: Disk>(node: &Node<D>, first: Instance) -> bool
     }
 }
 
+/// Of how many instances from that one on is told, where so many values are known, and the telling covers so
+/// many.
+fn told_count(known: u32, first: u32, count: u32) -> u32
+    ensures { result ≡ told_count known first count }
+{
+    if first <= known {
+        count.min((known - first).saturating_add(1))
+    } else {
+        count
+    }
+}
+
 fn newer(heard: Option<Instance>, before: Option<Instance>) -> Option<Instance>
     ensures { result ≡ newer heard before }
 {
@@ -38,6 +80,12 @@ fn newer(heard: Option<Instance>, before: Option<Instance>) -> Option<Instance>
         Some(instance) => Some(instance),
         None => before,
     }
+}
+
+fn none_asked() -> [Option<Instance>; 9]
+    ensures { result ≡ replicate 9 None }
+{
+    [None; 9]
 }
 
 /// Of each node its newest question, where these were heard.
@@ -51,73 +99,171 @@ fn newer_each(asked: &[Option<Instance>; 9], heard: &[Option<Instance>; 9]) -> [
     all
 }
 
+/// How far a node is told that asked so, or not.
+fn course_after(
+    times: Times,
+    now: u64,
+    asked: Option<Instance>,
+    course: Option<Course>,
+) -> Option<Course>
+    ensures { result ≡ course_after times now asked course }
+{
+    let Some(instance) = asked else {
+        return course;
+    };
+    match course {
+        Some(course) => Some(course.heard(times, now, instance)),
+        None => Some(Course::new(times, now, instance)),
+    }
+}
+
+/// How far each is told.
+fn courses_after(
+    times: Times,
+    now: u64,
+    asked: &[Option<Instance>; 9],
+    courses: &[Option<Course>; 9],
+) -> [Option<Course>; 9]
+    ensures { AreOnCourse times now asked.now courses.now result }
+{
+    let mut all = [None; 9];
+    for i in 0..9 {
+        all[i] = course_after(times, now, asked[i], courses[i]);
+    }
+    all
+}
+
 impl Questions {
-    /// None was heard.
-    pub(crate) fn new() -> Questions
-        ensures { result ≡ no_questions }
+    /// None was heard, at this node.
+    pub(crate) fn new(me: NodeId) -> Questions
+        ensures { result ≡ no_questions me }
     {
         Questions {
             asked: [None; 9],
-            told: [None; 9],
+            courses: [None; 9],
+            present: Present::new(),
+            last: me,
         }
     }
 
-    /// Those that were delivered. Each takes the place of that node's last one.
+    /// Those that were delivered, each in the place of that node's last one; and who sent anything.
     pub(crate) fn hear(&mut self, delivered: &Delivered)
         ensures asked { AreAsked self.old.asked delivered.now.questions self.new.asked }
-        ensures told { self.new.told ≡ self.old.told }
+        ensures came { AreUnited delivered.now.heard self.old.present.came self.new.present.came }
+        ensures same { self.new ≡ record self.old { asked = self.new.asked; present = record self.old.present { came = self.new.present.came } } }
     {
         self.asked = newer_each(&self.asked, delivered.questions());
+        self.present.hear(delivered.heard());
     }
 
-    /// The first node whose question waits, and the instance that it was for. By that it is forgotten.
-    fn take_first(&mut self, cluster: Cluster) -> Option<(NodeId, Instance)>
-        ensures some { IfSome result (λ x. IsNode cluster x.0 × IsFirstAsked self.old.asked x.0 x.1 × (self.new.asked ≡ set self.old.asked (x.0 - 1) None)) }
-        ensures none { IfNone result ((self.new ≡ self.old) × ((p : ℕ) → IsNode cluster p → get_or self.old.asked (p - 1) None ≡ None)) }
-        ensures told { self.new.told ≡ self.old.told }
+    /// Each question that waits changes how far its node is told.
+    fn take_in(&mut self, times: Times, now: u64)
+        ensures { TakesIn self.old times now self.new }
     {
-        for number in 1..=cluster.size() {
-            let to = cluster.node(number)?;
-            let at = usize::from(number) - 1;
-            if let Some(asked) = self.asked[at] {
-                self.asked[at] = None;
-                return Some((to, asked));
+        self.courses = courses_after(times, now, &self.asked, &self.courses);
+        self.asked = none_asked();
+        self.present.note(now);
+    }
+
+    /// What stands of a node that asked, on that course, from its next instance on.
+    fn telling_on<D: Disk>(
+        &self,
+        teller: &Teller,
+        node: &Node<D>,
+        to: NodeId,
+        course: Course,
+        first: Instance,
+    ) -> Telling
+        requires { first ≡ course.next }
+        ensures { (s : AbstractNode) → IsNodeOf node.now s → StandsSo self.now teller.now s to course result }
+    {
+        Telling {
+            full: is_full(node, first),
+            asked: course.asked,
+            known: course.next <= teller.known,
+            first: course.next <= course.first,
+            calm: teller.calm,
+            turn: self
+                .present
+                .has_turn(teller.times, teller.at, to, teller.me, course.repeats),
+        }
+    }
+
+    /// What is told to a node next, if that is due.
+    fn next_to<D: Disk>(&self, teller: &Teller, node: &Node<D>, to: NodeId) -> Option<Next>
+        requires { IsNode node.now.cluster to }
+        ensures some { IfSome result (λ next. (s : AbstractNode) → IsNodeOf node.now s → IsNextTo self.now teller.now node.now.cluster s to next) }
+        ensures none { IfNone result ((s : AbstractNode) → IsNodeOf node.now s → (c : Course) → ¬ IsDueTo self.now teller.now s to c) }
+    {
+        let course = self.courses[usize::from(to.number()) - 1]?;
+        let first = Instance::new(course.next)?;
+        if !self.telling_on(teller, node, to, course, first).is_due() {
+            return None;
+        }
+        let count = node.covers(first);
+        if !course.is_open(count) {
+            return None;
+        }
+        Some(Next {
+            to,
+            course,
+            first,
+            count: told_count(teller.known, course.next, count),
+        })
+    }
+
+    /// The same of the node of that number, if there is one.
+    fn next_at<D: Disk>(
+        &self,
+        teller: &Teller,
+        node: &Node<D>,
+        cluster: Cluster,
+        number: u8,
+    ) -> Option<Next>
+        requires { cluster ≡ node.now.cluster }
+        ensures some { IfSome result (λ next. (s : AbstractNode) → IsNodeOf node.now s → IsNextTo self.now teller.now cluster s number next) }
+        ensures none { IfNone result ((s : AbstractNode) → IsNodeOf node.now s → (c : Course)
+            → IsNode cluster number → ¬ IsDueTo self.now teller.now s number c) }
+    {
+        let to = cluster.node(number)?;
+        self.next_to(teller, node, to)
+    }
+
+    /// The first of them, behind the node that was told last.
+    fn first_due<D: Disk>(&self, teller: &Teller, node: &Node<D>) -> Option<Next>
+        ensures some { IfSome result (λ next. (s : AbstractNode) → IsNodeOf node.now s → IsFirstDue self.now teller.now node.now.cluster s next) }
+        ensures none { IfNone result ((s : AbstractNode) → IsNodeOf node.now s → NobodyIsDue self.now teller.now node.now.cluster s) }
+    {
+        let cluster = node.cluster();
+        let last = self.last.number();
+        for place in 1..=9 {
+            let next = self.next_at(teller, node, cluster, number_behind(last, place));
+            if next.is_some() {
+                return next;
             }
         }
         None
     }
 
-    /// Whom a node tells, and from which instance on: the first one whose question waits, from what it asked
-    /// for on. That may have become known behind the question, and then no answer
-    /// told it. By that the question is forgotten, whether its telling is due or not.
-    pub(crate) fn next<D: Disk>(
-        &mut self,
-        times: Times,
-        now: u64,
-        node: &Node<D>,
-        calm: bool,
-    ) -> Option<(NodeId, Instance)>
-        ensures { (s : AbstractNode) → IsNodeOf node.now s → TellsNext self.old times node.now.cluster s now calm result self.new }
+    /// It is told so.
+    fn tell(&mut self, next: &Next)
+        ensures { self.new ≡ told_so self.old next.now }
     {
-        let (to, first) = self.take_first(node.cluster())?;
-        let full = is_full(node, first);
-        self.tells(times, now, to, full, calm)
-            .then_some((to, first))
+        self.courses[usize::from(next.to.number()) - 1] = Some(next.course.told(next.count));
+        self.last = next.to;
     }
 
-    /// Whether a telling to a node is due, which is of all 64 instances or less, while nobody tries a value or somebody does. The time of one that is of less
-    /// counts from now on.
-    fn tells(&mut self, times: Times, now: u64, to: NodeId, full: bool, calm: bool) -> bool
-        ensures due { IsTrue result ↔ Tells (record { full = full; calm = calm; passed = passed (get_or self.old.told (to - 1) None) now times.telling }) }
-        ensures counts { self.new ≡ record self.old { told = if result && not full then set self.old.told (to - 1) (Some now) else self.old.told } }
+    /// Whom a node tells next, and from which instance on, after what was heard is taken in.
+    pub(crate) fn next<D: Disk>(
+        &mut self,
+        teller: &Teller,
+        node: &Node<D>,
+    ) -> Option<(NodeId, Instance)>
+        ensures { (s : AbstractNode) → IsNodeOf node.now s → TellsNext self.old teller.now node.now.cluster s result self.new }
     {
-        let at = usize::from(to.number()) - 1;
-        let passed = has_passed(self.told[at], now, times.telling);
-        let telling = Telling { full, calm, passed };
-        let due = telling.is_due();
-        if due && !full {
-            self.told[at] = Some(now);
-        }
-        due
+        self.take_in(teller.times, teller.at);
+        let next = self.first_due(teller, node)?;
+        self.tell(&next);
+        Some((next.to, next.first))
     }
 }

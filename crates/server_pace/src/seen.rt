@@ -14,6 +14,8 @@ use site_ids::{Instance, NodeId};
 pub struct Seen {
     /// So many values are known.
     pub known: u32,
+    /// The furthest instance that messages were of, questions and refusals aside; 0 before the first.
+    pub reached: u32,
     /// A tick is wanted.
     pub wanted: bool,
     /// All that had come was taken in.
@@ -79,6 +81,7 @@ impl Seen {
         let known = node.known();
         Seen {
             known,
+            reached: node.reached(),
             wanted: node.wants_tick(),
             drained,
             stake: has_stake(node, known, recorded),

@@ -1,8 +1,9 @@
 //! When a server yields to another one that tries.
 
 ghost use Rattle.std.specs.Prelude.{◌≡◌, ◌↔◌, ◌<◌, ◌≤◌, ◌-◌, IsTrue, unwrap_or};
-ghost use Rattle.server_pace.specs.Pacing.{ended, first_yielding, noted_tries, places_behind, stood_by, yielding_after, IsBehind, IsSoon, MayGoOn, Waits, Yields};
+ghost use Rattle.server_pace.specs.Pacing.{ended, first_yielding, noted_tries, stood_by, yielding_after, IsBehind, IsSoon, MayGoOn, Waits, Yields};
 
+use crate::places::places_behind;
 use server_times::Times;
 use site_ids::{NodeId, NodeSet};
 
@@ -26,18 +27,6 @@ pub struct Yielding {
     pub took: u64,
     /// Since when it yields.
     pub since: Option<u64>,
-}
-
-/// How many places behind a node a number comes, from 1 to 9 and round again: behind itself 9.
-fn places_behind(last: NodeId, number: u8) -> u8
-    requires { number ≤ 9 }
-    ensures { result ≡ places_behind last number }
-{
-    if last.number() < number {
-        number - last.number()
-    } else {
-        number + 9 - last.number()
-    }
 }
 
 impl Yielding {

@@ -15,6 +15,11 @@ patience_of times node = min (times.patience * (node + 1)) (2 ^ 64 - 1) / 2
 abbrev pub asks_after : Times → ℕ → ℕ
 asks_after times empty = if nat_lt empty times.quiet then times.asking else times.quiet_asking
 
+-- where it is behind and knows no more than at its last question: once more as long after each question in a
+-- row for one instance
+abbrev pub asks_again_after : Times → ℕ → ℕ → ℕ
+asks_again_after times again empty = min (min (times.again * (again + 1)) (2 ^ 64 - 1)) (asks_after times empty)
+
 -- in microseconds
 abbrev pub rest_after : Times → ℕ → ℕ
 rest_after times empty =

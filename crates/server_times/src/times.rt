@@ -1,7 +1,7 @@
 //! All times of a server.
 
 ghost use Rattle.std.specs.Prelude.{◌≡◌, ◌↔◌, ℕ, ◌-◌, ◌≤◌, IfSome, IsTrue, Some, None, unwrap_or};
-ghost use Rattle.server_times.specs.Timing.{asks_after, passed, patience_of, rest_after};
+ghost use Rattle.server_times.specs.Timing.{asks_after, asks_again_after, passed, patience_of, rest_after};
 ghost use Rattle.server_times.specs.declared.times.TheConstants.{STANDARD};
 
 /// All that a server waits for, in one place.
@@ -22,10 +22,23 @@ pub struct Times {
     pub asking: u64,
     /// The same where it is quiet.
     pub quiet_asking: u64,
-    /// Milliseconds in which 64 values that were on record come as answers to one question: what is decided meanwhile takes longer (`LastQuestion`).
-    pub quick: u64,
-    /// Milliseconds between two tellings to one server of less than 64 instances (`Questions`).
-    pub telling: u64,
+    /// Milliseconds after which a server that knows no more than at its last question, and is behind, asks
+    /// again the first time. It waits as much longer each time after that (`LastQuestion`).
+    pub again: u64,
+    /// A node is told of so many stretches past the instance of its last question, at first and at least
+    /// (`Course`). A stretch is what one telling covers: 64 instances, or 65,536 bytes of values.
+    pub least: u32,
+    /// The same, at most.
+    pub most: u32,
+    /// Milliseconds that a question and the first of its answers are taken to need, before any came
+    /// (`Course`).
+    pub flight: u64,
+    /// Milliseconds after which an instance that was asked for before is no late datagram: the node that asks
+    /// began anew (`Course`).
+    pub late: u64,
+    /// Milliseconds without a message of a node after which it is taken to tell nobody anything (`Present`).
+    /// A node asks more often.
+    pub silent: u64,
     /// Milliseconds that a value which became known waits to be put on record, at most: others that become known meanwhile share its seal (`Keeping`).
     pub keeping: u64,
     /// So many values do not wait for others (`Keeping`).
@@ -74,8 +87,12 @@ const STANDARD: Times = Times {
     leaving: 15_000,
     asking: 400,
     quiet_asking: 800,
-    quick: 20,
-    telling: 400,
+    again: 5,
+    least: 2,
+    most: 64,
+    flight: 20,
+    late: 400,
+    silent: 2000,
     keeping: 100,
     block: 1024,
     packets: 5000,
@@ -134,6 +151,16 @@ impl Times {
         } else {
             self.quiet_asking
         }
+    }
+
+    /// How many milliseconds behind a question the next one comes, if it is behind and knows no more: after
+    /// so many questions in a row for one instance, and so many steps in which nothing came.
+    pub fn asks_again_after(self, again: u32, empty: u32) -> u64
+        ensures is { result ≡ asks_again_after self again empty }
+        ensures bound { result ≤ asks_after self empty }
+    {
+        let longer = self.again.saturating_mul(u64::from(again) + 1);
+        longer.min(self.asks_after(empty))
     }
 
     /// How many microseconds it rests behind a step in which nothing came, after so many others: the longer the more there were.

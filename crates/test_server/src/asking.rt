@@ -3,50 +3,69 @@ use crate::comparing::same;
 use server_pace::{Asking, Telling};
 use std::process::Abort;
 
-/// How many values became known since the last question, whether that was just now, whether nothing waits, whether nobody tries a value, whether its time
-/// has passed; and whether a question is due.
-const QUESTIONS: &[(u32, bool, bool, bool, bool, bool)] = &[
-    (0, true, false, false, false, false),
-    (0, true, true, true, false, false),
-    (0, false, false, false, true, true),
-    (1, false, true, true, false, true),
-    (1, true, false, true, false, false),
-    (1, true, true, false, false, false),
-    (63, true, false, true, false, false),
-    (63, true, true, false, false, false),
-    (63, false, true, true, false, true),
-    (64, true, false, false, false, true),
-    (64, false, false, false, false, false),
-    (100_000, true, false, false, false, true),
+/// How many values became known since the last question, whether nothing waits, whether nobody tries a value,
+/// whether it is behind, whether it lacks something, whether its time to ask for that has passed, whether its
+/// time has passed; and whether a question is due.
+type Question = (u32, bool, bool, bool, bool, bool, bool, bool);
+
+const QUESTIONS: &[Question] = &[
+    (0, true, true, false, false, false, false, false),
+    (0, false, false, false, false, false, true, true),
+    (1, true, true, false, false, false, false, true),
+    (1, true, false, false, true, true, false, false),
+    (1, true, false, true, true, false, false, true),
+    (100_000, false, true, true, true, true, false, false),
+    (0, true, false, true, true, false, false, false),
+    (0, true, false, true, true, true, false, true),
+    (0, true, true, false, false, true, false, false),
+    (0, false, true, true, true, true, false, false),
+    (0, false, true, true, true, true, true, true),
 ];
 
 #[test]
 fn a_question_that_brought_news_is_followed_by_the_next(rt: HostRuntime) {
-    for &(learned, quick, drained, calm, passed, due) in QUESTIONS {
+    for &(learned, drained, calm, behind, lacks, waited, passed, due) in QUESTIONS {
         let asking = Asking {
             learned,
-            quick,
             drained,
             calm,
+            behind,
+            lacks,
+            waited,
             passed,
         };
         same(&rt, (asking, asking.is_due()), (asking, due));
     }
 }
 
-/// Whether it is full, whether nobody tries a value, whether its time has passed, and whether it is due.
-const TELLINGS: &[(bool, bool, bool, bool)] = &[
-    (false, true, false, false),
-    (false, false, true, false),
-    (false, true, true, true),
-    (true, false, false, true),
-    (true, true, true, true),
+/// Whether it is full, whether its node asked, whether the first instance is known, whether that is the one
+/// asked for, whether nobody tries a value, whether it is the teller's turn; and whether it is due.
+const TELLINGS: &[(bool, bool, bool, bool, bool, bool, bool)] = &[
+    // Votes are told in any turn, all of a telling at any time.
+    (true, false, false, false, false, false, true),
+    (false, true, false, true, true, false, true),
+    (false, true, false, false, true, true, false),
+    (false, true, false, true, false, true, false),
+    (false, false, false, true, true, true, false),
+    // What is known is told in turn.
+    (true, false, true, false, false, true, true),
+    (true, true, true, true, true, false, false),
+    (false, true, true, false, false, true, true),
+    (false, true, true, true, true, false, false),
+    (false, false, true, true, true, true, false),
 ];
 
 #[test]
-fn a_full_telling_comes_at_once(rt: HostRuntime) {
-    for &(full, calm, passed, due) in TELLINGS {
-        let telling = Telling { full, calm, passed };
+fn what_is_known_is_told_in_turn(rt: HostRuntime) {
+    for &(full, asked, known, first, calm, turn, due) in TELLINGS {
+        let telling = Telling {
+            full,
+            asked,
+            known,
+            first,
+            calm,
+            turn,
+        };
         same(&rt, (telling, telling.is_due()), (telling, due));
     }
 }

@@ -19,15 +19,21 @@ struct Flight {
 /// A group, how long a letter takes, how many milliseconds lie between passes, and pieces on their way, the
 /// first to come first.
 #[derive(Drop)]
-struct Far {
-    group: Group,
+pub(crate) struct Far {
+    pub group: Group,
     takes: u64,
     step: u64,
     flights: VecDeque<Flight>,
+    // of pieces one after the other whether they are lost, and again from the first on
+    loses: &'static [bool],
+    /// So many set out.
+    pub sent: usize,
+    // these nodes are away
+    away: &'static [u8],
 }
 
 /// A release that an editor of that number submits.
-fn release(rt: &impl Abort, alloc: Global, editor: u8) -> Value {
+pub(crate) fn release(rt: &impl Abort, alloc: Global, editor: u8) -> Value {
     let ticket = Ticket {
         editor: u32::from(editor),
         number: 1,
@@ -37,8 +43,37 @@ fn release(rt: &impl Abort, alloc: Global, editor: u8) -> Value {
 }
 
 impl Far {
+    /// Its letters take so long, some of them are lost, and these nodes are away.
+    pub(crate) fn new(
+        group: Group,
+        takes: u64,
+        step: u64,
+        loses: &'static [bool],
+        away: &'static [u8],
+    ) -> Far {
+        Far {
+            flights: VecDeque::new(group.alloc),
+            group,
+            takes,
+            step,
+            loses,
+            sent: 0,
+            away,
+        }
+    }
+
+    /// Whether the next piece that sets out is lost.
+    fn is_lost(&mut self) -> bool {
+        let place = self.sent % self.loses.len().max(1);
+        self.sent = self.sent.saturating_add(1);
+        match self.loses.get(place) {
+            Some(lost) => *lost,
+            None => false,
+        }
+    }
+
     /// It is submitted to the server of that number.
-    fn submit(&mut self, rt: &impl Abort, number: u8, value: &Value) {
+    pub(crate) fn submit(&mut self, rt: &impl Abort, number: u8, value: &Value) {
         let done = self.group.server(rt, number).served.node.submit(value);
         same(rt, (number, done), (number, Ok(Submitted::Queued)));
     }
@@ -69,8 +104,10 @@ impl Far {
         let alloc = self.group.alloc;
         let pieces = packed(rt, alloc, &mut self.group.server(rt, from).mail, node, now);
         for piece in pieces {
-            let flight = Flight { at, to, piece };
-            self.flights.push_back(flight).expect(rt, "memory");
+            if !self.is_lost() {
+                let flight = Flight { at, to, piece };
+                self.flights.push_back(flight).expect(rt, "memory");
+            }
         }
     }
 
@@ -79,18 +116,20 @@ impl Far {
         let now = self.group.now;
         ensure(rt, turn(self.group.server(rt, number), now).is_ok(), number);
         for to in 1..=size {
-            if to != number {
+            if to != number && !self.away.contains(&to) {
                 self.set_out(rt, number, to, size);
             }
         }
     }
 
-    /// A pass of each of so many servers.
-    fn goes_on(&mut self, rt: &impl Abort, size: u8) {
+    /// A pass of each of so many servers that is not away.
+    pub(crate) fn goes_on(&mut self, rt: &impl Abort, size: u8) {
         self.group.now = self.group.now.saturating_add(self.step);
         self.arrive(rt);
         for number in 1..=size {
-            self.pass(rt, number, size);
+            if !self.away.contains(&number) {
+                self.pass(rt, number, size);
+            }
         }
     }
 
@@ -145,12 +184,7 @@ const ROWS: &[Row] = &[
 
 fn check(rt: &impl Abort, alloc: Global, &(size, takes, at, apart, bound): &Row) {
     let step = (takes / 40).max(1);
-    let mut far = Far {
-        group: Group::new(rt, alloc, size),
-        takes,
-        step,
-        flights: VecDeque::new(alloc),
-    };
+    let mut far = Far::new(Group::new(rt, alloc, size), takes, step, &[], &[]);
     for (&number, place) in at.iter().zip(0_u64..) {
         let waits = if place == 0 { 0 } else { apart / step };
         for _ in 0..waits {

@@ -7,9 +7,13 @@ mod asking;
 #[cfg(test)]
 mod behind_turns;
 #[cfg(test)]
+mod catching_up;
+#[cfg(test)]
 mod client;
 #[cfg(test)]
 mod comparing;
+#[cfg(test)]
+mod courses;
 #[cfg(test)]
 mod far;
 #[cfg(test)]
@@ -18,6 +22,8 @@ mod floors;
 mod group;
 #[cfg(test)]
 mod keeping;
+#[cfg(test)]
+mod last_questions;
 #[cfg(test)]
 mod majorities;
 #[cfg(test)]
@@ -46,6 +52,8 @@ mod scripts;
 mod seats;
 #[cfg(test)]
 mod views;
+#[cfg(test)]
+mod whose_turn;
 #[cfg(test)]
 mod written_clock;
 #[cfg(test)]

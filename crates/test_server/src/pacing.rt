@@ -1,20 +1,24 @@
-//! When a server ticks and asks, and how long it rests: each rule as a table.
+//! When a server ticks, and how long it rests: each rule as a table.
 use crate::comparing::{ensure, same};
 use crate::group::node_of;
-use server_pace::{LastQuestion, Pace, Resting, Seen, Ticking, Times, has_passed};
+use server_pace::{Pace, Resting, Seen, Ticking, Times, has_passed};
 use site_ids::Cluster;
 use std::process::Abort;
 
 /// Those of a server whose command line names none.
-const TIMES: Times = Times {
+pub(crate) const TIMES: Times = Times {
     patience: 100,
     growth: 3,
     longer: 10,
     leaving: 15_000,
     asking: 400,
     quiet_asking: 800,
-    quick: 20,
-    telling: 400,
+    again: 5,
+    least: 2,
+    most: 64,
+    flight: 20,
+    late: 400,
+    silent: 2000,
     keeping: 100,
     block: 1024,
     packets: 5000,
@@ -131,9 +135,10 @@ const NOTED: &[Noted] = &[
 ];
 
 /// So many values are known, and a tick is wanted, or not.
-fn seen(known: u32, wanted: bool, resumes: bool) -> Seen {
+pub(crate) fn seen(known: u32, wanted: bool, resumes: bool) -> Seen {
     Seen {
         known,
+        reached: known,
         wanted,
         drained: true,
         stake: true,
@@ -354,50 +359,6 @@ fn a_tick_that_a_majority_answers_in_vain_is_counted(rt: HostRuntime) {
             &rt,
             (ticking, answered, ticking.ticked(TIMES, 9, answered)),
             (ticking, answered, ticked),
-        );
-    }
-}
-
-/// When it asked at known 7, the moment, empty steps, how many are known, whether all came, whether somebody tried a value,
-/// whether more on its record is to be told; and whether it asks.
-const ASKS: &[(Option<u64>, u64, u32, u32, bool, bool, bool, bool)] = &[
-    (None, 0, 2000, 0, false, true, false, true),
-    (Some(1000), 1000, 0, 7, true, false, false, false),
-    (Some(1000), 1399, 0, 7, true, false, false, false),
-    (Some(1000), 1400, 1999, 7, false, true, false, true),
-    (Some(1000), 1400, 2000, 7, false, true, false, false),
-    (Some(1000), 1800, 2000, 7, false, true, false, true),
-    (Some(1000), 1001, 0, 8, true, false, false, true),
-    (Some(1000), 1001, 0, 8, true, true, false, false),
-    (Some(1000), 1001, 0, 8, true, true, true, true),
-    (Some(1000), 1001, 0, 7, true, true, true, false),
-    (Some(1000), 1001, 0, 8, false, true, true, false),
-    (Some(1000), 1001, 0, 8, false, false, false, false),
-    (Some(1000), 1019, 0, 71, false, true, false, true),
-    (Some(1000), 1020, 0, 71, false, true, false, false),
-    (Some(1000), 1019, 0, 70, false, true, false, false),
-];
-
-#[test]
-fn a_server_asks_in_its_time_and_behind_news(rt: HostRuntime) {
-    for &(at, now, empty, known, drained, tried, more, asks) in ASKS {
-        let last = LastQuestion {
-            at,
-            known: 7,
-            tried,
-        };
-        let seen = Seen {
-            known,
-            wanted: false,
-            drained,
-            stake: true,
-            resumes: false,
-        };
-        let asking = last.asking(TIMES, now, seen, empty, more);
-        same(
-            &rt,
-            (last, now, empty, seen, more, asking.is_due()),
-            (last, now, empty, seen, more, asks),
         );
     }
 }

@@ -56,19 +56,23 @@ const ALONE: &[Step] = &[
     (1, false, true, Call::Widen, &[]),
     (5, true, true, Call::Tick, &[]),
     (6, false, true, Call::Widen, &[]),
-    (104, false, true, Call::Widen, &[]),
+    // It knows nothing, and asks again, each time later.
+    (9, false, true, Call::Widen, &[]),
+    (10, false, true, Call::Ask, &[]),
+    (24, false, true, Call::Widen, &[]),
+    (25, false, true, Call::Ask, &[]),
+    (104, false, true, Call::Ask, &[]),
     (105, false, true, Call::Tick, &[]),
-    (304, false, true, Call::Widen, &[]),
+    (128, false, true, Call::Widen, &[]),
+    (129, false, true, Call::Ask, &[]),
+    (304, false, true, Call::Ask, &[]),
     (305, false, true, Call::Tick, &[]),
-    (604, false, true, Call::Widen, &[]),
+    (604, false, true, Call::Ask, &[]),
     (605, false, true, Call::Tick, &[]),
-    (799, false, true, Call::Widen, &[]),
-    (800, false, true, Call::Ask, &[]),
-    (904, false, true, Call::Widen, &[]),
-    (905, false, true, Call::Tick, &[]),
-    // A question and a tick are due at once: the tick comes next.
-    (1600, false, true, Call::Ask, &[]),
+    (904, false, true, Call::Ask, &[]),
+    // A question and a tick are due at once: the question comes next.
     (1600, false, true, Call::Tick, &[]),
+    (1600, false, true, Call::Ask, &[]),
     (1600, false, true, Call::Widen, &[]),
 ];
 
@@ -76,23 +80,23 @@ const ALONE: &[Step] = &[
 const IN_VAIN: &[Step] = &[
     (0, false, true, Call::Ask, &[]),
     (5, true, true, Call::Tick, &[REFUSAL, PROMISE]),
-    (104, false, true, Call::Widen, &[]),
+    (104, false, true, Call::Ask, &[]),
     (105, false, true, Call::Tick, &[REFUSAL]),
     (106, false, true, Call::Widen, &[PROMISE]),
-    (304, false, true, Call::Widen, &[]),
+    (304, false, true, Call::Ask, &[]),
     // The one before was in vain: it waits ten patiences longer.
     (305, false, true, Call::Tick, &[REFUSAL, PROMISE]),
     (800, false, true, Call::Ask, &[]),
-    (1404, false, true, Call::Widen, &[]),
+    (1404, false, true, Call::Ask, &[]),
     // So was this one; and then node 3 alone answers.
     (1405, false, true, Call::Tick, &[PROMISE, PROMISE]),
     (1600, false, true, Call::Ask, &[]),
     (2400, false, true, Call::Ask, &[]),
     (3200, false, true, Call::Ask, &[]),
-    (3504, false, true, Call::Widen, &[]),
+    (3504, false, true, Call::Ask, &[]),
     (3505, false, true, Call::Tick, &[]),
     // That is no majority of three: ticks in vain are forgotten.
-    (3804, false, true, Call::Widen, &[]),
+    (3804, false, true, Call::Ask, &[]),
     (3805, false, true, Call::Tick, &[]),
 ];
 
@@ -100,20 +104,27 @@ const IN_VAIN: &[Step] = &[
 const ASKED: &[Step] = &[
     (0, false, true, Call::Ask, &[SECOND_ASKS]),
     (1, false, true, Call::Tell(2, 1), &[SECOND_ASKS, THIRD_ASKS]),
-    // Node 2 was told just now.
+    // In the step behind a telling nobody is told.
     (2, false, true, Call::Widen, &[]),
     (3, false, true, Call::Tell(3, 1), &[]),
-    (4, false, true, Call::Widen, &[SECOND_ASKS]),
-    (400, false, true, Call::Widen, &[SECOND_ASKS]),
-    (401, false, true, Call::Tell(2, 1), &[PREPARE, THIRD_ASKS]),
-    (403, false, true, Call::Nothing, &[THIRD_ASKS]),
-    (900, false, true, Call::Ask, &[]),
+    (4, false, true, Call::Widen, &[]),
+    // What node 2 was told may be on its way.
+    (5, false, true, Call::Widen, &[]),
+    (10, false, true, Call::Ask, &[]),
+    (25, false, true, Call::Ask, &[]),
+    (42, false, true, Call::Widen, &[SECOND_ASKS, PREPARE]),
+    // Somebody tries a value, and nothing is known.
+    (43, false, true, Call::Nothing, &[]),
+    (45, false, true, Call::Ask, &[]),
+    (46, false, true, Call::Tell(2, 1), &[]),
 ];
 
 /// What node 3 asks for becomes known behind its question, in the same batch: no answer told it.
 const KNOWN_BEHIND: &[Step] = &[
     (0, false, true, Call::Ask, &[THIRD_ASKS, FIRST_KNOWN]),
-    (1, false, true, Call::Tell(3, 1), &[]),
+    (1, false, true, Call::Ask, &[]),
+    (2, false, true, Call::Tell(3, 1), &[]),
+    (3, false, true, Call::Widen, &[]),
 ];
 
 /// Values become known, while nobody tries one and while somebody does, and one is submitted among them.
@@ -131,6 +142,7 @@ const NEWS: &[Step] = &[
     (400, false, true, Call::Widen, &[]),
     (401, false, true, Call::Keep(2, 1), &[]),
     (401, false, true, Call::Tick, &[]),
+    (803, false, true, Call::Tick, &[]),
     (803, false, true, Call::Ask, &[]),
 ];
 
@@ -155,10 +167,11 @@ const YIELDS: &[Step] = &[
     // It waited in vain, and does so once more.
     (8, false, true, Call::Nothing, &[]),
     // The patience is what it would be.
-    (100, false, true, Call::Widen, &[]),
+    (100, false, true, Call::Ask, &[]),
     (101, false, true, Call::Tick, &[FIRST_KNOWN]),
+    (102, false, true, Call::Ask, &[]),
     // Node 2 tried last: this one comes next.
-    (102, false, true, Call::Widen, &[]),
+    (103, false, true, Call::Widen, &[]),
 ];
 
 /// Nodes 2 and 3 tried, and node 3 comes next.

@@ -1,22 +1,17 @@
-use Rattle.std.proofs.Common.{rules, ◌-◌, ◌&&◌, not, set, if◌then◌else◌, Some, inl, subst, ◌∙◌}
-use Rattle.site_ids.specs.Ids.{IsNode}
+use Rattle.std.proofs.Common.{inl, inr, refl}
 use Rattle.server_pace.proofs.questions.Questions.next.Goals as goal
 
--- the question that was taken is told of, or not
+-- nobody is told
+pub returns-in_err-next : goal.returns-in_err-next
+returns-in_err-next g c = λ s h. record {
+  mid = c.take_in.new.self;
+  takes = c.take_in.ensures;
+  tells = inr (c.in_err-next.ensures.none s h, c.from_residual.ensures, refl);
+}
+
 pub returns : goal.returns
-returns g c = λ s h.
-    let is = c.in_ok-to.ensures.some in
-    let p = c.in_ok-to.to in
-    let told = c.take_first.ensures.told in
-    inl (record {
-      node = p;
-      first = c.in_ok-to.first;
-      is_node = subst (λ n. IsNode n p) c.cluster.ensures is.0;
-      asked = is.1;
-      full = c.is_full-full.result;
-      full_is = c.is_full-full.ensures s h;
-      due = c.tells.result;
-      due_is = search rules;
-      telling_is = search rules;
-      after = c.tells.ensures.counts ∙ (λ i. record { asked = is.2 i; told = if c.tells.result && not c.is_full-full.result then set (told i) (p - 1) (Some c.args.now) else told i });
-    })
+returns g c = λ s h. record {
+  mid = c.take_in.new.self;
+  takes = c.take_in.ensures;
+  tells = inl (c.in_ok-next.next, c.in_ok-next.ensures.some s h, refl, c.tell.ensures);
+}

@@ -5,6 +5,7 @@ use Rattle.server_pace.proofs.seen.Seen.of.Goals as goal
 pub returns : goal.returns
 returns g c = λ s h. record {
   known = c.known-known.ensures s h;
+  reached = c.reached.ensures s h;
   wanted = c.wants_tick.ensures s h;
   drained_is = refl;
   stake = c.has_stake.ensures s h;

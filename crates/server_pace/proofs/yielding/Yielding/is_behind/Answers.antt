@@ -1,6 +1,6 @@
 use Rattle.std.proofs.Common.{◌≡◌, ⊎_elim, ℕ, ◌<◌, ◌≤◌, ◌-◌, get_or, true, false, ap, sym, ◌∙◌, arith, rules}
 use Rattle.site_ids.proofs.NodeSetLemmas.{below_next}
-use Rattle.server_pace.specs.Pacing.{places_behind}
+use Rattle.server_pace.specs.Places.{places_behind}
 use Rattle.server_pace.proofs.yielding.Yielding.is_behind.Goals as goal
 use Rattle.server_pace.proofs.yielding.Yielding.is_behind.Goals.{else-tried-from-via-then-tried-from+else-places_behind, else-tried-from-via-else-tried-from}
 

@@ -1,5 +1,5 @@
 use Rattle.std.proofs.Common.{◌≡◌, ℕ, ◌<◌, ◌≤◌, ◌-◌, get_or, true, false}
-use Rattle.server_pace.specs.Pacing.{places_behind}
+use Rattle.server_pace.specs.Places.{places_behind}
 use Rattle.server_pace.proofs.yielding.Yielding.is_behind.Given as goal
 
 -- none of the nodes so far that tried comes before this server

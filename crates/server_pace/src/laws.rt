@@ -1,0 +1,16 @@
+//! Laws of asking and telling.
+
+ghost use Rattle.server_pace.specs.Laws.{BeginsWithin, ComesInTime, HearsWithin, IsAsked, TellsWithin};
+
+/// No more is on its way to a node that asks than its budget of stretches, of 64 instances each.
+pub fn no_line_is_flooded()
+    ensures begins { BeginsWithin }
+    ensures hears { HearsWithin }
+    ensures tells { TellsWithin }
+{}
+
+/// A server asks for its first unknown instance again, in a bounded time.
+pub fn questions_come_in_time()
+    ensures comes { ComesInTime }
+    ensures asked { IsAsked }
+{}

@@ -1,0 +1,152 @@
+//! A server that is behind catches up, however bad the network.
+use crate::comparing::{ensure, same};
+use crate::far::{Far, release};
+use crate::group::{Group, turn};
+use std::alloc::Global;
+use std::process::Abort;
+
+/// So many values the others know.
+const KNOWN: u32 = 640;
+
+/// One piece of eleven is lost, and one of four, in no order that a telling has.
+const FEW: &[bool] = &[
+    false, false, false, true, false, false, false, false, false, false, false,
+];
+
+const MANY: &[bool] = &[
+    false, true, false, false, false, false, false, true, true, false, false, false, false, false,
+    false, true, false, false, false, false, false, true, false,
+];
+
+/// A server tells the value of an instance, of a hundred bytes.
+fn told(rt: &impl Abort, alloc: Global, from: u8, instance: u32) -> Vec<u8> {
+    let mut bytes = Vec::from_slice(alloc, &[1, 7, from]).expect(rt, "memory");
+    bytes
+        .extend_from_slice(&instance.to_be_bytes())
+        .expect(rt, "memory");
+    bytes
+        .extend_from_slice(&100_u32.to_be_bytes())
+        .expect(rt, "memory");
+    bytes.resize(111, 7).expect(rt, "memory");
+    bytes
+}
+
+/// A server is told the first so many values.
+fn learns(rt: &impl Abort, group: &mut Group, number: u8, count: u32) {
+    let (alloc, now) = (group.alloc, group.now);
+    let server = group.server(rt, number);
+    for instance in 1..=count {
+        let bytes = told(rt, alloc, 1, instance);
+        server
+            .mail
+            .take_in(bytes.as_slice(), now)
+            .expect(rt, "memory");
+    }
+    ensure(rt, turn(server, now).is_ok(), number);
+    same(rt, (number, server.served.node.known()), (number, count));
+}
+
+/// A group of so many servers, of which the last knows nothing.
+fn behind(
+    rt: &impl Abort,
+    alloc: Global,
+    size: u8,
+    takes: u64,
+    loses: &'static [bool],
+    away: &'static [u8],
+) -> Far {
+    let mut group = Group::new(rt, alloc, size);
+    for number in 1..size {
+        learns(rt, &mut group, number, KNOWN);
+    }
+    Far::new(group, takes, 1, loses, away)
+}
+
+/// After how many milliseconds the last of so many servers knows all; more than the bound where it does not
+/// within it.
+fn catches_up(rt: &impl Abort, far: &mut Far, size: u8, bound: u64) -> u64 {
+    let since = far.group.now;
+    for _ in 0..=bound {
+        if far.group.server(rt, size).served.node.known() >= KNOWN {
+            break;
+        }
+        far.goes_on(rt, size);
+    }
+    far.group.now.saturating_sub(since)
+}
+
+/// How many servers there are, how many milliseconds a letter takes, which pieces are lost, which servers are
+/// away; and after how many milliseconds the last one knows all, at most.
+type Row = (u8, u64, &'static [bool], &'static [u8], u64);
+
+const ROWS: &[Row] = &[
+    (3, 1, &[], &[], 30),
+    (3, 20, &[], &[], 200),
+    (3, 100, &[], &[], 700),
+    (5, 100, &[], &[], 700),
+    (3, 20, FEW, &[], 220),
+    (3, 20, MANY, &[], 360),
+    (5, 20, MANY, &[], 320),
+    (3, 100, MANY, &[], 1_500),
+    // One never answers, be it its turn or not.
+    (3, 20, &[], &[1], 380),
+    (3, 20, MANY, &[2], 310),
+    (5, 20, &[], &[1, 2], 380),
+];
+
+#[test]
+fn a_server_catches_up_in_time(rt: HostRuntime) {
+    for &(size, takes, loses, away, bound) in ROWS {
+        let mut far = behind(&rt, rt.alloc(), size, takes, loses, away);
+        let millis = catches_up(&rt, &mut far, size, bound);
+        ensure(&rt, millis <= bound, (size, takes, away, millis));
+    }
+}
+
+#[test]
+fn a_value_of_its_own_keeps_nobody_back(rt: HostRuntime) {
+    let mut far = behind(&rt, rt.alloc(), 3, 10, &[], &[]);
+    let value = release(&rt, rt.alloc(), 3);
+    far.submit(&rt, 3, &value);
+    let millis = catches_up(&rt, &mut far, 3, 2_000);
+    ensure(&rt, millis <= 1_000, millis);
+}
+
+/// In the name of a server another one is asked for the first instance.
+fn asks(rt: &impl Abort, far: &mut Far, from: u8, number: u8) {
+    let now = far.group.now;
+    let mail = &mut far.group.server(rt, number).mail;
+    mail.take_in(&[1, 6, from, 0, 0, 0, 1], now)
+        .expect(rt, "memory");
+}
+
+#[test]
+fn no_more_sets_out_than_the_line_takes(rt: HostRuntime) {
+    // Server 2 hears nothing, and asks in each millisecond of a second: it is told two stretches in 40 ms,
+    // and the first value at each question.
+    let mut far = behind(&rt, rt.alloc(), 2, 5, &[true], &[]);
+    for _ in 0..1_000 {
+        asks(&rt, &mut far, 2, 1);
+        far.goes_on(&rt, 2);
+    }
+    ensure(&rt, far.sent > 3_000, far.sent);
+    ensure(&rt, far.sent < 4_500, far.sent);
+}
+
+#[test]
+fn forged_tellings_and_questions_raise_no_flood(rt: HostRuntime) {
+    let mut far = behind(&rt, rt.alloc(), 3, 5, &[], &[]);
+    let _ = catches_up(&rt, &mut far, 3, 1_000);
+    let before = far.sent;
+    for millis in 0..500 {
+        // Somebody tells server 3 of an instance far off, and asks server 1 in its name for the first one.
+        let forged = told(&rt, rt.alloc(), 2, 900_000 + millis);
+        let now = far.group.now;
+        let mail = &mut far.group.server(&rt, 3).mail;
+        mail.take_in(forged.as_slice(), now).expect(&rt, "memory");
+        asks(&rt, &mut far, 3, 1);
+        far.goes_on(&rt, 3);
+    }
+    ensure(&rt, far.sent.saturating_sub(before) < 800, far.sent);
+    far.group.stands(&rt, 3, KNOWN, 0);
+}

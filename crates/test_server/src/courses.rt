@@ -1,0 +1,158 @@
+//! How far a node is told that asked: each rule as a table.
+use crate::comparing::{ensure, same};
+use server_pace::{Course, Times};
+use site_ids::Instance;
+use std::process::Abort;
+
+fn times() -> Times {
+    Times::new(None, None)
+}
+
+/// A node asked for instance 100 at 1000, and is told from 228 on, of five stretches; it takes a tenth of a
+/// second.
+fn course() -> Course {
+    Course {
+        first: 100,
+        next: 228,
+        budget: 5,
+        repeats: 0,
+        at: 1000,
+        began: None,
+        took: 100,
+        asked: false,
+    }
+}
+
+fn instance(rt: &impl Abort, number: u32) -> Instance {
+    Instance::new(number).expect(rt, "an instance")
+}
+
+/// What it asks for, and how many stretches are its budget then.
+const MOVED: &[(u32, u32)] = &[
+    (102, 6),
+    (164, 6),
+    (165, 7),
+    (228, 7),
+    (229, 8),
+    (3000, 51),
+    (3813, 64),
+    (1_000_000, 64),
+];
+
+#[test]
+fn who_asks_further_on_is_told_more(rt: HostRuntime) {
+    for &(number, budget) in MOVED {
+        let wanted = Course {
+            first: number,
+            next: number.max(228),
+            budget,
+            at: 1700,
+            asked: true,
+            ..course()
+        };
+        let moved = course().heard(times(), 1700, instance(&rt, number));
+        same(&rt, (number, moved), (number, wanted));
+    }
+}
+
+#[test]
+fn who_asks_again_is_told_again(rt: HostRuntime) {
+    // Nothing is known to be on its way: it is told from there on, a quarter less.
+    for number in [100, 101] {
+        let wanted = Course {
+            first: number,
+            next: number,
+            budget: 3,
+            repeats: 1,
+            at: 1700,
+            began: Some(1700),
+            asked: true,
+            ..course()
+        };
+        let again = course().heard(times(), 1700, instance(&rt, number));
+        same(&rt, again, wanted);
+        // What it is told since may be on its way for twice as long as that took.
+        let soon = again.heard(times(), 1899, instance(&rt, number));
+        let waits = Course {
+            repeats: 2,
+            at: 1899,
+            ..again
+        };
+        same(&rt, soon, waits);
+        let late = again.heard(times(), 1900, instance(&rt, number));
+        let anew = Course {
+            budget: 2,
+            repeats: 2,
+            at: 1900,
+            began: Some(1900),
+            ..again
+        };
+        same(&rt, late, anew);
+        // So long it took, where it asks further on.
+        let further = soon.heard(times(), 1950, instance(&rt, 300));
+        same(&rt, (further.began, further.took), (None, 250));
+        same(&rt, (further.repeats, further.next), (0, 300));
+    }
+}
+
+#[test]
+fn no_line_is_too_bad(rt: HostRuntime) {
+    let mut course = course();
+    for now in 2..40 {
+        course = course.heard(times(), now * 1000, instance(&rt, 100));
+    }
+    same(&rt, (course.budget, course.repeats), (2, 38));
+}
+
+#[test]
+fn an_earlier_question_comes_late_or_begins_anew(rt: HostRuntime) {
+    for number in [1, 99] {
+        let late = course().heard(times(), 1399, instance(&rt, number));
+        same(&rt, late, course());
+        let anew = course().heard(times(), 1400, instance(&rt, number));
+        same(&rt, anew, Course::new(times(), 1400, instance(&rt, number)));
+    }
+}
+
+/// From which instance on it is told next, of how many stretches, how many instances the next one covers; and
+/// whether that may set out.
+const OPEN: &[(u32, u32, u32, bool)] = &[
+    (100, 1, 64, true),
+    (101, 1, 64, false),
+    (164, 2, 64, true),
+    (165, 2, 64, false),
+    // Long values: a stretch is of fewer instances.
+    (108, 2, 8, true),
+    (109, 2, 8, false),
+    (4132, 64, 64, true),
+    (4133, 64, 64, false),
+    (100, 0, 64, true),
+    (101, 0, 64, false),
+    (1, 0, 0, true),
+];
+
+#[test]
+fn so_many_stretches_are_on_their_way(rt: HostRuntime) {
+    for &(next, budget, count, may) in OPEN {
+        let course = Course {
+            next,
+            budget,
+            ..course()
+        };
+        same(
+            &rt,
+            (course, count, course.is_open(count)),
+            (course, count, may),
+        );
+    }
+}
+
+#[test]
+fn a_telling_goes_on_behind_itself(rt: HostRuntime) {
+    let first = Course::new(times(), 1000, instance(&rt, 100));
+    ensure(&rt, first.asked && first.is_open(64), first);
+    let told = first.told(64).told(64);
+    same(&rt, (told.first, told.next, told.asked), (100, 228, false));
+    ensure(&rt, !told.is_open(64), told);
+    same(&rt, first.told(u32::MAX).next, u32::MAX);
+}
