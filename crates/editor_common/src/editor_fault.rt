@@ -29,12 +29,22 @@ pub enum EditorFault {
 }
 
 impl From<AllocError> for EditorFault {
+    ghost use Rattle.std.specs.Prelude.{◌≡◌};
+    ghost use Rattle.editor_common.specs.declared.editor_fault.EditorFault.TheVariants.{OutOfMemory};
+
+    ghost from_gives = { λ _ e. e ≡ OutOfMemory };
+
     fn from(_refused: AllocError) -> EditorFault {
         EditorFault::OutOfMemory
     }
 }
 
 impl<T: Drop> From<AllocFailed<T>> for EditorFault {
+    ghost use Rattle.std.specs.Prelude.{◌≡◌};
+    ghost use Rattle.editor_common.specs.declared.editor_fault.EditorFault.TheVariants.{OutOfMemory};
+
+    ghost from_gives = { λ _ e. e ≡ OutOfMemory };
+
     fn from(_refused: AllocFailed<T>) -> EditorFault {
         EditorFault::OutOfMemory
     }

@@ -1,11 +1,16 @@
 //! How long something is waited for.
+
+ghost use Rattle.std.specs.Prelude.{◌≡◌, IfErr};
+
 use crate::editor_fault::EditorFault;
 use std::rt::Clock;
 use std::thread;
 use std::time::{Duration, Instant};
 
 /// The time now.
-pub fn now<C: Clock>(clock: &C) -> Result<Instant, EditorFault> {
+pub fn now<C: Clock>(clock: &C) -> Result<Instant, EditorFault>
+    ensures { IfErr result (λ fault. fault ≡ EditorFault.Clock) }
+{
     match Instant::now(clock) {
         Ok(now) => Ok(now),
         Err(_) => Err(EditorFault::Clock),
@@ -13,7 +18,9 @@ pub fn now<C: Clock>(clock: &C) -> Result<Instant, EditorFault> {
 }
 
 /// How many milliseconds passed since then.
-pub fn passed<C: Clock>(clock: &C, since: Instant) -> Result<u64, EditorFault> {
+pub fn passed<C: Clock>(clock: &C, since: Instant) -> Result<u64, EditorFault>
+    ensures { IfErr result (λ fault. fault ≡ EditorFault.Clock) }
+{
     match since.elapsed(clock) {
         Ok(passed) => Ok(u64::try_from(passed.as_millis()).unwrap_or(u64::MAX)),
         Err(_) => Err(EditorFault::Clock),

@@ -1,4 +1,5 @@
-ghost use Rattle.std.specs.Prelude.{◌++◌, ◌∷◌, [], OnOk};
+ghost use Rattle.std.specs.Prelude.{◌≡◌, ◌++◌, ◌∷◌, [], OnOk, IfErr};
+ghost use Rattle.editor_common.specs.Faults.{IsOfGroup};
 ghost use Rattle.std.specs.Io.KnownBytes.{Appends};
 
 use crate::editor_fault::EditorFault;
@@ -7,7 +8,8 @@ use std::io::Write;
 
 /// Writes a line.
 pub fn say<W: Write>(out: &mut W, line: &str) -> Result<(), EditorFault>
-    ensures { OnOk result (Appends (W.contents out.old) (W.contents out.new) (line.now ++ 10 ∷ [])) }
+    ensures written { OnOk result (Appends (W.contents out.old) (W.contents out.new) (line.now ++ 10 ∷ [])) }
+    ensures fault { IfErr result (λ fault. fault ≡ EditorFault.Write) }
 {
     match writeln!(out, "{line}") {
         Ok(()) => Ok(()),
@@ -16,9 +18,8 @@ pub fn say<W: Write>(out: &mut W, line: &str) -> Result<(), EditorFault>
 }
 
 /// Writes a line, where there was memory to make it.
-pub fn say_made<W: Write>(
-    out: &mut W,
-    line: Result<String, AllocError>,
-) -> Result<(), EditorFault> {
+pub fn say_made<W: Write>(out: &mut W, line: Result<String, AllocError>) -> Result<(), EditorFault>
+    ensures { IfErr result IsOfGroup }
+{
     say(out, line?.as_str())
 }

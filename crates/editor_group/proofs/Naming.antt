@@ -1,7 +1,10 @@
 -- The nodes of URLs, read one after the other.
-use Rattle.std.proofs.Common.{◌≡◌, ◌+◌, ◌<◌, ◌≤◌, ℕ, zero, suc, List, [], ◌∷◌, ◌++◌, length, take, get_or, refl, sym, ap, subst, arith}
+use Rattle.std.proofs.Common.{◌≡◌, ◌⊎◌, Result, Ok, Err, IfErr, IsErrAnd, ⊎_elim, inl, inr, ◌+◌, ◌<◌, ◌≤◌, ℕ, zero, suc, List, [], ◌∷◌, ◌++◌, length, take, get_or, refl, sym, ap, subst, arith}
 use Rattle.std.proofs.lemmas.List.{take_more}
-use Rattle.editor_group.specs.Addresses.{AreNamed, Names}
+use Rattle.editor_common.specs.Faults.{IsStop, IsOfGroup}
+use Rattle.editor_common.specs.declared.editor_fault.EditorFault.{EditorFault}
+use Rattle.editor_common.specs.declared.editor_fault.EditorFault.TheVariants.{Write, Stop, NoNodes, Clock, OutOfMemory}
+use Rattle.editor_group.specs.Addresses.{AreNamed, IsRefused, Names, NamesNone, OneIsRefused}
 use Rattle.editor_group.specs.declared.address.Address.{Address}
 
 one_more : {X : Type 0} (url_of : X → List ℕ) (xs : List X) (nodes : List Address) (x : X) (node : Address)
@@ -39,3 +42,29 @@ as_many url_of [] [] all = refl
 as_many url_of [] (n ∷ ns) all = absurd all
 as_many url_of (x ∷ xs) [] all = absurd all
 as_many url_of (x ∷ xs) (n ∷ ns) all = ap suc (as_many url_of xs ns all.1)
+
+-- one that is refused is among them
+pub one_refused : {X : Type 0} (url_of : X → List ℕ) (xs : List X) (i : ℕ) (d : X) (why : EditorFault)
+    → i < length xs → IsRefused (url_of (get_or xs i d)) why → OneIsRefused url_of xs why
+one_refused url_of [] i d why below refused = absurd (omega (arith, below))
+one_refused url_of (x ∷ xs) zero d why below refused = inl refused
+one_refused url_of (x ∷ xs) (suc i) d why below refused = inr (one_refused url_of xs i d why (omega (arith, below)) refused)
+
+-- words are a fault of a group
+stop_of_group : (why : EditorFault) → IsStop why → IsOfGroup why
+stop_of_group (Stop words) is = tt
+stop_of_group OutOfMemory is = tt
+stop_of_group _ is = absurd is
+
+-- and so is the refusal of a URL
+pub refused_of_group : {X : Type 0} (url_of : X → List ℕ) (xs : List X) (why : EditorFault) → OneIsRefused url_of xs why → IsOfGroup why
+refused_of_group url_of [] why refused = absurd refused
+refused_of_group url_of (x ∷ xs) why refused = ⊎_elim
+    (λ one. ⊎_elim (λ (memory : why ≡ OutOfMemory). subst (λ (f : EditorFault). IsOfGroup f) (sym memory) tt) (λ (none : IsStop why × NamesNone (url_of x)). stop_of_group why none.0) one)
+    (λ later. refused_of_group url_of xs why later)
+    refused
+
+-- what holds of a fault holds of the one that a `?` passes on
+pub passes_on : {T : Type 0} (P : EditorFault → Type 0) (r : Result T EditorFault) (fault : EditorFault) → IsErrAnd r (λ y. y ≡ fault) → P fault → IfErr r P
+passes_on P (Ok x) fault same holds = tt
+passes_on P (Err y) fault same holds = subst P (sym same) holds

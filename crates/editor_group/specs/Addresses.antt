@@ -1,6 +1,9 @@
 -- The node that a URL names.
 use Rattle.std.specs.Prelude.{◌≡◌, ◌≢◌, ◌⊎◌, ⊤, ℕ, ◌<◌, List, [], ◌∷◌, ◌++◌, length, slice_index, codes, string_bytes}
 use Rattle.std.specs.Option.{option_map}
+use Rattle.editor_common.specs.Faults.{IsStop}
+use Rattle.editor_common.specs.declared.editor_fault.EditorFault.{EditorFault}
+use Rattle.editor_common.specs.declared.editor_fault.EditorFault.TheVariants.{OutOfMemory}
 use Rattle.editor_http.specs.Authorities.{login_before, login_shown, host_in}
 use Rattle.editor_group.specs.declared.address.Address.{Address}
 
@@ -48,6 +51,15 @@ pub record Names (url : List ℕ) (node : Address) : Type 0 where
 -- the URL names no node
 abbrev pub NamesNone : List ℕ → Type 0
 NamesNone url = (text : List ℕ) → IsHttp url text → ¬ HasHost text
+
+-- an allocation failed, or the URL names no node, which words say
+abbrev pub IsRefused : List ℕ → EditorFault → Type 0
+IsRefused url why = (why ≡ OutOfMemory) ⊎ (IsStop why × NamesNone url)
+
+-- one of the URLs is refused for this
+abbrev pub OneIsRefused : {X : Type 0} → (X → List ℕ) → List X → EditorFault → Type 0
+OneIsRefused url_of [] why = ⊥
+OneIsRefused url_of (x ∷ xs) why = IsRefused (url_of x) why ⊎ OneIsRefused url_of xs why
 
 -- each URL names one of the nodes, in order
 abbrev pub AreNamed : {X : Type 0} → (X → List ℕ) → List X → List Address → Type 0

@@ -1,5 +1,6 @@
 //! Which nodes answer, all asked at once.
-ghost use Rattle.std.specs.Prelude.{◌≡◌, length, vec_len, IfOk};
+ghost use Rattle.std.specs.Prelude.{◌≡◌, length, vec_len, IfErr, IfOk};
+ghost use Rattle.editor_common.specs.Faults.{IsOfGroup};
 
 use crate::address::Address;
 use crate::asking::number_in;
@@ -21,7 +22,8 @@ fn ask_newest<'a, R: Net<Stream = TcpStream> + Clock + AllocGlobal>(
     group: &'a Group,
     within: u64,
 ) -> Result<Vec<Said<'a>>, EditorFault>
-    ensures { IfOk result (λ all. vec_len all ≡ length group.now.nodes.items) }
+    ensures is { IfOk result (λ all. vec_len all ≡ length group.now.nodes.items) }
+    ensures faults { IfErr result IsOfGroup }
 {
     let nodes: Vec<&Address> = group.nodes().iter().collect(rt.alloc())?;
     ask_each(rt, &nodes, &[Question::Newest], within)
@@ -32,7 +34,9 @@ pub(crate) fn silent_nodes<R: Net<Stream = TcpStream> + Clock + AllocGlobal>(
     rt: &R,
     group: &Group,
     within: u64,
-) -> Result<String, EditorFault> {
+) -> Result<String, EditorFault>
+    ensures faults { IfErr result IsOfGroup }
+{
     let mut silent = String::new(rt.alloc());
     for said in &ask_newest(rt, group, within)? {
         if !tells_newest(said) {

@@ -1,5 +1,6 @@
 //! The same questions to several nodes at once, so that silent ones cost no more time than one of them.
-ghost use Rattle.std.specs.Prelude.{◌≡◌, length, vec_len, IfOk};
+ghost use Rattle.std.specs.Prelude.{◌≡◌, length, vec_len, IfErr, IfOk};
+ghost use Rattle.editor_common.specs.Faults.{IsOfGroup};
 
 use crate::address::Address;
 use crate::asking::{connect_within, read_answers, write_questions};
@@ -81,7 +82,9 @@ fn begin_talk<'a, R: Clock + AllocGlobal>(
     stream: TcpStream,
     node: &'a Address,
     questions: &[Question<'_>],
-) -> Result<Call<'a>, EditorFault> {
+) -> Result<Call<'a>, EditorFault>
+    ensures faults { IfErr result IsOfGroup }
+{
     let since = now(rt)?;
     write_questions(rt.alloc(), &stream, &node.authority, questions)?;
     if stream.set_nonblocking(true).is_err() {
@@ -100,7 +103,9 @@ fn begin<'a, R: Net<Stream = TcpStream> + Clock + AllocGlobal>(
     node: &'a Address,
     within: Duration,
     questions: &[Question<'_>],
-) -> Result<Call<'a>, EditorFault> {
+) -> Result<Call<'a>, EditorFault>
+    ensures faults { IfErr result IsOfGroup }
+{
     match connect_within(rt, node.authority.host.as_str(), within) {
         Ok(stream) => begin_talk(rt, stream, node, questions),
         Err(fault) if fault.kind() == io::ErrorKind::OutOfMemory => Err(EditorFault::OutOfMemory),
@@ -114,7 +119,8 @@ fn begin_all<'a, R: Net<Stream = TcpStream> + Clock + AllocGlobal>(
     nodes: &[&'a Address],
     questions: &[Question<'_>],
 ) -> Result<Vec<Call<'a>>, EditorFault>
-    ensures { IfOk result (λ calls. vec_len calls ≡ length nodes.now) }
+    ensures is { IfOk result (λ calls. vec_len calls ≡ length nodes.now) }
+    ensures faults { IfErr result IsOfGroup }
 {
     let share = CONNECTING / (nodes.len() as u64).max(1);
     let mut calls = Vec::new(rt.alloc());
@@ -145,7 +151,9 @@ fn read_talk<'a, R: Clock + AllocGlobal>(
     talk: &Talk<'a>,
     count: usize,
     left: u64,
-) -> Result<Said<'a>, EditorFault> {
+) -> Result<Said<'a>, EditorFault>
+    ensures faults { IfErr result IsOfGroup }
+{
     let mut said = silence(rt.alloc(), talk.node, None);
     said.millis = passed(rt, talk.since)?;
     if set_waiting(&talk.stream, left).is_ok() {
@@ -160,7 +168,9 @@ fn news_of<'a, R: Clock + AllocGlobal>(
     call: &Call<'a>,
     count: usize,
     left: u64,
-) -> Result<Option<Said<'a>>, EditorFault> {
+) -> Result<Option<Said<'a>>, EditorFault>
+    ensures faults { IfErr result IsOfGroup }
+{
     match call {
         Call::Waits(talk) if has_come(&talk.stream) => Ok(Some(read_talk(rt, talk, count, left)?)),
         _ => Ok(None),
@@ -178,7 +188,8 @@ fn look<R: Clock + AllocGlobal>(
     count: usize,
     left: u64,
 ) -> Result<bool, EditorFault>
-    ensures { length calls.new ≡ length calls.old }
+    ensures is { length calls.new ≡ length calls.old }
+    ensures faults { IfErr result IsOfGroup }
 {
     for call in calls.iter_mut() {
         if let Some(said) = news_of(rt, call, count, left)? {
@@ -195,7 +206,8 @@ fn wait_for_all<R: Clock + AllocGlobal>(
     count: usize,
     within: u64,
 ) -> Result<(), EditorFault>
-    ensures { length calls.new ≡ length calls.old }
+    ensures is { length calls.new ≡ length calls.old }
+    ensures faults { IfErr result IsOfGroup }
 {
     let since = now(rt)?;
     for _ in 0..u64::MAX {
@@ -229,7 +241,8 @@ pub(crate) fn ask_each<'a, R: Net<Stream = TcpStream> + Clock + AllocGlobal>(
     questions: &[Question<'_>],
     within: u64,
 ) -> Result<Vec<Said<'a>>, EditorFault>
-    ensures { IfOk result (λ all. vec_len all ≡ length nodes.now) }
+    ensures is { IfOk result (λ all. vec_len all ≡ length nodes.now) }
+    ensures faults { IfErr result IsOfGroup }
 {
     let mut calls = begin_all(rt, nodes, questions)?;
     wait_for_all(rt, calls.as_mut_slice(), questions.len(), within)?;

@@ -1,5 +1,6 @@
 //! What is on its way is sent until each has its receipt.
-ghost use Rattle.std.specs.Prelude.{◌≡◌, true, OnOk};
+ghost use Rattle.std.specs.Prelude.{◌≡◌, true, IfErr, OnOk};
+ghost use Rattle.editor_common.specs.Faults.{IsOfGroup, IsStop};
 ghost use Rattle.editor_ledger.specs.Steps.{is_idle};
 ghost use Rattle.editor_plan.specs.Moves.{HearsAnswers};
 
@@ -85,6 +86,7 @@ fn hear(
     answer: &NodeAnswer,
 ) -> Result<(), EditorFault>
     ensures hears { HearsAnswers saved.old.ledger.now saved.new.ledger.now }
+    ensures faults { IfErr result IsOfGroup }
 {
     match saved.hear(flight, ask, answer.status)? {
         Heard::Refused => Err(stop(refusal(alloc, node, saved.ledger(), ask, answer))),
@@ -102,6 +104,7 @@ fn hear_all(
     answers: &[NodeAnswer],
 ) -> Result<(), EditorFault>
     ensures hears { HearsAnswers saved.old.ledger.now saved.new.ledger.now }
+    ensures faults { IfErr result IsOfGroup }
 {
     for (ask, answer) in asks.iter().zip(answers) {
         hear(alloc, flight, node, saved, *ask, answer)?;
@@ -119,6 +122,7 @@ fn exchange<N: Net<Stream = TcpStream>>(
     within: u64,
 ) -> Result<bool, EditorFault>
     ensures hears { HearsAnswers saved.old.ledger.now saved.new.ledger.now }
+    ensures faults { IfErr result IsOfGroup }
 {
     let asks = flight.asks(alloc, saved.ledger().sent())?;
     let answers = answers_of(net, alloc, node, saved.ledger(), &asks, within)?;
@@ -136,6 +140,7 @@ fn bring<N: Net<Stream = TcpStream>>(
     within: u64,
 ) -> Result<Came, EditorFault>
     ensures hears { HearsAnswers saved.old.ledger.now saved.new.ledger.now }
+    ensures faults { IfErr result IsOfGroup }
 {
     let before = saved.ledger().sent().len();
     let answered = exchange(net, alloc, flight, group.node()?, saved, within)?;
@@ -158,7 +163,9 @@ fn turn<C: Clock>(clock: &C, alloc: Global, flight: &mut Flight, group: &mut Gro
 }
 
 /// Why nothing is sent any longer.
-fn too_slow(alloc: Global, patience: u64) -> EditorFault {
+fn too_slow(alloc: Global, patience: u64) -> EditorFault
+    ensures { IsStop result }
+{
     stop(format!(in alloc;
         "no progress in {patience} seconds: is a majority of the nodes running? Run it again, and it goes on"
     ))
@@ -177,6 +184,7 @@ fn deliver_at<R: Net<Stream = TcpStream> + Clock + AllocGlobal, E: Write>(
     ensures idle { OnOk result (is_idle saved.new.ledger.now ≡ true) }
     ensures hears { HearsAnswers saved.old.ledger.now saved.new.ledger.now }
     ensures nodes { group.new.nodes ≡ group.old.nodes }
+    ensures faults { IfErr result IsOfGroup }
 {
     let mut progress = Progress::new(saved.ledger().sent().len());
     let mut clock = DeliveryClock::new();
@@ -210,6 +218,7 @@ pub fn deliver<R: Net<Stream = TcpStream> + Clock + AllocGlobal, E: Write>(
     ensures idle { OnOk result (is_idle saved.new.ledger.now ≡ true) }
     ensures hears { HearsAnswers saved.old.ledger.now saved.new.ledger.now }
     ensures nodes { group.new.nodes ≡ group.old.nodes }
+    ensures faults { IfErr result IsOfGroup }
 {
     let mut flight = Flight::new(rt.alloc());
     let since = now(rt)?;

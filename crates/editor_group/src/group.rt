@@ -1,6 +1,7 @@
 //! The nodes that are asked, and the one that is spoken to.
-ghost use Rattle.std.specs.Prelude.{◌≡◌, ◌↔◌, ◌+◌, ◌++◌, ◌∷◌, [], nat_lt, if◌then◌else◌, length, unwrap_or, IfErr, IfOk, IsTrue, OnOk, None, Some, slice_get};
-ghost use Rattle.editor_group.specs.Addresses.{AreNamed, Names};
+ghost use Rattle.std.specs.Prelude.{◌≡◌, ◌↔◌, ◌+◌, ◌++◌, ◌∷◌, [], nat_lt, if◌then◌else◌, length, slice_get};
+ghost use Rattle.std.specs.Prelude.{unwrap_or, IfErr, IfOk, IsTrue, OnOk, None, Some};
+ghost use Rattle.editor_group.specs.Addresses.{AreNamed, IsRefused, Names, OneIsRefused};
 ghost use Rattle.editor_group.specs.declared.address.Address.{Address as Node};
 
 use crate::address::{Address, address_in, no_address};
@@ -17,8 +18,9 @@ pub struct Group {
 
 /// Adds the node of a URL.
 fn push_node(alloc: Global, nodes: &mut Vec<Address>, url: &str) -> Result<(), EditorFault>
-    ensures { OnOk result ((node : Node) × Names url.now node
+    ensures named { OnOk result ((node : Node) × Names url.now node
         × (nodes.new.items ≡ nodes.old.items ++ node ∷ [])) }
+    ensures refused { IfErr result (λ why. IsRefused url.now why) }
 {
     match address_in(alloc, url)? {
         Some(node) => Ok(nodes.push(node)?),
@@ -31,6 +33,7 @@ impl Group {
     pub fn of(alloc: Global, urls: &[&str]) -> Result<Group, EditorFault>
         ensures named { IfOk result (λ group. AreNamed (λ url. url.now) urls.now group.nodes.items) }
         ensures first { IfOk result (λ group. group.at ≡ 0) }
+        ensures refused { IfErr result (OneIsRefused (λ url. url.now) urls.now) }
     {
         let mut nodes = Vec::new(alloc);
         for url in urls {

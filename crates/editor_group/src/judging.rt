@@ -1,5 +1,6 @@
 //! Whether a ledger is the newest of its editor, as the group says.
-ghost use Rattle.std.specs.Prelude.{◌≡◌, ◌∷◌, [], length, vec_len, IfOk, OnOk};
+ghost use Rattle.std.specs.Prelude.{◌≡◌, ◌∷◌, [], length, vec_len, IfErr, IfOk, OnOk};
+ghost use Rattle.editor_common.specs.Faults.{IsOfGroup};
 ghost use Rattle.editor_plan.specs.Standings.{last_shown as shown_last, last_ticket as ticket_last};
 ghost use Rattle.editor_group.specs.Confirming.{IsConfirmed, Stands};
 
@@ -166,7 +167,9 @@ fn tell_unanswered<E: Write>(
     alloc: Global,
     err: &mut E,
     all: &[Said<'_>],
-) -> Result<(), EditorFault> {
+) -> Result<(), EditorFault>
+    ensures faults { IfErr result IsOfGroup }
+{
     let mut barred = false;
     for said in all {
         say_made(err, why_silent(alloc, said))?;
@@ -179,7 +182,9 @@ fn tell_unanswered<E: Write>(
 }
 
 /// Tells which nodes were waited for in vain, if some were.
-fn tell_waited<E: Write>(alloc: Global, err: &mut E, all: &[Said<'_>]) -> Result<(), EditorFault> {
+fn tell_waited<E: Write>(alloc: Global, err: &mut E, all: &[Said<'_>]) -> Result<(), EditorFault>
+    ensures faults { IfErr result IsOfGroup }
+{
     let silent = silent_urls(alloc, all)?;
     if silent.is_empty() {
         return Ok(());
@@ -197,7 +202,9 @@ fn tell_first<E: Write>(
     err: &mut E,
     all: &[Said<'_>],
     found: Standing,
-) -> Result<(), EditorFault> {
+) -> Result<(), EditorFault>
+    ensures faults { IfErr result IsOfGroup }
+{
     if found == Standing::Unanswered {
         tell_unanswered(alloc, err, all)
     } else {
@@ -221,8 +228,9 @@ fn ask_group<R: Net<Stream = TcpStream> + Clock + AllocGlobal, E: Write>(
     claim: Claim,
     times: u64,
 ) -> Result<Found, EditorFault>
-    ensures { IfOk result (λ found.
+    ensures is { IfOk result (λ found.
         Stands (length group.now.nodes.items) claim.last claim.shown found.standing) }
+    ensures faults { IfErr result IsOfGroup }
 {
     let alloc = rt.alloc();
     let nodes: Vec<&Address> = group.nodes().iter().collect(alloc)?;
@@ -246,7 +254,9 @@ fn tell_waiting<E: Write>(
     claim: Claim,
     patience: u64,
     found: Standing,
-) -> Result<(), EditorFault> {
+) -> Result<(), EditorFault>
+    ensures faults { IfErr result IsOfGroup }
+{
     let Claim {
         editor,
         last,
@@ -271,7 +281,9 @@ fn is_final<C: Clock>(
     since: Instant,
     patience: u64,
     found: Standing,
-) -> Result<bool, EditorFault> {
+) -> Result<bool, EditorFault>
+    ensures faults { IfErr result IsOfGroup }
+{
     Ok(
         found == Standing::Newest
             || found == Standing::Older
@@ -290,6 +302,7 @@ fn settled<R: Net<Stream = TcpStream> + Clock + AllocGlobal, E: Write>(
 ) -> Result<Standing, EditorFault>
     ensures stands { IfOk result (Stands (length group.old.nodes.items) claim.last claim.shown) }
     ensures nodes { group.new.nodes ≡ group.old.nodes }
+    ensures faults { IfErr result IsOfGroup }
 {
     let since = now(rt)?;
     for times in 0..u64::MAX {
@@ -328,6 +341,7 @@ pub fn look_at<R: Net<Stream = TcpStream> + Clock + AllocGlobal, E: Write>(
 ) -> Result<Look, EditorFault>
     ensures confirmed { IfOk result (λ look. look ≡ Look.Confirmed → IsConfirmed (length group.old.nodes.items) ledger.now) }
     ensures nodes { group.new.nodes ≡ group.old.nodes }
+    ensures faults { IfErr result IsOfGroup }
 {
     let claim = claim_of(ledger);
     let Found { standing, first } = ask_group(rt, err, group, claim, 0)?;
@@ -351,6 +365,7 @@ pub fn confirm<R: Net<Stream = TcpStream> + Clock + AllocGlobal, E: Write>(
 ) -> Result<(), EditorFault>
     ensures confirmed { OnOk result (IsConfirmed (length group.old.nodes.items) ledger.now) }
     ensures nodes { group.new.nodes ≡ group.old.nodes }
+    ensures faults { IfErr result IsOfGroup }
 {
     let claim = claim_of(ledger);
     match settled(rt, err, folder, group, claim, patience)? {

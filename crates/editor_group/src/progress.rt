@@ -1,4 +1,7 @@
 //! What is told while commands are on their way; when it is told, `editor_plan` says.
+ghost use Rattle.std.specs.Prelude.{IfErr};
+ghost use Rattle.editor_common.specs.Faults.{IsOfGroup};
+
 use crate::answering::silent_nodes;
 use crate::group::Group;
 use editor_common::{EditorFault, say_made};
@@ -15,7 +18,9 @@ fn tell_silence<R: Net<Stream = TcpStream> + Clock + AllocGlobal, E: Write>(
     rt: &R,
     err: &mut E,
     group: &Group,
-) -> Result<(), EditorFault> {
+) -> Result<(), EditorFault>
+    ensures faults { IfErr result IsOfGroup }
+{
     let alloc = rt.alloc();
     let silent = silent_nodes(rt, group, NAMING)?;
     let line = if silent.is_empty() {
@@ -40,7 +45,9 @@ pub(crate) fn tell_progress<R: Net<Stream = TcpStream> + Clock + AllocGlobal, E:
     now: u64,
     left: usize,
     came: Came,
-) -> Result<(), EditorFault> {
+) -> Result<(), EditorFault>
+    ensures faults { IfErr result IsOfGroup }
+{
     if let Some(has) = progress.count(now, left) {
         let all = progress.all();
         say_made(err, format!(in rt.alloc(); "{has} of {all} commands"))?;

@@ -1,5 +1,6 @@
 //! What nodes say of themselves, all asked at once.
-ghost use Rattle.std.specs.Prelude.{◌≡◌, length, vec_len, IfOk, None};
+ghost use Rattle.std.specs.Prelude.{◌≡◌, length, vec_len, IfErr, IfOk, None};
+ghost use Rattle.editor_common.specs.Faults.{IsOfGroup};
 ghost use Rattle.editor_plan.specs.Standings.{last_shown};
 ghost use Rattle.editor_group.specs.Published.{ticket_of};
 
@@ -116,7 +117,8 @@ fn ask_again<'a, R: Net<Stream = TcpStream> + Clock + AllocGlobal, E: Write>(
     all: &mut [Said<'a>],
     questions: &[Question<'_>],
 ) -> Result<(), EditorFault>
-    ensures { length all.new ≡ length all.old }
+    ensures is { length all.new ≡ length all.old }
+    ensures faults { IfErr result IsOfGroup }
 {
     let silent = those_silent(rt.alloc(), all)?;
     if silent.is_empty() {
@@ -148,7 +150,8 @@ fn first_reports<'a, R: Net<Stream = TcpStream> + Clock + AllocGlobal, E: Write>
     nodes: &'a [Address],
     published: Published,
 ) -> Result<Vec<Report<'a>>, EditorFault>
-    ensures { IfOk result (λ reports. vec_len reports ≡ length nodes.now) }
+    ensures is { IfOk result (λ reports. vec_len reports ≡ length nodes.now) }
+    ensures faults { IfErr result IsOfGroup }
 {
     let questions = questions_of(rt.alloc(), published)?;
     let asked: Vec<&Address> = nodes.iter().collect(rt.alloc())?;
@@ -190,7 +193,8 @@ fn ask_pages<R: Net<Stream = TcpStream> + Clock + AllocGlobal>(
     reports: &mut [Report<'_>],
     release: u64,
 ) -> Result<(), EditorFault>
-    ensures { length reports.new ≡ length reports.old }
+    ensures is { length reports.new ≡ length reports.old }
+    ensures faults { IfErr result IsOfGroup }
 {
     let answering = those_that_answer(rt.alloc(), reports)?;
     let question = [Question::Page(release, "/")];
@@ -210,7 +214,8 @@ pub(crate) fn reports_of<'a, R: Net<Stream = TcpStream> + Clock + AllocGlobal, E
     nodes: &'a [Address],
     published: Published,
 ) -> Result<Vec<Report<'a>>, EditorFault>
-    ensures { IfOk result (λ reports. vec_len reports ≡ length nodes.now) }
+    ensures is { IfOk result (λ reports. vec_len reports ≡ length nodes.now) }
+    ensures faults { IfErr result IsOfGroup }
 {
     let mut reports = first_reports(rt, err, nodes, published)?;
     let common = range_of(&reports).common;

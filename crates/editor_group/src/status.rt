@@ -1,5 +1,6 @@
 //! What each node of a group says of itself, told.
-ghost use Rattle.std.specs.Prelude.{◌≡◌, ◌==◌, ◌&&◌, nat_le, if◌then◌else◌, length, IfOk, OnOk, Some, None};
+ghost use Rattle.std.specs.Prelude.{◌≡◌, ◌==◌, ◌&&◌, nat_le, if◌then◌else◌, length, IfErr, IfOk, OnOk, Some, None};
+ghost use Rattle.editor_common.specs.Faults.{IsOfGroup};
 ghost use Rattle.serde_json.specs.View.{view};
 ghost use Rattle.editor_common.specs.Outcomes.{kept};
 ghost use Rattle.editor_group.specs.Statuses.{is_well, EndsStatus, IsNode, TellsCommands, TellsNodes};
@@ -75,7 +76,9 @@ fn tell_answer<W: Write>(
     newest: u64,
     range: Range,
     same: Option<bool>,
-) -> Result<(), EditorFault> {
+) -> Result<(), EditorFault>
+    ensures faults { IfErr result IsOfGroup }
+{
     let behind = range.last.saturating_sub(newest);
     let page = match same {
         None => "-",
@@ -94,7 +97,9 @@ fn tell<W: Write>(
     report: &Report<'_>,
     row: Row,
     range: Range,
-) -> Result<(), EditorFault> {
+) -> Result<(), EditorFault>
+    ensures faults { IfErr result IsOfGroup }
+{
     let url = report.node.url.as_str();
     match row.newest {
         Some(newest) => tell_answer(alloc, out, url, report.millis, newest, range, row.same),
@@ -128,7 +133,9 @@ fn node_value(alloc: Global, report: &Report<'_>, row: Row) -> Result<Value, All
     Ok(Value::Object(members))
 }
 
-fn tell_head<W: Write>(alloc: Global, out: &mut W, common: u64) -> Result<(), EditorFault> {
+fn tell_head<W: Write>(alloc: Global, out: &mut W, common: u64) -> Result<(), EditorFault>
+    ensures faults { IfErr result IsOfGroup }
+{
     say_made(
         out,
         format!(in alloc; "node                                 ms  release  behind  /@{common}/"),
@@ -143,7 +150,8 @@ fn tell_all<W: Write>(
     reports: &[Report<'_>],
     range: Range,
 ) -> Result<bool, EditorFault>
-    ensures { IfOk result (λ well. TellsNodes (length reports.now) range.last well (kept outcome.new)) }
+    ensures is { IfOk result (λ well. TellsNodes (length reports.now) range.last well (kept outcome.new)) }
+    ensures faults { IfErr result IsOfGroup }
 {
     tell_head(alloc, out, range.common)?;
     let first = reports.iter().find_map(|report| report.page.as_ref());
@@ -165,7 +173,9 @@ fn tell_barred<W: Write>(
     alloc: Global,
     out: &mut W,
     reports: &[Report<'_>],
-) -> Result<(), EditorFault> {
+) -> Result<(), EditorFault>
+    ensures faults { IfErr result IsOfGroup }
+{
     for report in reports {
         if let Some(why) = report.barred {
             let url = report.node.url.as_str();
@@ -182,7 +192,8 @@ fn tell_commands<W: Write>(
     outcome: &mut Outcome,
     reports: &[Report<'_>],
 ) -> Result<(), EditorFault>
-    ensures { OnOk result (TellsCommands (kept outcome.old) (kept outcome.new)) }
+    ensures is { OnOk result (TellsCommands (kept outcome.old) (kept outcome.new)) }
+    ensures faults { IfErr result IsOfGroup }
 {
     let least = reports.iter().filter_map(|report| report.instance).max();
     outcome.put(alloc, "commands_at_least", Value::from(least))?;
@@ -204,7 +215,8 @@ fn tell_returning<W: Write>(
     last: u64,
     shown: u64,
 ) -> Result<bool, EditorFault>
-    ensures { IfOk result (λ is. is ≡ nat_le shown last) }
+    ensures is { IfOk result (λ is. is ≡ nat_le shown last) }
+    ensures faults { IfErr result IsOfGroup }
 {
     if last >= shown {
         return Ok(true);
@@ -247,8 +259,9 @@ pub fn tell_status<R: Net<Stream = TcpStream> + Clock + AllocGlobal, W: Write, E
     urls: &[&str],
     published: Published,
 ) -> Result<u8, EditorFault>
-    ensures { IfOk result (λ status.
+    ensures is { IfOk result (λ status.
         EndsStatus (length urls.now) published.release status (kept outcome.new)) }
+    ensures faults { IfErr result IsOfGroup }
 {
     let alloc = rt.alloc();
     let group = Group::of(alloc, urls)?;

@@ -1,9 +1,14 @@
 //! A run that stops, and why.
+
+ghost use Rattle.editor_common.specs.Faults.{IsStop};
+
 use editor_common::EditorFault;
 use std::alloc::AllocError;
 
 /// A fault with these words, where there was memory to make them.
-pub(crate) fn stop(words: Result<String, AllocError>) -> EditorFault {
+pub(crate) fn stop(words: Result<String, AllocError>) -> EditorFault
+    ensures { IsStop result }
+{
     match words {
         Ok(words) => EditorFault::Stop(words),
         Err(refused) => EditorFault::from(refused),

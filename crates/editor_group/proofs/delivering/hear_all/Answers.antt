@@ -8,5 +8,5 @@ loop-ask-init c = heard_same _ _ refl
 pub loop-ask-preserved : goal.loop-ask-preserved
 loop-ask-preserved c = heard_on _ _ _ c.loop-ask.invariant c.hear.ensures.hears
 
-pub returns-in_err-hear : goal.returns-in_err-hear
-returns-in_err-hear c = record { hears = heard_on _ _ _ c.loop-ask.invariant c.hear.ensures.hears }
+pub returns-in_err-hear-clause-hears : goal.returns-in_err-hear-clause-hears
+returns-in_err-hear-clause-hears c = heard_on _ _ _ c.loop-ask.invariant c.hear.ensures.hears

@@ -4,8 +4,8 @@ use Rattle.editor_common.specs.Outcomes.{kept}
 use Rattle.editor_group.proofs.Telling.{put_both}
 use Rattle.editor_group.proofs.status.tell_commands.Goals as goal
 
-pub returns : goal.returns
-returns g c =
+pub returns-clause-is : goal.returns-clause-is
+returns-clause-is g c =
     let least = view c.from.result in (
       least,
       put_both (codes "commands_at_least") (codes "commands_at_most") least least (view c.from-2.result) _
