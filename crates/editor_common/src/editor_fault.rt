@@ -16,9 +16,6 @@ pub enum EditorFault {
     /// Why a group or a ledger lets nothing go on, and what to do.
     #[error("{0}")]
     Stop(String),
-    /// The paths are told before.
-    #[error("nothing was sent: others have put what this folder would take over. With --take-over it does")]
-    TakesOver,
     #[error("the numbers of the commands of this editor are used up: move the file published away (log, restore and publish --release need it), and publish with --take-over")]
     NoTickets,
     #[error("no node is named: give the address of one, as http://127.0.0.1:8001")]

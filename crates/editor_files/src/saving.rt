@@ -6,7 +6,7 @@ use crate::saved::Saved;
 use editor_common::EditorFault;
 use editor_ledger::{Ledger, LedgerReadFault};
 use std::alloc::{AllocError, Global};
-use std::fs::{self, File, OpenFile};
+use std::fs::{self, File, OpenFile, Permissions};
 use std::io::{self, Write};
 use std::random::RandomSource;
 use std::rt::Files;
@@ -59,10 +59,24 @@ fn write_whole<R: Files>(rt: &R, path: &str, text: &str) -> io::Result<()> {
     file.sync_all()
 }
 
-/// Replaces a file of a folder by another one with this text, which is on disk then under that name.
+/// The permissions of a file, if it is there.
+fn permissions_of<R: Files>(rt: &R, path: &str) -> io::Result<Option<Permissions>> {
+    match fs::metadata(rt, path) {
+        Ok(found) => Ok(Some(found.permissions())),
+        Err(fault) if fault.kind() == io::ErrorKind::NotFound => Ok(None),
+        Err(fault) => Err(fault),
+    }
+}
+
+/// Replaces a file of a folder by another one with this text, which is on disk then under that name, with the
+/// permissions of the one before.
 fn replace<R: Files>(rt: &R, folder: &str, fresh: &str, path: &str, text: &str) -> io::Result<()> {
+    let permissions = permissions_of(rt, path)?;
     write_whole(rt, fresh, text)?;
     fs::rename(rt, fresh, path)?;
+    if let Some(permissions) = permissions {
+        fs::set_permissions(rt, path, permissions)?;
+    }
     File::open(rt, folder)?.sync_all()
 }
 

@@ -7,7 +7,6 @@ use crate::asking_all::{Said, ask_each};
 use crate::group::Group;
 use editor_common::EditorFault;
 use editor_http::Question;
-use editor_plan::FIRST_ANSWERS;
 use std::net::{Net, TcpStream};
 use std::rt::Clock;
 
@@ -42,25 +41,4 @@ pub(crate) fn silent_nodes<R: Net<Stream = TcpStream> + Clock + AllocGlobal>(
         }
     }
     Ok(silent)
-}
-
-/// The place of the first node that tells its newest release soon.
-fn first_answering<R: Net<Stream = TcpStream> + Clock + AllocGlobal>(
-    rt: &R,
-    group: &Group,
-) -> Result<Option<usize>, EditorFault> {
-    let all = ask_newest(rt, group, FIRST_ANSWERS)?;
-    Ok(all.iter().position(tells_newest))
-}
-
-/// Speaks to the first node that tells its newest release soon; to the same as before if none does.
-pub fn turn_to_answering<R: Net<Stream = TcpStream> + Clock + AllocGlobal>(
-    rt: &R,
-    group: &mut Group,
-) -> Result<(), EditorFault>
-    ensures { group.new.nodes ≡ group.old.nodes }
-{
-    let first = first_answering(rt, group)?;
-    group.speak_to(first);
-    Ok(())
 }

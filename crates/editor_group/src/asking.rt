@@ -11,15 +11,15 @@ use std::time::Duration;
 /// How many seconds a connection may take to come about.
 const CONNECTING: u64 = 3;
 
-/// How many seconds a call of a connection may wait: a node that is busy with others answers late.
-const WAITING: u64 = 10;
+/// How many milliseconds a call of a connection may wait: a node that is busy with others answers late.
+const WAITING: u64 = 10_000;
 
 /// The most questions of a connection: a node closes one after a hundred.
 const QUESTIONS: usize = 100;
 
-/// Has what is written sent at once, and calls wait for so long.
-fn set_waiting(stream: &TcpStream) -> io::Result<()> {
-    let wait = Some(Duration::from_secs(WAITING));
+/// Has what is written sent at once, and calls wait for so many milliseconds.
+fn set_waiting(stream: &TcpStream, millis: u64) -> io::Result<()> {
+    let wait = Some(Duration::from_millis(millis));
     stream.set_nodelay(true)?;
     stream.set_read_timeout(wait)?;
     stream.set_write_timeout(wait)
@@ -31,7 +31,7 @@ fn connect_to<N: Net<Stream = TcpStream>>(
     within: Duration,
 ) -> io::Result<TcpStream> {
     let stream = TcpStream::connect_timeout(net, address, within)?;
-    set_waiting(&stream)?;
+    set_waiting(&stream, WAITING)?;
     Ok(stream)
 }
 
@@ -51,8 +51,15 @@ pub(crate) fn connect_within<N: Net<Stream = TcpStream>>(
     tried
 }
 
-fn connect<N: Net<Stream = TcpStream>>(net: &N, host: &str) -> io::Result<TcpStream> {
-    connect_within(net, host, Duration::from_secs(CONNECTING))
+/// A connection whose calls wait for so many milliseconds.
+fn connect_waiting<N: Net<Stream = TcpStream>>(
+    net: &N,
+    host: &str,
+    millis: u64,
+) -> io::Result<TcpStream> {
+    let stream = connect_within(net, host, Duration::from_secs(CONNECTING))?;
+    set_waiting(&stream, millis)?;
+    Ok(stream)
 }
 
 /// Writes a question: whether it was written.
@@ -127,16 +134,17 @@ fn converse(
 }
 
 /// Asks a node all at once over a connection, and reads its answers, which come in the same order: as many as
-/// come before the connection fails or ends. Then the connection is closed, since it holds one of the node's
-/// 64 seats.
+/// come before the connection fails or ends, or one is waited for longer than so many milliseconds. Then the
+/// connection is closed, since it holds one of the node's 64 seats.
 fn ask_once<N: Net<Stream = TcpStream>>(
     net: &N,
     alloc: Global,
     to: &Authority,
     questions: &[Question<'_>],
+    millis: u64,
     answers: &mut Vec<NodeAnswer>,
 ) -> Result<(), AllocError> {
-    match connect(net, to.host.as_str()) {
+    match connect_waiting(net, to.host.as_str(), millis) {
         Ok(stream) => converse(alloc, &stream, to, questions, answers),
         Err(fault) if fault.kind() == io::ErrorKind::OutOfMemory => Err(AllocError),
         Err(_) => Ok(()),
@@ -149,17 +157,32 @@ fn ask_all<N: Net<Stream = TcpStream>>(
     alloc: Global,
     to: &Authority,
     questions: &[Question<'_>],
+    millis: u64,
     answers: &mut Vec<NodeAnswer>,
 ) -> Result<(), AllocError> {
     let mut asked: usize = 0;
     for some in questions.chunks(QUESTIONS) {
-        ask_once(net, alloc, to, some, answers)?;
+        ask_once(net, alloc, to, some, millis, answers)?;
         asked = some.len().saturating_add(asked);
         if answers.len() < asked {
             break;
         }
     }
     Ok(())
+}
+
+/// The answers of a node to questions, in their order: fewer than these where it is silent for so many
+/// milliseconds.
+pub(crate) fn ask_within<N: Net<Stream = TcpStream>>(
+    net: &N,
+    alloc: Global,
+    node: &Address,
+    questions: &[Question<'_>],
+    millis: u64,
+) -> Result<Vec<NodeAnswer>, AllocError> {
+    let mut answers = Vec::new(alloc);
+    ask_all(net, alloc, &node.authority, questions, millis, &mut answers)?;
+    Ok(answers)
 }
 
 /// The answers of a node to questions, in their order: fewer than these where it falls silent.
@@ -169,9 +192,7 @@ pub fn ask<N: Net<Stream = TcpStream>>(
     node: &Address,
     questions: &[Question<'_>],
 ) -> Result<Vec<NodeAnswer>, AllocError> {
-    let mut answers = Vec::new(alloc);
-    ask_all(net, alloc, &node.authority, questions, &mut answers)?;
-    Ok(answers)
+    ask_within(net, alloc, node, questions, WAITING)
 }
 
 /// The number that a node answers.

@@ -47,6 +47,11 @@ impl Said<'_> {
         }
     }
 
+    /// Whether there was a connection, and no answer over it.
+    pub(crate) fn is_silent(&self) -> bool {
+        self.fault.is_none() && self.answers.is_empty()
+    }
+
     /// Why the node keeps this client out, if it does.
     pub(crate) fn barred(&self) -> Option<Barred> {
         self.node.barred(self.answers.first()?)
@@ -229,4 +234,16 @@ pub(crate) fn ask_each<'a, R: Net<Stream = TcpStream> + Clock + AllocGlobal>(
     let mut calls = begin_all(rt, nodes, questions)?;
     wait_for_all(rt, calls.as_mut_slice(), questions.len(), within)?;
     Ok(said_in(rt.alloc(), calls)?)
+}
+
+/// The URLs of the nodes that are silent, each after a blank.
+pub(crate) fn silent_urls(alloc: Global, all: &[Said<'_>]) -> Result<String, AllocError> {
+    let mut urls = String::new(alloc);
+    for said in all {
+        if said.is_silent() {
+            urls.push(' ')?;
+            urls.push_str(said.node.url.as_str())?;
+        }
+    }
+    Ok(urls)
 }

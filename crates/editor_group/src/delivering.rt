@@ -4,7 +4,7 @@ ghost use Rattle.editor_ledger.specs.Steps.{is_idle};
 ghost use Rattle.editor_plan.specs.Moves.{HearsAnswers};
 
 use crate::address::Address;
-use crate::asking::ask;
+use crate::asking::ask_within;
 use crate::group::Group;
 use crate::progress::tell_progress;
 use crate::stop::stop;
@@ -45,12 +45,13 @@ fn answers_of<N: Net<Stream = TcpStream>>(
     node: &Address,
     ledger: &Ledger,
     asks: &[Ask],
+    within: u64,
 ) -> Result<Vec<NodeAnswer>, AllocError> {
     let questions: Vec<Question<'_>> = asks
         .iter()
         .map(|ask| question(ledger, *ask))
         .collect(alloc)?;
-    ask(net, alloc, node, &questions)
+    ask_within(net, alloc, node, &questions, within)
 }
 
 /// What a node refused, and its words; or why this client is kept out.
@@ -108,18 +109,19 @@ fn hear_all(
     Ok(())
 }
 
-/// One connection to a node: whether it answered.
+/// One connection to a node, whose answers are waited for so many milliseconds: whether it answered.
 fn exchange<N: Net<Stream = TcpStream>>(
     net: &N,
     alloc: Global,
     flight: &mut Flight,
     node: &Address,
     saved: &mut Saved<'_>,
+    within: u64,
 ) -> Result<bool, EditorFault>
     ensures hears { HearsAnswers saved.old.ledger.now saved.new.ledger.now }
 {
     let asks = flight.asks(alloc, saved.ledger().sent())?;
-    let answers = answers_of(net, alloc, node, saved.ledger(), &asks)?;
+    let answers = answers_of(net, alloc, node, saved.ledger(), &asks, within)?;
     hear_all(alloc, flight, node, saved, &asks, &answers)?;
     Ok(!answers.is_empty())
 }
@@ -131,11 +133,12 @@ fn bring<N: Net<Stream = TcpStream>>(
     flight: &mut Flight,
     group: &Group,
     saved: &mut Saved<'_>,
+    within: u64,
 ) -> Result<Came, EditorFault>
     ensures hears { HearsAnswers saved.old.ledger.now saved.new.ledger.now }
 {
     let before = saved.ledger().sent().len();
-    let answered = exchange(net, alloc, flight, group.node()?, saved)?;
+    let answered = exchange(net, alloc, flight, group.node()?, saved, within)?;
     let after = saved.ledger().sent().len();
     Ok(match (answered, after < before) {
         (_, true) => Came::Receipt,
@@ -181,7 +184,8 @@ fn deliver_at<R: Net<Stream = TcpStream> + Clock + AllocGlobal, E: Write>(
         if saved.ledger().is_idle() {
             return Ok(());
         }
-        let came = bring(rt, rt.alloc(), flight, group, saved)?;
+        let within = clock.within(passed(rt, since)?, patience);
+        let came = bring(rt, rt.alloc(), flight, group, saved, within)?;
         let now = passed(rt, since)?;
         let left = saved.ledger().sent().len();
         tell_progress(rt, err, group, &mut progress, now, left, came)?;

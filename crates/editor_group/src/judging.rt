@@ -5,10 +5,10 @@ ghost use Rattle.editor_group.specs.Confirming.{IsConfirmed, Stands};
 
 use crate::address::Address;
 use crate::asking::number_in;
-use crate::asking_all::{Said, ask_each};
+use crate::asking_all::{Said, ask_each, silent_urls};
 use crate::group::Group;
 use crate::stop::stop;
-use editor_common::{EditorFault, now, passed, rest, say, say_made};
+use editor_common::{EditorFault, now, passed, rest, say_made};
 use editor_http::{NodeAnswer, Question};
 use editor_ledger::Ledger;
 use editor_plan::{
@@ -134,12 +134,12 @@ fn reason(
         }
         Standing::Elsewhere => {
             format!(in alloc;
-                "{folder}/published: no node that answers has command {last} of editor {editor}, so nothing was sent. Nodes that were down need a majority to learn what they had: see that one runs, and publish again. Where this is another group, move the file away (log, restore and publish --release need it), and publish with --take-over"
+                "{folder}/published: no node that answers has command {last} of editor {editor}, so nothing was sent. Nodes that were down need a majority to learn what they had: see that one runs, and publish again.\nIf this is another group, or a new one, move the file away (log, restore and publish --release need it), and publish with --take-over: mv {folder}/published {folder}.published"
             )
         }
         Standing::Returning => {
             format!(in alloc;
-                "{folder}: the group is still coming back: its nodes show older releases than {shown}, which this folder made. Nothing was sent. See that a majority of its nodes runs (sitepub status), and publish again"
+                "{folder}: the group is still coming back: its nodes show older releases than {shown}, which this folder made. Nothing was sent. See that a majority of its nodes runs (sitepub status), and publish again.\nIf this is another group, or a new one, move the file away (log, restore and publish --release need it), and publish with --take-over: mv {folder}/published {folder}.published"
             )
         }
         Standing::Unanswered | Standing::Newest => {
@@ -180,13 +180,7 @@ fn tell_unanswered<E: Write>(
 
 /// Tells which nodes were waited for in vain, if some were.
 fn tell_waited<E: Write>(alloc: Global, err: &mut E, all: &[Said<'_>]) -> Result<(), EditorFault> {
-    let mut silent = String::new(alloc);
-    for said in all {
-        if said.fault.is_none() && said.answers.is_empty() {
-            silent.push(' ')?;
-            silent.push_str(said.node.url.as_str())?;
-        }
-    }
+    let silent = silent_urls(alloc, all)?;
     if silent.is_empty() {
         return Ok(());
     }
@@ -244,13 +238,31 @@ fn ask_group<R: Net<Stream = TcpStream> + Clock + AllocGlobal, E: Write>(
     })
 }
 
-/// What is told while it waits for a standing to change.
-fn waiting(found: Standing) -> &'static str {
-    match found {
-        Standing::Returning => "the group is still coming back: waiting",
-        Standing::Elsewhere => "no node has the last command of this folder yet: waiting",
-        _ => "no node answers: waiting",
-    }
+/// Tells what is waited for, once a standing was found that may change, and for how many seconds.
+fn tell_waiting<E: Write>(
+    alloc: Global,
+    err: &mut E,
+    folder: &str,
+    claim: Claim,
+    patience: u64,
+    found: Standing,
+) -> Result<(), EditorFault> {
+    let Claim {
+        editor,
+        last,
+        shown,
+        ..
+    } = claim;
+    let line = match found {
+        Standing::Returning => format!(in alloc;
+            "no node that answers shows release {shown}, which is in {folder}/published: waiting {patience} seconds, as a group that comes back may. If this is another group, or a new one, stop this, and move that file away: mv {folder}/published {folder}.published"
+        ),
+        Standing::Elsewhere => format!(in alloc;
+            "no node that answers has command {last} of editor {editor}, which is in {folder}/published: waiting {patience} seconds, as a group that comes back may. If this is another group, or a new one, stop this, and move that file away: mv {folder}/published {folder}.published"
+        ),
+        _ => String::from_str(alloc, "no node answers: waiting"),
+    };
+    say_made(err, line)
 }
 
 /// Whether a standing is one that is not waited for any longer.
@@ -271,6 +283,7 @@ fn is_final<C: Clock>(
 fn settled<R: Net<Stream = TcpStream> + Clock + AllocGlobal, E: Write>(
     rt: &R,
     err: &mut E,
+    folder: &str,
     group: &mut Group,
     claim: Claim,
     patience: u64,
@@ -286,11 +299,44 @@ fn settled<R: Net<Stream = TcpStream> + Clock + AllocGlobal, E: Write>(
             return Ok(standing);
         }
         if times == 0 {
-            say(err, waiting(standing))?;
+            tell_waiting(rt.alloc(), err, folder, claim, patience, standing)?;
         }
         rest(rt, AGAIN);
     }
     Err(EditorFault::Clock)
+}
+
+/// What a group that is asked once says of a folder's ledger.
+#[derive(Drop)]
+pub enum Look {
+    /// A node confirms that it is the newest of its editor.
+    Confirmed,
+    /// No node answers.
+    Unanswered,
+    /// A publication would be refused, unless this changes.
+    Refused(EditorFault),
+}
+
+/// Asks all nodes once whether a folder's ledger is the newest of its editor. The first that confirms it is
+/// spoken to from then on. Which nodes do not answer is told.
+pub fn look_at<R: Net<Stream = TcpStream> + Clock + AllocGlobal, E: Write>(
+    rt: &R,
+    err: &mut E,
+    folder: &str,
+    group: &mut Group,
+    ledger: &Ledger,
+) -> Result<Look, EditorFault>
+    ensures confirmed { IfOk result (λ look. look ≡ Look.Confirmed → IsConfirmed (length group.old.nodes.items) ledger.now) }
+    ensures nodes { group.new.nodes ≡ group.old.nodes }
+{
+    let claim = claim_of(ledger);
+    let Found { standing, first } = ask_group(rt, err, group, claim, 0)?;
+    group.speak_to(first);
+    Ok(match standing {
+        Standing::Newest => Look::Confirmed,
+        Standing::Unanswered => Look::Unanswered,
+        found => Look::Refused(stop(reason(rt.alloc(), folder, claim, found))),
+    })
 }
 
 /// Asks until a node confirms that a folder's ledger is the newest of its editor, which is spoken to from
@@ -307,7 +353,7 @@ pub fn confirm<R: Net<Stream = TcpStream> + Clock + AllocGlobal, E: Write>(
     ensures nodes { group.new.nodes ≡ group.old.nodes }
 {
     let claim = claim_of(ledger);
-    match settled(rt, err, group, claim, patience)? {
+    match settled(rt, err, folder, group, claim, patience)? {
         Standing::Newest => Ok(()),
         found => Err(stop(reason(rt.alloc(), folder, claim, found))),
     }

@@ -23,11 +23,10 @@ mod status;
 mod stop;
 
 pub use address::Address;
-pub use answering::turn_to_answering;
 pub use asking::{ask, newest};
 pub use delivering::deliver;
 pub use group::Group;
-pub use judging::confirm;
+pub use judging::{Look, confirm, look_at};
 pub use logins::with_logins;
 pub use reports::Published;
 pub use status::tell_status;

@@ -5,13 +5,14 @@ ghost use Rattle.editor_group.specs.Published.{ticket_of};
 
 use crate::address::Address;
 use crate::asking::number_in;
-use crate::asking_all::{Said, ask_each};
-use editor_common::EditorFault;
+use crate::asking_all::{Said, ask_each, silent_urls};
+use editor_common::{EditorFault, say_made};
 use editor_http::{Barred, NodeAnswer, Question};
 use editor_ledger::Ledger;
-use editor_plan::{LATER_ANSWERS, last_shown, last_ticket};
+use editor_plan::{FIRST_ANSWERS, LATER_ANSWERS, last_shown, last_ticket};
 use site_ids::Ticket;
 use std::alloc::{AllocError, Global};
+use std::io::Write;
 use std::net::{Net, TcpStream};
 use std::rt::Clock;
 
@@ -97,9 +98,53 @@ fn questions_of<'a>(alloc: Global, published: Published) -> Result<Vec<Question<
     Ok(questions)
 }
 
-/// Asks each node what it says of itself and of a folder.
-fn first_reports<'a, R: Net<Stream = TcpStream> + Clock + AllocGlobal>(
+/// The nodes that are silent.
+fn those_silent<'a>(alloc: Global, all: &[Said<'a>]) -> Result<Vec<&'a Address>, AllocError> {
+    let mut nodes = Vec::new(alloc);
+    for said in all {
+        if said.is_silent() {
+            nodes.push(said.node)?;
+        }
+    }
+    Ok(nodes)
+}
+
+/// Asks nodes that were silent once more. Which they are is told.
+fn ask_again<'a, R: Net<Stream = TcpStream> + Clock + AllocGlobal, E: Write>(
     rt: &R,
+    err: &mut E,
+    all: &mut [Said<'a>],
+    questions: &[Question<'_>],
+) -> Result<(), EditorFault>
+    ensures { length all.new ≡ length all.old }
+{
+    let silent = those_silent(rt.alloc(), all)?;
+    if silent.is_empty() {
+        return Ok(());
+    }
+    let urls = silent_urls(rt.alloc(), all)?;
+    let (had, more) = (FIRST_ANSWERS / 1000, LATER_ANSWERS / 1000);
+    say_made(
+        err,
+        format!(in rt.alloc();
+            "no answer for {had} seconds from{urls}: waiting {more} seconds more"
+        ),
+    )?;
+    let mut later = ask_each(rt, &silent, questions, LATER_ANSWERS)?.into_iter();
+    for said in all.iter_mut() {
+        if said.is_silent() {
+            if let Some(answered) = later.next() {
+                *said = answered;
+            }
+        }
+    }
+    Ok(())
+}
+
+/// Asks each node what it says of itself and of a folder.
+fn first_reports<'a, R: Net<Stream = TcpStream> + Clock + AllocGlobal, E: Write>(
+    rt: &R,
+    err: &mut E,
     nodes: &'a [Address],
     published: Published,
 ) -> Result<Vec<Report<'a>>, EditorFault>
@@ -107,7 +152,8 @@ fn first_reports<'a, R: Net<Stream = TcpStream> + Clock + AllocGlobal>(
 {
     let questions = questions_of(rt.alloc(), published)?;
     let asked: Vec<&Address> = nodes.iter().collect(rt.alloc())?;
-    let all = ask_each(rt, &asked, &questions, LATER_ANSWERS)?;
+    let mut all = ask_each(rt, &asked, &questions, FIRST_ANSWERS)?;
+    ask_again(rt, err, all.as_mut_slice(), &questions)?;
     let mut reports = Vec::new(rt.alloc());
     for said in &all {
         reports.push(report_in(said))?;
@@ -157,15 +203,16 @@ fn ask_pages<R: Net<Stream = TcpStream> + Clock + AllocGlobal>(
     Ok(())
 }
 
-/// What each node says of itself and of a folder.
-pub(crate) fn reports_of<'a, R: Net<Stream = TcpStream> + Clock + AllocGlobal>(
+/// What each node says of itself and of a folder. Which are silent at first is told.
+pub(crate) fn reports_of<'a, R: Net<Stream = TcpStream> + Clock + AllocGlobal, E: Write>(
     rt: &R,
+    err: &mut E,
     nodes: &'a [Address],
     published: Published,
 ) -> Result<Vec<Report<'a>>, EditorFault>
     ensures { IfOk result (λ reports. vec_len reports ≡ length nodes.now) }
 {
-    let mut reports = first_reports(rt, nodes, published)?;
+    let mut reports = first_reports(rt, err, nodes, published)?;
     let common = range_of(&reports).common;
     if common > 0 {
         ask_pages(rt, reports.as_mut_slice(), common)?;

@@ -237,10 +237,12 @@ fn status_of(well: bool, shown: bool) -> u8
 /// Writes a table of nodes: URL, milliseconds to an answer, newest release, how many releases it is behind,
 /// and whether its start page in the newest release that all have is that of the others; and how many
 /// commands the group has at least, by the last ticket of a folder. Status 1 where a node is silent, behind
-/// or differs, or where no node shows a release that the folder made. All of it is kept in the outcome.
-pub fn tell_status<R: Net<Stream = TcpStream> + Clock + AllocGlobal, W: Write>(
+/// or differs, or where no node shows a release that the folder made. All of it is kept in the outcome. Which
+/// nodes are silent at first is told to `err`.
+pub fn tell_status<R: Net<Stream = TcpStream> + Clock + AllocGlobal, W: Write, E: Write>(
     rt: &R,
     out: &mut W,
+    err: &mut E,
     outcome: &mut Outcome,
     urls: &[&str],
     published: Published,
@@ -250,7 +252,7 @@ pub fn tell_status<R: Net<Stream = TcpStream> + Clock + AllocGlobal, W: Write>(
 {
     let alloc = rt.alloc();
     let group = Group::of(alloc, urls)?;
-    let reports = reports_of(rt, group.nodes(), published)?;
+    let reports = reports_of(rt, err, group.nodes(), published)?;
     let range = range_of(&reports);
     let well = tell_all(alloc, out, outcome, &reports, range)?;
     tell_barred(alloc, out, &reports)?;

@@ -168,6 +168,13 @@ impl Ledger {
         Ok(())
     }
 
+    /// The texts that a plan of these texts puts on their way.
+    pub fn next_texts(&self, alloc: Global, wanted: &[&str]) -> Result<Vec<String>, AllocError>
+        ensures { IfOk result (λ v. map string_bytes v.items ≡ plan_of self.now.kept (map (λ t. t.now) wanted.now)) }
+    {
+        plan_of(alloc, self.kept.as_slice(), wanted)
+    }
+
     /// Plans what turns the texts that the group has into the wanted ones, each about another kind and name.
     /// What stood before each is kept.
     pub fn plan(&mut self, alloc: Global, wanted: &[&str]) -> Result<(), LedgerFault>

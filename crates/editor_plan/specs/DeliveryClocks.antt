@@ -1,5 +1,5 @@
 -- How a delivery goes on after an exchange with a node; all times in milliseconds since it began.
-use Rattle.std.specs.Prelude.{ℕ, ◌-◌, ◌*◌, ◌/◌, min, nat_le, Bool, true, false, if◌then◌else◌}
+use Rattle.std.specs.Prelude.{ℕ, ◌-◌, ◌*◌, ◌/◌, max, min, nat_le, Bool, true, false, if◌then◌else◌}
 use Rattle.editor_plan.specs.declared.delivery_clock.TheConstants.{STAYING, FIRST_REST, LONGEST_REST}
 use Rattle.editor_plan.specs.declared.delivery_clock.Came.{Came}
 use Rattle.editor_plan.specs.declared.delivery_clock.Came.TheVariants.{Receipt, Answers, Silence}
@@ -33,3 +33,8 @@ abbrev pub step_of : Came → ℕ → ℕ → DeliveryClock → Step
 step_of Receipt now patience p = Again 0
 step_of Answers now patience p = if is_over now patience p then GiveUp else (if turns Answers now p then Next else Again p.rest)
 step_of Silence now patience p = if is_over now patience p then GiveUp else Next
+
+-- how many milliseconds an exchange that begins now waits for an answer: as long as a node is stayed with, but no longer
+-- than the seconds that are left
+abbrev pub within_of : ℕ → ℕ → DeliveryClock → ℕ
+within_of now patience p = max 1 (min (STAYING / 1000) (patience - (now - p.moved) / 1000)) * 1000

@@ -1,10 +1,12 @@
 pub mod Answering
 pub mod Courses
+pub mod DeliveryClocks
 pub mod Flights
 pub mod Laws
+pub mod Leftovers
 pub mod Moves
-pub mod DeliveryClocks
 pub mod Progresses
 pub mod Standings
+pub mod States
 pub mod Takings
 pub mod Unlogged

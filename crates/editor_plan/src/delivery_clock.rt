@@ -1,6 +1,6 @@
 //! How long a delivery stays with a node, rests, and waits for a receipt.
 ghost use Rattle.std.specs.Prelude.{◌≡◌};
-ghost use Rattle.editor_plan.specs.DeliveryClocks.{first_clock, turns, clock_after, step_of};
+ghost use Rattle.editor_plan.specs.DeliveryClocks.{first_clock, turns, clock_after, step_of, within_of};
 
 /// How many milliseconds a node may give no receipt before the next one is spoken to.
 pub(crate) const STAYING: u64 = 5_000;
@@ -91,6 +91,15 @@ impl DeliveryClock {
             stayed: self.stayed,
             rest: self.rest.saturating_mul(2).min(LONGEST_REST),
         }
+    }
+
+    /// How many milliseconds an exchange that begins now waits for an answer, where so many seconds may pass
+    /// without a receipt.
+    pub fn within(&self, now: u64, patience: u64) -> u64
+        ensures { result ≡ within_of now patience self.now }
+    {
+        let left = patience.saturating_sub(now.saturating_sub(self.moved) / 1000);
+        left.min(STAYING / 1000).max(1) * 1000
     }
 
     /// How it goes on after an exchange that ended now, where so many seconds may pass without a receipt.

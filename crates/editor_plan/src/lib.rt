@@ -3,7 +3,8 @@
 //!
 //! `standing.rt` judges a ledger by what nodes say of two tickets and show. `course.rt` plans: first the
 //! commands, then their release. `flight.rt` says what is asked of a node next, and hears its answers: the
-//! ledger moves by receipts alone. `taking.rt` says what of others is taken over. `answering.rt` says how
+//! ledger moves by receipts alone. `taking.rt` says what is taken over from others, `states.rt` what a release
+//! may show of the folder itself, `left_over.rt` what an interrupted run left. `answering.rt` says how
 //! long nodes that are asked at once have to answer, `delivery_clock.rt` how long a node is stayed with and
 //! waited for, `progress.rt` what is told meanwhile. `logging.rt` finds the ticket of a release, and a
 //! release that the log does not tell. `laws.rt` says what follows, for every interruption and continuation.
@@ -16,9 +17,11 @@ mod course;
 mod delivery_clock;
 mod flight;
 mod laws;
+mod left_over;
 mod logging;
 mod progress;
 mod standing;
+mod states;
 mod taking;
 mod told;
 
@@ -27,8 +30,10 @@ pub use course::{Stage, advance};
 pub use delivery_clock::{Came, DeliveryClock, LONGEST_REST, Step};
 pub use flight::{Ask, Flight, Heard};
 pub use laws::{done_is_the_folder, tickets_have_one_text};
+pub use left_over::{LeftOver, left_by};
 pub use logging::{ticket_of, unlogged};
 pub use progress::Progress;
 pub use standing::{Standing, Witness, last_shown, last_ticket, standing_of};
+pub use states::{states_of, touched};
 pub use taking::{is_of_page, is_taken, joins};
 pub use told::{Told, told_by};

@@ -1,6 +1,7 @@
 -- How a publication ends, as a status.
 use Rattle.std.specs.Prelude.{◌≡◌, ℕ, ◌-◌, ◌&&◌, if◌then◌else◌, Bool, true, ⊤}
 use Rattle.editor_ledger.specs.Books.{Book}
+use Rattle.editor_publish.specs.declared.dry_run.Found.{Found}
 use Rattle.editor_publish.specs.declared.ending.Ending.{Ending}
 use Rattle.editor_publish.specs.declared.ending.Ending.TheVariants.{Well, Bad, WouldSend}
 
@@ -10,9 +11,9 @@ status_of Well = 0
 status_of Bad = 1
 status_of WouldSend = 3
 
--- a dry run ends well, but where something would be sent and its status is to say so
-abbrev pub dry_ending : Bool → Bool → Ending
-dry_ending sends tells = if sends && tells then WouldSend else Well
+-- a dry run ends well, but where something would be sent and its status is to say so, or the group does not show the folder
+abbrev pub dry_ending : Found → Bool → Ending
+dry_ending found tells = if found.sends && tells then WouldSend else (if found.differs then Bad else Well)
 
 -- only a dry run whose status is to say so ends as one that found something to send
 abbrev pub MayEnd : Bool → Bool → Ending → Type 0

@@ -1,6 +1,8 @@
 //! Which pages a publication changes, and whether its release shows them.
 //!
 //! After an interrupted run all pages are compared, else those that changed.
+ghost use Rattle.std.specs.Prelude.{◌≡◌};
+ghost use Rattle.editor_publish.specs.Taking.{shows};
 
 use editor_common::{EditorFault, say_made};
 use editor_folder::{View, path_in, views_of};
@@ -21,7 +23,7 @@ pub(crate) struct Change {
 }
 
 /// Adds the paths that texts are about.
-fn add_paths(
+pub(crate) fn add_paths(
     alloc: Global,
     paths: &mut BTreeSet<String>,
     texts: &[&str],
@@ -83,13 +85,14 @@ pub(crate) fn changes_since(
 }
 
 /// Whether an answer is what a view shows.
-pub(crate) fn is_shown(answer: Option<&NodeAnswer>, view: &View) -> bool {
-    match answer {
-        Some(answer) => {
-            answer.status == view.status && answer.body.as_slice() == view.body.as_bytes()
-        }
-        None => false,
-    }
+pub(crate) fn shows(answer: &NodeAnswer, view: &View) -> bool
+    ensures { result ≡ shows answer.now view.now }
+{
+    answer.status == view.status && answer.body.as_slice() == view.body.as_bytes()
+}
+
+fn is_shown(answer: Option<&NodeAnswer>, view: &View) -> bool {
+    answer.is_some_and(|answer| shows(answer, view))
 }
 
 /// Whether a node answered, and nothing that stands before it.
@@ -97,7 +100,7 @@ fn is_answered(answer: Option<&NodeAnswer>) -> bool {
     answer.is_some_and(|answer| is_of_page(answer.status))
 }
 
-/// Tells that a page is not shown, and why that may be.
+/// Tells that a page is not shown.
 fn tell_difference<E: Write>(
     alloc: Global,
     err: &mut E,
@@ -107,7 +110,7 @@ fn tell_difference<E: Write>(
     answered: bool,
 ) -> Result<(), EditorFault> {
     let why = if answered {
-        "is not what this folder renders: another editor has put a name that it uses, or another copy of this folder was published at the same time. To put all of it again move its file published away (log, restore and publish --release need it), and publish with --take-over"
+        "is not what this folder renders"
     } else {
         "was not answered"
     };
@@ -135,7 +138,21 @@ fn tell_more<E: Write>(
     )
 }
 
-/// Tells each page that was not answered as it is wanted. Their paths are the answer.
+/// Tells why so many pages may be shown otherwise, and what to do.
+fn tell_why<E: Write>(alloc: Global, err: &mut E, otherwise: usize) -> Result<(), EditorFault> {
+    if otherwise == 0 {
+        return Ok(());
+    }
+    say_made(
+        err,
+        format!(in alloc;
+            "pages that this folder renders otherwise: {otherwise}. Another editor has put a name that they use, or another copy of this folder was published at the same time. To put all of the folder again move its file published away (log, restore and publish --release need it), and publish with --take-over"
+        ),
+    )
+}
+
+/// Tells each page that was not answered as it is wanted, and once why that may be. Their paths are the
+/// answer.
 fn tell_all<E: Write>(
     alloc: Global,
     err: &mut E,
@@ -145,17 +162,21 @@ fn tell_all<E: Write>(
     answers: &[NodeAnswer],
 ) -> Result<Vec<String>, EditorFault> {
     let mut differing = Vec::new(alloc);
+    let mut otherwise: usize = 0;
     for (i, change) in changes.iter().enumerate() {
         let answer = answers.get(i);
         if !is_shown(answer, &change.view) {
             let path = &change.view.path;
+            let answered = is_answered(answer);
             if differing.len() < TOLD {
-                tell_difference(alloc, err, url, release, path.as_str(), is_answered(answer))?;
+                tell_difference(alloc, err, url, release, path.as_str(), answered)?;
             }
+            otherwise = otherwise.saturating_add(usize::from(answered));
             differing.push(path.clone()?)?;
         }
     }
     tell_more(alloc, err, url, release, differing.len())?;
+    tell_why(alloc, err, otherwise)?;
     Ok(differing)
 }
 

@@ -7,6 +7,15 @@ use serde_json::{Value, json};
 use std::alloc::{AllocError, Global};
 use std::io::Write;
 
+/// What a dry run found.
+#[derive(Clone, Copy)]
+pub(crate) struct Found {
+    /// Something would be sent.
+    pub sends: bool,
+    /// Nothing would be sent, and the group does not show the folder.
+    pub differs: bool,
+}
+
 /// The first line of a command.
 fn head_of(text: &str) -> &str {
     text.lines().next().unwrap_or("")
@@ -41,26 +50,32 @@ fn tell_sent<W: Write>(alloc: Global, out: &mut W, sent: &[Sent]) -> Result<(), 
     Ok(())
 }
 
-/// What becomes of a page.
-fn change_name(change: &Change) -> &'static str {
-    match (change.before, change.view.status) {
-        (404, _) => "is new",
-        (_, 404) => "goes",
-        _ => "changes",
+/// What becomes of a page; the group has one at the paths that are taken over.
+fn change_name(change: &Change, taken: &[String]) -> &'static str {
+    let is_there = change.before != 404 || taken.contains(&change.view.path);
+    match (is_there, change.view.status) {
+        (false, _) => "is new",
+        (true, 404) => "goes",
+        (true, _) => "changes",
     }
 }
 
-fn tell_page<W: Write>(alloc: Global, out: &mut W, change: &Change) -> Result<(), EditorFault> {
-    let (path, what) = (change.view.path.as_str(), change_name(change));
+fn tell_page<W: Write>(
+    alloc: Global,
+    out: &mut W,
+    change: &Change,
+    taken: &[String],
+) -> Result<(), EditorFault> {
+    let (path, what) = (change.view.path.as_str(), change_name(change, taken));
     say_made(out, format!(in alloc; "page {path} {what}"))
 }
 
 /// The pages that change, for programs.
-fn pages_value(alloc: Global, changes: &[Change]) -> Result<Value, AllocError> {
+fn pages_value(alloc: Global, changes: &[Change], taken: &[String]) -> Result<Value, AllocError> {
     let mut pages = Vec::new(alloc);
     for change in changes {
         let path = change.view.path.as_str();
-        let page = json!(in alloc; {"path": path, "page": change_name(change)})?;
+        let page = json!(in alloc; {"path": path, "page": change_name(change, taken)})?;
         pages.push(page)?;
     }
     Ok(Value::Array(pages))
@@ -73,14 +88,15 @@ fn tell_planned<W: Write>(
     outcome: &mut Outcome,
     sent: &[Sent],
     changes: &[Change],
+    taken: &[String],
 ) -> Result<(), EditorFault> {
     outcome.put(alloc, "commands", heads_value(alloc, sent)?)?;
-    outcome.put(alloc, "changes", pages_value(alloc, changes)?)?;
+    outcome.put(alloc, "changes", pages_value(alloc, changes, taken)?)?;
     for sent in sent {
         say(out, head_of(sent.text.as_str()))?;
     }
     for change in changes {
-        tell_page(alloc, out, change)?;
+        tell_page(alloc, out, change, taken)?;
     }
     Ok(())
 }
@@ -93,31 +109,33 @@ fn tell_next<W: Write>(
     outcome: &mut Outcome,
     ledger: &mut Ledger,
     wanted: &[&str],
+    taken: &[String],
 ) -> Result<bool, EditorFault> {
     let changes = changes_since(alloc, ledger, wanted)?;
     let stage = advance(alloc, ledger, wanted)?;
     match stage {
         Stage::Done => {
-            tell_planned(alloc, out, outcome, &[], &[])?;
+            tell_planned(alloc, out, outcome, &[], &[], &[])?;
             say(out, "nothing would change")?;
         }
-        Stage::Sends => tell_planned(alloc, out, outcome, ledger.sent(), &changes)?,
+        Stage::Sends => tell_planned(alloc, out, outcome, ledger.sent(), &changes, taken)?,
     }
     Ok(stage == Stage::Sends)
 }
 
-/// Tells what would be put and removed, and which pages change. Nothing is asked, sent or saved. Whether
-/// anything would be sent is the answer.
+/// Tells what would be put and removed, and which pages change, where those paths are taken over. Nothing is
+/// asked, sent or saved. Whether anything would be sent is the answer.
 pub(crate) fn tell_plan<W: Write>(
     alloc: Global,
     out: &mut W,
     outcome: &mut Outcome,
     ledger: &mut Ledger,
     wanted: &[&str],
+    taken: &[String],
 ) -> Result<bool, EditorFault> {
     let waits = !ledger.is_idle();
     outcome.put(alloc, "on_their_way", heads_value(alloc, ledger.sent())?)?;
     tell_sent(alloc, out, ledger.sent())?;
     settle(ledger)?;
-    Ok(tell_next(alloc, out, outcome, ledger, wanted)? || waits)
+    Ok(tell_next(alloc, out, outcome, ledger, wanted, taken)? || waits)
 }

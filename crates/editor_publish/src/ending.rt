@@ -1,6 +1,8 @@
 ghost use Rattle.std.specs.Prelude.{◌≡◌, if◌then◌else◌};
 ghost use Rattle.editor_publish.specs.Endings.{status_of, dry_ending};
 
+use crate::dry_run::Found;
+
 /// How a publication ends.
 #[derive(Clone, Copy, Debug, Drop, PartialEq, Eq)]
 pub(crate) enum Ending {
@@ -20,14 +22,14 @@ impl Ending {
         if bad { Ending::Bad } else { Ending::Well }
     }
 
-    /// That of a dry run: whether something would be sent, and whether its status says so.
-    pub(crate) fn of_dry_run(sends: bool, tells: bool) -> Ending
-        ensures { result ≡ dry_ending sends tells }
+    /// That of a dry run, and whether its status says that something would be sent.
+    pub(crate) fn of_dry_run(found: Found, tells: bool) -> Ending
+        ensures { result ≡ dry_ending found tells }
     {
-        if sends && tells {
+        if found.sends && tells {
             Ending::WouldSend
         } else {
-            Ending::Well
+            Ending::of(found.differs)
         }
     }
 

@@ -1,12 +1,12 @@
 //! A publication under way.
 use crate::comparing::{Change, changes_of, changes_since, tell_differences};
-use crate::dry_run::tell_plan;
+use crate::dry_run::{Found, tell_plan};
 use crate::made::{Made, commands_of, made_value, release_ticket, tell_made, unnumbered, untold};
 use crate::publishing::Publishing;
-use crate::taking_over::{Taken, refusal_of, taken_over, tell_taken_over};
+use crate::taking_over::{Taken, refusal_of, taken_over, tell_left_over, tell_taken_over};
 use editor_common::{EditorFault, Outcome, say, texts_value};
 use editor_files::save;
-use editor_group::{Group, confirm, deliver, newest, turn_to_answering};
+use editor_group::{Group, Look, confirm, deliver, look_at, newest};
 use editor_ledger::{Ledger, Message, Released};
 use editor_plan::{Stage, advance, last_shown, unlogged};
 use serde_json::Value;
@@ -249,11 +249,21 @@ impl<R: Files + Net<Stream = TcpStream> + Clock + AllocGlobal, E: Write> Publish
         self.outcome
             .put(alloc, "takes_over", texts_value(alloc, &taken.paths)?)?;
         tell_taken_over(alloc, self.err, &taken.paths)?;
+        self.refuse(&taken)
+    }
+
+    /// Refuses what a publication takes over, unless that is asked for. What an interrupted run left is told
+    /// then.
+    fn refuse(&mut self, taken: &Taken) -> Result<(), EditorFault> {
+        let alloc = self.rt.alloc();
         if self.how.take_over {
             return Ok(());
         }
-        match refusal_of(alloc, &taken)? {
-            Some(why) => Err(why),
+        match refusal_of(alloc, taken)? {
+            Some(why) => {
+                tell_left_over(alloc, self.err, self.how.folder, taken.left)?;
+                Err(why)
+            }
             None => Ok(()),
         }
     }
@@ -295,36 +305,54 @@ impl<R: Files + Net<Stream = TcpStream> + Clock + AllocGlobal, E: Write> Publish
         }
     }
 
-    /// Refuses to join what others have published, unless that is asked for.
-    fn ask_to_join(&self, taken: Option<Taken>) -> Result<(), EditorFault> {
-        let Some(taken) = taken else {
-            return Ok(());
-        };
-        if !taken.joins || self.how.take_over {
-            return Ok(());
+    /// Tells what a publication would take over, if the group confirms its ledger: that is the answer. Why the
+    /// publication would be refused is kept.
+    fn look<W: Write>(
+        &mut self,
+        out: &mut W,
+        wanted: &[&str],
+        refused: &mut Option<EditorFault>,
+    ) -> Result<Option<Taken>, EditorFault> {
+        if self.how.urls.is_empty() {
+            return Ok(None);
         }
-        match refusal_of(self.rt.alloc(), &taken)? {
-            Some(why) => Err(why),
-            None => Ok(()),
+        match look_at(self.rt, self.err, self.how.folder, self.group, self.ledger)? {
+            Look::Confirmed => self.tell_paths(out, wanted),
+            Look::Unanswered => Ok(None),
+            Look::Refused(why) => {
+                *refused = Some(why);
+                Ok(None)
+            }
         }
     }
 
-    /// Tells what a publication of these texts would put, remove and take over. Nothing is sent or saved.
-    /// Whether anything would be sent is the answer. Where the publication would be refused to join what
-    /// others have published, so is this, once all is told.
+    /// Tells what a publication of these texts would put, remove and take over; where it would send nothing,
+    /// whether the group shows the folder. Nothing is sent or saved. Where the publication would be refused, so
+    /// is this, once all is told.
     pub(crate) fn tell_plan<W: Write>(
         &mut self,
         out: &mut W,
         wanted: &[&str],
-    ) -> Result<bool, EditorFault> {
-        let taken = if self.how.urls.is_empty() {
-            None
-        } else {
-            turn_to_answering(self.rt, self.group)?;
-            self.tell_paths(out, wanted)?
+    ) -> Result<Found, EditorFault> {
+        let mut refused = None;
+        let taken = self.look(out, wanted, &mut refused)?;
+        let paths = match &taken {
+            Some(taken) => taken.paths.as_slice(),
+            None => &[],
         };
-        let sends = tell_plan(self.rt.alloc(), out, self.outcome, self.ledger, wanted)?;
-        self.ask_to_join(taken)?;
-        Ok(sends)
+        let (alloc, ledger) = (self.rt.alloc(), &mut *self.ledger);
+        let sends = tell_plan(alloc, out, self.outcome, ledger, wanted, paths)?;
+        if let Some(why) = refused {
+            return Err(why);
+        }
+        let mut differs = false;
+        if let Some(taken) = taken {
+            self.refuse(&taken)?;
+            if !sends {
+                let pages = changes_of(self.rt.alloc(), &[], wanted)?;
+                differs = self.differs(taken.release, &pages)?;
+            }
+        }
+        Ok(Found { sends, differs })
     }
 }

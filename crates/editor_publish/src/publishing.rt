@@ -103,8 +103,8 @@ fn publish_wanted<
         how,
     };
     if how.dry_run {
-        let sends = publisher.tell_plan(out, wanted)?;
-        return Ok(Ending::of_dry_run(sends, how.exit_code));
+        let found = publisher.tell_plan(out, wanted)?;
+        return Ok(Ending::of_dry_run(found, how.exit_code));
     }
     Ok(Ending::of(publisher.publish(out, wanted)?))
 }

@@ -1,75 +1,79 @@
 //! Which paths a publication would take over from others who have published in the group.
 //!
-//! A folder owns the paths for whose commands it has receipts. Any other path is taken over where the group
-//! answers it, and not as this folder does. Names of templates, partials and data are not seen from outside:
-//! so a folder of which nothing has a receipt joins a group that has releases only where that is asked for.
-use crate::comparing::is_shown;
+//! Each path is compared whose page the publication changes, or that it puts or removes. It is taken over if
+//! the group's newest release has something there that none of the folder's own texts show: not as they were
+//! at its last release, nor since, nor as they are wanted (`states_of` in `editor_plan`). Names of templates,
+//! partials and data are not seen from outside: so a folder of which nothing has a receipt joins a group that
+//! has releases only where that is asked for.
+ghost use Rattle.std.specs.Prelude.{◌≡◌, map, slice_get, IfOk, string_bytes};
+ghost use Rattle.editor_publish.specs.Taking.{shows_some, is_own, takes, taken_of};
+
+use crate::comparing::{Change, add_paths, changes_of, shows};
 use crate::made::untold;
 use editor_common::{EditorFault, say_made};
-use editor_folder::{View, path_in, views_of};
+use editor_files::lent;
+use editor_folder::{View, views_of};
 use editor_group::{Address, ask, newest};
 use editor_http::{NodeAnswer, Question};
 use editor_ledger::Ledger;
-use editor_plan::{is_taken, joins};
+use editor_plan::{LeftOver, is_taken, joins, left_by, states_of, touched};
 use std::alloc::{AllocError, Global};
 use std::collections::BTreeSet;
 use std::io::Write;
 use std::net::{Net, TcpStream};
 
 /// What a publication would take over: paths, in this newest release of the group, and whether it joins what
-/// others have published.
+/// others have published. And what an interrupted run of the folder left.
 #[derive(Drop)]
 pub(crate) struct Taken {
     pub release: u64,
     pub paths: Vec<String>,
     pub joins: bool,
+    pub left: LeftOver,
 }
 
 /// How many paths are told one by one.
 const TOLD: usize = 10;
 
-/// The path that a text puts a page or a redirect at.
-fn path_put(text: &str) -> Option<&str> {
-    if text.starts_with("put ") {
-        return path_in(text);
-    }
-    None
-}
-
-/// The paths that texts put, each once.
-fn paths_put(alloc: Global, texts: &[&str]) -> Result<BTreeSet<String>, AllocError> {
+/// The paths of pages that change, and those that texts are about, each once.
+fn paths_of(
+    alloc: Global,
+    changes: &[Change],
+    texts: &[String],
+) -> Result<Vec<String>, AllocError> {
     let mut paths = BTreeSet::new(alloc);
-    for text in texts {
-        if let Some(path) = path_put(text) {
-            let _ = paths.insert(String::from_str(alloc, path)?)?;
-        }
+    for change in changes {
+        let _ = paths.insert(change.view.path.clone()?)?;
     }
-    Ok(paths)
+    add_paths(alloc, &mut paths, &lent(alloc, texts)?)?;
+    paths.into_iter().collect(alloc)
 }
 
-/// The texts for which a ledger has receipts, and those that are on their way.
-fn texts_of<'a>(alloc: Global, ledger: &'a Ledger) -> Result<Vec<&'a str>, AllocError> {
-    let kept = ledger.kept().iter().map(|text| text.as_str());
-    let sent = ledger.sent().iter().map(|sent| sent.text.as_str());
-    kept.chain(sent).collect(alloc)
-}
-
-/// The paths that texts put and for which a ledger has no receipt.
-fn paths_not_held(
+/// The paths that a publication compares, where the folder's last release had these texts.
+fn paths_compared(
     alloc: Global,
     ledger: &Ledger,
+    released: &[String],
     wanted: &[&str],
 ) -> Result<Vec<String>, AllocError> {
-    let kept: Vec<&str> = ledger
-        .kept()
-        .iter()
-        .map(|text| text.as_str())
-        .collect(alloc)?;
-    let held = paths_put(alloc, &kept)?;
-    paths_put(alloc, wanted)?
-        .into_iter()
-        .filter(|path| !held.contains(path))
-        .collect(alloc)
+    let changes = changes_of(alloc, &lent(alloc, released)?, wanted)?;
+    let texts = touched(alloc, ledger, wanted)?;
+    paths_of(alloc, &changes, &texts)
+}
+
+/// What is shown at paths by the folder's own texts: of each of its states, and as it is wanted.
+fn own_views(
+    alloc: Global,
+    states: &[Vec<String>],
+    wanted: &[&str],
+    paths: &[String],
+) -> Result<Vec<Vec<View>>, AllocError> {
+    let mut views = Vec::new(alloc);
+    views.push(views_of(alloc, wanted, paths)?)?;
+    for texts in states {
+        views.push(views_of(alloc, &lent(alloc, texts)?, paths)?)?;
+    }
+    Ok(views)
 }
 
 /// The answers of a node for paths of a release.
@@ -87,9 +91,23 @@ fn answers_at<N: Net<Stream = TcpStream>>(
     ask(net, alloc, node, &questions)
 }
 
-/// Whether one of the views is what was answered.
-fn is_own(answer: &NodeAnswer, views: [Option<&View>; 2]) -> bool {
-    views.iter().any(|view| view.is_some_and(|view| is_shown(Some(answer), view)))
+/// Whether the view at that place is what was answered.
+fn shows_at(answer: &NodeAnswer, views: &[View], place: usize) -> bool
+    ensures { result ≡ shows_some answer.now (slice_get views.now place) }
+{
+    match views.get(place) {
+        Some(view) => shows(answer, view),
+        None => false,
+    }
+}
+
+/// Whether it is so in one of the states.
+fn is_own(answer: &NodeAnswer, states: &[Vec<View>], place: usize) -> bool
+    ensures { result ≡ is_own answer.now place states.now }
+{
+    states
+        .iter()
+        .any(|views| shows_at(answer, views.as_slice(), place))
 }
 
 /// A path that no node answered.
@@ -97,26 +115,42 @@ fn unanswered(alloc: Global, url: &str, path: &str) -> Result<EditorFault, Alloc
     Ok(EditorFault::Stop(format!(in alloc; "{url}{path}: was not answered")?))
 }
 
-/// Those of the paths that are taken over, by a node's answers, where the folder shows these views then, or
-/// those before.
+/// Whether a path is taken over, by what a node answered for it; a status that no node gives is a fault.
+fn takes(
+    alloc: Global,
+    url: &str,
+    path: &str,
+    place: usize,
+    answer: &NodeAnswer,
+    states: &[Vec<View>],
+) -> Result<bool, EditorFault>
+    ensures { IfOk result (λ taken. taken ≡ takes answer.now place states.now) }
+{
+    match is_taken(answer.status, is_own(answer, states, place)) {
+        Some(taken) => Ok(taken),
+        None => Err(unanswered(alloc, url, path)?),
+    }
+}
+
+/// Those of the paths that are taken over, by a node's answers, where the folder's own texts show these
+/// views.
 fn taken_of(
     alloc: Global,
     url: &str,
     paths: &[String],
     answers: &[NodeAnswer],
-    then: &[View],
-    before: &[View],
-) -> Result<Vec<String>, EditorFault> {
+    states: &[Vec<View>],
+) -> Result<Vec<String>, EditorFault>
+    ensures { IfOk result (λ taken. map string_bytes taken.items
+        ≡ taken_of states.now 0 (map string_bytes paths.now) answers.now) }
+{
     let mut taken = Vec::new(alloc);
     for (i, path) in paths.iter().enumerate() {
         let Some(answer) = answers.get(i) else {
             return Err(unanswered(alloc, url, path.as_str())?);
         };
-        let own = is_own(answer, [then.get(i), before.get(i)]);
-        match is_taken(answer.status, own) {
-            Some(true) => taken.push(path.clone()?)?,
-            Some(false) => {}
-            None => return Err(unanswered(alloc, url, path.as_str())?),
+        if takes(alloc, url, path.as_str(), i, answer, states)? {
+            taken.push(path.clone()?)?;
         }
     }
     Ok(taken)
@@ -131,15 +165,17 @@ fn paths_taken<N: Net<Stream = TcpStream>>(
     wanted: &[&str],
     release: u64,
 ) -> Result<Vec<String>, EditorFault> {
-    let url = node.url.as_str();
-    let paths = paths_not_held(alloc, ledger, wanted)?;
+    let states = states_of(alloc, ledger)?;
+    let Some(released) = states.first() else {
+        return Ok(Vec::new(alloc));
+    };
+    let paths = paths_compared(alloc, ledger, released, wanted)?;
     if release == 0 || paths.is_empty() {
         return Ok(Vec::new(alloc));
     }
     let answers = answers_at(net, alloc, node, release, &paths)?;
-    let then = views_of(alloc, wanted, &paths)?;
-    let before = views_of(alloc, &texts_of(alloc, ledger)?, &paths)?;
-    taken_of(alloc, url, &paths, &answers, &then, &before)
+    let views = own_views(alloc, &states, wanted, &paths)?;
+    taken_of(alloc, node.url.as_str(), &paths, &answers, &views)
 }
 
 /// What a publication of texts takes over in a node's newest release.
@@ -157,21 +193,51 @@ pub(crate) fn taken_over<N: Net<Stream = TcpStream>>(
         release,
         paths: paths_taken(net, alloc, node, ledger, wanted, release)?,
         joins: joins(ledger.kept().len(), release),
+        left: left_by(ledger),
     })
 }
 
 /// Why nothing was sent of what a publication would take over; nothing where it takes over nothing.
 pub(crate) fn refusal_of(alloc: Global, taken: &Taken) -> Result<Option<EditorFault>, AllocError> {
     let release = taken.release;
+    let nothing = if taken.left.is_none() {
+        "nothing"
+    } else {
+        "nothing more"
+    };
     if taken.joins {
         return Ok(Some(EditorFault::Stop(format!(in alloc;
-            "nothing was sent: the group has release {release}, and nothing in it is from this folder. Where others have templates, partials or data of the same names, this folder would replace them, which no node tells. With --take-over it does"
+            "{nothing} was sent: the group has release {release}, and nothing in it is from this folder. Where others have templates, partials or data of the same names, this folder would replace them, which no node tells. With --take-over it does"
         )?)));
     }
     if taken.paths.is_empty() {
         return Ok(None);
     }
-    Ok(Some(EditorFault::TakesOver))
+    Ok(Some(EditorFault::Stop(format!(in alloc;
+        "{nothing} was sent: others have put what this folder would replace or remove. With --take-over it does"
+    )?)))
+}
+
+/// Tells what an interrupted run of a folder left in the log, if it left something.
+pub(crate) fn tell_left_over<E: Write>(
+    alloc: Global,
+    err: &mut E,
+    folder: &str,
+    left: LeftOver,
+) -> Result<(), EditorFault> {
+    let LeftOver {
+        logged,
+        on_their_way: sent,
+    } = left;
+    if left.is_none() {
+        return Ok(());
+    }
+    say_made(
+        err,
+        format!(in alloc;
+            "{folder}: commands of an interrupted run that are in the log: {logged}; that were sent, and may be there too: {sent}. They go live with the next release that any editor makes"
+        ),
+    )
 }
 
 /// Tells the paths that are taken over, the first of them one by one.

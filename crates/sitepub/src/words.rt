@@ -61,16 +61,17 @@ fn published_by<R: Files + AllocGlobal>(
 }
 
 /// Tells what nodes say of themselves whose logins a file may have.
-fn status_by<R: Files + Net<Stream = TcpStream> + Clock + AllocGlobal, W: Write>(
+fn status_by<R: Files + Net<Stream = TcpStream> + Clock + AllocGlobal, W: Write, E: Write>(
     rt: &R,
     out: &mut W,
+    err: &mut E,
     outcome: &mut Outcome,
     word: &StatusWord<'_>,
 ) -> Result<u8, EditorFault> {
     let urls = with_logins(rt, &word.urls, word.logins)?;
     let urls = lent(rt.alloc(), &urls)?;
     let published = published_by(rt, word.folder)?;
-    tell_status(rt, out, outcome, &urls, published)
+    tell_status(rt, out, err, outcome, &urls, published)
 }
 
 /// Publishes a folder to nodes whose logins a file may have.
@@ -139,7 +140,7 @@ fn tell_word<
         ToldWord::Check(word) => check(rt, out, err, outcome, checking(word)),
         ToldWord::Publish(word) => publish_by(rt, out, err, outcome, word),
         ToldWord::Log { folder } => tell_log(rt, out, err, outcome, folder),
-        ToldWord::Status(word) => status_by(rt, out, outcome, word),
+        ToldWord::Status(word) => status_by(rt, out, err, outcome, word),
     }
 }
 

@@ -46,6 +46,28 @@ fn delivery_clocks(rt: HostRuntime) {
     }
 }
 
+/// The seconds that may pass without a receipt, when an exchange begins, and how long it waits for an answer, where the last receipt
+/// came after 1,500 milliseconds.
+const WAITS: &[(u64, u64, u64)] = &[
+    (60, 1_500, 5_000),
+    (60, 57_499, 5_000),
+    (60, 57_500, 4_000),
+    (60, 61_499, 1_000),
+    (60, 70_000, 1_000),
+    (12, 10_500, 3_000),
+    (2, 1_500, 2_000),
+    (0, 1_500, 1_000),
+];
+
+#[test]
+fn waits_for_answers(rt: HostRuntime) {
+    let mut clock = DeliveryClock::new();
+    steps(&rt, &mut clock, (Came::Receipt, 1_500), 60, Step::Again(0));
+    for &(patience, now, wanted) in WAITS {
+        ensure(&rt, clock.within(now, patience) == wanted, now);
+    }
+}
+
 /// With no patience it gives up after the first exchange that brought nothing.
 #[test]
 fn no_patience(rt: HostRuntime) {

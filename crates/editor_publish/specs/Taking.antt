@@ -1,0 +1,32 @@
+-- Which paths are taken over, by what a node answers for each of them.
+use Rattle.std.specs.Prelude.{ℕ, ◌+◌, ◌==◌, ◌&&◌, List, [], ◌∷◌, Bool, true, false, if◌then◌else◌, Option, Some, None, string_bytes, slice_get, unwrap_or, Vec}
+use Rattle.std.specs.List.{list_any}
+use Rattle.std.specs.Str.{bytes_eq}
+use Rattle.std.specs.declared.alloc.Global.{Global}
+use Rattle.editor_folder.specs.declared.views.View.{View}
+use Rattle.editor_http.specs.declared.node_answer.NodeAnswer.{NodeAnswer}
+use Rattle.editor_plan.specs.Takings.{is_taken}
+
+-- the answer is what the view shows
+abbrev pub shows : NodeAnswer → View → Bool
+shows answer view = answer.status == view.status && bytes_eq answer.body.items (string_bytes view.body)
+
+abbrev pub shows_some : NodeAnswer → Option View → Bool
+shows_some answer None = false
+shows_some answer (Some view) = shows answer view
+
+-- in one of the states the folder's view at that place is what was answered
+abbrev pub is_own : NodeAnswer → ℕ → List (Vec View Global) → Bool
+is_own answer place states = list_any (λ views. shows_some answer (slice_get views.items place)) states
+
+abbrev pub takes : NodeAnswer → ℕ → List (Vec View Global) → Bool
+takes answer place states = unwrap_or (is_taken answer.status (is_own answer place states)) false
+
+-- those of the paths, the first of which has that place, that are taken over
+abbrev pub taken_of : List (Vec View Global) → ℕ → List (List ℕ) → List NodeAnswer → List (List ℕ)
+taken_of states place [] answers = []
+taken_of states place (path ∷ paths) [] = []
+taken_of states place (path ∷ paths) (answer ∷ answers) =
+    if takes answer place states
+    then path ∷ taken_of states (place + 1) paths answers
+    else taken_of states (place + 1) paths answers
