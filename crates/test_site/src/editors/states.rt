@@ -21,55 +21,81 @@ struct Row {
     left: (u64, usize),
 }
 
-const fn row(
-    plans: &'static [(&'static str, u64)],
-    states: &'static str,
-    wanted: &'static str,
-    touched: &'static str,
-    left: (u64, usize),
-) -> Row {
-    Row {
-        plans,
-        states,
-        wanted,
-        touched,
-        left,
-    }
-}
-
 const ROWS: &[Row] = &[
-    row(&[], "", "TA", "TA", (0, 0)),
+    Row {
+        plans: &[],
+        states: "",
+        wanted: "TA",
+        touched: "TA",
+        left: (0, 0),
+    },
     // The first run is interrupted: nothing of it may be shown, what has its receipts, or all.
-    row(&[("TA", 1)], "ta|T|TA", "TA", "taA", (1, 1)),
-    row(&[("TA", 2), ("!", 0)], "ta|TA|TA!", "TA", "ta", (2, 1)),
+    Row {
+        plans: &[("TA", 1)],
+        states: "ta|T|TA",
+        wanted: "TA",
+        touched: "taA",
+        left: (1, 1),
+    },
+    Row {
+        plans: &[("TA", 2), ("!", 0)],
+        states: "ta|TA|TA!",
+        wanted: "TA",
+        touched: "ta",
+        left: (2, 1),
+    },
     // After a release nothing else may be shown.
-    row(&[("TA", 2), ("!", 1)], "TA", "TB", "B", (0, 0)),
+    Row {
+        plans: &[("TA", 2), ("!", 1)],
+        states: "TA",
+        wanted: "TB",
+        touched: "B",
+        left: (0, 0),
+    },
     // What is removed is touched, be it that this folder never put it.
-    row(&[("TA", 2), ("!", 1)], "TA", "T", "a", (0, 0)),
-    row(&[("TA", 2), ("!", 1)], "TA", "TAr", "r", (0, 0)),
-    row(&[("TA", 2), ("!", 1)], "TA", "TA", "", (0, 0)),
+    Row {
+        plans: &[("TA", 2), ("!", 1)],
+        states: "TA",
+        wanted: "T",
+        touched: "a",
+        left: (0, 0),
+    },
+    Row {
+        plans: &[("TA", 2), ("!", 1)],
+        states: "TA",
+        wanted: "TAr",
+        touched: "r",
+        left: (0, 0),
+    },
+    Row {
+        plans: &[("TA", 2), ("!", 1)],
+        states: "TA",
+        wanted: "TA",
+        touched: "",
+        left: (0, 0),
+    },
     // A later run is interrupted, and then another, whose folder differs.
-    row(
-        &[("TA", 2), ("!", 1), ("TB", 0)],
-        "TA|TA|TAB",
-        "TB",
-        "AB",
-        (0, 1),
-    ),
-    row(
-        &[("TA", 2), ("!", 1), ("TB", 1)],
-        "TA|TB|TB",
-        "TB",
-        "A",
-        (1, 0),
-    ),
-    row(
-        &[("TA", 2), ("!", 1), ("TB", 1), ("R", 1)],
-        "ArT|rTB|TBR|TBRta",
-        "R",
-        "ArTBta",
-        (2, 2),
-    ),
+    Row {
+        plans: &[("TA", 2), ("!", 1), ("TB", 0)],
+        states: "TA|TA|TAB",
+        wanted: "TB",
+        touched: "AB",
+        left: (0, 1),
+    },
+    Row {
+        plans: &[("TA", 2), ("!", 1), ("TB", 1)],
+        states: "TA|TB|TB",
+        wanted: "TB",
+        touched: "A",
+        left: (1, 0),
+    },
+    Row {
+        plans: &[("TA", 2), ("!", 1), ("TB", 1), ("R", 1)],
+        states: "ArT|rTB|TBR|TBRta",
+        wanted: "R",
+        touched: "ArTBta",
+        left: (2, 2),
+    },
 ];
 
 /// A plan, of which so many get their receipts.
