@@ -138,7 +138,7 @@ fn tell_more<E: Write>(
     )
 }
 
-/// Tells why so many pages may be shown otherwise, and what to do.
+/// Tells once why pages may be shown otherwise, with their number, and what to do.
 fn tell_why<E: Write>(alloc: Global, err: &mut E, otherwise: usize) -> Result<(), EditorFault> {
     if otherwise == 0 {
         return Ok(());

@@ -123,7 +123,7 @@ fn tell_next<W: Write>(
     Ok(stage == Stage::Sends)
 }
 
-/// Tells what would be put and removed, and which pages change, where those paths are taken over. Nothing is
+/// Tells what would be put and removed, and which pages change, if those paths are taken over. Nothing is
 /// asked, sent or saved. Whether anything would be sent is the answer.
 pub(crate) fn tell_plan<W: Write>(
     alloc: Global,

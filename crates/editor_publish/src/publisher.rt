@@ -252,7 +252,7 @@ impl<R: Files + Net<Stream = TcpStream> + Clock + AllocGlobal, E: Write> Publish
         self.refuse(&taken)
     }
 
-    /// Refuses what a publication takes over, unless that is asked for. What an interrupted run left is told
+    /// Refuses what a publication takes over, unless that is asked for. What an interrupted run left is reported
     /// then.
     fn refuse(&mut self, taken: &Taken) -> Result<(), EditorFault> {
         let alloc = self.rt.alloc();
@@ -326,8 +326,8 @@ impl<R: Files + Net<Stream = TcpStream> + Clock + AllocGlobal, E: Write> Publish
         }
     }
 
-    /// Tells what a publication of these texts would put, remove and take over; where it would send nothing,
-    /// whether the group shows the folder. Nothing is sent or saved. Where the publication would be refused, so
+    /// Tells what a publication of these texts would put, remove and take over; if it would send nothing,
+    /// whether the group shows the folder. Nothing is sent or saved. If the publication would be refused, so
     /// is this, once all is told.
     pub(crate) fn tell_plan<W: Write>(
         &mut self,

@@ -4,7 +4,7 @@
 //! the group's newest release has something there that none of the folder's own texts show: not as they were
 //! at its last release, nor since, nor as they are wanted (`states_of` in `editor_plan`). Names of templates,
 //! partials and data are not seen from outside: so a folder of which nothing has a receipt joins a group that
-//! has releases only where that is asked for.
+//! has releases only if that is asked for.
 ghost use Rattle.std.specs.Prelude.{◌≡◌, map, slice_get, IfOk, string_bytes};
 ghost use Rattle.editor_publish.specs.Taking.{shows_some, is_own, takes, taken_of};
 
@@ -49,7 +49,7 @@ fn paths_of(
     paths.into_iter().collect(alloc)
 }
 
-/// The paths that a publication compares, where the folder's last release had these texts.
+/// The paths that a publication compares, if the folder's last release had these texts.
 fn paths_compared(
     alloc: Global,
     ledger: &Ledger,
@@ -101,7 +101,7 @@ fn shows_at(answer: &NodeAnswer, views: &[View], place: usize) -> bool
     }
 }
 
-/// Whether it is so in one of the states.
+/// Whether one of the folder's states shows what was answered at that place.
 fn is_own(answer: &NodeAnswer, states: &[Vec<View>], place: usize) -> bool
     ensures { result ≡ is_own answer.now place states.now }
 {
@@ -132,7 +132,7 @@ fn takes(
     }
 }
 
-/// Those of the paths that are taken over, by a node's answers, where the folder's own texts show these
+/// Those of the paths that are taken over, by a node's answers, if the folder's own texts show these
 /// views.
 fn taken_of(
     alloc: Global,
@@ -197,7 +197,7 @@ pub(crate) fn taken_over<N: Net<Stream = TcpStream>>(
     })
 }
 
-/// Why nothing was sent of what a publication would take over; nothing where it takes over nothing.
+/// Why nothing was sent of what a publication would take over; `None` if it takes over nothing.
 pub(crate) fn refusal_of(alloc: Global, taken: &Taken) -> Result<Option<EditorFault>, AllocError> {
     let release = taken.release;
     let nothing = if taken.left.is_none() {
@@ -207,7 +207,7 @@ pub(crate) fn refusal_of(alloc: Global, taken: &Taken) -> Result<Option<EditorFa
     };
     if taken.joins {
         return Ok(Some(EditorFault::Stop(format!(in alloc;
-            "{nothing} was sent: the group has release {release}, and nothing in it is from this folder. Where others have templates, partials or data of the same names, this folder would replace them, which no node tells. With --take-over it does"
+            "{nothing} was sent: the group has release {release}, and nothing in it is known to be from this folder. If others have templates, partials or data of the same names, this folder would replace them, which no node tells. With --take-over it does"
         )?)));
     }
     if taken.paths.is_empty() {
@@ -226,16 +226,17 @@ pub(crate) fn tell_left_over<E: Write>(
     left: LeftOver,
 ) -> Result<(), EditorFault> {
     let LeftOver {
-        logged,
-        on_their_way: sent,
+        logged: least,
+        on_their_way,
     } = left;
     if left.is_none() {
         return Ok(());
     }
+    let most = least.saturating_add(on_their_way as u64);
     say_made(
         err,
         format!(in alloc;
-            "{folder}: commands of an interrupted run that are in the log: {logged}; that were sent, and may be there too: {sent}. They go live with the next release that any editor makes"
+            "{folder}: commands that an interrupted run left in the log: {least} at least, {most} at most. They go live with the next release that any editor makes"
         ),
     )
 }
