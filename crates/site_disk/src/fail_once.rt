@@ -1,6 +1,6 @@
 //! A disk of which one call fails.
 
-ghost use Rattle.std.specs.Prelude.{◌≡◌, ◌⊎◌, ◌↔◌, ◌+◌, ◌≤◌, List, ℕ, length, take, drop, None, Some, IfOk, OnOk, OnErr, IsTrue};
+ghost use Rattle.std.specs.Prelude.{◌≡◌, ◌⊎◌, ◌↔◌, ◌+◌, ◌≤◌, List, ℕ, length, take, drop, None, Some, IfOk, OnOk, OnErr, IsTrue, IsFalse};
 ghost use Rattle.site_disk.specs.Model.{DiskState, after_write, after_sync, overwritten, IsTorn, CountsFailure};
 ghost use Rattle.site_disk.specs.Once.{after_next};
 
@@ -112,6 +112,19 @@ impl<D: Disk> Disk for FailOnce<D> {
             self.disk.write_at(at, bytes)
         };
         counted(answer, &mut self.failures)
+    }
+
+    fn lengthen(&mut self, at: u64, bytes: &[u8]) -> bool
+        ensures written { IsTrue result → (d : DiskState) → D.stands_for self.old.disk d → at ≤ length d.seen
+            → D.stands_for self.new.disk (after_write d at (length bytes.now) (overwritten d.seen at bytes.now)) }
+        ensures torn { IsFalse result → (d : DiskState) → D.stands_for self.old.disk d → at ≤ length d.seen
+            → D.stands_for self.new.disk d ⊎ ((seen : List ℕ) × IsTorn at (length bytes.now) d.seen seen × D.stands_for self.new.disk (after_write d at (length bytes.now) seen)) }
+        ensures uncounted { (self.new.failures ≡ self.old.failures)
+            × (D.failed self.new.disk ≡ D.failed self.old.disk) }
+        ensures left { self.new.left ≡ after_next self.old.left }
+        ensures due { self.old.left ≡ Some 0 → IsFalse result × (self.new.disk ≡ self.old.disk) }
+    {
+        !is_due(&mut self.left) && self.disk.lengthen(at, bytes)
     }
 
     fn sync(&mut self) -> Result<(), DiskFailed>

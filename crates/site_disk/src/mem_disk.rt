@@ -241,6 +241,10 @@ impl Disk for MemDisk {
         counted(self.write(at as usize, bytes), &mut self.failures)
     }
 
+    fn lengthen(&mut self, at: u64, bytes: &[u8]) -> bool {
+        self.write(at as usize, bytes).is_ok()
+    }
+
     fn sync(&mut self) -> Result<(), DiskFailed> {
         counted(self.sync_all(), &mut self.failures)
     }
