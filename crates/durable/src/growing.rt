@@ -3,7 +3,7 @@
 //! A sync after a write that makes the file longer also writes the file system's journal. So a record's file
 //! grows before that is needed, and a batch is written over zeros.
 
-ghost use Rattle.std.specs.Prelude.{◌≡◌, ◌⊎◌, ◌↔◌, ◌-◌, ◌<◌, ◌^◌, [], true, IsTrue, IfOk, OnErr, IsErrOf, OnOk, replicate};
+ghost use Rattle.std.specs.Prelude.{◌≡◌, ◌⊎◌, ◌↔◌, ◌-◌, ◌<◌, ◌^◌, [], true, false, IsTrue, IfOk, OnErr, IsErrOf, OnOk, replicate};
 ghost use Rattle.site_disk.specs.Model.{DiskState, LeavesOnly, CountsFailure};
 ghost use Rattle.durable.specs.Append.{IsSettled};
 ghost use Rattle.durable.specs.Growing.{GoesOnAs, with_zeros, length_for};
@@ -41,9 +41,9 @@ fn lengthen<D: Disk>(alloc: Global, disk: &mut D, size: u64) -> Result<bool, Dis
     let Ok(zeros) = zeros(alloc, missing) else {
         return Ok(false);
     };
-    let there = disk.lengthen(len, &zeros);
+    let whole = disk.lengthen(len, &zeros);
     disk.sync()?;
-    Ok(there)
+    Ok(whole)
 }
 
 impl<D: Disk> Record<D> {
@@ -62,12 +62,12 @@ impl<D: Disk> Record<D> {
         ensures batched { IsBatchOpen self.old → (self.new ≡ self.old) × ¬ IsErrOf result RecordFault.Device
             × IfOk result (λ there. ¬ IsTrue there) }
         ensures failed { IsErrOf result RecordFault.Device → KeepsAll D.stands_for self.old self.new
-            × (self.new.stopped ≡ true)
+            × (self.old.stopped ≡ false) × (self.new.stopped ≡ true)
             × ((D.failed self.old.disk < D.failed self.new.disk) ⊎ (D.failed self.old.disk ≡ 2 ^ 64 - 1)) }
         ensures was_stopped { IsErrOf result RecordFault.Stopped ↔ (self.old.stopped ≡ true) }
         ensures refused { IsErrOf result RecordFault.Stopped → self.new ≡ self.old }
         ensures others { OnErr result (IsErrOf result RecordFault.Stopped ⊎ IsErrOf result RecordFault.Device) }
-        ensures running { OnOk result (self.new.stopped ≡ self.old.stopped) }
+        ensures running { OnOk result ((self.old.stopped ≡ false) × (self.new.stopped ≡ false)) }
         ensures same { self.new ≡ record self.old { disk = self.new.disk; stopped = self.new.stopped } }
     {
         if self.stopped {

@@ -183,6 +183,13 @@ impl<D: Disk> Record<D> {
         payload <= MAX_RECORD - 6 && self.recorded.gate <= MAX_RECORD - 6 - payload
     }
 
+    /// How many bytes of the file it takes, the gate at its end not counted.
+    pub fn bytes(&self) -> u64
+        ensures { result ≡ self.now.recorded.gate }
+    {
+        self.recorded.gate
+    }
+
     /// Gives the disk back, without the entries of a batch that is open.
     pub fn close(self) -> D
         ensures { result ≡ self.disk }

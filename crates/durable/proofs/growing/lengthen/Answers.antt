@@ -23,8 +23,8 @@ returns-in_err-sync-clause-broken g c = on_err c.from_residual-in_err-sync.resul
     let first = c.len.ensures.state d stands in
     let len = c.in_ok-len.ensures.len d stands in
     let within : c.in_ok-len.len ≤ length d.seen = omega (arith, len) in
-    let was = lengthened_at g.D.Disk.stands_for c.lengthen-there.new.self d settled c.deref.result.now c.in_ok-len.len len c.lengthen-there.result
-        (λ yes. c.lengthen-there.ensures.written yes d first within) (λ no. c.lengthen-there.ensures.torn no d first within) in
+    let was = lengthened_at g.D.Disk.stands_for c.lengthen-whole.new.self d settled c.deref.result.now c.in_ok-len.len len c.lengthen-whole.result
+    (λ yes. c.lengthen-whole.ensures.written yes d first within) (λ no. c.lengthen-whole.ensures.torn no d first within) in
     (was.e, c.in_err-sync.ensures.kept was.e was.stands, was.leaves, was.on))
 
 pub returns-clause-done : goal.returns-clause-done
@@ -32,9 +32,14 @@ returns-clause-done g c = λ d stands settled.
     let first = c.len.ensures.state d stands in
     let len = c.in_ok-len.ensures.len d stands in
     let within : c.in_ok-len.len ≤ length d.seen = omega (arith, len) in
-    let was = lengthened_at g.D.Disk.stands_for c.lengthen-there.new.self d settled c.deref.result.now c.in_ok-len.len len c.lengthen-there.result
-        (λ yes. c.lengthen-there.ensures.written yes d first within) (λ no. c.lengthen-there.ensures.torn no d first within) in
+    let was = lengthened_at g.D.Disk.stands_for c.lengthen-whole.new.self d settled c.deref.result.now c.in_ok-len.len len c.lengthen-whole.result
+    (λ yes. c.lengthen-whole.ensures.written yes d first within) (λ no. c.lengthen-whole.ensures.torn no d first within) in
     let zeros : c.deref.result.now ≡ replicate (c.args.size - length d.seen) 0
-    = c.deref.ensures.value ∙ c.in-Ok.ensures ∙ ap (λ (k : ℕ). replicate k 0) (c.saturating_sub-missing.ensures ∙ ap (λ (n : ℕ). c.args.size - n) len) in
-    (after_sync was.e, c.in_ok-sync.ensures.synced was.e was.stands, record { all_synced = refl; none_written = refl }, synced_on d settled was.e was.leaves was.on, was.on,
-      λ yes. was.whole yes ∙ ap (λ (l : List ℕ). d.seen ++ l) zeros)
+    = c.deref.ensures.value ∙ c.in-Ok.ensures ∙ ap (λ (k : ℕ). replicate k 0) (c.saturating_sub-missing.ensures ∙ ap (λ (n : ℕ). c.args.size - n) len) in (
+      after_sync was.e,
+      c.in_ok-sync.ensures.synced was.e was.stands,
+      record { all_synced = refl; none_written = refl },
+      synced_on d settled was.e was.leaves was.on,
+      was.on,
+      λ yes. was.whole yes ∙ ap (λ (l : List ℕ). d.seen ++ l) zeros,
+    )
