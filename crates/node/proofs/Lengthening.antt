@@ -1,5 +1,5 @@
 -- A node whose file grows.
-use Rattle.std.proofs.Common.{◌≡◌, ℕ, inl, ⊎_elim, Bool, IsTrue, Option, None, false, List, [], refl, sym, subst}
+use Rattle.std.proofs.Common.{◌≡◌, ℕ, inl, ⊎_elim, Bool, IsTrue, Option, None, false, List, [], if◌then◌else◌, refl, sym, ◌∙◌, ap, subst}
 use Rattle.site_disk.specs.Model.{DiskState, LeavesOnly}
 use Rattle.durable.specs.Batches.{IsNoneOrAll, KeepsNoneOrAll}
 use Rattle.durable.specs.Entries.{Entry}
@@ -9,14 +9,20 @@ use Rattle.durable.specs.Standing.{StandsFor}
 use Rattle.durable.specs.declared.record.Record.{Record}
 use Rattle.durable.proofs.Moments.{weaker}
 use Rattle.node.specs.declared.node.Node.{Node as Running}
-use Rattle.node.specs.Nodes.{Mode, Node}
+use Rattle.node.specs.Nodes.{Mode, Stopped, Up, Node}
 use Rattle.node.specs.Standing.{IsOnRecord, IsNodeOf, IsOnDisk, IsEither}
 use Rattle.node.proofs.Stepping.{of_node}
 
--- which disk is under a record says nothing of what is on record
-pub over_another : {D : Type 0} (old : Record D) (disk : D) (n : ℕ) (mode : Mode) (entries : List Entry) (in_flight : Option Entry) → IsOnRecord old n mode entries in_flight
-    → IsOnRecord (record old { disk = disk }) n mode entries in_flight
-over_another old disk n mode entries in_flight on = record { mode_is = on.mode_is; kept = on.kept; history = on.history; settled = on.settled }
+-- which disk is under a record that runs says nothing of what is on record
+pub over_another : {D : Type 0} (old new : Record D) (n : ℕ) (mode : Mode) (entries : List Entry) (in_flight : Option Entry) → new ≡ record old { disk = new.disk; stopped = new.stopped }
+    → new.stopped ≡ old.stopped → IsOnRecord old n mode entries in_flight → IsOnRecord new n mode entries in_flight
+over_another {D} old new n mode entries in_flight is same on =
+    subst (λ (store : Record D). IsOnRecord store n mode entries in_flight) (sym is) (record {
+      mode_is = on.mode_is ∙ ap (λ (b : Bool). if b then Stopped else Up) (sym same);
+      kept = on.kept;
+      history = on.history;
+      settled = λ running. on.settled (sym same ∙ running);
+    })
 
 -- with no entry in flight, what is found is what is on record
 all_found : (p n : ℕ) (entries : List Entry) (file : List ℕ) → IsFound p n entries None file → StandsFor p n file entries
@@ -64,16 +70,3 @@ module _ {D : Type 0} (stands_for : D → DiskState → Type 0) (old : Running D
         leaves_mine stands_for old s running node_of d was.0 was.2,
         was.3,
       )
-
--- it stands for the same nodes
-pub same_node : {D : Type 0} (old new : Running D) (s : Node) → new ≡ record old { store = new.store } → new.store ≡ record old.store { disk = new.store.disk } → IsNodeOf old s → IsNodeOf new s
-same_node {D} old new s is store stands =
-    let parts = stands.parts in
-    let on : IsOnRecord new.store old.cluster s.mode s.entries s.in_flight = subst (λ (r : Record D). IsOnRecord r old.cluster s.mode s.entries s.in_flight) (sym store)
-        (over_another old.store new.store.disk old.cluster s.mode s.entries s.in_flight parts.on_record) in
-    subst (λ (r : Running D). IsNodeOf r s) (sym is) (record {
-      parts = record { on_record = on; votes = parts.votes; known = parts.known; attempts = parts.attempts; pending = parts.pending; heard = parts.heard; reached = parts.reached };
-      tidy = stands.tidy;
-      ranges = stands.ranges;
-      fed = stands.fed;
-    })

@@ -5,11 +5,14 @@ use Rattle.wire.specs.declared.message.Message.{Message}
 use Rattle.durable.specs.Batches.{KeepsNoneOrAll}
 use Rattle.durable.proofs.Moments.{then, weaker}
 use Rattle.node.specs.declared.fault.NodeFault.{NodeFault}
+use Rattle.node.specs.declared.fault.NodeFault.TheVariants as fault
 use Rattle.node.specs.declared.to.To.{To}
 use Rattle.node.specs.declared.node.Node.{Node as Running}
 use Rattle.node.specs.Growing.{LosesNothing}
 use Rattle.node.specs.Nodes.{Node}
 use Rattle.node.specs.Standing.{IsNodeOf, IsOnDisk, IsEither, KeepsOthers, StaysOnDisk, CountsDevice, failures}
+use Rattle.site_drive.proofs.Results.{same_err}
+use Rattle.site_drive.proofs.Sealing.{not_begun}
 use Rattle.site_drive.specs.declared.last_call.LastCall.{LastCall}
 use Rattle.site_drive.specs.Leading.{StaysWhose}
 use Rattle.site_drive.specs.Batches.{HasWorked, LeadsSealed, TakesBatch, GivesUpBatch, LosesBatch, IsStop, EndsBatch}
@@ -104,3 +107,17 @@ module _ {D : Type 0} (stands_for : D → DiskState → Type 0) where
       λ d on. let e = loses s d stands on in (e.0, e.1, e.2, ([], sym (append-nil s.entries), e.3)),
     );
   }
+
+  -- a node that could not grow has done nothing of the batch
+  pub not_grown : (old new : Running D) (last : LastCall) (came : List (List ℕ)) (why told : NodeFault) → told ≡ why
+      → ◌⊎◌ (◌≡◌ {A = Result (Unit {0}) NodeFault} (Err why) (Err fault.Stopped)) (◌≡◌ {A = Result (Unit {0}) NodeFault} (Err why) (Err fault.Device))
+      → (why ≡ fault.Stopped → (new ≡ old) × (old.store.stopped ≡ true)) → (why ≡ fault.Device → LosesNothing stands_for old new.store.disk × (new.store.stopped ≡ true))
+      → LeadsSealed stands_for old new (GivesUpBatch last old.cluster old.me came told) ⊎ (IsStop told × LosesBatch stands_for last came old new)
+  not_grown old new last came why told is causes stopped failed = ⊎_elim
+      (λ stop.
+      let was = stopped (same_err stop) in
+      inl (not_begun stands_for old new last old.cluster old.me came
+      (λ s stands. subst (λ (code : Running D). IsNodeOf code s) (sym was.0) stands) (λ s d on. subst (λ (code : Running D). IsOnDisk stands_for code s d) (sym was.0) on)
+      why told is (inl (same_err stop)) (λ _. was.1)))
+      (λ device. let was = failed (same_err device) in inr (inl (is ∙ same_err device), lost_before old new last came was.0 was.1))
+      causes

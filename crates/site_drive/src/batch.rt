@@ -99,9 +99,9 @@ impl Desk {
 
     /// Has the node's file grow ahead, if that is due. Want of room is no fault.
     fn make_room<D: Disk>(&mut self, node: &mut Node<D>, idle: bool) -> Result<(), NodeFault>
-        ensures grown { OnOk result (IsDue self.old.room node.old.store.recorded.gate idle
-            → (there : Bool) × GrowsAt D.stands_for node.old node.new self.old.room.size there) }
-        ensures not_due { (¬ IsDue self.old.room node.old.store.recorded.gate idle) → node.new ≡ node.old }
+        ensures grown { OnOk result (IsDue self.old.ahead node.old.store.recorded.gate idle
+            → (there : Bool) × GrowsAt D.stands_for node.old node.new self.old.ahead.size there) }
+        ensures not_due { (¬ IsDue self.old.ahead node.old.store.recorded.gate idle) → node.new ≡ node.old }
         ensures same { OnOk result ((s : AbstractNode) → IsNodeOf node.old s → IsNodeOf node.new s) }
         ensures stays { OnOk result ((s : AbstractNode) → IsNodeOf node.old s
             → StaysOnDisk D.stands_for node.old node.new s s) }
@@ -112,14 +112,14 @@ impl Desk {
         ensures others { OnErr result (IsErrOf result NodeFault.Stopped ⊎ IsErrOf result NodeFault.Device) }
         ensures keeps { KeepsOthers node.old node.new }
         ensures counts { CountsDevice result (failures D.failed node.old) (failures D.failed node.new) }
-        ensures desk { self.new ≡ record self.old { room = self.new.room } }
+        ensures desk { self.new ≡ record self.old { ahead = self.new.ahead } }
     {
         let bytes = node.record_bytes();
-        if !self.room.is_due(bytes, idle) {
+        if !self.ahead.is_due(bytes, idle) {
             return Ok(());
         }
-        self.room = self.room.after(bytes);
-        node.grow(self.room.size)?;
+        self.ahead = self.ahead.after(bytes);
+        node.grow(self.ahead.size)?;
         Ok(())
     }
 

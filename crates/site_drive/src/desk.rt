@@ -25,15 +25,15 @@ pub struct Desk {
     /// What this drive delivered.
     pub(crate) delivered: Delivered,
     /// When the file of its node's record grows ahead.
-    pub(crate) room: Room,
+    pub(crate) ahead: Room,
     ghost room: { length datagram.items ≡ MAX_MESSAGE + 1 },
 }
 
 impl Desk {
     /// An empty desk, whose memory is allocated here. By its batches no file grows ahead.
     pub fn new(alloc: Global) -> Result<Desk, AllocError>
-        ensures { IfOk result (λ desk. (desk.outbox.items ≡ []) × (desk.failed ≡ 0)) }
-        ensures room { IfOk result (λ desk. desk.room ≡ record { size = 0; next = 0 }) }
+        ensures empty { IfOk result (λ desk. (desk.outbox.items ≡ []) × (desk.failed ≡ 0)) }
+        ensures ahead { IfOk result (λ desk. desk.ahead ≡ record { size = 0; next = 0 }) }
     {
         let mut datagram = Vec::new(alloc);
         datagram.resize(MAX_MESSAGE + 1, 0)?;
@@ -44,16 +44,16 @@ impl Desk {
             outbox: Vec::new(alloc),
             failed: 0,
             delivered: Delivered::none(),
-            room: Room::none(),
+            ahead: Room::none(),
         })
     }
 
     /// The same desk, by whose batches a record's file gets this many bytes of room ahead.
-    pub fn with_room(self, size: u64) -> Desk
-        ensures { result ≡ record self { room = record { size = size; next = 0 } } }
+    pub fn with_room(mut self, size: u64) -> Desk
+        ensures { result ≡ record self { ahead = record { size = size; next = 0 } } }
     {
-        let room = Room { size, next: 0 };
-        Desk { room, ..self }
+        self.ahead = Room { size, next: 0 };
+        self
     }
 
     /// What the last drive delivered.

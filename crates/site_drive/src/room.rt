@@ -25,9 +25,7 @@ impl Room {
     pub fn is_due(self, bytes: u64, idle: bool) -> bool
         ensures { IsTrue result ↔ IsDue self bytes idle }
     {
-        self.size > 0
-            && bytes >= self.next
-            && (idle || bytes - self.next >= self.size / 4)
+        self.size > 0 && bytes >= self.next && (idle || bytes - self.next >= self.size / 4)
     }
 
     /// The same after the file of a record of `bytes` bytes grew, or could not: a file without room is tried

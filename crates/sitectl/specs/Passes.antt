@@ -34,7 +34,7 @@ NoneForged n sent came = (bytes : List ℕ) → In came bytes → (m : Message) 
 
 -- ---- what holds of a server's steps
 
--- the work of a batch, whole or given up
+-- the work of a batch, whole, or given up, or not begun
 abbrev pub WorkIsCalls : Type 0
 WorkIsCalls = (last : LastCall) (n p : ℕ) (came : List (List ℕ)) (s next : Node) → HasWorked last n p came s next → (out : List (To × Message)) × AreCalls n p came out s next
 
