@@ -22,7 +22,8 @@ length_for gate room = min MAX_RECORD (gate + room)
 -- The file stands for the same entries, and all of it is on the disk. If there was room, it has zeros at its
 -- end, up to the length that was asked for. A crash at any moment leaves the entries.
 abbrev pub Grows : {D : Type 0} → (D → DiskState → Type 0) → Record D → Record D → ℕ → Bool → Type 0
-Grows stands_for old new size there = (d : DiskState) (entries : List Entry) → IsStored stands_for old d entries
+Grows stands_for old new size there = (d : DiskState) (entries : List Entry)
+    → IsStored stands_for old d entries
     → (e : DiskState) × IsStored stands_for new e entries
     × LeavesOnly d e (IsFound old.node old.cluster entries None)
     × (IsTrue there → e.seen ≡ with_zeros d.seen size)

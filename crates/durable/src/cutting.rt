@@ -25,7 +25,8 @@ fn has_batch_after<D: Disk>(
     ensures state { (d : DiskState) → D.stands_for disk.old d → D.stands_for disk.new d }
     ensures told { IfOk result (λ told. (d : DiskState) → D.stands_for disk.old d → len ≡ length d.seen
         → IsTrue told ↔ HasBatchAfter gate d.seen) }
-    ensures others { OnErr result (IsErrOf result RecordFault.Device ⊎ IsErrOf result RecordFault.OutOfMemory) }
+    ensures others { OnErr result (IsErrOf result RecordFault.Device
+        ⊎ IsErrOf result RecordFault.OutOfMemory) }
     ensures none_failed { OnOk result (D.failed disk.new ≡ D.failed disk.old) }
     ensures no_fewer { D.failed disk.old ≤ D.failed disk.new }
     ensures cause { IsErrOf result RecordFault.Device
@@ -65,7 +66,8 @@ pub(crate) fn is_cut_short<D: Disk>(
     ensures state { (d : DiskState) → D.stands_for disk.old d → D.stands_for disk.new d }
     ensures told { IfOk result (λ told. (d : DiskState) → D.stands_for disk.old d → len ≡ length d.seen
         → IsTrue told ↔ IsCutShort gate d.seen) }
-    ensures others { OnErr result (IsErrOf result RecordFault.Device ⊎ IsErrOf result RecordFault.OutOfMemory) }
+    ensures others { OnErr result (IsErrOf result RecordFault.Device
+        ⊎ IsErrOf result RecordFault.OutOfMemory) }
     ensures none_failed { OnOk result (D.failed disk.new ≡ D.failed disk.old) }
     ensures no_fewer { D.failed disk.old ≤ D.failed disk.new }
     ensures cause { IsErrOf result RecordFault.Device

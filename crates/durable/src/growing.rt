@@ -3,7 +3,8 @@
 //! A sync after a write that makes the file longer also writes the file system's journal. So a record's file
 //! grows before that is needed, and a batch is written over zeros.
 
-ghost use Rattle.std.specs.Prelude.{◌≡◌, ◌⊎◌, ◌↔◌, ◌-◌, ◌<◌, ◌^◌, [], true, false, IsTrue, IfOk, OnErr, IsErrOf, OnOk, replicate};
+ghost use Rattle.std.specs.Prelude.{◌≡◌, ◌⊎◌, ◌↔◌, ◌-◌, ◌<◌, ◌^◌, [], true, false, IsTrue, IfOk, OnErr};
+ghost use Rattle.std.specs.Prelude.{IsErrOf, OnOk, replicate};
 ghost use Rattle.site_disk.specs.Model.{DiskState, LeavesOnly, CountsFailure};
 ghost use Rattle.durable.specs.Append.{IsSettled};
 ghost use Rattle.durable.specs.Growing.{GoesOnAs, with_zeros, length_for};
@@ -66,7 +67,8 @@ impl<D: Disk> Record<D> {
             × ((D.failed self.old.disk < D.failed self.new.disk) ⊎ (D.failed self.old.disk ≡ 2 ^ 64 - 1)) }
         ensures was_stopped { IsErrOf result RecordFault.Stopped ↔ (self.old.stopped ≡ true) }
         ensures refused { IsErrOf result RecordFault.Stopped → self.new ≡ self.old }
-        ensures others { OnErr result (IsErrOf result RecordFault.Stopped ⊎ IsErrOf result RecordFault.Device) }
+        ensures others { OnErr result (IsErrOf result RecordFault.Stopped
+            ⊎ IsErrOf result RecordFault.Device) }
         ensures running { OnOk result ((self.old.stopped ≡ false) × (self.new.stopped ≡ false)) }
         ensures same { self.new ≡ record self.old { disk = self.new.disk; stopped = self.new.stopped } }
     {

@@ -10,7 +10,8 @@ use Rattle.node.specs.Standing.{IsNodeOf, IsOnDisk, IsEither}
 -- The disk has what the node has, as before. If there was room, the file has zeros at its end, up to the
 -- length that was asked for. A crash at any moment leaves what the node has
 abbrev pub GrowsAt : {D : Type 0} → (D → DiskState → Type 0) → Running D → Running D → ℕ → Bool → Type 0
-GrowsAt stands_for old new room there = (s : Node) (d : DiskState) → IsNodeOf old s → IsOnDisk stands_for old s d
+GrowsAt stands_for old new room there = (s : Node) (d : DiskState) → IsNodeOf old s
+    → IsOnDisk stands_for old s d
     → (e : DiskState) × IsOnDisk stands_for new s e × LeavesOnly d e (IsEither old.me old.cluster s s)
     × (IsTrue there → e.seen ≡ with_zeros d.seen (length_for old.store.recorded.gate room))
 

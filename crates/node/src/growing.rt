@@ -23,7 +23,8 @@ impl<D: Disk> Node<D> {
     pub fn grow(&mut self, room: u64) -> Result<bool, NodeFault>
         ensures grown { IfOk result (λ there. GrowsAt D.stands_for self.old self.new room there) }
         ensures same { OnOk result ((s : AbstractNode) → IsNodeOf self.old s → IsNodeOf self.new s) }
-        ensures lost { IsErrOf result NodeFault.Device → LosesNothing D.stands_for self.old self.new.store.disk }
+        ensures lost { IsErrOf result NodeFault.Device
+            → LosesNothing D.stands_for self.old self.new.store.disk }
         ensures stops { OnErr result (self.new.store.stopped ≡ true) }
         ensures was_stopped { IsErrOf result NodeFault.Stopped ↔ (self.old.store.stopped ≡ true) }
         ensures refused { IsErrOf result NodeFault.Stopped → self.new ≡ self.old }

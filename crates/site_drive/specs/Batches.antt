@@ -10,7 +10,8 @@ use Rattle.node.specs.declared.fault.NodeFault.TheVariants as fault
 use Rattle.node.specs.declared.node.Node.{Node as Running}
 use Rattle.node.specs.declared.to.To.{To}
 use Rattle.node.specs.Nodes.{Node, Stopped, IsKnownPrefix}
-use Rattle.node.specs.Standing.{IsNodeOf, IsOnDisk, IsEither, StaysOnDisk, CountsDevice, ending_by, disk_of, failures, HasStopped}
+use Rattle.node.specs.Standing.{IsNodeOf, IsOnDisk, IsEither, StaysOnDisk, CountsDevice, ending_by, disk_of}
+use Rattle.node.specs.Standing.{failures, HasStopped}
 use Rattle.site_drive.specs.declared.last_call.LastCall.{LastCall}
 use Rattle.site_drive.specs.Drives.{TakesAll, EndsLast, EndsTurns, BreaksOff}
 use Rattle.site_drive.specs.Leading.{AllFit, StaysWhose}
@@ -45,7 +46,8 @@ pub record GivesUpTaking (n p : ℕ) (came : List (List ℕ)) (why : NodeFault) 
   pub breaks : BreaksOff n p mid bytes why next
 
 -- given up after all deliveries: the last call ended by this fault, which is not ignored
-pub record GivesUpCall (last : LastCall) (n p : ℕ) (came : List (List ℕ)) (why : NodeFault) (s next : Node) : Type 0 where
+pub record GivesUpCall (last : LastCall) (n p : ℕ) (came : List (List ℕ)) (why : NodeFault)
+    (s next : Node) : Type 0 where
   pub mid : Node
   pub malformed : ℕ
   pub first : List (To × Message)
