@@ -200,7 +200,8 @@ impl<D: Disk + Drop, S: Drop> Server<D, S> {
     pub fn rest(&mut self, stepped: Stepped, moved: bool) -> Option<u64>
         ensures rests { IsSome result ↔ Rests (resting_of self.old.pace
             (has_come stepped.came (waiting_of self.old.mail)) (moved || stepped.answered)) }
-        ensures long { IfSome result (λ micros. micros ≡ rest_after self.old.pace.times self.old.pace.empty) }
+        ensures long { IfSome result (λ micros.
+            micros ≡ rest_after self.old.pace.times self.old.pace.empty self.old.pace.tells) }
         ensures counts { self.new.pace ≡ record self.old.pace {
           empty = empty_after (resting_of self.old.pace
               (has_come stepped.came (waiting_of self.old.mail)) (moved || stepped.answered));

@@ -239,6 +239,7 @@ first_pace times n node recorded = record {
   recorded = recorded;
   yielding = first_yielding;
   told = false;
+  tells = false;
 }
 
 -- more than half of the nodes promised or refused something since the last tick, itself included
@@ -287,6 +288,7 @@ called p now known due last = record p {
   keeping = keeping_after p.keeping last;
   stirred = false;
   told = is_telling last;
+  tells = p.told || is_telling last;
 }
 
 abbrev pub pace_after : Pace → ℕ → Seen → Option ℕ → Due → LastCall → Pace

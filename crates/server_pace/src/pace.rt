@@ -52,6 +52,8 @@ pub struct Pace {
     yielding: Yielding,
     // the last call was a telling
     told: bool,
+    // it was, or the one before it
+    tells: bool,
 }
 
 /// Whether it is a telling.
@@ -81,6 +83,7 @@ impl Pace {
             recorded,
             yielding: Yielding::new(),
             told: false,
+            tells: false,
         }
     }
 
@@ -212,7 +215,9 @@ impl Pace {
         let last = due.last_call();
         self.begin(now, known, &due, &last);
         self.stirred = false;
-        self.told = is_telling(&last);
+        let told = is_telling(&last);
+        self.tells = self.told || told;
+        self.told = told;
         last
     }
 
@@ -253,11 +258,12 @@ impl Pace {
         }
     }
 
-    /// How many microseconds are rested behind a step: none while something came. It is told whether datagrams came or bytes of clients, and whether a response
-    /// was written.
+    /// How many microseconds are rested after a step: none while something came, and only a few while it tells
+    /// somebody something. It is told whether datagrams came or bytes of clients, and whether a response was
+    /// written.
     pub fn rest(&mut self, came: bool, served: bool) -> Option<u64>
         ensures rests { IsSome result ↔ (came ≡ false) × (served ≡ false) × (self.old.stirred ≡ false) }
-        ensures long { IfSome result (λ micros. micros ≡ rest_after self.old.times self.old.empty) }
+        ensures long { IfSome result (λ micros. micros ≡ rest_after self.old.times self.old.empty self.old.tells) }
         ensures counts { self.new ≡ record self.old { empty = empty_after (resting_of self.old came served) } }
     {
         let resting = Resting {
@@ -266,7 +272,7 @@ impl Pace {
             stirred: self.stirred,
             empty: self.empty,
         };
-        let micros = self.times.rest_after(self.empty);
+        let micros = self.times.rest_after(self.empty, self.tells);
         self.empty = resting.empty_after();
         resting.is_due().then_some(micros)
     }

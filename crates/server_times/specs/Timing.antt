@@ -20,8 +20,12 @@ asks_after times empty = if nat_lt empty times.quiet then times.asking else time
 abbrev pub asks_again_after : Times → ℕ → ℕ → ℕ
 asks_again_after times again empty = min (min (times.again * (again + 1)) (2 ^ 64 - 1)) (asks_after times empty)
 
--- in microseconds
-abbrev pub rest_after : Times → ℕ → ℕ
-rest_after times empty =
+-- after so many steps in which nothing came, in microseconds
+abbrev pub long_rest : Times → ℕ → ℕ
+long_rest times empty =
     if nat_lt empty times.idle then times.rest
     else (if nat_lt empty times.quiet then times.idle_rest else times.quiet_rest)
+
+-- the same, but shorter while the server tells somebody something
+abbrev pub rest_after : Times → ℕ → Bool → ℕ
+rest_after times empty tells = if tells then min (long_rest times empty) times.telling_rest else long_rest times empty

@@ -1,7 +1,7 @@
 //! All times of a server.
 
-ghost use Rattle.std.specs.Prelude.{◌≡◌, ◌↔◌, ℕ, ◌-◌, ◌≤◌, IfSome, IsTrue, Some, None, unwrap_or};
-ghost use Rattle.server_times.specs.Timing.{asks_after, asks_again_after, passed, patience_of, rest_after};
+ghost use Rattle.std.specs.Prelude.{◌≡◌, ◌↔◌, ℕ, ◌-◌, ◌≤◌, IfSome, IsTrue, Some, None, true, unwrap_or};
+ghost use Rattle.server_times.specs.Timing.{asks_after, asks_again_after, long_rest, passed, patience_of, rest_after};
 ghost use Rattle.server_times.specs.declared.times.TheConstants.{STANDARD};
 
 /// All that a server waits for, in one place.
@@ -59,6 +59,9 @@ pub struct Times {
     pub idle_rest: u64,
     /// The same where it is quiet.
     pub quiet_rest: u64,
+    /// Microseconds that it rests at most if it told a node something in this step or in the one before it:
+    /// the next telling is near, and no telling wakes a server (`Pace::rest`).
+    pub telling_rest: u64,
     /// Milliseconds that a connection is kept open between requests: nothing of the next one came, and nothing is left to write. RFC 9112, section 9.5,
     /// permits to close one at any time.
     pub between_requests: u64,
@@ -103,6 +106,7 @@ const STANDARD: Times = Times {
     rest: 10,
     idle_rest: 1500,
     quiet_rest: 20_000,
+    telling_rest: 500,
     between_requests: 5000,
     without_progress: 1000,
     returning: 2000,
@@ -163,10 +167,10 @@ impl Times {
         longer.min(self.asks_after(empty))
     }
 
-    /// How many microseconds it rests behind a step in which nothing came, after so many others: the longer the more there were.
-    pub fn rest_after(self, empty: u32) -> u64
-        ensures is { result ≡ rest_after self empty }
-        ensures longer { (fewer : ℕ) → fewer ≤ empty → self.rest ≤ self.idle_rest → self.idle_rest ≤ self.quiet_rest → rest_after self fewer ≤ result }
+    /// How many microseconds it rests after so many steps in which nothing came: the longer the more there
+    /// were.
+    fn long_rest(self, empty: u32) -> u64
+        ensures { result ≡ long_rest self empty }
     {
         if empty < self.idle {
             self.rest
@@ -174,6 +178,21 @@ impl Times {
             self.idle_rest
         } else {
             self.quiet_rest
+        }
+    }
+
+    /// How many microseconds it rests after a step in which nothing came, and so many others before it. It
+    /// tells somebody something (`tells`), or it does not.
+    pub fn rest_after(self, empty: u32, tells: bool) -> u64
+        ensures is { result ≡ rest_after self empty tells }
+        ensures longer { (fewer : ℕ) → fewer ≤ empty → self.rest ≤ self.idle_rest → self.idle_rest ≤ self.quiet_rest → rest_after self fewer tells ≤ result }
+        ensures bound { tells ≡ true → result ≤ self.telling_rest }
+    {
+        let long = self.long_rest(empty);
+        if tells {
+            long.min(self.telling_rest)
+        } else {
+            long
         }
     }
 }

@@ -29,6 +29,7 @@ pub(crate) const TIMES: Times = Times {
     rest: 10,
     idle_rest: 1500,
     quiet_rest: 20_000,
+    telling_rest: 500,
     between_requests: 5000,
     without_progress: 1000,
     returning: 2000,
@@ -386,9 +387,29 @@ fn a_step_rests_where_nothing_came(rt: HostRuntime) {
             stirred,
             empty,
         };
-        let rest = resting.is_due().then_some(TIMES.rest_after(empty));
+        let rest = resting.is_due().then_some(TIMES.rest_after(empty, false));
         let is = (rest, resting.empty_after());
         same(&rt, (resting, is), (resting, (micros, then)));
+    }
+}
+
+/// Empty steps, and how many microseconds a server rests that tells somebody something.
+const TELLS: &[(u32, u64)] = &[
+    (0, 10),
+    (199, 10),
+    (200, 500),
+    (2000, 500),
+    (u32::MAX, 500),
+];
+
+#[test]
+fn who_tells_rests_for_a_short_time(rt: HostRuntime) {
+    for &(empty, micros) in TELLS {
+        same(
+            &rt,
+            (empty, TIMES.rest_after(empty, true)),
+            (empty, micros),
+        );
     }
 }
 

@@ -197,6 +197,17 @@ const SUBMITTED: &[Step] = &[
     (6, false, true, Call::Widen, &[]),
 ];
 
+/// Node 2 asks a server that is asleep: the moment, what is called, the datagrams that come, and how many
+/// microseconds the server rests after that step.
+type Rest = (u64, Call, &'static [&'static [u8]], Option<u64>);
+
+const RESTS: &[Rest] = &[
+    (0, Call::Ask, &[SECOND_ASKS], None),
+    (1, Call::Tell(2, 1), &[], Some(500)),
+    (2, Call::Widen, &[], Some(500)),
+    (3, Call::Widen, &[], Some(20_000)),
+];
+
 /// A node with its link, a desk and a pace.
 #[derive(Drop)]
 struct Paced {
@@ -304,6 +315,16 @@ fn a_tick_in_vain_makes_the_patience_longer(rt: HostRuntime) {
 #[test]
 fn who_asks_is_told_in_turn(rt: HostRuntime) {
     run(&rt, rt.alloc(), ASKED);
+}
+
+#[test]
+fn who_tells_does_not_sleep(rt: HostRuntime) {
+    let mut paced = begun(&rt, rt.alloc());
+    for &(now, call, heard, rest) in RESTS {
+        paced.take(&rt, &(now, false, true, call, heard));
+        let is = paced.pace.rest(!heard.is_empty(), false);
+        same(&rt, (now, is), (now, rest));
+    }
 }
 
 #[test]
