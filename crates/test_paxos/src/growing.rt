@@ -26,7 +26,7 @@ const GROWTHS: &[(u32, Result<bool, RecordFault>, u64, u64)] = &[
     (0, Err(RecordFault::Device), 1, 26),
     (1, Ok(false), 0, 26),
     (2, Err(RecordFault::Device), 1, 41),
-    (3, Ok(true), 0, 41),
+    (9, Ok(true), 0, 41),
 ];
 
 /// What a crash chooses.
