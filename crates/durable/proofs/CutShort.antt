@@ -2,7 +2,7 @@
 use Rattle.std.proofs.Common.{◌≡◌, ℕ, ◌+◌, ◌<◌, List, [], ◌∷◌, ◌++◌, length, get_or, take, drop, refl, sym, ◌∙◌, ap, arith, length-append, length-drop, length-take, append_assoc, take-append-drop}
 use Rattle.std.specs.Prelude.{slice_set}
 use Rattle.std.proofs.lemmas.List.{append-nil, take-take, drop_more, drop-drop, take_at, get_or-take}
-use Rattle.durable.specs.Cutting.{IsCutShort}
+use Rattle.durable.specs.Cutting.{HasBatchAfter}
 use Rattle.durable.specs.Items.{sum_of, sum_front}
 use Rattle.durable.specs.Reading.{HasNoSum, IsSumAt}
 use Rattle.durable.proofs.Logs.{sum_size}
@@ -29,7 +29,7 @@ module _ (gate : ℕ) (file : Bytes) where
       = sym (ap (λ (l : Bytes). 1 ∷ l) (take-take 17 17 behind (omega arith))) ∙ sym (ap (λ (l : Bytes). take 18 l) (opened front there is)) ∙ at.front in
       ap (λ (l : Bytes). 1 ∷ l) (sym (take-append-drop 17 behind)) ∙ ap (λ (l : Bytes). l ++ drop 17 behind) same ∙ ap (λ (l : Bytes). sum_front size sum ++ l) (drop-drop 17 (gate + 1) file ∙ ap (λ (k : ℕ). drop k file) (omega arith))
 
-  module _ (cut : IsCutShort gate file) where
+  module _ (cut : HasBatchAfter gate file) where
     abbrev bytes : Bytes
     bytes = cut.blocks
 
@@ -71,7 +71,7 @@ module _ (gate : ℕ) (file : Bytes) where
 
   -- what is read as such was cut short
   pub was_cut : (front batch : Bytes) (size : ℕ) (sum : Bytes) → front ≡ take 18 (drop gate file) → IsSumAt (slice_set front 0 1) size sum → gate + 18 + size < length file → batch ≡ take (size + 1) blocks_on
-      → get_or batch size 0 ≡ 1 → sum ≡ sum_of (take size batch) → IsCutShort gate file
+      → get_or batch size 0 ≡ 1 → sum ≡ sum_of (take size batch) → HasBatchAfter gate file
   was_cut front batch size sum is at long read one same =
       let bytes : Bytes = take size blocks_on in
       let size_is : length bytes ≡ size = omega (arith, length-take size blocks_on, length-drop (gate + 18) file, long) in

@@ -1,5 +1,6 @@
 -- A batch: entries that are put in memory first, and then stand on the disk together.
-use Rattle.std.specs.Prelude.{◌≡◌, ◌≢◌, ◌⊎◌, ℕ, ◌+◌, ◌<◌, nat_lt, if◌then◌else◌, List, [], ◌∷◌, ◌++◌, length, drop, false}
+use Rattle.std.specs.Prelude.{◌≡◌, ◌≢◌, ◌⊎◌, ℕ, ◌+◌, ◌<◌, nat_lt, if◌then◌else◌, List, [], ◌∷◌, ◌++◌, length}
+use Rattle.std.specs.Prelude.{drop, false}
 use Rattle.site_ids.specs.declared.TheConstants.{MAX_RECORD}
 use Rattle.site_disk.specs.Model.{DiskState, MayLeave, LeavesOnly, moment}
 use Rattle.durable.specs.Append.{IsSettled, IsOpenAt}
@@ -33,7 +34,8 @@ calls_for (entry ∷ batch) = 4
 
 -- the file stands for the earlier entries, and the blocks of the batch, which may follow them, wait after
 -- room for a sum; the gate stands where they would end
-pub record Waits (node cluster : ℕ) (file : List ℕ) (earlier batch : List Entry) (gate : ℕ) (staged : Staged) : Type 0 where
+pub record Waits (node cluster : ℕ) (file : List ℕ) (earlier batch : List Entry) (gate : ℕ)
+    (staged : Staged) : Type 0 where
   pub stands : StandsFor node cluster file earlier
   pub history : IsHistory cluster (earlier ++ batch)
   pub waiting : drop 18 staged.bytes.items ≡ blocks batch ++ 0 ∷ []
@@ -41,20 +43,23 @@ pub record Waits (node cluster : ℕ) (file : List ℕ) (earlier batch : List En
   pub ends : gate ≡ 10 + length (item_blocks stands.items) + length (blocks batch)
 
 -- the record runs and a batch is open: all of the file is on the disk, and the batch waits
-pub record IsStaged {D : Type 0} (stands_for : D → DiskState → Type 0) (store : Record D) (d : DiskState) (earlier batch : List Entry) : Type 0 where
+pub record IsStaged {D : Type 0} (stands_for : D → DiskState → Type 0) (store : Record D) (d : DiskState)
+    (earlier batch : List Entry) : Type 0 where
   pub stands : stands_for store.disk d
   pub settled : IsSettled d
   pub waits : Waits store.node store.cluster d.seen earlier batch store.recorded.gate store.staged
   pub running : store.stopped ≡ false
 
 -- and its memory is ahead of the disk: what it keeps is what they record with the batch
-pub record IsAhead {D : Type 0} (stands_for : D → DiskState → Type 0) (store : Record D) (d : DiskState) (earlier batch : List Entry) : Type 0 where
+pub record IsAhead {D : Type 0} (stands_for : D → DiskState → Type 0) (store : Record D) (d : DiskState)
+    (earlier batch : List Entry) : Type 0 where
   pub staged : IsStaged stands_for store d earlier batch
   pub kept : IsKept (earlier ++ batch) store.recorded
 
 -- the file stands for the earlier entries, with all of the batch or with none of it
 abbrev pub IsNoneOrAll : ℕ → ℕ → List Entry → List Entry → List ℕ → Type 0
-IsNoneOrAll node cluster earlier batch file = StandsFor node cluster file earlier ⊎ StandsFor node cluster file (earlier ++ batch)
+IsNoneOrAll node cluster earlier batch file = StandsFor node cluster file earlier
+    ⊎ StandsFor node cluster file (earlier ++ batch)
 
 -- the disk keeps the earlier entries and perhaps the batch: so it reads without a crash, and so after any
 -- crash
@@ -64,28 +69,38 @@ pub record KeepsNoneOrAll (node cluster : ℕ) (earlier batch : List Entry) (d :
 
 -- a batch was opened, and nothing is in it
 abbrev pub Begins : {D : Type 0} → (D → DiskState → Type 0) → Record D → Record D → Type 0
-Begins stands_for old new = (d : DiskState) (entries : List Entry) → IsReady stands_for old d entries → IsAhead stands_for new d entries []
+Begins stands_for old new = (d : DiskState) (entries : List Entry) → IsReady stands_for old d entries
+    → IsAhead stands_for new d entries []
 
 -- the bytes were taken into the batch. If they are an entry's, it waits with the others
 abbrev pub Stages : {D : Type 0} → (D → DiskState → Type 0) → Record D → Record D → List ℕ → Type 0
-Stages stands_for old new bytes = (d : DiskState) (earlier batch : List Entry) (entry : Entry) → IsStaged stands_for old d earlier batch → MayFollow old.cluster (earlier ++ batch) entry → bytes ≡ behind_gate entry
+Stages stands_for old new bytes = (d : DiskState) (earlier batch : List Entry) (entry : Entry)
+    → IsStaged stands_for old d earlier batch → MayFollow old.cluster (earlier ++ batch) entry
+    → bytes ≡ behind_gate entry
     → IsStaged stands_for new d earlier (batch ++ entry ∷ [])
 
 -- the batch has an entry more
 abbrev pub GoesAhead : {D : Type 0} → (D → DiskState → Type 0) → Record D → Record D → Entry → Type 0
-GoesAhead stands_for old new entry = (d : DiskState) (earlier batch : List Entry) → IsAhead stands_for old d earlier batch → IsAhead stands_for new d earlier (batch ++ entry ∷ [])
+GoesAhead stands_for old new entry = (d : DiskState) (earlier batch : List Entry)
+    → IsAhead stands_for old d earlier batch → IsAhead stands_for new d earlier (batch ++ entry ∷ [])
 
 -- The record is ready with all of the batch, after two writes and two syncs however many its entries are, and
 -- none for no entry; at the gate on the disk stand its blocks after their sum, and the next closed gate. A
 -- crash at any moment since then leaves the earlier entries, with all of the batch or with none of it.
 abbrev pub Seals : {D : Type 0} → (D → DiskState → Type 0) → Record D → Record D → Type 0
-Seals stands_for old new = (d : DiskState) (earlier batch : List Entry) → IsAhead stands_for old d earlier batch
-    → (e : DiskState) × IsReady stands_for new e (earlier ++ batch) × LeavesOnly d e (IsNoneOrAll old.node old.cluster earlier batch)
+Seals stands_for old new = (d : DiskState) (earlier batch : List Entry)
+    → IsAhead stands_for old d earlier batch
+    → (e : DiskState) × IsReady stands_for new e (earlier ++ batch)
+    × LeavesOnly d e (IsNoneOrAll old.node old.cluster earlier batch)
     × (length e.past ≡ calls_for batch + length d.past)
-    × (batch ≢ [] → IsOpenAt old.staged.base d.seen (behind_gates (sealed_items old.recorded.gate batch)) e.seen)
+    × (batch ≢ []
+    → IsOpenAt old.staged.base d.seen (behind_gates (sealed_items old.recorded.gate batch)) e.seen)
 
 -- The device failed as the batch was written. A crash at any moment since then leaves the earlier entries,
 -- with all of the batch or with none of it, and so does none.
 abbrev pub LeavesBatch : {D : Type 0} → (D → DiskState → Type 0) → Record D → Record D → Type 0
-LeavesBatch stands_for old new = (d : DiskState) (earlier batch : List Entry) → IsAhead stands_for old d earlier batch
-    → (e : DiskState) × stands_for new.disk e × LeavesOnly d e (IsNoneOrAll old.node old.cluster earlier batch) × KeepsNoneOrAll old.node old.cluster earlier batch e
+LeavesBatch stands_for old new = (d : DiskState) (earlier batch : List Entry)
+    → IsAhead stands_for old d earlier batch
+    → (e : DiskState) × stands_for new.disk e
+    × LeavesOnly d e (IsNoneOrAll old.node old.cluster earlier batch)
+    × KeepsNoneOrAll old.node old.cluster earlier batch e

@@ -19,9 +19,11 @@ pub record IsDamagedAt (cluster gate : ℕ) (file : List ℕ) : Type 0 where
 
 -- an accident shut the gate at which the items end
 abbrev pub IsCutAt : ℕ → ℕ → ℕ → List ℕ → Type 0
-IsCutAt node cluster gate file = (items : List Item) × IsLaid node cluster file items × (gate ≡ end_of items) × IsCutShort gate file
+IsCutAt node cluster gate file = (items : List Item) × IsLaid node cluster file items × (gate ≡ end_of items)
+    × IsCutShort gate file
 
 -- the gate at which a file is damaged, if it is
 abbrev pub IsDamage : ℕ → ℕ → List ℕ → Option ℕ → Type 0
-IsDamage node cluster file None = (items : List Item) × IsLaid node cluster file items × ¬ IsCutShort (end_of items) file
+IsDamage node cluster file None = (items : List Item) × IsLaid node cluster file items
+    × ¬ IsCutShort (end_of items) file
 IsDamage node cluster file (Some gate) = IsDamagedAt cluster gate file ⊎ IsCutAt node cluster gate file

@@ -99,7 +99,8 @@ Raises (Floor f) i b = ⊥
 -- the greatest ballot among the promises and votes at the instance
 abbrev pub IsPromise : List Entry → ℕ → Option BallotOf → Type 0
 IsPromise es i None = (e : Entry) (b : BallotOf) → In es e → Raises e i b → ⊥
-IsPromise es i (Some b) = ((e : Entry) × In es e × Raises e i b) × ((e : Entry) (c : BallotOf) → In es e → Raises e i c → NotAbove c b)
+IsPromise es i (Some b) = ((e : Entry) × In es e × Raises e i b)
+    × ((e : Entry) (c : BallotOf) → In es e → Raises e i c → NotAbove c b)
 
 -- the slot of an instance by the entries
 pub record IsSlot (es : List Entry) (i : ℕ) (s : Slot) : Type 0 where

@@ -1,7 +1,8 @@
 -- The number and name of a fault of a record.
 use Rattle.std.specs.Prelude.{ℕ, List, codes}
 use Rattle.durable.specs.declared.fault.RecordFault.{RecordFault}
-use Rattle.durable.specs.declared.fault.RecordFault.TheVariants.{Device, OutOfMemory, NotARecord, WrongNode, Full, Damaged, Stopped}
+use Rattle.durable.specs.declared.fault.RecordFault.TheVariants.{Device, OutOfMemory, NotARecord, WrongNode}
+use Rattle.durable.specs.declared.fault.RecordFault.TheVariants.{Full, Damaged, Stopped}
 
 abbrev pub label : RecordFault → List ℕ
 label Device = codes "1 Device"

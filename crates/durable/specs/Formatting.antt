@@ -24,11 +24,13 @@ IsNoneOrFloor node cluster floor file = IsNoRecord file ⊎ StandsFor node clust
 -- after each. A crash at any moment since then leaves no record, or that of the floor alone.
 abbrev pub FormatsAbove : {D : Type 0} → (D → DiskState → Type 0) → D → D → ℕ → ℕ → ℕ → Type 0
 FormatsAbove stands_for old new node cluster floor = (d : DiskState) → stands_for old d
-    → (d.seen ≡ []) × (e : DiskState) × stands_for new e × IsSettled e × (e.seen ≡ head node cluster ++ floor_bytes floor) × StandsFor node cluster e.seen (Floor floor ∷ [])
+    → (d.seen ≡ []) × (e : DiskState) × stands_for new e × IsSettled e
+    × (e.seen ≡ head node cluster ++ floor_bytes floor) × StandsFor node cluster e.seen (Floor floor ∷ [])
     × LeavesOnly d e (IsNoneOrFloor node cluster floor) × (length e.past ≡ 6 + length d.past)
 
 -- The device failed as an empty file was made that record. A crash at any moment since then leaves no record,
 -- or that of the floor alone, and so does none.
 abbrev pub FormatsInPart : {D : Type 0} → (D → DiskState → Type 0) → D → D → ℕ → ℕ → ℕ → Type 0
 FormatsInPart stands_for old new node cluster floor = (d : DiskState) → stands_for old d → d.seen ≡ []
-    → (e : DiskState) × stands_for new e × LeavesOnly d e (IsNoneOrFloor node cluster floor) × IsNoneOrFloor node cluster floor e.seen
+    → (e : DiskState) × stands_for new e × LeavesOnly d e (IsNoneOrFloor node cluster floor)
+    × IsNoneOrFloor node cluster floor e.seen

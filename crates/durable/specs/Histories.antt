@@ -5,7 +5,8 @@ use Rattle.site_ids.specs.Ids.{BallotOf, IsInstance, IsBallot, Below, NotAbove}
 use Rattle.site_ids.specs.Lists.{In}
 use Rattle.site_ids.specs.Spans.{IsSpan, IsInSpan}
 use Rattle.site_ids.specs.declared.value.Vote.{Vote}
-use Rattle.durable.specs.Entries.{Entry, Round, Promised, PromisedSpan, Voted, Learned, Floor, Raises, last_round, last_vote, learned_at}
+use Rattle.durable.specs.Entries.{Entry, Round, Promised, PromisedSpan, Voted, Learned, Floor, Raises}
+use Rattle.durable.specs.Entries.{last_round, last_vote, learned_at}
 
 -- its numbers are in their ranges, in a cluster of n nodes
 abbrev pub IsInRange : ℕ → Entry → Type 0
@@ -28,7 +29,8 @@ abbrev pub Advances : List Entry → Entry → Type 0
 Advances earlier (Round r) = last_round earlier < r
 Advances earlier (Promised i b) = IsAbove earlier i b
 Advances earlier (PromisedSpan i k b) = (j : ℕ) × IsInSpan i k j × IsAbove earlier j b
-Advances earlier (Voted i b v) = ((e : Entry) (c : BallotOf) → In earlier e → Raises e i c → NotAbove c b) × ((vote : Vote) → last_vote i earlier ≡ Some vote → vote.ballot ≢ b)
+Advances earlier (Voted i b v) = ((e : Entry) (c : BallotOf) → In earlier e → Raises e i c → NotAbove c b)
+    × ((vote : Vote) → last_vote i earlier ≡ Some vote → vote.ballot ≢ b)
 Advances earlier (Learned i v) = learned_at i earlier ≡ None
 Advances earlier (Floor f) = earlier ≡ []
 
@@ -39,4 +41,5 @@ pub record MayFollow (n : ℕ) (earlier : List Entry) (entry : Entry) : Type 0 w
 
 -- each entry may follow those before it
 abbrev pub IsHistory : ℕ → List Entry → Type 0
-IsHistory n entries = (earlier : List Entry) (entry : Entry) (later : List Entry) → entries ≡ earlier ++ entry ∷ later → MayFollow n earlier entry
+IsHistory n entries = (earlier : List Entry) (entry : Entry) (later : List Entry)
+    → entries ≡ earlier ++ entry ∷ later → MayFollow n earlier entry

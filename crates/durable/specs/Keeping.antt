@@ -10,10 +10,12 @@ Settles entries in_flight found = (found ≡ entries) ⊎ (found ≡ with_entry 
 
 -- the file stands for the entries, with the one in flight or without it
 abbrev pub IsFound : ℕ → ℕ → List Entry → Option Entry → List ℕ → Type 0
-IsFound node cluster entries in_flight file = (found : List Entry) × Settles entries in_flight found × StandsFor node cluster file found
+IsFound node cluster entries in_flight file = (found : List Entry) × Settles entries in_flight found
+    × StandsFor node cluster file found
 
 -- the disk keeps the entries and perhaps the one in flight: so it reads without a crash, and so after any
 -- crash
-pub record Keeps (node cluster : ℕ) (entries : List Entry) (in_flight : Option Entry) (d : DiskState) : Type 0 where
+pub record Keeps (node cluster : ℕ) (entries : List Entry) (in_flight : Option Entry)
+    (d : DiskState) : Type 0 where
   pub read : IsFound node cluster entries in_flight d.seen
   pub left : (left : List ℕ) → MayLeave (moment d) left → IsFound node cluster entries in_flight left

@@ -10,16 +10,19 @@ use Rattle.durable.specs.Formatting.{IsNoneOrFloor}
 
 -- a file stands for one list of entries at most
 abbrev pub OneList : Type 0
-OneList = (node cluster : ℕ) (file : List ℕ) (a b : List Entry) → StandsFor node cluster file a → StandsFor node cluster file b → a ≡ b
+OneList = (node cluster : ℕ) (file : List ℕ) (a b : List Entry) → StandsFor node cluster file a
+    → StandsFor node cluster file b → a ≡ b
 
 -- a disk at rest keeps the entries for which it reads, and no other
 abbrev pub SettledKeeps : Type 0
-SettledKeeps = (node cluster : ℕ) (entries : List Entry) (d : DiskState) → IsSettled d → StandsFor node cluster d.seen entries → Keeps node cluster entries None d
+SettledKeeps = (node cluster : ℕ) (entries : List Entry) (d : DiskState) → IsSettled d
+    → StandsFor node cluster d.seen entries → Keeps node cluster entries None d
 
 -- after a crash it is settled whether the entry in flight stands
 abbrev pub CrashSettles : Type 0
 CrashSettles = (node cluster : ℕ) (entries : List Entry) (in_flight : Option Entry) (d : DiskState) (left : List ℕ) → Keeps node cluster entries in_flight d → MayLeave (moment d) left
-    → (found : List Entry) × Settles entries in_flight found × ((past : List Moment) → Keeps node cluster found None (at_rest left past))
+    → (found : List Entry) × Settles entries in_flight found
+    × ((past : List Moment) → Keeps node cluster found None (at_rest left past))
 
 -- and so it is for what an opening without a crash reads
 abbrev pub OpeningSettles : Type 0
@@ -28,36 +31,46 @@ OpeningSettles = (node cluster : ℕ) (entries : List Entry) (in_flight : Option
 
 -- an opening that is refused keeps what the disk kept, and leaves it at any moment
 abbrev pub SyncKeeps : Type 0
-SyncKeeps = (node cluster : ℕ) (entries : List Entry) (in_flight : Option Entry) (d : DiskState) → Keeps node cluster entries in_flight d
-    → Keeps node cluster entries in_flight (after_sync d) × LeavesOnly d (after_sync d) (IsFound node cluster entries in_flight)
+SyncKeeps = (node cluster : ℕ) (entries : List Entry) (in_flight : Option Entry) (d : DiskState)
+    → Keeps node cluster entries in_flight d
+    → Keeps node cluster entries in_flight (after_sync d)
+    × LeavesOnly d (after_sync d) (IsFound node cluster entries in_flight)
 
 -- nothing in the bytes of a disk that keeps a record is a reason to refuse it
 abbrev pub NeverRefused : Type 0
-NeverRefused = (node cluster : ℕ) (entries : List Entry) (in_flight : Option Entry) (d : DiskState) → Keeps node cluster entries in_flight d
+NeverRefused = (node cluster : ℕ) (entries : List Entry) (in_flight : Option Entry) (d : DiskState)
+    → Keeps node cluster entries in_flight d
     → (¬ IsNoRecord d.seen) × (¬ IsOfAnother node cluster d.seen) × (¬ IsDamaged node cluster d.seen)
 
 -- what an opening reads after the device failed as a batch was sealed: the earlier entries, or they and all
 -- of the batch
 abbrev pub OpeningSettlesBatch : Type 0
-OpeningSettlesBatch = (node cluster : ℕ) (earlier batch : List Entry) (d : DiskState) (found : List Entry) → KeepsNoneOrAll node cluster earlier batch d → StandsFor node cluster d.seen found
+OpeningSettlesBatch = (node cluster : ℕ) (earlier batch : List Entry) (d : DiskState) (found : List Entry)
+    → KeepsNoneOrAll node cluster earlier batch d → StandsFor node cluster d.seen found
     → (found ≡ earlier) ⊎ (found ≡ earlier ++ batch)
 
 -- after a crash it is settled which, and the disk keeps that and nothing else
 abbrev pub CrashSettlesBatch : Type 0
-CrashSettlesBatch = (node cluster : ℕ) (earlier batch : List Entry) (d : DiskState) (left : List ℕ) → KeepsNoneOrAll node cluster earlier batch d → MayLeave (moment d) left
-    → (found : List Entry) × ((found ≡ earlier) ⊎ (found ≡ earlier ++ batch)) × ((past : List Moment) → Keeps node cluster found None (at_rest left past))
+CrashSettlesBatch = (node cluster : ℕ) (earlier batch : List Entry) (d : DiskState) (left : List ℕ)
+    → KeepsNoneOrAll node cluster earlier batch d → MayLeave (moment d) left
+    → (found : List Entry) × ((found ≡ earlier) ⊎ (found ≡ earlier ++ batch))
+    × ((past : List Moment) → Keeps node cluster found None (at_rest left past))
 
 -- an opening that is refused keeps what may stand, and leaves it at any moment
 abbrev pub SyncKeepsBatch : Type 0
-SyncKeepsBatch = (node cluster : ℕ) (earlier batch : List Entry) (d : DiskState) → KeepsNoneOrAll node cluster earlier batch d
-    → KeepsNoneOrAll node cluster earlier batch (after_sync d) × LeavesOnly d (after_sync d) (IsNoneOrAll node cluster earlier batch)
+SyncKeepsBatch = (node cluster : ℕ) (earlier batch : List Entry) (d : DiskState)
+    → KeepsNoneOrAll node cluster earlier batch d
+    → KeepsNoneOrAll node cluster earlier batch (after_sync d)
+    × LeavesOnly d (after_sync d) (IsNoneOrAll node cluster earlier batch)
 
 -- nothing in its bytes is a reason to refuse it
 abbrev pub NeverRefusedBatch : Type 0
-NeverRefusedBatch = (node cluster : ℕ) (earlier batch : List Entry) (d : DiskState) → KeepsNoneOrAll node cluster earlier batch d
+NeverRefusedBatch = (node cluster : ℕ) (earlier batch : List Entry) (d : DiskState)
+    → KeepsNoneOrAll node cluster earlier batch d
     → (¬ IsNoRecord d.seen) × (¬ IsOfAnother node cluster d.seen) × (¬ IsDamaged node cluster d.seen)
 
 -- what a format above a floor may leave stands for the floor alone, or for nothing: never for a record
 -- without one
 abbrev pub FloorStays : Type 0
-FloorStays = (node cluster floor : ℕ) (file : List ℕ) (entries : List Entry) → IsNoneOrFloor node cluster floor file → StandsFor node cluster file entries → entries ≡ Floor floor ∷ []
+FloorStays = (node cluster floor : ℕ) (file : List ℕ) (entries : List Entry)
+    → IsNoneOrFloor node cluster floor file → StandsFor node cluster file entries → entries ≡ Floor floor ∷ []

@@ -9,7 +9,8 @@ use Rattle.acceptor.specs.Steps.{with_promise}
 
 -- the ballot is promised if no promise or a lower one stands; else the slot stays as it is
 abbrev pub IsRaised : Slot → BallotOf → Slot → Type 0
-IsRaised s b t = (IsFreeBelow s.promised b × (t ≡ with_promise s b)) ⊎ ((c : BallotOf) × (s.promised ≡ Some c) × NotAbove b c × (t ≡ s))
+IsRaised s b t = (IsFreeBelow s.promised b × (t ≡ with_promise s b))
+    ⊎ ((c : BallotOf) × (s.promised ≡ Some c) × NotAbove b c × (t ≡ s))
 
 -- if the entry promises at instances from one on, they are a span
 abbrev pub IsSpanned : Entry → Type 0

@@ -16,7 +16,8 @@ pub record StandsUpTo (node cluster : ℕ) (file : List ℕ) (entries : List Ent
   pub ends : gate ≡ 10 + length (item_blocks stands.items)
 
 -- the record runs, its file stands for these entries, all of it is on the disk, and no batch is open
-pub record IsStored {D : Type 0} (stands_for : D → DiskState → Type 0) (store : Record D) (d : DiskState) (entries : List Entry) : Type 0 where
+pub record IsStored {D : Type 0} (stands_for : D → DiskState → Type 0) (store : Record D) (d : DiskState)
+    (entries : List Entry) : Type 0 where
   pub stands : stands_for store.disk d
   pub settled : IsSettled d
   pub reads : StandsUpTo store.node store.cluster d.seen entries store.recorded.gate
@@ -24,7 +25,8 @@ pub record IsStored {D : Type 0} (stands_for : D → DiskState → Type 0) (stor
   pub none_staged : store.staged.bytes.items ≡ []
 
 -- and what it keeps in memory is what they record
-pub record IsReady {D : Type 0} (stands_for : D → DiskState → Type 0) (store : Record D) (d : DiskState) (entries : List Entry) : Type 0 where
+pub record IsReady {D : Type 0} (stands_for : D → DiskState → Type 0) (store : Record D) (d : DiskState)
+    (entries : List Entry) : Type 0 where
   pub stored : IsStored stands_for store d entries
   pub kept : IsKept entries store.recorded
 
@@ -37,7 +39,8 @@ pub record IsUnchanged {D : Type 0} (old new : Record D) : Type 0 where
 
 -- what a record that was opened keeps in memory is what these entries record, over any disk; and of each
 -- state that the disk stood for, they are the entries of its file
-pub record IsOpened {D : Type 0} (stands_for : D → DiskState → Type 0) (disk : D) (store : Record D) (entries : List Entry) : Type 0 where
+pub record IsOpened {D : Type 0} (stands_for : D → DiskState → Type 0) (disk : D) (store : Record D)
+    (entries : List Entry) : Type 0 where
   pub history : IsHistory store.cluster entries
   pub kept : IsKept entries store.recorded
   pub running : store.stopped ≡ false

@@ -4,7 +4,8 @@ use Rattle.durable.specs.Entries.{Entry}
 use Rattle.durable.specs.Items.{Item, IsLog, entries_of, item_blocks}
 use Rattle.durable.specs.Spelling.{head}
 use Rattle.durable.specs.declared.fault.RecordFault.{RecordFault}
-use Rattle.durable.specs.declared.fault.RecordFault.TheVariants.{Device, OutOfMemory, NotARecord, WrongNode, Full, Damaged, Stopped}
+use Rattle.durable.specs.declared.fault.RecordFault.TheVariants.{Device, OutOfMemory, NotARecord, WrongNode}
+use Rattle.durable.specs.declared.fault.RecordFault.TheVariants.{Full, Damaged, Stopped}
 
 -- the file is the head, the items after open gates, a gate that isn't open, and whatever follows it
 pub record IsLaid (node cluster : ℕ) (file : List ℕ) (items : List Item) : Type 0 where
@@ -39,7 +40,8 @@ IsDamaged node cluster file = (entries : List Entry) → ¬ StandsFor node clust
 abbrev pub IsRefusal : RecordFault → ℕ → ℕ → List ℕ → Type 0
 IsRefusal NotARecord node cluster file = IsNoRecord file
 IsRefusal WrongNode node cluster file = (¬ IsNoRecord file) × IsOfAnother node cluster file
-IsRefusal Damaged node cluster file = (¬ IsNoRecord file) × (¬ IsOfAnother node cluster file) × IsDamaged node cluster file
+IsRefusal Damaged node cluster file = (¬ IsNoRecord file) × (¬ IsOfAnother node cluster file)
+    × IsDamaged node cluster file
 IsRefusal Device node cluster file = Unit {0}
 IsRefusal OutOfMemory node cluster file = (¬ IsNoRecord file) × (¬ IsOfAnother node cluster file)
 IsRefusal Full node cluster file = ⊥

@@ -2,7 +2,8 @@
 //!
 //! Each put allocates for its own entry. If another batch is begun, the open one stays.
 
-ghost use Rattle.std.specs.Prelude.{◌≡◌, ◌⊎◌, ◌↔◌, ◌+◌, ◌-◌, ◌<◌, ◌≤◌, ◌^◌, ◌∷◌, [], IsOk, IsErrOf, OnOk, OnErr, length, false, true};
+ghost use Rattle.std.specs.Prelude.{◌≡◌, ◌⊎◌, ◌↔◌, ◌+◌, ◌-◌, ◌<◌, ◌≤◌, ◌^◌, ◌∷◌, [], IsOk, IsErrOf, OnOk};
+ghost use Rattle.std.specs.Prelude.{OnErr, length, false, true};
 
 use crate::append::append;
 use crate::staged::Sealed;
@@ -18,10 +19,13 @@ impl<D: Disk> Record<D> {
     /// may be told. A batch that is open stays as it is.
     pub fn begin(&mut self) -> Result<(), RecordFault>
         ensures begun { OnOk result (Begins D.stands_for self.old self.new) }
-        ensures open { OnOk result (IsBatchOpen self.new × (¬ IsBatchOpen self.old → length self.new.staged.bytes.items ≡ 19)) }
-        ensures was_open { IsBatchOpen self.old → (self.new ≡ self.old) × (¬ IsErrOf result RecordFault.OutOfMemory) }
+        ensures open { OnOk result (IsBatchOpen self.new
+            × (¬ IsBatchOpen self.old → length self.new.staged.bytes.items ≡ 19)) }
+        ensures was_open { IsBatchOpen self.old → (self.new ≡ self.old)
+            × (¬ IsErrOf result RecordFault.OutOfMemory) }
         ensures was_stopped { IsErrOf result RecordFault.Stopped ↔ (self.old.stopped ≡ true) }
-        ensures others { OnErr result (IsErrOf result RecordFault.Stopped ⊎ IsErrOf result RecordFault.OutOfMemory) }
+        ensures others { OnErr result (IsErrOf result RecordFault.Stopped
+            ⊎ IsErrOf result RecordFault.OutOfMemory) }
         ensures refused { OnErr result (IsUnchanged self.old self.new) }
         ensures same { self.new ≡ record self.old { staged = self.new.staged } }
     {
@@ -37,12 +41,15 @@ impl<D: Disk> Record<D> {
     /// its memory stays ahead of the disk, and only the next opening tells.
     pub fn seal(&mut self) -> Result<(), RecordFault>
         ensures sealed { OnOk result (Seals D.stands_for self.old self.new) }
-        ensures closed { OnOk result ((self.new.staged.bytes.items ≡ []) × (self.new.stopped ≡ false) × (D.failed self.new.disk ≡ D.failed self.old.disk)) }
+        ensures closed { OnOk result ((self.new.staged.bytes.items ≡ []) × (self.new.stopped ≡ false)
+            × (D.failed self.new.disk ≡ D.failed self.old.disk)) }
         ensures none { length self.old.staged.bytes.items ≤ 19 → self.new.disk ≡ self.old.disk }
-        ensures cut_short { IsErrOf result RecordFault.Device → LeavesBatch D.stands_for self.old self.new × ((D.failed self.old.disk < D.failed self.new.disk) ⊎ (D.failed self.old.disk ≡ 2 ^ 64 - 1)) }
+        ensures cut_short { IsErrOf result RecordFault.Device → LeavesBatch D.stands_for self.old self.new
+            × ((D.failed self.old.disk < D.failed self.new.disk) ⊎ (D.failed self.old.disk ≡ 2 ^ 64 - 1)) }
         ensures was_stopped { IsErrOf result RecordFault.Stopped ↔ (self.old.stopped ≡ true) }
         ensures refused { IsErrOf result RecordFault.Stopped → self.new ≡ self.old }
-        ensures others { OnErr result (IsErrOf result RecordFault.Stopped ⊎ IsErrOf result RecordFault.Device) }
+        ensures others { OnErr result (IsErrOf result RecordFault.Stopped
+            ⊎ IsErrOf result RecordFault.Device) }
         ensures stops { OnErr result (self.new ≡ record self.old { disk = self.new.disk; stopped = true; staged = self.new.staged }) }
         ensures same { self.new ≡ record self.old { disk = self.new.disk; stopped = self.new.stopped; staged = self.new.staged; recorded = record self.old.recorded { gate = self.new.recorded.gate } } }
     {

@@ -7,16 +7,16 @@
 ghost use Rattle.std.specs.Prelude.{◌≡◌, ◌⊎◌, ◌↔◌, ◌-◌, ◌<◌, ◌≤◌, ◌^◌, length};
 ghost use Rattle.std.specs.Prelude.{IsTrue, IfOk, OnOk, OnErr, IsErrOf};
 ghost use Rattle.site_disk.specs.Model.{DiskState};
-ghost use Rattle.durable.specs.Cutting.{IsCutShort};
+ghost use Rattle.durable.specs.Cutting.{HasBatchAfter, IsCutShort};
 
 use crate::RecordFault;
 use crate::sum::{SUM_BLOCK, Sum};
 use site_disk::Disk;
 use std::alloc::Global;
 
-/// Whether an accident shut the gate at which a record of `len` bytes ends: a batch with its right sum
-/// follows, and another open gate.
-pub(crate) fn is_cut_short<D: Disk>(
+/// Whether a batch with its right sum follows the gate at which a record of `len` bytes ends, and then an open
+/// gate.
+fn has_batch_after<D: Disk>(
     alloc: Global,
     disk: &mut D,
     gate: u64,
@@ -24,8 +24,9 @@ pub(crate) fn is_cut_short<D: Disk>(
 ) -> Result<bool, RecordFault>
     ensures state { (d : DiskState) → D.stands_for disk.old d → D.stands_for disk.new d }
     ensures told { IfOk result (λ told. (d : DiskState) → D.stands_for disk.old d → len ≡ length d.seen
-        → IsTrue told ↔ IsCutShort gate d.seen) }
-    ensures others { OnErr result (IsErrOf result RecordFault.Device ⊎ IsErrOf result RecordFault.OutOfMemory) }
+        → IsTrue told ↔ HasBatchAfter gate d.seen) }
+    ensures others { OnErr result (IsErrOf result RecordFault.Device
+        ⊎ IsErrOf result RecordFault.OutOfMemory) }
     ensures none_failed { OnOk result (D.failed disk.new ≡ D.failed disk.old) }
     ensures no_fewer { D.failed disk.old ≤ D.failed disk.new }
     ensures cause { IsErrOf result RecordFault.Device
@@ -49,4 +50,33 @@ pub(crate) fn is_cut_short<D: Disk>(
     let batch = &mut room[..];
     disk.read_at(gate + SUM_BLOCK as u64, batch)?;
     Ok(sum.goes_on(batch))
+}
+
+/// Whether an accident shut the gate at which a record of `len` bytes ends: a batch with its right sum
+/// follows, and another open gate.
+///
+/// The gate is read after these. So what a node writes to its file meanwhile is no accident: the node has
+/// opened this gate by then.
+pub(crate) fn is_cut_short<D: Disk>(
+    alloc: Global,
+    disk: &mut D,
+    gate: u64,
+    len: u64,
+) -> Result<bool, RecordFault>
+    ensures state { (d : DiskState) → D.stands_for disk.old d → D.stands_for disk.new d }
+    ensures told { IfOk result (λ told. (d : DiskState) → D.stands_for disk.old d → len ≡ length d.seen
+        → IsTrue told ↔ IsCutShort gate d.seen) }
+    ensures others { OnErr result (IsErrOf result RecordFault.Device
+        ⊎ IsErrOf result RecordFault.OutOfMemory) }
+    ensures none_failed { OnOk result (D.failed disk.new ≡ D.failed disk.old) }
+    ensures no_fewer { D.failed disk.old ≤ D.failed disk.new }
+    ensures cause { IsErrOf result RecordFault.Device
+        → (D.failed disk.old < D.failed disk.new) ⊎ (D.failed disk.old ≡ 2 ^ 64 - 1) }
+{
+    if !has_batch_after(alloc, disk, gate, len)? {
+        return Ok(false);
+    }
+    let mut now = [0];
+    disk.read_at(gate, &mut now)?;
+    Ok(now[0] != 1)
 }

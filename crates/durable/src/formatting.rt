@@ -29,7 +29,8 @@ fn blank(cluster: Cluster, node: NodeId) -> [u8; 10]
 // Makes an empty file the head of a record without its mark, which no crash makes a record.
 fn write_blank<D: Disk>(cluster: Cluster, node: NodeId, disk: &mut D) -> Result<(), DiskFailed>
     ensures done { OnOk result ((d : DiskState) → D.stands_for disk.old d → d.seen ≡ []
-        → (e : DiskState) × D.stands_for disk.new e × LeavesOnly d e IsNoRecord × IsSettled e × (e.seen ≡ blank_head node cluster) × (length e.past ≡ 2 + length d.past)) }
+        → (e : DiskState) × D.stands_for disk.new e × LeavesOnly d e IsNoRecord × IsSettled e
+        × (e.seen ≡ blank_head node cluster) × (length e.past ≡ 2 + length d.past)) }
     ensures torn { OnErr result ((d : DiskState) → D.stands_for disk.old d → d.seen ≡ []
         → (e : DiskState) × D.stands_for disk.new e × LeavesOnly d e IsNoRecord × IsNoRecord e.seen) }
     ensures cause { CountsFailure result (D.failed disk.old) (D.failed disk.new) }
@@ -49,11 +50,15 @@ impl<D: Disk> Record<D> {
     ) -> Result<(), RecordFault>
         ensures formatted { OnOk result (FormatsAbove D.stands_for disk.old disk.new node cluster floor) }
         ensures in_part { OnErr result (FormatsInPart D.stands_for disk.old disk.new node cluster floor) }
-        ensures untouched { OnErr result ((d : DiskState) → D.stands_for disk.old d → 0 < length d.seen → D.stands_for disk.new d) }
-        ensures not_empty { IsErrOf result RecordFault.NotARecord → (d : DiskState) → D.stands_for disk.old d → D.stands_for disk.new d × (0 < length d.seen) }
-        ensures cause { IsErrOf result RecordFault.Device → (D.failed disk.old < D.failed disk.new) ⊎ (D.failed disk.old ≡ 2 ^ 64 - 1) }
+        ensures untouched { OnErr result ((d : DiskState) → D.stands_for disk.old d → 0 < length d.seen
+            → D.stands_for disk.new d) }
+        ensures not_empty { IsErrOf result RecordFault.NotARecord → (d : DiskState) → D.stands_for disk.old d
+            → D.stands_for disk.new d × (0 < length d.seen) }
+        ensures cause { IsErrOf result RecordFault.Device → (D.failed disk.old < D.failed disk.new)
+            ⊎ (D.failed disk.old ≡ 2 ^ 64 - 1) }
         ensures none_failed { OnOk result (D.failed disk.new ≡ D.failed disk.old) }
-        ensures others { OnErr result (IsErrOf result RecordFault.NotARecord ⊎ IsErrOf result RecordFault.Device) }
+        ensures others { OnErr result (IsErrOf result RecordFault.NotARecord
+            ⊎ IsErrOf result RecordFault.Device) }
     {
         if disk.len()? != 0 {
             return Err(RecordFault::NotARecord);

@@ -1,4 +1,6 @@
-ghost use Rattle.durable.specs.Laws.{OneList, SettledKeeps, CrashSettles, OpeningSettles, SyncKeeps, NeverRefused, FloorStays, OpeningSettlesBatch, CrashSettlesBatch, SyncKeepsBatch, NeverRefusedBatch};
+ghost use Rattle.durable.specs.Laws.{OneList, SettledKeeps, CrashSettles, OpeningSettles, SyncKeeps};
+ghost use Rattle.durable.specs.Laws.{NeverRefused, FloorStays, OpeningSettlesBatch, CrashSettlesBatch};
+ghost use Rattle.durable.specs.Laws.{SyncKeepsBatch, NeverRefusedBatch};
 
 /// A file stands for one list of entries at most.
 pub fn files_stand_for_one_list()

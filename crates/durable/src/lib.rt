@@ -7,6 +7,7 @@ mod batch;
 mod cutting;
 mod fault;
 mod formatting;
+mod growing;
 mod laws;
 mod opening;
 mod parsing;

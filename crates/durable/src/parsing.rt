@@ -34,7 +34,8 @@ pub(crate) enum Next<'a> {
 
 // The ballot that the bytes spell.
 fn ballot_of(bytes: &[u8], cluster: Cluster) -> Option<Ballot>
-    ensures { MatchOption result ((b : BallotOf) → IsBallot cluster b → bytes.now ≢ ballot_bytes b) (λ b. IsBallot cluster b × (bytes.now ≡ ballot_bytes b)) }
+    ensures { MatchOption result ((b : BallotOf) → IsBallot cluster b
+        → bytes.now ≢ ballot_bytes b) (λ b. IsBallot cluster b × (bytes.now ≡ ballot_bytes b)) }
 {
     let [a, b, c, d, node] = bytes else {
         return None;
@@ -51,7 +52,8 @@ const SLOT: usize = 9;
 
 // The round that the bytes spell.
 fn round_of(bytes: &[u8]) -> Option<u32>
-    ensures { MatchOption result ((r : ℕ) → 0 < r → r < 2 ^ 32 → bytes.now ≢ big_bytes 4 r) (λ r. (0 < r) × (bytes.now ≡ big_bytes 4 r)) }
+    ensures { MatchOption result ((r : ℕ) → 0 < r → r < 2 ^ 32 → bytes.now ≢ big_bytes 4 r) (λ r. (0 < r)
+        × (bytes.now ≡ big_bytes 4 r)) }
 {
     let [a, b, c, d] = bytes else {
         return None;
@@ -62,7 +64,8 @@ fn round_of(bytes: &[u8]) -> Option<u32>
 
 // The instance and the ballot that the bytes spell.
 fn slot_of(bytes: &[u8], cluster: Cluster) -> Option<(Instance, Ballot)>
-    ensures { MatchOption result ((i : ℕ) (b : BallotOf) → IsInstance i → IsBallot cluster b → bytes.now ≢ big_bytes 4 i ++ ballot_bytes b)
+    ensures { MatchOption result ((i : ℕ) (b : BallotOf) → IsInstance i → IsBallot cluster b
+        → bytes.now ≢ big_bytes 4 i ++ ballot_bytes b)
         (λ s. IsInstance s.0 × IsBallot cluster s.1 × (bytes.now ≡ big_bytes 4 s.0 ++ ballot_bytes s.1)) }
 {
     let [a, b, c, d, ballot @ ..] = bytes else {
@@ -74,7 +77,8 @@ fn slot_of(bytes: &[u8], cluster: Cluster) -> Option<(Instance, Ballot)>
 
 // The instances and the ballot that the bytes spell.
 fn span_of(bytes: &[u8], cluster: Cluster) -> Option<(Instance, u8, Ballot)>
-    ensures { MatchOption result ((i k : ℕ) (b : BallotOf) → 2 ≤ k → IsSpan i k → IsBallot cluster b → bytes.now ≢ big_bytes 4 i ++ k ∷ ballot_bytes b)
+    ensures { MatchOption result ((i k : ℕ) (b : BallotOf) → 2 ≤ k → IsSpan i k → IsBallot cluster b
+        → bytes.now ≢ big_bytes 4 i ++ k ∷ ballot_bytes b)
         (λ s. (2 ≤ s.1) × IsSpan s.0 s.1 × IsBallot cluster s.2 × (bytes.now ≡ big_bytes 4 s.0 ++ s.1 ∷ ballot_bytes s.2)) }
 {
     let [a, b, c, d, count, ballot @ ..] = bytes else {
@@ -91,7 +95,8 @@ fn span_of(bytes: &[u8], cluster: Cluster) -> Option<(Instance, u8, Ballot)>
 
 // The instance that the bytes spell.
 fn instance_of(bytes: &[u8]) -> Option<Instance>
-    ensures { MatchOption result ((i : ℕ) → IsInstance i → bytes.now ≢ big_bytes 4 i) (λ i. IsInstance i × (bytes.now ≡ big_bytes 4 i)) }
+    ensures { MatchOption result ((i : ℕ) → IsInstance i → bytes.now ≢ big_bytes 4 i) (λ i. IsInstance i
+        × (bytes.now ≡ big_bytes 4 i)) }
 {
     let [a, b, c, d] = bytes else {
         return None;

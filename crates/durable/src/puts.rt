@@ -2,7 +2,8 @@
 //!
 //! `stopped` is set before the first write, so no exit forgets it; Full goes by the gate's place.
 
-ghost use Rattle.std.specs.Prelude.{◌≡◌, ◌⊎◌, ◌↔◌, ℕ, ◌+◌, ◌≤◌, ◌<◌, ◌^◌, IsErrOf, OnOk, OnErr, length, false, true, None};
+ghost use Rattle.std.specs.Prelude.{◌≡◌, ◌⊎◌, ◌↔◌, ℕ, ◌+◌, ◌≤◌, ◌<◌, ◌^◌, IsErrOf, OnOk, OnErr, length};
+ghost use Rattle.std.specs.Prelude.{false, true, None};
 ghost use Rattle.site_ids.specs.declared.TheConstants.{MAX_RECORD, MAX_VALUE};
 ghost use Rattle.site_disk.specs.Model.{CountsFailure};
 ghost use Rattle.site_ids.specs.Ids.{IsNode};
@@ -58,7 +59,8 @@ impl<D: Disk> Record<D> {
         requires of_cluster { IsNode self.old.cluster ballot.node }
         requires long { 2 ≤ count }
         requires span { IsSpan first count }
-        requires above { (at : ℕ) × IsInSpan first count at × IsFreeBelow (slot_at self.old.recorded.slots at).promised ballot }
+        requires above { (at : ℕ) × IsInSpan first count at
+            × IsFreeBelow (slot_at self.old.recorded.slots at).promised ballot }
         ensures { Puts D.stands_for D.failed self.old self.new (PromisedSpan first count ballot) result }
     {
         self.check_room(11)?;
@@ -107,9 +109,11 @@ impl<D: Disk> Record<D> {
     // Refuses a payload of this size if the record has stopped, or its file would pass its limit.
     fn check_room(&self, payload: usize) -> Result<(), RecordFault>
         ensures was_stopped { IsErrOf result RecordFault.Stopped ↔ (self.now.stopped ≡ true) }
-        ensures full { IsErrOf result RecordFault.Full ↔ ((self.now.stopped ≡ false) × (MAX_RECORD < self.now.recorded.gate + 6 + payload)) }
+        ensures full { IsErrOf result RecordFault.Full
+            ↔ ((self.now.stopped ≡ false) × (MAX_RECORD < self.now.recorded.gate + 6 + payload)) }
         ensures others { OnErr result (IsErrOf result RecordFault.Stopped ⊎ IsErrOf result RecordFault.Full) }
-        ensures running { OnOk result ((self.now.stopped ≡ false) × (self.now.recorded.gate + 6 + payload ≤ MAX_RECORD)) }
+        ensures running { OnOk result ((self.now.stopped ≡ false)
+            × (self.now.recorded.gate + 6 + payload ≤ MAX_RECORD)) }
     {
         if self.stopped {
             return Err(RecordFault::Stopped);

@@ -11,7 +11,8 @@ ghost use Rattle.durable.specs.Entries.{Entry};
 ghost use Rattle.durable.specs.Damage.{IsDamagedAt};
 ghost use Rattle.durable.specs.Items.{Item};
 ghost use Rattle.durable.specs.Reading.{AreRead, AreSpelled, BreaksOff, HasNoSum, IsSumAt, IsDamagedEntry};
-ghost use Rattle.durable.specs.Reading.{IsDamagedBatch, IsDamagedItem, TakesEntry, TakesEntries, TakesItem, TakesPiece};
+ghost use Rattle.durable.specs.Reading.{IsDamagedBatch, IsDamagedItem, TakesEntry, TakesEntries, TakesItem};
+ghost use Rattle.durable.specs.Reading.{TakesPiece};
 
 use crate::RecordFault;
 use crate::parsing::{Next, next_entry};
@@ -51,7 +52,8 @@ pub(crate) fn read_items<D: Disk>(
     requires fresh { AreRead cluster [] recorded.old }
     ensures state { (d : DiskState) → D.stands_for disk.old d → D.stands_for disk.new d }
     ensures read { OnOk result ((items : List Item) × AreRead cluster items recorded.new
-        × ((d : DiskState) → D.stands_for disk.old d → len ≡ length d.seen → AreSpelled (drop 10 d.seen) items)) }
+        × ((d : DiskState) → D.stands_for disk.old d → len ≡ length d.seen
+        → AreSpelled (drop 10 d.seen) items)) }
     ensures damaged { IsErrOf result RecordFault.Damaged → (d : DiskState) → D.stands_for disk.old d
         → len ≡ length d.seen → IsDamagedAt cluster recorded.new.gate d.seen }
     ensures others { OnErr result (IsErrOf result RecordFault.Device

@@ -3,7 +3,9 @@
 //! Callers owe that a ballot's node is of the `cluster`; no test stands at 4,294,967,295 bytes; `Puts.full`
 //! says it.
 
-ghost use Rattle.std.specs.Prelude.{◌≡◌, ◌↔◌, ◌⊎◌, ◌+◌, ◌-◌, ◌≤◌, ◌<◌, ◌^◌, ◌∷◌, ◌++◌, [], ℕ, List, Option, option_copied, IsTrue, IsErrOf, OnOk, OnErr, IfOk, IfErr, length, false, true};
+ghost use Rattle.std.specs.Prelude.{◌≡◌, ◌↔◌, ◌⊎◌, ◌+◌, ◌-◌, ◌≤◌, ◌<◌, ◌^◌, ◌∷◌, ◌++◌, [], ℕ, List, Option};
+ghost use Rattle.std.specs.Prelude.{option_copied, IsTrue, IsErrOf, OnOk, OnErr, IfOk, IfErr, length, false};
+ghost use Rattle.std.specs.Prelude.{true};
 ghost use Rattle.site_disk.specs.Model.{DiskState, after_sync};
 ghost use Rattle.durable.specs.Append.{IsSettled};
 ghost use Rattle.durable.specs.Entries.{Entry};
@@ -57,12 +59,18 @@ impl<D: Disk> Record<D> {
     /// Makes an empty record of a node of a cluster on an empty disk. A crash within it may leave a file that
     /// is no record.
     pub fn format(cluster: Cluster, node: NodeId, disk: &mut D) -> Result<(), RecordFault>
-        ensures formatted { OnOk result ((d : DiskState) → D.stands_for disk.old d → (d.seen ≡ []) × (e : DiskState) × D.stands_for disk.new e × IsSettled e × (e.seen ≡ head node cluster ++ 0 ∷ []) × StandsFor node cluster e.seen []) }
-        ensures untouched { OnErr result ((d : DiskState) → D.stands_for disk.old d → 0 < length d.seen → D.stands_for disk.new d) }
-        ensures not_empty { IsErrOf result RecordFault.NotARecord → (d : DiskState) → D.stands_for disk.old d → D.stands_for disk.new d × (0 < length d.seen) }
-        ensures cause { IsErrOf result RecordFault.Device → (D.failed disk.old < D.failed disk.new) ⊎ (D.failed disk.old ≡ 2 ^ 64 - 1) }
+        ensures formatted { OnOk result ((d : DiskState) → D.stands_for disk.old d → (d.seen ≡ [])
+            × (e : DiskState) × D.stands_for disk.new e × IsSettled e × (e.seen ≡ head node cluster ++ 0 ∷ [])
+            × StandsFor node cluster e.seen []) }
+        ensures untouched { OnErr result ((d : DiskState) → D.stands_for disk.old d → 0 < length d.seen
+            → D.stands_for disk.new d) }
+        ensures not_empty { IsErrOf result RecordFault.NotARecord → (d : DiskState) → D.stands_for disk.old d
+            → D.stands_for disk.new d × (0 < length d.seen) }
+        ensures cause { IsErrOf result RecordFault.Device → (D.failed disk.old < D.failed disk.new)
+            ⊎ (D.failed disk.old ≡ 2 ^ 64 - 1) }
         ensures none_failed { OnOk result (D.failed disk.new ≡ D.failed disk.old) }
-        ensures others { OnErr result (IsErrOf result RecordFault.NotARecord ⊎ IsErrOf result RecordFault.Device) }
+        ensures others { OnErr result (IsErrOf result RecordFault.NotARecord
+            ⊎ IsErrOf result RecordFault.Device) }
     {
         if disk.len()? != 0 {
             return Err(RecordFault::NotARecord);
@@ -78,14 +86,20 @@ impl<D: Disk> Record<D> {
         node: NodeId,
         disk: D,
     ) -> Result<Record<D>, (RecordFault, D)>
-        ensures opened { IfOk result (λ store. (entries : List Entry) × IsOpened D.stands_for disk store entries) }
+        ensures opened { IfOk result (λ store. (entries : List Entry)
+            × IsOpened D.stands_for disk store entries) }
         ensures cut { IfOk result (λ store. (d : DiskState) → D.stands_for disk d
             → IsTrue store.cut_short ↔ IsCutShort store.recorded.gate d.seen) }
         ensures none_failed { IfOk result (λ store. D.failed store.disk ≡ D.failed disk) }
         ensures whose { IfOk result (λ store. (store.node ≡ node) × (store.cluster ≡ cluster)) }
-        ensures refused { IfErr result (λ p. (d : DiskState) → D.stands_for disk d → (D.stands_for p.1 (after_sync d) ⊎ (D.stands_for p.1 d × (p.0 ≡ RecordFault.Device))) × IsRefusal p.0 node cluster d.seen) }
-        ensures never { IfErr result (λ p. (d : DiskState) (entries : List Entry) (in_flight : Option Entry) → D.stands_for disk d → Keeps node cluster entries in_flight d → (p.0 ≡ RecordFault.Device) ⊎ (p.0 ≡ RecordFault.OutOfMemory)) }
-        ensures cause { IfErr result (λ p. p.0 ≡ RecordFault.Device → (D.failed disk < D.failed p.1) ⊎ (D.failed disk ≡ 2 ^ 64 - 1)) }
+        ensures refused { IfErr result (λ p. (d : DiskState) → D.stands_for disk d
+            → (D.stands_for p.1 (after_sync d) ⊎ (D.stands_for p.1 d × (p.0 ≡ RecordFault.Device)))
+            × IsRefusal p.0 node cluster d.seen) }
+        ensures never { IfErr result (λ p. (d : DiskState) (entries : List Entry) (in_flight : Option Entry)
+            → D.stands_for disk d → Keeps node cluster entries in_flight d → (p.0 ≡ RecordFault.Device)
+            ⊎ (p.0 ≡ RecordFault.OutOfMemory)) }
+        ensures cause { IfErr result (λ p. p.0 ≡ RecordFault.Device → (D.failed disk < D.failed p.1)
+            ⊎ (D.failed disk ≡ 2 ^ 64 - 1)) }
     {
         let mut disk = disk;
         match read(alloc, cluster, node, &mut disk) {
@@ -183,6 +197,13 @@ impl<D: Disk> Record<D> {
         payload <= MAX_RECORD - 6 && self.recorded.gate <= MAX_RECORD - 6 - payload
     }
 
+    /// How many bytes of the file it takes, the gate at its end not counted.
+    pub fn bytes(&self) -> u64
+        ensures { result ≡ self.now.recorded.gate }
+    {
+        self.recorded.gate
+    }
+
     /// Gives the disk back, without the entries of a batch that is open.
     pub fn close(self) -> D
         ensures { result ≡ self.disk }
@@ -204,7 +225,8 @@ impl<D: Disk> Record<D> {
 impl<D: Armed> Record<D> {
     /// Hands the arming on to the disk.
     pub fn arm(&mut self, calls: u32)
-        ensures disk { (d : DiskState) → D.Disk.stands_for self.old.disk d → D.Disk.stands_for self.new.disk d }
+        ensures disk { (d : DiskState) → D.Disk.stands_for self.old.disk d
+            → D.Disk.stands_for self.new.disk d }
         ensures failed { D.Disk.failed self.new.disk ≡ D.Disk.failed self.old.disk }
         ensures armed { D.armed self.new.disk calls }
         ensures same { self.new ≡ record self.old { disk = self.new.disk } }

@@ -1,6 +1,7 @@
 //! What a node has promised, voted and learned at each instance.
 
-ghost use Rattle.std.specs.Prelude.{◌≡◌, ◌≢◌, ◌↔◌, IsTrue, ◌≤◌, ◌<◌, ◌^◌, ℕ, None, Some, OnOk, IfOk, length, option_copied};
+ghost use Rattle.std.specs.Prelude.{◌≡◌, ◌≢◌, ◌↔◌, IsTrue, ◌≤◌, ◌<◌, ◌^◌, ℕ, None, Some, OnOk, IfOk, length};
+ghost use Rattle.std.specs.Prelude.{option_copied};
 ghost use Rattle.site_ids.specs.declared.TheConstants.{MAX_VALUE};
 ghost use Rattle.site_ids.specs.Ids.{IsInstance};
 ghost use Rattle.site_ids.specs.Spans.{IsSpan, IsInSpan};
@@ -116,7 +117,8 @@ impl Slots {
     /// The ballot is above the promise of an instance of the span, or none stands there.
     pub(crate) fn rises(&self, first: Instance, count: u8, ballot: Ballot) -> bool
         requires { IsSpan first count }
-        ensures { IsTrue result ↔ ((at : ℕ) × IsInSpan first count at × IsFreeBelow (slot_at self.now at).promised ballot) }
+        ensures { IsTrue result ↔ ((at : ℕ) × IsInSpan first count at
+            × IsFreeBelow (slot_at self.now at).promised ballot) }
     {
         let mut past = 0;
         while past < count {
@@ -157,7 +159,9 @@ impl Slots {
     pub(crate) fn promise_span(&mut self, first: Instance, count: u8, ballot: Ballot)
         requires span { IsSpan first count }
         requires room { (at : ℕ) → IsInSpan first count at → IsThere self.old at }
-        ensures raised { (at : ℕ) → IsInSpan first count at → IsRaised (slot_at self.old at) ballot (slot_at self.new at) × (value_at self.new at ≡ value_at self.old at) }
+        ensures raised { (at : ℕ) → IsInSpan first count at
+            → IsRaised (slot_at self.old at) ballot (slot_at self.new at)
+            × (value_at self.new at ≡ value_at self.old at) }
         ensures others { (at : ℕ) → ¬ IsInSpan first count at → cell_at self.new at ≡ cell_at self.old at }
     {
         let mut past = 0;

@@ -1,6 +1,7 @@
 //! What waits to be written after a gate.
 
-ghost use Rattle.std.specs.Prelude.{◌≡◌, ◌≢◌, ◌↔◌, ◌+◌, ◌-◌, ◌<◌, ◌≤◌, ◌^◌, ◌∷◌, ◌++◌, [], ℕ, List, if◌then◌else◌, IsTrue, IsOk, OnOk, OnErr, nat_lt, not, length, drop};
+ghost use Rattle.std.specs.Prelude.{◌≡◌, ◌≢◌, ◌↔◌, ◌+◌, ◌-◌, ◌<◌, ◌≤◌, ◌^◌, ◌∷◌, ◌++◌, [], ℕ, List};
+ghost use Rattle.std.specs.Prelude.{if◌then◌else◌, IsTrue, IsOk, OnOk, OnErr, nat_lt, not, length, drop};
 ghost use Rattle.site_ids.specs.declared.TheConstants.{MAX_RECORD};
 ghost use Rattle.durable.specs.Items.{summed};
 
@@ -71,8 +72,10 @@ impl Staged {
     fn sum_up(&mut self)
         requires open { 18 < length self.old.bytes.items }
         requires counted { length self.old.bytes.items < 2 ^ 32 }
-        ensures summed { (blocks : List ℕ) → drop 18 self.old.bytes.items ≡ blocks ++ 0 ∷ [] → self.new.bytes.items ≡ summed blocks ++ 0 ∷ [] }
-        ensures same { (length self.new.bytes.items ≡ length self.old.bytes.items) × (self.new.base ≡ self.old.base) }
+        ensures summed { (blocks : List ℕ) → drop 18 self.old.bytes.items ≡ blocks ++ 0 ∷ []
+            → self.new.bytes.items ≡ summed blocks ++ 0 ∷ [] }
+        ensures same { (length self.new.bytes.items ≡ length self.old.bytes.items)
+            × (self.new.base ≡ self.old.base) }
     {
         let end = self.bytes.len() - 1;
         let front = sum_front(&self.bytes[SUM_BLOCK..end]);
@@ -104,7 +107,8 @@ impl Staged {
 
     /// Opens a batch if none is open.
     pub(crate) fn open(&mut self) -> Result<(), AllocError>
-        ensures opened { OnOk result (self.old.bytes.items ≡ [] → (length self.new.bytes.items ≡ 19) × (drop 18 self.new.bytes.items ≡ 0 ∷ [])) }
+        ensures opened { OnOk result (self.old.bytes.items ≡ [] → (length self.new.bytes.items ≡ 19)
+            × (drop 18 self.new.bytes.items ≡ 0 ∷ [])) }
         ensures was_open { 0 < length self.old.bytes.items → (self.new ≡ self.old) × IsOk result }
         ensures refused { OnErr result (self.new.bytes.items ≡ self.old.bytes.items) }
         ensures base { self.new.base ≡ self.old.base }
@@ -121,11 +125,13 @@ impl Staged {
     pub(crate) fn push(&mut self, gate: u64, bytes: &[u8]) -> Result<(), AllocError>
         requires open { 0 < length self.old.bytes.items }
         requires near { gate < 2 ^ 63 }
-        ensures waiting { OnOk result ((front : List ℕ) → drop 18 self.old.bytes.items ≡ front ++ 0 ∷ [] → drop 18 self.new.bytes.items ≡ front ++ 1 ∷ bytes.now) }
+        ensures waiting { OnOk result ((front : List ℕ) → drop 18 self.old.bytes.items ≡ front ++ 0 ∷ []
+            → drop 18 self.new.bytes.items ≡ front ++ 1 ∷ bytes.now) }
         ensures first { OnOk result (length self.old.bytes.items ≡ 19 → self.new.base ≡ gate) }
         ensures later { OnOk result (19 < length self.old.bytes.items → self.new.base ≡ self.old.base) }
         ensures still_open { 0 < length self.new.bytes.items }
-        ensures refused { OnErr result ((self.new.bytes.items ≡ self.old.bytes.items) × (self.new.base ≡ self.old.base)) }
+        ensures refused { OnErr result ((self.new.bytes.items ≡ self.old.bytes.items)
+            × (self.new.base ≡ self.old.base)) }
     {
         let closed = self.bytes.len() - 1;
         self.bytes.extend_from_slice(bytes)?;

@@ -15,6 +15,7 @@ pub mod Moving
 pub mod Examples
 pub mod Stepping
 pub mod Sealing
+pub mod Lengthening
 pub mod DeviceCounts
 pub mod Opening
 pub mod Muting

@@ -40,7 +40,8 @@ pub record IsDue {D : Type 0} (code : Running D) (call : Call) (due : Beginning)
   pub above : code.store.recorded.round < due.ballot.round
   pub span : IsSpan due.first (length due.values.items)
   pub in_range : IsCallInRange code.cluster call
-  pub does : (s : Node) → IsNodeOf code s → Does code.cluster code.me s call (begun code.me s due.first due.ballot due.values.items due.again.items)
+  pub does : (s : Node) → IsNodeOf code s
+      → Does code.cluster code.me s call (begun code.me s due.first due.ballot due.values.items due.again.items)
   pub wants : (s : Node) → IsNodeOf code s → Refuses s call OutOfMemory
 
 -- the call is refused with this fault, at each node that the code stands for

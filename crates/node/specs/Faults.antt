@@ -7,7 +7,9 @@ use Rattle.command.specs.declared.fault.CommandFault.TheVariants as command
 use Rattle.command.specs.Reading.{value_reading, TakesMemory}
 use Rattle.command.specs.Written.{HasLine}
 use Rattle.node.specs.declared.fault.NodeFault.{NodeFault}
-use Rattle.node.specs.declared.fault.NodeFault.TheVariants.{OutOfMemory, Device, Stopped, QueueFull, NotACommand, InstancesUsedUp, RoundsUsedUp, Conflict}
+use Rattle.node.specs.declared.fault.NodeFault.TheVariants.{OutOfMemory, Device, Stopped, QueueFull}
+use Rattle.node.specs.declared.fault.NodeFault.TheVariants.{NotACommand, InstancesUsedUp, RoundsUsedUp}
+use Rattle.node.specs.declared.fault.NodeFault.TheVariants.{Conflict}
 use Rattle.node.specs.Nodes.{Value}
 
 -- a full record is reported as out of memory

@@ -10,7 +10,8 @@ use Rattle.node.specs.Deliveries.{Judged, prepare_out, span_out}
 -- the instances from i on, each judged by its slot
 abbrev pub AreJudgedAt : (ℕ → Slot) → BallotOf → ℕ → List Judged → Type 0
 AreJudgedAt slots b i [] = ⊤
-AreJudgedAt slots b i (x ∷ xs) = (x.slot ≡ slots i) × Steps x.slot (prepare b) x.after x.answer × AreJudgedAt slots b (suc i) xs
+AreJudgedAt slots b i (x ∷ xs) = (x.slot ≡ slots i) × Steps x.slot (prepare b) x.after x.answer
+    × AreJudgedAt slots b (suc i) xs
 
 -- whether a slot changes
 abbrev pub Rises : List Judged → Bool → Type 0
@@ -31,7 +32,8 @@ pub record JudgesMore (slot : Slot) (p i : ℕ) (b : BallotOf) (old new : Judgem
   pub of_slot : judged.slot ≡ slot
   pub step : Steps judged.slot (prepare b) judged.after judged.answer
   pub answers : new.answers.items ≡ old.answers.items ++ prepare_out p i b judged.answer
-  pub rises : ((judged.after ≢ judged.slot) × (new.rises ≡ true)) ⊎ ((judged.after ≡ judged.slot) × (new.rises ≡ old.rises))
+  pub rises : ((judged.after ≢ judged.slot) × (new.rises ≡ true))
+      ⊎ ((judged.after ≡ judged.slot) × (new.rises ≡ old.rises))
 
 -- the slot owes a prepare an answer
 pub record IsOwed (slot : Slot) (b : BallotOf) : Type 0 where

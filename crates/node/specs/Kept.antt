@@ -11,13 +11,16 @@ use Rattle.node.specs.Ranges.{HasRanges}
 
 -- after the call nothing is left to keep at the instance, and the call hands out nothing
 abbrev pub KeepLeavesNone : Type 0
-KeepLeavesNone = (n p i : ℕ) (s new : Node) (out : List (To × Message)) → Ends n p s (keep i) Whole out new → (¬ MayKeep new i) × (out ≡ [])
+KeepLeavesNone = (n p i : ℕ) (s new : Node) (out : List (To × Message)) → Ends n p s (keep i) Whole out new
+    → (¬ MayKeep new i) × (out ≡ [])
 
 -- if nothing is left to keep at an instance, the known value there is on record: a value is learned there, or
 -- the last vote is for it
 abbrev pub KnownIsOnRecord : Type 0
-KnownIsOnRecord = (s : Node) (i : ℕ) (v : Value) → s.known i ≡ Some v → ¬ MayKeep s i → ((u : Value) × (learned_at i s.entries ≡ Some u)) ⊎ IsOwnVote s i v
+KnownIsOnRecord = (s : Node) (i : ℕ) (v : Value) → s.known i ≡ Some v → ¬ MayKeep s i
+    → ((u : Value) × (learned_at i s.entries ≡ Some u)) ⊎ IsOwnVote s i v
 
 -- the entry that goes on record may follow what is there
 abbrev pub KeepStaysHistory : Type 0
-KeepStaysHistory = (n p i : ℕ) (s new : Node) (out : List (To × Message)) → Ends n p s (keep i) Whole out new → IsHistory n s.entries → HasRanges n s → IsHistory n new.entries
+KeepStaysHistory = (n p i : ℕ) (s new : Node) (out : List (To × Message)) → Ends n p s (keep i) Whole out new
+    → IsHistory n s.entries → HasRanges n s → IsHistory n new.entries

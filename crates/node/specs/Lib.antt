@@ -19,6 +19,7 @@ pub mod Knowing
 pub mod Ahead
 pub mod Standing
 pub mod Batches
+pub mod Growing
 pub mod Beginning
 pub mod ReadValues
 pub mod Published

@@ -9,4 +9,5 @@ use Rattle.node.specs.Nodes.{Value}
 -- each set, together with the tickets of the published values, has the same tickets
 abbrev pub AreHeldWith : BTreeSet Ticket → BTreeSet Ticket → List Value → Type 0
 AreHeldWith old new published =
-    (ticket : Ticket) → (is_held ticket new.keys || is_some (receipt_of ticket published)) ≡ (is_held ticket old.keys || is_some (receipt_of ticket published))
+    (ticket : Ticket)
+    → (is_held ticket new.keys || is_some (receipt_of ticket published)) ≡ (is_held ticket old.keys || is_some (receipt_of ticket published))

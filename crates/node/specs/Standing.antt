@@ -1,5 +1,6 @@
 -- Which nodes of the definitions a running node stands for.
-use Rattle.std.specs.Prelude.{◌≡◌, ◌↔◌, ◌⊎◌, ℕ, ◌<◌, ◌≤◌, ◌-◌, ◌^◌, true, false, if◌then◌else◌, Option, None, List, ◌++◌, length, Result, Ok, Err, IsErrOf}
+use Rattle.std.specs.Prelude.{◌≡◌, ◌↔◌, ◌⊎◌, ℕ, ◌<◌, ◌≤◌, ◌-◌, ◌^◌, true, false, if◌then◌else◌, Option, None}
+use Rattle.std.specs.Prelude.{List, ◌++◌, length, Result, Ok, Err, IsErrOf}
 use Rattle.site_disk.specs.Model.{DiskState, LeavesOnly, after_sync}
 use Rattle.site_ids.specs.Lists.{In}
 use Rattle.wire.specs.declared.message.Message.{Message}
@@ -30,7 +31,8 @@ use Rattle.node.specs.Waiting.{AreWaiting}
 -- ---- in memory, over any disk
 
 -- the record keeps what these entries record. While it runs, no entry is in flight
-pub record IsOnRecord {D : Type 0} (store : Record D) (n : ℕ) (mode : Mode) (entries : List Entry) (in_flight : Option Entry) : Type 0 where
+pub record IsOnRecord {D : Type 0} (store : Record D) (n : ℕ) (mode : Mode) (entries : List Entry)
+    (in_flight : Option Entry) : Type 0 where
   pub mode_is : mode ≡ (if store.stopped then Stopped else Up)
   pub kept : IsKept entries store.recorded
   pub history : IsHistory n entries
@@ -57,19 +59,23 @@ pub record IsNodeOf {D : Type 0} (code : Running D) (s : Node) : Type 0 where
 
 -- The disk stands for this state. The state keeps the node's entries and the one in flight, whether it
 -- crashes or not. While the node runs, all of it is synced
-pub record IsOnDisk {D : Type 0} (stands_for : D → DiskState → Type 0) (code : Running D) (s : Node) (d : DiskState) : Type 0 where
+pub record IsOnDisk {D : Type 0} (stands_for : D → DiskState → Type 0) (code : Running D) (s : Node)
+    (d : DiskState) : Type 0 where
   pub stands : stands_for code.store.disk d
   pub keeps : Keeps code.me code.cluster s.entries s.in_flight d
   pub stored : code.store.stopped ≡ false → IsStored stands_for code.store d s.entries
 
 -- a file of node p of n with what either node has on record
 abbrev pub IsEither : ℕ → ℕ → Node → Node → List ℕ → Type 0
-IsEither p n s next file = IsFound p n s.entries s.in_flight file ⊎ IsFound p n next.entries next.in_flight file
+IsEither p n s next file = IsFound p n s.entries s.in_flight file
+    ⊎ IsFound p n next.entries next.in_flight file
 
 -- After the call the disk is related to the node as before it. A crash at any moment of the call leaves what
 -- may be left before the call or after it
-abbrev pub StaysOnDisk : {D : Type 0} → (D → DiskState → Type 0) → Running D → Running D → Node → Node → Type 0
-StaysOnDisk stands_for old new s next = (d : DiskState) → IsOnDisk stands_for old s d → (e : DiskState) × IsOnDisk stands_for new next e × LeavesOnly d e (IsEither old.me old.cluster s next)
+abbrev pub StaysOnDisk : {D : Type 0} → (D → DiskState → Type 0) → Running D → Running D → Node → Node
+    → Type 0
+StaysOnDisk stands_for old new s next = (d : DiskState) → IsOnDisk stands_for old s d → (e : DiskState)
+    × IsOnDisk stands_for new next e × LeavesOnly d e (IsEither old.me old.cluster s next)
 
 -- ---- what others say of its record
 
@@ -102,7 +108,8 @@ ending_of (Err cause) = ending_by cause
 -- From s the call ends like this, at a node that the new value stands for. The disk is as before, or the node
 -- is ahead of it while a batch is open. The outbox has grown by what is handed out: at most 64 messages, each
 -- of the cluster
-pub record Leads {D : Type 0} (stands_for : D → DiskState → Type 0) (old new : Running D) (call : Call) (ending : Ending) (before after : List (To × Message)) (s : Node) : Type 0 where
+pub record Leads {D : Type 0} (stands_for : D → DiskState → Type 0) (old new : Running D) (call : Call)
+    (ending : Ending) (before after : List (To × Message)) (s : Node) : Type 0 where
   pub next : Node
   pub out : List (To × Message)
   pub ends : Ends old.cluster old.me s call ending out next
@@ -114,7 +121,8 @@ pub record Leads {D : Type 0} (stands_for : D → DiskState → Type 0) (old new
   pub messages : (x : To × Message) → In out x → IsMessage old.cluster x.1
 
 -- and it does so from each node that the old value stands for
-pub record IsEvent {D : Type 0} (stands_for : D → DiskState → Type 0) (old new : Running D) (call : Call) (ending : Ending) (before after : List (To × Message)) : Type 0 where
+pub record IsEvent {D : Type 0} (stands_for : D → DiskState → Type 0) (old new : Running D) (call : Call)
+    (ending : Ending) (before after : List (To × Message)) : Type 0 where
   pub leads : (s : Node) → IsNodeOf old s → Leads stands_for old new call ending before after s
 
 -- it is the same node of the same cluster, and what it published is the same
@@ -143,8 +151,11 @@ IsWhole code = code.store.cut_short ≡ false
 -- The node has these entries on record, over any disk, and nothing else. They are the entries in the file of
 -- each state that the disk stood for. If such a state kept a record with an entry in flight, they are that
 -- record's, with that entry or without it.
-pub record OpensAs {D : Type 0} (stands_for : D → DiskState → Type 0) (disk : D) (code : Running D) (entries : List Entry) : Type 0 where
+pub record OpensAs {D : Type 0} (stands_for : D → DiskState → Type 0) (disk : D) (code : Running D)
+    (entries : List Entry) : Type 0 where
   pub stands : IsNodeOf code (opened Up entries None)
-  pub on_disk : (d : DiskState) → stands_for disk d → IsOnDisk stands_for code (opened Up entries None) (after_sync d)
+  pub on_disk : (d : DiskState) → stands_for disk d
+      → IsOnDisk stands_for code (opened Up entries None) (after_sync d)
   pub reads : (d : DiskState) → stands_for disk d → StandsFor code.me code.cluster d.seen entries
-  pub settles : (d : DiskState) (kept : List Entry) (in_flight : Option Entry) → stands_for disk d → Keeps code.me code.cluster kept in_flight d → Settles kept in_flight entries
+  pub settles : (d : DiskState) (kept : List Entry) (in_flight : Option Entry) → stands_for disk d
+      → Keeps code.me code.cluster kept in_flight d → Settles kept in_flight entries

@@ -1,5 +1,6 @@
 -- What a node reports again: values that it knows or learned, and votes on its record.
-use Rattle.std.specs.Prelude.{◌≡◌, ◌≢◌, ◌⊎◌, ℕ, zero, suc, ◌-◌, Option, Some, None, List, [], ◌∷◌, ◌++◌, map, length, nat_le, if◌then◌else◌}
+use Rattle.std.specs.Prelude.{◌≡◌, ◌≢◌, ◌⊎◌, ℕ, zero, suc, ◌-◌, Option, Some, None, List, [], ◌∷◌, ◌++◌, map}
+use Rattle.std.specs.Prelude.{length, nat_le, if◌then◌else◌}
 use Rattle.site_ids.specs.declared.value.Vote.{Vote}
 use Rattle.wire.specs.declared.message.Message.{Message}
 use Rattle.wire.specs.declared.message.Message.TheVariants.{Accepted, Chosen}
@@ -80,8 +81,10 @@ addressed to m = (to, m)
 -- What is reported of instance i is put after the messages that are there. `Some left`: it fit, and this much
 -- room is left for the instances after i. `None`: there was not enough room, and nothing more is reported
 abbrev pub TellsOn : ℕ → Node → To → ℕ → ℕ → List (To × Message) → List (To × Message) → Option ℕ → Type 0
-TellsOn p s to i room before after None = (later : List Message) → before ++ map (addressed to) (fitting room (with_first (telling p s i) later)) ≡ after
-TellsOn p s to i room before after (Some left) = (later : List Message) → before ++ map (addressed to) (fitting room (with_first (telling p s i) later)) ≡ after ++ map (addressed to) (fitting left later)
+TellsOn p s to i room before after None = (later : List Message)
+    → before ++ map (addressed to) (fitting room (with_first (telling p s i) later)) ≡ after
+TellsOn p s to i room before after (Some left) = (later : List Message)
+    → before ++ map (addressed to) (fitting room (with_first (telling p s i) later)) ≡ after ++ map (addressed to) (fitting left later)
 
 -- the node reports that, and nothing else happens
 abbrev pub tells : ℕ → Node → To → ℕ → Effect

@@ -1,5 +1,6 @@
 -- What a widening looks for: instances, and values for them.
-use Rattle.std.specs.Prelude.{◌≡◌, ◌⊎◌, ℕ, ◌+◌, ◌≤◌, Option, Some, List, [], ◌∷◌, ◌++◌, length, take, slice_get}
+use Rattle.std.specs.Prelude.{◌≡◌, ◌⊎◌, ℕ, ◌+◌, ◌≤◌, Option, Some, List, [], ◌∷◌, ◌++◌, length, take}
+use Rattle.std.specs.Prelude.{slice_get}
 use Rattle.site_ids.specs.Spans.{IsInSpan}
 use Rattle.proposer.specs.declared.TheConstants.{MAX_ATTEMPTS}
 use Rattle.proposer.specs.Attempts.{Attempt}

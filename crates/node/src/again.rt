@@ -17,7 +17,8 @@ impl<D: Disk> Node<D> {
     /// The latest message of each attempt except the one at the first unknown instance, in the order of their
     /// instances.
     pub(crate) fn sent_again(&self, first: Instance) -> Result<Outbox, AllocError>
-        ensures { IfOk result (λ again. (s : AbstractNode) → IsNodeOf self.now s → IsFirstUnknown s.known first → IsSentAgain self.now.me s first again.items) }
+        ensures { IfOk result (λ again. (s : AbstractNode) → IsNodeOf self.now s
+            → IsFirstUnknown s.known first → IsSentAgain self.now.me s first again.items) }
     {
         let mut again = Vec::new(self.alloc);
         let mut past = 1;
@@ -33,7 +34,8 @@ impl<D: Disk> Node<D> {
 
     /// If an attempt is open at the instance, puts its latest message after what is there.
     fn push_latest(&self, instance: Instance, again: &mut Outbox) -> Result<(), AllocError>
-        ensures { OnOk result ((attempts : ℕ → Option Attempt) → Attempting self.now.proposer attempts → again.new.items ≡ with_latest self.now.me again.old.items instance (attempts instance)) }
+        ensures { OnOk result ((attempts : ℕ → Option Attempt) → Attempting self.now.proposer attempts
+            → again.new.items ≡ with_latest self.now.me again.old.items instance (attempts instance)) }
     {
         match self.proposer.resend(instance)? {
             Some(message) => {

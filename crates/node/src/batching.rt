@@ -18,10 +18,13 @@ impl<D: Disk> Node<D> {
     pub fn begin(&mut self) -> Result<(), NodeFault>
         ensures begun { OnOk result (BeginsAt D.stands_for self.old self.new) }
         ensures same { (s : AbstractNode) → IsNodeOf self.old s → IsNodeOf self.new s }
-        ensures ahead { (s t : AbstractNode) (d : DiskState) → IsAheadOf D.stands_for self.old s t d → IsAheadOf D.stands_for self.new s t d }
-        ensures refused { OnErr result ((s : AbstractNode) (d : DiskState) → IsOnDisk D.stands_for self.old s d → IsOnDisk D.stands_for self.new s d) }
+        ensures ahead { (s t : AbstractNode) (d : DiskState) → IsAheadOf D.stands_for self.old s t d
+            → IsAheadOf D.stands_for self.new s t d }
+        ensures refused { OnErr result ((s : AbstractNode) (d : DiskState)
+            → IsOnDisk D.stands_for self.old s d → IsOnDisk D.stands_for self.new s d) }
         ensures was_stopped { IsErrOf result NodeFault.Stopped ↔ (self.old.store.stopped ≡ true) }
-        ensures others { OnErr result (IsErrOf result NodeFault.Stopped ⊎ IsErrOf result NodeFault.OutOfMemory) }
+        ensures others { OnErr result (IsErrOf result NodeFault.Stopped
+            ⊎ IsErrOf result NodeFault.OutOfMemory) }
         ensures disk { self.new.store.disk ≡ self.old.store.disk }
         ensures keeps { KeepsOthers self.old self.new }
     {
@@ -36,7 +39,8 @@ impl<D: Disk> Node<D> {
     pub fn seal(&mut self) -> Result<(), NodeFault>
         ensures sealed { OnOk result (SealsAt D.stands_for self.old self.new) }
         ensures same { OnOk result ((s : AbstractNode) → IsNodeOf self.old s → IsNodeOf self.new s) }
-        ensures lost { IsErrOf result NodeFault.Device → LosesOneOf D.stands_for self.old self.new.store.disk }
+        ensures lost { IsErrOf result NodeFault.Device
+            → LosesOneOf D.stands_for self.old self.new.store.disk }
         ensures stops { OnErr result (self.new.store.stopped ≡ true) }
         ensures was_stopped { IsErrOf result NodeFault.Stopped ↔ (self.old.store.stopped ≡ true) }
         ensures refused { IsErrOf result NodeFault.Stopped → self.new ≡ self.old }

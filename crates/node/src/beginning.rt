@@ -21,7 +21,8 @@ pub(crate) struct Beginning {
 
 impl<D: Disk> Node<D> {
     ghost use Rattle.node.specs.Calls.{Call};
-    ghost use Rattle.node.specs.Standing.{IsEvent, TakesRound, OnlyGrows, KeepsOthers, CountsDevice, ending_of};
+    ghost use Rattle.node.specs.Standing.{IsEvent, TakesRound, OnlyGrows, KeepsOthers, CountsDevice};
+    ghost use Rattle.node.specs.Standing.{ending_of};
 
     /// The ballot's round goes on record, the attempts begin, and one prepare for all of them goes out. All
     /// room is reserved first.
@@ -33,7 +34,8 @@ impl<D: Disk> Node<D> {
         requires running { self.old.store.stopped ≡ false }
         requires above { self.old.store.recorded.round < due.ballot.round }
         requires span { IsSpan due.first (length due.values.items) }
-        ensures event { (call : Call) → IsDue self.old call due → IsEvent D.stands_for self.old self.new call (ending_of result) outbox.old.items outbox.new.items }
+        ensures event { (call : Call) → IsDue self.old call due
+            → IsEvent D.stands_for self.old self.new call (ending_of result) outbox.old.items outbox.new.items }
         ensures rises { OnOk result (TakesRound self.old self.new) }
         ensures counts { CountsDevice result (D.failed self.old.store.disk) (D.failed self.new.store.disk) }
         ensures grows { OnlyGrows outbox.old.items outbox.new.items }

@@ -1,6 +1,7 @@
 //! A value that is known goes on record as learned.
 
-ghost use Rattle.std.specs.Prelude.{◌≡◌, ◌↔◌, ◌≤◌, [], None, IsTrue, IfOk, IfSome, OnErr, MatchOption, length};
+ghost use Rattle.std.specs.Prelude.{◌≡◌, ◌↔◌, ◌≤◌, [], None, IsTrue, IfOk, IfSome, OnErr, MatchOption};
+ghost use Rattle.std.specs.Prelude.{length};
 ghost use Rattle.site_ids.specs.declared.TheConstants.{MAX_VALUE as longest};
 ghost use Rattle.durable.specs.Slots.{value_at};
 ghost use Rattle.node.specs.Calls.{IsVoteFor};
@@ -55,7 +56,8 @@ impl<D: Disk> Node<D> {
 
     /// A copy of the value that is to be kept at an instance, if there is one. A known value is never too long for an entry.
     fn unkept(&self, instance: Instance) -> Result<Option<Value>, AllocError>
-        ensures unkept { IfOk result (λ value. (s : AbstractNode) → IsNodeOf self.now s → MatchOption value (¬ MayKeep s instance) (λ v. IsUnkept s instance v)) }
+        ensures unkept { IfOk result (λ value. (s : AbstractNode) → IsNodeOf self.now s
+            → MatchOption value (¬ MayKeep s instance) (λ v. IsUnkept s instance v)) }
         ensures new { IfOk result (λ value. IfSome value (λ v. value_at self.now.store.recorded.slots instance ≡ None)) }
         ensures fits { IfOk result (λ value. IfSome value (λ v. length v ≤ longest)) }
         ensures wanted { OnErr result ((s : AbstractNode) → IsNodeOf self.now s → MayKeep s instance) }

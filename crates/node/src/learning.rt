@@ -29,7 +29,8 @@ impl<D: Disk> Node<D> {
     /// its ticket, are dropped.
     pub(crate) fn learn(&mut self, instance: Instance, value: &Value) -> Result<(), AllocError>
         requires unknown { value_at self.old.known.log instance ≡ None }
-        ensures learned { OnOk result ((s : AbstractNode) → HasParts self.old s → HasParts self.new (learned s instance value.now)) }
+        ensures learned { OnOk result ((s : AbstractNode) → HasParts self.old s
+            → HasParts self.new (learned s instance value.now)) }
         ensures refused { OnErr result ((s : AbstractNode) → HasParts self.old s → HasParts self.new s) }
         ensures same { (self.new.reached ≡ self.old.reached) × (self.new.store ≡ self.old.store) }
         ensures others { KeepsOthers self.old self.new }

@@ -10,6 +10,7 @@ mod beginning;
 mod chosen;
 mod delivering;
 mod fault;
+mod growing;
 mod keeping;
 mod known;
 mod laws;

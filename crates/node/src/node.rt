@@ -2,7 +2,8 @@
 //!
 //! Whether the node is stopped is marked in its record only.
 
-ghost use Rattle.std.specs.Prelude.{◌≡◌, ◌≢◌, ◌<◌, ◌⊎◌, ◌↔◌, ◌^◌, ◌-◌, [], List, Option, IsTrue, IfOk, IfErr, length, true};
+ghost use Rattle.std.specs.Prelude.{◌≡◌, ◌≢◌, ◌<◌, ◌⊎◌, ◌↔◌, ◌^◌, ◌-◌, [], List, Option, IsTrue, IfOk, IfErr};
+ghost use Rattle.std.specs.Prelude.{length, true};
 ghost use Rattle.site_disk.specs.Model.{DiskState, after_sync};
 ghost use Rattle.site_ids.specs.Ids.{IsNode};
 ghost use Rattle.durable.specs.Cutting.{IsCutShort};
@@ -73,14 +74,21 @@ impl<D: Disk> Node<D> {
         disk: D,
     ) -> Result<Node<D>, (RecordFault, D)>
         requires { IsNode cluster me }
-        ensures opened { IfOk result (λ node. (entries : List Entry) × OpensAs D.stands_for disk node entries) }
+        ensures opened { IfOk result (λ node. (entries : List Entry)
+            × OpensAs D.stands_for disk node entries) }
         ensures whose { IfOk result (λ node. (node.me ≡ me) × (node.cluster ≡ cluster)) }
-        ensures cut { IfOk result (λ node. (d : DiskState) → D.stands_for disk d → IsTrue node.store.cut_short ↔ IsCutShort node.store.recorded.gate d.seen) }
+        ensures cut { IfOk result (λ node. (d : DiskState) → D.stands_for disk d → IsTrue node.store.cut_short
+            ↔ IsCutShort node.store.recorded.gate d.seen) }
         ensures unfed { IfOk result (λ node. node.releases ≡ []) }
         ensures none_failed { IfOk result (λ node. D.failed node.store.disk ≡ D.failed disk) }
-        ensures refused { IfErr result (λ p. (d : DiskState) → D.stands_for disk d → (D.stands_for p.1 (after_sync d) ⊎ (D.stands_for p.1 d × (p.0 ≡ RecordFault.Device))) × IsRefusal p.0 me cluster d.seen) }
-        ensures never { IfErr result (λ p. (d : DiskState) (entries : List Entry) (in_flight : Option Entry) → D.stands_for disk d → Keeps me cluster entries in_flight d → (p.0 ≡ RecordFault.Device) ⊎ (p.0 ≡ RecordFault.OutOfMemory)) }
-        ensures cause { IfErr result (λ p. p.0 ≡ RecordFault.Device → (D.failed disk < D.failed p.1) ⊎ (D.failed disk ≡ 2 ^ 64 - 1)) }
+        ensures refused { IfErr result (λ p. (d : DiskState) → D.stands_for disk d
+            → (D.stands_for p.1 (after_sync d) ⊎ (D.stands_for p.1 d × (p.0 ≡ RecordFault.Device)))
+            × IsRefusal p.0 me cluster d.seen) }
+        ensures never { IfErr result (λ p. (d : DiskState) (entries : List Entry) (in_flight : Option Entry)
+            → D.stands_for disk d → Keeps me cluster entries in_flight d → (p.0 ≡ RecordFault.Device)
+            ⊎ (p.0 ≡ RecordFault.OutOfMemory)) }
+        ensures cause { IfErr result (λ p. p.0 ≡ RecordFault.Device → (D.failed disk < D.failed p.1)
+            ⊎ (D.failed disk ≡ 2 ^ 64 - 1)) }
     {
         match Record::open(alloc, cluster, me, disk) {
             Ok(store) => Ok(Node {
@@ -122,7 +130,8 @@ impl<D: Disk> Node<D> {
 
     /// How many values are known from the first instance on without a gap.
     pub fn known(&self) -> u32
-        ensures { (s : AbstractNode) → IsNodeOf self.now s → (values : List Bytes) × IsKnownPrefix s values × (result ≡ length values) }
+        ensures { (s : AbstractNode) → IsNodeOf self.now s → (values : List Bytes) × IsKnownPrefix s values
+            × (result ≡ length values) }
     {
         self.known.log.prefix().len() as u32
     }
@@ -158,7 +167,8 @@ impl<D: Disk> Node<D> {
     /// Gives the disk back.
     pub fn close(self) -> D
         ensures is { result ≡ self.store.disk }
-        ensures keeps { (s : AbstractNode) (d : DiskState) → IsOnDisk D.stands_for self s d → D.stands_for result d × Keeps self.me self.cluster s.entries s.in_flight d }
+        ensures keeps { (s : AbstractNode) (d : DiskState) → IsOnDisk D.stands_for self s d
+            → D.stands_for result d × Keeps self.me self.cluster s.entries s.in_flight d }
     {
         let Node {
             alloc: _,
@@ -187,8 +197,10 @@ impl<D: Armed> Node<D> {
 
     /// Passes the arming on to the disk.
     pub fn arm(&mut self, calls: u32)
-        ensures same { (s : AbstractNode) → IsNodeOf self.old s → IsNodeOf self.new (record s { armed = true }) }
-        ensures on_disk { (s : AbstractNode) (d : DiskState) → IsOnDisk D.Disk.stands_for self.old s d → IsOnDisk D.Disk.stands_for self.new (record s { armed = true }) d }
+        ensures same { (s : AbstractNode) → IsNodeOf self.old s
+            → IsNodeOf self.new (record s { armed = true }) }
+        ensures on_disk { (s : AbstractNode) (d : DiskState) → IsOnDisk D.Disk.stands_for self.old s d
+            → IsOnDisk D.Disk.stands_for self.new (record s { armed = true }) d }
         ensures armed { D.armed self.new.store.disk calls }
         ensures failed { D.Disk.failed self.new.store.disk ≡ D.Disk.failed self.old.store.disk }
         ensures others { KeepsOthers self.old self.new }

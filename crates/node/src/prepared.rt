@@ -37,7 +37,8 @@ fn put_promises<D: Disk>(
 ) -> Result<(), RecordFault>
     requires of_cluster { IsNode store.old.cluster ballot.node }
     requires span { IsSpan first count }
-    requires above { (at : ℕ) × IsInSpan first count at × IsFreeBelow (slot_at store.old.recorded.slots at).promised ballot }
+    requires above { (at : ℕ) × IsInSpan first count at
+        × IsFreeBelow (slot_at store.old.recorded.slots at).promised ballot }
     ensures { Puts D.stands_for D.failed store.old store.new (promise_of first count ballot) result }
 {
     if count == 1 {
@@ -73,7 +74,8 @@ impl<D: Disk> Node<D> {
         requires running { self.old.store.stopped ≡ false }
         requires of_cluster { IsNode self.old.cluster ballot.node }
         requires span { IsSpan first count }
-        ensures event { (from : ℕ) → IsMessage self.old.cluster (Message.Prepare from first ballot count) → IsEvent D.stands_for self.old self.new (deliver (Message.Prepare from first ballot count)) (ending_of result) outbox.old.items outbox.new.items }
+        ensures event { (from : ℕ) → IsMessage self.old.cluster (Message.Prepare from first ballot count)
+            → IsEvent D.stands_for self.old self.new (deliver (Message.Prepare from first ballot count)) (ending_of result) outbox.old.items outbox.new.items }
         ensures counts { CountsDevice result (D.failed self.old.store.disk) (D.failed self.new.store.disk) }
         ensures grows { OnlyGrows outbox.old.items outbox.new.items }
         ensures others { KeepsOthers self.old self.new }
@@ -106,7 +108,8 @@ impl<D: Disk> Node<D> {
     ) -> Result<Judgement, AllocError>
         requires { IsSpan first count }
         ensures ok { IfOk result (λ told. IsJudgement (slot_at self.now.store.recorded.slots) self.now.me first ballot count told) }
-        ensures err { OnErr result ((at : ℕ) × IsInSpan first count at × IsOwed (slot_at self.now.store.recorded.slots at) ballot) }
+        ensures err { OnErr result ((at : ℕ) × IsInSpan first count at
+            × IsOwed (slot_at self.now.store.recorded.slots at) ballot) }
     {
         let mut judgement = Judgement {
             rises: false,

@@ -1,6 +1,7 @@
 //! What a node has published, and its answers.
 
-ghost use Rattle.std.specs.Prelude.{◌≡◌, ◌↔◌, ◌⊎◌, ◌<◌, ◌≤◌, ◌++◌, List, Some, IfOk, OnOk, OnErr, IsErrOf, length, take};
+ghost use Rattle.std.specs.Prelude.{◌≡◌, ◌↔◌, ◌⊎◌, ◌<◌, ◌≤◌, ◌++◌, List, Some, IfOk, OnOk, OnErr, IsErrOf};
+ghost use Rattle.std.specs.Prelude.{length, take};
 ghost use Rattle.site_ids.specs.declared.TheConstants.{MAX_INSTANCE};
 ghost use Rattle.site_disk.specs.Model.{DiskState};
 ghost use Rattle.command.specs.Effective.{effective};
@@ -48,7 +49,8 @@ fn feed(
 ) -> Result<(), AllocError>
     requires { length values.now ≤ MAX_INSTANCE }
     ensures more { (more : List Bytes) × (releases.new ≡ releases.old ++ more) }
-    ensures begins { releases.old ≡ take (length releases.old) values.now → releases.new ≡ take (length releases.new) values.now }
+    ensures begins { releases.old ≡ take (length releases.old) values.now
+        → releases.new ≡ take (length releases.new) values.now }
     ensures tickets { AreHeldWith tickets.old tickets.new releases.new }
     ensures all { OnOk result (length values.now ≤ length releases.new) }
     ensures short { OnErr result (length releases.new < length values.now) }
@@ -70,12 +72,15 @@ impl<D: Disk> Node<D> {
     /// allocation fails, a part is published.
     pub fn publish(&mut self) -> Result<u64, NodeFault>
         ensures same { (s : AbstractNode) → IsNodeOf self.old s → IsNodeOf self.new s }
-        ensures on_disk { (s : AbstractNode) (d : DiskState) → IsOnDisk D.stands_for self.old s d → IsOnDisk D.stands_for self.new s d }
+        ensures on_disk { (s : AbstractNode) (d : DiskState) → IsOnDisk D.stands_for self.old s d
+            → IsOnDisk D.stands_for self.new s d }
         ensures store { self.new.store ≡ self.old.store }
         ensures more { (more : List Bytes) × (self.new.releases ≡ self.old.releases ++ more) }
-        ensures ok { IfOk result (λ n. (n ≡ release_count (effective self.new.releases)) × ((s : AbstractNode) → IsNodeOf self.old s → IsKnownPrefix s self.new.releases)) }
+        ensures ok { IfOk result (λ n. (n ≡ release_count (effective self.new.releases))
+            × ((s : AbstractNode) → IsNodeOf self.old s → IsKnownPrefix s self.new.releases)) }
         ensures err { OnErr result (IsErrOf result NodeFault.OutOfMemory) }
-        ensures short { OnErr result ((s : AbstractNode) → IsNodeOf self.old s → ¬ IsKnownPrefix s self.new.releases) }
+        ensures short { OnErr result ((s : AbstractNode) → IsNodeOf self.old s
+            → ¬ IsKnownPrefix s self.new.releases) }
         ensures whose { (self.new.me ≡ self.old.me) × (self.new.cluster ≡ self.old.cluster) }
     {
         let known = &mut self.known;
@@ -98,7 +103,8 @@ impl<D: Disk> Node<D> {
     /// The page of release n for a path.
     pub fn answer(&self, n: u64, path: &str) -> Result<Answer, AnswerFault>
         ensures ok { IfOk result (λ a. answer self.now.releases n path.now ≡ Some (answer_view a)) }
-        ensures none { IsErrOf result AnswerFault.NoSuchRelease ↔ ((n ≡ 0) ⊎ (release_count (effective self.now.releases) < n)) }
+        ensures none { IsErrOf result AnswerFault.NoSuchRelease
+            ↔ ((n ≡ 0) ⊎ (release_count (effective self.now.releases) < n)) }
     {
         self.releases.answer(n, path)
     }

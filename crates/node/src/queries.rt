@@ -76,7 +76,8 @@ impl<D: Disk> Node<D> {
 
     /// The ballot of the next attempt, `None` if the rounds are used up.
     pub fn next_ballot(&self) -> Option<Ballot>
-        ensures { (s : AbstractNode) → IsNodeOf self.now s → MatchOption result (¬ HasRound s) (λ b. (b ≡ fresh_ballot self.now.me s) × HasRound s) }
+        ensures { (s : AbstractNode) → IsNodeOf self.now s
+            → MatchOption result (¬ HasRound s) (λ b. (b ≡ fresh_ballot self.now.me s) × HasRound s) }
     {
         self.own_ballot()
     }
@@ -93,7 +94,8 @@ impl<D: Disk> Node<D> {
 
     /// The first unknown instance, if there is one.
     pub(crate) fn next_gap(&self) -> Option<Instance>
-        ensures { MatchOption result ((i : ℕ) → IsInstance i → IsSome (value_at self.now.known.log i)) (λ gap. IsGap self.now.known.log gap) }
+        ensures { MatchOption result ((i : ℕ) → IsInstance i
+            → IsSome (value_at self.now.known.log i)) (λ gap. IsGap self.now.known.log gap) }
     {
         self.known.log.next_gap()
     }
@@ -115,7 +117,8 @@ impl<D: Disk> Node<D> {
     /// How many attempts are open, except the one at the first unknown instance: a tick sends this many
     /// messages again, 63 at most.
     pub fn tried_elsewhere(&self, first: Instance) -> u8
-        ensures { (s : AbstractNode) (elsewhere : List (ℕ × Attempt)) → IsNodeOf self.now s → IsFirstUnknown s.known first → AreOpenElsewhere s first elsewhere → result ≡ length elsewhere }
+        ensures { (s : AbstractNode) (elsewhere : List (ℕ × Attempt)) → IsNodeOf self.now s
+            → IsFirstUnknown s.known first → AreOpenElsewhere s first elsewhere → result ≡ length elsewhere }
     {
         let here = usize::from(self.tries_at(first));
         self.proposer

@@ -13,7 +13,8 @@ use std::alloc::Global;
 
 /// The ticket of a command that is submitted.
 fn submitted_ticket(alloc: Global, value: &Value) -> Result<Ticket, NodeFault>
-    ensures { MatchResult result (λ ticket. (order : Order) × (value_reading value.now ≡ Ok order) × (ticket ≡ order.ticket)) (IsUnread value.now) }
+    ensures { MatchResult result (λ ticket. (order : Order) × (value_reading value.now ≡ Ok order)
+        × (ticket ≡ order.ticket)) (IsUnread value.now) }
 {
     let command = read(alloc, value.as_bytes())?;
     Ok(command.ticket)
@@ -28,7 +29,8 @@ impl<D: Disk> Node<D> {
     /// Queues a command to be proposed, unless its ticket is pending or known.
     pub fn submit(&mut self, value: &Value) -> Result<Submitted, NodeFault>
         ensures event { IsEvent D.stands_for self.old self.new (submission value.now) (ending_of result) [] [] }
-        ensures answered { IfOk result (λ answer. (s : AbstractNode) → IsNodeOf self.old s → IsAnswered s value.now answer) }
+        ensures answered { IfOk result (λ answer. (s : AbstractNode) → IsNodeOf self.old s
+            → IsAnswered s value.now answer) }
         ensures cause { IfErr result IsSubmitCause }
         ensures no_put { (¬ IsErrOf result NodeFault.Device) × (self.new.store ≡ self.old.store) }
         ensures others { KeepsOthers self.old self.new }

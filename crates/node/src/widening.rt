@@ -3,7 +3,8 @@
 //! Whether an attempt has a value is looked up among 64 attempts; a set would have to allocate. Each widening
 //! uses up a round, which bounds a drive.
 
-ghost use Rattle.std.specs.Prelude.{◌≡◌, ◌↔◌, ◌+◌, ◌<◌, ◌≤◌, ℕ, List, Option, None, Some, IfOk, IfErr, IfSome, OnOk, IsTrue, MatchOption, length, false};
+ghost use Rattle.std.specs.Prelude.{◌≡◌, ◌↔◌, ◌+◌, ◌<◌, ◌≤◌, ℕ, List, Option, None, Some, IfOk, IfErr};
+ghost use Rattle.std.specs.Prelude.{IfSome, OnOk, IsTrue, MatchOption, length, false};
 ghost use Rattle.site_ids.specs.Spans.{IsSpan};
 ghost use Rattle.node.specs.Beginning.{IsDue, IsRefusedBy};
 ghost use Rattle.proposer.specs.declared.TheConstants.{MAX_ATTEMPTS};
@@ -20,7 +21,8 @@ impl<D: Disk> Node<D> {
     ghost use Rattle.node.specs.Nodes.{Node as AbstractNode, Value as Bytes, IsUnknown, IsFirstUnknown};
     ghost use Rattle.node.specs.Calls.{IsUntried, IsNextFree, MayWiden, widen as widening};
     ghost use Rattle.node.specs.Widening.{IsFreeRun, IsOldestUntried, AreOldest, PushesUntried};
-    ghost use Rattle.node.specs.Standing.{IsNodeOf, IsEvent, TakesRound, OnlyGrows, KeepsOthers, CountsDevice, ending_of};
+    ghost use Rattle.node.specs.Standing.{IsNodeOf, IsEvent, TakesRound, OnlyGrows, KeepsOthers};
+    ghost use Rattle.node.specs.Standing.{CountsDevice, ending_of};
 
     /// A fresh round goes on record. With it attempts begin from the least free instance on, as long as the
     /// next instance is free and in reach. They are for the oldest pending values that no attempt has as its
@@ -28,7 +30,8 @@ impl<D: Disk> Node<D> {
     /// false, and nothing happens.
     pub fn widen(&mut self, outbox: &mut Outbox) -> Result<bool, NodeFault>
         ensures event { IsEvent D.stands_for self.old self.new widening (ending_of result) outbox.old.items outbox.new.items }
-        ensures widened { IfOk result (λ widened. (s : AbstractNode) → IsNodeOf self.old s → IsTrue widened ↔ MayWiden s) }
+        ensures widened { IfOk result (λ widened. (s : AbstractNode) → IsNodeOf self.old s → IsTrue widened
+            ↔ MayWiden s) }
         ensures rises { IfOk result (λ widened. IsTrue widened → TakesRound self.old self.new) }
         ensures counts { CountsDevice result (D.failed self.old.store.disk) (D.failed self.new.store.disk) }
         ensures grows { OnlyGrows outbox.old.items outbox.new.items }
@@ -45,7 +48,8 @@ impl<D: Disk> Node<D> {
     fn next_widening(&self) -> Result<Option<Beginning>, NodeFault>
         ensures running { OnOk result (self.now.store.stopped ≡ false) }
         ensures due { IfOk result (λ due. IfSome due (λ due. IsDue self.now widening due)) }
-        ensures may { IfOk result (λ due. (s : AbstractNode) → IsNodeOf self.now s → MatchOption due (¬ MayWiden s) (λ due. MayWiden s)) }
+        ensures may { IfOk result (λ due. (s : AbstractNode) → IsNodeOf self.now s
+            → MatchOption due (¬ MayWiden s) (λ due. MayWiden s)) }
         ensures refused { IfErr result (λ fault. IsRefusedBy self.now widening fault) }
     {
         if self.store.is_stopped() {
@@ -75,7 +79,8 @@ impl<D: Disk> Node<D> {
 
     /// The least free instance, from the first unknown one on. A node that is mute at the first unknown one has none.
     fn next_free(&self, first: Instance) -> Option<Instance>
-        ensures least { (s : AbstractNode) → IsNodeOf self.now s → IsFirstUnknown s.known first → MatchOption result ((i : ℕ) → ¬ IsNextFree s i) (λ i. IsNextFree s i) }
+        ensures least { (s : AbstractNode) → IsNodeOf self.now s → IsFirstUnknown s.known first
+            → MatchOption result ((i : ℕ) → ¬ IsNextFree s i) (λ i. IsNextFree s i) }
         ensures near { IfSome result (λ i. (first ≤ i) × (i < first + MAX_ATTEMPTS)) }
     {
         if self.is_mute(first) {
@@ -95,7 +100,8 @@ impl<D: Disk> Node<D> {
     /// How many instances from a free one on are free, without a gap, up to the window's end.
     fn free_run(&self, first: Instance, instance: Instance) -> usize
         requires near { (first ≤ instance) × (instance < first + MAX_ATTEMPTS) }
-        ensures free { (s : AbstractNode) → IsNodeOf self.now s → IsFirstUnknown s.known first → IsNextFree s instance → IsFreeRun s first instance result }
+        ensures free { (s : AbstractNode) → IsNodeOf self.now s → IsFirstUnknown s.known first
+            → IsNextFree s instance → IsFreeRun s first instance result }
         ensures span { IsSpan instance result }
     {
         let end = first.number() + WINDOW;
@@ -114,7 +120,8 @@ impl<D: Disk> Node<D> {
 
     /// Whether the instance is unknown and has no attempt.
     fn is_free(&self, instance: Instance) -> bool
-        ensures { (s : AbstractNode) → IsNodeOf self.now s → IsTrue result ↔ (IsUnknown s instance × (s.attempts instance ≡ None)) }
+        ensures { (s : AbstractNode) → IsNodeOf self.now s → IsTrue result
+            ↔ (IsUnknown s instance × (s.attempts instance ≡ None)) }
     {
         match self.known.log.get(instance) {
             Some(_) => false,
@@ -127,7 +134,8 @@ impl<D: Disk> Node<D> {
 
     /// The place in the queue of the oldest value that no attempt has as its own.
     fn next_untried(&self) -> Option<usize>
-        ensures oldest { (s : AbstractNode) → IsNodeOf self.now s → MatchOption result ((v : Bytes) → ¬ IsUntried s v) (λ n. IsOldestUntried s n) }
+        ensures oldest { (s : AbstractNode) → IsNodeOf self.now s
+            → MatchOption result ((v : Bytes) → ¬ IsUntried s v) (λ n. IsOldestUntried s n) }
         ensures within { IfSome result (λ n. n < length self.now.queue.items.items) }
     {
         for place in 0..self.queue.len() {
@@ -146,7 +154,8 @@ impl<D: Disk> Node<D> {
     fn untried(&self, oldest: usize, most: usize) -> Result<Vec<Value>, AllocError>
         requires within { oldest < length self.now.queue.items.items }
         requires some { 1 ≤ most }
-        ensures oldest { IfOk result (λ values. (s : AbstractNode) (first : ℕ) → IsNodeOf self.now s → IsFirstUnknown s.known first → IsOldestUntried s oldest → AreOldest s most values.items) }
+        ensures oldest { IfOk result (λ values. (s : AbstractNode) (first : ℕ) → IsNodeOf self.now s
+            → IsFirstUnknown s.known first → IsOldestUntried s oldest → AreOldest s most values.items) }
         ensures few { IfOk result (λ values. (1 ≤ length values.items) × (length values.items ≤ most)) }
     {
         let mut values = Vec::new(self.alloc);
@@ -168,8 +177,10 @@ impl<D: Disk> Node<D> {
 
     /// Puts a copy of the value after what is there, unless an attempt has it as its own.
     fn push_untried(&self, value: &Value, values: &mut Vec<Value>) -> Result<(), AllocError>
-        ensures pushes { OnOk result ((attempts : ℕ → Option Attempt) → Attempting self.now.proposer attempts → PushesUntried attempts value.now values.old.items values.new.items) }
-        ensures few { OnOk result ((length values.old.items ≤ length values.new.items) × (length values.new.items ≤ length values.old.items + 1)) }
+        ensures pushes { OnOk result ((attempts : ℕ → Option Attempt) → Attempting self.now.proposer attempts
+            → PushesUntried attempts value.now values.old.items values.new.items) }
+        ensures few { OnOk result ((length values.old.items ≤ length values.new.items)
+            × (length values.new.items ≤ length values.old.items + 1)) }
     {
         if self.proposer.tries(value.as_bytes()) {
             return Ok(());

@@ -47,6 +47,11 @@ fn boxed(alloc: Global, server: FileServer) -> Result<Box<FileServer>, ServerFau
     }
 }
 
+/// How many bytes the file of a running server's record is longer than what it records, so that few syncs
+/// write the file system's journal too: at the most commits a second that were measured it grows ten times a
+/// second.
+const ROOM: u64 = 262_144;
+
 /// A server of the node over the record, and at how many instances the record has a vote.
 fn open_server<R: Files<File = File>>(
     rt: &R,
@@ -62,7 +67,7 @@ fn open_server<R: Files<File = File>>(
     ensures opened { IfOk result (λ parts. IsOpened ⟦<FileDisk as Disk>⟧.stands_for cluster me parts.0.value.served.node) }
     ensures fault { IfErr result EndsOpening }
 {
-    let desk = Desk::new(alloc)?;
+    let desk = Desk::new(alloc)?.with_room(ROOM);
     let served = open_node(rt, alloc, cluster, me, record, making, cause)?;
     let recorded = Recorded::of(&served.node, MAX_INSTANCE);
     let server = Server::new(alloc, me, served, desk, times, recorded);
@@ -182,7 +187,8 @@ pub fn sited<
     options: &ServeOptions<'_>,
 ) -> u8
     ensures said { HasServed (end_of W.contents out.old out.new) (end_of E.contents err.old err.new) options.now result }
-    ensures laps { result ≡ 0 → IsRun ⟦<FileDisk as Disk>⟧.stands_for (length options.now.peers.items) options.now.id (TakesPasses (length options.now.peers.items) options.now.id (passes_of options.now.id options.now.rounds)) }
+    ensures laps { result ≡ 0
+        → IsRun ⟦<FileDisk as Disk>⟧.stands_for (length options.now.peers.items) options.now.id (TakesPasses (length options.now.peers.items) options.now.id (passes_of options.now.id options.now.rounds)) }
 {
     let mut cause = Cause::none();
     match run(rt, alloc, out, err, options, &mut cause) {

@@ -10,7 +10,8 @@ use Rattle.server_clients.specs.declared.seat.Seat.{Seat}
 
 -- The next request is left: it asks for a receipt that is not there yet, and its client sent the last bytes
 -- not long ago
-pub record IsLeft {S T : Type 0} (service : Offered S) (times : Times) (time : ℕ) (now : S) (seat : Seat T) : Type 0 where
+pub record IsLeft {S T : Type 0} (service : Offered S) (times : Times) (time : ℕ) (now : S)
+    (seat : Seat T) : Type 0 where
   pub ticket : Ticket
   pub asks : AsksReceipt seat.connection ticket
   pub unknown : service.receipt_is now ticket ≡ None
@@ -29,16 +30,20 @@ MayBeAnswered service now after old new =
 abbrev pub IsTurn : {S T : Type 0} → Offered S → Times → ℕ → S → S → Seat T → Seat T → Type 0
 IsTurn service times time now after old new =
     (IsLeft service times time now old × (new ≡ old) × (after ≡ now))
-    ⊎ ((¬ (IsLeft service times time now old)) × MayBeAnswered service now after old.connection new.connection × (new ≡ record old { connection = new.connection }))
+    ⊎ ((¬ (IsLeft service times time now old)) × MayBeAnswered service now after old.connection new.connection
+    × (new ≡ record old { connection = new.connection }))
 
 -- the first k have their turns, each with the service as the one before left it
-abbrev pub AreTurns : {S T : Type 0} → Offered S → Times → ℕ → ℕ → S → S → List (Seat T) → List (Seat T) → Type 0
+abbrev pub AreTurns : {S T : Type 0} → Offered S → Times → ℕ → ℕ → S → S → List (Seat T) → List (Seat T)
+    → Type 0
 AreTurns service times time zero now after old new = after ≡ now
 AreTurns {S} {T} service times time (suc k) now after old new =
-    (mid : S) × AreTurns service times time k now mid old new × ((none : Seat T) → IsTurn service times time mid after (get_or old k none) (get_or new k none))
+    (mid : S) × AreTurns service times time k now mid old new
+    × ((none : Seat T) → IsTurn service times time mid after (get_or old k none) (get_or new k none))
 
 -- All clients have their turns, at this time. No client comes or goes meanwhile
-pub record AreAnswered {S T : Type 0} (service : Offered S) (times : Times) (time : ℕ) (now after : S) (old new : List (Seat T)) : Type 0 where
+pub record AreAnswered {S T : Type 0} (service : Offered S) (times : Times) (time : ℕ) (now after : S)
+    (old new : List (Seat T)) : Type 0 where
   pub as_many : length new ≡ length old
   pub turns : AreTurns service times time (length old) now after old new
 
@@ -49,5 +54,8 @@ CountsAnswered false old new = new.connection.answered ≡ old.connection.answer
 
 -- one of the first k clients has one response more, or none has
 abbrev pub TellsAnswered : {T : Type 0} → Bool → ℕ → List (Seat T) → List (Seat T) → Type 0
-TellsAnswered {T} true k old new = (i : ℕ) × (i < k) × ((none : Seat T) → (get_or new i none).connection.answered ≡ suc (get_or old i none).connection.answered)
-TellsAnswered {T} false k old new = (i : ℕ) → i < k → (none : Seat T) → (get_or new i none).connection.answered ≡ (get_or old i none).connection.answered
+TellsAnswered {T} true k old new = (i : ℕ) × (i < k)
+    × ((none : Seat T)
+    → (get_or new i none).connection.answered ≡ suc (get_or old i none).connection.answered)
+TellsAnswered {T} false k old new = (i : ℕ) → i < k → (none : Seat T)
+    → (get_or new i none).connection.answered ≡ (get_or old i none).connection.answered

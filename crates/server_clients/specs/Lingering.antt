@@ -1,6 +1,7 @@
 -- A stream that has its last response: what its client still sends is read and dropped, until it closes. Moments
 -- are milliseconds since the server began.
-use Rattle.std.specs.Prelude.{◌≡◌, ◌≢◌, ◌⊎◌, ◌<◌, ◌≤◌, ◌+◌, ◌-◌, ◌^◌, ◌||◌, ℕ, zero, suc, min, Bool, true, false, nat_le, nat_lt, List, [], ◌∷◌, ◌++◌, length, Option, Some, None}
+use Rattle.std.specs.Prelude.{◌≡◌, ◌≢◌, ◌⊎◌, ◌<◌, ◌≤◌, ◌+◌, ◌-◌, ◌^◌, ◌||◌, ℕ, zero, suc, min, Bool, true}
+use Rattle.std.specs.Prelude.{false, nat_le, nat_lt, List, [], ◌∷◌, ◌++◌, length, Option, Some, None}
 use Rattle.std.specs.Io.KnownBytes.{Consumes, IsAtEnd, Keeps}
 use Rattle.http_read.specs.Bytes.{End, end_of, HasFailed, IsSound}
 use Rattle.http_read.specs.Counted.{inside, failed}
@@ -46,7 +47,8 @@ DropsBy Nothing reader old new =
 DropsBy Ended reader old new = Keeps reader.before reader.after × IsAtEnd reader.after × IsSound reader
     × (new ≡ record old { stream = new.stream; ended = true })
 DropsBy Failed reader old new =
-    Keeps reader.before reader.after × HasFailed reader × (new ≡ record old { stream = new.stream; ended = true })
+    Keeps reader.before reader.after × HasFailed reader
+    × (new ≡ record old { stream = new.stream; ended = true })
 
 -- what one reading of its own stream did
 abbrev pub Drops : {T : Type 0} → (T → Option (List ℕ)) → ReadOutcome → Parting T → Parting T → Type 0

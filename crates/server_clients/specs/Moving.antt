@@ -1,6 +1,7 @@
 -- Clients' bytes: what one reading and one writing do to a seat, and to all of them. Moments are milliseconds
 -- since the server began.
-use Rattle.std.specs.Prelude.{◌≡◌, ◌⊎◌, ◌<◌, ◌≤◌, ℕ, Bool, true, false, List, length, get_or, Option, Some, None, unwrap_or}
+use Rattle.std.specs.Prelude.{◌≡◌, ◌⊎◌, ◌<◌, ◌≤◌, ℕ, Bool, true, false, List, length, get_or, Option, Some}
+use Rattle.std.specs.Prelude.{None, unwrap_or}
 use Rattle.http_read.specs.Bytes.{end_of}
 use Rattle.http_serve.specs.ConnectionSteps.{owed, IsIdle, MayRead, Reads, Writes}
 use Rattle.http_serve.specs.Fronts.{HasAsked}

@@ -1,6 +1,7 @@
 -- Which clients take a seat, which leave, and which go for another one. Moments are milliseconds since the
 -- server began.
-use Rattle.std.specs.Prelude.{◌≡◌, ◌⊎◌, ◌<◌, ◌≤◌, ◌-◌, ℕ, List, [], ◌∷◌, ◌++◌, length, get_or, swap_remove, nat_le, if◌then◌else◌, Option, Some, None}
+use Rattle.std.specs.Prelude.{◌≡◌, ◌⊎◌, ◌<◌, ◌≤◌, ◌-◌, ℕ, List, [], ◌∷◌, ◌++◌, length, get_or, swap_remove}
+use Rattle.std.specs.Prelude.{nat_le, if◌then◌else◌, Option, Some, None}
 use Rattle.http_read.specs.Counted.{inside, failed}
 use Rattle.http_serve.specs.ConnectionSteps.{owed, IsNew, IsDone}
 use Rattle.server_times.specs.declared.times.Times.{Times}
@@ -56,7 +57,8 @@ pub record IsFirstToGo {T : Type 0} (times : Times) (now : ℕ) (seats : List (S
 
 -- no seat may go
 abbrev pub NoneGoes : {T : Type 0} → Times → ℕ → List (Seat T) → Type 0
-NoneGoes {T} times now seats = (i : ℕ) → i < length seats → (none : Seat T) → ¬ (MayGo times now (get_or seats i none))
+NoneGoes {T} times now seats = (i : ℕ) → i < length seats → (none : Seat T)
+    → ¬ (MayGo times now (get_or seats i none))
 
 -- seat i is given up, and its stream is handed out. The last seat comes into its place
 pub record HandsOut {T : Type 0} (old new : List (Seat T)) (i : ℕ) (stream : T) : Type 0 where

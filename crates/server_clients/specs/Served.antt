@@ -30,8 +30,10 @@ ComesTo n p s v (Err OutOfMemory) next = next ≡ s
 
 -- From each node that the service stands for, the submission of that ticket and text leads to one that it
 -- stands for afterwards. It stays the same node, and what it has published and what is on record stay
-pub record Takes {D : Type 0} (old : Served D) (ticket : Ticket) (text : List ℕ) (done : Outcome) (new : Served D) : Type 0 where
-  pub leads : (s : Node) → IsNodeOf old.node s → (next : Node) × ComesTo old.node.cluster old.node.me s (value_of ticket text) done next × IsNodeOf new.node next
+pub record Takes {D : Type 0} (old : Served D) (ticket : Ticket) (text : List ℕ) (done : Outcome)
+    (new : Served D) : Type 0 where
+  pub leads : (s : Node) → IsNodeOf old.node s → (next : Node)
+      × ComesTo old.node.cluster old.node.me s (value_of ticket text) done next × IsNodeOf new.node next
   pub others : KeepsOthers old.node new.node
   pub record_is : new.node.store ≡ old.node.store
 

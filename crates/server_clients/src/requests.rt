@@ -23,13 +23,18 @@ pub fn serve_requests<D: Disk, R: Read, W: Write>(
     writer: &mut Counted<W>,
     served: &mut Served<D>,
 ) -> Result<(), ServeFault>
-    ensures answered { IfSome (R.remaining (inside reader.old)) (λ input. (text : List ℕ) × Serves offered served.old input (R.remaining (inside reader.new)) served.new text result
+    ensures answered { IfSome (R.remaining (inside reader.old)) (λ input. (text : List ℕ)
+        × Serves offered served.old input (R.remaining (inside reader.new)) served.new text result
         × Appends (W.contents (inside writer.old)) (W.contents (inside writer.new)) text) }
     ensures taken { MayAnswer served.old served.new }
-    ensures read_failed { IsErrOf result ServeFault.Read → HasFailed (end_of R.remaining reader.old reader.new) }
-    ensures read_sound { ¬ (IsErrOf result ServeFault.Read) → IsSound (end_of R.remaining reader.old reader.new) }
-    ensures write_failed { IsErrOf result ServeFault.Write → HasFailed (end_of W.contents writer.old writer.new) }
-    ensures write_sound { ¬ (IsErrOf result ServeFault.Write) → IsSound (end_of W.contents writer.old writer.new) }
+    ensures read_failed { IsErrOf result ServeFault.Read
+        → HasFailed (end_of R.remaining reader.old reader.new) }
+    ensures read_sound { ¬ (IsErrOf result ServeFault.Read)
+        → IsSound (end_of R.remaining reader.old reader.new) }
+    ensures write_failed { IsErrOf result ServeFault.Write
+        → HasFailed (end_of W.contents writer.old writer.new) }
+    ensures write_sound { ¬ (IsErrOf result ServeFault.Write)
+        → IsSound (end_of W.contents writer.old writer.new) }
 {
     serve(alloc, reader, writer, served)
 }

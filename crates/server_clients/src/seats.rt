@@ -1,6 +1,7 @@
 //! The clients of a server.
 
-ghost use Rattle.std.specs.Prelude.{◌≡◌, ◌⊎◌, ◌↔◌, [], ◌≤◌, ◌<◌, ℕ, Bool, length, vec_len, IfOk, IsTrue, MatchOption, OnErr, OnOk};
+ghost use Rattle.std.specs.Prelude.{◌≡◌, ◌⊎◌, ◌↔◌, [], ◌≤◌, ◌<◌, ℕ, Bool, length, vec_len, IfOk, IsTrue};
+ghost use Rattle.std.specs.Prelude.{MatchOption, OnErr, OnOk};
 ghost use Rattle.http_serve.specs.Services.{MaySubmitMany};
 ghost use Rattle.server_clients.specs.Answering.{AreAnswered, TellsAnswered};
 ghost use Rattle.server_clients.specs.Moving.{AreDone, IsReadOnce, IsWrittenOnce};

@@ -24,7 +24,8 @@ line_of server_fault.Write = codes "write failed\n"
 
 -- the fault's line. The line of a record's fault has to be made: if an allocation fails, the line says that
 abbrev pub IsSaid : ServerFault → List ℕ → Type 0
-IsSaid (server_fault.Record fault) said = (said ≡ line_of (server_fault.Record fault)) ⊎ (said ≡ line_of server_fault.OutOfMemory)
+IsSaid (server_fault.Record fault) said = (said ≡ line_of (server_fault.Record fault))
+    ⊎ (said ≡ line_of server_fault.OutOfMemory)
 IsSaid why said = said ≡ line_of why
 
 -- what a fault of reaches is for a server

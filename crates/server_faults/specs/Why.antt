@@ -51,4 +51,5 @@ SaysWhyIf false e o why = GivesNone e
 
 -- a line, and what is said after it
 abbrev pub GivesFault : End → ServeOptions → ServerFault → List ℕ → Type 0
-GivesFault e o why said = (held : Option (List ℕ)) × (failures : ℕ) × IsGiven (up_to e held failures) said × SaysWhyIf o.verbose (behind e held failures) o why
+GivesFault e o why said = (held : Option (List ℕ)) × (failures : ℕ) × IsGiven (up_to e held failures) said
+    × SaysWhyIf o.verbose (behind e held failures) o why

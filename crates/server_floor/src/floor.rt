@@ -17,8 +17,11 @@ const LAST: u64 = MAX_INSTANCE as u64 - MAX_ATTEMPTS as u64;
 
 /// What the words say, if they say it.
 fn told_each(alloc: Global, words: &[&str]) -> Result<Vec<Told>, FloorFault>
-    ensures told { IfOk result (λ told. AreFitting told.items × (map spelled told.items ≡ map (λ w. w.now) words.now)) }
-    ensures fault { IfErr result (λ fault. (fault ≡ FloorFault.OutOfMemory) ⊎ ((fault ≡ FloorFault.NotTold) × ((told : List AnyTold) → AreFitting told → map spelled told ≢ map (λ w. w.now) words.now))) }
+    ensures told { IfOk result (λ told. AreFitting told.items
+        × (map spelled told.items ≡ map (λ w. w.now) words.now)) }
+    ensures fault { IfErr result (λ fault. (fault ≡ FloorFault.OutOfMemory)
+        ⊎ ((fault ≡ FloorFault.NotTold)
+        × ((told : List AnyTold) → AreFitting told → map spelled told ≢ map (λ w. w.now) words.now))) }
 {
     let mut told = Vec::with_capacity(alloc, words.len())?;
     for word in words {
@@ -65,7 +68,8 @@ pub fn read_floor(
     words: &[&str],
 ) -> Result<Instance, FloorFault>
     ensures floor { IfOk result (NamesFloor cluster me (map (λ w. w.now) words.now)) }
-    ensures fault { IfErr result (λ fault. (fault ≡ FloorFault.OutOfMemory) ⊎ RefusesWords cluster me (map (λ w. w.now) words.now) fault) }
+    ensures fault { IfErr result (λ fault. (fault ≡ FloorFault.OutOfMemory)
+        ⊎ RefusesWords cluster me (map (λ w. w.now) words.now) fault) }
 {
     let told = told_each(alloc, words)?;
     floor_above(cluster, me, told.as_slice())

@@ -16,7 +16,8 @@ pub struct Told {
 
 /// Reads a word such as `2:57`, which says that the record of node 2 reaches to instance 57.
 pub fn told_in(word: &str) -> Option<Told>
-    ensures { MatchOption result ((t : AnyTold) → Fits t → word.now ≢ spelled t) (λ t. Fits t × (word.now ≡ spelled t)) }
+    ensures { MatchOption result ((t : AnyTold) → Fits t → word.now ≢ spelled t) (λ t. Fits t
+        × (word.now ≡ spelled t)) }
 {
     let (node, reach) = cut(word.as_bytes(), b':')?;
     let node = read_node(node)?;

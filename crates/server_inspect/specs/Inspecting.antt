@@ -13,7 +13,8 @@ HasPrinted out err status = (view : View) × IsWritten out (text_of view) × Giv
 
 -- the writer failed, and a beginning of the lines was written. One line says so
 abbrev HasBroken : End → End → ℕ → Type 0
-HasBroken out err status = (view : View) × IsBroken out (text_of view) × IsGiven err (codes "write failed\n") × (status ≡ 1)
+HasBroken out err status = (view : View) × IsBroken out (text_of view) × IsGiven err (codes "write failed\n")
+    × (status ≡ 1)
 
 -- an allocation failed for them
 abbrev HasNoMemory : End → End → ℕ → Type 0
@@ -30,8 +31,10 @@ SaysMore e path None = GivesWhy e (codes "record ") path
 
 -- the line of an opening's fault, and more
 abbrev pub Refuses : End → List ℕ → RecordFault → Option ℕ → ℕ → Type 0
-Refuses err path fault place status = (said : List ℕ) × IsSaid (of_record fault) said × (held : Option (List ℕ)) × (failures : ℕ)
+Refuses err path fault place status = (said : List ℕ) × IsSaid (of_record fault) said
+    × (held : Option (List ℕ)) × (failures : ℕ)
     × IsGiven (up_to err held failures) said × SaysMore (behind err held failures) path place × (status ≡ 1)
 
 abbrev pub HasInspected : End → End → List ℕ → ℕ → Type 0
-HasInspected out err path status = HasShown out err status ⊎ (IsSilent out × (fault : RecordFault) × (place : Option ℕ) × Refuses err path fault place status)
+HasInspected out err path status = HasShown out err status
+    ⊎ (IsSilent out × (fault : RecordFault) × (place : Option ℕ) × Refuses err path fault place status)

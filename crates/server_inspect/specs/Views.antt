@@ -1,5 +1,6 @@
 -- What is reported of a record: a function of its entries, of whose it is, and of its file's length.
-use Rattle.std.specs.Prelude.{◌≡◌, ◌⊎◌, ℕ, List, [], ◌++◌, codes, decimal, is_some, nat_eq, if◌then◌else◌, Bool, ◌||◌, slice_index}
+use Rattle.std.specs.Prelude.{◌≡◌, ◌⊎◌, ℕ, List, [], ◌++◌, codes, decimal, is_some, nat_eq, if◌then◌else◌}
+use Rattle.std.specs.Prelude.{Bool, ◌||◌, slice_index}
 use Rattle.site_ids.specs.Ids.{IsNode}
 use Rattle.site_ids.specs.declared.TheConstants.{MAX_INSTANCE}
 use Rattle.durable.specs.Damage.{IsCutAt}
@@ -31,8 +32,10 @@ Names p n file = (slice_index file 8 ≡ p) × (slice_index file 9 ≡ n)
 -- An opening by the node and the group that the head names is refused so. If it names no node of a group, the record is another node's to each.
 -- A record whose last gate an accident shut is damaged too
 abbrev pub IsRefused : RecordFault → List ℕ → Type 0
-IsRefused Damaged file = IsRefusal Damaged (slice_index file 8) (slice_index file 9) file ⊎ ((gate : ℕ) × IsCutAt (slice_index file 8) (slice_index file 9) gate file)
-IsRefused WrongNode file = (¬ IsNoRecord file) × ¬ (IsNode 9 (slice_index file 9) × IsNode (slice_index file 9) (slice_index file 8))
+IsRefused Damaged file = IsRefusal Damaged (slice_index file 8) (slice_index file 9) file
+    ⊎ ((gate : ℕ) × IsCutAt (slice_index file 8) (slice_index file 9) gate file)
+IsRefused WrongNode file = (¬ IsNoRecord file)
+    × ¬ (IsNode 9 (slice_index file 9) × IsNode (slice_index file 9) (slice_index file 8))
 IsRefused fault file = IsRefusal fault (slice_index file 8) (slice_index file 9) file
 
 -- ---- its lines

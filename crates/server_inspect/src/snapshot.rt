@@ -103,6 +103,11 @@ impl Disk for Snapshot {
         self.file.write_at(at, bytes)
     }
 
+    /// The system refuses this too.
+    fn lengthen(&mut self, at: u64, bytes: &[u8]) -> bool {
+        self.file.lengthen(at, bytes)
+    }
+
     /// There is nothing to sync.
     fn sync(&mut self) -> Result<(), DiskFailed> {
         Ok(())

@@ -40,8 +40,10 @@ pub struct View {
 /// The length of a file, and the node and the group that its head names.
 fn head<D: Disk>(disk: &mut D) -> Result<(u64, NodeId, Cluster), RecordFault>
     ensures state { (d : DiskState) → D.stands_for disk.old d → D.stands_for disk.new d }
-    ensures named { IfOk result (λ p. (d : DiskState) → D.stands_for disk.old d → (p.0 ≡ length d.seen) × Names p.1 p.2 d.seen) }
-    ensures fault { IfErr result (λ fault. (d : DiskState) → D.stands_for disk.old d → IsRefused fault d.seen × (fault ≢ RecordFault.Damaged)) }
+    ensures named { IfOk result (λ p. (d : DiskState) → D.stands_for disk.old d → (p.0 ≡ length d.seen)
+        × Names p.1 p.2 d.seen) }
+    ensures fault { IfErr result (λ fault. (d : DiskState) → D.stands_for disk.old d → IsRefused fault d.seen
+        × (fault ≢ RecordFault.Damaged)) }
     ensures cause { IsErrOf result RecordFault.Device
         → (D.failed disk.old < D.failed disk.new) ⊎ (D.failed disk.old ≡ 2 ^ 64 - 1) }
     ensures none_failed { OnOk result (D.failed disk.new ≡ D.failed disk.old) }
@@ -99,8 +101,10 @@ impl View {
 
     /// What is reported of the record on a disk. A refusal gives the disk back.
     pub fn of<D: Disk + Drop>(alloc: Global, disk: D) -> Result<View, (RecordFault, D)>
-        ensures viewed { IfOk result (λ v. (entries : List Entry) × IsViewOf entries v × ((d : DiskState) → D.stands_for disk d
-            → StandsFor v.node v.nodes d.seen entries × IsDamage v.node v.nodes d.seen None × (v.bytes ≡ length d.seen))) }
+        ensures viewed { IfOk result (λ v. (entries : List Entry) × IsViewOf entries v
+            × ((d : DiskState) → D.stands_for disk d
+            → StandsFor v.node v.nodes d.seen entries × IsDamage v.node v.nodes d.seen None
+            × (v.bytes ≡ length d.seen))) }
         ensures refused { IfErr result (λ p. (d : DiskState) → D.stands_for disk d → IsRefused p.0 d.seen) }
         ensures cause { IfErr result (λ p. p.0 ≡ RecordFault.Device
             → (D.failed disk < D.failed p.1) ⊎ (D.failed disk ≡ 2 ^ 64 - 1)) }

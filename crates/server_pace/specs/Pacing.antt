@@ -1,5 +1,7 @@
 -- When a server tries again, asks and tells, and how long it rests. Times are milliseconds since it began, rests microseconds.
-use Rattle.std.specs.Prelude.{◌≡◌, ◌≢◌, ◌⊎◌, ℕ, suc, ◌+◌, ◌-◌, ◌*◌, ◌/◌, ◌^◌, ◌<◌, ◌≤◌, min, max, List, length, Bool, true, false, not, ◌||◌, ◌&&◌, nat_eq, nat_lt, Option, Some, None, unwrap_or, IsSome, IsTrue, ◌↔◌, is_none, is_some, [], if◌then◌else◌}
+use Rattle.std.specs.Prelude.{◌≡◌, ◌≢◌, ◌⊎◌, ℕ, suc, ◌+◌, ◌-◌, ◌*◌, ◌/◌, ◌^◌, ◌<◌, ◌≤◌, min, max, List}
+use Rattle.std.specs.Prelude.{length, Bool, true, false, not, ◌||◌, ◌&&◌, nat_eq, nat_lt, Option, Some, None}
+use Rattle.std.specs.Prelude.{unwrap_or, IsSome, IsTrue, ◌↔◌, is_none, is_some, [], if◌then◌else◌}
 use Rattle.site_ids.specs.Ids.{BallotOf, IsInstance}
 use Rattle.site_ids.specs.NodeSets.{no_nodes, with_node, has_node, count_of, AreUnited}
 use Rattle.site_ids.specs.declared.value.Vote.{Vote}
@@ -295,11 +297,13 @@ abbrev pub pace_after : Pace → ℕ → Seen → Option ℕ → Due → LastCal
 pace_after p now seen tries due last = called (noticed p now seen tries due) now seen.known due last
 
 -- as a batch begins
-pub record IsDue (p : Pace) (now : ℕ) (seen : Seen) (tries : Option ℕ) (block telling : Option (ℕ × ℕ)) (due : Due) : Type 0 where
+pub record IsDue (p : Pace) (now : ℕ) (seen : Seen) (tries : Option ℕ) (block telling : Option (ℕ × ℕ))
+    (due : Due) : Type 0 where
   pub fresh : IsTrue due.fresh ↔ (IsFresh p.ticking seen.wanted p.stirred × (due.yields ≡ false))
   pub kept : due.block ≡ block
   pub told : due.telling ≡ telling
-  pub question : IsTrue due.question ↔ Asks (asking_of p.last p.times now seen p.empty (awaits (noted p.ticking p.times now seen p.stirred)))
+  pub question : IsTrue due.question
+      ↔ Asks (asking_of p.last p.times now seen p.empty (awaits (noted p.ticking p.times now seen p.stirred)))
   pub tick : IsTrue due.tick
       ↔ Ticks (noted p.ticking p.times now seen p.stirred) now p.patience p.times seen.stake
   pub answered : IsTrue due.answered ↔ IsAnswered p
@@ -320,7 +324,8 @@ IsTelling p n s now known waits telling new =
     ⊎ ((waits ≡ false) × TellsNext p.questions (teller_of p now known) n s telling new)
 
 -- This is called behind the turns of a batch that begins now, by a server in a group of n, over this node; and that is its pace then
-pub record CallsDue (old : Pace) (n : ℕ) (s : Node) (now : ℕ) (drained : Bool) (last : LastCall) (new : Pace) : Type 0 where
+pub record CallsDue (old : Pace) (n : ℕ) (s : Node) (now : ℕ) (drained : Bool) (last : LastCall)
+    (new : Pace) : Type 0 where
   pub seen : Seen
   pub tries : Option ℕ
   pub block : Option (ℕ × ℕ)

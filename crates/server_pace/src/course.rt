@@ -1,7 +1,8 @@
 //! How far a node is told that asked.
 
 ghost use Rattle.std.specs.Prelude.{◌≡◌};
-ghost use Rattle.server_pace.specs.Courses.{asked_again, first_course, flight_by, flight_of, heard_on, is_open, moved_on, stretches_to, told_on};
+ghost use Rattle.server_pace.specs.Courses.{asked_again, first_course, flight_by, flight_of, heard_on};
+ghost use Rattle.server_pace.specs.Courses.{is_open, moved_on, stretches_to, told_on};
 
 use node::MAX_TOLD;
 use server_times::{Times, has_passed};

@@ -1,13 +1,17 @@
 //! When a server tries again, when it asks and tells, and how long it rests: all of it numbers.
 
-ghost use Rattle.std.specs.Prelude.{◌≡◌, ◌↔◌, ◌⊎◌, ◌<◌, ◌||◌, ℕ, suc, Option, IsSome, IsTrue, IfSome, Some, None, true, false, if◌then◌else◌};
+ghost use Rattle.std.specs.Prelude.{◌≡◌, ◌↔◌, ◌⊎◌, ◌<◌, ◌||◌, ℕ, suc, Option, IsSome, IsTrue, IfSome, Some};
+ghost use Rattle.std.specs.Prelude.{None, true, false, if◌then◌else◌};
 ghost use Rattle.node.specs.Nodes.{Node as AbstractNode, WantsTick};
 ghost use Rattle.node.specs.Standing.{IsNodeOf};
 ghost use Rattle.server_pace.specs.declared.due.Due.{Due};
 ghost use Rattle.server_pace.specs.declared.seen.Seen.{Seen};
 ghost use Rattle.site_drive.specs.declared.last_call.LastCall.TheVariants.{Ask, TickOrAsk};
 ghost use Rattle.server_pace.specs.Keeping.{keeping_after, owed_at, IsNextBlock};
-ghost use Rattle.server_pace.specs.Pacing.{answers_after, called, empty_after, first_pace, heard, noticed, pace_after, question_after, resting_of, ticking_after, IsAnswered, CallsDue, HearsBatch, IsDue, IsFresh, IsTelling, IsUntried, IsYielding};
+ghost use Rattle.server_pace.specs.Pacing.{answers_after, called, empty_after, first_pace, heard, noticed};
+ghost use Rattle.server_pace.specs.Pacing.{pace_after, question_after, resting_of, ticking_after, IsAnswered};
+ghost use Rattle.server_pace.specs.Pacing.{CallsDue, HearsBatch, IsDue, IsFresh, IsTelling, IsUntried};
+ghost use Rattle.server_pace.specs.Pacing.{IsYielding};
 ghost use Rattle.server_times.specs.Timing.{rest_after};
 ghost use Rattle.server_pace.specs.Turns.{call_behind, goes_first, is_telling};
 
@@ -107,8 +111,11 @@ impl Pace {
     /// What is called behind the turns of the next batch, which begins now, where all that had come was taken in by the last one, or not. What is called
     /// counts from now on. A value that was just submitted is tried at once where nobody tries one and it is no other server's turn.
     pub fn due<D: Disk>(&mut self, now: u64, node: &Node<D>, drained: bool) -> LastCall
-        ensures fresh { (s : AbstractNode) → IsNodeOf node.now s → WantsTick s → IsUntried s → ¬ IsYielding self.old now None → self.old.ticking.since ≡ None → self.old.stirred ≡ false → result ≡ TickOrAsk }
-        ensures due { (s : AbstractNode) → IsNodeOf node.now s → CallsDue self.old node.now.cluster s now drained result self.new }
+        ensures fresh { (s : AbstractNode) → IsNodeOf node.now s → WantsTick s → IsUntried s
+            → ¬ IsYielding self.old now None → self.old.ticking.since ≡ None → self.old.stirred ≡ false
+            → result ≡ TickOrAsk }
+        ensures due { (s : AbstractNode) → IsNodeOf node.now s
+            → CallsDue self.old node.now.cluster s now drained result self.new }
     {
         let seen = Seen::of(node, self.me, self.recorded, drained);
         let block = self.next_block(now, seen.known);
@@ -142,7 +149,8 @@ impl Pace {
         known: u32,
         waits: bool,
     ) -> Option<(NodeId, Instance)>
-        ensures told { (s : AbstractNode) → IsNodeOf node.now s → IsTelling self.old node.now.cluster s now known waits result self.new.questions }
+        ensures told { (s : AbstractNode) → IsNodeOf node.now s
+            → IsTelling self.old node.now.cluster s now known waits result self.new.questions }
         ensures same { self.new ≡ record self.old { questions = self.new.questions } }
     {
         if waits {

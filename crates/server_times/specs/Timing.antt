@@ -1,5 +1,6 @@
 -- What a server waits for, by its times. Times are milliseconds since it began, rests microseconds.
-use Rattle.std.specs.Prelude.{ℕ, ◌+◌, ◌-◌, ◌*◌, ◌/◌, ◌^◌, min, Bool, true, nat_le, nat_lt, if◌then◌else◌, Option, Some, None}
+use Rattle.std.specs.Prelude.{ℕ, ◌+◌, ◌-◌, ◌*◌, ◌/◌, ◌^◌, min, Bool, true, nat_le, nat_lt, if◌then◌else◌}
+use Rattle.std.specs.Prelude.{Option, Some, None}
 use Rattle.server_times.specs.declared.times.Times.{Times}
 
 -- so many milliseconds have passed since then; since never they have
@@ -23,8 +24,9 @@ asks_again_after times again empty = min (min (times.again * (again + 1)) (2 ^ 6
 -- after so many steps in which nothing came, in microseconds
 abbrev pub long_rest : Times → ℕ → ℕ
 long_rest times empty =
-    if nat_lt empty times.idle then times.rest
-    else (if nat_lt empty times.quiet then times.idle_rest else times.quiet_rest)
+    if nat_lt empty times.eager then 0
+    else (if nat_lt empty times.idle then times.rest
+    else (if nat_lt empty times.quiet then times.idle_rest else times.quiet_rest))
 
 -- the same, but shorter while the server tells somebody something
 abbrev pub rest_after : Times → ℕ → Bool → ℕ

@@ -1,7 +1,8 @@
 //! All times of a server.
 
 ghost use Rattle.std.specs.Prelude.{◌≡◌, ◌↔◌, ℕ, ◌-◌, ◌≤◌, IfSome, IsTrue, Some, None, true, unwrap_or};
-ghost use Rattle.server_times.specs.Timing.{asks_after, asks_again_after, long_rest, passed, patience_of, rest_after};
+ghost use Rattle.server_times.specs.Timing.{asks_after, asks_again_after, long_rest, passed, patience_of};
+ghost use Rattle.server_times.specs.Timing.{rest_after};
 ghost use Rattle.server_times.specs.declared.times.TheConstants.{STANDARD};
 
 /// All that a server waits for, in one place.
@@ -53,6 +54,9 @@ pub struct Times {
     pub idle: u32,
     /// Behind so many it is quiet: some three seconds (`Pace::rest`).
     pub quiet: u32,
+    /// For so many steps in which nothing came, one after another, it does not rest: a client that was answered
+    /// comes again at once, and so does another node's message (`Pace::rest`).
+    pub eager: u32,
     /// Microseconds that it rests behind a step in which nothing came, while it is busy (`Pace::rest`).
     pub rest: u64,
     /// The same where it is idle.
@@ -103,6 +107,7 @@ const STANDARD: Times = Times {
     yielding: 50,
     idle: 200,
     quiet: 2000,
+    eager: 16,
     rest: 10,
     idle_rest: 1500,
     quiet_rest: 20_000,
@@ -172,7 +177,9 @@ impl Times {
     fn long_rest(self, empty: u32) -> u64
         ensures { result ≡ long_rest self empty }
     {
-        if empty < self.idle {
+        if empty < self.eager {
+            0
+        } else if empty < self.idle {
             self.rest
         } else if empty < self.quiet {
             self.idle_rest
@@ -185,7 +192,8 @@ impl Times {
     /// tells somebody something (`tells`), or it does not.
     pub fn rest_after(self, empty: u32, tells: bool) -> u64
         ensures is { result ≡ rest_after self empty tells }
-        ensures longer { (fewer : ℕ) → fewer ≤ empty → self.rest ≤ self.idle_rest → self.idle_rest ≤ self.quiet_rest → rest_after self fewer tells ≤ result }
+        ensures longer { (fewer : ℕ) → fewer ≤ empty → self.rest ≤ self.idle_rest
+            → self.idle_rest ≤ self.quiet_rest → rest_after self fewer tells ≤ result }
         ensures bound { tells ≡ true → result ≤ self.telling_rest }
     {
         let long = self.long_rest(empty);

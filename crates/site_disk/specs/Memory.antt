@@ -1,6 +1,8 @@
 -- What a disk in memory stands for.
-use Rattle.std.specs.Prelude.{◌≡◌, ℕ, ◌-◌, ◌≤◌, ◌<◌, Option, Some, None, List, [], ◌∷◌, length, slice_index, vec_capacity}
-use Rattle.site_disk.specs.Model.{DiskState, IsOutside, IsWithin, MayLeave, moment, at_rest, after_write, after_sync, overwritten}
+use Rattle.std.specs.Prelude.{◌≡◌, ℕ, ◌-◌, ◌≤◌, ◌<◌, Option, Some, None, List, [], ◌∷◌, length, slice_index}
+use Rattle.std.specs.Prelude.{vec_capacity}
+use Rattle.site_disk.specs.Model.{DiskState, IsOutside, IsWithin, MayLeave, moment, at_rest, after_write}
+use Rattle.site_disk.specs.Model.{after_sync, overwritten}
 use Rattle.site_disk.specs.declared.mem_disk.MemDisk.{MemDisk}
 use Rattle.site_disk.specs.declared.mem_disk.Call.{Call}
 use Rattle.site_disk.specs.declared.mem_disk.Call.TheVariants.{Len, Read, Write, Sync}

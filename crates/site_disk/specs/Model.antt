@@ -1,5 +1,6 @@
 -- What a disk file holds, and what a crash may leave of it.
-use Rattle.std.specs.Prelude.{◌≡◌, ◌⊎◌, ℕ, ◌+◌, ◌-◌, ◌≤◌, ◌<◌, ◌^◌, max, List, [], ◌∷◌, ◌++◌, length, take, drop, slice_index, Result, IsErr, OnOk}
+use Rattle.std.specs.Prelude.{◌≡◌, ◌⊎◌, ℕ, ◌+◌, ◌-◌, ◌≤◌, ◌<◌, ◌^◌, max, List, [], ◌∷◌, ◌++◌, length, take}
+use Rattle.std.specs.Prelude.{drop, slice_index, Result, IsErr, OnOk}
 
 -- `size` bytes from a place on
 pub record Range : Type 0 where
@@ -16,19 +17,22 @@ pub record Moment : Type 0 where
 -- the place is in none of the ranges
 abbrev pub IsOutside : ℕ → List Range → Type 0
 IsOutside place [] = Unit {0}
-IsOutside place (range ∷ ranges) = ((place < range.start) ⊎ (range.start + range.size ≤ place)) × IsOutside place ranges
+IsOutside place (range ∷ ranges) = ((place < range.start) ⊎ (range.start + range.size ≤ place))
+    × IsOutside place ranges
 
 -- the place is in one of the ranges
 abbrev pub IsWithin : ℕ → List Range → Type 0
 IsWithin place [] = ⊥
-IsWithin place (range ∷ ranges) = ((range.start ≤ place) × (place < range.start + range.size)) ⊎ IsWithin place ranges
+IsWithin place (range ∷ ranges) = ((range.start ≤ place) × (place < range.start + range.size))
+    ⊎ IsWithin place ranges
 
 -- A crash at this moment may leave these bytes: the length is one from that of the last sync to the present one, and the
 -- synced bytes outside the written ranges stay.
 pub record MayLeave (m : Moment) (left : List ℕ) : Type 0 where
   pub no_shorter : length m.synced ≤ length left
   pub no_longer : length left ≤ m.longest
-  pub outside : (place : ℕ) → place < length m.synced → IsOutside place m.written → slice_index left place ≡ slice_index m.synced place
+  pub outside : (place : ℕ) → place < length m.synced → IsOutside place m.written
+      → slice_index left place ≡ slice_index m.synced place
 
 -- what a read gives, what the next crash depends on, and the moments that have been, the newest first
 pub record DiskState : Type 0 where

@@ -11,7 +11,8 @@ after_next (Some (suc calls)) = Some calls
 
 -- The armed call fails, and the disk under it is as before. Any other call is one of the disk under it, and
 -- fails only if that disk counts a failure.
-pub record IsOneCall {D T E : Type 0} (failed : D → ℕ) (old new : FailOnce D) (result : Result T E) : Type 0 where
+pub record IsOneCall {D T E : Type 0} (failed : D → ℕ) (old new : FailOnce D)
+    (result : Result T E) : Type 0 where
   pub left : new.left ≡ after_next old.left
   pub due : old.left ≡ Some 0 → IsErr result × (new.disk ≡ old.disk)
   pub passed : old.left ≢ Some 0 → CountsFailure result (failed old.disk) (failed new.disk)

@@ -8,8 +8,10 @@ use crate::Call;
 
 /// Makes each byte in a range written since the last sync this one.
 pub(crate) fn fill_unsynced(calls: &[Call], bytes: &mut [u8], byte: u8)
-    ensures outside { (d : DiskState) (place : ℕ) → IsOutside place (after_calls d calls.now).written → slice_index bytes.new place ≡ slice_index bytes.old place }
-    ensures within { (d : DiskState) (place : ℕ) → d.written ≡ [] → place < length bytes.old → IsWithin place (after_calls d calls.now).written → slice_index bytes.new place ≡ byte }
+    ensures outside { (d : DiskState) (place : ℕ) → IsOutside place (after_calls d calls.now).written
+        → slice_index bytes.new place ≡ slice_index bytes.old place }
+    ensures within { (d : DiskState) (place : ℕ) → d.written ≡ [] → place < length bytes.old
+        → IsWithin place (after_calls d calls.now).written → slice_index bytes.new place ≡ byte }
 {
     let mut rest = calls;
     while let Some((last, earlier)) = rest.split_last() {
@@ -25,8 +27,10 @@ pub(crate) fn fill_unsynced(calls: &[Call], bytes: &mut [u8], byte: u8)
 
 // Makes each byte of a range this one.
 fn fill(bytes: &mut [u8], at: usize, size: usize, byte: u8)
-    ensures outside { (place : ℕ) → (place < at) ⊎ (at + size ≤ place) → slice_index bytes.new place ≡ slice_index bytes.old place }
-    ensures within { (place : ℕ) → place < length bytes.old → at ≤ place → place < at + size → slice_index bytes.new place ≡ byte }
+    ensures outside { (place : ℕ) → (place < at) ⊎ (at + size ≤ place)
+        → slice_index bytes.new place ≡ slice_index bytes.old place }
+    ensures within { (place : ℕ) → place < length bytes.old → at ≤ place → place < at + size
+        → slice_index bytes.new place ≡ byte }
 {
     let end = bytes.len().min(at.saturating_add(size));
     if at < end {

@@ -3,7 +3,9 @@
 //! What a range beyond the end gives is left open; `MemDisk` refuses it.
 
 ghost use Rattle.std.specs.Prelude.{◌≡◌, ◌⊎◌, ◌+◌, ◌≤◌, ◌∷◌, List, ℕ, length, take, drop, IfOk, OnOk, OnErr};
-ghost use Rattle.site_disk.specs.Model.{DiskState, after_write, after_sync, overwritten, IsTorn, CountsFailure};
+ghost use Rattle.std.specs.Prelude.{IsTrue, IsFalse};
+ghost use Rattle.site_disk.specs.Model.{DiskState, after_write, after_sync, overwritten, IsTorn};
+ghost use Rattle.site_disk.specs.Model.{CountsFailure};
 
 use std::alloc::AllocError;
 
@@ -44,7 +46,8 @@ pub trait Disk {
     /// Fills the slice or fails.
     fn read_at(&mut self, at: u64, buf: &mut [u8]) -> Result<(), DiskFailed>
         ensures state { (d : DiskState) → stands_for self.old d → stands_for self.new d }
-        ensures read { OnOk result ((d : DiskState) → stands_for self.old d → at + length buf.old ≤ length d.seen → buf.new ≡ take (length buf.old) (drop at d.seen)) }
+        ensures read { OnOk result ((d : DiskState) → stands_for self.old d
+            → at + length buf.old ≤ length d.seen → buf.new ≡ take (length buf.old) (drop at d.seen)) }
         ensures cause { CountsFailure result (failed self.old) (failed self.new) };
 
     /// Writes all of the bytes from a place on, or fails and may have written some. They are not synced yet.
@@ -52,12 +55,24 @@ pub trait Disk {
         ensures written { OnOk result ((d : DiskState) → stands_for self.old d → at ≤ length d.seen
             → stands_for self.new (after_write d at (length bytes.now) (overwritten d.seen at bytes.now))) }
         ensures torn { OnErr result ((d : DiskState) → stands_for self.old d → at ≤ length d.seen
-            → stands_for self.new d ⊎ ((seen : List ℕ) × IsTorn at (length bytes.now) d.seen seen × stands_for self.new (after_write d at (length bytes.now) seen))) }
+            → stands_for self.new d ⊎ ((seen : List ℕ) × IsTorn at (length bytes.now) d.seen seen
+            × stands_for self.new (after_write d at (length bytes.now) seen))) }
         ensures cause { CountsFailure result (failed self.old) (failed self.new) };
+
+    /// Writes as `write_at` does, to make the file longer before that is needed. Want of room is no failure of
+    /// the device: at `false` some of the bytes may have been written, and no failure is counted.
+    fn lengthen(&mut self, at: u64, bytes: &[u8]) -> bool
+        ensures written { IsTrue result → (d : DiskState) → stands_for self.old d → at ≤ length d.seen
+            → stands_for self.new (after_write d at (length bytes.now) (overwritten d.seen at bytes.now)) }
+        ensures torn { IsFalse result → (d : DiskState) → stands_for self.old d → at ≤ length d.seen
+            → stands_for self.new d ⊎ ((seen : List ℕ) × IsTorn at (length bytes.now) d.seen seen
+            × stands_for self.new (after_write d at (length bytes.now) seen)) }
+        ensures uncounted { failed self.new ≡ failed self.old };
 
     /// Puts all that was written on the disk to stay. A sync that fails counts as none.
     fn sync(&mut self) -> Result<(), DiskFailed>
-        ensures synced { OnOk result ((d : DiskState) → stands_for self.old d → stands_for self.new (after_sync d)) }
+        ensures synced { OnOk result ((d : DiskState) → stands_for self.old d
+            → stands_for self.new (after_sync d)) }
         ensures kept { OnErr result ((d : DiskState) → stands_for self.old d → stands_for self.new d) }
         ensures cause { CountsFailure result (failed self.old) (failed self.new) };
 }

@@ -1,7 +1,9 @@
 //! A disk of which one call fails.
 
-ghost use Rattle.std.specs.Prelude.{◌≡◌, ◌⊎◌, ◌↔◌, ◌+◌, ◌≤◌, List, ℕ, length, take, drop, None, Some, IfOk, OnOk, OnErr, IsTrue};
-ghost use Rattle.site_disk.specs.Model.{DiskState, after_write, after_sync, overwritten, IsTorn, CountsFailure};
+ghost use Rattle.std.specs.Prelude.{◌≡◌, ◌⊎◌, ◌↔◌, ◌+◌, ◌≤◌, List, ℕ, length, take, drop, None, Some, IfOk};
+ghost use Rattle.std.specs.Prelude.{OnOk, OnErr, IsTrue, IsFalse};
+ghost use Rattle.site_disk.specs.Model.{DiskState, after_write, after_sync, overwritten, IsTorn};
+ghost use Rattle.site_disk.specs.Model.{CountsFailure};
 ghost use Rattle.site_disk.specs.Once.{after_next};
 
 use crate::count::counted;
@@ -85,7 +87,8 @@ impl<D: Disk> Disk for FailOnce<D> {
 
     fn read_at(&mut self, at: u64, buf: &mut [u8]) -> Result<(), DiskFailed>
         ensures state { (d : DiskState) → D.stands_for self.old.disk d → D.stands_for self.new.disk d }
-        ensures read { OnOk result ((d : DiskState) → D.stands_for self.old.disk d → at + length buf.old ≤ length d.seen → buf.new ≡ take (length buf.old) (drop at d.seen)) }
+        ensures read { OnOk result ((d : DiskState) → D.stands_for self.old.disk d
+            → at + length buf.old ≤ length d.seen → buf.new ≡ take (length buf.old) (drop at d.seen)) }
         ensures cause { CountsFailure result self.old.failures self.new.failures }
         ensures once { IsOneCall D.failed self.old self.new result }
         ensures unread { self.old.left ≡ Some 0 → buf.new ≡ buf.old }
@@ -102,7 +105,9 @@ impl<D: Disk> Disk for FailOnce<D> {
         ensures written { OnOk result ((d : DiskState) → D.stands_for self.old.disk d → at ≤ length d.seen
             → D.stands_for self.new.disk (after_write d at (length bytes.now) (overwritten d.seen at bytes.now))) }
         ensures torn { OnErr result ((d : DiskState) → D.stands_for self.old.disk d → at ≤ length d.seen
-            → D.stands_for self.new.disk d ⊎ ((seen : List ℕ) × IsTorn at (length bytes.now) d.seen seen × D.stands_for self.new.disk (after_write d at (length bytes.now) seen))) }
+            → D.stands_for self.new.disk d
+            ⊎ ((seen : List ℕ) × IsTorn at (length bytes.now) d.seen seen
+            × D.stands_for self.new.disk (after_write d at (length bytes.now) seen))) }
         ensures cause { CountsFailure result self.old.failures self.new.failures }
         ensures once { IsOneCall D.failed self.old self.new result }
     {
@@ -114,9 +119,26 @@ impl<D: Disk> Disk for FailOnce<D> {
         counted(answer, &mut self.failures)
     }
 
+    fn lengthen(&mut self, at: u64, bytes: &[u8]) -> bool
+        ensures written { IsTrue result → (d : DiskState) → D.stands_for self.old.disk d → at ≤ length d.seen
+            → D.stands_for self.new.disk (after_write d at (length bytes.now) (overwritten d.seen at bytes.now)) }
+        ensures torn { IsFalse result → (d : DiskState) → D.stands_for self.old.disk d → at ≤ length d.seen
+            → D.stands_for self.new.disk d
+            ⊎ ((seen : List ℕ) × IsTorn at (length bytes.now) d.seen seen
+            × D.stands_for self.new.disk (after_write d at (length bytes.now) seen)) }
+        ensures uncounted { (self.new.failures ≡ self.old.failures)
+            × (D.failed self.new.disk ≡ D.failed self.old.disk) }
+        ensures left { self.new.left ≡ after_next self.old.left }
+        ensures due { self.old.left ≡ Some 0 → IsFalse result × (self.new.disk ≡ self.old.disk) }
+    {
+        !is_due(&mut self.left) && self.disk.lengthen(at, bytes)
+    }
+
     fn sync(&mut self) -> Result<(), DiskFailed>
-        ensures synced { OnOk result ((d : DiskState) → D.stands_for self.old.disk d → D.stands_for self.new.disk (after_sync d)) }
-        ensures kept { OnErr result ((d : DiskState) → D.stands_for self.old.disk d → D.stands_for self.new.disk d) }
+        ensures synced { OnOk result ((d : DiskState) → D.stands_for self.old.disk d
+            → D.stands_for self.new.disk (after_sync d)) }
+        ensures kept { OnErr result ((d : DiskState) → D.stands_for self.old.disk d
+            → D.stands_for self.new.disk d) }
         ensures cause { CountsFailure result self.old.failures self.new.failures }
         ensures once { IsOneCall D.failed self.old self.new result }
     {

@@ -83,7 +83,11 @@ impl Disk for FileDisk {
         self.failures.take(self.file.write_all_at(bytes, at))
     }
 
+    fn lengthen(&mut self, at: u64, bytes: &[u8]) -> bool {
+        self.file.write_all_at(bytes, at).is_ok()
+    }
+
     fn sync(&mut self) -> Result<(), DiskFailed> {
-        self.failures.take(self.file.sync_all())
+        self.failures.take(self.file.sync_data())
     }
 }

@@ -2,9 +2,12 @@
 //!
 //! `crash` does not allocate, as each write reserved room. The calls that passed are listed.
 
-ghost use Rattle.std.specs.Prelude.{◌≡◌, ◌≢◌, ◌↔◌, ◌⊎◌, ◌+◌, ◌-◌, ◌≤◌, ◌<◌, ◌^◌, ◌∷◌, ◌++◌, [], List, ℕ, length, take, drop, max, None, Some, OnOk, OnErr, IfOk, vec_capacity, slice_index, IsTrue};
+ghost use Rattle.std.specs.Prelude.{◌≡◌, ◌≢◌, ◌↔◌, ◌⊎◌, ◌+◌, ◌-◌, ◌≤◌, ◌<◌, ◌^◌, ◌∷◌, ◌++◌, [], List, ℕ};
+ghost use Rattle.std.specs.Prelude.{length, take, drop, max, None, Some, OnOk, OnErr, IfOk, vec_capacity};
+ghost use Rattle.std.specs.Prelude.{slice_index, IsTrue};
 ghost use Rattle.site_disk.specs.Memory.{after_one};
-ghost use Rattle.site_disk.specs.Model.{DiskState, after_write, after_sync, overwritten, at_rest, moment, MayLeave};
+ghost use Rattle.site_disk.specs.Model.{DiskState, after_write, after_sync, overwritten, at_rest, moment};
+ghost use Rattle.site_disk.specs.Model.{MayLeave};
 
 use crate::count::counted;
 use crate::crash::fill_unsynced;
@@ -130,10 +133,14 @@ impl MemDisk {
     /// Crashes, and comes up again unarmed. 0: what was written since the last sync is lost. 1: all of it is kept. Any
     /// other choice: the length is kept, and each byte in a range written since then becomes this one.
     pub fn crash(&mut self, choice: u8)
-        ensures left { (d : DiskState) → MemoryStandsFor self.old d → (left : List ℕ) × MayLeave (moment d) left × MemoryStandsFor self.new (at_rest left []) }
-        ensures lost { (d : DiskState) → MemoryStandsFor self.old d → choice ≡ 0 → MemoryStandsFor self.new (at_rest d.synced []) }
-        ensures kept { (d : DiskState) → MemoryStandsFor self.old d → choice ≡ 1 → MemoryStandsFor self.new (at_rest d.seen []) }
-        ensures filled { (d : DiskState) → MemoryStandsFor self.old d → 1 < choice → (left : List ℕ) × IsFilled choice d left × MemoryStandsFor self.new (at_rest left []) }
+        ensures left { (d : DiskState) → MemoryStandsFor self.old d → (left : List ℕ)
+            × MayLeave (moment d) left × MemoryStandsFor self.new (at_rest left []) }
+        ensures lost { (d : DiskState) → MemoryStandsFor self.old d → choice ≡ 0
+            → MemoryStandsFor self.new (at_rest d.synced []) }
+        ensures kept { (d : DiskState) → MemoryStandsFor self.old d → choice ≡ 1
+            → MemoryStandsFor self.new (at_rest d.seen []) }
+        ensures filled { (d : DiskState) → MemoryStandsFor self.old d → 1 < choice → (left : List ℕ)
+            × IsFilled choice d left × MemoryStandsFor self.new (at_rest left []) }
         ensures failed { self.new.failures ≡ self.old.failures }
         ensures disarmed { self.new.left ≡ None }
     {
@@ -154,7 +161,8 @@ impl MemDisk {
         ensures counts { self.new.left ≡ after_one self.old.left }
         ensures ok { OnOk result (self.new.calls.items ≡ self.old.calls.items ++ call ∷ []) }
         ensures err { OnErr result (self.new.calls.items ≡ self.old.calls.items) }
-        ensures same { (self.new.first ≡ self.old.first) × (self.new.kept ≡ self.old.kept) × (self.new.bytes ≡ self.old.bytes) × (self.new.failures ≡ self.old.failures) }
+        ensures same { (self.new.first ≡ self.old.first) × (self.new.kept ≡ self.old.kept)
+            × (self.new.bytes ≡ self.old.bytes) × (self.new.failures ≡ self.old.failures) }
     {
         if !lets_pass(&mut self.left) {
             return Err(DiskFailed);
@@ -188,8 +196,10 @@ impl MemDisk {
     }
 
     fn write(&mut self, at: usize, bytes: &[u8]) -> Result<(), DiskFailed>
-        ensures written { OnOk result ((d : DiskState) → MemoryStandsFor self.old d → MemoryStandsFor self.new (after_write d at (length bytes.now) (overwritten d.seen at bytes.now))) }
-        ensures refused { OnErr result ((d : DiskState) → MemoryStandsFor self.old d → MemoryStandsFor self.new d) }
+        ensures written { OnOk result ((d : DiskState) → MemoryStandsFor self.old d
+            → MemoryStandsFor self.new (after_write d at (length bytes.now) (overwritten d.seen at bytes.now))) }
+        ensures refused { OnErr result ((d : DiskState) → MemoryStandsFor self.old d
+            → MemoryStandsFor self.new d) }
         ensures failed { self.new.failures ≡ self.old.failures }
     {
         let size = at.saturating_add(bytes.len()).max(self.bytes.len());
@@ -206,8 +216,10 @@ impl MemDisk {
     }
 
     fn sync_all(&mut self) -> Result<(), DiskFailed>
-        ensures synced { OnOk result ((d : DiskState) → MemoryStandsFor self.old d → MemoryStandsFor self.new (after_sync d)) }
-        ensures refused { OnErr result ((d : DiskState) → MemoryStandsFor self.old d → MemoryStandsFor self.new d) }
+        ensures synced { OnOk result ((d : DiskState) → MemoryStandsFor self.old d
+            → MemoryStandsFor self.new (after_sync d)) }
+        ensures refused { OnErr result ((d : DiskState) → MemoryStandsFor self.old d
+            → MemoryStandsFor self.new d) }
         ensures failed { self.new.failures ≡ self.old.failures }
     {
         self.take_note(Call::Sync)?;
@@ -239,6 +251,10 @@ impl Disk for MemDisk {
 
     fn write_at(&mut self, at: u64, bytes: &[u8]) -> Result<(), DiskFailed> {
         counted(self.write(at as usize, bytes), &mut self.failures)
+    }
+
+    fn lengthen(&mut self, at: u64, bytes: &[u8]) -> bool {
+        self.write(at as usize, bytes).is_ok()
     }
 
     fn sync(&mut self) -> Result<(), DiskFailed> {

@@ -9,5 +9,6 @@ pub mod Closing
 pub mod Noting
 pub mod Batching
 pub mod Sealing
+pub mod Growth
 pub mod Posting
 pub mod Failing

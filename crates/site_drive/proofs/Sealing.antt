@@ -160,7 +160,7 @@ module _ {D : Type 0} (stands_for : D → DiskState → Type 0) where
       failed gave_up = record {
         loses = λ s stands.
             let r = from_begun (GivesUpWork last old.cluster old.me came fault.Device) gave_up s stands in
-            (r.0, inr (fault.Device, r.1), stopped_by mid r.0 r.2.parts (fails last old.cluster old.me came s r.0 r.1).stopped, λ d on. absurd (failed_ahead s r.0 d r.1 (r.3 d on)));
+            (r.0, inr (inl (fault.Device, r.1)), stopped_by mid r.0 r.2.parts (fails last old.cluster old.me came s r.0 r.1).stopped, λ d on. absurd (failed_ahead s r.0 d r.1 (r.3 d on)));
       }
 
       module _ (new : Running D) (stops : new.store.stopped ≡ true) (loses : LosesOneOf stands_for mid new.store.disk) where
@@ -190,4 +190,4 @@ module _ {D : Type 0} (stands_for : D → DiskState → Type 0) where
 
   pub has_given_up : (old new : Running D) (last : LastCall) (n p : ℕ) (came : List (List ℕ)) (why : NodeFault)
       → NodeLeads stands_for old new (GivesUpWork last n p came why) → NodeLeads stands_for old new (HasWorked last n p came)
-  has_given_up old new last n p came why h = record { leads = λ s stands. let r = h.leads s stands in (r.0, inr (why, r.1), r.2, r.3, r.4) }
+  has_given_up old new last n p came why h = record { leads = λ s stands. let r = h.leads s stands in (r.0, inr (inl (why, r.1)), r.2, r.3, r.4) }

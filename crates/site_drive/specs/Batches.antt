@@ -10,7 +10,8 @@ use Rattle.node.specs.declared.fault.NodeFault.TheVariants as fault
 use Rattle.node.specs.declared.node.Node.{Node as Running}
 use Rattle.node.specs.declared.to.To.{To}
 use Rattle.node.specs.Nodes.{Node, Stopped, IsKnownPrefix}
-use Rattle.node.specs.Standing.{IsNodeOf, IsOnDisk, IsEither, StaysOnDisk, CountsDevice, ending_by, disk_of, failures, HasStopped}
+use Rattle.node.specs.Standing.{IsNodeOf, IsOnDisk, IsEither, StaysOnDisk, CountsDevice, ending_by, disk_of}
+use Rattle.node.specs.Standing.{failures, HasStopped}
 use Rattle.site_drive.specs.declared.last_call.LastCall.{LastCall}
 use Rattle.site_drive.specs.Drives.{TakesAll, EndsLast, EndsTurns, BreaksOff}
 use Rattle.site_drive.specs.Leading.{AllFit, StaysWhose}
@@ -22,7 +23,8 @@ abbrev pub TakesEach : ℕ → ℕ → List (List ℕ) → ℕ → List (To × M
 TakesEach n p came malformed out s next = TakesAll n p s (map Some came) malformed out next
 
 -- these deliveries, and then the last call. What all of them hand out waits
-pub record Works (last : LastCall) (n p : ℕ) (came : List (List ℕ)) (malformed : ℕ) (out : List (To × Message)) (s next : Node) : Type 0 where
+pub record Works (last : LastCall) (n p : ℕ) (came : List (List ℕ)) (malformed : ℕ) (out : List (To
+    × Message)) (s next : Node) : Type 0 where
   pub mid : Node
   pub first : List (To × Message)
   pub then : List (To × Message)
@@ -44,7 +46,8 @@ pub record GivesUpTaking (n p : ℕ) (came : List (List ℕ)) (why : NodeFault) 
   pub breaks : BreaksOff n p mid bytes why next
 
 -- given up after all deliveries: the last call ended by this fault, which is not ignored
-pub record GivesUpCall (last : LastCall) (n p : ℕ) (came : List (List ℕ)) (why : NodeFault) (s next : Node) : Type 0 where
+pub record GivesUpCall (last : LastCall) (n p : ℕ) (came : List (List ℕ)) (why : NodeFault)
+    (s next : Node) : Type 0 where
   pub mid : Node
   pub malformed : ℕ
   pub first : List (To × Message)
@@ -54,24 +57,29 @@ pub record GivesUpCall (last : LastCall) (n p : ℕ) (came : List (List ℕ)) (w
   pub other : why ≢ fault.InstancesUsedUp
 
 abbrev pub GivesUpWork : LastCall → ℕ → ℕ → List (List ℕ) → NodeFault → Node → Node → Type 0
-GivesUpWork last n p came why s next = GivesUpTaking n p came why s next ⊎ GivesUpCall last n p came why s next
+GivesUpWork last n p came why s next = GivesUpTaking n p came why s next
+    ⊎ GivesUpCall last n p came why s next
 
--- the work of a batch, whole or given up
+-- the work of a batch, whole, or given up, or not begun
 abbrev pub HasWorked : LastCall → ℕ → ℕ → List (List ℕ) → Node → Node → Type 0
 HasWorked last n p came s next =
     ((malformed : ℕ) × (out : List (To × Message)) × Works last n p came malformed out s next)
     ⊎ ((why : NodeFault) × GivesUpWork last n p came why s next)
+    ⊎ (next ≡ s)
 
 -- ---- a batch that is sealed
 
 -- The node goes on in this way, and all that was put is on the disk. A crash at any moment leaves what was
 -- there before, or all of it
-pub record LeadsSealed {D : Type 0} (stands_for : D → DiskState → Type 0) (old new : Running D) (How : Node → Node → Type 0) : Type 0 where
-  pub leads : (s : Node) → IsNodeOf old s → (next : Node) × How s next × IsNodeOf new next × StaysOnDisk stands_for old new s next
+pub record LeadsSealed {D : Type 0} (stands_for : D → DiskState → Type 0) (old new : Running D) (How : Node
+    → Node → Type 0) : Type 0 where
+  pub leads : (s : Node) → IsNodeOf old s → (next : Node) × How s next × IsNodeOf new next
+      × StaysOnDisk stands_for old new s next
 
 -- a whole batch, after which all that is known without a gap is published. What it handed out may be given
 -- away
-pub record TakesBatch (last : LastCall) (n p : ℕ) (came : List (List ℕ)) (malformed : ℕ) (out : List (To × Message)) (fed : List (List ℕ)) (s next : Node) : Type 0 where
+pub record TakesBatch (last : LastCall) (n p : ℕ) (came : List (List ℕ)) (malformed : ℕ) (out : List (To
+    × Message)) (fed : List (List ℕ)) (s next : Node) : Type 0 where
   pub works : Works last n p came malformed out s next
   pub fed_is : IsKnownPrefix next fed
 
@@ -81,21 +89,26 @@ abbrev pub GivesUpBatch : LastCall → ℕ → ℕ → List (List ℕ) → NodeF
 GivesUpBatch last n p came why s next =
     ((why ≡ fault.Stopped) × (s.mode ≡ Stopped) × (next ≡ s))
     ⊎ GivesUpWork last n p came why s next
-    ⊎ ((why ≡ fault.OutOfMemory) × ((next ≡ s) ⊎ ((malformed : ℕ) × (out : List (To × Message)) × Works last n p came malformed out s next)))
+    ⊎ ((why ≡ fault.OutOfMemory) × ((next ≡ s)
+    ⊎ ((malformed : ℕ) × (out : List (To × Message)) × Works last n p came malformed out s next)))
 
 -- ---- a batch that is lost
 
 -- the disk keeps what was there before, with all that was put since or with none of it, whether it crashes or
 -- not. The same is so at any moment of the batch
-abbrev pub LeavesEither : {D : Type 0} → (D → DiskState → Type 0) → Running D → Running D → Node → Node → Type 0
+abbrev pub LeavesEither : {D : Type 0} → (D → DiskState → Type 0) → Running D → Running D → Node → Node
+    → Type 0
 LeavesEither stands_for old new s t = (d : DiskState) → IsOnDisk stands_for old s d
     → (e : DiskState) × stands_for (disk_of new) e × LeavesOnly d e (IsEither old.me old.cluster s t)
-    × ((batch : List Entry) × (t.entries ≡ s.entries ++ batch) × KeepsNoneOrAll old.me old.cluster s.entries batch e)
+    × ((batch : List Entry) × (t.entries ≡ s.entries ++ batch)
+    × KeepsNoneOrAll old.me old.cluster s.entries batch e)
 
 -- The device failed. The node is stopped, and only the next opening shows whether the result of its work is
 -- on the disk
-pub record LosesBatch {D : Type 0} (stands_for : D → DiskState → Type 0) (last : LastCall) (came : List (List ℕ)) (old new : Running D) : Type 0 where
-  pub loses : (s : Node) → IsNodeOf old s → (t : Node) × HasWorked last old.cluster old.me came s t × HasStopped new × LeavesEither stands_for old new s t
+pub record LosesBatch {D : Type 0} (stands_for : D → DiskState
+    → Type 0) (last : LastCall) (came : List (List ℕ)) (old new : Running D) : Type 0 where
+  pub loses : (s : Node) → IsNodeOf old s → (t : Node) × HasWorked last old.cluster old.me came s t
+      × HasStopped new × LeavesEither stands_for old new s t
 
 -- ---- how it ends
 
@@ -105,7 +118,9 @@ IsStop why = (why ≡ fault.Device) ⊎ (why ≡ fault.Stopped)
 
 -- The batch is whole, and what it handed out waits to be given away; or it is given up, and sealed; or it is
 -- lost. It stays the same node, and a failure of the device is reported
-pub record EndsBatch {D : Type 0} (stands_for : D → DiskState → Type 0) (device : D → ℕ) (last : LastCall) (came : List (List ℕ)) (out : List (To × Message)) (old new : Running D) (result : Result ℕ NodeFault) : Type 0 where
+pub record EndsBatch {D : Type 0} (stands_for : D → DiskState → Type 0) (device : D
+    → ℕ) (last : LastCall) (came : List (List ℕ)) (out : List (To
+    × Message)) (old new : Running D) (result : Result ℕ NodeFault) : Type 0 where
   pub ok : IfOk result (λ malformed. LeadsSealed stands_for old new (TakesBatch last old.cluster old.me came malformed out new.releases))
   pub fault : IfErr result (λ why. LeadsSealed stands_for old new (GivesUpBatch last old.cluster old.me came why)
       ⊎ (IsStop why × LosesBatch stands_for last came old new))

@@ -1,5 +1,6 @@
 -- What is noted of the messages that a drive or a batch delivered.
-use Rattle.std.specs.Prelude.{◌≡◌, ◌⊎◌, ℕ, ◌+◌, ◌-◌, ◌^◌, min, List, [], ◌∷◌, replicate, set, Bool, true, false, if◌then◌else◌, Option, Some, None}
+use Rattle.std.specs.Prelude.{◌≡◌, ◌⊎◌, ℕ, ◌+◌, ◌-◌, ◌^◌, min, List, [], ◌∷◌, replicate, set, Bool, true}
+use Rattle.std.specs.Prelude.{false, if◌then◌else◌, Option, Some, None}
 use Rattle.site_ids.specs.NodeSets.{no_nodes, with_node}
 use Rattle.wire.specs.Decoding.{Spells}
 use Rattle.wire.specs.Messages.{sender_of}
@@ -48,7 +49,8 @@ noted m d = record {
 
 -- what a datagram adds in a group of n: the message that it spells, if any, is noted
 abbrev pub IsNoted : ℕ → List ℕ → Delivered → Delivered → Type 0
-IsNoted n bytes old new = ((m : Message) × Spells n bytes m × (new ≡ noted m old)) ⊎ (((m : Message) → ¬ Spells n bytes m) × (new ≡ old))
+IsNoted n bytes old new = ((m : Message) × Spells n bytes m × (new ≡ noted m old))
+    ⊎ (((m : Message) → ¬ Spells n bytes m) × (new ≡ old))
 
 -- what datagrams add, one after another
 abbrev pub AreNoted : ℕ → List (List ℕ) → Delivered → Delivered → Type 0

@@ -1,6 +1,7 @@
 -- What a drive does with its node: turn after turn, and then a tick with widenings, or a question, or another
 -- call.
-use Rattle.std.specs.Prelude.{◌≡◌, ◌≢◌, ◌⊎◌, ℕ, zero, suc, ◌+◌, ◌<◌, ◌≤◌, Option, Some, None, List, [], ◌∷◌, ◌++◌, length, map, take, flat_map}
+use Rattle.std.specs.Prelude.{◌≡◌, ◌≢◌, ◌⊎◌, ℕ, zero, suc, ◌+◌, ◌<◌, ◌≤◌, Option, Some, None, List, [], ◌∷◌}
+use Rattle.std.specs.Prelude.{◌++◌, length, map, take, flat_map}
 use Rattle.site_ids.specs.Ids.{IsInstance}
 use Rattle.wire.specs.declared.message.Message.{Message}
 use Rattle.wire.specs.Decoding.{Spells}
@@ -14,7 +15,8 @@ use Rattle.node.specs.Calls.{tick, widen, ask, tell, deliver, keep, MayWiden}
 use Rattle.node.specs.Endings.{Ending, Whole, Refused, Ends}
 use Rattle.node.specs.Standing.{ending_by}
 use Rattle.site_drive.specs.declared.last_call.LastCall.{LastCall}
-use Rattle.site_drive.specs.declared.last_call.LastCall.TheVariants.{TickOrAsk, Widen, Ask, Tell, Keep, Nothing}
+use Rattle.site_drive.specs.declared.last_call.LastCall.TheVariants.{TickOrAsk, Widen, Ask, Tell, Keep}
+use Rattle.site_drive.specs.declared.last_call.LastCall.TheVariants.{Nothing}
 
 -- ---- turns
 
@@ -87,14 +89,16 @@ Begin n p (suc k) s out next =
     × Begin n p k s first mid × MayWiden mid × Ends n p mid widen Whole then next × (out ≡ first ++ then)
 
 -- such widenings, and then a last one, which ends in this way and hands out nothing
-pub record Widens (n p : ℕ) (s : Node) (ending : Ending) (out : List (To × Message)) (next : Node) : Type 0 where
+pub record Widens (n p : ℕ) (s : Node) (ending : Ending) (out : List (To × Message))
+    (next : Node) : Type 0 where
   pub count : ℕ
   pub mid : Node
   pub begin : Begin n p count s out mid
   pub last : Ends n p mid widen ending [] next
 
 -- a tick, and then widenings
-pub record TicksAndWidens (n p : ℕ) (s : Node) (ending : Ending) (out : List (To × Message)) (next : Node) : Type 0 where
+pub record TicksAndWidens (n p : ℕ) (s : Node) (ending : Ending) (out : List (To × Message))
+    (next : Node) : Type 0 where
   pub mid : Node
   pub ticked : List (To × Message)
   pub widened : List (To × Message)
@@ -106,13 +110,15 @@ pub record TicksAndWidens (n p : ℕ) (s : Node) (ending : Ending) (out : List (
 -- last of them ends in this way. If no tick is wanted, a question ends in this way
 abbrev pub TicksOrAsks : ℕ → ℕ → Node → Ending → List (To × Message) → Node → Type 0
 TicksOrAsks n p s ending out next =
-    (WantsTick s × (((ending ≢ Whole) × Ends n p s tick ending out next) ⊎ TicksAndWidens n p s ending out next))
+    (WantsTick s × (((ending ≢ Whole) × Ends n p s tick ending out next)
+    ⊎ TicksAndWidens n p s ending out next))
     ⊎ ((¬ WantsTick s) × Ends n p s ask ending out next)
 
 -- what is known at k instances from i on is kept, one instance after another
 abbrev pub KeepAll : ℕ → ℕ → ℕ → ℕ → Node → Node → Type 0
 KeepAll n p i zero s next = next ≡ s
-KeepAll n p i (suc k) s next = (mid : Node) × KeepAll n p i k s mid × Ends n p mid (keep (i + k)) Whole [] next
+KeepAll n p i (suc k) s next = (mid : Node) × KeepAll n p i k s mid
+    × Ends n p mid (keep (i + k)) Whole [] next
 
 -- the same for `count` instances, as far as there are instances; or it ends in this way at one of them
 pub record KeepsEach (n p i count : ℕ) (s : Node) (ending : Ending) (next : Node) : Type 0 where
@@ -135,7 +141,8 @@ EndsLast Nothing n p s ending out next = (ending ≡ Whole) × (out ≡ []) × (
 
 -- they are whole; or they are refused as every instance is known, which is ignored
 abbrev pub EndsTurns : LastCall → ℕ → ℕ → Node → List (To × Message) → Node → Type 0
-EndsTurns last n p s out next = EndsLast last n p s Whole out next ⊎ EndsLast last n p s (Refused InstancesUsedUp) out next
+EndsTurns last n p s out next = EndsLast last n p s Whole out next
+    ⊎ EndsLast last n p s (Refused InstancesUsedUp) out next
 
 -- what they hand out is given to the link
 pub record Closes (last : LastCall) (n p : ℕ) (before after : Scene) : Type 0 where
@@ -145,7 +152,8 @@ pub record Closes (last : LastCall) (n p : ℕ) (before after : Scene) : Type 0 
   pub given : after.given ≡ before.given ++ sent_of n out
 
 -- turns, and what comes after the last one
-pub record DrivesWith (last : LastCall) (n p turns malformed : ℕ) (fed : List (List ℕ)) (before after : Scene) : Type 0 where
+pub record DrivesWith (last : LastCall) (n p turns malformed : ℕ) (fed : List (List ℕ))
+    (before after : Scene) : Type 0 where
   pub mid : Scene
   pub turns_first : Exchanges n p turns malformed fed before mid
   pub then_closes : Closes last n p mid after
@@ -178,14 +186,18 @@ pub record GivesUp (n p turns : ℕ) (fault : NodeFault) (before after : Scene) 
   pub taken : TakesAll n p before.node heard malformed out mid
   pub given : IsPartlyGiven n out before after
   pub how :
-      ((bytes : List ℕ) × BreaksOff n p mid bytes fault after.node × (after.received ≡ before.received ++ datagrams (heard ++ Some bytes ∷ [])) × (suc (length heard) ≤ turns))
-      ⊎ ((fault ≡ OutOfMemory) × (after.node ≡ mid) × (after.received ≡ before.received ++ datagrams heard) × (length heard ≤ turns))
+      ((bytes : List ℕ) × BreaksOff n p mid bytes fault after.node
+      × (after.received ≡ before.received ++ datagrams (heard ++ Some bytes ∷ []))
+      × (suc (length heard) ≤ turns))
+      ⊎ ((fault ≡ OutOfMemory) × (after.node ≡ mid) × (after.received ≡ before.received ++ datagrams heard)
+      × (length heard ≤ turns))
 
 -- given up after the last turn: the last call ended by this fault, which is not ignored; or an allocation
 -- failed in sending what was handed out
 pub record GivesUpLast (last : LastCall) (n p : ℕ) (fault : NodeFault) (before after : Scene) : Type 0 where
   pub out : List (To × Message)
-  pub ends : EndsLast last n p before.node (ending_by fault) out after.node ⊎ ((fault ≡ OutOfMemory) × EndsTurns last n p before.node out after.node)
+  pub ends : EndsLast last n p before.node (ending_by fault) out after.node
+      ⊎ ((fault ≡ OutOfMemory) × EndsTurns last n p before.node out after.node)
   pub other : fault ≢ InstancesUsedUp
   pub received : after.received ≡ before.received
   pub given : IsPartlyGiven n out before after
@@ -194,7 +206,8 @@ pub record GivesUpLast (last : LastCall) (n p : ℕ) (fault : NodeFault) (before
 abbrev pub GivesUpDrivingWith : LastCall → ℕ → ℕ → ℕ → NodeFault → Scene → Scene → Type 0
 GivesUpDrivingWith last n p turns fault before after =
     GivesUp n p turns fault before after
-    ⊎ ((mid : Scene) × (malformed : ℕ) × (fed : List (List ℕ)) × Exchanges n p turns malformed fed before mid × GivesUpLast last n p fault mid after)
+    ⊎ ((mid : Scene) × (malformed : ℕ) × (fed : List (List ℕ)) × Exchanges n p turns malformed fed before mid
+    × GivesUpLast last n p fault mid after)
 
 abbrev pub GivesUpDriving : ℕ → ℕ → ℕ → NodeFault → Scene → Scene → Type 0
 GivesUpDriving = GivesUpDrivingWith TickOrAsk

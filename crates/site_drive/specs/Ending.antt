@@ -11,7 +11,8 @@ use Rattle.site_drive.specs.Links.{RoseBy}
 
 -- the link's calls: there were as many receives as turns, or fewer if the drive is given up. The drive
 -- reports as many failed calls as the link counts
-pub record CallsLink {L : Type 0} (tried failed : L → ℕ) (turns : ℕ) (before after : L) (result : Result Driven NodeFault) : Type 0 where
+pub record CallsLink {L : Type 0} (tried failed : L → ℕ) (turns : ℕ) (before after : L)
+    (result : Result Driven NodeFault) : Type 0 where
   pub receives : OnOk result (RoseBy turns (tried before) (tried after))
   pub fewer : OnErr result ((made : ℕ) × (made ≤ turns) × RoseBy made (tried before) (tried after))
   pub told : IfOk result (λ driven. RoseBy driven.failed (failed before) (failed after))
@@ -19,8 +20,10 @@ pub record CallsLink {L : Type 0} (tried failed : L → ℕ) (turns : ℕ) (befo
 
 -- a whole drive leads on in the one way, and one that is given up in the other. It stays the same node. A
 -- failure of the device is reported, and no other failure was counted
-pub record EndsDrive {D L : Type 0} (stands_for : D → DiskState → Type 0) (device : D → ℕ) (received : L → List (List ℕ) → Type 0) (given : L → List (ℕ × List ℕ) → Type 0) (tried failed : L → ℕ)
-    (turns : ℕ) (old new : Running D) (before after : L) (result : Result Driven NodeFault) (IsWhole : Driven → Scene → Scene → Type 0) (GivesUp : NodeFault → Scene → Scene → Type 0) : Type 0 where
+pub record EndsDrive {D L : Type 0} (stands_for : D → DiskState → Type 0) (device : D → ℕ)
+    (received : L → List (List ℕ) → Type 0) (given : L → List (ℕ × List ℕ) → Type 0) (tried failed : L → ℕ)
+    (turns : ℕ) (old new : Running D) (before after : L) (result : Result Driven NodeFault) (IsWhole : Driven
+    → Scene → Scene → Type 0) (GivesUp : NodeFault → Scene → Scene → Type 0) : Type 0 where
   pub ok : IfOk result (λ driven. LeadsTo stands_for received given old new before after (IsWhole driven))
   pub fault : IfErr result (λ why. LeadsTo stands_for received given old new before after (GivesUp why))
   pub whose : StaysWhose old new

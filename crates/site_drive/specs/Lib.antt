@@ -5,5 +5,6 @@ pub mod Drives
 pub mod Leading
 pub mod Ending
 pub mod Batches
+pub mod Growing
 pub mod Posting
 pub mod Delivering

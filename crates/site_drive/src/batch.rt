@@ -3,12 +3,15 @@
 //!
 //! A batch that isn't begun is given up: some bytes are missing, which ends a server anywhere.
 
-ghost use Rattle.std.specs.Prelude.{◌≡◌, ◌≤◌, [], length, IfOk, IfErr, OnOk, OnErr};
-ghost use Rattle.node.specs.Standing.{KeepsOthers, CountsDevice, failures};
+ghost use Rattle.std.specs.Prelude.{◌≡◌, ◌⊎◌, ◌≤◌, [], Bool, true, length, IfOk, IfErr, IsErrOf, OnOk, OnErr};
+ghost use Rattle.node.specs.Standing.{IsNodeOf, StaysOnDisk, KeepsOthers, CountsDevice, failures};
 ghost use Rattle.site_drive.specs.Delivering.{AreNoted, none_noted};
 ghost use Rattle.site_drive.specs.Batches.{TakesEach, Works, GivesUpTaking, GivesUpWork, EndsBatch};
 ghost use Rattle.site_drive.specs.Leading.{AllFit, NodeLeads};
 ghost use Rattle.site_drive.specs.Posting.{bytes_of};
+ghost use Rattle.site_drive.specs.Growing.{IsDue};
+ghost use Rattle.node.specs.Growing.{GrowsAt, LosesNothing};
+ghost use Rattle.node.specs.Nodes.{Node as AbstractNode};
 
 use crate::LastCall;
 use crate::delivered::Delivered;
@@ -94,8 +97,51 @@ impl Desk {
         Ok(malformed)
     }
 
+    /// Has the node's file grow ahead, if that is due. Want of room is no fault.
+    fn make_room<D: Disk>(&mut self, node: &mut Node<D>, idle: bool) -> Result<(), NodeFault>
+        ensures grown { OnOk result (IsDue self.old.ahead node.old.store.recorded.gate idle
+            → (there : Bool) × GrowsAt D.stands_for node.old node.new self.old.ahead.size there) }
+        ensures not_due { (¬ IsDue self.old.ahead node.old.store.recorded.gate idle) → node.new ≡ node.old }
+        ensures same { OnOk result ((s : AbstractNode) → IsNodeOf node.old s → IsNodeOf node.new s) }
+        ensures stays { OnOk result ((s : AbstractNode) → IsNodeOf node.old s
+            → StaysOnDisk D.stands_for node.old node.new s s) }
+        ensures lost { IsErrOf result NodeFault.Device
+            → LosesNothing D.stands_for node.old node.new.store.disk × (node.new.store.stopped ≡ true) }
+        ensures refused { IsErrOf result NodeFault.Stopped
+            → (node.new ≡ node.old) × (node.old.store.stopped ≡ true) }
+        ensures others { OnErr result (IsErrOf result NodeFault.Stopped ⊎ IsErrOf result NodeFault.Device) }
+        ensures keeps { KeepsOthers node.old node.new }
+        ensures counts { CountsDevice result (failures D.failed node.old) (failures D.failed node.new) }
+        ensures desk { self.new ≡ record self.old { ahead = self.new.ahead } }
+    {
+        let bytes = node.record_bytes();
+        if !self.ahead.is_due(bytes, idle) {
+            return Ok(());
+        }
+        self.ahead = self.ahead.after(bytes);
+        node.grow(self.ahead.size)?;
+        Ok(())
+    }
+
+    /// The batch, after room for it.
+    fn take_with_room<D: Disk>(
+        &mut self,
+        node: &mut Node<D>,
+        came: &[Vec<u8>],
+        last: LastCall,
+    ) -> Result<usize, NodeFault>
+        requires { self.old.outbox.items ≡ [] }
+        ensures ends { EndsBatch D.stands_for D.failed last (bytes_of came.now) self.new.outbox.items node.old node.new result }
+        ensures few { IfOk result (λ malformed. malformed ≤ length came.now) }
+        ensures noted { OnOk result (AreNoted node.old.cluster (bytes_of came.now) self.old.delivered self.new.delivered) }
+    {
+        self.make_room(node, came.is_empty())?;
+        self.take_sealed(node, came, last)
+    }
+
     /// One batch: delivers what came, in order, and makes the last call. What that puts on record is written
-    /// to the disk by two writes and two syncs, or by none if nothing was put. Then the node publishes. What
+    /// to the disk by two writes and two syncs, or by none if nothing was put. Before that the record's file grows
+    /// ahead, if the desk was told so and it is due (`Room`). Then the node publishes. What
     /// the node hands out waits for `post`. Returns how many datagrams spell no message: they are ignored, as
     /// losses.
     ///
@@ -115,7 +161,7 @@ impl Desk {
     {
         self.outbox.clear();
         self.delivered = Delivered::none();
-        match self.take_sealed(node, came, last) {
+        match self.take_with_room(node, came, last) {
             Ok(malformed) => Ok(malformed),
             Err(fault) => {
                 self.outbox.clear();

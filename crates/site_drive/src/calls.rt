@@ -84,7 +84,9 @@ impl Desk {
         node: &mut Node<D>,
         last: LastCall,
     ) -> Result<(), NodeFault>
-        ensures ok { OnOk result (NodeLeads D.stands_for node.old node.new (λ s next. (out : List (To × Message)) × (self.new.outbox.items ≡ self.old.outbox.items ++ out) × EndsTurns last node.old.cluster node.old.me s out next × AllFit out)) }
+        ensures ok { OnOk result (NodeLeads D.stands_for node.old node.new (λ s next. (out : List (To
+            × Message)) × (self.new.outbox.items ≡ self.old.outbox.items ++ out)
+            × EndsTurns last node.old.cluster node.old.me s out next × AllFit out)) }
         ensures fault { IfErr result (λ fault. NodeLeads D.stands_for node.old node.new (λ s next. (out : List (To × Message)) × EndsLast last node.old.cluster node.old.me s (ending_by fault) out next)) }
         ensures other { IfErr result (λ fault. fault ≢ NodeFault.InstancesUsedUp) }
         ensures others { KeepsOthers node.old node.new }

@@ -6,6 +6,7 @@ ghost use Rattle.std.specs.Prelude.{◌≡◌, ◌+◌, [], length, IfOk};
 ghost use Rattle.wire.specs.declared.TheConstants.{MAX_MESSAGE};
 
 use crate::delivered::Delivered;
+use crate::room::Room;
 use node::Outbox;
 use std::alloc::{AllocError, Global};
 use wire::MAX_MESSAGE;
@@ -23,13 +24,16 @@ pub struct Desk {
     pub(crate) failed: u64,
     /// What this drive delivered.
     pub(crate) delivered: Delivered,
+    /// When the file of its node's record grows ahead.
+    pub(crate) ahead: Room,
     ghost room: { length datagram.items ≡ MAX_MESSAGE + 1 },
 }
 
 impl Desk {
-    /// An empty desk, whose memory is allocated here.
+    /// An empty desk, whose memory is allocated here. By its batches no file grows ahead.
     pub fn new(alloc: Global) -> Result<Desk, AllocError>
-        ensures { IfOk result (λ desk. (desk.outbox.items ≡ []) × (desk.failed ≡ 0)) }
+        ensures empty { IfOk result (λ desk. (desk.outbox.items ≡ []) × (desk.failed ≡ 0)) }
+        ensures ahead { IfOk result (λ desk. desk.ahead ≡ record { size = 0; next = 0 }) }
     {
         let mut datagram = Vec::new(alloc);
         datagram.resize(MAX_MESSAGE + 1, 0)?;
@@ -40,7 +44,16 @@ impl Desk {
             outbox: Vec::new(alloc),
             failed: 0,
             delivered: Delivered::none(),
+            ahead: Room::none(),
         })
+    }
+
+    /// The same desk, by whose batches a record's file gets this many bytes of room ahead.
+    pub fn with_room(mut self, size: u64) -> Desk
+        ensures { result ≡ record self { ahead = record { size = size; next = 0 } } }
+    {
+        self.ahead = Room { size, next: 0 };
+        self
     }
 
     /// What the last drive delivered.

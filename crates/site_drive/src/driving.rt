@@ -4,7 +4,8 @@ ghost use Rattle.std.specs.Prelude.{◌≡◌, ◌≤◌, [], ℕ, IfOk, IfErr, 
 ghost use Rattle.node.specs.Standing.{CountsDevice, failures};
 ghost use Rattle.site_drive.specs.Links.{RoseBy};
 ghost use Rattle.site_drive.specs.Sending.{Counted};
-ghost use Rattle.site_drive.specs.Drives.{Exchanges, GivesUp, DrivesWith, GivesUpDrivingWith, Drives, GivesUpDriving};
+ghost use Rattle.site_drive.specs.Drives.{Exchanges, GivesUp, DrivesWith, GivesUpDrivingWith, Drives};
+ghost use Rattle.site_drive.specs.Drives.{GivesUpDriving};
 ghost use Rattle.site_drive.specs.Ending.{EndsDrive};
 ghost use Rattle.site_drive.specs.Leading.{LeadsTo, StaysWhose};
 
@@ -29,7 +30,8 @@ impl Desk {
         ensures empty { OnOk result (self.new.outbox.items ≡ []) }
         ensures whose { StaysWhose node.old node.new }
         ensures tried { OnOk result (RoseBy turns (L.tried link.old) (L.tried link.new)) }
-        ensures tried_fewer { OnErr result ((made : ℕ) × (made ≤ turns) × RoseBy made (L.tried link.old) (L.tried link.new)) }
+        ensures tried_fewer { OnErr result ((made : ℕ) × (made ≤ turns)
+            × RoseBy made (L.tried link.old) (L.tried link.new)) }
         ensures counted { Counted self.old.failed self.new.failed (L.failed link.old) (L.failed link.new) }
         ensures counts { CountsDevice result (failures D.failed node.old) (failures D.failed node.new) }
     {

@@ -35,7 +35,8 @@ fn put(
     to: To,
     message: &Message,
 ) -> Result<(), AllocError>
-    ensures ok { OnOk result (Fits message.now → letters_of letters.new.items ≡ letters_of letters.old.items ++ (to, spelled message.now) ∷ []) }
+    ensures ok { OnOk result (Fits message.now
+        → letters_of letters.new.items ≡ letters_of letters.old.items ++ (to, spelled message.now) ∷ []) }
     ensures refused { OnErr result (letters_of letters.new.items ≡ letters_of letters.old.items) }
 {
     if message.fits() {
@@ -48,8 +49,10 @@ impl Desk {
     /// Puts what waits after these letters, in order: one letter for each message, whether it is for one node
     /// or for all.
     pub fn post(&self, letters: &mut Vec<Letter>) -> Result<(), AllocError>
-        ensures ok { OnOk result (AllFit self.now.outbox.items → letters_of letters.new.items ≡ letters_of letters.old.items ++ spelled_of self.now.outbox.items) }
-        ensures refused { OnErr result (AllFit self.now.outbox.items → (k : ℕ) × (letters_of letters.new.items ≡ letters_of letters.old.items ++ take k (spelled_of self.now.outbox.items))) }
+        ensures ok { OnOk result (AllFit self.now.outbox.items
+            → letters_of letters.new.items ≡ letters_of letters.old.items ++ spelled_of self.now.outbox.items) }
+        ensures refused { OnErr result (AllFit self.now.outbox.items → (k : ℕ)
+            × (letters_of letters.new.items ≡ letters_of letters.old.items ++ take k (spelled_of self.now.outbox.items))) }
     {
         for (to, message) in self.outbox.as_slice() {
             put(self.alloc, letters, *to, message)?;

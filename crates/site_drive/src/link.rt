@@ -3,7 +3,8 @@
 //! A failed receive is a turn without a datagram. A failed send is ignored, and so is a message that fits no
 //! datagram: nodes hand out none.
 
-ghost use Rattle.std.specs.Prelude.{◌≡◌, ◌≤◌, ◌++◌, ◌∷◌, [], ℕ, List, length, take, IfOk, IfSome, IfNone, OnOk, OnErr};
+ghost use Rattle.std.specs.Prelude.{◌≡◌, ◌≤◌, ◌++◌, ◌∷◌, [], ℕ, List, length, take, IfOk, IfSome, IfNone};
+ghost use Rattle.std.specs.Prelude.{OnOk, OnErr};
 ghost use Rattle.site_drive.specs.Links.{RoseBy};
 
 use site_ids::NodeId;
@@ -28,8 +29,10 @@ pub trait Link {
     /// `None` if no datagram is there.
     fn receive(&mut self, buf: &mut [u8]) -> Result<Option<usize>, LinkFailed>
         ensures bound { IfOk result (λ r. IfSome r (λ n. n ≤ length buf.new)) }
-        ensures heard { IfOk result (λ r. IfSome r (λ n. (ds : List (List ℕ)) → received self.old ds → (d : List ℕ) × received self.new (ds ++ d ∷ []) × (take n buf.new ≡ take (length buf.new) d))) }
-        ensures none { IfOk result (λ r. IfNone r ((ds : List (List ℕ)) → received self.old ds → received self.new ds)) }
+        ensures heard { IfOk result (λ r. IfSome r (λ n. (ds : List (List ℕ)) → received self.old ds
+            → (d : List ℕ) × received self.new (ds ++ d ∷ []) × (take n buf.new ≡ take (length buf.new) d))) }
+        ensures none { IfOk result (λ r. IfNone r ((ds : List (List ℕ)) → received self.old ds
+            → received self.new ds)) }
         ensures lost { OnErr result ((ds : List (List ℕ)) → received self.old ds → received self.new ds) }
         ensures given { (gs : List (ℕ × List ℕ)) → given self.old gs → given self.new gs }
         ensures tried { RoseBy 1 (tried self.old) (tried self.new) }
@@ -39,7 +42,8 @@ pub trait Link {
     /// Sends a datagram to a node.
     fn send(&mut self, to: NodeId, datagram: &[u8]) -> Result<(), LinkFailed>
         ensures received { (ds : List (List ℕ)) → received self.old ds → received self.new ds }
-        ensures given { (gs : List (ℕ × List ℕ)) → given self.old gs → given self.new (gs ++ (to, datagram.now) ∷ []) }
+        ensures given { (gs : List (ℕ × List ℕ)) → given self.old gs
+            → given self.new (gs ++ (to, datagram.now) ∷ []) }
         ensures tried { tried self.new ≡ tried self.old }
         ensures failed { OnErr result (RoseBy 1 (failed self.old) (failed self.new)) }
         ensures fine { OnOk result (failed self.new ≡ failed self.old) };

@@ -28,7 +28,9 @@ impl MemLink {
     pub fn push(&mut self, datagram: &[u8]) -> Result<(), AllocError>
         ensures queued { OnOk result (waiting_of self.new ≡ waiting_of self.old ++ datagram.now ∷ []) }
         ensures refused { OnErr result (waiting_of self.new ≡ waiting_of self.old) }
-        ensures same { (received_of self.new ≡ received_of self.old) × (self.new.sent ≡ self.old.sent) × (self.new.lost ≡ self.old.lost) × (self.new.tries ≡ self.old.tries) × (self.new.failures ≡ self.old.failures) }
+        ensures same { (received_of self.new ≡ received_of self.old) × (self.new.sent ≡ self.old.sent)
+            × (self.new.lost ≡ self.old.lost) × (self.new.tries ≡ self.old.tries)
+            × (self.new.failures ≡ self.old.failures) }
     {
         let datagram = Vec::from_slice(self.alloc, datagram)?;
         self.queue.push(datagram)?;
@@ -45,7 +47,9 @@ impl MemLink {
     // Keeps what was given to send.
     fn keep(&mut self, to: NodeId, datagram: &[u8]) -> Result<(), AllocError>
         ensures kept { OnOk result (kept_of self.new ≡ kept_of self.old ++ (to, datagram.now) ∷ []) }
-        ensures others { (self.new.queue ≡ self.old.queue) × (self.new.taken ≡ self.old.taken) × (self.new.lost ≡ self.old.lost) × (self.new.tries ≡ self.old.tries) × (self.new.failures ≡ self.old.failures) }
+        ensures others { (self.new.queue ≡ self.old.queue) × (self.new.taken ≡ self.old.taken)
+            × (self.new.lost ≡ self.old.lost) × (self.new.tries ≡ self.old.tries)
+            × (self.new.failures ≡ self.old.failures) }
     {
         let datagram = Vec::from_slice(self.alloc, datagram)?;
         self.sent.push((to, datagram))?;

@@ -19,7 +19,8 @@ use wire::{Message, encode};
 // Sends one datagram. A failure is counted, and otherwise ignored.
 fn send_to<L: Link>(link: &mut L, to: NodeId, datagram: &[u8], failed: &mut u64)
     ensures received { (ds : List (List ℕ)) → L.received link.old ds → L.received link.new ds }
-    ensures given { (gs : List (ℕ × List ℕ)) → L.given link.old gs → L.given link.new (gs ++ (to, datagram.now) ∷ []) }
+    ensures given { (gs : List (ℕ × List ℕ)) → L.given link.old gs
+        → L.given link.new (gs ++ (to, datagram.now) ∷ []) }
     ensures tried { L.tried link.new ≡ L.tried link.old }
     ensures counted { Counted failed.old failed.new (L.failed link.old) (L.failed link.new) }
 {
@@ -32,7 +33,8 @@ fn send_to<L: Link>(link: &mut L, to: NodeId, datagram: &[u8], failed: &mut u64)
 // Sends one datagram to each node in order.
 fn send_to_all<L: Link>(link: &mut L, cluster: Cluster, datagram: &[u8], failed: &mut u64)
     ensures received { (ds : List (List ℕ)) → L.received link.old ds → L.received link.new ds }
-    ensures given { (gs : List (ℕ × List ℕ)) → L.given link.old gs → L.given link.new (gs ++ map (λ p. (p, datagram.now)) (up_to cluster)) }
+    ensures given { (gs : List (ℕ × List ℕ)) → L.given link.old gs
+        → L.given link.new (gs ++ map (λ p. (p, datagram.now)) (up_to cluster)) }
     ensures tried { L.tried link.new ≡ L.tried link.old }
     ensures counted { Counted failed.old failed.new (L.failed link.old) (L.failed link.new) }
 {
@@ -57,7 +59,8 @@ fn send_message<L: Link>(
     failed: &mut u64,
 ) -> Result<(), AllocError>
     ensures received { (ds : List (List ℕ)) → L.received link.old ds → L.received link.new ds }
-    ensures given { OnOk result (Fits message.now → (gs : List (ℕ × List ℕ)) → L.given link.old gs → L.given link.new (gs ++ addressed cluster (to, message.now))) }
+    ensures given { OnOk result (Fits message.now → (gs : List (ℕ × List ℕ)) → L.given link.old gs
+        → L.given link.new (gs ++ addressed cluster (to, message.now))) }
     ensures refused { OnErr result ((gs : List (ℕ × List ℕ)) → L.given link.old gs → L.given link.new gs) }
     ensures tried { L.tried link.new ≡ L.tried link.old }
     ensures counted { Counted failed.old failed.new (L.failed link.old) (L.failed link.new) }
@@ -83,8 +86,12 @@ pub(crate) fn send_all<L: Link>(
     failed: &mut u64,
 ) -> Result<(), AllocError>
     ensures received { (ds : List (List ℕ)) → L.received link.old ds → L.received link.new ds }
-    ensures given { OnOk result (((x : To × Message) → In outbox.now.items x → Fits x.1) → (gs : List (ℕ × List ℕ)) → L.given link.old gs → L.given link.new (gs ++ sent_of cluster outbox.now.items)) }
-    ensures refused { OnErr result (((x : To × Message) → In outbox.now.items x → Fits x.1) → (gs : List (ℕ × List ℕ)) → L.given link.old gs → (k : ℕ) × L.given link.new (gs ++ take k (sent_of cluster outbox.now.items))) }
+    ensures given { OnOk result (((x : To × Message) → In outbox.now.items x → Fits x.1)
+        → (gs : List (ℕ × List ℕ)) → L.given link.old gs
+        → L.given link.new (gs ++ sent_of cluster outbox.now.items)) }
+    ensures refused { OnErr result (((x : To × Message) → In outbox.now.items x → Fits x.1)
+        → (gs : List (ℕ × List ℕ)) → L.given link.old gs → (k : ℕ)
+        × L.given link.new (gs ++ take k (sent_of cluster outbox.now.items))) }
     ensures tried { L.tried link.new ≡ L.tried link.old }
     ensures counted { Counted failed.old failed.new (L.failed link.old) (L.failed link.new) }
 {

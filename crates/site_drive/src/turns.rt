@@ -1,6 +1,7 @@
 //! Turns: what is received is delivered, the node publishes, and what it hands out is sent.
 
-ghost use Rattle.std.specs.Prelude.{◌≡◌, ◌≤◌, ◌++◌, ◌∷◌, [], ℕ, List, length, take, Some, IfOk, IfErr, IfSome, OnOk};
+ghost use Rattle.std.specs.Prelude.{◌≡◌, ◌≤◌, ◌++◌, ◌∷◌, [], ℕ, List, length, take, Some, IfOk, IfErr};
+ghost use Rattle.std.specs.Prelude.{IfSome, OnOk};
 ghost use Rattle.wire.specs.declared.message.Message.{Message};
 ghost use Rattle.node.specs.Nodes.{Node as AbstractNode};
 ghost use Rattle.node.specs.declared.to.To.{To};
@@ -53,7 +54,8 @@ impl Desk {
     /// Receives once, and returns how many bytes came. A failure is counted, and then nothing came.
     pub(crate) fn hear<L: Link>(&mut self, link: &mut L) -> Option<usize>
         ensures bound { IfSome result (λ n. n ≤ length self.new.datagram.items) }
-        ensures heard { (ds : List (List ℕ)) → L.received link.old ds → (h : Heard) × L.received link.new (ds ++ datagrams (h ∷ [])) × IsHeldAs result self.new.datagram.items h }
+        ensures heard { (ds : List (List ℕ)) → L.received link.old ds → (h : Heard)
+            × L.received link.new (ds ++ datagrams (h ∷ [])) × IsHeldAs result self.new.datagram.items h }
         ensures given { (gs : List (ℕ × List ℕ)) → L.given link.old gs → L.given link.new gs }
         ensures tried { RoseBy 1 (L.tried link.old) (L.tried link.new) }
         ensures counted { Counted self.old.failed self.new.failed (L.failed link.old) (L.failed link.new) }
@@ -77,8 +79,10 @@ impl Desk {
     ) -> Result<u32, NodeFault>
         requires { IfSome came (λ n. n ≤ length self.old.datagram.items) }
         ensures one { IfOk result (λ malformed. malformed ≤ 1) }
-        ensures taken { IfOk result (λ malformed. (h : Heard) → IsHeldAs came self.old.datagram.items h → NodeLeads D.stands_for node.old node.new (TakesIn node.old.cluster node.old.me h malformed self.old.outbox.items self.new.outbox.items)) }
-        ensures broken { IfErr result (λ fault. (h : Heard) → IsHeldAs came self.old.datagram.items h → NodeLeads D.stands_for node.old node.new (λ s next.
+        ensures taken { IfOk result (λ malformed. (h : Heard) → IsHeldAs came self.old.datagram.items h
+            → NodeLeads D.stands_for node.old node.new (TakesIn node.old.cluster node.old.me h malformed self.old.outbox.items self.new.outbox.items)) }
+        ensures broken { IfErr result (λ fault. (h : Heard) → IsHeldAs came self.old.datagram.items h
+            → NodeLeads D.stands_for node.old node.new (λ s next.
             (d : List ℕ) × (h ≡ Some d) × BreaksOff node.old.cluster node.old.me s d fault next)) }
         ensures others { KeepsOthers node.old node.new }
         ensures counted { self.new.failed ≡ self.old.failed }

@@ -52,12 +52,13 @@ work_off last n p came why s next (inl h) = taking_off n p came why s next h
 work_off last n p came why s next (inr h) =
     (h.first ++ h.then, then_called n p came h.first h.then s h.mid next (each_called n p came h.malformed h.first s h.mid h.takes) (last_called last n p h.mid next (ending_by why) h.then h.ends))
 
-pub work_is_calls : WorkIsCalls
-work_is_calls last n p came s next (inl h) = (h.1, works_called last n p came h.0 h.1 s next h.2)
-work_is_calls last n p came s next (inr h) = work_off last n p came h.0 s next h.1
-
 nothing_done : (n p : ℕ) (came : List (List ℕ)) (s next : Node) → next ≡ s → SomeCalls n p came s next
 nothing_done n p came s next same = subst (λ (t : Node). SomeCalls n p came s t) (sym same) ([], among n p [] came [] s s (none_called n p s))
+
+pub work_is_calls : WorkIsCalls
+work_is_calls last n p came s next (inl h) = (h.1, works_called last n p came h.0 h.1 s next h.2)
+work_is_calls last n p came s next (inr (inl h)) = work_off last n p came h.0 s next h.1
+work_is_calls last n p came s next (inr (inr same)) = nothing_done n p came s next same
 
 pub given_up_is_calls : GivenUpIsCalls
 given_up_is_calls last n p came why s next (inl h) = nothing_done n p came s next h.2

@@ -27,6 +27,11 @@ pub fn writes(disk: &mut impl Disk, at: u64, bytes: &[u8]) -> bool {
     disk.write_at(at, bytes).is_ok()
 }
 
+/// Whether the file got these bytes from a place on, to be longer.
+pub fn lengthens(disk: &mut impl Disk, at: u64, bytes: &[u8]) -> bool {
+    disk.lengthen(at, bytes)
+}
+
 /// Whether a sync passed.
 pub fn syncs(disk: &mut impl Disk) -> bool {
     disk.sync().is_ok()

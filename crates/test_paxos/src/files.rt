@@ -1,6 +1,6 @@
 //! A record on a real file. `tools/audit/trace-put` shows the system's calls of these tests.
 use crate::comparing::{ensure, same};
-use crate::disks::{reads, syncs, writes};
+use crate::disks::{lengthens, reads, syncs, writes};
 use crate::samples::{ballot, instance};
 use crate::stored::{ONE_ROUND, ends, one_of_three, opened, put_round, put_vote_for};
 use durable::Record;
@@ -16,6 +16,11 @@ const FOLDER: &str = "paxos_suite_files";
 const FILE: &str = "paxos_suite_files/record";
 
 const BATCH_FILE: &str = "paxos_suite_batch";
+
+const LONG_FILE: &str = "paxos_suite_long";
+
+/// An empty record of node 2 of three, which has grown by ten bytes.
+const LONG: [u8; 21] = *b"SITEREC1\x02\x03\x00\x00\x00\x00\x00\x00\x00\x00\x00\x00\x00";
 
 /// What the system says of a write to a file that is open for reading.
 const EBADF: i32 = 9;
@@ -53,9 +58,12 @@ fn check_disk(rt: &impl Abort, mut disk: FileDisk) {
     drop(disk);
 }
 
-/// A disk whose file is open for reading alone refuses each write, and keeps why.
+/// A disk whose file is open for reading alone refuses each write, and keeps why. It gets no longer, which is no
+/// failure.
 fn check_read_only(rt: &impl Abort, file: File) {
     let mut disk = FileDisk::new(file);
+    ensure(rt, !lengthens(&mut disk, 21, b"x"), 21);
+    has_failed(rt, &disk, 0, None);
     ensure(rt, !writes(&mut disk, 0, b"x"), 0);
     let error = disk.last_failure().expect(rt, "an error");
     same(rt, error.raw_os_error(), Some(EBADF));
@@ -169,4 +177,24 @@ fn a_real_file_keeps_a_batch(rt: HostRuntime) {
     keep_votes(&rt, rt.alloc(), new_batch_file(&rt));
     find_votes(&rt, rt.alloc(), made_anew(&rt, BATCH_FILE));
     fs::remove_file(&rt, BATCH_FILE).expect(&rt, "no file");
+}
+
+/// The reader finds zeros behind an empty record that grew, and then a round in their place.
+fn grow(rt: &impl Abort, alloc: Global, file: File, reader: &File) {
+    let mut record = made(rt, alloc, file);
+    same(rt, record.grow(11), Ok(true));
+    has_bytes(rt, reader, LONG);
+    ends(rt, put_round(&mut record, 1), Ok(()));
+    has_bytes(rt, reader, ONE_ROUND);
+    same(rt, length_of(rt, reader), 21);
+    drop(record);
+}
+
+#[test]
+fn a_real_file_grows(rt: HostRuntime) {
+    let _ = fs::remove_file(&rt, LONG_FILE);
+    let file = made_anew(&rt, LONG_FILE);
+    let reader = open(&rt, LONG_FILE);
+    grow(&rt, rt.alloc(), file, &reader);
+    fs::remove_file(&rt, LONG_FILE).expect(&rt, "no file");
 }

@@ -24,6 +24,8 @@ mod files;
 #[cfg(test)]
 mod floors;
 #[cfg(test)]
+mod growing;
+#[cfg(test)]
 mod learned;
 #[cfg(test)]
 mod listed;

@@ -115,7 +115,11 @@ fn what_is_told_again_may_be_on_its_way(rt: HostRuntime) {
         same(&rt, late, anew);
         // So long it took, where it asks further on.
         let further = soon.heard(times(), 1250, instance(&rt, 300));
-        same(&rt, (further.since, further.back, further.took), (1250, false, 250));
+        same(
+            &rt,
+            (further.since, further.back, further.took),
+            (1250, false, 250),
+        );
         same(&rt, (further.repeats, further.next), (0, 300));
     }
 }

@@ -21,6 +21,8 @@ mod floors;
 #[cfg(test)]
 mod group;
 #[cfg(test)]
+mod growing;
+#[cfg(test)]
 mod keeping;
 #[cfg(test)]
 mod last_questions;

@@ -15,4 +15,5 @@ FollowsOn = (old mid new : Code) → Follows old mid → Follows mid new → Fol
 -- two answers for a release and a path are one page, whichever nodes gave them, at one moment or at two
 abbrev pub AnswersAreOne : Type 0
 AnswersAreOne = (old new : Code) (events : List Event) → Reached old events → Follows old new
-    → (earlier later : List Event) (n : ℕ) (path : List ℕ) (page other : Page) → IsAnswer old earlier n path page → IsAnswer new later n path other → page ≡ other
+    → (earlier later : List Event) (n : ℕ) (path : List ℕ) (page other : Page)
+    → IsAnswer old earlier n path page → IsAnswer new later n path other → page ≡ other

@@ -8,4 +8,5 @@ use Rattle.world.specs.declared.bid.Bid.{Bid}
 abbrev pub IsHigher : Bid → ℕ → Option BallotOf → Bid → Type 0
 IsHigher bid q promised after =
     (IsFreeAt promised bid.ballot × (after ≡ bid))
-    ⊎ ((b : BallotOf) × (promised ≡ Some b) × Below bid.ballot b × (after ≡ record { ballot = b; node = Some q }))
+    ⊎ ((b : BallotOf) × (promised ≡ Some b) × Below bid.ballot b
+    × (after ≡ record { ballot = b; node = Some q }))

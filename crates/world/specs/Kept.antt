@@ -36,8 +36,10 @@ pub record KeptIsShown : Type 0 where
   pub on_record : (w.node 3).entries ≡ Learned 1 (v 1) ∷ Learned 2 (v 2) ∷ Learned 3 (v 3) ∷ []
   pub after : World
   pub starts : TakesAll 3 w (starts_again 6) after
-  pub known_2 : ((after.node 2).known 1 ≡ Some (v 1)) × ((after.node 2).known 2 ≡ Some (v 2)) × ((after.node 2).known 3 ≡ Some (v 3))
-  pub known_3 : ((after.node 3).known 1 ≡ Some (v 1)) × ((after.node 3).known 2 ≡ Some (v 2)) × ((after.node 3).known 3 ≡ Some (v 3))
+  pub known_2 : ((after.node 2).known 1 ≡ Some (v 1)) × ((after.node 2).known 2 ≡ Some (v 2))
+      × ((after.node 2).known 3 ≡ Some (v 3))
+  pub known_3 : ((after.node 3).known 1 ≡ Some (v 1)) × ((after.node 3).known 2 ≡ Some (v 2))
+      × ((after.node 3).known 3 ≡ Some (v 3))
 
 -- If node 3 kept nothing, neither of the two knows anything, though they are a majority, and node 2 has its
 -- votes
@@ -45,11 +47,14 @@ pub record UnkeptIsLost : Type 0 where
   pub v : ℕ → Value
   pub w : World
   pub takes : TakesAll 3 start (catches_up false v) w
-  pub knew : ((w.node 3).known 1 ≡ Some (v 1)) × ((w.node 3).known 2 ≡ Some (v 2)) × ((w.node 3).known 3 ≡ Some (v 3))
+  pub knew : ((w.node 3).known 1 ≡ Some (v 1)) × ((w.node 3).known 2 ≡ Some (v 2))
+      × ((w.node 3).known 3 ≡ Some (v 3))
   pub after : World
   pub starts : TakesAll 3 w (starts_again 3) after
-  pub unknown_2 : ((after.node 2).known 1 ≡ None) × ((after.node 2).known 2 ≡ None) × ((after.node 2).known 3 ≡ None)
-  pub unknown_3 : ((after.node 3).known 1 ≡ None) × ((after.node 3).known 2 ≡ None) × ((after.node 3).known 3 ≡ None)
+  pub unknown_2 : ((after.node 2).known 1 ≡ None) × ((after.node 2).known 2 ≡ None)
+      × ((after.node 2).known 3 ≡ None)
+  pub unknown_3 : ((after.node 3).known 1 ≡ None) × ((after.node 3).known 2 ≡ None)
+      × ((after.node 3).known 3 ≡ None)
 
 -- ---- a vote after a learned value
 

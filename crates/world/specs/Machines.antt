@@ -13,7 +13,8 @@ use Rattle.node.specs.Calls.{Call, submit, tick, widen, ask, tell, deliver, keep
 use Rattle.node.specs.declared.fault.NodeFault.TheVariants.{OutOfMemory}
 use Rattle.node.specs.Endings.{Ending, Refuses, Ends}
 use Rattle.world.specs.declared.event.Event.{Event}
-use Rattle.world.specs.declared.event.Event.TheVariants.{Submit, Tick, Widen, Ask, Tell, Deliver, Arm, Crash, Restart, Replace, Keep}
+use Rattle.world.specs.declared.event.Event.TheVariants.{Submit, Tick, Widen, Ask, Tell, Deliver, Arm, Crash}
+use Rattle.world.specs.declared.event.Event.TheVariants.{Restart, Replace, Keep}
 use Rattle.world.specs.declared.machine.Machine.{Machine}
 use Rattle.world.specs.Taking.{IsTaken, node_of}
 use Rattle.world.specs.Standing.{IsMachineOf, HasPublished}
@@ -30,7 +31,8 @@ AtNode n p s call out next =
 
 -- node p of n, in this mode over its record, which has the entry in flight or not
 abbrev pub Settled : Mode → Node → Handed → Node → Type 0
-Settled mode s out next = (entries : List Entry) × Settles s.entries s.in_flight entries × (out ≡ []) × (next ≡ opened mode entries None)
+Settled mode s out next = (entries : List Entry) × Settles s.entries s.in_flight entries × (out ≡ [])
+    × (next ≡ opened mode entries None)
 
 -- what the event does at its node, p of n. Whether a floor is allowed is asked of the world
 abbrev pub NodeTakes : ℕ → ℕ → List Message → Node → Event → Handed → Node → Type 0
@@ -39,15 +41,18 @@ NodeTakes n p sent s (Tick q) out next = AtNode n p s tick out next
 NodeTakes n p sent s (Widen q) out next = AtNode n p s widen out next
 NodeTakes n p sent s (Ask q) out next = AtNode n p s ask out next
 NodeTakes n p sent s (Tell q i) out next = AtNode n p s (tell All i) out next
-NodeTakes n p sent s (Deliver q index) out next = (message : Message) × (slice_get sent index ≡ Some message) × AtNode n p s (deliver message) out next
-NodeTakes n p sent s (Arm q calls) out next = (out ≡ []) × (((s.mode ≢ Down) × (next ≡ record s { armed = true })) ⊎ ((s.mode ≡ Down) × (next ≡ s)))
+NodeTakes n p sent s (Deliver q index) out next = (message : Message) × (slice_get sent index ≡ Some message)
+    × AtNode n p s (deliver message) out next
+NodeTakes n p sent s (Arm q calls) out next = (out ≡ [])
+    × (((s.mode ≢ Down) × (next ≡ record s { armed = true })) ⊎ ((s.mode ≡ Down) × (next ≡ s)))
 NodeTakes n p sent s (Crash q choice) out next = Settled Down s out next
 NodeTakes n p sent s (Restart q) out next = Settled Up s out next
 NodeTakes n p sent s (Replace q floor) out next = (out ≡ []) × (next ≡ opened Down (Floor floor ∷ []) None)
 NodeTakes n p sent s (Keep q i) out next = AtNode n p s (keep i) out next
 
 -- the machine stands for the node afterwards, and what is handed out is added at the end of the list
-pub record Turned (n p : ℕ) (Does : Node → Handed → Node → Type 0) (new : Machine) (before after : Handed) (s : Node) : Type 0 where
+pub record Turned (n p : ℕ) (Does : Node → Handed → Node → Type 0) (new : Machine) (before after : Handed)
+    (s : Node) : Type 0 where
   pub next : Node
   pub out : Handed
   pub does : Does s out next
@@ -56,12 +61,14 @@ pub record Turned (n p : ℕ) (Does : Node → Handed → Node → Type 0) (new 
   pub messages : (m : Message) → In (messages_of out) m → IsMessage n m
 
 -- and it does so from each node that the machine stands for
-pub record Turns (n p : ℕ) (Does : Node → Handed → Node → Type 0) (old new : Machine) (before after : Handed) : Type 0 where
+pub record Turns (n p : ℕ) (Does : Node → Handed → Node → Type 0) (old new : Machine)
+    (before after : Handed) : Type 0 where
   pub leads : (s : Node) → IsMachineOf n p old s → Turned n p Does new before after s
 
 -- an allocation failed, at a node where it may fail, and nothing happens. What was published stays published
 pub record Wants (n p : ℕ) (May : Node → Type 0) (old new : Machine) (before after : Handed) : Type 0 where
-  pub leads : (s : Node) → IsMachineOf n p old s → May s × IsMachineOf n p new s × (after ≡ before) × (HasPublished old s → HasPublished new s)
+  pub leads : (s : Node) → IsMachineOf n p old s → May s × IsMachineOf n p new s × (after ≡ before)
+      × (HasPublished old s → HasPublished new s)
 
 -- the opening is refused: the node is down, with its disk as it was
 pub record RefusesOpening (n p : ℕ) (old new : Machine) : Type 0 where
@@ -99,4 +106,5 @@ AreMessages n sent = (m : Message) → In (messages_of sent) m → IsMessage n m
 
 -- the event is taken at its node, except for the publication after it
 abbrev pub EventTurns : ℕ → Event → Machine → Machine → Handed → Handed → Type 0
-EventTurns n event old new before after = AreMessages n before → Turns n (node_of event) (λ s out next. NodeTakes n (node_of event) (messages_of before) s event out next) old new before after
+EventTurns n event old new before after = AreMessages n before
+    → Turns n (node_of event) (λ s out next. NodeTakes n (node_of event) (messages_of before) s event out next) old new before after

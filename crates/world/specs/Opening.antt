@@ -20,9 +20,11 @@ HasDisk (Bare disk) d = MemoryStandsFor disk d
 -- only a failed device or a failed allocation is a cause to refuse to open, as node p of n, what the disk
 -- shows
 abbrev pub OpensUnlessWanting : ℕ → ℕ → DiskState → Type 0
-OpensUnlessWanting n p d = (why : RecordFault) → IsRefusal why p n d.seen → (why ≡ Device) ⊎ (why ≡ OutOfMemory)
+OpensUnlessWanting n p d = (why : RecordFault) → IsRefusal why p n d.seen → (why ≡ Device)
+    ⊎ (why ≡ OutOfMemory)
 
 -- this holds at each node of a world, wherever a run has led, even if the run ended at a restart
 abbrev pub RecordsOpen : Type 0
-RecordsOpen = (code : Code) (w : World) → IsWorldOf code w → (k : ℕ) (machine : Machine) → slice_get code.machines.items k ≡ Some machine
+RecordsOpen = (code : Code) (w : World) → IsWorldOf code w → (k : ℕ) (machine : Machine)
+    → slice_get code.machines.items k ≡ Some machine
     → (d : DiskState) × HasDisk machine d × OpensUnlessWanting code.cluster (suc k) d

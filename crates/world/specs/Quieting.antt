@@ -21,21 +21,26 @@ pub record Learns (n : ℕ) (w : World) (p : ℕ) (after : World) : Type 0 where
   pub unknown : IsFirstUnknown (w.node p).known instance
   pub value : Value
   pub known : (after.node p).known instance ≡ Some value
-  pub own : ((q : ℕ) → IsNode n q → last_vote instance (w.node q).entries ≡ None) → value ≡ oldest (w.node p).pending
+  pub own : ((q : ℕ) → IsNode n q → last_vote instance (w.node q).entries ≡ None)
+      → value ≡ oldest (w.node p).pending
 
 -- a plan is short
 abbrev pub PlansAreShort : Type 0
-PlansAreShort = (n p : ℕ) (w : World) (events : List Event) → IsNode n p → IsPlan n w p events → IsShort n events
+PlansAreShort = (n p : ℕ) (w : World) (events : List Event) → IsNode n p → IsPlan n w p events
+    → IsShort n events
 
 -- if the plan is taken and all nodes still run after it, so that no device failed, the node has learned
 abbrev pub QuietDecides : Type 0
-QuietDecides = (n p : ℕ) (past events : List Event) (w after : World) → Runs n start past w → IsNode n p → IsQuiet n w p → IsPlan n w p events
+QuietDecides = (n p : ℕ) (past events : List Event) (w after : World) → Runs n start past w → IsNode n p
+    → IsQuiet n w p → IsPlan n w p events
     → TakesAll n w events after → AllRun n after → Learns n w p after
 
 -- as long as all nodes run, none of the plan's events is a bad one
 abbrev pub PlansAreGood : Type 0
-PlansAreGood = (n p k : ℕ) (past events : List Event) (w after : World) (event : Event) → Runs n start past w → IsNode n p → IsQuiet n w p → IsPlan n w p events
-    → TakesAll n w (take k events) after → AllRun n after → slice_get events k ≡ Some event → ¬ IsBad n after event
+PlansAreGood = (n p k : ℕ) (past events : List Event) (w after : World) (event : Event) → Runs n start past w
+    → IsNode n p → IsQuiet n w p → IsPlan n w p events
+    → TakesAll n w (take k events) after → AllRun n after → slice_get events k ≡ Some event
+    → ¬ IsBad n after event
 
 -- ---- calls
 
@@ -62,4 +67,5 @@ LearnsBy n w p new (Err (BadEvent k)) = ⊥
 -- a run over a plan, after which all nodes still run, so that no device failed in it
 abbrev pub QuietRunsLearn : Type 0
 QuietRunsLearn = (old new : Code) (past events : List Event) (reached : Reached old past) (p : ℕ) (result : Result (Unit {0}) WorldFault) → IsNode old.cluster p → new.cluster ≡ old.cluster
-    → IsQuiet old.cluster reached.world p → IsPlan old.cluster reached.world p events → RunEnds old new events result → AreUp old.cluster new → LearnsBy old.cluster reached.world p new result
+    → IsQuiet old.cluster reached.world p → IsPlan old.cluster reached.world p events
+    → RunEnds old new events result → AreUp old.cluster new → LearnsBy old.cluster reached.world p new result

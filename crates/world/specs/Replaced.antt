@@ -7,7 +7,8 @@ use Rattle.wire.specs.declared.message.Message.TheVariants as say
 use Rattle.durable.specs.Entries.{Promised, Voted, Floor, Learned}
 use Rattle.node.specs.Nodes.{Value}
 use Rattle.world.specs.declared.event.Event.{Event}
-use Rattle.world.specs.declared.event.Event.TheVariants.{Submit, Tick, Widen, Tell, Deliver, Restart, Replace, Keep}
+use Rattle.world.specs.declared.event.Event.TheVariants.{Submit, Tick, Widen, Tell, Deliver, Restart, Replace}
+use Rattle.world.specs.declared.event.Event.TheVariants.{Keep}
 use Rattle.world.specs.Worlds.{World, start}
 use Rattle.world.specs.Taking.{TakesAll}
 use Rattle.world.specs.Decided.{Decides}

@@ -45,13 +45,15 @@ HasPublished (Bare disk) s = ⊤
 -- Each machine is that of its node, the first one of node 1. The messages are those handed out, and each of
 -- them is a message of the cluster's nodes
 pub record IsWorldOf (code : Code) (w : World) : Type 0 where
-  pub machines : (k : ℕ) (machine : Machine) → slice_get code.machines.items k ≡ Some machine → IsMachineOf code.cluster (suc k) machine (w.node (suc k))
+  pub machines : (k : ℕ) (machine : Machine) → slice_get code.machines.items k ≡ Some machine
+      → IsMachineOf code.cluster (suc k) machine (w.node (suc k))
   pub sent : w.sent ≡ messages_of code.sent.items
   pub messages : (m : Message) → In w.sent m → IsMessage code.cluster m
 
 -- the node has published all that it knows without a gap, unless it is down
 abbrev pub IsPublishedAt : Code → World → ℕ → Type 0
-IsPublishedAt code w p = (k : ℕ) (machine : Machine) → p ≡ suc k → slice_get code.machines.items k ≡ Some machine → HasPublished machine (w.node p)
+IsPublishedAt code w p = (k : ℕ) (machine : Machine) → p ≡ suc k
+    → slice_get code.machines.items k ≡ Some machine → HasPublished machine (w.node p)
 
 -- the node is not down, and has not published all of that
 pub record IsUnpublishedAt (code : Code) (w : World) (p : ℕ) : Type 0 where

@@ -73,12 +73,16 @@ all_of (k ∷ ks) = k + all_of ks
 -- After the rounds each of the nodes knows each of the rounds' instances that was held. This needs nothing
 -- else: no tick, and no other node
 abbrev pub TogetherShows : Type 0
-TogetherShows = (n first : ℕ) (nodes counts : List ℕ) (past : List Event) (w after : World) → Runs n start past w → ((p : ℕ) → In nodes p → (w.node p).mode ≡ Up)
-    → AreRounds n nodes first counts w after → (p i : ℕ) → In nodes p → IsInSpan first (all_of counts) i → IsHeld n nodes w i → IsKnown (after.node p) i
+TogetherShows = (n first : ℕ) (nodes counts : List ℕ) (past : List Event) (w after : World)
+    → Runs n start past w → ((p : ℕ) → In nodes p → (w.node p).mode ≡ Up)
+    → AreRounds n nodes first counts w after → (p i : ℕ) → In nodes p → IsInSpan first (all_of counts) i
+    → IsHeld n nodes w i → IsKnown (after.node p) i
 
 -- at each moment of a schedule nodes of the cluster that run can do such a round
 abbrev pub RoundIsTaken : Type 0
-RoundIsTaken = (n first : ℕ) (nodes : List ℕ) (past : List Event) (w : World) → Runs n start past w → ((p : ℕ) → In nodes p → IsNode n p × ((w.node p).mode ≡ Up)) → (after : World) × IsRound n nodes first w after
+RoundIsTaken = (n first : ℕ) (nodes : List ℕ) (past : List Event) (w : World) → Runs n start past w
+    → ((p : ℕ) → In nodes p → IsNode n p × ((w.node p).mode ≡ Up)) → (after : World)
+    × IsRound n nodes first w after
 
 abbrev pub bytes_in : List Message → ℕ
 bytes_in [] = 0
@@ -87,4 +91,5 @@ bytes_in (m ∷ ms) = length (value_in m) + bytes_in ms
 -- A telling includes what is to be reported of k instances, if k is 64 at most and their values have 65,536
 -- bytes at most: these k are a round
 abbrev pub TellingReaches : Type 0
-TellingReaches = (p : ℕ) (s : Node) (first k : ℕ) → k ≤ MAX_TOLD → bytes_in (tellings p s k first) ≤ MAX_TOLD_BYTES → (j : ℕ) → IsInSpan first k j → IsReached p s first j
+TellingReaches = (p : ℕ) (s : Node) (first k : ℕ) → k ≤ MAX_TOLD
+    → bytes_in (tellings p s k first) ≤ MAX_TOLD_BYTES → (j : ℕ) → IsInSpan first k j → IsReached p s first j

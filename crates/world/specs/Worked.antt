@@ -6,7 +6,8 @@ use Rattle.wire.specs.declared.message.Message.{Message}
 use Rattle.wire.specs.declared.message.Message.TheVariants as say
 use Rattle.node.specs.Nodes.{Value}
 use Rattle.world.specs.declared.event.Event.{Event}
-use Rattle.world.specs.declared.event.Event.TheVariants.{Submit, Tick, Widen, Ask, Deliver, Arm, Crash, Restart}
+use Rattle.world.specs.declared.event.Event.TheVariants.{Submit, Tick, Widen, Ask, Deliver, Arm, Crash}
+use Rattle.world.specs.declared.event.Event.TheVariants.{Restart}
 use Rattle.world.specs.Worlds.{World, start}
 use Rattle.world.specs.Taking.{TakesAll}
 use Rattle.durable.specs.Entries.{PromisedSpan, Voted}

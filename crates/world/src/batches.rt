@@ -1,4 +1,6 @@
-ghost use Rattle.world.specs.Batches.{CallsAreEvents, SaysItself, OthersComeFirst, SealedIsARun, CrashIsARun, OpeningIsARun, BatchesAgree, CallsGoOn, LeftBefore, LeftSealed, LeftFailed, OpenedOver, SomeBatchIsTaken};
+ghost use Rattle.world.specs.Batches.{CallsAreEvents, SaysItself, OthersComeFirst, SealedIsARun, CrashIsARun};
+ghost use Rattle.world.specs.Batches.{OpeningIsARun, BatchesAgree, CallsGoOn, LeftBefore, LeftSealed};
+ghost use Rattle.world.specs.Batches.{LeftFailed, OpenedOver, SomeBatchIsTaken};
 
 use site_disk::Disk;
 

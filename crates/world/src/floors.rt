@@ -23,7 +23,8 @@ impl World {
 
     /// Whether the event names a floor that is allowed, or names none.
     pub(crate) fn names_floor(&self, event: &Event) -> bool
-        ensures { (w : AbstractWorld) → IsWorldOf self.now w → IsTrue result ↔ NamesFloor self.now.cluster w event.now }
+        ensures { (w : AbstractWorld) → IsWorldOf self.now w → IsTrue result
+            ↔ NamesFloor self.now.cluster w event.now }
     {
         match event {
             Event::Replace { floor, .. } => self.is_floor(*floor),
@@ -34,7 +35,8 @@ impl World {
     /// Whether a majority of the nodes answer, and the floor is 64 or more above what the record of each of
     /// them reaches.
     pub fn is_floor(&self, floor: Instance) -> bool
-        ensures { (w : AbstractWorld) → IsWorldOf self.now w → IsTrue result ↔ IsFloor self.now.cluster w floor }
+        ensures { (w : AbstractWorld) → IsWorldOf self.now w → IsTrue result
+            ↔ IsFloor self.now.cluster w floor }
     {
         let at = floor.number();
         let mut below = 0;

@@ -1,6 +1,7 @@
 //! One node of a world: running, stopped or down.
 
-ghost use Rattle.std.specs.Prelude.{◌≡◌, ◌≢◌, ◌+◌, ◌<◌, ◌≤◌, ◌⊎◌, ◌↔◌, ℕ, max, List, [], ◌∷◌, Some, None, IsTrue, length, slice_get, IfOk, IfErr, OnOk, OnErr, MatchOption};
+ghost use Rattle.std.specs.Prelude.{◌≡◌, ◌≢◌, ◌+◌, ◌<◌, ◌≤◌, ◌⊎◌, ◌↔◌, ℕ, max, List, [], ◌∷◌, Some, None};
+ghost use Rattle.std.specs.Prelude.{IsTrue, length, slice_get, IfOk, IfErr, OnOk, OnErr, MatchOption};
 ghost use Rattle.proposer.specs.declared.TheConstants.{MAX_ATTEMPTS as WINDOW};
 
 use crate::Event;
@@ -32,7 +33,9 @@ impl Machine {
     ghost use Rattle.wire.specs.Messages.{IsMessage};
     ghost use Rattle.node.specs.Nodes.{Node as AbstractNode, Up, Down, opened, IsFirstUnknown, IsMute};
     ghost use Rattle.node.specs.Effects.{messages_of};
-    ghost use Rattle.node.specs.Calls.{submit as submission, tick as ticking, widen as widening, ask as asking, tell as telling, keep as keeping, deliver as delivery, fresh_ballot, HasRound, AreOpenElsewhere};
+    ghost use Rattle.node.specs.Calls.{submit as submission, tick as ticking, widen as widening};
+    ghost use Rattle.node.specs.Calls.{ask as asking, tell as telling, keep as keeping, deliver as delivery};
+    ghost use Rattle.node.specs.Calls.{fresh_ballot, HasRound, AreOpenElsewhere};
     ghost use Rattle.proposer.specs.Attempts.{Attempt};
     ghost use Rattle.node.specs.Standing.{OnlyGrows};
     ghost use Rattle.site_ids.specs.Ids.{IsNode};
@@ -42,7 +45,8 @@ impl Machine {
     ghost use Rattle.acceptor.specs.declared.slot.Slot.{Slot};
     ghost use Rattle.durable.specs.Entries.{IsSlot, Floor, last_round, reach_of};
     ghost use Rattle.world.specs.Taking.{node_of, IsUnsent};
-    ghost use Rattle.world.specs.Machines.{EventTurns, EventWants, Turns, Wants, IsUp, RefusesOpening, CallTurns, CallWants, NodeTakes, Settled};
+    ghost use Rattle.world.specs.Machines.{EventTurns, EventWants, Turns, Wants, IsUp, RefusesOpening};
+    ghost use Rattle.world.specs.Machines.{CallTurns, CallWants, NodeTakes, Settled};
 
     /// A node opened over an empty record.
     pub(crate) fn fresh(alloc: Global, cluster: Cluster, me: NodeId) -> Result<Machine, AllocError>
@@ -61,7 +65,8 @@ impl Machine {
 
     pub(crate) fn submit(&mut self, value: &Value) -> Result<(), AllocError>
         ensures ok { OnOk result ((n p : ℕ) → CallTurns n p (submission value.now) self.old self.new [] []) }
-        ensures err { OnErr result ((n p : ℕ) → CallWants n p (submission value.now) self.old self.new [] []) }
+        ensures err { OnErr result ((n p : ℕ)
+            → CallWants n p (submission value.now) self.old self.new [] []) }
     {
         match self {
             Machine::Bare(_) => Ok(()),
@@ -70,8 +75,10 @@ impl Machine {
     }
 
     pub(crate) fn tick(&mut self, sent: &mut Outbox) -> Result<(), AllocError>
-        ensures ok { OnOk result ((n p : ℕ) → CallTurns n p ticking self.old self.new sent.old.items sent.new.items) }
-        ensures err { OnErr result ((n p : ℕ) → CallWants n p ticking self.old self.new sent.old.items sent.new.items) }
+        ensures ok { OnOk result ((n p : ℕ)
+            → CallTurns n p ticking self.old self.new sent.old.items sent.new.items) }
+        ensures err { OnErr result ((n p : ℕ)
+            → CallWants n p ticking self.old self.new sent.old.items sent.new.items) }
         ensures grows { OnlyGrows sent.old.items sent.new.items }
     {
         match self {
@@ -81,8 +88,10 @@ impl Machine {
     }
 
     pub(crate) fn widen(&mut self, sent: &mut Outbox) -> Result<(), AllocError>
-        ensures ok { OnOk result ((n p : ℕ) → CallTurns n p widening self.old self.new sent.old.items sent.new.items) }
-        ensures err { OnErr result ((n p : ℕ) → CallWants n p widening self.old self.new sent.old.items sent.new.items) }
+        ensures ok { OnOk result ((n p : ℕ)
+            → CallTurns n p widening self.old self.new sent.old.items sent.new.items) }
+        ensures err { OnErr result ((n p : ℕ)
+            → CallWants n p widening self.old self.new sent.old.items sent.new.items) }
         ensures grows { OnlyGrows sent.old.items sent.new.items }
     {
         match self {
@@ -92,8 +101,10 @@ impl Machine {
     }
 
     pub(crate) fn ask(&mut self, sent: &mut Outbox) -> Result<(), AllocError>
-        ensures ok { OnOk result ((n p : ℕ) → CallTurns n p asking self.old self.new sent.old.items sent.new.items) }
-        ensures err { OnErr result ((n p : ℕ) → CallWants n p asking self.old self.new sent.old.items sent.new.items) }
+        ensures ok { OnOk result ((n p : ℕ)
+            → CallTurns n p asking self.old self.new sent.old.items sent.new.items) }
+        ensures err { OnErr result ((n p : ℕ)
+            → CallWants n p asking self.old self.new sent.old.items sent.new.items) }
         ensures grows { OnlyGrows sent.old.items sent.new.items }
     {
         match self {
@@ -103,8 +114,10 @@ impl Machine {
     }
 
     pub(crate) fn tell(&mut self, first: Instance, sent: &mut Outbox) -> Result<(), AllocError>
-        ensures ok { OnOk result ((n p : ℕ) → CallTurns n p (telling To.All first) self.old self.new sent.old.items sent.new.items) }
-        ensures err { OnErr result ((n p : ℕ) → CallWants n p (telling To.All first) self.old self.new sent.old.items sent.new.items) }
+        ensures ok { OnOk result ((n p : ℕ)
+            → CallTurns n p (telling To.All first) self.old self.new sent.old.items sent.new.items) }
+        ensures err { OnErr result ((n p : ℕ)
+            → CallWants n p (telling To.All first) self.old self.new sent.old.items sent.new.items) }
         ensures grows { OnlyGrows sent.old.items sent.new.items }
     {
         match self {
@@ -126,9 +139,12 @@ impl Machine {
     /// Delivers a message that was handed out. One that is not of the cluster's nodes is ignored.
     pub(crate) fn deliver(&mut self, index: usize, sent: &mut Outbox) -> Result<(), AllocError>
         requires { index < length sent.old.items }
-        ensures ok { OnOk result ((message : AbstractMessage) → slice_get (messages_of sent.old.items) index ≡ Some message
-            → (n p : ℕ) → IsMessage n message → CallTurns n p (delivery message) self.old self.new sent.old.items sent.new.items) }
-        ensures err { OnErr result ((n p : ℕ) → Wants n p IsUp self.old self.new sent.old.items sent.new.items) }
+        ensures ok { OnOk result ((message : AbstractMessage)
+            → slice_get (messages_of sent.old.items) index ≡ Some message
+            → (n p : ℕ) → IsMessage n message
+            → CallTurns n p (delivery message) self.old self.new sent.old.items sent.new.items) }
+        ensures err { OnErr result ((n p : ℕ)
+            → Wants n p IsUp self.old self.new sent.old.items sent.new.items) }
         ensures grows { OnlyGrows sent.old.items sent.new.items }
     {
         match self {
@@ -148,7 +164,8 @@ impl Machine {
     }
 
     pub(crate) fn arm(&mut self, calls: u32)
-        ensures { (n p q : ℕ) → Turns n p (λ s out next. NodeTakes n p [] s (Arm q calls) out next) self.old self.new [] [] }
+        ensures { (n p q : ℕ)
+            → Turns n p (λ s out next. NodeTakes n p [] s (Arm q calls) out next) self.old self.new [] [] }
     {
         match self {
             Machine::Bare(_) => {}
@@ -174,7 +191,8 @@ impl Machine {
 
     /// Whether a node that runs is not mute at an instance.
     pub(crate) fn speaks_at(&self, instance: Instance) -> bool
-        ensures { (n p : ℕ) (s : AbstractNode) → IsMachineOf n p self.now s → s.mode ≡ Up → IsTrue result ↔ (¬ IsMute s instance) }
+        ensures { (n p : ℕ) (s : AbstractNode) → IsMachineOf n p self.now s → s.mode ≡ Up → IsTrue result
+            ↔ (¬ IsMute s instance) }
     {
         match self {
             Machine::Bare(_) => false,
@@ -184,7 +202,8 @@ impl Machine {
 
     /// Whether a node that runs has two rounds left.
     pub(crate) fn has_two_rounds(&self) -> bool
-        ensures { (n p : ℕ) (s : AbstractNode) → IsMachineOf n p self.now s → s.mode ≡ Up → IsTrue result ↔ (max (last_round s.entries) s.heard ≤ 4294967293) }
+        ensures { (n p : ℕ) (s : AbstractNode) → IsMachineOf n p self.now s → s.mode ≡ Up → IsTrue result
+            ↔ (max (last_round s.entries) s.heard ≤ 4294967293) }
     {
         match self.next_ballot() {
             Some(ballot) => ballot.round() <= LAST_QUIET_ROUND + 1,
@@ -194,7 +213,8 @@ impl Machine {
 
     /// Whether the node is not down, and the floor is `MAX_ATTEMPTS` or more above what its record reaches.
     pub(crate) fn reaches_below(&self, floor: u32) -> bool
-        ensures { (n p : ℕ) (s : AbstractNode) → IsMachineOf n p self.now s → IsTrue result ↔ ((s.mode ≢ Down) × (reach_of s.entries + WINDOW ≤ floor)) }
+        ensures { (n p : ℕ) (s : AbstractNode) → IsMachineOf n p self.now s → IsTrue result
+            ↔ ((s.mode ≢ Down) × (reach_of s.entries + WINDOW ≤ floor)) }
     {
         match self {
             Machine::Bare(_) => false,
@@ -206,7 +226,8 @@ impl Machine {
 
     /// What a node that runs has promised at an instance.
     pub(crate) fn promised(&self, instance: Instance) -> Option<Ballot>
-        ensures { (n p : ℕ) (s : AbstractNode) → IsMachineOf n p self.now s → s.mode ≡ Up → (slot : Slot) × IsSlot s.entries instance slot × (result ≡ slot.promised) }
+        ensures { (n p : ℕ) (s : AbstractNode) → IsMachineOf n p self.now s → s.mode ≡ Up → (slot : Slot)
+            × IsSlot s.entries instance slot × (result ≡ slot.promised) }
     {
         match self {
             Machine::Bare(_) => None,
@@ -216,7 +237,8 @@ impl Machine {
 
     /// The ballot of its next attempt, `None` if the rounds are used up.
     pub(crate) fn next_ballot(&self) -> Option<Ballot>
-        ensures { (n p : ℕ) (s : AbstractNode) → IsMachineOf n p self.now s → s.mode ≡ Up → MatchOption result (¬ HasRound s) (λ b. (b ≡ fresh_ballot p s) × HasRound s) }
+        ensures { (n p : ℕ) (s : AbstractNode) → IsMachineOf n p self.now s → s.mode ≡ Up
+            → MatchOption result (¬ HasRound s) (λ b. (b ≡ fresh_ballot p s) × HasRound s) }
     {
         match self {
             Machine::Bare(_) => None,
@@ -226,7 +248,9 @@ impl Machine {
 
     /// How many attempts of a node that runs are open, except the one at its first unknown instance.
     pub(crate) fn tried_elsewhere(&self, first: Instance) -> u8
-        ensures { (n p : ℕ) (s : AbstractNode) (elsewhere : List (ℕ × Attempt)) → IsMachineOf n p self.now s → s.mode ≡ Up → IsFirstUnknown s.known first → AreOpenElsewhere s first elsewhere → result ≡ length elsewhere }
+        ensures { (n p : ℕ) (s : AbstractNode) (elsewhere : List (ℕ × Attempt)) → IsMachineOf n p self.now s
+            → s.mode ≡ Up → IsFirstUnknown s.known first → AreOpenElsewhere s first elsewhere
+            → result ≡ length elsewhere }
     {
         match self {
             Machine::Bare(_) => 0,
@@ -236,7 +260,8 @@ impl Machine {
 
     /// Takes the disk away.
     fn close(self) -> MemDisk
-        ensures { (n p : ℕ) (s : AbstractNode) → IsMachineOf n p self s → (d : DiskState) × MemoryStandsFor result d × Keeps p n s.entries s.in_flight d }
+        ensures { (n p : ℕ) (s : AbstractNode) → IsMachineOf n p self s → (d : DiskState)
+            × MemoryStandsFor result d × Keeps p n s.entries s.in_flight d }
     {
         match self {
             Machine::Open { node, .. } => node.close(),
@@ -245,7 +270,8 @@ impl Machine {
     }
 
     fn take(&mut self, alloc: Global) -> MemDisk
-        ensures { (n p : ℕ) (s : AbstractNode) → IsMachineOf n p self.old s → (d : DiskState) × MemoryStandsFor result d × Keeps p n s.entries s.in_flight d }
+        ensures { (n p : ℕ) (s : AbstractNode) → IsMachineOf n p self.old s → (d : DiskState)
+            × MemoryStandsFor result d × Keeps p n s.entries s.in_flight d }
     {
         mem::replace(self, Machine::Bare(MemDisk::new(alloc))).close()
     }
@@ -276,7 +302,8 @@ impl Machine {
         requires { IsNode cluster me }
         ensures ok { OnOk result (Turns cluster me (λ s out next. Settled Up s out next) self.old self.new [] []) }
         ensures err { OnErr result (RefusesOpening cluster me self.old self.new) }
-        ensures never { IfErr result (λ fault. (s : AbstractNode) → IsMachineOf cluster me self.old s → (fault ≡ RecordFault.Device) ⊎ (fault ≡ RecordFault.OutOfMemory)) }
+        ensures never { IfErr result (λ fault. (s : AbstractNode) → IsMachineOf cluster me self.old s
+            → (fault ≡ RecordFault.Device) ⊎ (fault ≡ RecordFault.OutOfMemory)) }
     {
         let mut disk = self.take(alloc);
         disk.disarm();
@@ -300,7 +327,8 @@ impl Machine {
         me: NodeId,
         floor: Instance,
     ) -> Result<(), AllocError>
-        ensures ok { OnOk result (Turns cluster me (λ s out next. (out ≡ []) × (next ≡ opened Down (Floor floor ∷ []) None)) self.old self.new [] []) }
+        ensures ok { OnOk result (Turns cluster me (λ s out next. (out ≡ [])
+            × (next ≡ opened Down (Floor floor ∷ []) None)) self.old self.new [] []) }
         ensures err { OnErr result (self.new ≡ self.old) }
     {
         let mut disk = MemDisk::new(alloc);
@@ -313,9 +341,12 @@ impl Machine {
 
     /// Publishes all that is known without a gap.
     pub(crate) fn publish(&mut self) -> Result<(), AllocError>
-        ensures same { (n p : ℕ) (s : AbstractNode) → IsMachineOf n p self.old s → IsMachineOf n p self.new s }
-        ensures ok { OnOk result ((n p : ℕ) (s : AbstractNode) → IsMachineOf n p self.old s → HasPublished self.new s) }
-        ensures err { OnErr result ((n p : ℕ) (s : AbstractNode) → IsMachineOf n p self.old s → (s.mode ≢ Down) × ¬ HasPublished self.new s) }
+        ensures same { (n p : ℕ) (s : AbstractNode) → IsMachineOf n p self.old s
+            → IsMachineOf n p self.new s }
+        ensures ok { OnOk result ((n p : ℕ) (s : AbstractNode) → IsMachineOf n p self.old s
+            → HasPublished self.new s) }
+        ensures err { OnErr result ((n p : ℕ) (s : AbstractNode) → IsMachineOf n p self.old s
+            → (s.mode ≢ Down) × ¬ HasPublished self.new s) }
     {
         match self {
             Machine::Bare(_) => Ok(()),

@@ -3,7 +3,8 @@
 //! A query is about a node of the cluster. All other nodes are as at the start, so "down" would be false of
 //! them.
 
-ghost use Rattle.std.specs.Prelude.{◌≡◌, ◌≢◌, ◌≤◌, ◌<◌, ◌⊎◌, ◌↔◌, ◌-◌, List, Some, length, slice_get, option_copied, IfOk, IsErrOf};
+ghost use Rattle.std.specs.Prelude.{◌≡◌, ◌≢◌, ◌≤◌, ◌<◌, ◌⊎◌, ◌↔◌, ◌-◌, List, Some, length, slice_get};
+ghost use Rattle.std.specs.Prelude.{option_copied, IfOk, IsErrOf};
 ghost use Rattle.command.specs.Effective.{effective};
 ghost use Rattle.command.specs.Releases.{release_count};
 ghost use Rattle.release.specs.Standing.{answer_view};
@@ -74,8 +75,11 @@ impl World {
     /// How many values a node knows from the first instance on without a gap; 0 if it is down.
     pub fn known(&self, node: NodeId) -> u32
         requires { node ≤ self.now.cluster }
-        ensures is { (w : AbstractWorld) → IsWorldOf self.now w → (values : List Bytes) × IsKnownPrefix (w.node node) values × (result ≡ length values) }
-        ensures decided { (events : List AbstractEvent) (reached : Reached self.now events) → (values : List Bytes) × IsKnownPrefix (reached.world.node node) values × (result ≡ length values) × AreOfRun self.now events values }
+        ensures is { (w : AbstractWorld) → IsWorldOf self.now w → (values : List Bytes)
+            × IsKnownPrefix (w.node node) values × (result ≡ length values) }
+        ensures decided { (events : List AbstractEvent) (reached : Reached self.now events)
+            → (values : List Bytes) × IsKnownPrefix (reached.world.node node) values
+            × (result ≡ length values) × AreOfRun self.now events values }
     {
         match self.machine(node) {
             Machine::Bare(_) => 0,
@@ -87,8 +91,10 @@ impl World {
     pub fn published(&self, node: NodeId) -> u64
         requires { node ≤ self.now.cluster }
         ensures count { result ≡ release_count (effective (fed_at self.now node)) }
-        ensures begins { (w : AbstractWorld) → IsWorldOf self.now w → BeginsKnown (fed_at self.now node) (w.node node) }
-        ensures decided { (events : List AbstractEvent) → Reached self.now events → AreOfRun self.now events (fed_at self.now node) }
+        ensures begins { (w : AbstractWorld) → IsWorldOf self.now w
+            → BeginsKnown (fed_at self.now node) (w.node node) }
+        ensures decided { (events : List AbstractEvent) → Reached self.now events
+            → AreOfRun self.now events (fed_at self.now node) }
     {
         match self.machine(node) {
             Machine::Bare(_) => 0,
@@ -100,9 +106,13 @@ impl World {
     /// it is the answer of the one list of values that the messages decide.
     pub fn answer(&self, node: NodeId, n: u64, path: &str) -> Result<Answer, AskFault>
         requires { node ≤ self.now.cluster }
-        ensures ok { IfOk result (λ a. (events : List AbstractEvent) → Reached self.now events → IsAnswer self.now events n path.now (answer_view a)) }
-        ensures down { (w : AbstractWorld) → IsWorldOf self.now w → IsErrOf result AskFault.NotUp ↔ ((w.node node).mode ≡ Down) }
-        ensures none { (w : AbstractWorld) → IsWorldOf self.now w → IsErrOf result AskFault.NoSuchRelease ↔ (((w.node node).mode ≢ Down) × ((n ≡ 0) ⊎ (release_count (effective (fed_at self.now node)) < n))) }
+        ensures ok { IfOk result (λ a. (events : List AbstractEvent) → Reached self.now events
+            → IsAnswer self.now events n path.now (answer_view a)) }
+        ensures down { (w : AbstractWorld) → IsWorldOf self.now w → IsErrOf result AskFault.NotUp
+            ↔ ((w.node node).mode ≡ Down) }
+        ensures none { (w : AbstractWorld) → IsWorldOf self.now w → IsErrOf result AskFault.NoSuchRelease
+            ↔ (((w.node node).mode ≢ Down)
+            × ((n ≡ 0) ⊎ (release_count (effective (fed_at self.now node)) < n))) }
     {
         match self.machine(node) {
             Machine::Bare(_) => Err(AskFault::NotUp),

@@ -16,7 +16,8 @@ impl World {
     ghost use Rattle.site_ids.specs.Ids.{IsNode};
     ghost use Rattle.node.specs.Nodes.{IsFirstUnknown, IsMute};
     ghost use Rattle.node.specs.Calls.{fresh_ballot};
-    ghost use Rattle.world.specs.Quiet.{AllRun, HasNoneAbove, IsQuiet, IsQuietAt, IsShort, MayDecide, Overbids, quorum};
+    ghost use Rattle.world.specs.Quiet.{AllRun, HasNoneAbove, IsQuiet, IsQuietAt, IsShort, MayDecide};
+    ghost use Rattle.world.specs.Quiet.{Overbids, quorum};
     ghost use Rattle.world.specs.Quieting.{AreUp, LearnsBy, PushesPlan};
     ghost use Rattle.world.specs.Standing.{IsWorldOf};
     ghost use Rattle.world.specs.Steps.{Reached, RunEnds};
@@ -26,7 +27,8 @@ impl World {
     /// At that instance neither the node nor one of the first nodes that make a majority is mute.
     pub fn is_quiet(&self, node: NodeId) -> bool
         requires { node ≤ self.now.cluster }
-        ensures { (w : AbstractWorld) → IsWorldOf self.now w → IsTrue result ↔ IsQuiet self.now.cluster w node }
+        ensures { (w : AbstractWorld) → IsWorldOf self.now w → IsTrue result
+            ↔ IsQuiet self.now.cluster w node }
     {
         let Some(instance) = self.first_unknown(node) else {
             return false;
@@ -46,9 +48,11 @@ impl World {
     pub fn quiet_plan(&self, node: NodeId) -> Result<Vec<Event>, AllocError>
         requires { node ≤ self.now.cluster }
         ensures short { IfOk result (λ plan. IsShort self.now.cluster plan.items) }
-        ensures none { IfOk result (λ plan. (w : AbstractWorld) → IsWorldOf self.now w → ¬ IsQuiet self.now.cluster w node → plan.items ≡ []) }
+        ensures none { IfOk result (λ plan. (w : AbstractWorld) → IsWorldOf self.now w
+            → ¬ IsQuiet self.now.cluster w node → plan.items ≡ []) }
         ensures decides { IfOk result (λ plan. (past : List AbstractEvent) (reached : Reached self.now past) (new : AbstractCode) (ended : Result (Unit {0}) AbstractFault)
-            → IsQuiet self.now.cluster reached.world node → new.cluster ≡ self.now.cluster → RunEnds self.now new plan.items ended → AreUp self.now.cluster new
+            → IsQuiet self.now.cluster reached.world node → new.cluster ≡ self.now.cluster
+            → RunEnds self.now new plan.items ended → AreUp self.now.cluster new
             → LearnsBy self.now.cluster reached.world node new ended) }
     {
         let mut plan = Vec::new(self.alloc);
@@ -61,14 +65,17 @@ impl World {
     // The first instance that a node does not know.
     fn first_unknown(&self, node: NodeId) -> Option<Instance>
         requires { node ≤ self.now.cluster }
-        ensures { (w : AbstractWorld) → IsWorldOf self.now w → MatchOption result ((i : ℕ) → ¬ IsFirstUnknown (w.node node).known i) (λ i. IsFirstUnknown (w.node node).known i) }
+        ensures { (w : AbstractWorld) → IsWorldOf self.now w
+            → MatchOption result ((i : ℕ)
+            → ¬ IsFirstUnknown (w.node node).known i) (λ i. IsFirstUnknown (w.node node).known i) }
     {
         Instance::new(self.known(node).saturating_add(1))
     }
 
     // Whether each node runs with no disk armed, and has rounds left.
     fn are_quiet(&self) -> bool
-        ensures { (w : AbstractWorld) → IsWorldOf self.now w → IsTrue result ↔ ((q : ℕ) → IsNode self.now.cluster q → IsQuietAt (w.node q)) }
+        ensures { (w : AbstractWorld) → IsWorldOf self.now w → IsTrue result
+            ↔ ((q : ℕ) → IsNode self.now.cluster q → IsQuietAt (w.node q)) }
     {
         let mut seen = 0;
         while let Some(machine) = self.machines.get(seen) {
@@ -84,7 +91,8 @@ impl World {
     // rounds left.
     fn may_decide(&self, node: NodeId, instance: Instance) -> bool
         requires { node ≤ self.now.cluster }
-        ensures { (w : AbstractWorld) → IsWorldOf self.now w → AllRun self.now.cluster w → IsTrue result ↔ MayDecide self.now.cluster w node instance }
+        ensures { (w : AbstractWorld) → IsWorldOf self.now w → AllRun self.now.cluster w → IsTrue result
+            ↔ MayDecide self.now.cluster w node instance }
     {
         let machine = self.machine(node);
         if !machine.speaks_at(instance) {
@@ -98,7 +106,8 @@ impl World {
 
     // If all nodes run: whether none of the first nodes that make a majority is mute at the instance.
     fn none_mute(&self, instance: Instance) -> bool
-        ensures { (w : AbstractWorld) → IsWorldOf self.now w → AllRun self.now.cluster w → IsTrue result ↔ ((q : ℕ) → IsNode (quorum self.now.cluster) q → ¬ IsMute (w.node q) instance) }
+        ensures { (w : AbstractWorld) → IsWorldOf self.now w → AllRun self.now.cluster w → IsTrue result
+            ↔ ((q : ℕ) → IsNode (quorum self.now.cluster) q → ¬ IsMute (w.node q) instance) }
     {
         let cluster = self.cluster();
         let mut seen = 0;
@@ -143,7 +152,8 @@ impl World {
     // Of the first nodes that make a majority, the one whose promise at the instance is the highest above the
     // ballot.
     fn overbidder(&self, instance: Instance, ballot: Ballot) -> Option<NodeId>
-        ensures { (w : AbstractWorld) → IsWorldOf self.now w → AllRun self.now.cluster w → MatchOption result (HasNoneAbove self.now.cluster w instance ballot) (λ q. Overbids self.now.cluster w instance ballot q) }
+        ensures { (w : AbstractWorld) → IsWorldOf self.now w → AllRun self.now.cluster w
+            → MatchOption result (HasNoneAbove self.now.cluster w instance ballot) (λ q. Overbids self.now.cluster w instance ballot q) }
     {
         let cluster = self.cluster();
         let mut highest = Bid { ballot, node: None };

@@ -59,7 +59,8 @@ impl World {
     pub fn run(&mut self, events: &[Event]) -> Result<(), WorldFault>
         ensures ends { RunEnds self.old self.new events.now result }
         ensures follows { Follows self.old self.new }
-        ensures reached { (earlier : List AbstractEvent) → Reached self.old earlier → Reaches self.new earlier events.now result }
+        ensures reached { (earlier : List AbstractEvent) → Reached self.old earlier
+            → Reaches self.new earlier events.now result }
         ensures grows { OnlyGrows self.old.sent.items self.new.sent.items }
         ensures whose { self.new.cluster ≡ self.old.cluster }
     {

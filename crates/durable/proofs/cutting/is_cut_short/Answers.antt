@@ -1,50 +1,31 @@
-use Rattle.std.proofs.Common.{◌≡◌, ◌∙◌, ap, ◌+◌, ◌<◌, ℕ, length, take, drop, arith}
-use Rattle.std.proofs.lemmas.Grind.{common_steps}
-use Rattle.durable.proofs.CutShort.{long_enough, sum_there, longer, goes_open, was_cut}
+use Rattle.std.proofs.Common.{◌≡◌, ◌≢◌, ◌↔◌, not, IsTrue, eqb, ⊎_elim, ℕ, ◌<◌, List, ◌∷◌, sym, ◌∙◌, ap, length, get_or, take, drop, arith, rules}
+use Rattle.std.proofs.lemmas.Bool.{false≢true}
+use Rattle.std.proofs.lemmas.Bool.Decides.{eqb_tells}
+use Rattle.std.proofs.lemmas.List.{drop_more}
+use Rattle.durable.specs.Cutting.{HasBatchAfter}
+use Rattle.durable.proofs.CutShort.{long_enough}
 use Rattle.durable.proofs.cutting.is_cut_short.Goals as goal
 
-pub returns-then-left-clause-told : goal.returns-then-left-clause-told
-returns-then-left-clause-told g c = λ d stands len_is. (
-  λ no. cc,
-  λ cut. absurd (omega (arith, long_enough c.args.gate d.seen cut, c.if-left.true, c.saturating_sub-left.ensures, len_is)),
-)
+-- the byte at a place
+byte_at : (file buf : List ℕ) (at : ℕ) → at < length file → buf ≡ take 1 (drop at file) → get_or buf 0 0 ≡ get_or file at 0
+byte_at file buf at there is = ap (λ (l : List ℕ). get_or l 0 0) is ∙ ap (λ (l : List ℕ). get_or (take 1 l) 0 0) (drop_more file at 0 there)
 
-pub returns-in_default-clause-told : goal.returns-in_default-clause-told
-returns-in_default-clause-told g c = λ d stands len_is.
-    let gate = c.args.gate in
-    let measured = stands in
-    let size = len_is in
-    let front = c.in_ok-read_at.ensures.read d measured (omega (arith, c.if-left.false, c.saturating_sub-left.ensures, size)) in (
-      λ no. cc,
-      λ cut. absurd (sum_there gate d.seen cut c.read_at.new.buf front c.in_default.ensures),
-    )
-
-pub returns-then-left-sum-clause-told : goal.returns-then-left-sum-clause-told
-returns-then-left-sum-clause-told g c = λ d stands len_is.
-    let gate = c.args.gate in
-    let measured = stands in
-    let size = len_is in
-    let front = c.in_ok-read_at.ensures.read d measured (omega (arith, c.if-left.false, c.saturating_sub-left.ensures, size)) in (
-      λ no. cc,
-      λ cut. absurd (omega (arith, longer gate d.seen cut c.read_at.new.buf c.in-Some.sum.size c.in-Some.sum.sum front c.in-Some.ensures, c.if-left-sum.true, c.saturating_sub-left.ensures, size)),
-    )
+-- the code's test of a byte is that it is another one
+is_other : (x : ℕ) → IsTrue (not (eqb x 1)) ↔ (x ≢ 1)
+is_other x = ⊎_elim
+    (λ same. ((λ yes _. false≢true (sym (ap not same.0) ∙ yes)), (λ other. absurd (other same.1))))
+    (λ another. ((λ _. another.1), (λ _. ap not another.0)))
+    (eqb_tells x 1)
 
 pub returns-clause-told : goal.returns-clause-told
 returns-clause-told g c = λ d stands len_is.
     let gate = c.args.gate in
-    let measured = stands in
-    let len = len_is in
-    let front = c.in_ok-read_at.ensures.read d measured (omega (arith, c.if-left.false, c.saturating_sub-left.ensures, len)) in
-    let read = c.in_ok-read_at.ensures.state d measured in
-    let size = c.in-Some.sum.size in
-    let sum = c.in-Some.sum.sum in
-    let room : length c.deref_mut.result.now ≡ size + 1 = grind (arith, common_steps, c.deref_mut.ensures.len, c.in_ok-resize.ensures.len) in
-    let long : gate + 18 + size < length d.seen = omega (arith, c.if-left-sum.false, c.if-left.false, c.saturating_sub-left.ensures, len) in
-    let batch = c.in_ok-read_at-2.ensures.read d read (omega (arith, room, long)) in
-    let batch_is : c.read_at-2.new.buf ≡ take (size + 1) (drop (gate + 18) d.seen) = batch ∙ ap (λ (k : ℕ). take k (drop (gate + 18) d.seen)) room in
-    let told = c.goes_on.ensures in (
-      λ yes.
-          let both = told.0 yes in
-          was_cut gate d.seen c.read_at.new.buf c.read_at-2.new.buf size sum front c.in-Some.ensures long batch_is both.0 both.1,
-      λ cut. told.1 (goes_open gate d.seen cut c.read_at.new.buf c.read_at-2.new.buf size sum front c.in-Some.ensures batch_is),
+    let told = c.in_ok-has_batch_after.ensures.told d stands len_is in
+    let after : HasBatchAfter gate d.seen = told.0 c.if-not-branch.false in
+    let there = long_enough gate d.seen after in
+    let read = c.in_ok-read_at.ensures.read d (c.has_batch_after.ensures.state d stands) (omega (arith, there)) in
+    let byte = byte_at d.seen c.read_at.new.buf gate (omega (arith, there)) read in
+    let other = is_other (get_or c.read_at.new.buf 0 0) in (
+      λ yes. (after, λ one. other.0 yes (byte ∙ one)),
+      λ cut. other.1 (λ one. cut.1 (sym byte ∙ one)),
     )

@@ -9,4 +9,4 @@ returns-in-Err-clause-ends g c =
 
 pub returns-in-Ok-clause-noted : goal.returns-in-Ok-clause-noted
 returns-in-Ok-clause-noted g c =
-    subst (λ d. AreNoted c.args.node.now.cluster (bytes_of c.args.came.now) d c.take_sealed.new.self.delivered) c.none-self.ensures c.in-Ok.ensures.noted
+    subst (λ d. AreNoted c.args.node.now.cluster (bytes_of c.args.came.now) d c.take_with_room.new.self.delivered) c.none-self.ensures c.in-Ok.ensures.noted
