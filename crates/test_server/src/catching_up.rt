@@ -90,7 +90,7 @@ const ROWS: &[Row] = &[
     (3, 100, MANY, &[], 1_500),
     // One never answers, be it its turn or not.
     (3, 20, &[], &[1], 380),
-    (3, 20, MANY, &[2], 310),
+    (3, 20, MANY, &[2], 420),
     (5, 20, &[], &[1, 2], 380),
 ];
 
